@@ -1,0 +1,49 @@
+-- The grammar: the tokens that spell an expression, a round and a program. Each definition puts them in front of the tokens after them.
+use Rattle.std.specs.Prelude.{◌≡◌, ℕ, ◌+◌, ◌<◌, ◌≤◌, List, [], ◌∷◌, length, All}
+use Rattle.node_lang.specs.declared.token.Token.{Token}
+use Rattle.node_lang.specs.declared.token.Token.TheVariants as token
+use Rattle.node_lang.specs.Term.{Term, Literal, Identifier, LeftMessage, RightMessage, RegisterValue, Unary, Binary, Conditional, Step, ProgramTree}
+use Rattle.node_lang.specs.Lexemes.{tokens_of}
+use Rattle.node_lang.specs.Limits.{IsWithinLimits}
+
+-- the tokens of an expression, then these
+abbrev pub spelled : Term → List Token → List Token
+spelled (Literal n) more = token.Number n ∷ more
+spelled Identifier more = token.Id ∷ more
+spelled LeftMessage more = token.FromLeft ∷ more
+spelled RightMessage more = token.FromRight ∷ more
+spelled (RegisterValue j) more = token.Register j ∷ more
+spelled (Unary o a) more = token.Unary o ∷ token.Open ∷ spelled a (token.Close ∷ more)
+spelled (Binary o a b) more = token.Binary o ∷ token.Open ∷ spelled a (token.Comma ∷ spelled b (token.Close ∷ more))
+spelled (Conditional c a b) more =
+    token.If ∷ token.Open ∷ spelled c (token.Comma ∷ spelled a (token.Comma ∷ spelled b (token.Close ∷ more)))
+
+-- assignments to the registers from j on
+abbrev pub assigned : ℕ → List Term → List Token → List Token
+assigned j [] more = more
+assigned j (e ∷ es) more = token.Register j ∷ token.Equals ∷ spelled e (assigned (j + 1) es more)
+
+-- a round
+abbrev pub block : Step → List Token → List Token
+block s more = token.Round ∷ token.Send ∷ token.Left ∷ spelled s.left
+    (token.Send ∷ token.Right ∷ spelled s.right (assigned 0 s.next more))
+
+abbrev pub blocks : List Step → List Token → List Token
+blocks [] more = more
+blocks (s ∷ ss) more = block s (blocks ss more)
+
+-- what follows the header
+abbrev pub body : ProgramTree → List Token
+body p = assigned 0 p.start (blocks p.steps (token.Finish ∷ spelled p.finish []))
+
+-- a whole program
+abbrev pub spelling : ProgramTree → List Token
+spelling p = token.Rounds ∷ token.Number (length p.steps) ∷ token.Channels ∷ token.Number p.channels
+    ∷ token.Registers ∷ token.Number (length p.start) ∷ token.Start ∷ body p
+
+-- this text reads as this program
+pub record Reads (text : List ℕ) (p : ProgramTree) : Type 0 where
+  pub short : length text ≤ 65536
+  pub ascii : All (λ b. b < 128) text
+  pub tokens : tokens_of text ≡ spelling p
+  pub limits : IsWithinLimits p

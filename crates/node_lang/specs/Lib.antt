@@ -1,0 +1,16 @@
+-- The definitions that the contracts cite, in the order of a textbook: programs as trees, the values of
+-- operations and expressions, what a node does, rings and global rounds, then the words, tokens and
+-- grammar of a program text and how it is read from the left.
+pub mod Term
+pub mod Limits
+pub mod Operations
+pub mod Value
+pub mod Node
+pub mod Ring
+pub mod Words
+pub mod Lexemes
+pub mod Grammar
+pub mod Reading
+pub mod Faults
+pub mod Viable
+pub mod Code

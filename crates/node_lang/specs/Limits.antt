@@ -1,0 +1,20 @@
+-- The limits that the type of a program keeps.
+use Rattle.std.specs.Prelude.{◌≡◌, ◌^◌, ◌<◌, ◌≤◌, length, All, sum_by}
+use Rattle.node_lang.specs.Term.{Term, ProgramTree, depth, size, largest, terms}
+
+-- an expression is at most 64 deep, and its numbers are below 2^32
+pub record IsSmall (e : Term) : Type 0 where
+  pub depth : depth e ≤ 64
+  pub numbers : largest e < 2 ^ 32
+
+pub record IsWithinLimits (p : ProgramTree) : Type 0 where
+  pub rounds : length p.steps ≤ 3
+  pub some_channels : 1 ≤ p.channels
+  pub few_channels : p.channels ≤ 4096
+  pub some_registers : 1 ≤ length p.start
+  pub few_registers : length p.start ≤ 8
+  -- each round has an expression for each register
+  pub each_register : All (λ s. length s.next ≡ length p.start) p.steps
+  pub small : All IsSmall (terms p)
+  -- at most 4,096 expression nodes
+  pub nodes : sum_by size (terms p) ≤ 4096

@@ -1,0 +1,31 @@
+/// What is wrong with a program text. The report names a kind by `N` and its number.
+#[derive(Clone, Copy, Debug, PartialEq, Eq)]
+pub enum FaultKind {
+    /// N1: the text is over 65,536 bytes.
+    TooLong,
+    /// N2: a byte over 127.
+    NotAscii,
+    /// N3: a byte or a word that begins no token.
+    BadWord,
+    /// N4: a number over 4,294,967,295.
+    NumberTooLarge,
+    /// N5: a number of the header is out of its range.
+    HeaderRange,
+    /// N6: a token that cannot stand there.
+    Unexpected,
+    /// N7: an expression node of depth 65.
+    TooDeep,
+    /// N8: the 4,097th expression node.
+    TooManyNodes,
+    /// N9: the text ends where a token is wanted.
+    EndOfText,
+    /// N10: memory was refused.
+    OutOfMemory,
+}
+
+/// A fault of a program text, and its place: the offset of a byte, counted from 0.
+#[derive(Clone, Copy, Debug, PartialEq, Eq)]
+pub struct TextFault {
+    pub kind: FaultKind,
+    pub offset: usize,
+}

@@ -1,0 +1,81 @@
+use crate::tree::{Expr, Round};
+use std::marker::Model;
+
+/// A program of the node language, made by `parse` alone. It has 0 to 3 rounds, 1 to 4,096 channels and
+/// 1 to 8 registers, an expression for each register in `start` and in each round, at most 4,096
+/// expression nodes, and no expression of a depth over 64.
+#[derive(Drop)]
+pub struct Program {
+    pub(crate) channels: u32,
+    pub(crate) start: Vec<Expr>,
+    pub(crate) steps: Vec<Round>,
+    pub(crate) finish: Expr,
+}
+
+impl Model for Program {
+    ghost use Rattle.node_lang.specs.Term.{ProgramTree, program_tree};
+    ghost use Rattle.node_lang.specs.Code.{program_code};
+    ghost use Rattle.node_lang.specs.Limits.{IsWithinLimits};
+
+    ghost Value = { ProgramTree };
+
+    ghost coded = { program_code };
+
+    ghost view = { λ p. program_tree p.channels p.start.items p.steps.items p.finish };
+
+    ghost invariant = { λ p. IsWithinLimits (program_tree p.channels p.start.items p.steps.items p.finish) };
+}
+
+impl Program {
+    ghost use Rattle.std.specs.Prelude.{◌≡◌, ◌≤◌, length, map};
+    ghost use Rattle.node_lang.specs.Limits.{IsWithinLimits};
+    ghost use Rattle.node_lang.specs.Term.{term_of, step_of};
+
+    /// The number of rounds, 0 to 3.
+    pub fn rounds(&self) -> u32
+        ensures value { result ≡ length self.now.steps }
+        ensures limits { IsWithinLimits self.now }
+    {
+        self.steps.len() as u32
+    }
+
+    /// The number of channels, 1 to 4,096.
+    pub fn channels(&self) -> u32
+        ensures value { result ≡ self.now.channels }
+        ensures limits { IsWithinLimits self.now }
+    {
+        self.channels
+    }
+
+    /// The number of registers, 1 to 8.
+    pub fn registers(&self) -> u32
+        ensures value { result ≡ length self.now.start }
+        ensures limits { IsWithinLimits self.now }
+    {
+        self.start.len() as u32
+    }
+
+    /// What each register holds before the first round.
+    pub fn start(&self) -> &[Expr]
+        ensures value { map term_of result.now ≡ self.now.start }
+        ensures limits { IsWithinLimits self.now }
+    {
+        &self.start
+    }
+
+    /// The rounds in order.
+    pub fn steps(&self) -> &[Round]
+        ensures value { map step_of result.now ≡ self.now.steps }
+        ensures limits { IsWithinLimits self.now }
+    {
+        &self.steps
+    }
+
+    /// The expression of the channel.
+    pub fn finish(&self) -> &Expr
+        ensures value { term_of result.now ≡ self.now.finish }
+        ensures limits { IsWithinLimits self.now }
+    {
+        &self.finish
+    }
+}

@@ -1,0 +1,31 @@
+use crate::tree::{BinOp, UnOp};
+
+/// A token of a program text, or what stands in a token's place and is none.
+#[derive(Clone, Copy, PartialEq, Eq)]
+pub enum Token {
+    Number(u32),
+    Register(u32),
+    Unary(UnOp),
+    Binary(BinOp),
+    If,
+    Rounds,
+    Channels,
+    Registers,
+    Start,
+    Round,
+    Send,
+    Left,
+    Right,
+    Finish,
+    Id,
+    FromLeft,
+    FromRight,
+    Open,
+    Close,
+    Comma,
+    Equals,
+    /// A number over 4,294,967,295.
+    LargeNumber,
+    /// A byte or a word that begins no token.
+    Unknown,
+}
