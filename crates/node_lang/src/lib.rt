@@ -2,10 +2,12 @@
 #![tactic(auto)]
 
 mod fault;
+mod lexer;
 mod memory;
 mod program;
 mod token;
 mod tree;
+mod words;
 
 pub use fault::{FaultKind, TextFault};
 pub use memory::OutOfMemory;

@@ -1,0 +1,177 @@
+-- The lexemes of a text that begins with a blank, a comment, a mark or a word.
+use Rattle.std.proofs.Common.{◌≡◌, ℕ, suc, ◌+◌, ◌<◌, ◌==◌, Bool, true, false, not, cond, List, [], ◌∷◌, length, get_or, take, drop, refl, sym, ap, subst, ◌∙◌, arith, add-one}
+use Rattle.std.proofs.Math.Seq.{drop-cons, drop-length}
+use Rattle.std.proofs.lemmas.Bool.{eqb-true, ne_eqb}
+use Rattle.std.proofs.lemmas.Bool.Decides.{nat_tests}
+use Rattle.std.proofs.lemmas.List.{drop-drop}
+use Rattle.std.proofs.lemmas.List.Folds.{length-prefix_len}
+use Rattle.std.specs.List.{prefix_len}
+use Rattle.node_lang.specs.Words.{is_blank, is_word_byte, word_token, mark_token}
+use Rattle.node_lang.specs.Lexemes.{Lexeme, Split, blanked, joined, put_before, split_of, lexemes_of}
+
+pub length-blanked : (inside : Bool) (text : List ℕ) → length (blanked inside text) ≡ length text
+length-blanked inside [] = refl
+length-blanked true (b ∷ bs) = elim (b == 10) as (λ t. length (cond t (10 ∷ blanked false bs) (32 ∷ blanked true bs)) ≡ suc (length bs)) [ true ↦ ap suc (length-blanked false bs) | false ↦ ap suc (length-blanked true bs) ]
+length-blanked false (b ∷ bs) = elim (b == 35) as (λ t. length (cond t (32 ∷ blanked true bs) (b ∷ blanked false bs)) ≡ suc (length bs)) [ true ↦ ap suc (length-blanked true bs) | false ↦ ap suc (length-blanked false bs) ]
+
+-- the lexemes of a text without comments
+abbrev lexemes_in : List ℕ → List Lexeme
+lexemes_in text = joined (length text) (split_of text).word (split_of text).rest
+
+lexemes_of-blanked : (text : List ℕ) → lexemes_of text ≡ lexemes_in (blanked false text)
+unfolding lexemes_of
+lexemes_of-blanked text = ap (λ n. joined n (split_of (blanked false text)).word (split_of (blanked false text)).rest) (sym (length-blanked false text))
+
+word_no_comment : (b : ℕ) → is_word_byte b ≡ true → (b == 35) ≡ false
+word_no_comment b h = grind (arith, nat_tests)
+
+blank_no_comment : (b : ℕ) → is_blank b ≡ true → (b == 35) ≡ false
+blank_no_comment b h = grind (arith, nat_tests)
+
+blank_no_word : (b : ℕ) → is_blank b ≡ true → is_word_byte b ≡ false
+blank_no_word b h = grind (arith, nat_tests)
+
+-- a byte that begins no comment stays
+lexemes_of-cons : (b : ℕ) (bs : List ℕ) → (b == 35) ≡ false → lexemes_of (b ∷ bs) ≡ lexemes_in (b ∷ blanked false bs)
+lexemes_of-cons b bs h = lexemes_of-blanked (b ∷ bs) ∙ ap (λ t. lexemes_in (cond t (32 ∷ blanked true bs) (b ∷ blanked false bs))) h
+
+-- one of three cases
+middle : {X : Type 0} (w k : Bool) (x y z : X) → w ≡ false → k ≡ true → cond w x (cond k y z) ≡ y
+middle w k x y z p q = rw (p, q) refl
+
+last : {X : Type 0} (w k : Bool) (x y z : X) → w ≡ false → k ≡ false → cond w x (cond k y z) ≡ z
+last w k x y z p q = rw (p, q) refl
+
+blank_in_front : (b : ℕ) (bs : List ℕ) → is_blank b ≡ true → lexemes_of (b ∷ bs) ≡ lexemes_of bs
+blank_in_front b bs h =
+    lexemes_of-cons b bs (blank_no_comment b h)
+    ∙ ap (λ (s : Split). joined (suc (length (blanked false bs))) s.word s.rest) (middle (is_word_byte b) (is_blank b) _ _ _ (blank_no_word b h) h)
+    ∙ sym (lexemes_of-blanked bs)
+
+mark_in_front : (b : ℕ) (bs : List ℕ) → is_word_byte b ≡ false → is_blank b ≡ false → (b == 35) ≡ false →
+    lexemes_of (b ∷ bs) ≡ record { from = suc (length bs); token = mark_token b } ∷ lexemes_of bs
+mark_in_front b bs no_word no_blank no_comment =
+    lexemes_of-cons b bs no_comment
+    ∙ ap (λ (s : Split). joined (suc (length (blanked false bs))) s.word s.rest) (last (is_word_byte b) (is_blank b) _ _ _ no_word no_blank)
+    ∙ ap (λ n. record { from = n; token = mark_token b } ∷ lexemes_in (blanked false bs)) (add-one (length (blanked false bs)) ∙ ap suc (length-blanked false bs))
+    ∙ ap (λ ls. record { from = suc (length bs); token = mark_token b } ∷ ls) (sym (lexemes_of-blanked bs))
+
+-- a byte that ends no comment
+abbrev pub in_line : ℕ → Bool
+in_line b = not (b == 10)
+
+one-add : (n : ℕ) → 1 + n ≡ suc n
+one-add n = omega arith
+
+comment_step : (b : ℕ) (bs : List ℕ) (t : Bool) → (b == 10) ≡ t → lexemes_in (blanked true bs) ≡ lexemes_in (blanked false (drop (prefix_len in_line bs) bs)) →
+    lexemes_in (blanked true (b ∷ bs)) ≡ lexemes_in (blanked false (drop (prefix_len in_line (b ∷ bs)) (b ∷ bs)))
+comment_step b bs true e rest =
+    let P : ℕ → Type 0 = λ c. lexemes_in (blanked true (c ∷ bs)) ≡ lexemes_in (blanked false (drop (prefix_len in_line (c ∷ bs)) (c ∷ bs))) in
+    subst P (sym (eqb-true b 10 e)) refl
+comment_step b bs false e rest = rw e (rest ∙ ap (λ n. lexemes_in (blanked false (drop n (b ∷ bs)))) (sym (one-add (prefix_len in_line bs))))
+
+-- inside a comment the lexemes are those from the line's end on
+in_comment : (bs : List ℕ) → lexemes_in (blanked true bs) ≡ lexemes_in (blanked false (drop (prefix_len in_line bs) bs))
+in_comment [] = refl
+in_comment (b ∷ bs) = comment_step b bs (b == 10) refl (in_comment bs)
+
+comment_in_front : (bs : List ℕ) → lexemes_of (35 ∷ bs) ≡ lexemes_of (drop (prefix_len in_line bs) bs)
+comment_in_front bs = lexemes_of-blanked (35 ∷ bs) ∙ in_comment bs ∙ sym (lexemes_of-blanked (drop (prefix_len in_line bs) bs))
+
+no_word : (w k : Bool) (x y z : Split) → w ≡ false → y.word ≡ [] → z.word ≡ [] → (cond w x (cond k y z)).word ≡ []
+no_word true k x y z h p q = cc
+no_word false true x y z h p q = p
+no_word false false x y z h p q = q
+
+no_word_in_front : (b : ℕ) (bs : List ℕ) → is_word_byte b ≡ false → (split_of (b ∷ bs)).word ≡ []
+no_word_in_front b bs h = no_word (is_word_byte b) (is_blank b) _ _ _ h refl refl
+
+-- a byte of no word begins no word, in a comment or not
+no_word_blanked : (b : ℕ) (bs : List ℕ) (t : Bool) → (b == 35) ≡ t → is_word_byte b ≡ false → (split_of (blanked false (b ∷ bs))).word ≡ []
+no_word_blanked b bs true e h = rw e refl
+no_word_blanked b bs false e h = rw e (no_word_in_front b (blanked false bs) h)
+
+-- the text after the word at its front
+pub record SplitsWord (text : List ℕ) (n : ℕ) : Type 0 where
+  pub word : (split_of (blanked false text)).word ≡ take n text
+  pub rest : (split_of (blanked false text)).rest ≡ lexemes_of (drop n text)
+
+first : {X : Type 0} (w : Bool) (x y : X) → w ≡ true → cond w x y ≡ x
+first w x y h = rw h refl
+
+word_in_front : (b : ℕ) (bs : List ℕ) → is_word_byte b ≡ true → split_of (b ∷ bs) ≡ record { word = b ∷ (split_of bs).word; rest = (split_of bs).rest }
+word_in_front b bs h = first (is_word_byte b) _ _ h
+
+splits_byte : (b : ℕ) (bs : List ℕ) (n : ℕ) → is_word_byte b ≡ true → SplitsWord bs n → SplitsWord (b ∷ bs) (suc n)
+splits_byte b bs n h after =
+    let split : split_of (blanked false (b ∷ bs)) ≡ record { word = b ∷ (split_of (blanked false bs)).word; rest = (split_of (blanked false bs)).rest } =
+        ap (λ t. split_of (cond t (32 ∷ blanked true bs) (b ∷ blanked false bs))) (word_no_comment b h) ∙ word_in_front b (blanked false bs) h in
+    record {
+      word = ap (λ (s : Split). s.word) split ∙ ap (λ w. b ∷ w) after.word;
+      rest = ap (λ (s : Split). s.rest) split ∙ after.rest;
+    }
+
+splits_no_byte : (b : ℕ) (bs : List ℕ) → is_word_byte b ≡ false → SplitsWord (b ∷ bs) 0
+splits_no_byte b bs h =
+    let empty = no_word_blanked b bs (b == 35) refl h in
+    record {
+      word = empty;
+      rest = sym (lexemes_of-blanked (b ∷ bs) ∙ ap (λ w. joined (length (blanked false (b ∷ bs))) w (split_of (blanked false (b ∷ bs))).rest) empty);
+    }
+
+splits_step : (b : ℕ) (bs : List ℕ) (t : Bool) → is_word_byte b ≡ t → SplitsWord bs (prefix_len is_word_byte bs) →
+    SplitsWord (b ∷ bs) (cond t (1 + prefix_len is_word_byte bs) 0)
+splits_step b bs true e after = rw one-add (splits_byte b bs (prefix_len is_word_byte bs) e after)
+splits_step b bs false e after = splits_no_byte b bs e
+
+splits_word : (text : List ℕ) → SplitsWord text (prefix_len is_word_byte text)
+splits_word [] = record { word = refl; rest = sym (lexemes_of-blanked []) }
+splits_word (b ∷ bs) = splits_step b bs (is_word_byte b) refl (splits_word bs)
+
+joined_word : (count : ℕ) (word : List ℕ) (rest : List Lexeme) → 0 < length word → joined count word rest ≡ record { from = count; token = word_token word } ∷ rest
+joined_word count [] rest h = absurd (omega arith)
+joined_word count (b ∷ bs) rest h = refl
+
+-- a text that begins with a word
+pub word_token_first : (text : List ℕ) (n : ℕ) → n ≡ prefix_len is_word_byte text → 0 < n →
+    lexemes_of text ≡ record { from = length text; token = word_token (take n text) } ∷ lexemes_of (drop n text)
+unfolding lexemes_of
+word_token_first text n e h =
+    let split = splits_word text in
+    let size = length-prefix_len is_word_byte text in
+    ap (λ w. joined (length text) w (split_of (blanked false text)).rest) (split.word ∙ ap (λ k. take k text) (sym e))
+    ∙ joined_word (length text) (take n text) _ (rw (e, size) (rw (← e) h))
+    ∙ ap (λ ls. record { from = length text; token = word_token (take n text) } ∷ ls) (split.rest ∙ ap (λ k. lexemes_of (drop k text)) (sym e))
+
+stops : (t : Bool) (n : ℕ) → 0 ≡ cond t (1 + n) 0 → t ≡ false
+stops true n e = absurd (omega arith)
+stops false n e = refl
+
+-- a text that begins with a mark
+pub mark_token_first : (text : List ℕ) → 0 < length text → 0 ≡ prefix_len is_word_byte text → is_blank (get_or text 0 0) ≡ false → (get_or text 0 0 ≡ 35 → ⊥) →
+    lexemes_of text ≡ record { from = length text; token = mark_token (get_or text 0 0) } ∷ lexemes_of (drop 1 text)
+mark_token_first [] h e no_blank no_comment = absurd (omega arith)
+mark_token_first (b ∷ bs) h e no_blank no_comment = mark_in_front b bs (stops (is_word_byte b) _ e) no_blank (ne_eqb b 35 no_comment)
+
+-- at a blank the text goes on after it
+pub after_blank : (text : List ℕ) (i : ℕ) → i < length text → is_blank (get_or text i 0) ≡ true → lexemes_of (drop (i + 1) text) ≡ lexemes_of (drop i text)
+after_blank text i h blank = rw (add-one, drop-cons text i 0) (sym (blank_in_front (get_or text i 0) (drop (suc i) text) blank)) 
+
+cons_at : (x y m n : ℕ) (text : List ℕ) → x ≡ y → m ≡ n → x ∷ drop m text ≡ y ∷ drop n text
+cons_at x y m n text p q = λ k. p k ∷ drop (q k) text
+
+-- at a comment the text goes on after the line
+pub after_comment : (text : List ℕ) (i n : ℕ) → i < length text → get_or text i 0 ≡ 35 → n ≡ prefix_len in_line (drop (i + 1) text) →
+    lexemes_of (drop (i + (1 + n)) text) ≡ lexemes_of (drop i text)
+after_comment text i n h comment e =
+    let place : i + (1 + n) ≡ (i + 1) + n = omega arith in
+    let front : drop i text ≡ 35 ∷ drop (i + 1) text = drop-cons text i 0 h ∙ cons_at _ _ _ _ text comment (sym (add-one i)) in
+    ap (λ k. lexemes_of (drop k text)) place
+    ∙ ap lexemes_of (sym (drop-drop n (i + 1) text))
+    ∙ ap (λ k. lexemes_of (drop k (drop (i + 1) text))) e
+    ∙ sym (comment_in_front (drop (i + 1) text))
+    ∙ ap lexemes_of (sym front)
+
+-- blanks and comments alone have no lexeme
+pub all_skipped : (text : List ℕ) (n : ℕ) → n ≡ length text → lexemes_of (drop n text) ≡ lexemes_of text → lexemes_of text ≡ []
+all_skipped text n e same = sym same ∙ ap lexemes_of (ap (λ k. drop k text) e ∙ drop-length text) ∙ lexemes_of-blanked []

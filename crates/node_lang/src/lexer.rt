@@ -1,0 +1,91 @@
+ghost use Rattle.std.specs.Prelude.{◌≡◌, ◌==◌, not, ◌-◌, ◌<◌, ◌≤◌, [], ◌∷◌, length, slice_index, drop, false, IfSome, IfNone};
+ghost use Rattle.std.specs.List.{prefix_len};
+ghost use Rattle.node_lang.specs.Words.{is_blank as blank, is_word_byte as word_byte};
+ghost use Rattle.node_lang.specs.Lexemes.{lexemes_of};
+
+use crate::token::Token;
+use crate::words::{is_blank, is_word_byte, mark_token, token_of};
+
+// A token, where it begins, and where the text goes on after it.
+#[derive(Clone, Copy)]
+pub(crate) struct Placed {
+    pub(crate) token: Token,
+    pub(crate) start: usize,
+    pub(crate) end: usize,
+}
+
+// How many bytes of a word stand at the front.
+fn word_len(text: &[u8]) -> usize
+    ensures value { result ≡ prefix_len word_byte text.now }
+    ensures within { result ≤ length text.now }
+{
+    text.iter().take_while(|byte| is_word_byte(**byte)).count()
+}
+
+// How many bytes there are up to the next line feed, or the end.
+fn line_len(text: &[u8]) -> usize
+    ensures value { result ≡ prefix_len (λ b. not (b == 10)) text.now }
+    ensures within { result ≤ length text.now }
+{
+    text.iter().take_while(|byte| **byte != b'\n').count()
+}
+
+// Where the first token begins, after blanks and comments, or the text's length.
+#[tactic(auto, using(crate::proofs::Placing::after_blank, crate::proofs::Placing::after_comment))]
+fn token_start(text: &[u8]) -> usize
+    ensures within { result ≤ length text.now }
+    ensures same { lexemes_of (drop result text.now) ≡ lexemes_of text.now }
+    ensures no_blank { result < length text.now → blank (slice_index text.now result) ≡ false }
+    ensures no_comment { result < length text.now → slice_index text.now result ≡ 35 → ⊥ }
+{
+    let mut at = 0;
+    'skips: while at < text.len() {
+        let byte = text[at];
+        if byte == b'#' {
+            at += 1 + line_len(&text[at + 1..]);
+        } else if is_blank(byte) {
+            at += 1;
+        } else {
+            break;
+        }
+    }
+    at
+}
+
+// The token at the front, and its length.
+#[tactic(auto, using(crate::proofs::Placing::word_token_first, crate::proofs::Placing::mark_token_first))]
+fn token_at(text: &[u8]) -> (Token, usize)
+    requires some { 0 < length text.now }
+    requires no_blank { blank (slice_index text.now 0) ≡ false }
+    requires no_comment { slice_index text.now 0 ≡ 35 → ⊥ }
+    ensures token { lexemes_of text.now ≡ record { from = length text.now; token = result.0 } ∷ lexemes_of (drop result.1 text.now) }
+    ensures some { 0 < result.1 }
+    ensures within { result.1 ≤ length text.now }
+{
+    let len = word_len(text);
+    if len == 0 {
+        return (mark_token(text[0]), 1);
+    }
+    (token_of(&text[..len]), len)
+}
+
+// The first token, or none where only blanks and comments are left.
+#[tactic(auto, using(crate::proofs::Placing::all_skipped))]
+pub(crate) fn first_token(text: &[u8]) -> Option<Placed>
+    ensures token { IfSome result (λ f. lexemes_of text.now
+        ≡ record { from = length text.now - f.start; token = f.token } ∷ lexemes_of (drop f.end text.now)) }
+    ensures order { IfSome result (λ f. f.start < f.end) }
+    ensures within { IfSome result (λ f. f.end ≤ length text.now) }
+    ensures none { IfNone result (lexemes_of text.now ≡ []) }
+{
+    let start = token_start(text);
+    if start == text.len() {
+        return None;
+    }
+    let (token, len) = token_at(&text[start..]);
+    Some(Placed {
+        token,
+        start,
+        end: start + len,
+    })
+}

@@ -1,0 +1,125 @@
+ghost use Rattle.std.specs.Prelude.{◌≡◌, ◌^◌, ◌<◌, length};
+ghost use Rattle.std.specs.List.{list_all};
+ghost use Rattle.std.specs.Option.{SomeIff};
+ghost use Rattle.node_lang.specs.Words.{is_blank as blank, is_digit as digit, is_word_byte as word_byte, mark_token as mark, register_named, named, keywords, operations, read_on, word_token};
+
+use crate::token::Token;
+use crate::tree::BinOp;
+
+pub(crate) fn is_blank(byte: u8) -> bool
+    ensures { result ≡ blank byte }
+{
+    matches!(byte, b'\n' | b'\t' | b'\r' | b' ')
+}
+
+pub(crate) fn is_word_byte(byte: u8) -> bool
+    ensures { result ≡ word_byte byte }
+{
+    matches!(byte, b'0'..=b'9' | b'A'..=b'Z' | b'a'..=b'z')
+}
+
+fn is_digit(byte: u8) -> bool
+    ensures { result ≡ digit byte }
+{
+    matches!(byte, b'0'..=b'9')
+}
+
+fn is_number(word: &[u8]) -> bool
+    ensures { result ≡ list_all digit word.now }
+{
+    word.iter().all(|byte| is_digit(*byte))
+}
+
+// The token of each of these words: one line per word.
+macro_rules! words {
+    ($word:expr; $($name:literal => $token:expr,)*) => {
+        match $word {
+            $(word if word == $name.as_slice() => Some($token),)*
+            _ => None,
+        }
+    };
+}
+
+// The operation of a name: one line per operation of the language.
+fn operation(word: &[u8]) -> Option<Token>
+    ensures { result ≡ named operations word.now }
+{
+    words! { word;
+        b"shl" => Token::Binary(BinOp::Shl),
+        b"add" => Token::Binary(BinOp::Add),
+        b"ldb" => Token::Binary(BinOp::Ldb),
+        b"bit" => Token::Binary(BinOp::Bit),
+    }
+}
+
+fn keyword(word: &[u8]) -> Option<Token>
+    ensures { result ≡ named keywords word.now }
+{
+    words! { word;
+        b"rounds" => Token::Rounds,
+        b"channels" => Token::Channels,
+        b"registers" => Token::Registers,
+        b"start" => Token::Start,
+        b"round" => Token::Round,
+        b"send" => Token::Send,
+        b"left" => Token::Left,
+        b"right" => Token::Right,
+        b"finish" => Token::Finish,
+        b"id" => Token::Id,
+        b"L" => Token::FromLeft,
+        b"R" => Token::FromRight,
+    }
+}
+
+// `r` and one digit.
+fn register(word: &[u8]) -> Option<Token>
+    ensures { result ≡ register_named word.now }
+{
+    match word {
+        [b'r', number] if is_digit(*number) => Some(Token::Register(u32::from(*number - b'0'))),
+        _ => None,
+    }
+}
+
+// The value of digits, where it is below 2^32.
+#[tactic(auto, using(crate::proofs::Numbers::read_more, crate::proofs::Numbers::too_large, crate::proofs::Numbers::all_read))]
+fn number(digits: &[u8]) -> Option<u32>
+    ensures { SomeIff result (read_on 0 digits.now < 2 ^ 32) (read_on 0 digits.now) }
+{
+    let mut number = 0u32;
+    'digits: for byte in digits {
+        let digit = u64::from(byte.saturating_sub(b'0'));
+        let grown = 10 * u64::from(number) + digit;
+        if grown > u64::from(u32::MAX) {
+            return None;
+        }
+        number = grown as u32;
+    }
+    Some(number)
+}
+
+#[tactic(auto, unfolding(crate::specs::Words::word_token))]
+pub(crate) fn token_of(word: &[u8]) -> Token
+    ensures { result ≡ word_token word.now }
+{
+    if is_number(word) {
+        return number(word).map_or(Token::LargeNumber, Token::Number);
+    }
+    register(word)
+        .or_else(|| keyword(word))
+        .or_else(|| operation(word))
+        .unwrap_or(Token::Unknown)
+}
+
+// The token that a byte is which is neither blank nor part of a word.
+pub(crate) fn mark_token(byte: u8) -> Token
+    ensures { result ≡ mark byte }
+{
+    match byte {
+        b'(' => Token::Open,
+        b')' => Token::Close,
+        b',' => Token::Comma,
+        b'=' => Token::Equals,
+        _ => Token::Unknown,
+    }
+}
