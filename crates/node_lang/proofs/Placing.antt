@@ -1,11 +1,12 @@
 -- The lexemes of a text that begins with a blank, a comment, a mark or a word.
-use Rattle.std.proofs.Common.{◌≡◌, ℕ, suc, ◌+◌, ◌<◌, ◌==◌, Bool, true, false, not, cond, List, [], ◌∷◌, length, get_or, take, drop, refl, sym, ap, subst, ◌∙◌, arith, add-one}
+use Rattle.std.proofs.Common.{◌≡◌, ℕ, suc, ◌+◌, ◌-◌, ◌<◌, ◌≤◌, ◌==◌, Bool, true, false, not, cond, List, [], ◌∷◌, length, get_or, take, drop, refl, sym, ap, subst, ◌∙◌, arith, add-one}
 use Rattle.std.proofs.Math.Seq.{drop-cons, drop-length}
 use Rattle.std.proofs.lemmas.Bool.{eqb-true, ne_eqb}
 use Rattle.std.proofs.lemmas.Bool.Decides.{nat_tests}
-use Rattle.std.proofs.lemmas.List.{drop-drop}
+use Rattle.std.proofs.lemmas.List.{drop-drop, length-drop, take_rest}
 use Rattle.std.proofs.lemmas.List.Folds.{length-prefix_len}
 use Rattle.std.specs.List.{prefix_len}
+use Rattle.node_lang.specs.declared.token.Token.{Token}
 use Rattle.node_lang.specs.Words.{is_blank, is_word_byte, word_token, mark_token}
 use Rattle.node_lang.specs.Lexemes.{Lexeme, Split, blanked, joined, put_before, split_of, lexemes_of}
 
@@ -105,7 +106,7 @@ word_in_front b bs h = first (is_word_byte b) _ _ h
 splits_byte : (b : ℕ) (bs : List ℕ) (n : ℕ) → is_word_byte b ≡ true → SplitsWord bs n → SplitsWord (b ∷ bs) (suc n)
 splits_byte b bs n h after =
     let split : split_of (blanked false (b ∷ bs)) ≡ record { word = b ∷ (split_of (blanked false bs)).word; rest = (split_of (blanked false bs)).rest } =
-        ap (λ t. split_of (cond t (32 ∷ blanked true bs) (b ∷ blanked false bs))) (word_no_comment b h) ∙ word_in_front b (blanked false bs) h in
+    ap (λ t. split_of (cond t (32 ∷ blanked true bs) (b ∷ blanked false bs))) (word_no_comment b h) ∙ word_in_front b (blanked false bs) h in
     record {
       word = ap (λ (s : Split). s.word) split ∙ ap (λ w. b ∷ w) after.word;
       rest = ap (λ (s : Split). s.rest) split ∙ after.rest;
@@ -155,7 +156,7 @@ mark_token_first (b ∷ bs) h e no_blank no_comment = mark_in_front b bs (stops 
 
 -- at a blank the text goes on after it
 pub after_blank : (text : List ℕ) (i : ℕ) → i < length text → is_blank (get_or text i 0) ≡ true → lexemes_of (drop (i + 1) text) ≡ lexemes_of (drop i text)
-after_blank text i h blank = rw (add-one, drop-cons text i 0) (sym (blank_in_front (get_or text i 0) (drop (suc i) text) blank)) 
+after_blank text i h blank = rw (add-one, drop-cons text i 0) (sym (blank_in_front (get_or text i 0) (drop (suc i) text) blank))
 
 cons_at : (x y m n : ℕ) (text : List ℕ) → x ≡ y → m ≡ n → x ∷ drop m text ≡ y ∷ drop n text
 cons_at x y m n text p q = λ k. p k ∷ drop (q k) text
@@ -175,3 +176,19 @@ after_comment text i n h comment e =
 -- blanks and comments alone have no lexeme
 pub all_skipped : (text : List ℕ) (n : ℕ) → n ≡ length text → lexemes_of (drop n text) ≡ lexemes_of text → lexemes_of text ≡ []
 all_skipped text n e same = sym same ∙ ap lexemes_of (ap (λ k. drop k text) e ∙ drop-length text) ∙ lexemes_of-blanked []
+
+lexeme_at : (m n : ℕ) (t : Token) (xs ys : List Lexeme) → m ≡ n → xs ≡ ys → record { from = m; token = t } ∷ xs ≡ record { from = n; token = t } ∷ ys
+lexeme_at m n t xs ys p q = λ k. record { from = p k; token = t } ∷ q k
+
+-- the lexemes from a place on, by those of a slice of the code
+pub placed_after : (text : List ℕ) (at start end : ℕ) (t : Token) → at ≤ length text → start < end →
+    lexemes_of (take (length text - at) (drop at text)) ≡ record { from = length (take (length text - at) (drop at text)) - start; token = t } ∷ lexemes_of (drop end (take (length text - at) (drop at text))) →
+    lexemes_of (drop at text) ≡ record { from = length text - (at + start); token = t } ∷ lexemes_of (drop (at + end) text)
+placed_after text at start end t h order e =
+    let size : length (drop at text) - start ≡ length text - (at + start) = omega (arith, length-drop at text) in
+    sym (ap lexemes_of (take_rest text at)) ∙ e
+    ∙ lexeme_at _ _ t _ _ (ap (λ xs. length xs - start) (take_rest text at) ∙ size)
+    (ap (λ xs. lexemes_of (drop end xs)) (take_rest text at) ∙ ap lexemes_of (drop-drop end at text))
+
+pub none_after : (text : List ℕ) (at : ℕ) → lexemes_of (take (length text - at) (drop at text)) ≡ [] → lexemes_of (drop at text) ≡ []
+none_after text at e = sym (ap lexemes_of (take_rest text at)) ∙ e

@@ -1,6 +1,7 @@
 -- How a text is read from the left: what is wanted next, how many expression nodes there are so far, and the lexemes that are left.
-use Rattle.std.specs.Prelude.{ℕ, zero, suc, ◌+◌, ◌==◌, ◌&&◌, Bool, true, false, nat_lt, nat_le, List, [], ◌∷◌, Option, Some, None, drop, if◌then◌else◌}
+use Rattle.std.specs.Prelude.{◌≡◌, ◌≢◌, ◌-◌, ℕ, zero, suc, ◌+◌, ◌==◌, ◌&&◌, Bool, true, false, nat_lt, nat_le, List, [], ◌∷◌, Option, Some, None, drop, if◌then◌else◌}
 use Rattle.node_lang.specs.declared.fault.FaultKind.{FaultKind}
+use Rattle.node_lang.specs.declared.fault.TextFault.{TextFault}
 use Rattle.node_lang.specs.declared.fault.FaultKind.TheVariants as kind
 use Rattle.node_lang.specs.declared.token.Token.{Token}
 use Rattle.node_lang.specs.declared.token.Token.TheVariants as token
@@ -125,3 +126,12 @@ reading (w ∷ more) nodes (l ∷ ls) = go_on (meets w more nodes l.token) (λ w
 -- the lexemes of a text from the byte `at` on
 abbrev pub lexemes_left : List ℕ → ℕ → List Lexeme
 lexemes_left text at = lexemes_of (drop at text)
+
+-- Reading what is wanted here goes from these nodes and lexemes to those, whatever is wanted after it.
+abbrev pub Passes : (List Want → List Want) → ℕ → List Lexeme → ℕ → List Lexeme → Type 0
+Passes wanted nodes lexemes count left = (more : List Want) → reading (wanted more) nodes lexemes ≡ reading more count left
+
+-- Reading what is wanted here stops at this fault of a text of `length` bytes, whatever is wanted after it; of want of memory nothing is said.
+abbrev pub Stops : (List Want → List Want) → ℕ → List Lexeme → ℕ → TextFault → Type 0
+Stops wanted nodes lexemes length fault =
+    fault.kind ≢ kind.OutOfMemory → (more : List Want) → reading (wanted more) nodes lexemes ≡ Fault fault.kind (length - fault.offset)

@@ -1,3 +1,5 @@
+use std::alloc::AllocFailed;
+
 /// What is wrong with a program text. The report names a kind by `N` and its number.
 #[derive(Clone, Copy, Debug, PartialEq, Eq)]
 pub enum FaultKind {
@@ -28,4 +30,18 @@ pub enum FaultKind {
 pub struct TextFault {
     pub kind: FaultKind,
     pub offset: usize,
+}
+
+impl<T: Drop> From<AllocFailed<T>> for TextFault {
+    ghost use Rattle.std.specs.Prelude.{◌≡◌};
+    ghost use Rattle.node_lang.specs.declared.fault.FaultKind.TheVariants.{OutOfMemory};
+
+    ghost from_gives = { λ _ f. f ≡ record { kind = OutOfMemory; offset = 0 } };
+
+    fn from(_refused: AllocFailed<T>) -> TextFault {
+        TextFault {
+            kind: FaultKind::OutOfMemory,
+            offset: 0,
+        }
+    }
 }

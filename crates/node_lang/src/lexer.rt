@@ -2,6 +2,7 @@ ghost use Rattle.std.specs.Prelude.{◌≡◌, ◌==◌, not, ◌-◌, ◌<◌, 
 ghost use Rattle.std.specs.List.{prefix_len};
 ghost use Rattle.node_lang.specs.Words.{is_blank as blank, is_word_byte as word_byte};
 ghost use Rattle.node_lang.specs.Lexemes.{lexemes_of};
+ghost use Rattle.node_lang.specs.Reading.{lexemes_left};
 
 use crate::token::Token;
 use crate::words::{is_blank, is_word_byte, mark_token, token_of};
@@ -71,7 +72,7 @@ fn token_at(text: &[u8]) -> (Token, usize)
 
 // The first token, or none where only blanks and comments are left.
 #[tactic(auto, using(crate::proofs::Placing::all_skipped))]
-pub(crate) fn first_token(text: &[u8]) -> Option<Placed>
+fn first_token(text: &[u8]) -> Option<Placed>
     ensures token { IfSome result (λ f. lexemes_of text.now
         ≡ record { from = length text.now - f.start; token = f.token } ∷ lexemes_of (drop f.end text.now)) }
     ensures order { IfSome result (λ f. f.start < f.end) }
@@ -87,5 +88,23 @@ pub(crate) fn first_token(text: &[u8]) -> Option<Placed>
         token,
         start,
         end: start + len,
+    })
+}
+
+// The first token from this place on; the places of the answer are those of the whole text.
+#[tactic(auto, using(crate::proofs::Placing::placed_after, crate::proofs::Placing::none_after))]
+pub(crate) fn token_from(text: &[u8], at: usize) -> Option<Placed>
+    requires { at ≤ length text.now }
+    ensures token { IfSome result (λ f. lexemes_left text.now at
+        ≡ record { from = length text.now - f.start; token = f.token } ∷ lexemes_left text.now f.end) }
+    ensures order { IfSome result (λ f. f.start < f.end) }
+    ensures within { IfSome result (λ f. f.end ≤ length text.now) }
+    ensures none { IfNone result (lexemes_left text.now at ≡ []) }
+{
+    let placed = first_token(&text[at..])?;
+    Some(Placed {
+        token: placed.token,
+        start: at + placed.start,
+        end: at + placed.end,
     })
 }

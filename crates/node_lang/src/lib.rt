@@ -4,6 +4,7 @@
 mod fault;
 mod lexer;
 mod memory;
+mod parser;
 mod program;
 mod token;
 mod tree;

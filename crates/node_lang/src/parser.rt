@@ -1,0 +1,240 @@
+ghost use Rattle.std.specs.Prelude.{◌≡◌, ◌≢◌, ℕ, ◌+◌, ◌-◌, ◌^◌, ◌<◌, ◌≤◌, [], ◌∷◌, List, Ok, Err, length, map, max, true, IfOk, IfErr};
+ghost use Rattle.node_lang.specs.declared.fault.FaultKind.TheVariants as kind;
+ghost use Rattle.node_lang.specs.declared.token.Token.TheVariants as token;
+ghost use Rattle.node_lang.specs.Term.{depth, largest, size, term_of};
+ghost use Rattle.node_lang.specs.Lexemes.{tokens_in};
+ghost use Rattle.node_lang.specs.Grammar.{assigned, block, blocks, spelled};
+ghost use Rattle.node_lang.specs.Reading.{Want, Exactly, Expression, Go, Stop, Fault, reading, node, fault_of, same_token, lexemes_left, Passes, Stops};
+
+use crate::fault::{FaultKind, TextFault};
+use crate::lexer::token_from;
+use crate::token::Token;
+use crate::tree::Expr;
+use std::alloc::{AllocFailed, Global};
+
+const MOST_DEEP: u32 = 64;
+
+const MOST_NODES: u32 = 4096;
+
+// A program text, read from the left: the place that is reached, and the expression nodes so far.
+#[derive(Drop)]
+pub(crate) struct Parser<'a> {
+    pub(crate) alloc: Global,
+    pub(crate) text: &'a [u8],
+    pub(crate) at: usize,
+    pub(crate) nodes: u32,
+    ghost within: { at ≤ length text.now },
+    ghost few: { nodes ≤ 4096 },
+}
+
+impl<'a> Parser<'a> {
+    // The next token and its place.
+    fn next(&mut self) -> Result<(Token, usize), TextFault>
+        ensures text { self.new.text.now ≡ self.old.text.now }
+        ensures nodes { self.new.nodes ≡ self.old.nodes }
+        ensures ok { IfOk result (λ t. lexemes_left self.old.text.now self.old.at
+            ≡ record { from = length self.old.text.now - t.1; token = t.0 } ∷ lexemes_left self.new.text.now self.new.at) }
+        ensures lawful { IfOk result (λ t. fault_of t.0 ≡ kind.Unexpected) }
+        ensures place { IfOk result (λ t. t.1 ≤ length self.old.text.now) }
+        ensures err { IfErr result (λ f. (w : Want) (more : List Want) (nodes : ℕ) →
+            reading (w ∷ more) nodes (lexemes_left self.old.text.now self.old.at) ≡ Fault f.kind (length self.old.text.now - f.offset)) }
+        ensures fault_place { IfErr result (λ f. f.offset ≤ length self.old.text.now) }
+    {
+        let Some(placed) = token_from(self.text, self.at) else {
+            return Err(TextFault {
+                kind: FaultKind::EndOfText,
+                offset: self.text.len(),
+            });
+        };
+        let offset = placed.start;
+        match placed.token {
+            Token::Unknown => Err(TextFault {
+                kind: FaultKind::BadWord,
+                offset,
+            }),
+            Token::LargeNumber => Err(TextFault {
+                kind: FaultKind::NumberTooLarge,
+                offset,
+            }),
+            token => {
+                self.at = placed.end;
+                Ok((token, offset))
+            }
+        }
+    }
+
+    // Takes this token.
+    #[tactic(auto, using(crate::proofs::Tokens::found_token, crate::proofs::Tokens::other_token, crate::proofs::Tokens::same_token_is))]
+    fn expect(&mut self, token: Token) -> Result<(), TextFault>
+        requires { same_token token token ≡ true }
+        ensures text { self.new.text.now ≡ self.old.text.now }
+        ensures nodes { self.new.nodes ≡ self.old.nodes }
+        ensures ok { IfOk result (λ _. (nodes : ℕ) → Passes (λ more. Exactly token ∷ more)
+            nodes (lexemes_left self.old.text.now self.old.at) nodes (lexemes_left self.new.text.now self.new.at)) }
+        ensures tokens { IfOk result (λ _. tokens_in (lexemes_left self.old.text.now self.old.at)
+            ≡ token ∷ tokens_in (lexemes_left self.new.text.now self.new.at)) }
+        ensures err { IfErr result (λ f. (nodes : ℕ) → Stops (λ more. Exactly token ∷ more)
+            nodes (lexemes_left self.old.text.now self.old.at) (length self.old.text.now) f) }
+        ensures fault_place { IfErr result (λ f. f.offset ≤ length self.old.text.now) }
+    {
+        let (found, offset) = self.next()?;
+        if found != token {
+            return Err(TextFault {
+                kind: FaultKind::Unexpected,
+                offset,
+            });
+        }
+        Ok(())
+    }
+
+    // Counts an expression node at this depth and place.
+    fn count_node(&mut self, level: u32, offset: usize) -> Result<(), TextFault>
+        ensures text { self.new.text.now ≡ self.old.text.now }
+        ensures at { self.new.at ≡ self.old.at }
+        ensures ok { IfOk result (λ _. (more : List Want) → node level self.old.nodes more ≡ Go more self.new.nodes) }
+        ensures size { IfOk result (λ _. self.new.nodes ≡ self.old.nodes + 1) }
+        ensures shallow { IfOk result (λ _. level ≤ 64) }
+        ensures err { IfErr result (λ f. (more : List Want) → node level self.old.nodes more ≡ Stop f.kind) }
+        ensures fault_place { IfErr result (λ f. f.offset ≡ offset) }
+    {
+        if level > MOST_DEEP {
+            return Err(TextFault {
+                kind: FaultKind::TooDeep,
+                offset,
+            });
+        }
+        if self.nodes >= MOST_NODES {
+            return Err(TextFault {
+                kind: FaultKind::TooManyNodes,
+                offset,
+            });
+        }
+        self.nodes += 1;
+        Ok(())
+    }
+
+    // An expression whose root has this depth.
+    #[cycle(expr)]
+    fn expr(&mut self, level: u32) -> Result<Expr, TextFault>
+        requires { level ≤ 65 }
+        ensures text { self.new.text.now ≡ self.old.text.now }
+        ensures ok { IfOk result (λ _. Passes (λ more. Expression level ∷ more)
+            self.old.nodes (lexemes_left self.old.text.now self.old.at) self.new.nodes (lexemes_left self.new.text.now self.new.at)) }
+        ensures tokens { IfOk result (λ e. tokens_in (lexemes_left self.old.text.now self.old.at)
+            ≡ spelled (term_of e) (tokens_in (lexemes_left self.new.text.now self.new.at))) }
+        ensures depth { IfOk result (λ e. level + depth (term_of e) ≤ 65) }
+        ensures numbers { IfOk result (λ e. largest (term_of e) < 2 ^ 32) }
+        ensures size { IfOk result (λ e. self.new.nodes ≡ self.old.nodes + size (term_of e)) }
+        ensures err { IfErr result (Stops (λ more. Expression level ∷ more)
+            self.old.nodes (lexemes_left self.old.text.now self.old.at) (length self.old.text.now)) }
+        ensures fault_place { IfErr result (λ f. f.offset ≤ length self.old.text.now) }
+    {
+        let (token, offset) = self.next()?;
+        let leaf = match token {
+            Token::Number(number) => Expr::Number(number),
+            Token::Id => Expr::Id,
+            Token::FromLeft => Expr::FromLeft,
+            Token::FromRight => Expr::FromRight,
+            Token::Register(register) => Expr::Register(register),
+            Token::Unary(op) => {
+                self.count_node(level, offset)?;
+                let a = self.one(level + 1)?;
+                return Ok(Expr::One(op, Box::new(self.alloc, a)?));
+            }
+            Token::Binary(op) => {
+                self.count_node(level, offset)?;
+                let (a, b) = self.two(level + 1)?;
+                return Ok(Expr::Two(op, Box::new(self.alloc, a)?, Box::new(self.alloc, b)?));
+            }
+            Token::If => {
+                self.count_node(level, offset)?;
+                let (c, a, b) = self.three(level + 1)?;
+                return Ok(Expr::Choose(
+                    Box::new(self.alloc, c)?,
+                    Box::new(self.alloc, a)?,
+                    Box::new(self.alloc, b)?,
+                ));
+            }
+            _ => {
+                return Err(TextFault {
+                    kind: FaultKind::Unexpected,
+                    offset,
+                });
+            }
+        };
+        self.count_node(level, offset)?;
+        Ok(leaf)
+    }
+
+    // One operand in parentheses.
+    #[cycle(expr)]
+    fn one(&mut self, level: u32) -> Result<Expr, TextFault>
+        requires { level ≤ 65 }
+        ensures text { self.new.text.now ≡ self.old.text.now }
+        ensures ok { IfOk result (λ _. Passes (λ more. Exactly token.Open ∷ Expression level ∷ Exactly token.Close ∷ more)
+            self.old.nodes (lexemes_left self.old.text.now self.old.at) self.new.nodes (lexemes_left self.new.text.now self.new.at)) }
+        ensures tokens { IfOk result (λ e. tokens_in (lexemes_left self.old.text.now self.old.at)
+            ≡ token.Open ∷ spelled (term_of e) (token.Close ∷ tokens_in (lexemes_left self.new.text.now self.new.at))) }
+        ensures depth { IfOk result (λ e. level + depth (term_of e) ≤ 65) }
+        ensures numbers { IfOk result (λ e. largest (term_of e) < 2 ^ 32) }
+        ensures size { IfOk result (λ e. self.new.nodes ≡ self.old.nodes + size (term_of e)) }
+        ensures err { IfErr result (Stops (λ more. Exactly token.Open ∷ Expression level ∷ Exactly token.Close ∷ more)
+            self.old.nodes (lexemes_left self.old.text.now self.old.at) (length self.old.text.now)) }
+        ensures fault_place { IfErr result (λ f. f.offset ≤ length self.old.text.now) }
+    {
+        self.expect(Token::Open)?;
+        let a = self.expr(level)?;
+        self.expect(Token::Close)?;
+        Ok(a)
+    }
+
+    // Two operands in parentheses.
+    #[cycle(expr)]
+    fn two(&mut self, level: u32) -> Result<(Expr, Expr), TextFault>
+        requires { level ≤ 65 }
+        ensures text { self.new.text.now ≡ self.old.text.now }
+        ensures ok { IfOk result (λ _. Passes (λ more. Exactly token.Open ∷ Expression level ∷ Exactly token.Comma ∷ Expression level ∷ Exactly token.Close ∷ more)
+            self.old.nodes (lexemes_left self.old.text.now self.old.at) self.new.nodes (lexemes_left self.new.text.now self.new.at)) }
+        ensures tokens { IfOk result (λ e. tokens_in (lexemes_left self.old.text.now self.old.at)
+            ≡ token.Open ∷ spelled (term_of e.0) (token.Comma ∷ spelled (term_of e.1) (token.Close ∷ tokens_in (lexemes_left self.new.text.now self.new.at)))) }
+        ensures depth { IfOk result (λ e. level + max (depth (term_of e.0)) (depth (term_of e.1)) ≤ 65) }
+        ensures numbers { IfOk result (λ e. max (largest (term_of e.0)) (largest (term_of e.1)) < 2 ^ 32) }
+        ensures size { IfOk result (λ e. self.new.nodes ≡ self.old.nodes + (size (term_of e.0) + size (term_of e.1))) }
+        ensures err { IfErr result (Stops (λ more. Exactly token.Open ∷ Expression level ∷ Exactly token.Comma ∷ Expression level ∷ Exactly token.Close ∷ more)
+            self.old.nodes (lexemes_left self.old.text.now self.old.at) (length self.old.text.now)) }
+        ensures fault_place { IfErr result (λ f. f.offset ≤ length self.old.text.now) }
+    {
+        self.expect(Token::Open)?;
+        let a = self.expr(level)?;
+        self.expect(Token::Comma)?;
+        let b = self.expr(level)?;
+        self.expect(Token::Close)?;
+        Ok((a, b))
+    }
+
+    // Three operands in parentheses.
+    #[cycle(expr)]
+    fn three(&mut self, level: u32) -> Result<(Expr, Expr, Expr), TextFault>
+        requires { level ≤ 65 }
+        ensures text { self.new.text.now ≡ self.old.text.now }
+        ensures ok { IfOk result (λ _. Passes (λ more. Exactly token.Open ∷ Expression level ∷ Exactly token.Comma ∷ Expression level ∷ Exactly token.Comma ∷ Expression level ∷ Exactly token.Close ∷ more)
+            self.old.nodes (lexemes_left self.old.text.now self.old.at) self.new.nodes (lexemes_left self.new.text.now self.new.at)) }
+        ensures tokens { IfOk result (λ e. tokens_in (lexemes_left self.old.text.now self.old.at)
+            ≡ token.Open ∷ spelled (term_of e.0) (token.Comma ∷ spelled (term_of e.1) (token.Comma ∷ spelled (term_of e.2) (token.Close ∷ tokens_in (lexemes_left self.new.text.now self.new.at))))) }
+        ensures depth { IfOk result (λ e. level + max (depth (term_of e.0)) (max (depth (term_of e.1)) (depth (term_of e.2))) ≤ 65) }
+        ensures numbers { IfOk result (λ e. max (largest (term_of e.0)) (max (largest (term_of e.1)) (largest (term_of e.2))) < 2 ^ 32) }
+        ensures size { IfOk result (λ e. self.new.nodes ≡ self.old.nodes + (size (term_of e.0) + (size (term_of e.1) + size (term_of e.2)))) }
+        ensures err { IfErr result (Stops (λ more. Exactly token.Open ∷ Expression level ∷ Exactly token.Comma ∷ Expression level ∷ Exactly token.Comma ∷ Expression level ∷ Exactly token.Close ∷ more)
+            self.old.nodes (lexemes_left self.old.text.now self.old.at) (length self.old.text.now)) }
+        ensures fault_place { IfErr result (λ f. f.offset ≤ length self.old.text.now) }
+    {
+        self.expect(Token::Open)?;
+        let c = self.expr(level)?;
+        self.expect(Token::Comma)?;
+        let a = self.expr(level)?;
+        self.expect(Token::Comma)?;
+        let b = self.expr(level)?;
+        self.expect(Token::Close)?;
+        Ok((c, a, b))
+    }
+}
