@@ -1,3 +1,4 @@
 pub mod Numbers
 pub mod Placing
 pub mod Tokens
+pub mod Counts

@@ -97,14 +97,26 @@ same_token token.Comma token.Comma = true
 same_token token.Equals token.Equals = true
 same_token _ _ = false
 
+-- what is wanted after this number of the header
+abbrev pub after_count : Want → ℕ → List Want → List Want
+after_count RoundCount n more = Exactly token.Channels ∷ ChannelCount n ∷ more
+after_count (ChannelCount rounds) n more = Exactly token.Registers ∷ RegisterCount rounds ∷ more
+after_count (RegisterCount rounds) n more = Exactly token.Start ∷ body_wanted rounds n more
+after_count _ n more = more
+
+-- a number of the header that is wanted from low to high
+abbrev pub IsCount : Want → ℕ → ℕ → Type 0
+IsCount RoundCount low high = (low ≡ 0) × (high ≡ 3)
+IsCount (ChannelCount rounds) low high = (low ≡ 1) × (high ≡ 4096)
+IsCount (RegisterCount rounds) low high = (low ≡ 1) × (high ≡ 8)
+IsCount _ low high = ⊥
+
 -- what a token does where this is wanted, with more after it
 abbrev pub meets : Want → List Want → ℕ → Token → Met
 meets (Exactly t) more nodes met = if same_token met t then Go more nodes else Stop (fault_of met)
-meets RoundCount more nodes (token.Number n) = counted 0 3 n (Exactly token.Channels ∷ ChannelCount n ∷ more) nodes
-meets (ChannelCount rounds) more nodes (token.Number n) =
-    counted 1 4096 n (Exactly token.Registers ∷ RegisterCount rounds ∷ more) nodes
-meets (RegisterCount rounds) more nodes (token.Number n) =
-    counted 1 8 n (Exactly token.Start ∷ body_wanted rounds n more) nodes
+meets RoundCount more nodes (token.Number n) = counted 0 3 n (after_count RoundCount n more) nodes
+meets (ChannelCount rounds) more nodes (token.Number n) = counted 1 4096 n (after_count (ChannelCount rounds) n more) nodes
+meets (RegisterCount rounds) more nodes (token.Number n) = counted 1 8 n (after_count (RegisterCount rounds) n more) nodes
 meets (Expression depth) more nodes met = begun depth nodes (opens depth more met) (fault_of met)
 meets _ more nodes met = Stop (fault_of met)
 

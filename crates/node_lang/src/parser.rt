@@ -2,15 +2,24 @@ ghost use Rattle.std.specs.Prelude.{◌≡◌, ◌≢◌, ℕ, ◌+◌, ◌-◌,
 ghost use Rattle.node_lang.specs.declared.fault.FaultKind.TheVariants as kind;
 ghost use Rattle.node_lang.specs.declared.token.Token.TheVariants as token;
 ghost use Rattle.node_lang.specs.Term.{depth, largest, size, term_of};
+ghost use Rattle.node_lang.specs.Limits.{IsSmall};
 ghost use Rattle.node_lang.specs.Lexemes.{tokens_in};
 ghost use Rattle.node_lang.specs.Grammar.{assigned, block, blocks, spelled};
-ghost use Rattle.node_lang.specs.Reading.{Want, Exactly, Expression, Go, Stop, Fault, reading, node, fault_of, same_token, lexemes_left, Passes, Stops};
+ghost use Rattle.node_lang.specs.Reading.{Want, Exactly, Expression, RoundCount, Go, Stop, Fault, IsCount, after_count, assigns_wanted, block_wanted, blocks_wanted, body_wanted, reading, node, fault_of, same_token, lexemes_left, Passes, Stops};
 
 use crate::fault::{FaultKind, TextFault};
 use crate::lexer::token_from;
 use crate::token::Token;
 use crate::tree::Expr;
 use std::alloc::{AllocFailed, Global};
+
+// The numbers of a program's first lines.
+#[derive(Clone, Copy)]
+struct Header {
+    rounds: u32,
+    channels: u32,
+    registers: u32,
+}
 
 const MOST_DEEP: u32 = 64;
 
@@ -236,5 +245,107 @@ impl<'a> Parser<'a> {
         let b = self.expr(level)?;
         self.expect(Token::Close)?;
         Ok((c, a, b))
+    }
+
+    // A number of the header, from low to high.
+    #[tactic(auto, using(crate::proofs::Counts::count_within, crate::proofs::Counts::count_below, crate::proofs::Counts::count_above, crate::proofs::Counts::count_other))]
+    fn number(&mut self, low: u32, high: u32) -> Result<u32, TextFault>
+        ensures text { self.new.text.now ≡ self.old.text.now }
+        ensures nodes { self.new.nodes ≡ self.old.nodes }
+        ensures ok { IfOk result (λ n. (w : Want) (nodes : ℕ) (more : List Want) → IsCount w low high →
+            reading (w ∷ more) nodes (lexemes_left self.old.text.now self.old.at) ≡ reading (after_count w n more) nodes (lexemes_left self.new.text.now self.new.at)) }
+        ensures tokens { IfOk result (λ n. tokens_in (lexemes_left self.old.text.now self.old.at)
+            ≡ token.Number n ∷ tokens_in (lexemes_left self.new.text.now self.new.at)) }
+        ensures low { IfOk result (λ n. low ≤ n) }
+        ensures high { IfOk result (λ n. n ≤ high) }
+        ensures err { IfErr result (λ f. (w : Want) (nodes : ℕ) (more : List Want) → IsCount w low high →
+            reading (w ∷ more) nodes (lexemes_left self.old.text.now self.old.at) ≡ Fault f.kind (length self.old.text.now - f.offset)) }
+        ensures fault_place { IfErr result (λ f. f.offset ≤ length self.old.text.now) }
+    {
+        let (token, offset) = self.next()?;
+        let Token::Number(number) = token else {
+            return Err(TextFault {
+                kind: FaultKind::Unexpected,
+                offset,
+            });
+        };
+        if number < low || number > high {
+            return Err(TextFault {
+                kind: FaultKind::HeaderRange,
+                offset,
+            });
+        }
+        Ok(number)
+    }
+
+    // What stands before the first assignment.
+    fn header(&mut self) -> Result<Header, TextFault>
+        ensures text { self.new.text.now ≡ self.old.text.now }
+        ensures nodes { self.new.nodes ≡ self.old.nodes }
+        ensures ok { IfOk result (λ h. (nodes : ℕ) (more : List Want) →
+            reading (Exactly token.Rounds ∷ RoundCount ∷ more) nodes (lexemes_left self.old.text.now self.old.at)
+            ≡ reading (body_wanted h.rounds h.registers more) nodes (lexemes_left self.new.text.now self.new.at)) }
+        ensures tokens { IfOk result (λ h. tokens_in (lexemes_left self.old.text.now self.old.at)
+            ≡ token.Rounds ∷ token.Number h.rounds ∷ token.Channels ∷ token.Number h.channels ∷ token.Registers
+            ∷ token.Number h.registers ∷ token.Start ∷ tokens_in (lexemes_left self.new.text.now self.new.at)) }
+        ensures rounds { IfOk result (λ h. h.rounds ≤ 3) }
+        ensures channels { IfOk result (λ h. (1 ≤ h.channels) × (h.channels ≤ 4096)) }
+        ensures registers { IfOk result (λ h. (1 ≤ h.registers) × (h.registers ≤ 8)) }
+        ensures err { IfErr result (λ f. (nodes : ℕ) → Stops (λ more. Exactly token.Rounds ∷ RoundCount ∷ more)
+            nodes (lexemes_left self.old.text.now self.old.at) (length self.old.text.now) f) }
+        ensures fault_place { IfErr result (λ f. f.offset ≤ length self.old.text.now) }
+    {
+        self.expect(Token::Rounds)?;
+        let rounds = self.number(0, 3)?;
+        self.expect(Token::Channels)?;
+        let channels = self.number(1, 4096)?;
+        self.expect(Token::Registers)?;
+        let registers = self.number(1, 8)?;
+        self.expect(Token::Start)?;
+        Ok(Header {
+            rounds,
+            channels,
+            registers,
+        })
+    }
+
+    // The end of the text.
+    fn end(&mut self) -> Result<(), TextFault>
+        ensures text { self.new.text.now ≡ self.old.text.now }
+        ensures ok { IfOk result (λ _. lexemes_left self.old.text.now self.old.at ≡ []) }
+        ensures err { IfErr result (λ f. (nodes : ℕ) →
+            reading [] nodes (lexemes_left self.old.text.now self.old.at) ≡ Fault f.kind (length self.old.text.now - f.offset)) }
+        ensures fault_place { IfErr result (λ f. f.offset ≤ length self.old.text.now) }
+    {
+        let Some(placed) = token_from(self.text, self.at) else {
+            return Ok(());
+        };
+        let kind = match placed.token {
+            Token::Unknown => FaultKind::BadWord,
+            Token::LargeNumber => FaultKind::NumberTooLarge,
+            _ => FaultKind::Unexpected,
+        };
+        Err(TextFault {
+            kind,
+            offset: placed.start,
+        })
+    }
+
+    // The assignment to one register.
+    fn assign(&mut self, register: u32) -> Result<Expr, TextFault>
+        ensures text { self.new.text.now ≡ self.old.text.now }
+        ensures ok { IfOk result (λ _. Passes (λ more. Exactly (token.Register register) ∷ Exactly token.Equals ∷ Expression 1 ∷ more)
+            self.old.nodes (lexemes_left self.old.text.now self.old.at) self.new.nodes (lexemes_left self.new.text.now self.new.at)) }
+        ensures tokens { IfOk result (λ e. tokens_in (lexemes_left self.old.text.now self.old.at)
+            ≡ token.Register register ∷ token.Equals ∷ spelled (term_of e) (tokens_in (lexemes_left self.new.text.now self.new.at))) }
+        ensures small { IfOk result (λ e. IsSmall (term_of e)) }
+        ensures size { IfOk result (λ e. self.new.nodes ≡ self.old.nodes + size (term_of e)) }
+        ensures err { IfErr result (Stops (λ more. Exactly (token.Register register) ∷ Exactly token.Equals ∷ Expression 1 ∷ more)
+            self.old.nodes (lexemes_left self.old.text.now self.old.at) (length self.old.text.now)) }
+        ensures fault_place { IfErr result (λ f. f.offset ≤ length self.old.text.now) }
+    {
+        self.expect(Token::Register(register))?;
+        self.expect(Token::Equals)?;
+        self.expr(1)
     }
 }
