@@ -1,11 +1,11 @@
 -- What a token does where a number of the header is wanted.
-use Rattle.std.proofs.Common.{◌≡◌, ◌≢◌, ℕ, ◌<◌, ◌≤◌, Bool, true, false, ◌&&◌, cond, nat_le, List, [], ◌∷◌, refl, sym, ap, ◌∙◌}
+use Rattle.std.proofs.Common.{◌≡◌, ◌≢◌, ℕ, ◌<◌, ◌≤◌, false, ◌&&◌, cond, nat_le, List, ◌∷◌, refl, sym, ap, ◌∙◌}
 use Rattle.std.proofs.lemmas.Bool.{le-leb, lt-leb, and_left, and_right, and_from}
 use Rattle.node_lang.specs.declared.fault.FaultKind.TheVariants as kind
 use Rattle.node_lang.specs.declared.token.Token.{Token}
 use Rattle.node_lang.specs.declared.token.Token.TheVariants as token
 use Rattle.node_lang.specs.Lexemes.{Lexeme}
-use Rattle.node_lang.specs.Reading.{Want, Exactly, Expression, RoundCount, ChannelCount, RegisterCount, Go, Stop, Outcome, Fault, IsCount, after_count, go_on, meets, counted, reading, fault_of}
+use Rattle.node_lang.specs.Reading.{Want, Exactly, Expression, RoundCount, ChannelCount, RegisterCount, Go, Stop, Fault, IsCount, after_count, go_on, meets, counted, reading, fault_of}
 
 -- a number where one from low to high is wanted
 meets_count : (w : Want) (more : List Want) (nodes n low high : ℕ) → IsCount w low high →

@@ -2,3 +2,9 @@ pub mod Numbers
 pub mod Placing
 pub mod Tokens
 pub mod Counts
+pub mod Assigning
+pub mod Blocks
+pub mod Wholes
+pub mod Passing
+pub mod OneReading
+pub mod Faulting

@@ -8,7 +8,7 @@ use Rattle.std.proofs.lemmas.List.Folds.{length-prefix_len}
 use Rattle.std.specs.List.{prefix_len}
 use Rattle.node_lang.specs.declared.token.Token.{Token}
 use Rattle.node_lang.specs.Words.{is_blank, is_word_byte, word_token, mark_token}
-use Rattle.node_lang.specs.Lexemes.{Lexeme, Split, blanked, joined, put_before, split_of, lexemes_of}
+use Rattle.node_lang.specs.Lexemes.{Lexeme, Split, blanked, joined, split_of, lexemes_of}
 
 pub length-blanked : (inside : Bool) (text : List ℕ) → length (blanked inside text) ≡ length text
 length-blanked inside [] = refl

@@ -2,15 +2,19 @@
 #![tactic(auto)]
 
 mod fault;
+mod laws;
 mod lexer;
 mod memory;
 mod parser;
 mod program;
+mod text;
 mod token;
 mod tree;
 mod words;
 
 pub use fault::{FaultKind, TextFault};
+pub use laws::one_reading;
 pub use memory::OutOfMemory;
 pub use program::Program;
+pub use text::parse;
 pub use tree::{BinOp, Expr, Round, UnOp};

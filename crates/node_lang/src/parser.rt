@@ -1,16 +1,18 @@
-ghost use Rattle.std.specs.Prelude.{◌≡◌, ◌≢◌, ℕ, ◌+◌, ◌-◌, ◌^◌, ◌<◌, ◌≤◌, [], ◌∷◌, List, Ok, Err, length, map, max, true, IfOk, IfErr};
+ghost use Rattle.std.specs.Prelude.{◌≡◌, ◌≢◌, ℕ, ◌+◌, ◌-◌, ◌^◌, ◌<◌, ◌≤◌, [], ◌∷◌, List, Ok, Err, length, map, max, sum_by, All, true, IfOk, IfErr};
+ghost use Rattle.std.specs.List.{flat_map};
 ghost use Rattle.node_lang.specs.declared.fault.FaultKind.TheVariants as kind;
 ghost use Rattle.node_lang.specs.declared.token.Token.TheVariants as token;
-ghost use Rattle.node_lang.specs.Term.{depth, largest, size, term_of};
-ghost use Rattle.node_lang.specs.Limits.{IsSmall};
+ghost use Rattle.node_lang.specs.Term.{depth, largest, size, step_of, step_terms, term_of};
+ghost use Rattle.node_lang.specs.Limits.{IsSmall, IsWithinLimits};
 ghost use Rattle.node_lang.specs.Lexemes.{tokens_in};
-ghost use Rattle.node_lang.specs.Grammar.{assigned, block, blocks, spelled};
-ghost use Rattle.node_lang.specs.Reading.{Want, Exactly, Expression, RoundCount, Go, Stop, Fault, IsCount, after_count, assigns_wanted, block_wanted, blocks_wanted, body_wanted, reading, node, fault_of, same_token, lexemes_left, Passes, Stops};
+ghost use Rattle.node_lang.specs.Grammar.{assigned, block, blocks, spelled, spelling};
+ghost use Rattle.node_lang.specs.Reading.{Want, Exactly, Expression, RoundCount, Go, Stop, Whole, Fault, program_wanted, IsCount, after_count, assigns_wanted, block_wanted, blocks_wanted, body_wanted, reading, node, fault_of, same_token, lexemes_left, Passes, Stops};
 
 use crate::fault::{FaultKind, TextFault};
 use crate::lexer::token_from;
+use crate::program::Program;
 use crate::token::Token;
-use crate::tree::Expr;
+use crate::tree::{Expr, Round};
 use std::alloc::{AllocFailed, Global};
 
 // The numbers of a program's first lines.
@@ -347,5 +349,102 @@ impl<'a> Parser<'a> {
         self.expect(Token::Register(register))?;
         self.expect(Token::Equals)?;
         self.expr(1)
+    }
+
+    // An assignment to each register.
+    fn assigns(&mut self, registers: u32) -> Result<Vec<Expr>, TextFault>
+        ensures text { self.new.text.now ≡ self.old.text.now }
+        ensures ok { IfOk result (λ _. Passes (assigns_wanted 0 registers)
+            self.old.nodes (lexemes_left self.old.text.now self.old.at) self.new.nodes (lexemes_left self.new.text.now self.new.at)) }
+        ensures tokens { IfOk result (λ v. tokens_in (lexemes_left self.old.text.now self.old.at)
+            ≡ assigned 0 (map term_of v.items) (tokens_in (lexemes_left self.new.text.now self.new.at))) }
+        ensures count { IfOk result (λ v. length v.items ≡ registers) }
+        ensures small { IfOk result (λ v. All IsSmall (map term_of v.items)) }
+        ensures size { IfOk result (λ v. self.new.nodes ≡ self.old.nodes + sum_by size (map term_of v.items)) }
+        ensures err { IfErr result (Stops (assigns_wanted 0 registers)
+            self.old.nodes (lexemes_left self.old.text.now self.old.at) (length self.old.text.now)) }
+        ensures fault_place { IfErr result (λ f. f.offset ≤ length self.old.text.now) }
+    {
+        let mut expressions = Vec::new(self.alloc);
+        'registers: for register in 0..registers {
+            let expression = self.assign(register)?;
+            expressions.push(expression)?;
+        }
+        Ok(expressions)
+    }
+
+    // A round.
+    fn round(&mut self, registers: u32) -> Result<Round, TextFault>
+        ensures text { self.new.text.now ≡ self.old.text.now }
+        ensures ok { IfOk result (λ _. Passes (block_wanted registers)
+            self.old.nodes (lexemes_left self.old.text.now self.old.at) self.new.nodes (lexemes_left self.new.text.now self.new.at)) }
+        ensures tokens { IfOk result (λ r. tokens_in (lexemes_left self.old.text.now self.old.at)
+            ≡ block (step_of r) (tokens_in (lexemes_left self.new.text.now self.new.at))) }
+        ensures count { IfOk result (λ r. length (step_of r).next ≡ registers) }
+        ensures left { IfOk result (λ r. IsSmall (term_of r.left)) }
+        ensures right { IfOk result (λ r. IsSmall (term_of r.right)) }
+        ensures next { IfOk result (λ r. All IsSmall (map term_of r.next.items)) }
+        ensures size { IfOk result (λ r. self.new.nodes
+            ≡ self.old.nodes + (size (term_of r.left) + (size (term_of r.right) + sum_by size (map term_of r.next.items)))) }
+        ensures err { IfErr result (Stops (block_wanted registers)
+            self.old.nodes (lexemes_left self.old.text.now self.old.at) (length self.old.text.now)) }
+        ensures fault_place { IfErr result (λ f. f.offset ≤ length self.old.text.now) }
+    {
+        self.expect(Token::Round)?;
+        self.expect(Token::Send)?;
+        self.expect(Token::Left)?;
+        let left = self.expr(1)?;
+        self.expect(Token::Send)?;
+        self.expect(Token::Right)?;
+        let right = self.expr(1)?;
+        let next = self.assigns(registers)?;
+        Ok(Round { left, right, next })
+    }
+
+    // The rounds.
+    fn rounds(&mut self, count: u32, registers: u32) -> Result<Vec<Round>, TextFault>
+        ensures text { self.new.text.now ≡ self.old.text.now }
+        ensures ok { IfOk result (λ _. Passes (blocks_wanted count registers)
+            self.old.nodes (lexemes_left self.old.text.now self.old.at) self.new.nodes (lexemes_left self.new.text.now self.new.at)) }
+        ensures tokens { IfOk result (λ v. tokens_in (lexemes_left self.old.text.now self.old.at)
+            ≡ blocks (map step_of v.items) (tokens_in (lexemes_left self.new.text.now self.new.at))) }
+        ensures count { IfOk result (λ v. length v.items ≡ count) }
+        ensures each { IfOk result (λ v. All (λ s. length s.next ≡ registers) (map step_of v.items)) }
+        ensures small { IfOk result (λ v. All IsSmall (flat_map step_terms (map step_of v.items))) }
+        ensures size { IfOk result (λ v. self.new.nodes ≡ self.old.nodes + sum_by size (flat_map step_terms (map step_of v.items))) }
+        ensures err { IfErr result (Stops (blocks_wanted count registers)
+            self.old.nodes (lexemes_left self.old.text.now self.old.at) (length self.old.text.now)) }
+        ensures fault_place { IfErr result (λ f. f.offset ≤ length self.old.text.now) }
+    {
+        let mut steps = Vec::new(self.alloc);
+        'rounds: for index in 0..count {
+            let step = self.round(registers)?;
+            steps.push(step)?;
+        }
+        Ok(steps)
+    }
+
+    // A whole program, up to the end of the text.
+    pub(crate) fn whole(&mut self) -> Result<Program, TextFault>
+        requires { self.old.nodes ≡ 0 }
+        ensures tokens { IfOk result (λ p. tokens_in (lexemes_left self.old.text.now self.old.at) ≡ spelling p) }
+        ensures limits { IfOk result (λ p. IsWithinLimits p) }
+        ensures ok { IfOk result (λ _. reading program_wanted 0 (lexemes_left self.old.text.now self.old.at) ≡ Whole) }
+        ensures err { IfErr result (λ f. f.kind ≢ kind.OutOfMemory →
+            reading program_wanted 0 (lexemes_left self.old.text.now self.old.at) ≡ Fault f.kind (length self.old.text.now - f.offset)) }
+        ensures fault_place { IfErr result (λ f. f.offset ≤ length self.old.text.now) }
+    {
+        let header = self.header()?;
+        let start = self.assigns(header.registers)?;
+        let steps = self.rounds(header.rounds, header.registers)?;
+        self.expect(Token::Finish)?;
+        let finish = self.expr(1)?;
+        self.end()?;
+        Ok(Program {
+            channels: header.channels,
+            start,
+            steps,
+            finish,
+        })
     }
 }

@@ -1,0 +1,57 @@
+ghost use Rattle.std.specs.Prelude.{◌≡◌, ◌≢◌, ℕ, ◌<◌, ◌≤◌, List, Err, length, position, All, IfOk, IfErr, IfSome, IfNone};
+ghost use Rattle.node_lang.specs.declared.fault.FaultKind.TheVariants as kind;
+ghost use Rattle.node_lang.specs.Term.{ProgramTree};
+ghost use Rattle.node_lang.specs.Grammar.{Reads};
+ghost use Rattle.node_lang.specs.Faults.{FaultsAt, IsFirstHighByte};
+
+use crate::fault::{FaultKind, TextFault};
+use crate::parser::Parser;
+use crate::program::Program;
+use std::alloc::Global;
+
+const LONGEST: usize = 65_536;
+
+// The first byte over 127.
+fn high_byte(text: &[u8]) -> Option<usize>
+    ensures found { IfSome result (IsFirstHighByte text.now) }
+    ensures none { IfNone result (All (λ b. b < 128) text.now) }
+{
+    text.iter().position(|byte| *byte > 127)
+}
+
+/// Reads a program text of at most 65,536 bytes. The operations `shl`, `add`, `ldb` and `bit` are words of the
+/// language so far.
+///
+/// A longer text is `TooLong` at 65,536, else a text with a byte over 127 is `NotAscii` at the first one. Else
+/// the fault stands at the first place where the text can't go on: `BadWord` and `NumberTooLarge` at a
+/// token's first byte, `HeaderRange` at a number of the header, `Unexpected` at a token that cannot stand there,
+/// `TooDeep` and `TooManyNodes` at the first token of an expression node, `EndOfText` at the text's length.
+/// `OutOfMemory`, at 0, may stand in place of any answer but `TooLong` and `NotAscii`.
+pub fn parse(alloc: Global, text: &[u8]) -> Result<Program, TextFault>
+    ensures program { IfOk result (Reads text.now) }
+    ensures none { IfErr result (λ f. f.kind ≢ kind.OutOfMemory → (p : ProgramTree) → Reads text.now p → ⊥) }
+    ensures fault { IfErr result (λ f. f.kind ≢ kind.OutOfMemory → FaultsAt text.now f.kind f.offset) }
+    ensures too_long { 65536 < length text.now → result ≡ Err (record { kind = kind.TooLong; offset = 65536 }) }
+    ensures not_ascii { (offset : ℕ) → length text.now ≤ 65536 → IsFirstHighByte text.now offset →
+        result ≡ Err (record { kind = kind.NotAscii; offset = offset }) }
+{
+    if text.len() > LONGEST {
+        return Err(TextFault {
+            kind: FaultKind::TooLong,
+            offset: LONGEST,
+        });
+    }
+    if let Some(offset) = high_byte(text) {
+        return Err(TextFault {
+            kind: FaultKind::NotAscii,
+            offset,
+        });
+    }
+    let mut parser = Parser {
+        alloc,
+        text,
+        at: 0,
+        nodes: 0,
+    };
+    parser.whole()
+}
