@@ -319,17 +319,17 @@ impl<'a> Parser<'a> {
             reading [] nodes (lexemes_left self.old.text.now self.old.at) ≡ Fault f.kind (length self.old.text.now - f.offset)) }
         ensures fault_place { IfErr result (λ f. f.offset ≤ length self.old.text.now) }
     {
-        let Some(placed) = token_from(self.text, self.at) else {
+        let Some(extra) = token_from(self.text, self.at) else {
             return Ok(());
         };
-        let kind = match placed.token {
+        let kind = match extra.token {
             Token::Unknown => FaultKind::BadWord,
             Token::LargeNumber => FaultKind::NumberTooLarge,
             _ => FaultKind::Unexpected,
         };
         Err(TextFault {
             kind,
-            offset: placed.start,
+            offset: extra.start,
         })
     }
 
