@@ -1,0 +1,2 @@
+-- The definitions of this crate that contracts cite.
+pub mod View
