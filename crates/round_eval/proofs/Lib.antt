@@ -1,2 +1,3 @@
 -- Lemmas that several proofs share.
 mod LowestDifference
+mod NoFault
