@@ -1,3 +1,4 @@
 -- Lemmas that several proofs share.
 mod LowestDifference
 mod NoFault
+mod OccurrenceLemmas
