@@ -2,3 +2,4 @@
 mod LowestDifference
 mod NoFault
 mod OccurrenceLemmas
+mod Assigned
