@@ -3,3 +3,4 @@ mod LowestDifference
 mod NoFault
 mod OccurrenceLemmas
 mod Assigned
+mod RowLemmas

@@ -6,6 +6,7 @@ mod node;
 mod occurrences;
 mod plan;
 mod ring;
+mod rounds;
 mod shape;
 mod value;
 
