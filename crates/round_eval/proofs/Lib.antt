@@ -4,3 +4,4 @@ mod NoFault
 mod OccurrenceLemmas
 mod Assigned
 mod RowLemmas
+mod GlobalRounds

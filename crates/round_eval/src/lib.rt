@@ -14,4 +14,5 @@ pub use acceptance::{accept, CheckFault};
 pub use node::{channel, messages, start_state, step};
 pub use plan::Plan;
 pub use ring::{Ring, RingFault};
+pub use rounds::plain_run;
 pub use shape::{Shape, ShapeFault};
