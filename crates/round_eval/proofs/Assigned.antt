@@ -3,7 +3,7 @@ use Rattle.std.proofs.Common.{◌≡◌, ℕ, ◌<◌, List, map, length, get_or
 use Rattle.std.specs.List.{All}
 use Rattle.std.proofs.lemmas.List.{length-map}
 use Rattle.std.proofs.Math.ListN.{get_or-map}
-use Rattle.node_lang.specs.Term.{ProgramTree, Step, step_of, term_of}
+use Rattle.node_lang.specs.Term.{ProgramTree, step_of, term_of}
 use Rattle.node_lang.specs.Limits.{IsWithinLimits}
 use Rattle.node_lang.specs.declared.tree.Round.{Round}
 

@@ -1,5 +1,5 @@
 -- The least index at which two numbers differ in a bit, by the trailing zeros of their difference.
-use Rattle.std.proofs.Common.{◌≡◌, ◌≢◌, ℕ, zero, suc, ◌+◌, ◌*◌, ◌^◌, ◌<◌, ◌≤◌, ◌==◌, Bool, true, false, not, inl, inr, refl, sym, ap, arith}
+use Rattle.std.proofs.Common.{◌≡◌, ◌≢◌, ℕ, zero, suc, ◌+◌, ◌^◌, ◌<◌, ◌≤◌, ◌==◌, Bool, true, false, not, inl, inr, refl, ap, arith}
 use Rattle.std.specs.Int.{bit_at, trailing_zeros, w32}
 use Rattle.std.specs.Int.RustNames.{bit_xor}
 use Rattle.std.proofs.lemmas.Bool.Decides.{eqb_tells}
@@ -22,11 +22,11 @@ pub least_from-first :
 least_from-first test i zero k low high here below = absurd (omega arith)
 least_from-first test i (suc n) k low high here below =
     elim (eqb_tells i k) [
-      inl same ↦ let e : i ≡ k = same.1 in rw (e, here)
-    | inr other ↦
-        let ne : i ≢ k = other.1 in
-        rw (below i (omega arith) (omega arith))
-        (least_from-first test (i + 1) n k (omega arith) (omega arith) here (λ j lower. below j (omega arith)))
+      | inl same ↦ let e : i ≡ k = same.1 in rw (e, here)
+      | inr other ↦
+          let ne : i ≢ k = other.1 in
+          rw (below i (omega arith) (omega arith))
+          (least_from-first test (i + 1) n k (omega arith) (omega arith) here (λ j lower. below j (omega arith)))
     ]
 
 agrees : (x y : ℕ) → x ≡ y → not (x == y) ≡ false
@@ -65,8 +65,8 @@ lowest_differing_bit-xor a b ne la lb =
     nonzero : (a b : ℕ) → a ≢ b → 0 < bit_xor a b
     nonzero a b ne =
         elim (eqb_tells (bit_xor a b) 0) [
-          inl equal ↦ absurd (ne (same_from_bits a b (λ i. same_bits a b i (rw equal.1 (bit_at-zero i)))))
-        | inr other ↦ let h : bit_xor a b ≢ 0 = other.1 in omega arith
+          | inl equal ↦ absurd (ne (same_from_bits a b (λ i. same_bits a b i (rw equal.1 (bit_at-zero i)))))
+          | inr other ↦ let h : bit_xor a b ≢ 0 = other.1 in omega arith
         ]
 
 -- both, for `using`

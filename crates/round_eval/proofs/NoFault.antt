@@ -1,6 +1,5 @@
 -- A list without a fault, place by place.
-use Rattle.std.proofs.Common.{◌≡◌, ◌≢◌, ℕ, ◌+◌, ◌*◌, ◌<◌, ◌≤◌, List, [], ◌∷◌, length, get_or, take}
-use Rattle.std.specs.List.{All, AllPairs}
+use Rattle.std.proofs.Common.{◌≢◌, ℕ, ◌+◌, ◌*◌, ◌<◌, ◌≤◌, List, [], ◌∷◌, length, get_or, take}
 use Rattle.std.proofs.lemmas.List.{take_all, take_more}
 use Rattle.std.proofs.lemmas.List.Elements.{All-append, All-cons, All-nil}
 use Rattle.std.proofs.lemmas.List.Quantifiers.{all_pairs_push}
@@ -17,7 +16,7 @@ no_fault_more p m x lt before below new =
     record {
       below = rw more (All-append (λ id. id < m) (take p x) (get_or x p 0 ∷ []) before.below
           (All-cons (λ id. id < m) (get_or x p 0) [] below (All-nil (λ id. id < m))));
-      distinct = rw more (all_pairs_push (λ a b. a ≢ b) (take p x) (get_or x p 0) before.distinct (λ k d h. rw get_or_default_zero (new k h)));
+      distinct = rw more (all_pairs_push (λ a b. a ≢ b) (take p x) (get_or x p 0) before.distinct (λ k d h. rw (get_or_default_zero (take p x) k d h) (new k h)));
     }
 
 -- a list of a ring's length without a fault is a ring

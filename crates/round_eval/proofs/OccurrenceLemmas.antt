@@ -71,7 +71,7 @@ pub list_any-outside_assignments :
     (p : Term → Bool) (start : List Expr) (rounds : List Round) (finish : Term)
     → list_any p (map term_of start ++ (sent_terms (map step_of rounds) ++ finish ∷ []))
     ≡ (list_any (λ e. p (term_of e)) start
-       || (list_any (λ r. list_any p (sent_terms (step_of r ∷ []))) rounds || p finish))
+    || (list_any (λ r. list_any p (sent_terms (step_of r ∷ []))) rounds || p finish))
 list_any-outside_assignments p start rounds finish =
     list_any-append p (map term_of start) (sent_terms (map step_of rounds) ++ finish ∷ [])
     ∙ (λ i. list_any_mapped p term_of start i || list_any-append p (sent_terms (map step_of rounds)) (finish ∷ []) i)
@@ -131,4 +131,4 @@ module _ (p : ℕ → Bool) where
   found-program start rounds finish =
       found-append start (rounds ++ finish ∷ [])
       ∙ ap (option_or (found start))
-        (found-append rounds (finish ∷ []) ∙ ap (option_or (found rounds)) (found-single finish))
+      (found-append rounds (finish ∷ []) ∙ ap (option_or (found rounds)) (found-single finish))

@@ -1,5 +1,5 @@
 -- Which programs are accepted for m identifiers, and which refusal comes first.
-use Rattle.std.specs.Prelude.{◌≡◌, ℕ, nat_le, Bool, false, IsTrue, Option, Some, None, length, find, flat_map}
+use Rattle.std.specs.Prelude.{◌≡◌, ℕ, nat_le, Bool, false, Option, None, length, find, flat_map}
 use Rattle.std.specs.List.{list_any}
 use Rattle.node_lang.specs.Term.{ProgramTree, terms}
 use Rattle.round_eval.specs.ShapeRange.{HasIds}

@@ -4,7 +4,10 @@ ghost use Rattle.round_eval.specs.ShapeRange.{HasIds};
 ghost use Rattle.round_eval.specs.Acceptance.{IsAccepted, first_missing_register, reads_id_outside_start, reads_message_outside_step};
 ghost use Rattle.round_eval.specs.Refusals.{IsFirstRefusal};
 
-use crate::occurrences::{any_hears, hears, missing_in_rounds, missing_in_term, missing_in_terms, reads_id, rounds_read_id, sends_hear};
+use crate::occurrences::{
+    any_uses_message, missing_in_rounds, missing_in_term, missing_in_terms, rounds_use_id,
+    sends_use_message, uses_id, uses_message,
+};
 use crate::plan::Plan;
 use crate::shape::Shape;
 use node_lang::Program;
@@ -59,7 +62,10 @@ fn missing_register(program: &Program) -> Option<u32>
     ensures { result ≡ first_missing_register program.now }
 {
     let count = program.registers();
-    let later = missing_in_rounds(count, program.steps()).or(missing_in_term(count, program.finish()));
+    let later = missing_in_rounds(count, program.steps()).or(missing_in_term(
+        count,
+        program.finish(),
+    ));
     missing_in_terms(count, program.start()).or(later)
 }
 
@@ -67,12 +73,14 @@ fn missing_register(program: &Program) -> Option<u32>
 fn id_is_misplaced(program: &Program) -> bool
     ensures { result ≡ reads_id_outside_start program.now }
 {
-    rounds_read_id(program.steps()) || reads_id(program.finish())
+    rounds_use_id(program.steps()) || uses_id(program.finish())
 }
 
 // Whether a message is read outside the assignments of a round.
 fn message_is_misplaced(program: &Program) -> bool
     ensures { result ≡ reads_message_outside_step program.now }
 {
-    any_hears(program.start()) || sends_hear(program.steps()) || hears(program.finish())
+    any_uses_message(program.start())
+        || sends_use_message(program.steps())
+        || uses_message(program.finish())
 }

@@ -10,9 +10,12 @@ mod rounds;
 mod shape;
 mod value;
 
-pub use acceptance::{accept, CheckFault};
+pub use acceptance::{CheckFault, accept};
 pub use node::{channel, messages, start_state, step};
 pub use plan::Plan;
 pub use ring::{Ring, RingFault};
 pub use rounds::plain_run;
 pub use shape::{Shape, ShapeFault};
+
+#[cfg(test)]
+mod tests;

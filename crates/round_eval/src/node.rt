@@ -45,7 +45,11 @@ pub fn step(plan: &Plan, round: u32, own: &[u32], l: u32, r: u32, out: &mut [u32
     ensures { out.new ≡ rounds.next plan.now.program round own.now l r }
 {
     let program = &plan.program;
-    assign(&program.steps()[round as usize].next, reading_messages(own, l, r), out);
+    assign(
+        &program.steps()[round as usize].next,
+        reading_messages(own, l, r),
+        out,
+    );
 }
 
 /// The channel of a node with these registers.
@@ -65,7 +69,10 @@ pub(crate) fn sent_to_left(plan: &Plan, round: u32, own: &[u32]) -> u32
     ensures { result ≡ rounds.to_left plan.now.program round own.now }
 {
     let program = &plan.program;
-    value_of(&program.steps()[round as usize].left, reading_messages(own, 0, 0))
+    value_of(
+        &program.steps()[round as usize].left,
+        reading_messages(own, 0, 0),
+    )
 }
 
 // What it sends to its right.
@@ -75,7 +82,10 @@ pub(crate) fn sent_to_right(plan: &Plan, round: u32, own: &[u32]) -> u32
     ensures { result ≡ rounds.to_right plan.now.program round own.now }
 {
     let program = &plan.program;
-    value_of(&program.steps()[round as usize].right, reading_messages(own, 0, 0))
+    value_of(
+        &program.steps()[round as usize].right,
+        reading_messages(own, 0, 0),
+    )
 }
 
 // A node that reads its registers and what came from its left and from its right.

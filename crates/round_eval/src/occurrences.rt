@@ -52,70 +52,72 @@ pub(crate) fn missing_in_rounds(count: u32, rounds: &[Round]) -> Option<u32>
 }
 
 // Whether an expression reads the identifier.
-pub(crate) fn reads_id(expression: &Expr) -> bool
+pub(crate) fn uses_id(expression: &Expr) -> bool
     ensures { result ≡ reads_identifier (term_of expression.now) }
 {
     match expression {
         Expr::Id => true,
-        Expr::One(_, a) => reads_id(a),
-        Expr::Two(_, a, b) => reads_id(a) || reads_id(b),
-        Expr::Choose(c, a, b) => reads_id(c) || reads_id(a) || reads_id(b),
+        Expr::One(_, a) => uses_id(a),
+        Expr::Two(_, a, b) => uses_id(a) || uses_id(b),
+        Expr::Choose(c, a, b) => uses_id(c) || uses_id(a) || uses_id(b),
         Expr::Number(_) | Expr::FromLeft | Expr::FromRight | Expr::Register(_) => false,
     }
 }
 
 // Whether one of the expressions reads the identifier.
-fn any_reads_id(expressions: &[Expr]) -> bool
+fn any_uses_id(expressions: &[Expr]) -> bool
     ensures { result ≡ list_any (λ e. reads_identifier (term_of e)) expressions.now }
 {
-    expressions.iter().any(|expression| reads_id(expression))
+    expressions.iter().any(|expression| uses_id(expression))
 }
 
 // Whether a round reads the identifier.
 #[tactic(auto, using(crate::proofs::OccurrenceLemmas::list_any_mapped_end))]
-fn round_reads_id(round: &Round) -> bool
+fn round_uses_id(round: &Round) -> bool
     ensures { result ≡ list_any reads_identifier (step_terms (step_of round.now ∷ [])) }
 {
-    reads_id(&round.left) || reads_id(&round.right) || any_reads_id(&round.next)
+    uses_id(&round.left) || uses_id(&round.right) || any_uses_id(&round.next)
 }
 
 // Whether one of the rounds reads the identifier.
-pub(crate) fn rounds_read_id(rounds: &[Round]) -> bool
+pub(crate) fn rounds_use_id(rounds: &[Round]) -> bool
     ensures { result ≡ list_any (λ r. list_any reads_identifier (step_terms (step_of r ∷ []))) rounds.now }
 {
-    rounds.iter().any(|round| round_reads_id(round))
+    rounds.iter().any(|round| round_uses_id(round))
 }
 
 // Whether an expression reads a message.
-pub(crate) fn hears(expression: &Expr) -> bool
+pub(crate) fn uses_message(expression: &Expr) -> bool
     ensures { result ≡ reads_message (term_of expression.now) }
 {
     match expression {
         Expr::FromLeft | Expr::FromRight => true,
-        Expr::One(_, a) => hears(a),
-        Expr::Two(_, a, b) => hears(a) || hears(b),
-        Expr::Choose(c, a, b) => hears(c) || hears(a) || hears(b),
+        Expr::One(_, a) => uses_message(a),
+        Expr::Two(_, a, b) => uses_message(a) || uses_message(b),
+        Expr::Choose(c, a, b) => uses_message(c) || uses_message(a) || uses_message(b),
         Expr::Number(_) | Expr::Id | Expr::Register(_) => false,
     }
 }
 
 // Whether one of the expressions reads a message.
-pub(crate) fn any_hears(expressions: &[Expr]) -> bool
+pub(crate) fn any_uses_message(expressions: &[Expr]) -> bool
     ensures { result ≡ list_any (λ e. reads_message (term_of e)) expressions.now }
 {
-    expressions.iter().any(|expression| hears(expression))
+    expressions
+        .iter()
+        .any(|expression| uses_message(expression))
 }
 
 // Whether what is sent in a round reads a message.
-fn send_hears(round: &Round) -> bool
+fn send_uses_message(round: &Round) -> bool
     ensures { result ≡ list_any reads_message (sent_terms (step_of round.now ∷ [])) }
 {
-    hears(&round.left) || hears(&round.right)
+    uses_message(&round.left) || uses_message(&round.right)
 }
 
 // Whether what is sent in one of the rounds reads a message.
-pub(crate) fn sends_hear(rounds: &[Round]) -> bool
+pub(crate) fn sends_use_message(rounds: &[Round]) -> bool
     ensures { result ≡ list_any (λ r. list_any reads_message (sent_terms (step_of r ∷ []))) rounds.now }
 {
-    rounds.iter().any(|round| send_hears(round))
+    rounds.iter().any(|round| send_uses_message(round))
 }

@@ -21,7 +21,7 @@ pub enum RingFault {
 pub struct Ring {
     pub shape: Shape,
     pub ids: Vec<u32>,
-    ghost valid: { IsRing shape.ids shape.rounds ids.items },
+    pub ghost valid: { IsRing shape.ids shape.rounds ids.items },
 }
 
 impl Ring {

@@ -10,8 +10,8 @@ pub enum ShapeFault {
 pub struct Shape {
     pub ids: u32,
     pub rounds: u32,
-    ghost few_rounds: { rounds ≤ 3 },
-    ghost in_range: { HasIds ids rounds },
+    pub ghost few_rounds: { rounds ≤ 3 },
+    pub ghost in_range: { HasIds ids rounds },
 }
 
 ghost use Rattle.std.specs.Prelude.{◌≡◌, ◌≤◌, ◌↔◌, IfOk, IsOk};

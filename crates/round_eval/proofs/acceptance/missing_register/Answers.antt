@@ -6,9 +6,9 @@ use Rattle.round_eval.proofs.acceptance.missing_register.Goals as goal
 pub returns : goal.returns
 returns c =
     let whole =
-        found-program (λ j. nat_le (length c.args.program.now.start) j) c.args.program.now.start
-        (step_terms c.args.program.now.steps) c.args.program.now.finish in
+    found-program (λ j. nat_le (length c.args.program.now.start) j) c.args.program.now.start
+    (step_terms c.args.program.now.steps) c.args.program.now.finish in
     rw (whole, ← c.registers-count.ensures.value)
     (rw (← c.start.ensures.value, ← c.steps.ensures.value, ← c.finish.ensures.value)
-     (rw (← c.missing_in_rounds.ensures, ← c.missing_in_term.ensures, ← c.or-later.ensures, ← c.missing_in_terms.ensures)
-      c.or.ensures))
+    (rw (← c.missing_in_rounds.ensures, ← c.missing_in_term.ensures, ← c.or-later.ensures, ← c.missing_in_terms.ensures)
+    c.or.ensures))
