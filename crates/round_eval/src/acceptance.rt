@@ -62,10 +62,8 @@ fn missing_register(program: &Program) -> Option<u32>
     ensures { result ≡ first_missing_register program.now }
 {
     let count = program.registers();
-    let later = missing_in_rounds(count, program.steps()).or(missing_in_term(
-        count,
-        program.finish(),
-    ));
+    let in_rounds = missing_in_rounds(count, program.steps());
+    let later = in_rounds.or(missing_in_term(count, program.finish()));
     missing_in_terms(count, program.start()).or(later)
 }
 

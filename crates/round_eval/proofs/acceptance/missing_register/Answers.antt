@@ -10,5 +10,5 @@ returns c =
     (step_terms c.args.program.now.steps) c.args.program.now.finish in
     rw (whole, ← c.registers-count.ensures.value)
     (rw (← c.start.ensures.value, ← c.steps.ensures.value, ← c.finish.ensures.value)
-    (rw (← c.missing_in_rounds.ensures, ← c.missing_in_term.ensures, ← c.or-later.ensures, ← c.missing_in_terms.ensures)
+    (rw (← c.missing_in_rounds-in_rounds.ensures, ← c.missing_in_term.ensures, ← c.or-later.ensures, ← c.missing_in_terms.ensures)
     c.or.ensures))
