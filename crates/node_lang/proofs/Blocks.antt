@@ -1,7 +1,6 @@
 -- Rounds that are read one after the other.
 use Rattle.std.proofs.Common.{◌≡◌, ℕ, suc, ◌+◌, ◌-◌, ◌<◌, ◌≤◌, List, [], ◌∷◌, ◌++◌, length, refl, sym, ap, ◌∙◌, arith, length-append, append-nil}
 use Rattle.std.specs.Prelude.{map, sum_by, All}
-use Rattle.std.specs.List.{flat_map}
 use Rattle.std.proofs.lemmas.List.{map-append}
 use Rattle.std.proofs.lemmas.Grind.{flat_map-append}
 use Rattle.std.proofs.lemmas.List.Sums.{sum_by-append, sum_by-cons}
@@ -9,7 +8,7 @@ use Rattle.std.proofs.lemmas.List.Elements.{All-append, All-cons, All-nil}
 use Rattle.node_lang.specs.declared.tree.Round.{Round}
 use Rattle.node_lang.specs.declared.token.Token.{Token}
 use Rattle.node_lang.specs.declared.fault.FaultKind.{FaultKind}
-use Rattle.node_lang.specs.Term.{Step, size, step_of, step_terms, term_of}
+use Rattle.node_lang.specs.Term.{Step, size, step_of, step_terms, terms_of_step, term_of}
 use Rattle.node_lang.specs.Limits.{IsSmall}
 use Rattle.node_lang.specs.Lexemes.{Lexeme, tokens_in}
 use Rattle.node_lang.specs.Grammar.{block, blocks}
@@ -21,8 +20,8 @@ pub record HasRounds (count registers j nodes nodes2 : ℕ) (ls left : List Lexe
   pub tokens : tokens_in ls ≡ blocks (map step_of rs) (tokens_in left)
   pub length_is : length rs ≡ j
   pub each : All (λ s. length s.next ≡ registers) (map step_of rs)
-  pub small : All IsSmall (flat_map step_terms (map step_of rs))
-  pub size_is : nodes2 ≡ nodes + sum_by size (flat_map step_terms (map step_of rs))
+  pub small : All IsSmall (step_terms (map step_of rs))
+  pub size_is : nodes2 ≡ nodes + sum_by size (step_terms (map step_of rs))
 
 -- what is read of one round
 pub record IsRound (registers nodes nodes2 : ℕ) (ls left : List Lexeme) (r : Round) : Type 0 where
@@ -43,10 +42,10 @@ blocks-append [] s more = refl
 blocks-append (t ∷ ss) s more = ap (block t) (blocks-append ss s more)
 
 -- the expressions of one round more
-terms-append : (ss : List Step) (s : Step) → flat_map step_terms (ss ++ s ∷ []) ≡ flat_map step_terms ss ++ step_terms s
-terms-append ss s = flat_map-append step_terms ss (s ∷ []) ∙ ap (λ xs. flat_map step_terms ss ++ xs) (append-nil (step_terms s))
+terms-append : (ss : List Step) (s : Step) → step_terms (ss ++ s ∷ []) ≡ step_terms ss ++ terms_of_step s
+terms-append ss s = flat_map-append terms_of_step ss (s ∷ []) ∙ ap (λ xs. step_terms ss ++ xs) (append-nil (terms_of_step s))
 
-size-step : (s : Step) → sum_by size (step_terms s) ≡ size s.left + (size s.right + sum_by size s.next)
+size-step : (s : Step) → sum_by size (terms_of_step s) ≡ size s.left + (size s.right + sum_by size s.next)
 size-step s = sum_by-cons size s.left (s.right ∷ s.next) ∙ ap (λ n. size s.left + n) (sum_by-cons size s.right s.next)
 
 pub next_round : (count registers j nodes nodes2 nodes3 : ℕ) (ls left left2 : List Lexeme) (rs : List Round) (r : Round) → j < count →
@@ -54,9 +53,9 @@ pub next_round : (count registers j nodes nodes2 nodes3 : ℕ) (ls left left2 : 
     HasRounds count registers (j + 1) nodes nodes3 ls left2 (rs ++ r ∷ [])
 next_round count registers j nodes nodes2 nodes3 ls left left2 rs r h done one =
     let steps : map step_of (rs ++ r ∷ []) ≡ map step_of rs ++ step_of r ∷ [] = map-append step_of rs (r ∷ []) in
-    let terms : flat_map step_terms (map step_of (rs ++ r ∷ [])) ≡ flat_map step_terms (map step_of rs) ++ step_terms (step_of r) =
-    ap (flat_map step_terms) steps ∙ terms-append (map step_of rs) (step_of r) in
-    let small : All IsSmall (step_terms (step_of r)) =
+    let terms : step_terms (map step_of (rs ++ r ∷ [])) ≡ step_terms (map step_of rs) ++ terms_of_step (step_of r) =
+    ap step_terms steps ∙ terms-append (map step_of rs) (step_of r) in
+    let small : All IsSmall (terms_of_step (step_of r)) =
     All-cons IsSmall (term_of r.left) (term_of r.right ∷ map term_of r.next.items) one.small_left (All-cons IsSmall (term_of r.right) (map term_of r.next.items) one.small_right one.small_next) in
     record {
       read = λ more. done.read more ∙ ap (λ w. reading w nodes2 left) (blocks_next count registers j more h) ∙ one.read (blocks_wanted (count - (j + 1)) registers more);
@@ -65,8 +64,8 @@ next_round count registers j nodes nodes2 nodes3 ls left left2 rs r h done one =
       length_is = length-append rs (r ∷ []) ∙ ap (λ n. n + 1) done.length_is;
       each = rw steps (All-append (λ (s : Step). length s.next ≡ registers) (map step_of rs) (step_of r ∷ []) done.each
           (All-cons (λ (s : Step). length s.next ≡ registers) (step_of r) [] one.count (All-nil (λ (s : Step). length s.next ≡ registers))));
-      small = rw terms (All-append IsSmall (flat_map step_terms (map step_of rs)) (step_terms (step_of r)) done.small small);
-      size_is = rw (terms, sum_by-append size (flat_map step_terms (map step_of rs)) (step_terms (step_of r)), size-step (step_of r)) (omega (arith, done.size_is, one.size_is));
+      small = rw terms (All-append IsSmall (step_terms (map step_of rs)) (terms_of_step (step_of r)) done.small small);
+      size_is = rw (terms, sum_by-append size (step_terms (map step_of rs)) (terms_of_step (step_of r)), size-step (step_of r)) (omega (arith, done.size_is, one.size_is));
     }
 
 pub stop_round : (count registers j nodes nodes2 from : ℕ) (k : FaultKind) (ls left : List Lexeme) (rs : List Round) (more : List Want) → j < count →

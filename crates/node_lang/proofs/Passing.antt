@@ -1,7 +1,6 @@
 -- A text that is spelled as a program within the limits is read to its end.
 use Rattle.std.proofs.Common.{◌≡◌, ℕ, suc, ◌+◌, ◌<◌, ◌≤◌, true, cond, nat_le, List, [], ◌∷◌, ◌++◌, length, Some, refl, sym, ap, ◌∙◌, arith}
 use Rattle.std.specs.Prelude.{sum_by, All}
-use Rattle.std.specs.List.{flat_map}
 use Rattle.std.proofs.lemmas.Bool.{le-ltb, lt-leb, le-leb, eq-eqb, and_from}
 use Rattle.std.proofs.lemmas.List.Sums.{sum_by-append, sum_by-cons}
 use Rattle.std.proofs.lemmas.List.Elements.{All-cons}
@@ -9,7 +8,7 @@ use Rattle.node_lang.proofs.Wholes.{size-terms}
 use Rattle.node_lang.specs.declared.fault.FaultKind.TheVariants as kind
 use Rattle.node_lang.specs.declared.token.Token.{Token}
 use Rattle.node_lang.specs.declared.token.Token.TheVariants as token
-use Rattle.node_lang.specs.Term.{Term, Literal, Identifier, LeftMessage, RightMessage, RegisterValue, Unary, Binary, Conditional, Step, ProgramTree, depth, size, step_terms, terms}
+use Rattle.node_lang.specs.Term.{Term, Literal, Identifier, LeftMessage, RightMessage, RegisterValue, Unary, Binary, Conditional, Step, ProgramTree, depth, size, step_terms, terms_of_step, terms}
 use Rattle.node_lang.specs.Limits.{IsSmall, IsWithinLimits}
 use Rattle.node_lang.specs.Lexemes.{Lexeme, tokens_in}
 use Rattle.node_lang.specs.Grammar.{spelled, assigned, block, blocks, spelling}
@@ -111,13 +110,13 @@ back_small [] fs small = small
 back_small (e ∷ es) fs small = back_small es fs (λ k d h. small (suc k) d (omega (arith, h)))
 
 -- a round
-a_round : (s : Step) (registers nodes count : ℕ) (ts : List Token) (more : List Want) (ls : List Lexeme) → length s.next ≡ registers → All IsSmall (step_terms s) →
-    count ≤ 4096 → count ≡ nodes + sum_by size (step_terms s) → tokens_in ls ≡ block s ts → GoesOn (reading (block_wanted registers more) nodes ls) more count ts
+a_round : (s : Step) (registers nodes count : ℕ) (ts : List Token) (more : List Want) (ls : List Lexeme) → length s.next ≡ registers → All IsSmall (terms_of_step s) →
+    count ≤ 4096 → count ≡ nodes + sum_by size (terms_of_step s) → tokens_in ls ≡ block s ts → GoesOn (reading (block_wanted registers more) nodes ls) more count ts
 a_round s registers nodes count ts more ls each small few sizes e =
     let left : IsSmall s.left = small 0 s.left (omega arith) in
     let right : IsSmall s.right = small 1 s.right (omega arith) in
     let next : All IsSmall s.next = λ k c h. small (suc (suc k)) c (omega (arith, h)) in
-    let total : sum_by size (step_terms s) ≡ size s.left + (size s.right + sum_by size s.next) = sum_by-cons size s.left (s.right ∷ s.next) ∙ ap (λ n. size s.left + n) (sum_by-cons size s.right s.next) in
+    let total : sum_by size (terms_of_step s) ≡ size s.left + (size s.right + sum_by size s.next) = sum_by-cons size s.left (s.right ∷ s.next) ∙ ap (λ n. size s.left + n) (sum_by-cons size s.right s.next) in
     after _ _ _ _ _ _ _ (exactly token.Round _ _ nodes ls refl e)
     (λ l1 e1. after _ _ _ _ _ _ _ (exactly token.Send _ _ nodes l1 refl e1)
     (λ l2 e2. after _ _ _ _ _ _ _ (exactly token.Left _ _ nodes l2 refl e2)
@@ -128,15 +127,15 @@ a_round s registers nodes count ts more ls each small few sizes e =
     (λ l7 e7. rw (← each) (assignments s.next 0 (nodes + size s.left + size s.right) count ts more l7 next few (omega arith) e7))))))))
 
 rounds_of : (ss : List Step) (registers nodes count : ℕ) (ts : List Token) (more : List Want) (ls : List Lexeme) → All (λ s. length s.next ≡ registers) ss →
-    All IsSmall (flat_map step_terms ss) → count ≤ 4096 → count ≡ nodes + sum_by size (flat_map step_terms ss) → tokens_in ls ≡ blocks ss ts →
+    All IsSmall (step_terms ss) → count ≤ 4096 → count ≡ nodes + sum_by size (step_terms ss) → tokens_in ls ≡ blocks ss ts →
     GoesOn (reading (blocks_wanted (length ss) registers more) nodes ls) more count ts
 rounds_of [] registers nodes count ts more ls each small few s e = record { left = ls; tokens = e; is = ap (λ n. reading more n ls) (let t : nodes ≡ count = omega arith in t) }
 rounds_of (s ∷ ss) registers nodes count ts more ls each small few sizes e =
     let one : length s.next ≡ registers = each 0 s (omega arith) in
     let others : All (λ (t : Step). length t.next ≡ registers) ss = λ k c h. each (suc k) c (omega (arith, h)) in
-    let total : sum_by size (flat_map step_terms (s ∷ ss)) ≡ sum_by size (step_terms s) + sum_by size (flat_map step_terms ss) = sum_by-append size (step_terms s) (flat_map step_terms ss) in
-    after _ _ _ _ _ _ _ (a_round s registers nodes (nodes + sum_by size (step_terms s)) _ _ ls one (front_small (step_terms s) _ small) (omega arith) refl e)
-    (λ l1 e1. rounds_of ss registers (nodes + sum_by size (step_terms s)) count ts more l1 others (back_small (step_terms s) _ small) few (omega arith) e1)
+    let total : sum_by size (step_terms (s ∷ ss)) ≡ sum_by size (terms_of_step s) + sum_by size (step_terms ss) = sum_by-append size (terms_of_step s) (step_terms ss) in
+    after _ _ _ _ _ _ _ (a_round s registers nodes (nodes + sum_by size (terms_of_step s)) _ _ ls one (front_small (terms_of_step s) _ small) (omega arith) refl e)
+    (λ l1 e1. rounds_of ss registers (nodes + sum_by size (terms_of_step s)) count ts more l1 others (back_small (terms_of_step s) _ small) few (omega arith) e1)
 
 -- the end
 ends : (nodes : ℕ) (ls : List Lexeme) → tokens_in ls ≡ [] → reading [] nodes ls ≡ Whole
@@ -151,13 +150,13 @@ a_count w low high n nodes ts more ls m below above e =
     (m ∙ ap (λ b. cond b (Go (after_count w n more) nodes) (Stop kind.HeaderRange)) (and_from (nat_le low n) (nat_le n high) (le-leb low n below) (le-leb n high above)))
 
 whole : (p : ProgramTree) (ls : List Lexeme) → IsWithinLimits p → tokens_in ls ≡ spelling p →
-    GoesOn (reading program_wanted 0 ls) [] (sum_by size p.start + sum_by size (flat_map step_terms p.steps) + size p.finish) []
+    GoesOn (reading program_wanted 0 ls) [] (sum_by size p.start + sum_by size (step_terms p.steps) + size p.finish) []
 whole p ls limits e =
-    let middle : All IsSmall (flat_map step_terms p.steps ++ p.finish ∷ []) = back_small p.start _ limits.small in
-    let finish : IsSmall p.finish = back_small (flat_map step_terms p.steps) (p.finish ∷ []) middle 0 p.finish (omega arith) in
+    let middle : All IsSmall (step_terms p.steps ++ p.finish ∷ []) = back_small p.start _ limits.small in
+    let finish : IsSmall p.finish = back_small (step_terms p.steps) (p.finish ∷ []) middle 0 p.finish (omega arith) in
     let n1 : ℕ = sum_by size p.start in
-    let n2 : ℕ = n1 + sum_by size (flat_map step_terms p.steps) in
-    let total : sum_by size (terms p) ≡ sum_by size p.start + (sum_by size (flat_map step_terms p.steps) + size p.finish) = size-terms p in
+    let n2 : ℕ = n1 + sum_by size (step_terms p.steps) in
+    let total : sum_by size (terms p) ≡ sum_by size p.start + (sum_by size (step_terms p.steps) + size p.finish) = size-terms p in
     after _ _ _ _ _ _ _ (exactly token.Rounds _ _ 0 ls refl e)
     (λ l1 e1. after _ _ _ _ _ _ _ (a_count RoundCount 0 3 (length p.steps) 0 _ _ l1 refl (omega arith) limits.rounds e1)
     (λ l2 e2. after _ _ _ _ _ _ _ (exactly token.Channels _ _ 0 l2 refl e2)
@@ -166,7 +165,7 @@ whole p ls limits e =
     (λ l5 e5. after _ _ _ _ _ _ _ (a_count (RegisterCount (length p.steps)) 1 8 (length p.start) 0 _ _ l5 refl limits.some_registers limits.few_registers e5)
     (λ l6 e6. after _ _ _ _ _ _ _ (exactly token.Start _ _ 0 l6 refl e6)
     (λ l7 e7. after _ _ _ _ _ _ _ (assignments p.start 0 0 n1 _ _ l7 (front_small p.start _ limits.small) (omega (arith, limits.nodes, total)) (omega arith) e7)
-    (λ l8 e8. after _ _ _ _ _ _ _ (rounds_of p.steps (length p.start) n1 n2 _ _ l8 limits.each_register (front_small (flat_map step_terms p.steps) _ middle) (omega (arith, limits.nodes, total)) refl e8)
+    (λ l8 e8. after _ _ _ _ _ _ _ (rounds_of p.steps (length p.start) n1 n2 _ _ l8 limits.each_register (front_small (step_terms p.steps) _ middle) (omega (arith, limits.nodes, total)) refl e8)
     (λ l9 e9. after _ _ _ _ _ _ _ (exactly token.Finish _ _ n2 l9 refl e9)
     (λ l10 e10. expression p.finish 1 n2 (n2 + size p.finish) [] [] l10 (omega (arith, finish.depth)) (omega (arith, limits.nodes, total)) refl e10))))))))))
 

@@ -1,7 +1,6 @@
 -- A program whose parts are within the limits is so as a whole.
 use Rattle.std.proofs.Common.{◌≡◌, ℕ, ◌+◌, ◌<◌, ◌≤◌, ◌^◌, List, [], ◌∷◌, ◌++◌, length, ◌∙◌, arith}
 use Rattle.std.specs.Prelude.{map, sum_by, All}
-use Rattle.std.specs.List.{flat_map}
 use Rattle.std.proofs.lemmas.List.Sums.{sum_by-append, sum_by-cons}
 use Rattle.std.proofs.lemmas.List.Elements.{All-append, All-cons, All-nil}
 use Rattle.std.proofs.lemmas.List.{length-map}
@@ -10,12 +9,12 @@ use Rattle.node_lang.specs.declared.tree.Round.{Round}
 use Rattle.node_lang.specs.Term.{step_of, term_of, depth, largest, program_tree, ProgramTree, size, step_terms, terms}
 use Rattle.node_lang.specs.Limits.{IsSmall, IsWithinLimits}
 
-small_terms : (p : ProgramTree) → All IsSmall p.start → All IsSmall (flat_map step_terms p.steps) → IsSmall p.finish → All IsSmall (terms p)
+small_terms : (p : ProgramTree) → All IsSmall p.start → All IsSmall (step_terms p.steps) → IsSmall p.finish → All IsSmall (terms p)
 small_terms p start steps finish =
-    All-append IsSmall p.start _ start (All-append IsSmall (flat_map step_terms p.steps) (p.finish ∷ []) steps (All-cons IsSmall p.finish [] finish (All-nil IsSmall)))
+    All-append IsSmall p.start _ start (All-append IsSmall (step_terms p.steps) (p.finish ∷ []) steps (All-cons IsSmall p.finish [] finish (All-nil IsSmall)))
 
-pub size-terms : (p : ProgramTree) → sum_by size (terms p) ≡ sum_by size p.start + (sum_by size (flat_map step_terms p.steps) + size p.finish)
-size-terms p = rw (sum_by-append size p.start (flat_map step_terms p.steps ++ p.finish ∷ []), sum_by-append size (flat_map step_terms p.steps) (p.finish ∷ []), sum_by-cons size p.finish []) (omega arith)
+pub size-terms : (p : ProgramTree) → sum_by size (terms p) ≡ sum_by size p.start + (sum_by size (step_terms p.steps) + size p.finish)
+size-terms p = rw (sum_by-append size p.start (step_terms p.steps ++ p.finish ∷ []), sum_by-append size (step_terms p.steps) (p.finish ∷ []), sum_by-cons size p.finish []) (omega arith)
 
 -- the number of rounds and of registers, and the nodes so far, are numbers of the code
 pub record HasParts (channels rounds registers nodes : ℕ) (start : List Expr) (steps : List Round) (finish : Expr) : Type 0 where
@@ -28,10 +27,10 @@ pub record HasParts (channels rounds registers nodes : ℕ) (start : List Expr) 
   pub small_start : All IsSmall (map term_of start)
   pub steps_are : length steps ≡ rounds
   pub each : All (λ s. length s.next ≡ registers) (map step_of steps)
-  pub small_steps : All IsSmall (flat_map step_terms (map step_of steps))
+  pub small_steps : All IsSmall (step_terms (map step_of steps))
   pub depth : 1 + depth (term_of finish) ≤ 65
   pub numbers : largest (term_of finish) < 2 ^ 32
-  pub nodes_are : nodes ≡ sum_by size (map term_of start) + (sum_by size (flat_map step_terms (map step_of steps)) + size (term_of finish))
+  pub nodes_are : nodes ≡ sum_by size (map term_of start) + (sum_by size (step_terms (map step_of steps)) + size (term_of finish))
   pub few_nodes : nodes ≤ 4096
 
 pub within_limits : (channels rounds registers nodes : ℕ) (start : List Expr) (steps : List Round) (finish : Expr) →

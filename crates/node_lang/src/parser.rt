@@ -1,5 +1,4 @@
 ghost use Rattle.std.specs.Prelude.{◌≡◌, ◌≢◌, ℕ, ◌+◌, ◌-◌, ◌^◌, ◌<◌, ◌≤◌, [], ◌∷◌, List, Ok, Err, length, map, max, sum_by, All, true, IfOk, IfErr};
-ghost use Rattle.std.specs.List.{flat_map};
 ghost use Rattle.node_lang.specs.declared.fault.FaultKind.TheVariants as kind;
 ghost use Rattle.node_lang.specs.declared.token.Token.TheVariants as token;
 ghost use Rattle.node_lang.specs.Term.{depth, largest, size, step_of, step_terms, term_of};
@@ -410,8 +409,8 @@ impl<'a> Parser<'a> {
             ≡ blocks (map step_of v.items) (tokens_in (lexemes_left self.new.text.now self.new.at))) }
         ensures count { IfOk result (λ v. length v.items ≡ count) }
         ensures each { IfOk result (λ v. All (λ s. length s.next ≡ registers) (map step_of v.items)) }
-        ensures small { IfOk result (λ v. All IsSmall (flat_map step_terms (map step_of v.items))) }
-        ensures size { IfOk result (λ v. self.new.nodes ≡ self.old.nodes + sum_by size (flat_map step_terms (map step_of v.items))) }
+        ensures small { IfOk result (λ v. All IsSmall (step_terms (map step_of v.items))) }
+        ensures size { IfOk result (λ v. self.new.nodes ≡ self.old.nodes + sum_by size (step_terms (map step_of v.items))) }
         ensures err { IfErr result (Stops (blocks_wanted count registers)
             self.old.nodes (lexemes_left self.old.text.now self.old.at) (length self.old.text.now)) }
         ensures fault_place { IfErr result (λ f. f.offset ≤ length self.old.text.now) }

@@ -1,0 +1,6 @@
+-- What a view shows to an expression.
+use Rattle.node_lang.specs.Value.{Env}
+use Rattle.round_eval.specs.declared.value.View.{View}
+
+abbrev pub env_of : View → Env
+env_of v = record { id = v.id; left = v.left; right = v.right; registers = v.registers.now }

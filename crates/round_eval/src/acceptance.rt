@@ -1,0 +1,84 @@
+ghost use Rattle.std.specs.Prelude.{◌≡◌, ◌↔◌, ℕ, length, IfOk, IfErr, IsOk, MatchOption, find, flat_map};
+ghost use Rattle.std.specs.List.{list_any};
+ghost use Rattle.round_eval.specs.ShapeRange.{HasIds};
+ghost use Rattle.round_eval.specs.Acceptance.{IsAccepted, first_missing_register, reads_id_outside_start, reads_message_outside_step};
+ghost use Rattle.round_eval.specs.Refusals.{IsFirstRefusal};
+
+use crate::occurrences::{
+    any_uses_message, missing_in_rounds, missing_in_term, missing_in_terms, rounds_use_id,
+    sends_use_message, uses_id, uses_message,
+};
+use crate::plan::Plan;
+use crate::shape::Shape;
+use node_lang::Program;
+
+/// Why a program is not accepted for a number of identifiers.
+#[derive(Clone, Copy, Debug, PartialEq, Eq)]
+pub enum CheckFault {
+    /// X1: fewer than `2t+2` identifiers for `t` rounds, or more than 1,024.
+    IdsOutOfRange,
+    /// C1: the first register number in reading order that is not below the number of registers.
+    RegisterOutOfRange(u32),
+    /// C2: `id` is read outside the assignments of `start`.
+    IdOutsideStart,
+    /// C3: `L` or `R` is read outside the assignments of a round.
+    MessageOutsideStep,
+}
+
+/// The plan of a program for `ids` identifiers, or the program and its first refusal, in the order of
+/// `CheckFault`.
+pub fn accept(program: Program, ids: u32) -> Result<Plan, (Program, CheckFault)>
+    ensures ok { IfOk result (λ plan. (plan.program ≡ program) × (plan.ids ≡ ids)) }
+    ensures exact { IsOk result ↔ IsAccepted ids program }
+    ensures err { IfErr result (λ e. (e.0 ≡ program) × IsFirstRefusal ids program e.1) }
+{
+    let Ok(shape) = Shape::new(ids, program.rounds()) else {
+        return Err((program, CheckFault::IdsOutOfRange));
+    };
+    match program_fault(&program) {
+        None => Ok(Plan { program, shape }),
+        Some(fault) => Err((program, fault)),
+    }
+}
+
+// The first refusal of a program that does not come from the number of identifiers.
+fn program_fault(program: &Program) -> Option<CheckFault>
+    ensures { (m : ℕ) → HasIds m (length program.now.steps) → MatchOption result (IsAccepted m program.now) (IsFirstRefusal m program.now) }
+{
+    if let Some(register) = missing_register(program) {
+        return Some(CheckFault::RegisterOutOfRange(register));
+    }
+    if id_is_misplaced(program) {
+        return Some(CheckFault::IdOutsideStart);
+    }
+    if message_is_misplaced(program) {
+        return Some(CheckFault::MessageOutsideStep);
+    }
+    None
+}
+
+// The first register in reading order that the program does not have.
+fn missing_register(program: &Program) -> Option<u32>
+    ensures { result ≡ first_missing_register program.now }
+{
+    let count = program.registers();
+    let in_rounds = missing_in_rounds(count, program.steps());
+    let later = in_rounds.or(missing_in_term(count, program.finish()));
+    missing_in_terms(count, program.start()).or(later)
+}
+
+// Whether the identifier is read outside the start.
+fn id_is_misplaced(program: &Program) -> bool
+    ensures { result ≡ reads_id_outside_start program.now }
+{
+    rounds_use_id(program.steps()) || uses_id(program.finish())
+}
+
+// Whether a message is read outside the assignments of a round.
+fn message_is_misplaced(program: &Program) -> bool
+    ensures { result ≡ reads_message_outside_step program.now }
+{
+    any_uses_message(program.start())
+        || sends_use_message(program.steps())
+        || uses_message(program.finish())
+}

@@ -1,0 +1,104 @@
+ghost use Rattle.std.specs.Prelude.{◌≡◌, ◌<◌, length};
+ghost use Rattle.node_lang.specs.Node as rounds;
+
+use crate::plan::Plan;
+use crate::value::{View, assign, value_of};
+
+/// Writes what a node with the identifier `id` holds before the first round into `out`, which has a
+/// cell for each register.
+pub fn start_state(plan: &Plan, id: u32, out: &mut [u32])
+    requires id { id < plan.now.ids }
+    requires cells { length out.old ≡ length plan.now.program.start }
+    ensures { out.new ≡ rounds.start plan.now.program id }
+{
+    let view = View {
+        id,
+        left: 0,
+        right: 0,
+        registers: &[],
+    };
+    let program = &plan.program;
+    assign(program.start(), view, out);
+}
+
+/// What a node with these registers sends in a round, to its left and to its right. Rounds count from 0.
+pub fn messages(plan: &Plan, round: u32, own: &[u32]) -> (u32, u32)
+    requires round { round < length plan.now.program.steps }
+    requires cells { length own.now ≡ length plan.now.program.start }
+    ensures to_left { result.0 ≡ rounds.to_left plan.now.program round own.now }
+    ensures to_right { result.1 ≡ rounds.to_right plan.now.program round own.now }
+{
+    (
+        sent_to_left(plan, round, own),
+        sent_to_right(plan, round, own),
+    )
+}
+
+/// Writes what a node with these registers holds after a round into `out`: `l` is what its left
+/// neighbour sent right in that round, `r` what its right neighbour sent left. All assignments read the
+/// same registers. Rounds count from 0.
+#[tactic(auto, unfolding(node_lang::specs::Node::next))]
+pub fn step(plan: &Plan, round: u32, own: &[u32], l: u32, r: u32, out: &mut [u32])
+    requires round { round < length plan.now.program.steps }
+    requires own_cells { length own.now ≡ length plan.now.program.start }
+    requires cells { length out.old ≡ length plan.now.program.start }
+    ensures { out.new ≡ rounds.next plan.now.program round own.now l r }
+{
+    let program = &plan.program;
+    assign(
+        &program.steps()[round as usize].next,
+        reading_messages(own, l, r),
+        out,
+    );
+}
+
+/// The channel of a node with these registers.
+#[tactic(auto, unfolding(node_lang::specs::Node::channel))]
+pub fn channel(plan: &Plan, own: &[u32]) -> u32
+    requires { length own.now ≡ length plan.now.program.start }
+    ensures { result ≡ rounds.channel plan.now.program own.now }
+{
+    let program = &plan.program;
+    value_of(program.finish(), reading_messages(own, 0, 0))
+}
+
+// What a node with these registers sends to its left in a round.
+#[tactic(auto, unfolding(node_lang::specs::Node::to_left))]
+pub(crate) fn sent_to_left(plan: &Plan, round: u32, own: &[u32]) -> u32
+    requires { round < length plan.now.program.steps }
+    ensures { result ≡ rounds.to_left plan.now.program round own.now }
+{
+    let program = &plan.program;
+    value_of(
+        &program.steps()[round as usize].left,
+        reading_messages(own, 0, 0),
+    )
+}
+
+// What it sends to its right.
+#[tactic(auto, unfolding(node_lang::specs::Node::to_right))]
+pub(crate) fn sent_to_right(plan: &Plan, round: u32, own: &[u32]) -> u32
+    requires { round < length plan.now.program.steps }
+    ensures { result ≡ rounds.to_right plan.now.program round own.now }
+{
+    let program = &plan.program;
+    value_of(
+        &program.steps()[round as usize].right,
+        reading_messages(own, 0, 0),
+    )
+}
+
+// A node that reads its registers and what came from its left and from its right.
+fn reading_messages(registers: &[u32], left: u32, right: u32) -> View<'_>
+    ensures id { result.id ≡ 0 }
+    ensures left { result.left ≡ left }
+    ensures right { result.right ≡ right }
+    ensures registers { result.registers.now ≡ registers.now }
+{
+    View {
+        id: 0,
+        left,
+        right,
+        registers,
+    }
+}
