@@ -1,0 +1,13 @@
+//! The command line, the input, the report and the output of the program `nbhd`.
+#![tactic(auto)]
+
+mod decimal;
+pub mod fault;
+pub mod input;
+pub mod lines;
+pub mod output;
+pub mod ring_text;
+pub mod status;
+pub mod task;
+pub mod watched;
+pub mod words;
