@@ -70,8 +70,8 @@ fn run_in(words: &[String]) -> Option<(&str, &str)>
     let [command, ids_option, number, ring_option, ring] = words else {
         return None;
     };
-    let is_run = command.as_str() == "run"
-        && ids_option.as_str() == "--ids"
-        && ring_option.as_str() == "--ring";
-    if is_run { Some((number.as_str(), ring.as_str())) } else { None }
+    match (command.as_str(), ids_option.as_str(), ring_option.as_str()) {
+        ("run", "--ids", "--ring") => Some((number.as_str(), ring.as_str())),
+        _ => None,
+    }
 }

@@ -1,0 +1,3 @@
+mod Known
+mod Joined
+mod Parts
