@@ -21,4 +21,4 @@ pub joined_text : (f : ℕ → List ℕ) (c : ℕ) (ns empty first text : List �
 joined_text f c ns empty first text i some none begun all written =
     let others : take i (take (length ns - 1) (drop 1 ns)) ≡ drop 1 ns = take_all i _ all ∙ take_rest ns 1 in
     written ∙ ap (λ l. l ++ flat_map (λ k. c ∷ f k) (take i (take (length ns - 1) (drop 1 ns)))) (begun ∙ ap (λ l. l ++ f (get_or ns 0 0)) none)
-      ∙ ap (λ l. f (get_or ns 0 0) ++ flat_map (λ k. c ∷ f k) l) others ∙ joined_parts f c ns some
+    ∙ ap (λ l. f (get_or ns 0 0) ++ flat_map (λ k. c ∷ f k) l) others ∙ joined_parts f c ns some

@@ -1,6 +1,7 @@
 pub mod Decimal
 pub mod RingText
 pub mod Words
+pub mod WordsFault
 pub mod Status
 pub mod Watched
 pub mod Input

@@ -4,8 +4,6 @@ use Rattle.plan_print.specs.Decimal.{IsNumber, number_in}
 use Rattle.plan_print.specs.RingText.{IsRingText, ring_in}
 use Rattle.plan_print.specs.declared.task.Task.{Task}
 use Rattle.plan_print.specs.declared.task.Task.TheVariants.{Run}
-use Rattle.plan_print.specs.declared.words.WordsFault.{WordsFault}
-use Rattle.plan_print.specs.declared.words.WordsFault.TheVariants.{Usage, BadRing, OutOfMemory}
 
 -- the five words `run --ids NUMBER --ring RING`
 abbrev pub run_words : List ℕ → List ℕ → List (List ℕ)
@@ -19,16 +17,14 @@ IsRun words ids ring = (number : List ℕ) × (words ≡ run_words number ring) 
 abbrev pub IsCommand : List (List ℕ) → Type 0
 IsCommand words = (ids : ℕ) × (ring : List ℕ) × IsRun words ids ring
 
+-- the words are a command with a ring text
+abbrev pub HasRing : List (List ℕ) → Type 0
+HasRing words = (ids : ℕ) × (ring : List ℕ) × IsRun words ids ring × IsRingText ring
+
 -- the words are a command, but the text after `--ring` is no ring text
 abbrev pub HasBadRing : List (List ℕ) → Type 0
-HasBadRing words = (ids : ℕ) × (ring : List ℕ) × IsRun words ids ring × (IsRingText ring → ⊥)
+HasBadRing words = (ids : ℕ) × (ring : List ℕ) × IsRun words ids ring × ¬ IsRingText ring
 
 -- the task that the words ask for
 abbrev pub IsTaskOf : List (List ℕ) → Task → Type 0
 IsTaskOf words (Run ids ring) = (text : List ℕ) × IsRun words ids text × IsRingText text × (ring.items ≡ ring_in text)
-
--- when each refusal of the words comes; want of memory may come in place of an answer that makes a ring
-abbrev pub IsRefusalOf : List (List ℕ) → WordsFault → Type 0
-IsRefusalOf words Usage = IsCommand words → ⊥
-IsRefusalOf words BadRing = HasBadRing words
-IsRefusalOf words OutOfMemory = IsCommand words

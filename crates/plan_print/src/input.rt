@@ -4,11 +4,10 @@ ghost use Rattle.std.specs.Prelude.{◌≡◌, ◌<◌, ◌⊎◌, ◌↔◌, fa
 ghost use Rattle.plan_print.specs.Input.{GivesInput, TakesFront};
 ghost use Rattle.plan_print.specs.Watched.{device_of, has_failed};
 
-use std::alloc::Global;
-use std::io::Read;
-
 use crate::fault::EngineFault;
 use crate::watched::Watched;
+use std::alloc::Global;
+use std::io::Read;
 
 /// How many bytes are asked for in one read at most.
 const CHUNK: usize = 4096;
@@ -23,13 +22,9 @@ pub fn read_input<R: Read>(
 ) -> Result<Vec<u8>, EngineFault>
     requires limited { limit < usize.MAX }
     requires working { has_failed reader.old ≡ false }
-    ensures input {
-        IfOk result (λ input. GivesInput (R.remaining (device_of reader.old))
-            (R.remaining (device_of reader.new)) limit input.items)
-    }
-    ensures refused {
-        OnErr result (TakesFront (R.remaining (device_of reader.old)) (R.remaining (device_of reader.new)) limit)
-    }
+    ensures input { IfOk result (λ input. GivesInput (R.remaining (device_of reader.old))
+        (R.remaining (device_of reader.new)) limit input.items) }
+    ensures refused { OnErr result (TakesFront (R.remaining (device_of reader.old)) (R.remaining (device_of reader.new)) limit) }
     ensures faults { IfErr result (λ fault. (fault ≡ EngineFault.Read) ⊎ (fault ≡ EngineFault.Memory)) }
     ensures failed { IsErrOf result EngineFault.Read ↔ IsTrue (has_failed reader.new) }
 {

@@ -9,5 +9,7 @@ pub mod output;
 pub mod ring_text;
 pub mod status;
 pub mod task;
+#[cfg(test)]
+mod tests;
 pub mod watched;
 pub mod words;

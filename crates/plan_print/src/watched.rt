@@ -21,7 +21,10 @@ impl<D> Watched<D> {
         ensures device { device_of result ≡ device }
         ensures working { has_failed result ≡ false }
     {
-        Watched { device, failed: false }
+        Watched {
+            device,
+            failed: false,
+        }
     }
 
     /// Whether a read or a write of the device failed.
@@ -44,9 +47,7 @@ impl<R: Read> Watched<R> {
     /// Reads into `buffer` once, and says how many bytes came. An error is noted.
     pub fn read(&mut self, buffer: &mut [u8]) -> io::Result<usize>
         ensures bound { ReadsAtMost result buffer.new }
-        ensures bytes {
-            ReadConsumes (R.remaining (device_of self.old)) (R.remaining (device_of self.new)) result buffer.new
-        }
+        ensures bytes { ReadConsumes (R.remaining (device_of self.old)) (R.remaining (device_of self.new)) result buffer.new }
         ensures noted { NotesRead result (has_failed self.old) (has_failed self.new) }
     {
         let outcome = self.device.read(buffer);
@@ -62,9 +63,7 @@ impl<W: Write> Watched<W> {
     /// so is an answer of 0 where `bytes` is not empty.
     pub fn write(&mut self, bytes: &[u8]) -> io::Result<usize>
         ensures bound { WritesAtMost result bytes.now }
-        ensures bytes {
-            WriteAppends (W.contents (device_of self.old)) (W.contents (device_of self.new)) result bytes.now
-        }
+        ensures bytes { WriteAppends (W.contents (device_of self.old)) (W.contents (device_of self.new)) result bytes.now }
         ensures noted { NotesWrite result bytes.now (has_failed self.old) (has_failed self.new) }
     {
         let outcome = self.device.write(bytes);

@@ -1,18 +1,18 @@
 //! The words of the command line.
 
-ghost use Rattle.std.specs.Prelude.{◌≡◌, ℕ, List, map, IfOk, IfErr, IfSome, IfNone, string_bytes};
-ghost use Rattle.plan_print.specs.Words.{run_words, IsTaskOf, IsRefusalOf};
+ghost use Rattle.std.specs.Prelude.{◌≡◌, ◌↔◌, ℕ, List, map, IsOk, IsErrOf, IfOk, IfSome, IfNone, string_bytes};
+ghost use Rattle.plan_print.specs.Words.{run_words, IsCommand, HasRing, HasBadRing, IsTaskOf};
+ghost use Rattle.plan_print.specs.WordsFault.{MemoryAside};
 ghost use Rattle.plan_print.specs.declared.words.WordsFault.TheVariants.{OutOfMemory};
-
-use std::alloc::{AllocError, AllocFailed, Global};
-use thiserror::Error;
 
 use crate::decimal::number_of;
 use crate::ring_text::ring_of;
 use crate::task::Task;
+use std::alloc::{AllocError, AllocFailed, Global};
+use thiserror::Error;
 
 /// Why words are refused.
-#[derive(Debug, Drop, Error)]
+#[derive(Clone, Copy, Debug, PartialEq, Eq, Error)]
 pub enum WordsFault {
     /// The words are no command.
     #[error("nbhd: bad words")]
@@ -42,12 +42,17 @@ impl<T: Drop> From<AllocFailed<T>> for WordsFault {
 }
 
 /// The task that the words ask for. They are the words after the program's name, and a command is
-/// `run --ids M --ring A,B,..`, in this order: `M` is a decimal number up to 4294967295, and what
-/// stands after `--ring` is a ring text. `Usage` comes exactly where the words are no command,
-/// `BadRing` where they are one but for the ring text, and `OutOfMemory` where memory was refused.
+/// `run --ids M --ring A,B,..`, in this order: `M` is a decimal number up to 4294967295, leading
+/// zeros allowed, and what stands after `--ring` is a ring text. `Usage` comes where the words are
+/// no command, `BadRing` where they are one but for the ring text. `OutOfMemory` comes where memory
+/// was refused, and only at a command.
 pub fn task_of(alloc: Global, words: &[String]) -> Result<Task, WordsFault>
     ensures task { IfOk result (IsTaskOf (map string_bytes words.now)) }
-    ensures refused { IfErr result (IsRefusalOf (map string_bytes words.now)) }
+
+    ensures ok { MemoryAside result (IsOk result ↔ HasRing (map string_bytes words.now)) }
+    ensures usage { IsErrOf result WordsFault.Usage ↔ (¬ (IsCommand (map string_bytes words.now))) }
+    ensures bad_ring { MemoryAside result (IsErrOf result WordsFault.BadRing ↔ HasBadRing (map string_bytes words.now)) }
+    ensures memory { IsErrOf result WordsFault.OutOfMemory → IsCommand (map string_bytes words.now) }
 {
     let Some((number, ring)) = run_in(words) else {
         return Err(WordsFault::Usage);
@@ -63,9 +68,7 @@ pub fn task_of(alloc: Global, words: &[String]) -> Result<Task, WordsFault>
 /// `--ring` and a text.
 fn run_in(words: &[String]) -> Option<(&str, &str)>
     ensures run { IfSome result (λ p. map string_bytes words.now ≡ run_words p.0.now p.1.now) }
-    ensures none {
-        IfNone result ((number ring : List ℕ) → map string_bytes words.now ≡ run_words number ring → ⊥)
-    }
+    ensures none { IfNone result ((number ring : List ℕ) → map string_bytes words.now ≡ run_words number ring → ⊥) }
 {
     let [command, ids_option, number, ring_option, ring] = words else {
         return None;

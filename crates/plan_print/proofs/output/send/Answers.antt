@@ -1,4 +1,4 @@
-use Rattle.std.proofs.Common.{arith, rules}
+use Rattle.std.proofs.Common.{rules}
 use Rattle.plan_print.proofs.Known.{sent_more}
 use Rattle.plan_print.proofs.output.send.Goals as goal
 
@@ -9,5 +9,5 @@ loop-sent-preserved g c =
     record {
       front = sent_more _ _ _ _ _ _ c.loop-sent.invariant.front more;
       bounded = search rules;
-      working = search rules
+      working = search rules;
     }

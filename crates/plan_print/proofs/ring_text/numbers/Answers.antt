@@ -9,5 +9,5 @@ loop-part-preserved c =
     let read = c.in-Some.ensures in
     record {
       each = All-more (λ part. IsNumber part.now) c.args.parts.now c.loop-part.part-index _ c.loop-part-test.true c.loop-part.invariant.each read.0;
-      values = values_more c.args.parts.now c.loop-part.part-index _ _ _ _ c.loop-part-test.true c.loop-part.invariant.values read.1 c.in_ok-push.ensures.items
+      values = values_more c.args.parts.now c.loop-part.part-index _ _ _ _ c.loop-part-test.true c.loop-part.invariant.values read.1 c.in_ok-push.ensures.items;
     }
