@@ -1,4 +1,5 @@
--- What reading the input takes from a reader. The bytes that a reader has left are known or not, as `Some` or `None`.
+-- What reading the input takes from a reader.
+-- The bytes that a reader has left are known or not, as `Some` or `None`.
 use Rattle.std.specs.Prelude.{ℕ, ◌+◌, ◌≤◌, List, length, Option}
 use Rattle.std.specs.Io.KnownBytes.{Consumes, IsAtEnd}
 

@@ -1,4 +1,5 @@
--- What writing leaves in a writer. The bytes that a writer holds are known or not, as `Some` or `None`.
+-- What writing leaves in a writer.
+-- The bytes that a writer holds are known or not, as `Some` or `None`.
 use Rattle.std.specs.Prelude.{ℕ, List, take, Option}
 use Rattle.std.specs.Io.KnownBytes.{Appends}
 

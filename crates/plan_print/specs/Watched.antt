@@ -14,8 +14,9 @@ has_failed watched = watched.failed
 abbrev pub NotesRead : {E : Type 0} → Result ℕ E → Bool → Bool → Type 0
 NotesRead result old new = MatchResult result (λ _. new ≡ old) (λ _. new ≡ true)
 
--- a write that failed is noted, and so is one that took no byte of a buffer that has some; nothing else changes the note
+-- a write that failed is noted, and so is one that took no byte of some; nothing else changes the note
 abbrev pub NotesWrite : {E : Type 0} → Result ℕ E → List ℕ → Bool → Bool → Type 0
 NotesWrite result bytes old new = MatchResult result
-    (λ count. (0 < count → new ≡ old) × (count ≡ 0 → 0 < length bytes → new ≡ true) × (length bytes ≡ 0 → new ≡ old))
+    (λ count. (0 < count → new ≡ old) × (length bytes ≡ 0 → new ≡ old)
+    × (count ≡ 0 → 0 < length bytes → new ≡ true))
     (λ _. new ≡ true)

@@ -11,7 +11,8 @@ run_words number ring = codes "run" ∷ codes "--ids" ∷ number ∷ codes "--ri
 
 -- the words are the command `run` with this number of identifiers and this text after `--ring`
 abbrev pub IsRun : List (List ℕ) → ℕ → List ℕ → Type 0
-IsRun words ids ring = (number : List ℕ) × (words ≡ run_words number ring) × IsNumber number × (ids ≡ number_in number)
+IsRun words ids ring =
+    (number : List ℕ) × (words ≡ run_words number ring) × IsNumber number × (ids ≡ number_in number)
 
 -- the words are a command, with a ring text or with another text in its place
 abbrev pub IsCommand : List (List ℕ) → Type 0
@@ -27,4 +28,5 @@ HasBadRing words = (ids : ℕ) × (ring : List ℕ) × IsRun words ids ring × �
 
 -- the task that the words ask for
 abbrev pub IsTaskOf : List (List ℕ) → Task → Type 0
-IsTaskOf words (Run ids ring) = (text : List ℕ) × IsRun words ids text × IsRingText text × (ring.items ≡ ring_in text)
+IsTaskOf words (Run ids ring) =
+    (text : List ℕ) × IsRun words ids text × IsRingText text × (ring.items ≡ ring_in text)

@@ -24,7 +24,8 @@ pub fn read_input<R: Read>(
     requires working { has_failed reader.old ≡ false }
     ensures input { IfOk result (λ input. GivesInput (R.remaining (device_of reader.old))
         (R.remaining (device_of reader.new)) limit input.items) }
-    ensures refused { OnErr result (TakesFront (R.remaining (device_of reader.old)) (R.remaining (device_of reader.new)) limit) }
+    ensures refused { OnErr result (TakesFront (R.remaining (device_of reader.old))
+        (R.remaining (device_of reader.new)) limit) }
     ensures faults { IfErr result (λ fault. (fault ≡ EngineFault.Read) ⊎ (fault ≡ EngineFault.Memory)) }
     ensures failed { IsErrOf result EngineFault.Read ↔ IsTrue (has_failed reader.new) }
 {

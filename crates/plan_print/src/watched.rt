@@ -47,12 +47,14 @@ impl<R: Read> Watched<R> {
     /// Reads into `buffer` once, and says how many bytes came. An error is noted.
     pub fn read(&mut self, buffer: &mut [u8]) -> io::Result<usize>
         ensures bound { ReadsAtMost result buffer.new }
-        ensures bytes { ReadConsumes (R.remaining (device_of self.old)) (R.remaining (device_of self.new)) result buffer.new }
+        ensures bytes { ReadConsumes (R.remaining (device_of self.old))
+            (R.remaining (device_of self.new)) result buffer.new }
         ensures noted { NotesRead result (has_failed self.old) (has_failed self.new) }
     {
-        let outcome = self.device.read(buffer);
+        let Watched { device, failed } = self;
+        let outcome = device.read(buffer);
         if outcome.is_err() {
-            self.failed = true;
+            *failed = true;
         }
         outcome
     }
@@ -63,13 +65,15 @@ impl<W: Write> Watched<W> {
     /// so is an answer of 0 where `bytes` is not empty.
     pub fn write(&mut self, bytes: &[u8]) -> io::Result<usize>
         ensures bound { WritesAtMost result bytes.now }
-        ensures bytes { WriteAppends (W.contents (device_of self.old)) (W.contents (device_of self.new)) result bytes.now }
+        ensures bytes { WriteAppends (W.contents (device_of self.old))
+            (W.contents (device_of self.new)) result bytes.now }
         ensures noted { NotesWrite result bytes.now (has_failed self.old) (has_failed self.new) }
     {
-        let outcome = self.device.write(bytes);
+        let Watched { device, failed } = self;
+        let outcome = device.write(bytes);
         let took_none = matches!(outcome, Ok(0)) && !bytes.is_empty();
-        if outcome.is_err() || took_none {
-            self.failed = true;
+        if took_none || outcome.is_err() {
+            *failed = true;
         }
         outcome
     }

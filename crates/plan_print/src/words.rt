@@ -51,7 +51,8 @@ pub fn task_of(alloc: Global, words: &[String]) -> Result<Task, WordsFault>
 
     ensures ok { MemoryAside result (IsOk result ↔ HasRing (map string_bytes words.now)) }
     ensures usage { IsErrOf result WordsFault.Usage ↔ (¬ (IsCommand (map string_bytes words.now))) }
-    ensures bad_ring { MemoryAside result (IsErrOf result WordsFault.BadRing ↔ HasBadRing (map string_bytes words.now)) }
+    ensures bad_ring { MemoryAside result
+        (IsErrOf result WordsFault.BadRing ↔ HasBadRing (map string_bytes words.now)) }
     ensures memory { IsErrOf result WordsFault.OutOfMemory → IsCommand (map string_bytes words.now) }
 {
     let Some((number, ring)) = run_in(words) else {
@@ -68,7 +69,8 @@ pub fn task_of(alloc: Global, words: &[String]) -> Result<Task, WordsFault>
 /// `--ring` and a text.
 fn run_in(words: &[String]) -> Option<(&str, &str)>
     ensures run { IfSome result (λ p. map string_bytes words.now ≡ run_words p.0.now p.1.now) }
-    ensures none { IfNone result ((number ring : List ℕ) → map string_bytes words.now ≡ run_words number ring → ⊥) }
+    ensures none { IfNone result ((number ring : List ℕ)
+        → ¬ map string_bytes words.now ≡ run_words number ring) }
 {
     let [command, ids_option, number, ring_option, ring] = words else {
         return None;
