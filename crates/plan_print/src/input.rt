@@ -36,11 +36,11 @@ pub fn read_input<R: Read>(
             break;
         }
         let room = CHUNK.min(limit + 1 - input.len());
-        match reader.read(&mut chunk[..room]) {
-            Ok(0) => break,
-            Ok(count) => input.extend_from_slice(&chunk[..count])?,
-            Err(_) => return Err(EngineFault::Read),
+        let count = reader.read(&mut chunk[..room])?;
+        if count == 0 {
+            break;
         }
+        input.extend_from_slice(&chunk[..count])?;
     }
     Ok(input)
 }

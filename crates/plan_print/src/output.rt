@@ -22,10 +22,7 @@ pub fn send<W: Write>(writer: &mut Watched<W>, bytes: &[u8]) -> Result<(), Engin
 {
     let mut sent = 0;
     while sent < bytes.len() {
-        match writer.write(&bytes[sent..]) {
-            Ok(0) | Err(_) => return Err(EngineFault::Write),
-            Ok(taken) => sent += taken,
-        }
+        sent += writer.write(&bytes[sent..])?;
     }
     Ok(())
 }
