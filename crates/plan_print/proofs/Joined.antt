@@ -1,0 +1,24 @@
+-- Lemmas on numbers that are parted by single bytes.
+use Rattle.std.proofs.Common.{◌≡◌, ℕ, ◌-◌, ◌≤◌, List, [], ◌∷◌, ◌++◌, length, map, get_or, take, drop, ap, ◌∙◌, arith, append-nil}
+use Rattle.std.specs.List.{flat_map, join_with_byte}
+use Rattle.std.proofs.lemmas.List.{take_all, take_rest}
+
+-- the first piece, and each other piece after a byte
+joined_after : (f : ℕ → List ℕ) (c n : ℕ) (ns : List ℕ) → f n ++ flat_map (λ k. c ∷ f k) ns ≡ join_with_byte c (map f (n ∷ ns))
+joined_after f c n [] = append-nil (f n)
+joined_after f c n (k ∷ ns) = ap (λ l. f n ++ (c ∷ l)) (joined_after f c k ns)
+
+-- the same of a list that is not empty
+joined_parts : (f : ℕ → List ℕ) (c : ℕ) (ns : List ℕ) → 1 ≤ length ns
+    → f (get_or ns 0 0) ++ flat_map (λ k. c ∷ f k) (drop 1 ns) ≡ join_with_byte c (map f ns)
+joined_parts f c [] some = absurd (omega arith)
+joined_parts f c (n ∷ ns) some = joined_after f c n ns
+
+-- the same of a text that was begun empty, got the first piece, and then the others up to a number that is past them all
+pub joined_text : (f : ℕ → List ℕ) (c : ℕ) (ns empty first text : List ℕ) (i : ℕ) → 1 ≤ length ns → empty ≡ [] → first ≡ empty ++ f (get_or ns 0 0)
+    → length (take (length ns - 1) (drop 1 ns)) ≤ i → text ≡ first ++ flat_map (λ k. c ∷ f k) (take i (take (length ns - 1) (drop 1 ns)))
+    → text ≡ join_with_byte c (map f ns)
+joined_text f c ns empty first text i some none begun all written =
+    let others : take i (take (length ns - 1) (drop 1 ns)) ≡ drop 1 ns = take_all i _ all ∙ take_rest ns 1 in
+    written ∙ ap (λ l. l ++ flat_map (λ k. c ∷ f k) (take i (take (length ns - 1) (drop 1 ns)))) (begun ∙ ap (λ l. l ++ f (get_or ns 0 0)) none)
+    ∙ ap (λ l. f (get_or ns 0 0) ++ flat_map (λ k. c ∷ f k) l) others ∙ joined_parts f c ns some

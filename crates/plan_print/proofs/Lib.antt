@@ -1,0 +1,4 @@
+mod Known
+mod Joined
+mod Parts
+pub mod Reports

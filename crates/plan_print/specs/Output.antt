@@ -1,0 +1,8 @@
+-- What writing leaves in a writer.
+-- The bytes that a writer holds are known or not, as `Some` or `None`.
+use Rattle.std.specs.Prelude.{ℕ, List, take, Option}
+use Rattle.std.specs.Io.KnownBytes.{Appends}
+
+-- A front of the bytes was appended: some of them from the first on, perhaps none.
+abbrev pub AppendsFront : Option (List ℕ) → Option (List ℕ) → List ℕ → Type 0
+AppendsFront old new bytes = (count : ℕ) × Appends old new (take count bytes)

@@ -1,0 +1,32 @@
+-- Which lists of words are a command of the program. The program's own name is not among the words.
+use Rattle.std.specs.Prelude.{◌≡◌, ℕ, List, [], ◌∷◌, codes}
+use Rattle.plan_print.specs.Decimal.{IsNumber, number_in}
+use Rattle.plan_print.specs.RingText.{IsRingText, ring_in}
+use Rattle.plan_print.specs.declared.task.Task.{Task}
+use Rattle.plan_print.specs.declared.task.Task.TheVariants.{Run}
+
+-- the five words `run --ids NUMBER --ring RING`
+abbrev pub run_words : List ℕ → List ℕ → List (List ℕ)
+run_words number ring = codes "run" ∷ codes "--ids" ∷ number ∷ codes "--ring" ∷ ring ∷ []
+
+-- the words are the command `run` with this number of identifiers and this text after `--ring`
+abbrev pub IsRun : List (List ℕ) → ℕ → List ℕ → Type 0
+IsRun words ids ring =
+    (number : List ℕ) × (words ≡ run_words number ring) × IsNumber number × (ids ≡ number_in number)
+
+-- the words are a command, with a ring text or with another text in its place
+abbrev pub IsCommand : List (List ℕ) → Type 0
+IsCommand words = (ids : ℕ) × (ring : List ℕ) × IsRun words ids ring
+
+-- the words are a command with a ring text
+abbrev pub HasRing : List (List ℕ) → Type 0
+HasRing words = (ids : ℕ) × (ring : List ℕ) × IsRun words ids ring × IsRingText ring
+
+-- the words are a command, but the text after `--ring` is no ring text
+abbrev pub HasBadRing : List (List ℕ) → Type 0
+HasBadRing words = (ids : ℕ) × (ring : List ℕ) × IsRun words ids ring × ¬ IsRingText ring
+
+-- the task that the words ask for
+abbrev pub IsTaskOf : List (List ℕ) → Task → Type 0
+IsTaskOf words (Run ids ring) =
+    (text : List ℕ) × IsRun words ids text × IsRingText text × (ring.items ≡ ring_in text)

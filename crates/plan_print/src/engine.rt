@@ -1,0 +1,52 @@
+//! Doing a task: the input is read whole, then its report is written.
+
+ghost use Rattle.std.specs.Prelude.{◌≡◌, ◌↔◌, ℕ, List, false, IsTrue, IfOk, OnErr, IsErrOf};
+ghost use Rattle.std.specs.Io.KnownBytes.{Keeps};
+ghost use Rattle.plan_print.specs.Input.{TakesFront};
+ghost use Rattle.plan_print.specs.Watched.{device_of, has_failed};
+ghost use Rattle.plan_print.specs.Engine.{WritesReport, WritesFront};
+
+use crate::fault::EngineFault;
+use crate::input::read_input;
+use crate::output::send;
+use crate::report::report_of;
+use crate::status::Status;
+use crate::task::Task;
+use crate::watched::Watched;
+use std::alloc::Global;
+use std::io::{Read, Write};
+
+/// The limit of a program text in bytes. One byte more of the input is read, and no further.
+pub const LIMIT: usize = 65_536;
+
+/// Reads the input of a task, all of it or the first 65,537 bytes of a longer one, and writes its
+/// report; the answer is the report's status.
+///
+/// `Read` comes exactly where a read failed, `Write` exactly where a write failed or took no byte, `Memory`
+/// where memory was refused. After `Read` and `Memory` nothing was written, after `Write` a front of the
+/// report.
+pub fn engine<R: Read, W: Write>(
+    alloc: Global,
+    task: Task,
+    reader: &mut Watched<R>,
+    writer: &mut Watched<W>,
+) -> Result<Status, EngineFault>
+    requires reads { has_failed reader.old ≡ false }
+    requires writes { has_failed writer.old ≡ false }
+    ensures report { IfOk result (λ status. WritesReport task
+        (R.remaining (device_of reader.old)) (R.remaining (device_of reader.new))
+        (W.contents (device_of writer.old)) (W.contents (device_of writer.new)) status) }
+    ensures front { IsErrOf result EngineFault.Write → WritesFront task
+        (R.remaining (device_of reader.old)) (R.remaining (device_of reader.new))
+        (W.contents (device_of writer.old)) (W.contents (device_of writer.new)) }
+    ensures unread { IsErrOf result EngineFault.Read → Keeps (W.contents (device_of writer.old)) (W.contents (device_of writer.new)) }
+    ensures no_memory { IsErrOf result EngineFault.Memory → Keeps (W.contents (device_of writer.old)) (W.contents (device_of writer.new)) }
+    ensures taken { OnErr result (TakesFront (R.remaining (device_of reader.old)) (R.remaining (device_of reader.new)) LIMIT) }
+    ensures reader_failed { IsErrOf result EngineFault.Read ↔ IsTrue (has_failed reader.new) }
+    ensures writer_failed { IsErrOf result EngineFault.Write ↔ IsTrue (has_failed writer.new) }
+{
+    let input = read_input(alloc, reader, LIMIT)?;
+    let (text, status) = report_of(alloc, task, &input)?;
+    send(writer, text.as_bytes())?;
+    Ok(status)
+}

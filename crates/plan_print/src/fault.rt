@@ -1,0 +1,38 @@
+//! Why no whole report was written.
+
+ghost use Rattle.std.specs.Prelude.{◌≡◌};
+ghost use Rattle.plan_print.specs.declared.fault.EngineFault.TheVariants.{Memory};
+
+use node_lang::OutOfMemory;
+use std::alloc::AllocError;
+use thiserror::Error;
+
+/// Why no whole report was written.
+#[derive(Clone, Copy, Debug, PartialEq, Eq, Error)]
+pub enum EngineFault {
+    /// A read of the input failed.
+    #[error("nbhd: read failed")]
+    Read,
+    /// A write of the report failed, or took no byte.
+    #[error("nbhd: write failed")]
+    Write,
+    /// Memory was refused.
+    #[error("nbhd: out of memory")]
+    Memory,
+}
+
+impl From<AllocError> for EngineFault {
+    ghost from_gives = { λ _ fault. fault ≡ Memory };
+
+    fn from(_refused: AllocError) -> EngineFault {
+        EngineFault::Memory
+    }
+}
+
+impl From<OutOfMemory> for EngineFault {
+    ghost from_gives = { λ _ fault. fault ≡ Memory };
+
+    fn from(_refused: OutOfMemory) -> EngineFault {
+        EngineFault::Memory
+    }
+}

@@ -1,0 +1,17 @@
+//! The command line, the input, the report and the output of the program `nbhd`.
+#![tactic(auto)]
+
+mod decimal;
+pub mod engine;
+pub mod fault;
+pub mod input;
+pub mod lines;
+pub mod output;
+mod report;
+pub mod ring_text;
+pub mod status;
+pub mod task;
+#[cfg(test)]
+mod tests;
+pub mod watched;
+pub mod words;

@@ -1,0 +1,34 @@
+//! How the program ends.
+
+ghost use Rattle.std.specs.Prelude.{◌≡◌};
+ghost use Rattle.plan_print.specs.Status.{exit_code};
+
+/// How a task ended whose report was written.
+#[derive(Clone, Copy, Debug, PartialEq, Eq)]
+pub enum Status {
+    /// The task was done, or its answer is yes.
+    Done,
+    /// The answer is no.
+    No,
+    /// The words ask for what cannot be had.
+    Words,
+    /// The program text or the program was refused.
+    Refused,
+    /// The ring was refused.
+    RingRefused,
+}
+
+impl Status {
+    /// The exit status of the process: 0 to 4, in the order of the variants.
+    pub fn code(self) -> u8
+        ensures { result ≡ exit_code self }
+    {
+        match self {
+            Status::Done => 0,
+            Status::No => 1,
+            Status::Words => 2,
+            Status::Refused => 3,
+            Status::RingRefused => 4,
+        }
+    }
+}

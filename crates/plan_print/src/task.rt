@@ -1,0 +1,13 @@
+//! The tasks that the program can be asked to do.
+
+/// What the words of a command ask for.
+#[derive(Debug, PartialEq, Eq, Drop)]
+pub enum Task {
+    /// Runs the program text of the input on a ring, for identifiers below `ids`.
+    Run {
+        /// How many identifiers there are.
+        ids: u32,
+        /// The identifiers of the ring's places, from place 0 on.
+        ring: Vec<u32>,
+    },
+}

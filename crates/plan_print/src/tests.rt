@@ -1,0 +1,4 @@
+//! Tests of what no clause says.
+
+mod devices;
+mod texts;
