@@ -45,4 +45,4 @@ ran ids m t places xs input p q r reads e accepted a b ring same report_is =
     let Ring : ℕ → ℕ → Type 0 = λ k n. IsRing k n places in
     let Channels : ProgramTree → List ℕ → Type 0 = λ k ys. report.IsChannelsReport k ys r in
     report.run p r reads accepted (subst (Ring ids) b (subst (λ k. Ring k t) a ring))
-        (subst (Channels p) same (subst (λ k. Channels k xs) e report_is))
+    (subst (Channels p) same (subst (λ k. Channels k xs) e report_is))

@@ -3,6 +3,7 @@ pub mod RingText
 pub mod Words
 pub mod WordsFault
 pub mod Status
+pub mod FaultCodes
 pub mod Watched
 pub mod Input
 pub mod Output

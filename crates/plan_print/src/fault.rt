@@ -21,6 +21,20 @@ pub enum EngineFault {
     Memory,
 }
 
+impl EngineFault {
+    ghost use Rattle.plan_print.specs.FaultCodes.{engine_fault_code};
+
+    /// The exit status of the process: 5 after a failed read or write, 6 where memory was refused.
+    pub fn code(self) -> u8
+        ensures { result ≡ engine_fault_code self }
+    {
+        match self {
+            EngineFault::Read | EngineFault::Write => 5,
+            EngineFault::Memory => 6,
+        }
+    }
+}
+
 impl From<AllocError> for EngineFault {
     ghost from_gives = { λ _ fault. fault ≡ Memory };
 

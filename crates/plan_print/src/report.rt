@@ -1,8 +1,10 @@
 //! The report of a task.
 
-ghost use Rattle.std.specs.Prelude.{◌≡◌, ◌≢◌, ◌<◌, ◌≤◌, ℕ, length, All, IfOk, IfErr, IfSome, IfNone, string_bytes};
+ghost use Rattle.std.specs.Prelude.{◌≡◌, ◌≢◌, ◌<◌, ◌≤◌, ℕ, List, length, All, IfOk, IfErr, IfSome, IfNone, string_bytes};
 ghost use Rattle.node_lang.specs.declared.fault.FaultKind.TheVariants as kind;
+ghost use Rattle.node_lang.specs.Grammar.{Reads};
 ghost use Rattle.node_lang.specs.Faults.{FaultsAt};
+ghost use Rattle.round_eval.specs.Acceptance.{IsAccepted};
 ghost use Rattle.plan_print.specs.declared.status.Status.TheVariants.{Done, Refused, RingRefused};
 ghost use Rattle.plan_print.specs.Report.{IsReport, IsRunReport, IsChannelsReport, IsFirstOver, kind_number, text_fault_line, check_fault_line, ring_fault_line, channel_fault_line};
 
@@ -10,7 +12,7 @@ use crate::fault::EngineFault;
 use crate::lines::numbers_line;
 use crate::status::Status;
 use crate::task::Task;
-use node_lang::{FaultKind, TextFault, parse};
+use node_lang::{FaultKind, Program, TextFault, parse};
 use round_eval::{CheckFault, Plan, Ring, RingFault, accept, plain_run};
 use std::alloc::{AllocError, Global};
 
@@ -37,24 +39,41 @@ fn run_report(
     ensures report { IfOk result (λ r. IsRunReport ids ring.items input.now (record { bytes = string_bytes r.0; status = r.1 })) }
     ensures fault { IfErr result (λ fault. fault ≡ EngineFault.Memory) }
 {
-    let program = match parse(alloc, input) {
-        Ok(program) => program,
-        Err(fault) => {
-            if fault.kind == FaultKind::OutOfMemory {
-                return Err(EngineFault::Memory);
-            }
-            return Ok((text_fault(alloc, fault)?, Status::Refused));
-        }
-    };
-    let plan = match accept(program, ids) {
-        Ok(plan) => plan,
-        Err((_program, fault)) => return Ok((check_fault(alloc, fault)?, Status::Refused)),
-    };
-    let ring = match Ring::new(plan.shape(), ring) {
-        Ok(ring) => ring,
-        Err((_ids, fault)) => return Ok((ring_fault(alloc, fault)?, Status::RingRefused)),
-    };
-    channels_report(alloc, &plan, &ring)
+    match parse(alloc, input) {
+        Ok(program) => program_report(alloc, ids, ring, program),
+        Err(fault) => text_report(alloc, fault),
+    }
+}
+
+// The report of a run whose text was read.
+#[tactic(auto, using(crate::proofs::Reports::refused_program))]
+fn program_report(
+    alloc: Global,
+    ids: u32,
+    ring: Vec<u32>,
+    program: Program,
+) -> Result<(String, Status), EngineFault>
+    ensures report { IfOk result (λ r. (input : List ℕ) → Reads input program →
+        IsRunReport ids ring.items input (record { bytes = string_bytes r.0; status = r.1 })) }
+    ensures fault { IfErr result (λ fault. fault ≡ EngineFault.Memory) }
+{
+    match accept(program, ids) {
+        Ok(plan) => ring_report(alloc, &plan, ring),
+        Err((_program, fault)) => Ok((check_fault(alloc, fault)?, Status::Refused)),
+    }
+}
+
+// The report of a run whose program was accepted.
+#[tactic(auto, using(crate::proofs::Reports::refused_ring, crate::proofs::Reports::ran))]
+fn ring_report(alloc: Global, plan: &Plan, ring: Vec<u32>) -> Result<(String, Status), EngineFault>
+    ensures report { IfOk result (λ r. (input : List ℕ) → Reads input plan.now.program → IsAccepted plan.now.ids plan.now.program →
+        IsRunReport plan.now.ids ring.items input (record { bytes = string_bytes r.0; status = r.1 })) }
+    ensures fault { IfErr result (λ fault. fault ≡ EngineFault.Memory) }
+{
+    match Ring::new(plan.shape(), ring) {
+        Ok(ring) => channels_report(alloc, plan, &ring),
+        Err((_ids, fault)) => Ok((ring_fault(alloc, fault)?, Status::RingRefused)),
+    }
 }
 
 // The report of the channels of a ring, by global rounds.
@@ -78,6 +97,19 @@ fn first_over(count: u32, channels: &[u32]) -> Option<usize>
     ensures none { IfNone result (All (λ c. c < count) channels.now) }
 {
     channels.iter().position(|channel| *channel >= count)
+}
+
+// The report of a refused text.
+#[tactic(auto, using(crate::proofs::Reports::refused_text))]
+fn text_report(alloc: Global, fault: TextFault) -> Result<(String, Status), EngineFault>
+    ensures report { IfOk result (λ r. (ids : ℕ) (places input : List ℕ) → (fault.kind ≢ kind.OutOfMemory → FaultsAt input fault.kind fault.offset) →
+        IsRunReport ids places input (record { bytes = string_bytes r.0; status = r.1 })) }
+    ensures fault { IfErr result (λ fault. fault ≡ EngineFault.Memory) }
+{
+    match fault.kind {
+        FaultKind::OutOfMemory => Err(EngineFault::Memory),
+        _ => Ok((text_fault(alloc, fault)?, Status::Refused)),
+    }
 }
 
 fn number_of(fault: FaultKind) -> u32

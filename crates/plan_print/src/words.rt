@@ -25,6 +25,20 @@ pub enum WordsFault {
     OutOfMemory,
 }
 
+impl WordsFault {
+    ghost use Rattle.plan_print.specs.FaultCodes.{words_fault_code};
+
+    /// The exit status of the process: 2 where the words are refused, 6 where memory was.
+    pub fn code(self) -> u8
+        ensures { result ≡ words_fault_code self }
+    {
+        match self {
+            WordsFault::Usage | WordsFault::BadRing => 2,
+            WordsFault::OutOfMemory => 6,
+        }
+    }
+}
+
 impl From<AllocError> for WordsFault {
     ghost from_gives = { λ _ fault. fault ≡ OutOfMemory };
 
