@@ -1,13 +1,9 @@
-// A library with one function.
+//! Worked examples that cross the crates. The programs stand here as texts; the tests run them through the
+//! public calls.
 #![tactic(auto)]
 
-ghost use Rattle.std.specs.Prelude.{◌≡◌};
-ghost use Rattle.conformance.specs.Echo.{echo_of};
-
-// The `ensures` clause is the contract: what `echo` returns is `echo_of` of its argument, a definition
-// in `specs/Echo.antt`, which a caller's clause can cite too.
-pub fn echo(x: usize) -> usize
-    ensures { result ≡ echo_of x }
-{
-    x
-}
+pub mod programs;
+#[cfg(test)]
+mod reports;
+#[cfg(test)]
+mod texts;

@@ -1,0 +1,159 @@
+//! Reports of the engine, byte for byte, with their status.
+
+use crate::programs::{CV1, CV1_OF_THREE, CV1_SENDS_L, ID0, LDB, ZERO};
+use plan_print::engine::engine;
+use plan_print::fault::EngineFault;
+use plan_print::status::Status;
+use plan_print::task::Task;
+use plan_print::watched::Watched;
+use std::alloc::Global;
+use std::process::Abort;
+use std::test::Fail;
+
+/// Runs a program text over memory and compares the report.
+fn reports(
+    rt: &impl Abort,
+    alloc: Global,
+    text: &[u8],
+    ids: u32,
+    ring: &[u32],
+    line: &str,
+    status: Status,
+) -> Result<(), Fail> {
+    let task = Task::Run {
+        ids,
+        ring: ring.to_vec(alloc)?,
+    };
+    let mut reader = Watched::new(text);
+    let mut writer = Watched::new(Vec::new(alloc));
+    let ended = engine(alloc, task, &mut reader, &mut writer)?;
+    assert_eq!(rt; ended, status, "the status of {line}");
+    assert_eq!(rt;
+        writer.into_device().as_slice(),
+        line.as_bytes(),
+        "the report {line}"
+    );
+    Ok(())
+}
+
+#[test]
+fn cv1_on_eight_repeaters(rt: HostRuntime) -> Result<(), Fail> {
+    let ring = [0, 1, 2, 3, 4, 5, 6, 7];
+    reports(
+        &rt,
+        rt.alloc(),
+        CV1,
+        8,
+        &ring,
+        "0 1 0 1 0 1 0 1\n",
+        Status::Done,
+    )
+}
+
+#[test]
+fn cv1_on_four_repeaters(rt: HostRuntime) -> Result<(), Fail> {
+    reports(
+        &rt,
+        rt.alloc(),
+        CV1,
+        8,
+        &[5, 1, 3, 7],
+        "2 4 3 5\n",
+        Status::Done,
+    )
+}
+
+#[test]
+fn ldb_on_four_repeaters(rt: HostRuntime) -> Result<(), Fail> {
+    reports(
+        &rt,
+        rt.alloc(),
+        LDB,
+        8,
+        &[5, 1, 3, 7],
+        "1 2 1 2\n",
+        Status::Done,
+    )
+}
+
+#[test]
+fn two_nodes_are_each_other_s_neighbours(rt: HostRuntime) -> Result<(), Fail> {
+    reports(&rt, rt.alloc(), ID0, 2, &[0, 1], "0 1\n", Status::Done)?;
+    reports(&rt, rt.alloc(), ZERO, 2, &[0, 1], "0 0\n", Status::Done)
+}
+
+#[test]
+fn three_channels_are_too_few(rt: HostRuntime) -> Result<(), Fail> {
+    let line = "check fault C6 place 1\n";
+    reports(
+        &rt,
+        rt.alloc(),
+        CV1_OF_THREE,
+        8,
+        &[5, 1, 3, 7],
+        line,
+        Status::Refused,
+    )
+}
+
+#[test]
+fn rings_that_are_refused(rt: HostRuntime) -> Result<(), Fail> {
+    let rows: [(&[u32], &str); 6] = [
+        (&[0, 1, 2], "ring fault G1\n"),
+        (&[0, 1, 2, 3, 4, 5, 6, 7, 0], "ring fault G2\n"),
+        (&[0, 1, 2, 8], "ring fault G3 place 3\n"),
+        (&[0, 1, 2, 0], "ring fault G4 places 0 3\n"),
+        (&[0, 0, 8, 1], "ring fault G4 places 0 1\n"),
+        (&[0, 1, 8, 0], "ring fault G3 place 2\n"),
+    ];
+    for (ring, line) in rows {
+        reports(&rt, rt.alloc(), CV1, 8, ring, line, Status::RingRefused)?;
+    }
+    Ok(())
+}
+
+#[test]
+fn programs_that_are_refused(rt: HostRuntime) -> Result<(), Fail> {
+    let rows: [(&[u8], u32, &str); 6] = [
+        (CV1, 3, "check fault X1\n"),
+        (
+            b"rounds 0\nchannels 2\nregisters 1\nstart\nr0 = id\nfinish r1\n",
+            2,
+            "check fault C1 register 1\n",
+        ),
+        (
+            b"rounds 0\nchannels 2\nregisters 1\nstart\nr0 = id\nfinish id\n",
+            2,
+            "check fault C2\n",
+        ),
+        (
+            b"rounds 0\nchannels 2\nregisters 1\nstart\nr0 = id\nfinish L\n",
+            2,
+            "check fault C3\n",
+        ),
+        (
+            b"rounds 0\nchannels 2\nregisters 1\nstart\nr0 = id\nfinish add(id, r1)\n",
+            2,
+            "check fault C1 register 1\n",
+        ),
+        (CV1_SENDS_L, 8, "check fault C3\n"),
+    ];
+    for (text, ids, line) in rows {
+        reports(&rt, rt.alloc(), text, ids, &[0, 1], line, Status::Refused)?;
+    }
+    Ok(())
+}
+
+#[test]
+fn texts_that_are_refused(rt: HostRuntime) -> Result<(), Fail> {
+    let rows: [(&[u8], &str); 4] = [
+        (b"", "text fault N9 at 0\n"),
+        (b"rounds 5", "text fault N5 at 7\n"),
+        (b"ronds 1", "text fault N3 at 0\n"),
+        (&[0xC3], "text fault N2 at 0\n"),
+    ];
+    for (text, line) in rows {
+        reports(&rt, rt.alloc(), text, 8, &[0], line, Status::Refused)?;
+    }
+    Ok(())
+}
