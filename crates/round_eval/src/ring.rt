@@ -90,7 +90,8 @@ fn first_fault(shape: Shape, ids: &[u32]) -> Option<RingFault>
 
 // A place at which the identifier stands.
 fn place_of(ids: &[u32], id: u32) -> Option<usize>
-    ensures { MatchOption result (EachIndex ids.now (λ k. slice_index ids.now k ≢ id)) (λ k. (k < length ids.now) × (slice_index ids.now k ≡ id)) }
+    ensures { MatchOption result (EachIndex ids.now (λ k. slice_index ids.now k ≢ id))
+        (λ k. (k < length ids.now) × (slice_index ids.now k ≡ id)) }
 {
     ids.iter().position(|x| *x == id)
 }
