@@ -43,7 +43,8 @@ pub fn accept(program: Program, ids: u32) -> Result<Plan, (Program, CheckFault)>
 
 // The first refusal of a program that does not come from the number of identifiers.
 fn program_fault(program: &Program) -> Option<CheckFault>
-    ensures { (m : ℕ) → HasIds m (length program.now.steps) → MatchOption result (IsAccepted m program.now) (IsFirstRefusal m program.now) }
+    ensures { (m : ℕ) → HasIds m (length program.now.steps)
+        → MatchOption result (IsAccepted m program.now) (IsFirstRefusal m program.now) }
 {
     if let Some(register) = missing_register(program) {
         return Some(CheckFault::RegisterOutOfRange(register));

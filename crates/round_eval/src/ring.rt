@@ -1,4 +1,6 @@
+ghost use Rattle.std.specs.Prelude.{◌≡◌, ◌≢◌, ◌<◌, ◌↔◌, length, vec_len, slice_index, slice_get, EachIndex, IfOk, IfErr, IsOk, MatchOption, Some};
 ghost use Rattle.node_lang.specs.Ring.{IsRing};
+ghost use Rattle.round_eval.specs.RingFaults.{IsFirstFault};
 
 use crate::shape::Shape;
 
@@ -25,9 +27,6 @@ pub struct Ring {
 }
 
 impl Ring {
-    ghost use Rattle.std.specs.Prelude.{◌≡◌, ◌<◌, ◌↔◌, IfOk, IfErr, IsOk, vec_len, slice_get, Some};
-    ghost use Rattle.round_eval.specs.RingFaults.{IsFirstFault};
-
     /// The ring of these identifiers, or the list and what is wrong with it first: its length, else
     /// the least place whose identifier is too large or stood before.
     pub fn new(shape: Shape, ids: Vec<u32>) -> Result<Ring, (Vec<u32>, RingFault)>
@@ -64,9 +63,6 @@ impl Ring {
     }
 }
 
-ghost use Rattle.std.specs.Prelude.{◌≡◌, ◌≢◌, ◌<◌, length, slice_index, EachIndex, MatchOption};
-ghost use Rattle.round_eval.specs.RingFaults.{IsFirstFault};
-
 // What is wrong first with a list of identifiers, if it is no ring.
 fn first_fault(shape: Shape, ids: &[u32]) -> Option<RingFault>
     ensures { MatchOption result (IsRing shape.ids shape.rounds ids.now) (IsFirstFault shape.ids shape.rounds ids.now) }
@@ -90,7 +86,8 @@ fn first_fault(shape: Shape, ids: &[u32]) -> Option<RingFault>
 
 // A place at which the identifier stands.
 fn place_of(ids: &[u32], id: u32) -> Option<usize>
-    ensures { MatchOption result (EachIndex ids.now (λ k. slice_index ids.now k ≢ id)) (λ k. (k < length ids.now) × (slice_index ids.now k ≡ id)) }
+    ensures { MatchOption result (EachIndex ids.now (λ k. slice_index ids.now k ≢ id))
+        (λ k. (k < length ids.now) × (slice_index ids.now k ≡ id)) }
 {
     ids.iter().position(|x| *x == id)
 }

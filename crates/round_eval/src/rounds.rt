@@ -27,7 +27,9 @@ pub fn plain_run(alloc: Global, plan: &Plan, ring: &Ring) -> Result<Vec<u32>, Ou
 fn last_states(alloc: Global, plan: &Plan, ring: &Ring) -> Result<Vec<u32>, OutOfMemory>
     requires ids { ring.now.shape.ids ≡ plan.now.ids }
     requires rounds { ring.now.shape.rounds ≡ length plan.now.program.steps }
-    ensures { IfOk result (λ states. HoldsRows states.items (length plan.now.program.start) (length ring.now.ids.items) (state plan.now.program ring.now.ids.items (length plan.now.program.steps))) }
+    ensures { IfOk result (λ states.
+        HoldsRows states.items (length plan.now.program.start) (length ring.now.ids.items)
+        (state plan.now.program ring.now.ids.items (length plan.now.program.steps))) }
 {
     let places = ring.ids.len();
     let width = width_of(plan);
@@ -70,7 +72,8 @@ fn row_at(cells: &[u32], width: usize, place: usize) -> &[u32]
 fn start_all(plan: &Plan, ids: &[u32], states: &mut [u32])
     requires below { All (λ id. id < plan.now.ids) ids.now }
     requires size { length states.old ≡ length ids.now * length plan.now.program.start }
-    ensures { HoldsRows states.new (length plan.now.program.start) (length ids.now) (λ i. rounds.start plan.now.program (slice_index ids.now i)) }
+    ensures { HoldsRows states.new (length plan.now.program.start) (length ids.now)
+        (λ i. rounds.start plan.now.program (slice_index ids.now i)) }
 {
     let width = width_of(plan);
     for (place, id) in ids.iter().enumerate() {
@@ -85,7 +88,8 @@ fn global_round(plan: &Plan, round: u32, places: usize, states: &[u32], next: &m
     requires few { places ≤ 1024 }
     requires size { length states.now ≡ places * length plan.now.program.start }
     requires next_size { length next.old ≡ places * length plan.now.program.start }
-    ensures { HoldsRows next.new (length plan.now.program.start) places (next_row plan.now.program round states.now places) }
+    ensures { HoldsRows next.new (length plan.now.program.start) places
+        (next_row plan.now.program round states.now places) }
 {
     let width = width_of(plan);
     for place in 0..places {
@@ -103,7 +107,8 @@ fn global_round(plan: &Plan, round: u32, places: usize, states: &[u32], next: &m
 #[tactic(auto, using(crate::proofs::RowLemmas::row_fits))]
 fn channel_all(plan: &Plan, states: &[u32], channels: &mut [u32])
     requires { length states.now ≡ length channels.old * length plan.now.program.start }
-    ensures { (i : ℕ) → i < length channels.old → slice_index channels.new i ≡ rounds.channel plan.now.program (row states.now (length plan.now.program.start) i) }
+    ensures { (i : ℕ) → i < length channels.old → slice_index channels.new i
+        ≡ rounds.channel plan.now.program (row states.now (length plan.now.program.start) i) }
 {
     let width = width_of(plan);
     for (place, channel_of) in channels.iter_mut().enumerate() {

@@ -1,3 +1,6 @@
+ghost use Rattle.std.specs.Prelude.{◌≡◌, ◌≤◌, ◌↔◌, IfOk, IsOk};
+ghost use Rattle.round_eval.specs.ShapeRange.{HasIds};
+
 /// Why there is no shape.
 #[derive(Clone, Copy, Debug, PartialEq, Eq)]
 pub enum ShapeFault {
@@ -13,9 +16,6 @@ pub struct Shape {
     pub ghost few_rounds: { rounds ≤ 3 },
     pub ghost in_range: { HasIds ids rounds },
 }
-
-ghost use Rattle.std.specs.Prelude.{◌≡◌, ◌≤◌, ◌↔◌, IfOk, IsOk};
-ghost use Rattle.round_eval.specs.ShapeRange.{HasIds};
 
 impl Shape {
     /// The shape of `ids` identifiers and `rounds` rounds, or `IdsOutOfRange` where they make none.
