@@ -1,0 +1,4 @@
+-- Lemmas that several proofs share.
+pub mod Kept
+pub mod Unused
+pub mod Pieces

@@ -1,0 +1,6 @@
+//! Windows of identifiers, numbered in lexicographic order, and the rings that they are taken from.
+#![tactic(auto)]
+
+/// Stands here until the first function does.
+#[tactic(auto, using(crate::proofs::Unused::unused_at, crate::proofs::Pieces::piece_of))]
+pub fn nothing() {}
