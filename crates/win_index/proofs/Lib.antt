@@ -2,3 +2,4 @@
 pub mod Kept
 pub mod Unused
 pub mod Pieces
+pub mod Numbers

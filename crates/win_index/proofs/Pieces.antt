@@ -2,7 +2,7 @@
 use Rattle.std.proofs.Common.{◌≡◌, ℕ, zero, suc, ◌+◌, ◌-◌, ◌*◌, ◌<◌, ◌≤◌, List, [], ◌∷◌, ◌++◌, length, flat_map, slice_get, Some, refl, sym, ap, ◌∙◌, arith, length-append, ⊎_elim}
 use Rattle.std.proofs.Math.Nat.{suc-mul}
 use Rattle.std.proofs.lemmas.Bool.{cases_lt}
-use Rattle.std.proofs.lemmas.Option.{none-some, slice_get_within}
+use Rattle.std.proofs.lemmas.Option.{none-some, same_Some, slice_get_within}
 use Rattle.win_index.proofs.Kept.{slice_get-append_left, slice_get-append_right}
 
 -- item n of the joined list as an item of the piece of one source
@@ -15,7 +15,7 @@ pub record Piece {X Y : Type 0} (f : X → List Y) (xs : List X) (c n : ℕ) (it
   pub item_at : slice_get (f source) rest ≡ Some item
 
 -- each piece has length c
-abbrev pub HasPieces {X Y : Type 0} : (X → List Y) → List X → ℕ → Type 0
+abbrev pub HasPieces : {X Y : Type 0} → (X → List Y) → List X → ℕ → Type 0
 HasPieces {X} f xs c = (place : ℕ) (x : X) → slice_get xs place ≡ Some x → length (f x) ≡ c
 
 pub length_pieces :
@@ -30,7 +30,10 @@ pub piece_at :
     {X Y : Type 0} (f : X → List Y) (xs : List X) (c place rest : ℕ) (x : X) (item : Y) → HasPieces f xs c
     → slice_get xs place ≡ Some x → slice_get (f x) rest ≡ Some item → slice_get (flat_map f xs) (place * c + rest) ≡ Some item
 piece_at f [] c place rest x item each source_at item_at = absurd (none-some x source_at)
-piece_at f (y ∷ xs) c zero rest x item each source_at item_at = ?
+piece_at f (y ∷ xs) c zero rest x item each source_at item_at =
+    let same : y ≡ x = same_Some y x source_at in
+    let number : zero * c + rest ≡ rest = omega arith in
+    rw (number, same) (slice_get-append_left (f x) (flat_map f xs) rest (slice_get_within (f x) rest item item_at) ∙ item_at)
 piece_at f (y ∷ xs) c (suc place) rest x item each source_at item_at =
     let first = each zero y refl in
     let beyond : suc place * c + rest ≡ length (f y) + (place * c + rest) = omega (arith, first, suc-mul place c) in

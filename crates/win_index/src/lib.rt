@@ -2,5 +2,5 @@
 #![tactic(auto)]
 
 /// Stands here until the first function does.
-#[tactic(auto, using(crate::proofs::Unused::unused_at, crate::proofs::Pieces::piece_of))]
+#[tactic(auto, using(crate::proofs::Pieces::piece_of, crate::proofs::Numbers::one_place))]
 pub fn nothing() {}
