@@ -3,3 +3,5 @@ pub mod Kept
 pub mod Unused
 pub mod Pieces
 pub mod Numbers
+pub mod Positions
+pub mod Successors

@@ -2,5 +2,5 @@
 #![tactic(auto)]
 
 /// Stands here until the first function does.
-#[tactic(auto, using(crate::proofs::Pieces::piece_of, crate::proofs::Numbers::one_place))]
+#[tactic(auto, using(crate::proofs::Positions::window_place, crate::proofs::Successors::parts_of))]
 pub fn nothing() {}
