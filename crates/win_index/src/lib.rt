@@ -2,5 +2,5 @@
 #![tactic(auto)]
 
 /// Stands here until the first function does.
-#[tactic(auto, using(crate::proofs::Positions::window_place, crate::proofs::Successors::parts_of))]
+#[tactic(auto, using(crate::proofs::Positions::window_place, crate::proofs::Successors::last_of_none))]
 pub fn nothing() {}
