@@ -5,3 +5,4 @@ pub mod Pieces
 pub mod Numbers
 pub mod Positions
 pub mod Successors
+pub mod Sizes

@@ -8,7 +8,7 @@ use Rattle.std.proofs.lemmas.Option.{none-some, same_Some, slice_get-map, slice_
 use Rattle.win_index.specs.Windows.{is_used, unused, extended, windows, IsWindow}
 use Rattle.win_index.specs.Falling.{falling}
 use Rattle.win_index.proofs.Kept.{kept_is, IsKept}
-use Rattle.win_index.proofs.Unused.{lacks, rank, length-unused, lacks_differs, unused_at}
+use Rattle.win_index.proofs.Unused.{lacks, length-unused, lacks_differs, unused_at}
 use Rattle.win_index.proofs.Pieces.{Piece, HasPieces, piece_at, piece_of, length_pieces}
 
 pub windows-zero : (m : ℕ) → windows zero m ≡ [] ∷ []
@@ -109,10 +109,8 @@ length-windows (suc k) m =
 -- the number of a window with one identifier more
 pub window_step :
     (k m n x : ℕ) (front : List ℕ) → slice_get (windows k m) n ≡ Some front → x < m → is_used front x ≡ false
-    → slice_get (windows (suc k) m) (n * (m - k) + (x - rank front x)) ≡ Some (front ++ x ∷ [])
-window_step k m n x front at' lt free =
-    let window = windows_all k m n front at' in
-    window_from_parts k m n (x - rank front x) x front at' (unused_at front m x window.distinct lt free)
+    → slice_get (windows (suc k) m) (n * (m - k) + length (unused x front)) ≡ Some (front ++ x ∷ [])
+window_step k m n x front at' lt free = window_from_parts k m n (length (unused x front)) x front at' (unused_at front m x lt free)
 
 -- a window stands at one place only
 pub one_place :

@@ -7,8 +7,8 @@ use Rattle.std.proofs.lemmas.List.{get_or-take, get_or_default, length-take-le, 
 use Rattle.std.proofs.lemmas.List.Quantifiers.{position-Some}
 use Rattle.std.proofs.lemmas.List.Sums.{position_or_len_is}
 use Rattle.std.proofs.lemmas.Option.{get_or_from_slice_get, slice_get-get_or, slice_get_within}
-use Rattle.win_index.specs.Windows.{is_used, windows, number_of, IsWindow}
-use Rattle.win_index.proofs.Unused.{IsDistinct, rank, lacks_from_differs}
+use Rattle.win_index.specs.Windows.{is_used, unused, windows, number_of, IsWindow}
+use Rattle.win_index.proofs.Unused.{IsDistinct, lacks_from_differs}
 use Rattle.win_index.proofs.Numbers.{windows-zero, window_step, windows_all, one_place}
 
 same_list : (a b : List ℕ) → (pointwise nat_eq a b ≡ true → a ≡ b) × (a ≡ b → pointwise nat_eq a b ≡ true)
@@ -55,18 +55,26 @@ free_at list j distinct lt =
       let before : k < j = omega arith in
       λ e. distinct k j d before lt (sym (get_or-take j list k d before) ∙ e ∙ get_or_default list j 0 d lt))
 
+-- the number of the first j+1 identifiers of a window, from that of the first j
+pub front_step :
+    (k m j n : ℕ) (list : List ℕ) → IsWindow k m list → j < k → slice_get (windows j m) n ≡ Some (take j list)
+    → slice_get (windows (j + 1) m) (n * (m - j) + length (unused (get_or list j 0) (take j list))) ≡ Some (take (j + 1) list)
+front_step k m j n list window lt at' =
+    let size = window.size in
+    let within : j < length list = omega arith in
+    let more = take_more list j 0 within in
+    let x : ℕ = get_or list j 0 in
+    let step = window_step j m n x (take j list) at' (window.below j 0 within) (free_at list j window.distinct within) in
+    rw (more, add-one) step
+
 -- where the first j identifiers of a window stand among the windows of length j
-pub front_place :
+front_place :
     (k m j : ℕ) (list : List ℕ) → IsWindow k m list → j ≤ k → (n : ℕ) × (slice_get (windows j m) n ≡ Some (take j list))
 front_place k m zero list window le = (0, rw (windows-zero m))
 front_place k m (suc j) list window le =
     let front = front_place k m j list window (omega arith) in
-    let x : ℕ = get_or list j 0 in
-    let size = window.size in
-    let within : j < length list = omega arith in
-    let more = rw add-one at (take_more list j 0 within) in
-    let step = window_step j m front.0 x (take j list) front.1 (window.below j 0 within) (free_at list j window.distinct within) in
-    (front.0 * (m - j) + (x - rank (take j list) x), rw more step)
+    let step = front_step k m j front.0 list window (omega arith) front.1 in
+    (front.0 * (m - j) + length (unused (get_or list j 0) (take j list)), rw add-one at step)
 
 -- each window stands in the list
 pub window_place : (k m : ℕ) (list : List ℕ) → IsWindow k m list → (n : ℕ) × (slice_get (windows k m) n ≡ Some list)

@@ -5,18 +5,18 @@ use Rattle.std.proofs.lemmas.List.Elements.{All-head, All-tail}
 use Rattle.std.proofs.lemmas.List.Folds.{list_any_none, list_any_at}
 use Rattle.std.proofs.lemmas.List.Recursion.{is_count_by}
 use Rattle.win_index.specs.Windows.{is_used, unused}
-use Rattle.win_index.proofs.Kept.{kept, kept_suc, kept_own, kept_is, kept_rises}
+use Rattle.win_index.proofs.Kept.{kept, kept_suc, kept_more, kept_own, kept_is, kept_rises}
 
 -- whether a list lacks a number
 abbrev pub lacks : List ℕ → ℕ → Bool
 lacks list x = not (is_used list x)
 
 -- how many numbers of the list are below x
-abbrev pub rank : List ℕ → ℕ → ℕ
+abbrev rank : List ℕ → ℕ → ℕ
 rank [] x = 0
 rank (y ∷ list) x = cond (nat_lt y x) (1 + rank list x) (rank list x)
 
-pub rank_is_count : (list : List ℕ) (x : ℕ) → rank list x ≡ count_by (λ y. nat_lt y x) list
+rank_is_count : (list : List ℕ) (x : ℕ) → rank list x ≡ count_by (λ y. nat_lt y x) list
 rank_is_count list x = is_count_by (λ l. rank l x) (λ y. nat_lt y x) refl (λ y l. refl) list
 
 abbrev pub IsDistinct : List ℕ → Type 0
@@ -83,7 +83,7 @@ length_single true x = refl
 length_single false x = refl
 
 -- below x there are x numbers: those that the list lacks and those of the list
-pub length-unused_rank : (list : List ℕ) (x : ℕ) → IsDistinct list → length (unused x list) + rank list x ≡ x
+length-unused_rank : (list : List ℕ) (x : ℕ) → IsDistinct list → length (unused x list) + rank list x ≡ x
 length-unused_rank list zero distinct = omega (arith, rank_zero list)
 length-unused_rank list (suc x) distinct =
     let fewer = length-unused_rank list x distinct in
@@ -94,10 +94,23 @@ length-unused_rank list (suc x) distinct =
 pub length-unused : (list : List ℕ) (m : ℕ) → IsDistinct list → All (λ x. x < m) list → length (unused m list) + length list ≡ m
 length-unused list m distinct below = omega (arith, length-unused_rank list m distinct, rank_all list m below)
 
--- a number that the list lacks stands among those after as many as are below it and not of the list
-pub unused_at :
-    (list : List ℕ) (m x : ℕ) → IsDistinct list → x < m → is_used list x ≡ false
-    → slice_get (unused m list) (x - rank list x) ≡ Some x
-unused_at list m x distinct lt free =
-    let place : length (kept (lacks list) x) ≡ x - rank list x = omega (arith, length-unused_rank list x distinct) in
-    rw place at (kept_own (lacks list) x m lt (not_from_false (is_used list x) free))
+-- a number that the list lacks stands after those below it
+pub unused_at : (list : List ℕ) (m x : ℕ) → x < m → is_used list x ≡ false → slice_get (unused m list) (length (unused x list)) ≡ Some x
+unused_at list m x lt free = kept_own (lacks list) x m lt (not_from_false (is_used list x) free)
+
+-- how many numbers below x the list lacks, as x less how many of the list are below x
+pub unused_below : (list : List ℕ) (x : ℕ) → IsDistinct list → length (unused x list) + count_by (λ y. nat_lt y x) list ≡ x
+unused_below list x distinct = omega (arith, length-unused_rank list x distinct, rank_is_count list x)
+
+-- one number more is counted where the list lacks it
+pub unused_more :
+    (list : List ℕ) (x : ℕ) → (is_used list x ≡ false → length (unused (x + 1) list) ≡ length (unused x list) + 1) × (is_used list x ≡ true → length (unused (x + 1) list) ≡ length (unused x list))
+unused_more list x =
+    let one : List ℕ = cond (lacks list x) (x ∷ []) [] in
+    let more = ap length (kept_more (lacks list) x) ∙ length-append (kept (lacks list) x) one in
+    (λ free.
+      let own : length (cond (lacks list x) (x ∷ []) []) ≡ 1 = rw free in
+      omega (arith, more),
+    λ used.
+      let own : length (cond (lacks list x) (x ∷ []) []) ≡ 0 = rw used in
+      omega (arith, more))
