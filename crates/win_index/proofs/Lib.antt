@@ -6,3 +6,4 @@ pub mod Numbers
 pub mod Positions
 pub mod Successors
 pub mod Sizes
+pub mod Writing

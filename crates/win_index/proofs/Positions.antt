@@ -9,7 +9,7 @@ use Rattle.std.proofs.lemmas.List.Sums.{position_or_len_is}
 use Rattle.std.proofs.lemmas.Option.{get_or_from_slice_get, slice_get-get_or, slice_get_within}
 use Rattle.win_index.specs.Windows.{is_used, unused, windows, number_of, IsWindow}
 use Rattle.win_index.proofs.Unused.{IsDistinct, lacks_from_differs}
-use Rattle.win_index.proofs.Numbers.{windows-zero, window_step, windows_all, one_place}
+use Rattle.win_index.proofs.Numbers.{windows-zero, push_window, window_step, windows_all, one_place}
 
 same_list : (a b : List ℕ) → (pointwise nat_eq a b ≡ true → a ≡ b) × (a ≡ b → pointwise nat_eq a b ≡ true)
 same_list a b = pointwise_decides (λ x y. (eqb-true x y, eq-eqb x y)) a b
@@ -54,6 +54,15 @@ free_at list j distinct lt =
       let short = length-take-le j list (omega arith) in
       let before : k < j = omega arith in
       λ e. distinct k j d before lt (sym (get_or-take j list k d before) ∙ e ∙ get_or_default list j 0 d lt))
+
+-- one cell more of a list, with a number that the cells before lack
+pub front_more :
+    (p m : ℕ) (list : List ℕ) → p < length list → IsWindow p m (take p list) → get_or list p 0 < m
+    → is_used (take p list) (get_or list p 0) ≡ false → IsWindow (p + 1) m (take (p + 1) list)
+front_more p m list lt window below free =
+    let more = take_more list p 0 lt in
+    let longer = push_window p m (get_or list p 0) (take p list) window below free in
+    rw (more, add-one) longer
 
 -- the number of the first j+1 identifiers of a window, from that of the first j
 pub front_step :

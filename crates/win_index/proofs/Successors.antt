@@ -10,6 +10,7 @@ use Rattle.win_index.specs.Windows.{is_used, unused, windows, IsWindow}
 use Rattle.win_index.specs.Successor.{IsNext, IsLast}
 use Rattle.win_index.proofs.Kept.{kept, kept_at, kept_is, kept_suc, IsKept}
 use Rattle.win_index.proofs.Unused.{lacks, length-unused}
+use Rattle.win_index.proofs.Positions.{window_place}
 use Rattle.win_index.proofs.Numbers.{Parts, window_parts, window_from_parts, windows_all, length-windows}
 
 -- the first number from low on that the list lacks
@@ -153,8 +154,15 @@ last_with_last_front k m last list more lt none all =
     rw (more, old, add-one) step
 
 -- the one window of length zero is the last
-pub last_of_none : (m : ℕ) (list : List ℕ) → IsLast zero m list
-last_of_none m list n at' =
-    let within = slice_get_within (windows zero m) n list at' in
-    let one = length-windows zero m in
+pub last_of_none : (k m : ℕ) (list : List ℕ) → k ≡ 0 → IsLast k m list
+last_of_none k m list empty n at' =
+    let within = slice_get_within (windows k m) n list at' in
+    let one : length (windows k m) ≡ 1 = rw empty (length-windows zero m) in
     omega arith
+
+-- a later front lacks some number, where there are more numbers than it has
+pub later_lacks : (last m : ℕ) (front later : List ℕ) → last < m → IsWindow last m front → IsNext last m front later → 0 < length (unused m later)
+later_lacks last m front later lt window next =
+    let place = window_place last m front window in
+    let after' = windows_all last m (place.0 + 1) later (next place.0 place.1) in
+    omega (arith, length-unused later m after'.distinct after'.below, after'.size)
