@@ -7,3 +7,5 @@ pub mod Positions
 pub mod Successors
 pub mod Sizes
 pub mod Writing
+pub mod Levels
+pub mod Arcs

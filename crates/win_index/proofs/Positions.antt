@@ -3,7 +3,7 @@ use Rattle.std.proofs.Common.{◌≡◌, ◌≢◌, ℕ, zero, suc, ◌+◌, ◌
 use Rattle.std.specs.List.{position_or_len}
 use lib.Pointwise.{pointwise, pointwise_decides}
 use Rattle.std.proofs.lemmas.Bool.{eqb-true, eq-eqb, lt-ltb, false_from_ne_true}
-use Rattle.std.proofs.lemmas.List.{get_or-take, get_or_default, length-take-le, take_all, take_more}
+use Rattle.std.proofs.lemmas.List.{get_or-take, length-take-le, take_all, take_more}
 use Rattle.std.proofs.lemmas.List.Quantifiers.{position-Some}
 use Rattle.std.proofs.lemmas.List.Sums.{position_or_len_is}
 use Rattle.std.proofs.lemmas.Option.{get_or_from_slice_get, slice_get-get_or, slice_get_within}
@@ -50,10 +50,10 @@ number_of_none k m list other = none (number_of k m list) refl
 -- what a place of a list holds, the places before it don't
 pub free_at : (list : List ℕ) (j : ℕ) → IsDistinct list → j < length list → is_used (take j list) (get_or list j 0) ≡ false
 free_at list j distinct lt =
-    lacks_from_differs (take j list) (get_or list j 0) (λ k d within.
+    lacks_from_differs (take j list) (get_or list j 0) (λ k within e.
       let short = length-take-le j list (omega arith) in
       let before : k < j = omega arith in
-      λ e. distinct k j d before lt (sym (get_or-take j list k d before) ∙ e ∙ get_or_default list j 0 d lt))
+      distinct k j 0 before lt (sym (get_or-take j list k 0 before) ∙ e))
 
 -- one cell more of a list, with a number that the cells before lack
 pub front_more :

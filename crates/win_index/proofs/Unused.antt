@@ -1,6 +1,7 @@
 -- The numbers below a bound that a list of distinct numbers lacks.
 use Rattle.std.proofs.Common.{◌≡◌, ◌≢◌, ◌⊎◌, ℕ, zero, suc, ◌+◌, ◌-◌, ◌<◌, ◌≤◌, Bool, true, false, not, cond, nat_lt, eqb, List, [], ◌∷◌, ◌++◌, length, get_or, count_by, slice_get, Some, All, AllPairs, refl, sym, ap, ◌∙◌, arith, length-append, ⊎_elim, inl, inr}
 use Rattle.std.proofs.lemmas.Bool.{cases_order, lt-ltb, le-ltb, eq-eqb, ne_eqb, eqb-true, or_from, false≢true, not-true, not_from_false, cases_Bool}
+use Rattle.std.proofs.lemmas.Grind.{get_or_default_zero}
 use Rattle.std.proofs.lemmas.List.Elements.{All-head, All-tail}
 use Rattle.std.proofs.lemmas.List.Folds.{list_any_none, list_any_at}
 use Rattle.std.proofs.lemmas.List.Recursion.{is_count_by}
@@ -34,8 +35,9 @@ pub lacks_differs : (list : List ℕ) (x : ℕ) → is_used list x ≡ false →
 lacks_differs list x free k d lt e =
     false≢true (sym free ∙ list_any_at (λ z. eqb z x) list k d lt (eq-eqb (get_or list k d) x e))
 
-pub lacks_from_differs : (list : List ℕ) (x : ℕ) → ((k d : ℕ) → k < length list → get_or list k d ≢ x) → is_used list x ≡ false
-lacks_from_differs list x differs = list_any_none (λ z. eqb z x) list (λ k d lt. ne_eqb _ _ (differs k d lt))
+pub lacks_from_differs : (list : List ℕ) (x : ℕ) → ((k : ℕ) → k < length list → get_or list k 0 ≢ x) → is_used list x ≡ false
+lacks_from_differs list x differs =
+    list_any_none (λ z. eqb z x) list (λ k d lt. ne_eqb _ _ (λ e. differs k lt (sym (get_or_default_zero list k d lt) ∙ e)))
 
 rank_zero : (list : List ℕ) → rank list 0 ≡ 0
 rank_zero [] = refl

@@ -7,3 +7,5 @@ pub mod Lexicographic
 pub mod Successor
 pub mod ShapeRange
 pub mod Arcs
+pub mod ShapeFaults
+pub mod RingFaults

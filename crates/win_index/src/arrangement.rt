@@ -1,8 +1,8 @@
 // Lists of distinct numbers below `ids`, of any length, in lexicographic order.
-ghost use Rattle.std.specs.Prelude.{◌≡◌, ◌≢◌, ℕ, ◌+◌, ◌-◌, ◌^◌, ◌<◌, ◌≤◌, ◌↔◌, IsTrue, Some, not, find, length, take, slice_get, nat_lt, count_by, AllPairs};
+ghost use Rattle.std.specs.Prelude.{◌≡◌, ◌≢◌, ℕ, ◌+◌, ◌-◌, ◌^◌, ◌<◌, ◌≤◌, ◌↔◌, IsTrue, IfSome, Some, not, find, length, take, slice_get, nat_lt, count_by, AllPairs};
 ghost use Rattle.std.specs.Bool.{OnTrue, OnFalse};
 ghost use Rattle.std.specs.List.{range_with_len};
-ghost use Rattle.win_index.specs.Windows.{is_used, unused, windows, IsWindow};
+ghost use Rattle.win_index.specs.Windows.{is_used, unused, windows, number_of, IsWindow};
 ghost use Rattle.win_index.specs.Falling.{falling};
 ghost use Rattle.win_index.specs.Successor.{IsNext, IsLast};
 
@@ -66,7 +66,8 @@ fn unused_below(before: &[u32], x: u32) -> u64
 pub(crate) fn number_of_list(ids: u32, list: &[u32]) -> u64
     requires window { IsWindow (length list.now) ids list.now }
     requires fits { falling ids (length list.now) < 2 ^ 64 }
-    ensures { slice_get (windows (length list.now) ids) result ≡ Some list.now }
+    ensures number { slice_get (windows (length list.now) ids) result ≡ Some list.now }
+    ensures below { result < falling ids (length list.now) }
 {
     let mut number = 0;
     for (place, x) in list.iter().enumerate() {
@@ -75,6 +76,19 @@ pub(crate) fn number_of_list(ids: u32, list: &[u32]) -> u64
         number = number * free + digit;
     }
     number
+}
+
+// The number of the list among those of this length, or `None` where it is none of them.
+pub(crate) fn find_number(ids: u32, len: usize, list: &[u32]) -> Option<u64>
+    requires { falling ids len < 2 ^ 64 }
+    ensures number { result ≡ number_of len ids list.now }
+    ensures below { IfSome result (λ n. n < falling ids len) }
+{
+    if list.len() == len && is_window(ids, list) {
+        Some(number_of_list(ids, list))
+    } else {
+        None
+    }
 }
 
 // The least number from `low` on that is below `ids` and not among those before.

@@ -44,3 +44,9 @@ overflow_add-number c = omega (arith, small c, c.requires.fits)
 
 pub loop-place-preserved : goal.loop-place-preserved
 loop-place-preserved c = step c
+
+pub returns-clause-below : goal.returns-clause-below
+returns-clause-below c =
+    let list = c.args.list.now in
+    let within = window_within _ _ _ c.requires.window in
+    number_fits c.args.ids c.loop-place.place (length list) _ _ c.loop-place.invariant (omega arith) within
