@@ -9,3 +9,4 @@ pub mod Sizes
 pub mod Writing
 pub mod Levels
 pub mod Arcs
+pub mod Order

@@ -1,8 +1,8 @@
 -- The position of a window in the list of windows, and that each window has one.
-use Rattle.std.proofs.Common.{◌≡◌, ◌≢◌, ℕ, zero, suc, ◌+◌, ◌-◌, ◌*◌, ◌<◌, ◌≤◌, Bool, true, false, cond, eqb, nat_eq, nat_lt, Option, List, [], ◌∷◌, ◌++◌, length, get_or, take, slice_get, Some, None, IsSome, position, refl, sym, ap, ◌∙◌, arith, add-one}
+use Rattle.std.proofs.Common.{◌≡◌, ◌≢◌, ◌↔◌, ℕ, zero, suc, ◌+◌, ◌-◌, ◌*◌, ◌<◌, ◌≤◌, Bool, true, false, cond, eqb, nat_eq, nat_lt, Option, List, [], ◌∷◌, ◌++◌, length, get_or, take, slice_get, Some, None, IsSome, position, refl, sym, ap, ◌∙◌, arith, add-one}
 use Rattle.std.specs.List.{position_or_len}
 use lib.Pointwise.{pointwise, pointwise_decides}
-use Rattle.std.proofs.lemmas.Bool.{eqb-true, eq-eqb, lt-ltb, false_from_ne_true}
+use Rattle.std.proofs.lemmas.Bool.{eqb-true, eq-eqb, lt-ltb, false_from_ne_true, false≢true}
 use Rattle.std.proofs.lemmas.List.{get_or-take, length-take-le, take_all, take_more}
 use Rattle.std.proofs.lemmas.List.Quantifiers.{position-Some}
 use Rattle.std.proofs.lemmas.List.Sums.{position_or_len_is}
@@ -91,3 +91,11 @@ window_place k m list window =
     let place = front_place k m k list window (omega arith) in
     let whole = take_all k list (omega (arith, window.size)) in
     (place.0, rw whole at place.1)
+
+-- the lists that have a number are the windows
+pub has_number : (k m : ℕ) (list : List ℕ) → IsSome (number_of k m list) ↔ IsWindow k m list
+has_number k m list = (number (number_of k m list) refl, λ window. let place = window_place k m list window in rw (number_of_is k m place.0 list place.1))
+  where
+    number : (o : Option ℕ) → number_of k m list ≡ o → IsSome o → IsWindow k m list
+    number None e some = absurd (false≢true some)
+    number (Some n) e some = windows_all k m n list (number_of_some k m n list e)

@@ -28,7 +28,6 @@ pub fn windows_are_in_order()
 {}
 
 /// The windows of length `k` below `m` are as many as the product of the `k` numbers from `m` down.
-#[tactic(auto, using(crate::proofs::Numbers::length_windows))]
 pub fn count_of_windows()
     ensures { (k m : ℕ) → length (windows k m) ≡ falling m k }
 {}

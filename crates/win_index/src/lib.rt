@@ -12,3 +12,6 @@ pub use laws::{
 };
 pub use ring::{Ring, RingFault};
 pub use shape::{Shape, ShapeFault};
+
+#[cfg(test)]
+mod tests;
