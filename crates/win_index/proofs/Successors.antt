@@ -160,9 +160,14 @@ last_of_none k m list empty n at' =
     let one : length (windows k m) ≡ 1 = rw empty (length-windows zero m) in
     omega arith
 
+-- the next window is one
+pub next_is_window : (k m : ℕ) (window next : List ℕ) → IsWindow k m window → IsNext k m window next → IsWindow k m next
+next_is_window k m window next own after' =
+    let place = window_place k m window own in
+    windows_all k m (place.0 + 1) next (after' place.0 place.1)
+
 -- a later front lacks some number, where there are more numbers than it has
 pub later_lacks : (last m : ℕ) (front later : List ℕ) → last < m → IsWindow last m front → IsNext last m front later → 0 < length (unused m later)
 later_lacks last m front later lt window next =
-    let place = window_place last m front window in
-    let after' = windows_all last m (place.0 + 1) later (next place.0 place.1) in
-    omega (arith, length-unused later m after'.distinct after'.below, after'.size)
+    let own = next_is_window last m front later window next in
+    omega (arith, length-unused later m own.distinct own.below, own.size)

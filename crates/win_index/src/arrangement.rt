@@ -119,7 +119,8 @@ fn nth_unused(ids: u32, before: &[u32], place: u64) -> u32
 pub(crate) fn write_list(ids: u32, number: u64, list: &mut [u32], len: usize)
     requires room { len ≤ length list.old }
     requires below { number < length (windows len ids) }
-    ensures { slice_get (windows len ids) number ≡ Some (take len list.new) }
+    ensures item { slice_get (windows len ids) number ≡ Some (take len list.new) }
+    ensures window { IsWindow len ids (take len list.new) }
 {
     if len == 0 {
         return;
@@ -137,6 +138,7 @@ pub(crate) fn write_next(ids: u32, list: &mut [u32], len: usize) -> bool
     ensures next { OnTrue result (IsNext len ids (take len list.old) (take len list.new)) }
     ensures last { OnFalse result (IsLast len ids (take len list.old)) }
     ensures same { OnFalse result (list.new ≡ list.old) }
+    ensures window { IsWindow len ids (take len list.new) }
 {
     if len == 0 {
         return false;

@@ -102,7 +102,8 @@ impl Shape {
         requires level { level ≤ self.now.rounds }
         requires below { number < length (windows (2 * level + 1) self.now.ids) }
         requires room { length out.old ≡ 2 * level + 1 }
-        ensures { slice_get (windows (2 * level + 1) self.now.ids) number ≡ Some out.new }
+        ensures item { slice_get (windows (2 * level + 1) self.now.ids) number ≡ Some out.new }
+        ensures window { IsWindow (2 * level + 1) self.now.ids out.new }
     {
         write_list(self.ids, u64::from(number), out, window_len(level));
     }
@@ -115,6 +116,7 @@ impl Shape {
         ensures next { OnTrue result (IsNext (2 * level + 1) self.now.ids window.old window.new) }
         ensures last { OnFalse result (IsLast (2 * level + 1) self.now.ids window.old) }
         ensures same { OnFalse result (window.new ≡ window.old) }
+        ensures window { IsWindow (2 * level + 1) self.now.ids window.new }
     {
         write_next(self.ids, window, window_len(level))
     }
