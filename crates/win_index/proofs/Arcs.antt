@@ -1,6 +1,5 @@
 -- The identifiers of neighbouring places of a ring.
-use Rattle.std.proofs.Common.{◌≡◌, ◌≢◌, ℕ, suc, ◌+◌, ◌-◌, ◌*◌, ◌/◌, ◌%◌, ◌<◌, ◌≤◌, List, length, get_or, take, drop, map, AllPairs, refl, sym, ap, ◌∙◌, arith, length-drop, get_or-drop, ⊎_elim}
-use Rattle.std.specs.List.{range_with_len}
+use Rattle.std.proofs.Common.{◌≡◌, ◌≢◌, ℕ, suc, ◌+◌, ◌-◌, ◌*◌, ◌/◌, ◌%◌, ◌<◌, ◌≤◌, List, length, get_or, take, drop, AllPairs, sym, ap, ◌∙◌, arith, length-drop, get_or-drop, ⊎_elim}
 use Rattle.std.proofs.Math.Nat.{suc-mul}
 use Rattle.std.proofs.lemmas.Bool.{cases_lt, cases_order}
 use Rattle.std.proofs.lemmas.Grind.{same_number_lists}
@@ -27,13 +26,13 @@ drop-arc x start count j le =
     let rest = length-drop j (arc x start count) in
     let short = length-arc x (start + j) (count - j) in
     same_number_lists (drop j (arc x start count)) (arc x (start + j) (count - j)) (omega arith) (λ k lt.
-      let far : j + k < count = omega arith in
-      let near : k < count - j = omega arith in
-      let place : start + (j + k) ≡ start + j + k = omega arith in
-      get_or-drop j (arc x start count) k 0
-      ∙ get_or-arc x start count (j + k) 0 far
-      ∙ ap (λ i. get_or x (i % length x) 0) place
-      ∙ sym (get_or-arc x (start + j) (count - j) k 0 near))
+    let far : j + k < count = omega arith in
+    let near : k < count - j = omega arith in
+    let place : start + (j + k) ≡ start + j + k = omega arith in
+    get_or-drop j (arc x start count) k 0
+    ∙ get_or-arc x start count (j + k) 0 far
+    ∙ ap (λ i. get_or x (i % length x) 0) place
+    ∙ sym (get_or-arc x (start + j) (count - j) k 0 near))
 
 -- two places with less than the ring's length between them are different ones
 places_differ : (n a b : ℕ) → a < b → b < a + n → a % n ≢ b % n
@@ -43,11 +42,11 @@ places_differ n a b lt near same =
     let second = div-add-mod' b n in
     ⊎_elim
     (λ (later : a / n < b / n).
-      let more = mul-le (suc (a / n)) n (b / n) n (omega arith) (omega arith) in
-      absurd (omega (arith, suc-mul (a / n) n)))
+    let more = mul-le (suc (a / n)) n (b / n) n (omega arith) (omega arith) in
+    absurd (omega (arith, suc-mul (a / n) n)))
     (λ (earlier : b / n ≤ a / n).
-      let more = mul-le (b / n) n (a / n) n earlier (omega arith) in
-      absurd (omega arith))
+    let more = mul-le (b / n) n (a / n) n earlier (omega arith) in
+    absurd (omega arith))
     (cases_lt (a / n) (b / n))
 
 differ_at : (x : List ℕ) (i j : ℕ) → AllPairs (λ a b. a ≢ b) x → i < length x → j < length x → i ≢ j → get_or x i 0 ≢ get_or x j 0
@@ -74,7 +73,7 @@ arc_window m t start count x ring le =
           let near : i < count = omega arith in
           rw (get_or-arc x start count i d near, get_or-arc x start count j d far)
           (differ_at x ((start + i) % n) ((start + j) % n) ring.distinct (mod_below (start + i) n some) (mod_below (start + j) n some)
-            (places_differ n (start + i) (start + j) (omega arith) (omega arith)));
+          (places_differ n (start + i) (start + j) (omega arith) (omega arith)));
     }
 
 -- what stands around a place of a ring is a window

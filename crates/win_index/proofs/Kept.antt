@@ -1,5 +1,5 @@
 -- The numbers below a bound that pass a test, in rising order.
-use Rattle.std.proofs.Common.{◌≡◌, ℕ, zero, suc, ◌+◌, ◌-◌, ◌<◌, ◌≤◌, Bool, true, false, cond, List, [], ◌∷◌, ◌++◌, length, filter, find, slice_get, Some, None, refl, sym, ap, ◌∙◌, arith, length-append, ⊎_elim}
+use Rattle.std.proofs.Common.{◌≡◌, ℕ, zero, suc, ◌+◌, ◌-◌, ◌<◌, ◌≤◌, Bool, true, false, cond, List, [], ◌∷◌, ◌++◌, length, filter, find, slice_get, Some, refl, sym, ap, ◌∙◌, arith, length-append, ⊎_elim}
 use Rattle.std.specs.List.{range_with_len}
 use Rattle.std.proofs.lemmas.Bool.{cases_lt}
 use Rattle.std.proofs.lemmas.List.Elements.{filter-append}
@@ -38,8 +38,8 @@ pub filter_first : {X : Type 0} (p : X → Bool) (xs : List X) → slice_get (fi
 filter_first p [] = refl
 filter_first p (x ∷ xs) =
     elim (p x) as (λ b. slice_get (cond b (x ∷ filter p xs) (filter p xs)) 0 ≡ cond b (Some x) (find p xs)) [
-      true ↦ refl
-    | false ↦ filter_first p xs
+      | true ↦ refl
+      | false ↦ filter_first p xs
     ]
 
 pub kept_split : (p : ℕ → Bool) (low m : ℕ) → low ≤ m → kept p m ≡ kept p low ++ filter p (range_with_len low (m - low))
@@ -96,14 +96,14 @@ kept_is p (suc m) place x e =
     let split = rw (kept_suc p m) at e in
     ⊎_elim
     (λ lt.
-      let below = kept_is p m place x (sym (slice_get-append_left (kept p m) (cond (p m) (m ∷ []) []) place lt) ∙ split) in
-      record { below = omega (arith, below.below); passes = below.passes; before = below.before })
+    let below = kept_is p m place x (sym (slice_get-append_left (kept p m) (cond (p m) (m ∷ []) []) place lt) ∙ split) in
+    record { below = omega (arith, below.below); passes = below.passes; before = below.before })
     (λ le.
-      let i : ℕ = place - length (kept p m) in
-      let own = single (p m) m i x (sym (slice_get-append_right (kept p m) (cond (p m) (m ∷ []) []) place i (omega arith)) ∙ split) in
-      let same : m ≡ x = own.2 in
-      let before : length (kept p m) ≡ place = omega (arith, own.1) in
-      record { below = omega arith; passes = rw same at own.0; before = rw same at before })
+    let i : ℕ = place - length (kept p m) in
+    let own = single (p m) m i x (sym (slice_get-append_right (kept p m) (cond (p m) (m ∷ []) []) place i (omega arith)) ∙ split) in
+    let same : m ≡ x = own.2 in
+    let before : length (kept p m) ≡ place = omega (arith, own.1) in
+    record { below = omega arith; passes = rw same at own.0; before = rw same at before })
     (cases_lt place (length (kept p m)))
 
 -- a later place has a larger number

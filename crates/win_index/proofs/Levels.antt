@@ -1,9 +1,8 @@
 -- The windows of all levels of a shape and its tuples are few.
-use Rattle.std.proofs.Common.{◌≡◌, ℕ, ◌+◌, ◌-◌, ◌*◌, ◌^◌, ◌<◌, ◌≤◌, length, refl, arith}
+use Rattle.std.proofs.Common.{◌≡◌, ℕ, ◌+◌, ◌-◌, ◌*◌, ◌^◌, ◌≤◌, refl, arith}
 use Rattle.std.proofs.lemmas.Nat.{mul-le}
 use Rattle.win_index.specs.Falling.{falling}
 use Rattle.win_index.specs.ShapeRange.{HasIds, HasFewWindows}
-use Rattle.win_index.specs.Windows.{windows}
 use Rattle.win_index.proofs.Numbers.{length-windows}
 use Rattle.win_index.proofs.Sizes.{falling-add_one, falling_rises}
 

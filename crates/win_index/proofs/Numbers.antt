@@ -1,5 +1,5 @@
 -- The number of a window, from that of the window without its last identifier.
-use Rattle.std.proofs.Common.{◌≡◌, ◌≢◌, ℕ, zero, suc, ◌+◌, ◌-◌, ◌*◌, ◌<◌, ◌≤◌, false, not, Option, List, [], ◌∷◌, ◌++◌, length, map, flat_map, slice_get, Some, None, All, refl, sym, ap, ◌∙◌, arith, length-append, option_map}
+use Rattle.std.proofs.Common.{◌≡◌, ◌≢◌, ℕ, zero, suc, ◌+◌, ◌-◌, ◌*◌, ◌<◌, false, Option, List, [], ◌∷◌, ◌++◌, length, flat_map, slice_get, Some, None, refl, sym, ap, ◌∙◌, arith, option_map}
 use Rattle.std.proofs.lemmas.Bool.{not-true}
 use Rattle.std.proofs.lemmas.List.{length-map, same_from_push, length_push}
 use Rattle.std.proofs.lemmas.List.Elements.{All-nil, All-push}
@@ -7,9 +7,9 @@ use Rattle.std.proofs.lemmas.List.Quantifiers.{all_pairs_push}
 use Rattle.std.proofs.lemmas.Option.{none-some, same_Some, slice_get-map, slice_get_within}
 use Rattle.win_index.specs.Windows.{is_used, unused, extended, windows, IsWindow}
 use Rattle.win_index.specs.Falling.{falling}
-use Rattle.win_index.proofs.Kept.{kept_is, IsKept}
+use Rattle.win_index.proofs.Kept.{kept_is}
 use Rattle.win_index.proofs.Unused.{lacks, length-unused, lacks_differs, unused_at}
-use Rattle.win_index.proofs.Pieces.{Piece, HasPieces, piece_at, piece_of, length_pieces}
+use Rattle.win_index.proofs.Pieces.{HasPieces, piece_at, piece_of, length_pieces}
 
 pub windows-zero : (m : ℕ) → windows zero m ≡ [] ∷ []
 unfolding windows
@@ -61,13 +61,19 @@ HoldsWindows k m = (n : ℕ) (list : List ℕ) → slice_get (windows k m) n ≡
 pieces_even : (k m : ℕ) → HoldsWindows k m → HasPieces (extended m) (windows k m) (m - k)
 pieces_even k m all = λ place front at'. length-extended k m front (all place front at')
 
+-- what stands at a place of the list with one number more each
+extended_at :
+    (m place : ℕ) (front list : List ℕ) → slice_get (extended m front) place ≡ Some list
+    → (x : ℕ) × (slice_get (unused m front) place ≡ Some x) × (front ++ x ∷ [] ≡ list)
+extended_at m place front list at' =
+    let longer : ℕ → List ℕ = λ x. front ++ x ∷ [] in
+    map_some longer (slice_get (unused m front) place) list (sym (slice_get-map longer (unused m front) place) ∙ at')
+
 parts_with : (k m n : ℕ) (list : List ℕ) → HoldsWindows k m → slice_get (windows (suc k) m) n ≡ Some list → Parts k m n list
 parts_with k m n list all at' =
     let joined = rw (windows-suc k m) at at' in
     let piece = piece_of (extended m) (windows k m) (m - k) n list (pieces_even k m all) joined in
-    let longer : ℕ → List ℕ = λ x. piece.source ++ x ∷ [] in
-    let free : List ℕ = unused m piece.source in
-    let last = map_some longer (slice_get free piece.rest) list (sym (slice_get-map longer free piece.rest) ∙ piece.item_at) in
+    let last = extended_at m piece.rest piece.source list piece.item_at in
     record {
       place = piece.place;
       rest = piece.rest;

@@ -41,21 +41,21 @@ in_order (suc k) m i j a b lt at_i at_j =
     let second_size = (windows_all k m second.place second.front second.front_at).size in
     ⊎_elim
     (λ (same : first.place ≡ second.place).
-      let front : second.front ≡ first.front =
-          same_Some second.front first.front (sym second.front_at ∙ rw same at first.front_at) in
-      let last_at : slice_get (unused m first.front) second.rest ≡ Some second.last = rw front at second.last_at in
-      let before : first.place * (m - k) ≡ second.place * (m - k) = ap (λ p. p * (m - k)) same in
-      let later : first.rest < second.rest = omega (arith, first.number, second.number) in
-      let less = kept_increases (lacks first.front) m first.rest second.rest first.last second.last later first.last_at last_at in
-      rw (first.whole, second.whole, front) (before_last first.front first.last second.last less))
+    let front : second.front ≡ first.front =
+    same_Some second.front first.front (sym second.front_at ∙ rw same at first.front_at) in
+    let last_at : slice_get (unused m first.front) second.rest ≡ Some second.last = rw front at second.last_at in
+    let before : first.place * (m - k) ≡ second.place * (m - k) = ap (λ p. p * (m - k)) same in
+    let later : first.rest < second.rest = omega (arith, first.number, second.number) in
+    let less = kept_increases (lacks first.front) m first.rest second.rest first.last second.last later first.last_at last_at in
+    rw (first.whole, second.whole, front) (before_last first.front first.last second.last less))
     (λ (other : (first.place < second.place) ⊎ (second.place < first.place)).
-      ⊎_elim
-      (λ (less : first.place < second.place).
-        let before = in_order k m first.place second.place first.front second.front less first.front_at second.front_at in
-        rw (first.whole, second.whole) (before_push first.front second.front first.last second.last (first_size ∙ sym second_size) before))
-      (λ (more : second.place < first.place).
-        let below = rest_is_below k m j b second in
-        let all = mul-le (suc second.place) (m - k) first.place (m - k) more (omega arith) in
-        absurd (omega (arith, first.number, second.number, suc-mul second.place (m - k))))
-      other)
+    ⊎_elim
+    (λ (less : first.place < second.place).
+    let before = in_order k m first.place second.place first.front second.front less first.front_at second.front_at in
+    rw (first.whole, second.whole) (before_push first.front second.front first.last second.last (first_size ∙ sym second_size) before))
+    (λ (more : second.place < first.place).
+    let below = rest_is_below k m j b second in
+    let all = mul-le (suc second.place) (m - k) first.place (m - k) more (omega arith) in
+    absurd (omega (arith, first.number, second.number, suc-mul second.place (m - k))))
+    other)
     (cases_order first.place second.place)

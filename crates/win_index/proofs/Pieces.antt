@@ -1,5 +1,5 @@
 -- Lists that are joined of pieces of one length.
-use Rattle.std.proofs.Common.{◌≡◌, ℕ, zero, suc, ◌+◌, ◌-◌, ◌*◌, ◌<◌, ◌≤◌, List, [], ◌∷◌, ◌++◌, length, flat_map, slice_get, Some, refl, sym, ap, ◌∙◌, arith, length-append, ⊎_elim}
+use Rattle.std.proofs.Common.{◌≡◌, ℕ, zero, suc, ◌+◌, ◌-◌, ◌*◌, ◌<◌, ◌≤◌, List, [], ◌∷◌, length, flat_map, slice_get, Some, refl, sym, ◌∙◌, arith, length-append, ⊎_elim}
 use Rattle.std.proofs.Math.Nat.{suc-mul}
 use Rattle.std.proofs.lemmas.Bool.{cases_lt}
 use Rattle.std.proofs.lemmas.Option.{none-some, same_Some, slice_get_within}
@@ -48,24 +48,24 @@ piece_of f (x ∷ xs) c n item each at' =
     let first = each zero x refl in
     ⊎_elim
     (λ (lt : n < length (f x)).
-      record {
-        place = 0;
-        rest = n;
-        source = x;
-        number = omega arith;
-        source_at = refl;
-        item_at = sym (slice_get-append_left (f x) (flat_map f xs) n lt) ∙ at';
-      })
+    record {
+      place = 0;
+      rest = n;
+      source = x;
+      number = omega arith;
+      source_at = refl;
+      item_at = sym (slice_get-append_left (f x) (flat_map f xs) n lt) ∙ at';
+    })
     (λ (le : length (f x) ≤ n).
-      let i : ℕ = n - length (f x) in
-      let later = piece_of f xs c i item (λ k z h. each (suc k) z h)
-          (sym (slice_get-append_right (f x) (flat_map f xs) n i (omega arith)) ∙ at') in
-      record {
-        place = suc later.place;
-        rest = later.rest;
-        source = later.source;
-        number = omega (arith, later.number, suc-mul later.place c);
-        source_at = later.source_at;
-        item_at = later.item_at;
-      })
+    let i : ℕ = n - length (f x) in
+    let later = piece_of f xs c i item (λ k z h. each (suc k) z h)
+    (sym (slice_get-append_right (f x) (flat_map f xs) n i (omega arith)) ∙ at') in
+    record {
+      place = suc later.place;
+      rest = later.rest;
+      source = later.source;
+      number = omega (arith, later.number, suc-mul later.place c);
+      source_at = later.source_at;
+      item_at = later.item_at;
+    })
     (cases_lt n (length (f x)))

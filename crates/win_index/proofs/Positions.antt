@@ -1,6 +1,5 @@
 -- The position of a window in the list of windows, and that each window has one.
-use Rattle.std.proofs.Common.{◌≡◌, ◌≢◌, ◌↔◌, ℕ, zero, suc, ◌+◌, ◌-◌, ◌*◌, ◌<◌, ◌≤◌, Bool, true, false, cond, eqb, nat_eq, nat_lt, Option, List, [], ◌∷◌, ◌++◌, length, get_or, take, slice_get, Some, None, IsSome, position, refl, sym, ap, ◌∙◌, arith, add-one}
-use Rattle.std.specs.List.{position_or_len}
+use Rattle.std.proofs.Common.{◌≡◌, ◌↔◌, ℕ, zero, suc, ◌+◌, ◌-◌, ◌*◌, ◌<◌, ◌≤◌, Bool, true, false, nat_eq, Option, List, length, get_or, take, slice_get, Some, None, IsSome, refl, sym, ap, ◌∙◌, arith, add-one}
 use lib.Pointwise.{pointwise, pointwise_decides}
 use Rattle.std.proofs.lemmas.Bool.{eqb-true, eq-eqb, lt-ltb, false_from_ne_true, false≢true}
 use Rattle.std.proofs.lemmas.List.{get_or-take, length-take-le, take_all, take_more}
@@ -29,11 +28,11 @@ number_of_is k m n list at' =
     let test : List ℕ → Bool = λ w. pointwise nat_eq w list in
     let within = slice_get_within (windows k m) n list at' in
     let earlier : (i : ℕ) → i < n → test (get_or (windows k m) i list) ≡ false = λ i lt.
-        false_from_ne_true (test (get_or (windows k m) i list)) (λ h.
-          let same = (same_list (get_or (windows k m) i list) list).0 h in
-          let at_i = slice_get-get_or (windows k m) i list (omega arith) ∙ ap Some same in
-          let equal = one_place k m i n list at_i at' in
-          absurd (omega arith)) in
+    false_from_ne_true (test (get_or (windows k m) i list)) (λ h.
+    let same = (same_list (get_or (windows k m) i list) list).0 h in
+    let at_i = slice_get-get_or (windows k m) i list (omega arith) ∙ ap Some same in
+    let equal = one_place k m i n list at_i at' in
+    absurd (omega arith)) in
     let own = (same_list (get_or (windows k m) n list) list).1 (get_or_from_slice_get (windows k m) n list list at') in
     let first = position_or_len_is test (windows k m) n list (omega arith) earlier (λ _. own) in
     let found = lt-ltb n (length (windows k m)) within in
@@ -51,9 +50,9 @@ number_of_none k m list other = none (number_of k m list) refl
 pub free_at : (list : List ℕ) (j : ℕ) → IsDistinct list → j < length list → is_used (take j list) (get_or list j 0) ≡ false
 free_at list j distinct lt =
     lacks_from_differs (take j list) (get_or list j 0) (λ k within e.
-      let short = length-take-le j list (omega arith) in
-      let before : k < j = omega arith in
-      distinct k j 0 before lt (sym (get_or-take j list k 0 before) ∙ e))
+    let short = length-take-le j list (omega arith) in
+    let before : k < j = omega arith in
+    distinct k j 0 before lt (sym (get_or-take j list k 0 before) ∙ e))
 
 -- one cell more of a list, with a number that the cells before lack
 pub front_more :

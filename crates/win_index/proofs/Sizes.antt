@@ -1,5 +1,5 @@
 -- How large the number of a window can be.
-use Rattle.std.proofs.Common.{◌≡◌, ℕ, zero, suc, ◌+◌, ◌-◌, ◌*◌, ◌<◌, ◌≤◌, List, [], length, get_or, slice_get, Some, refl, sym, ap, ◌∙◌, arith, add-one, ⊎_elim}
+use Rattle.std.proofs.Common.{◌≡◌, ℕ, zero, suc, ◌+◌, ◌-◌, ◌*◌, ◌<◌, ◌≤◌, List, [], length, get_or, slice_get, Some, arith, add-one, ⊎_elim}
 use Rattle.std.proofs.Math.Nat.{le-mul_of_pos_right}
 use Rattle.std.proofs.lemmas.Bool.{cases_lt}
 use Rattle.std.proofs.lemmas.Option.{slice_get-get_or, slice_get_within}
@@ -19,13 +19,13 @@ falling_rises m j zero le within =
 falling_rises m j (suc k) le within =
     ⊎_elim
     (λ (lt : j < suc k).
-      let less = falling_rises m j k (omega arith) (omega arith) in
-      let free : 0 < m - k = omega arith in
-      let more : falling m k ≤ falling m k * (m - k) = le-mul_of_pos_right (falling m k) free in
-      omega arith)
+    let less = falling_rises m j k (omega arith) (omega arith) in
+    let free : 0 < m - k = omega arith in
+    let more : falling m k ≤ falling m k * (m - k) = le-mul_of_pos_right (falling m k) free in
+    omega arith)
     (λ (ge : suc k ≤ j).
-      let same : j ≡ suc k = omega arith in
-      rw same (omega arith))
+    let same : j ≡ suc k = omega arith in
+    rw same (omega arith))
     (cases_lt j (suc k))
 
 -- a window has no more numbers than there are

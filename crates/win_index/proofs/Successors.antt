@@ -1,17 +1,16 @@
 -- The window after a window: the next number in the last cell, or else the next front with its least number.
-use Rattle.std.proofs.Common.{◌≡◌, ◌≢◌, ℕ, zero, suc, ◌+◌, ◌-◌, ◌*◌, ◌<◌, ◌≤◌, true, false, not, cond, Option, List, [], ◌∷◌, ◌++◌, length, get_or, take, set, find, slice_get, Some, None, All, AllPairs, refl, sym, ap, ◌∙◌, arith, length-append, add-one, ⊎_elim}
+use Rattle.std.proofs.Common.{◌≡◌, ◌≢◌, ℕ, zero, suc, ◌+◌, ◌-◌, ◌*◌, ◌<◌, ◌≤◌, cond, Option, List, [], ◌∷◌, ◌++◌, length, get_or, take, set, find, slice_get, Some, None, AllPairs, sym, ap, ◌∙◌, arith, length-append, add-one}
 use Rattle.std.specs.List.{range_with_len}
 use Rattle.std.proofs.Math.Nat.{suc-mul}
-use Rattle.std.proofs.lemmas.Bool.{cases_lt}
 use Rattle.std.proofs.lemmas.List.{same_from_push, take_more, take_more_set, take-take, length-take-le, get_or-take}
 use Rattle.std.proofs.lemmas.List.Elements.{All-take}
-use Rattle.std.proofs.lemmas.Option.{none-some, slice_get_within, slice_get-get_or}
-use Rattle.win_index.specs.Windows.{is_used, unused, windows, IsWindow}
+use Rattle.std.proofs.lemmas.Option.{none-some, slice_get_within}
+use Rattle.win_index.specs.Windows.{unused, windows, IsWindow}
 use Rattle.win_index.specs.Successor.{IsNext, IsLast}
-use Rattle.win_index.proofs.Kept.{kept, kept_at, kept_is, kept_suc, IsKept}
+use Rattle.win_index.proofs.Kept.{kept, kept_at, kept_is, kept_suc}
 use Rattle.win_index.proofs.Unused.{lacks, length-unused}
 use Rattle.win_index.proofs.Positions.{window_place}
-use Rattle.win_index.proofs.Numbers.{Parts, window_parts, window_from_parts, windows_all, length-windows}
+use Rattle.win_index.proofs.Numbers.{window_parts, window_from_parts, windows_all, length-windows}
 
 -- the first number from low on that the list lacks
 abbrev pub first_lacked : ℕ → List ℕ → ℕ → Option ℕ
@@ -47,7 +46,7 @@ after m place x front at' =
     let more = rw one at (kept_suc (lacks front) x) in
     let below = own.below in
     let before : length (kept (lacks front) (suc x)) ≡ place + 1 =
-        omega (arith, ap length more, length-append (kept (lacks front) x) (x ∷ []), own.before) in
+    omega (arith, ap length more, length-append (kept (lacks front) x) (x ∷ []), own.before) in
     let next : suc x ≡ x + 1 = omega arith in
     let found = rw before at (kept_at (lacks front) (suc x) m (omega arith)) in
     rw next at found
@@ -84,7 +83,7 @@ at_end k m n x front none at' =
     let short = slice_get_within (unused m front) parts.rest x parts.last_at in
     let full : parts.rest + 1 ≡ m - k = omega arith in
     let turned : (parts.place + 1) * (m - k) ≡ parts.place * (m - k) + (m - k) =
-        rw add-one (suc-mul parts.place (m - k)) in
+    rw add-one (suc-mul parts.place (m - k)) in
     record {
       place = parts.place;
       front_at = parts.front_at;
@@ -118,12 +117,12 @@ shorter_window k m last list more window =
     let long : last ≤ length (take k list) = omega arith in
     let short : length (take last (take k list)) ≡ last = length-take-le last (take k list) long in
     let distinct : AllPairs (λ a b. a ≢ b) (take last (take k list)) = λ i j d lt within.
-        let near : j < last = omega arith in
-        let nearer : i < last = omega arith in
-        rw (get_or-take last (take k list) i d nearer, get_or-take last (take k list) j d near) (window.distinct i j d lt (omega arith)) in
+    let near : j < last = omega arith in
+    let nearer : i < last = omega arith in
+    rw (get_or-take last (take k list) i d nearer, get_or-take last (take k list) j d near) (window.distinct i j d lt (omega arith)) in
     rw whole at
     (let front : IsWindow last m (take last (take k list)) =
-        record { size = short; below = All-take (λ x. x < m) last (take k list) window.below; distinct = distinct } in
+    record { size = short; below = All-take (λ x. x < m) last (take k list) window.below; distinct = distinct } in
     front)
 
 pub next_in_last_cell :

@@ -1,12 +1,12 @@
 -- The numbers below a bound that a list of distinct numbers lacks.
-use Rattle.std.proofs.Common.{◌≡◌, ◌≢◌, ◌⊎◌, ℕ, zero, suc, ◌+◌, ◌-◌, ◌<◌, ◌≤◌, Bool, true, false, not, cond, nat_lt, eqb, List, [], ◌∷◌, ◌++◌, length, get_or, count_by, slice_get, Some, All, AllPairs, refl, sym, ap, ◌∙◌, arith, length-append, ⊎_elim, inl, inr}
-use Rattle.std.proofs.lemmas.Bool.{cases_order, lt-ltb, le-ltb, eq-eqb, ne_eqb, eqb-true, or_from, false≢true, not-true, not_from_false, cases_Bool}
+use Rattle.std.proofs.Common.{◌≡◌, ◌≢◌, ◌⊎◌, ℕ, zero, suc, ◌+◌, ◌<◌, Bool, true, false, not, cond, nat_lt, eqb, List, [], ◌∷◌, length, get_or, count_by, slice_get, Some, All, AllPairs, refl, sym, ap, ◌∙◌, arith, length-append, ⊎_elim}
+use Rattle.std.proofs.lemmas.Bool.{cases_order, lt-ltb, le-ltb, eq-eqb, ne_eqb, false≢true, not_from_false}
 use Rattle.std.proofs.lemmas.Grind.{get_or_default_zero}
 use Rattle.std.proofs.lemmas.List.Elements.{All-head, All-tail}
 use Rattle.std.proofs.lemmas.List.Folds.{list_any_none, list_any_at}
 use Rattle.std.proofs.lemmas.List.Recursion.{is_count_by}
 use Rattle.win_index.specs.Windows.{is_used, unused}
-use Rattle.win_index.proofs.Kept.{kept, kept_suc, kept_more, kept_own, kept_is, kept_rises}
+use Rattle.win_index.proofs.Kept.{kept, kept_suc, kept_more, kept_own}
 
 -- whether a list lacks a number
 abbrev pub lacks : List ℕ → ℕ → Bool
@@ -59,25 +59,25 @@ rank_suc (y ∷ list) x distinct =
     let rest = rank_suc list x (distinct_tail y list distinct) in
     ⊎_elim
     (λ (same : y ≡ x).
-      let free : is_used list x ≡ false = rw same at (distinct_head y list distinct) in
-      let counted : nat_lt y (suc x) ≡ true = lt-ltb y (suc x) (omega arith) in
-      let before : nat_lt y x ≡ false = le-ltb y x (omega arith) in
-      let own : eqb y x ≡ true = eq-eqb y x same in
-      let none = rw free at rest in
-      rw (counted, before, own) (omega (arith, none)))
+    let free : is_used list x ≡ false = rw same at (distinct_head y list distinct) in
+    let counted : nat_lt y (suc x) ≡ true = lt-ltb y (suc x) (omega arith) in
+    let before : nat_lt y x ≡ false = le-ltb y x (omega arith) in
+    let own : eqb y x ≡ true = eq-eqb y x same in
+    let none = rw free at rest in
+    rw (counted, before, own) (omega (arith, none)))
     (λ (order : (y < x) ⊎ (x < y)).
-      ⊎_elim
-      (λ (lt : y < x).
-        let counted : nat_lt y (suc x) ≡ true = lt-ltb y (suc x) (omega arith) in
-        let before : nat_lt y x ≡ true = lt-ltb y x lt in
-        let other : eqb y x ≡ false = ne_eqb y x (λ e. absurd (omega arith)) in
-        rw (counted, before, other) (omega (arith, rest)))
-      (λ (gt : x < y).
-        let counted : nat_lt y (suc x) ≡ false = le-ltb y (suc x) (omega arith) in
-        let before : nat_lt y x ≡ false = le-ltb y x (omega arith) in
-        let other : eqb y x ≡ false = ne_eqb y x (λ e. absurd (omega arith)) in
-        rw (counted, before, other) rest)
-      order)
+    ⊎_elim
+    (λ (lt : y < x).
+    let counted : nat_lt y (suc x) ≡ true = lt-ltb y (suc x) (omega arith) in
+    let before : nat_lt y x ≡ true = lt-ltb y x lt in
+    let other : eqb y x ≡ false = ne_eqb y x (λ e. absurd (omega arith)) in
+    rw (counted, before, other) (omega (arith, rest)))
+    (λ (gt : x < y).
+    let counted : nat_lt y (suc x) ≡ false = le-ltb y (suc x) (omega arith) in
+    let before : nat_lt y x ≡ false = le-ltb y x (omega arith) in
+    let other : eqb y x ≡ false = ne_eqb y x (λ e. absurd (omega arith)) in
+    rw (counted, before, other) rest)
+    order)
     (cases_order y x)
 
 length_single : (b : Bool) (x : ℕ) → length (cond (not b) (x ∷ []) []) + cond b 1 0 ≡ 1
@@ -109,10 +109,11 @@ pub unused_more :
     (list : List ℕ) (x : ℕ) → (is_used list x ≡ false → length (unused (x + 1) list) ≡ length (unused x list) + 1) × (is_used list x ≡ true → length (unused (x + 1) list) ≡ length (unused x list))
 unused_more list x =
     let one : List ℕ = cond (lacks list x) (x ∷ []) [] in
-    let more = ap length (kept_more (lacks list) x) ∙ length-append (kept (lacks list) x) one in
-    (λ free.
-      let own : length (cond (lacks list x) (x ∷ []) []) ≡ 1 = rw free in
-      omega (arith, more),
-    λ used.
-      let own : length (cond (lacks list x) (x ∷ []) []) ≡ 0 = rw used in
-      omega (arith, more))
+    let more = ap length (kept_more (lacks list) x) ∙ length-append (kept (lacks list) x) one in (
+      λ free.
+          let own : length (cond (lacks list x) (x ∷ []) []) ≡ 1 = rw free in
+          omega (arith, more),
+      λ used.
+          let own : length (cond (lacks list x) (x ∷ []) []) ≡ 0 = rw used in
+          omega (arith, more),
+    )

@@ -1,6 +1,6 @@
 -- A window from its number: the quotient is the number of the window without its last identifier, and the
 -- remainder is the place of that one among those that are left.
-use Rattle.std.proofs.Common.{◌≡◌, ℕ, zero, suc, ◌+◌, ◌-◌, ◌*◌, ◌/◌, ◌%◌, ◌<◌, ◌≤◌, List, [], ◌∷◌, ◌++◌, length, take, set, slice_get, Some, refl, sym, ap, ◌∙◌, arith, add-one}
+use Rattle.std.proofs.Common.{◌≡◌, ℕ, zero, ◌+◌, ◌-◌, ◌*◌, ◌/◌, ◌%◌, ◌<◌, List, length, take, set, slice_get, Some, arith, add-one}
 use Rattle.std.proofs.lemmas.List.{take_more_set}
 use Rattle.std.proofs.lemmas.Nat.{div_below, mod_below, div-add-mod'}
 use Rattle.win_index.specs.Windows.{unused, windows}
@@ -25,7 +25,7 @@ front_below k m last n more lt =
     let left = some_left k m last n more lt in
     let here : n < length (windows (last + 1) m) = rw more at lt in
     let all : n < falling m last * (m - last) =
-        rw (length-windows (last + 1) m, falling-add_one m last) at here in
+    rw (length-windows (last + 1) m, falling-add_one m last) at here in
     rw (length-windows last m) (div_below n (m - last) (falling m last) (omega arith) all)
 
 pub rest_below :

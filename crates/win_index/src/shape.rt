@@ -1,7 +1,9 @@
-use crate::arrangement::{are_few, count_of_lists, find_number, number_of_list, write_list, write_next};
-
 ghost use Rattle.std.specs.Prelude.{◌≤◌};
 ghost use Rattle.win_index.specs.ShapeRange.{HasIds, HasFewWindows};
+
+use crate::arrangement::{
+    are_few, count_of_lists, find_number, number_of_list, write_list, write_next,
+};
 
 /// Why there is no shape.
 #[derive(Clone, Copy, Debug, PartialEq, Eq)]

@@ -18,7 +18,12 @@ fn windows_of_eight_identifiers(rt: HostRuntime) -> Result<(), Fail> {
     assert!(rt; shape.rounds() == 1);
     let count = shape.count(1);
     assert!(rt; count == 336);
-    let table = [([0, 1, 2], 0), ([6, 0, 5], 256), ([7, 5, 1], 325), ([7, 6, 5], 335)];
+    let table = [
+        ([0, 1, 2], 0),
+        ([6, 0, 5], 256),
+        ([7, 5, 1], 325),
+        ([7, 6, 5], 335),
+    ];
     for (window, number) in table {
         assert_eq!(rt; shape.number(1, &window), Some(number));
         let mut out = [0; 3];

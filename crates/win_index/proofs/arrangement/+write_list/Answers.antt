@@ -1,4 +1,4 @@
-use Rattle.std.proofs.Common.{◌≡◌, ◌+◌, ◌-◌, ◌<◌, take, arith}
+use Rattle.std.proofs.Common.{◌-◌, take, arith}
 use Rattle.win_index.proofs.Numbers.{windows_all}
 use Rattle.win_index.proofs.Writing.{only_window, some_left, front_below, rest_below, written}
 use Rattle.win_index.proofs.arrangement.+write_list.Goals as goal

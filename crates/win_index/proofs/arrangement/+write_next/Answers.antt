@@ -1,4 +1,4 @@
-use Rattle.std.proofs.Common.{◌≡◌, ◌+◌, ◌-◌, ◌<◌, ◌≤◌, take, get_or, sym, ◌∙◌, arith}
+use Rattle.std.proofs.Common.{◌-◌, take, sym, ◌∙◌, arith}
 use Rattle.win_index.proofs.Sizes.{window_within}
 use Rattle.win_index.proofs.Successors.{last_of_none, shorter_window, next_in_last_cell, next_with_later_front, last_with_last_front, next_is_window, later_lacks}
 use Rattle.win_index.proofs.arrangement.+write_next.Goals as goal

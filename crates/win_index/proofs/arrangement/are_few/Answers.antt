@@ -1,6 +1,5 @@
-use Rattle.std.proofs.Common.{◌≡◌, ◌+◌, ◌≤◌, length, sym, ◌∙◌, arith}
+use Rattle.std.proofs.Common.{◌≡◌, ◌+◌, sym, ◌∙◌, arith}
 use Rattle.std.proofs.lemmas.Bool.{leb-true, le-leb, false≢true}
-use Rattle.win_index.specs.Windows.{windows}
 use Rattle.win_index.proofs.Numbers.{length-windows}
 use Rattle.win_index.proofs.Sizes.{falling-add_one, falling_rises}
 use Rattle.win_index.proofs.arrangement.are_few.Goals as goal

@@ -1,4 +1,4 @@
-use Rattle.std.proofs.Common.{◌≡◌, ◌≤◌, ◌^◌, ◌<◌}
+use Rattle.std.proofs.Common.{◌≡◌, ◌^◌, ◌<◌}
 use Rattle.win_index.specs.Falling.{falling}
 use Rattle.win_index.proofs.arrangement.are_few.Given as goal
 

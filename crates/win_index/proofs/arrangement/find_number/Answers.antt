@@ -1,6 +1,5 @@
-use Rattle.std.proofs.Common.{◌≡◌, length, sym, ◌∙◌, arith}
+use Rattle.std.proofs.Common.{sym, ◌∙◌}
 use Rattle.std.proofs.lemmas.Bool.{false≢true}
-use Rattle.win_index.specs.Windows.{IsWindow}
 use Rattle.win_index.proofs.Positions.{number_of_is, number_of_none}
 use Rattle.win_index.proofs.arrangement.find_number.Goals as goal
 use Rattle.win_index.proofs.arrangement.find_number.Goals.{else-list-len-via-then-list-len+else-is_window, else-list-len-via-else-list-len}
@@ -14,8 +13,8 @@ pub returns-else-list-len-clause-number : goal.returns-else-list-len-clause-numb
 returns-else-list-len-clause-number c =
     let list = c.args.list.now in
     sym (number_of_none c.args.len c.args.ids list (λ window.
-      elim c.else-list-len.branch [
-        else-list-len-via-then-list-len+else-is_window w ↦
-        false≢true (sym w.if-is_window.false ∙ w.is_window.ensures.1 (rw (← w.if-list-len.true) at window))
+    elim c.else-list-len.branch [
+      | else-list-len-via-then-list-len+else-is_window w ↦
+          false≢true (sym w.if-is_window.false ∙ w.is_window.ensures.1 (rw (← w.if-list-len.true) at window))
       | else-list-len-via-else-list-len w ↦ w.if-list-len.false window.size
-      ]))
+    ]))

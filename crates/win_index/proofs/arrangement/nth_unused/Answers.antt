@@ -14,8 +14,8 @@ pub loop-x-preserved : goal.loop-x-preserved
 loop-x-preserved c =
     let more = unused_more c.args.before.now c.loop-x.x-counter in
     elim c.if-not-contains.branch [
-      then-not-contains+else-left-eq0 w ↦
-      omega (arith, c.loop-x.invariant, more.0 (sym c.contains.ensures.value ∙ w.if-not-contains.true), w.left-is)
-    | else-not-contains w ↦
-      omega (arith, c.loop-x.invariant, more.1 (sym c.contains.ensures.value ∙ w.if-not-contains.false), w.left-is)
+      | then-not-contains+else-left-eq0 w ↦
+          omega (arith, c.loop-x.invariant, more.0 (sym c.contains.ensures.value ∙ w.if-not-contains.true), w.left-is)
+      | else-not-contains w ↦
+          omega (arith, c.loop-x.invariant, more.1 (sym c.contains.ensures.value ∙ w.if-not-contains.false), w.left-is)
     ]

@@ -1,5 +1,5 @@
-use Rattle.std.proofs.Common.{◌≡◌, ◌+◌, ◌-◌, ◌*◌, ◌<◌, ◌≤◌, ℕ, length, get_or, take, take_all, slice_get, Some, arith}
-use Rattle.win_index.specs.Windows.{unused, windows}
+use Rattle.std.proofs.Common.{◌≡◌, ◌+◌, ◌-◌, ◌*◌, ◌<◌, length, take, slice_get, Some, arith}
+use Rattle.win_index.specs.Windows.{windows}
 use Rattle.win_index.specs.Falling.{falling}
 use Rattle.win_index.proofs.Numbers.{windows-zero, windows_all}
 use Rattle.win_index.proofs.Positions.{front_step}

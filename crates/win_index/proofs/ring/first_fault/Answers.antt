@@ -1,4 +1,3 @@
-use Rattle.std.proofs.Common.{take, get_or}
 use Rattle.std.proofs.lemmas.List.{take_all}
 use Rattle.win_index.proofs.Positions.{front_more}
 use Rattle.win_index.proofs.Unused.{lacks_from_differs}
