@@ -8,13 +8,15 @@ ghost use Rattle.win_index.specs.Windows.{windows, number_of, IsWindow};
 /// The number of the window at a number is that number.
 #[tactic(auto, using(crate::proofs::Positions::number_of_is))]
 pub fn number_of_window()
-    ensures { (k m n : ℕ) (window : List ℕ) → slice_get (windows k m) n ≡ Some window → number_of k m window ≡ Some n }
+    ensures { (k m n : ℕ) (window : List ℕ) → slice_get (windows k m) n ≡ Some window
+        → number_of k m window ≡ Some n }
 {}
 
 /// The window at the number of a list is that list.
 #[tactic(auto, using(crate::proofs::Positions::number_of_some))]
 pub fn window_of_number()
-    ensures { (k m n : ℕ) (list : List ℕ) → number_of k m list ≡ Some n → slice_get (windows k m) n ≡ Some list }
+    ensures { (k m n : ℕ) (list : List ℕ) → number_of k m list ≡ Some n
+        → slice_get (windows k m) n ≡ Some list }
 {}
 
 /// A list has a number where it is a list of `k` distinct numbers below `m`, and only there.
@@ -24,7 +26,8 @@ pub fn windows_have_numbers()
 
 /// The windows stand in lexicographic order.
 pub fn windows_are_in_order()
-    ensures { (k m i j : ℕ) (a b : List ℕ) → i < j → slice_get (windows k m) i ≡ Some a → slice_get (windows k m) j ≡ Some b → StandsBefore a b }
+    ensures { (k m i j : ℕ) (a b : List ℕ) → i < j → slice_get (windows k m) i ≡ Some a
+        → slice_get (windows k m) j ≡ Some b → StandsBefore a b }
 {}
 
 /// The windows of length `k` below `m` are as many as the product of the `k` numbers from `m` down.
@@ -34,5 +37,6 @@ pub fn count_of_windows()
 
 /// What stands around a place of a ring is a window.
 pub fn rings_have_windows()
-    ensures { (m t level place : ℕ) (ring : List ℕ) → IsRing m t ring → level ≤ t → IsWindow (2 * level + 1) m (window_around ring level place) }
+    ensures { (m t level place : ℕ) (ring : List ℕ) → IsRing m t ring → level ≤ t
+        → IsWindow (2 * level + 1) m (window_around ring level place) }
 {}

@@ -66,9 +66,10 @@ impl Ring {
 
     /// Whether the two rings have one shape and the same identifiers from place 0 on.
     pub fn same(&self, other: &Ring) -> bool
-        ensures { IsTrue result ↔ ((self.now.shape.ids ≡ other.now.shape.ids) × (self.now.shape.rounds ≡ other.now.shape.rounds) × (self.now.ids.items ≡ other.now.ids.items)) }
+        ensures { IsTrue result ↔ ((self.now.shape.ids ≡ other.now.shape.ids)
+            × (self.now.shape.rounds ≡ other.now.shape.rounds) × (self.now.ids.items ≡ other.now.ids.items)) }
     {
-        self.shape == other.shape && self.ids.as_slice() == other.ids.as_slice()
+        self.ids.as_slice() == other.ids.as_slice() && self.shape == other.shape
     }
 
     /// Writes the window of level `r` at a place, which is the identifiers from `r` places to its left to
@@ -92,7 +93,8 @@ ghost use Rattle.win_index.specs.RingFaults.{IsFirstFault};
 
 // What is wrong first with a list of identifiers, if it is no ring.
 fn first_fault(shape: Shape, ids: &[u32]) -> Option<RingFault>
-    ensures { MatchOption result (IsRing shape.ids shape.rounds ids.now) (IsFirstFault shape.ids shape.rounds ids.now) }
+    ensures { MatchOption result (IsRing shape.ids shape.rounds ids.now)
+        (IsFirstFault shape.ids shape.rounds ids.now) }
 {
     if ids.len() < 2 * shape.rounds as usize + 2 {
         return Some(RingFault::TooShort);
@@ -113,7 +115,8 @@ fn first_fault(shape: Shape, ids: &[u32]) -> Option<RingFault>
 
 // A place at which the identifier stands.
 fn place_of(ids: &[u32], id: u32) -> Option<usize>
-    ensures { MatchOption result (EachIndex ids.now (λ k. slice_index ids.now k ≢ id)) (λ k. (k < length ids.now) × (slice_index ids.now k ≡ id)) }
+    ensures { MatchOption result (EachIndex ids.now (λ k. slice_index ids.now k ≢ id))
+        (λ k. (k < length ids.now) × (slice_index ids.now k ≡ id)) }
 {
     ids.iter().position(|x| *x == id)
 }
