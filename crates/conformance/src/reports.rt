@@ -64,6 +64,12 @@ fn cv1_on_four_repeaters(rt: HostRuntime) -> Result<(), Fail> {
 }
 
 #[test]
+fn cv1_with_the_most_identifiers(rt: HostRuntime) -> Result<(), Fail> {
+    let ring = [5, 1, 3, 7];
+    reports(&rt, rt.alloc(), CV1, 102, &ring, "2 4 3 5\n", Status::Done)
+}
+
+#[test]
 fn ldb_on_four_repeaters(rt: HostRuntime) -> Result<(), Fail> {
     reports(
         &rt,
@@ -114,8 +120,9 @@ fn rings_that_are_refused(rt: HostRuntime) -> Result<(), Fail> {
 
 #[test]
 fn programs_that_are_refused(rt: HostRuntime) -> Result<(), Fail> {
-    let rows: [(&[u8], u32, &str); 6] = [
+    let rows: [(&[u8], u32, &str); 7] = [
         (CV1, 3, "check fault X1\n"),
+        (CV1, 103, "check fault X2\n"),
         (
             b"rounds 0\nchannels 2\nregisters 1\nstart\nr0 = id\nfinish r1\n",
             2,

@@ -15,5 +15,7 @@ pub use Rattle.node_lang.specs.Grammar
 pub use Rattle.node_lang.specs.Faults
 pub use Rattle.round_eval.specs.Acceptance
 pub use Rattle.round_eval.specs.Refusals
-pub use Rattle.round_eval.specs.RingFaults
+pub use Rattle.win_index.specs.RingFaults
+pub use Rattle.win_index.specs.ShapeRange
+pub use Rattle.win_index.specs.ShapeFaults
 pub mod Engine

@@ -9,11 +9,11 @@ use Rattle.node_lang.specs.Grammar.{Reads}
 use Rattle.node_lang.specs.Faults.{FaultsAt}
 use Rattle.round_eval.specs.declared.acceptance.CheckFault.{CheckFault}
 use Rattle.round_eval.specs.declared.acceptance.CheckFault.TheVariants as check
-use Rattle.round_eval.specs.declared.ring.RingFault.{RingFault}
-use Rattle.round_eval.specs.declared.ring.RingFault.TheVariants as ring
+use Rattle.win_index.specs.declared.ring.RingFault.{RingFault}
+use Rattle.win_index.specs.declared.ring.RingFault.TheVariants as ring
 use Rattle.round_eval.specs.Acceptance.{IsAccepted}
 use Rattle.round_eval.specs.Refusals.{IsFirstRefusal}
-use Rattle.round_eval.specs.RingFaults.{IsFirstFault}
+use Rattle.win_index.specs.RingFaults.{IsFirstFault}
 use Rattle.plan_print.specs.declared.status.Status.{Status}
 use Rattle.plan_print.specs.declared.status.Status.TheVariants.{Done, Refused, RingRefused}
 use Rattle.plan_print.specs.declared.task.Task.{Task}
@@ -42,6 +42,7 @@ text_fault_line k offset = line (codes "text fault N" ∷ decimal (kind_number k
 
 abbrev pub check_fault_line : CheckFault → List ℕ
 check_fault_line check.IdsOutOfRange = line (codes "check fault X1" ∷ [])
+check_fault_line check.TooManyWindows = line (codes "check fault X2" ∷ [])
 check_fault_line (check.RegisterOutOfRange j) = line (codes "check fault C1 register " ∷ decimal j ∷ [])
 check_fault_line check.IdOutsideStart = line (codes "check fault C2" ∷ [])
 check_fault_line check.MessageOutsideStep = line (codes "check fault C3" ∷ [])

@@ -13,8 +13,9 @@ use crate::lines::numbers_line;
 use crate::status::Status;
 use crate::task::Task;
 use node_lang::{FaultKind, Program, TextFault, parse};
-use round_eval::{CheckFault, Plan, Ring, RingFault, accept, plain_run};
+use round_eval::{CheckFault, Plan, accept, plain_run};
 use std::alloc::{AllocError, Global};
+use win_index::{Ring, RingFault};
 
 // The text of a task's report on an input, and its status.
 pub(crate) fn report_of(
@@ -142,6 +143,7 @@ fn check_fault(alloc: Global, fault: CheckFault) -> Result<String, AllocError>
 {
     match fault {
         CheckFault::IdsOutOfRange => format!(in alloc; "check fault X1\n"),
+        CheckFault::TooManyWindows => format!(in alloc; "check fault X2\n"),
         CheckFault::RegisterOutOfRange(register) => {
             format!(in alloc; "check fault C1 register {register}\n")
         }

@@ -2,7 +2,7 @@
 use Rattle.std.specs.Prelude.{◌≡◌, ℕ, nat_le, Bool, false, Option, None, length, find, flat_map}
 use Rattle.std.specs.List.{list_any}
 use Rattle.node_lang.specs.Term.{ProgramTree, terms}
-use Rattle.round_eval.specs.ShapeRange.{HasIds}
+use Rattle.win_index.specs.ShapeRange.{IsShape}
 use Rattle.round_eval.specs.Occurrences.{registers_read, reads_identifier, reads_message, terms_after_start, terms_outside_assignments}
 
 -- the first register in reading order that the program does not have
@@ -19,7 +19,7 @@ reads_message_outside_step p = list_any reads_message (terms_outside_assignments
 
 -- the program is accepted for m identifiers
 pub record IsAccepted (m : ℕ) (p : ProgramTree) : Type 0 where
-  pub ids : HasIds m (length p.steps)
+  pub shape : IsShape m (length p.steps)
   pub registers : first_missing_register p ≡ None
   pub identifiers : reads_id_outside_start p ≡ false
   pub messages : reads_message_outside_step p ≡ false

@@ -1,17 +1,20 @@
 -- Which refusal of a program comes first.
 use Rattle.std.specs.Prelude.{◌≡◌, ℕ, false, IsTrue, Some, None, length}
 use Rattle.node_lang.specs.Term.{ProgramTree}
-use Rattle.round_eval.specs.ShapeRange.{HasIds}
+use Rattle.win_index.specs.ShapeRange.{IsShape}
+use Rattle.win_index.specs.ShapeFaults.{IsFirstShapeFault}
+use Rattle.win_index.specs.declared.shape.ShapeFault.TheVariants as shape
 use Rattle.round_eval.specs.Acceptance.{first_missing_register, reads_id_outside_start, reads_message_outside_step}
 use Rattle.round_eval.specs.declared.acceptance.CheckFault.{CheckFault}
-use Rattle.round_eval.specs.declared.acceptance.CheckFault.TheVariants.{IdsOutOfRange, RegisterOutOfRange, IdOutsideStart, MessageOutsideStep}
+use Rattle.round_eval.specs.declared.acceptance.CheckFault.TheVariants.{IdsOutOfRange, TooManyWindows, RegisterOutOfRange, IdOutsideStart, MessageOutsideStep}
 
 -- each refusal stands where those before it do not
 abbrev pub IsFirstRefusal : ℕ → ProgramTree → CheckFault → Type 0
-IsFirstRefusal m p IdsOutOfRange = ¬ HasIds m (length p.steps)
-IsFirstRefusal m p (RegisterOutOfRange j) = HasIds m (length p.steps) × (first_missing_register p ≡ Some j)
+IsFirstRefusal m p IdsOutOfRange = IsFirstShapeFault m (length p.steps) shape.IdsOutOfRange
+IsFirstRefusal m p TooManyWindows = IsFirstShapeFault m (length p.steps) shape.TooManyWindows
+IsFirstRefusal m p (RegisterOutOfRange j) = IsShape m (length p.steps) × (first_missing_register p ≡ Some j)
 IsFirstRefusal m p IdOutsideStart =
-    HasIds m (length p.steps) × (first_missing_register p ≡ None) × IsTrue (reads_id_outside_start p)
+    IsShape m (length p.steps) × (first_missing_register p ≡ None) × IsTrue (reads_id_outside_start p)
 IsFirstRefusal m p MessageOutsideStep =
-    HasIds m (length p.steps) × (first_missing_register p ≡ None) × (reads_id_outside_start p ≡ false)
+    IsShape m (length p.steps) × (first_missing_register p ≡ None) × (reads_id_outside_start p ≡ false)
     × IsTrue (reads_message_outside_step p)

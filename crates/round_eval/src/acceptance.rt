@@ -1,6 +1,6 @@
 ghost use Rattle.std.specs.Prelude.{◌≡◌, ◌↔◌, ℕ, length, IfOk, IfErr, IsOk, MatchOption, find, flat_map};
 ghost use Rattle.std.specs.List.{list_any};
-ghost use Rattle.round_eval.specs.ShapeRange.{HasIds};
+ghost use Rattle.win_index.specs.ShapeRange.{IsShape};
 ghost use Rattle.round_eval.specs.Acceptance.{IsAccepted, first_missing_register, reads_id_outside_start, reads_message_outside_step};
 ghost use Rattle.round_eval.specs.Refusals.{IsFirstRefusal};
 
@@ -9,14 +9,16 @@ use crate::occurrences::{
     sends_use_message, uses_id, uses_message,
 };
 use crate::plan::Plan;
-use crate::shape::Shape;
 use node_lang::Program;
+use win_index::{Shape, ShapeFault};
 
 /// Why a program is not accepted for a number of identifiers.
 #[derive(Clone, Copy, Debug, PartialEq, Eq)]
 pub enum CheckFault {
     /// X1: fewer than `2t+2` identifiers for `t` rounds, or more than 1,024.
     IdsOutOfRange,
+    /// X2: more than `2^20` windows of level `t`.
+    TooManyWindows,
     /// C1: the first register number in reading order that is not below the number of registers.
     RegisterOutOfRange(u32),
     /// C2: `id` is read outside the assignments of `start`.
@@ -32,8 +34,10 @@ pub fn accept(program: Program, ids: u32) -> Result<Plan, (Program, CheckFault)>
     ensures exact { IsOk result ↔ IsAccepted ids program }
     ensures err { IfErr result (λ e. (e.0 ≡ program) × IsFirstRefusal ids program e.1) }
 {
-    let Ok(shape) = Shape::new(ids, program.rounds()) else {
-        return Err((program, CheckFault::IdsOutOfRange));
+    let shape = match Shape::new(ids, program.rounds()) {
+        Ok(shape) => shape,
+        Err(ShapeFault::IdsOutOfRange) => return Err((program, CheckFault::IdsOutOfRange)),
+        Err(ShapeFault::TooManyWindows) => return Err((program, CheckFault::TooManyWindows)),
     };
     match program_fault(&program) {
         None => Ok(Plan { program, shape }),
@@ -43,7 +47,7 @@ pub fn accept(program: Program, ids: u32) -> Result<Plan, (Program, CheckFault)>
 
 // The first refusal of a program that does not come from the number of identifiers.
 fn program_fault(program: &Program) -> Option<CheckFault>
-    ensures { (m : ℕ) → HasIds m (length program.now.steps)
+    ensures { (m : ℕ) → IsShape m (length program.now.steps)
         → MatchOption result (IsAccepted m program.now) (IsFirstRefusal m program.now) }
 {
     if let Some(register) = missing_register(program) {

@@ -1,6 +1,6 @@
-use crate::shape::Shape;
 use node_lang::Program;
 use std::marker::Model;
+use win_index::Shape;
 
 /// A program that was accepted, and the shape that it was accepted for. It is made by `accept` alone.
 #[derive(Drop)]

@@ -5,10 +5,10 @@ ghost use Rattle.round_eval.specs.Rows.{row, HoldsRows, next_row};
 
 use crate::node::{channel, sent_to_left, sent_to_right, start_state, step};
 use crate::plan::Plan;
-use crate::ring::Ring;
 use node_lang::OutOfMemory;
 use std::alloc::Global;
 use std::mem;
+use win_index::Ring;
 
 /// The channels of a ring after all rounds of a plan, in the order of the places: in each round all nodes
 /// send, and then all of them step. The ring has the plan's shape.

@@ -1,5 +1,3 @@
-use crate::ring::{Ring, RingFault};
-use crate::shape::{Shape, ShapeFault};
 use crate::value::{View, value_of};
 use node_lang::{BinOp, Expr, UnOp};
 use std::alloc::{AllocError, Global};
@@ -68,37 +66,5 @@ fn not_and_if_have_their_values(rt: HostRuntime) -> Result<(), Fail> {
     assert_eq!(rt; value(&Expr::One(UnOp::Not, zero)), 4_294_967_295);
     assert_eq!(rt; value(&choose(rt.alloc(), 7, 1, 2)?), 1);
     assert_eq!(rt; value(&choose(rt.alloc(), 0, 1, 2)?), 2);
-    Ok(())
-}
-
-#[test]
-fn three_identifiers_are_too_few_for_a_round(rt: HostRuntime) {
-    assert_eq!(rt; Shape::new(3, 1), Err(ShapeFault::IdsOutOfRange));
-    assert_eq!(rt; Shape::new(1025, 1), Err(ShapeFault::IdsOutOfRange));
-    assert!(rt; Shape::new(4, 1).is_ok());
-    assert!(rt; Shape::new(1024, 3).is_ok());
-}
-
-#[test]
-fn rings_and_their_first_faults(rt: HostRuntime) -> Result<(), Fail> {
-    let shape = Shape::new(8, 1).ok().ok_or("a shape")?;
-    let ring = Ring::new(shape, [5, 1, 3, 7].to_vec(rt.alloc())?)
-        .ok()
-        .ok_or("a ring")?;
-    assert_eq!(rt; ring.len(), 4);
-    assert_eq!(rt; ring.id(2), 3);
-    let faults = [
-        ([0, 1, 2].as_slice(), RingFault::TooShort),
-        ([0, 1, 2, 3, 4, 5, 6, 7, 0].as_slice(), RingFault::TooLong),
-        ([0, 1, 2, 8].as_slice(), RingFault::IdTooLarge(3)),
-        ([0, 1, 2, 0].as_slice(), RingFault::Repeated(0, 3)),
-    ];
-    for (ids, want) in faults {
-        let (back, fault) = Ring::new(shape, ids.to_vec(rt.alloc())?)
-            .err()
-            .ok_or("no ring")?;
-        assert_eq!(rt; back.as_slice(), ids);
-        assert_eq!(rt; fault, want);
-    }
     Ok(())
 }

@@ -1,0 +1,12 @@
+-- Lemmas that several proofs share.
+pub mod Kept
+pub mod Unused
+pub mod Pieces
+pub mod Numbers
+pub mod Positions
+pub mod Successors
+pub mod Sizes
+pub mod Writing
+pub mod Levels
+pub mod Arcs
+pub mod Order

@@ -1,0 +1,100 @@
+-- The position of a window in the list of windows, and that each window has one.
+use Rattle.std.proofs.Common.{◌≡◌, ◌↔◌, ℕ, zero, suc, ◌+◌, ◌-◌, ◌*◌, ◌<◌, ◌≤◌, Bool, true, false, nat_eq, Option, List, length, get_or, take, slice_get, Some, None, IsSome, refl, sym, ap, ◌∙◌, arith, add-one}
+use lib.Pointwise.{pointwise, pointwise_decides}
+use Rattle.std.proofs.lemmas.Bool.{eqb-true, eq-eqb, lt-ltb, false_from_ne_true, false≢true}
+use Rattle.std.proofs.lemmas.List.{get_or-take, length-take-le, take_all, take_more}
+use Rattle.std.proofs.lemmas.List.Quantifiers.{position-Some}
+use Rattle.std.proofs.lemmas.List.Sums.{position_or_len_is}
+use Rattle.std.proofs.lemmas.Option.{get_or_from_slice_get, slice_get-get_or, slice_get_within}
+use Rattle.win_index.specs.Windows.{is_used, unused, windows, number_of, IsWindow}
+use Rattle.win_index.proofs.Unused.{IsDistinct, lacks_from_differs}
+use Rattle.win_index.proofs.Numbers.{windows-zero, push_window, window_step, windows_all, one_place}
+
+same_list : (a b : List ℕ) → (pointwise nat_eq a b ≡ true → a ≡ b) × (a ≡ b → pointwise nat_eq a b ≡ true)
+same_list a b = pointwise_decides (λ x y. (eqb-true x y, eq-eqb x y)) a b
+
+-- what a number says
+pub number_of_some : (k m n : ℕ) (list : List ℕ) → number_of k m list ≡ Some n → slice_get (windows k m) n ≡ Some list
+unfolding number_of
+number_of_some k m n list e =
+    let at' = position-Some (λ w. pointwise nat_eq w list) (windows k m) n list e in
+    let same = (same_list (get_or (windows k m) n list) list).0 at'.1 in
+    slice_get-get_or (windows k m) n list at'.0 ∙ ap Some same
+
+-- the number of an item is its place
+pub number_of_is : (k m n : ℕ) (list : List ℕ) → slice_get (windows k m) n ≡ Some list → number_of k m list ≡ Some n
+unfolding number_of
+number_of_is k m n list at' =
+    let test : List ℕ → Bool = λ w. pointwise nat_eq w list in
+    let within = slice_get_within (windows k m) n list at' in
+    let earlier : (i : ℕ) → i < n → test (get_or (windows k m) i list) ≡ false = λ i lt.
+    false_from_ne_true (test (get_or (windows k m) i list)) (λ h.
+    let same = (same_list (get_or (windows k m) i list) list).0 h in
+    let at_i = slice_get-get_or (windows k m) i list (omega arith) ∙ ap Some same in
+    let equal = one_place k m i n list at_i at' in
+    absurd (omega arith)) in
+    let own = (same_list (get_or (windows k m) n list) list).1 (get_or_from_slice_get (windows k m) n list list at') in
+    let first = position_or_len_is test (windows k m) n list (omega arith) earlier (λ _. own) in
+    let found = lt-ltb n (length (windows k m)) within in
+    rw (first, found)
+
+-- a list that is no window has no number
+pub number_of_none : (k m : ℕ) (list : List ℕ) → ¬ IsWindow k m list → number_of k m list ≡ None
+number_of_none k m list other = none (number_of k m list) refl
+  where
+    none : (o : Option ℕ) → number_of k m list ≡ o → o ≡ None
+    none None e = refl
+    none (Some n) e = absurd (other (windows_all k m n list (number_of_some k m n list e)))
+
+-- what a place of a list holds, the places before it don't
+pub free_at : (list : List ℕ) (j : ℕ) → IsDistinct list → j < length list → is_used (take j list) (get_or list j 0) ≡ false
+free_at list j distinct lt =
+    lacks_from_differs (take j list) (get_or list j 0) (λ k within e.
+    let short = length-take-le j list (omega arith) in
+    let before : k < j = omega arith in
+    distinct k j 0 before lt (sym (get_or-take j list k 0 before) ∙ e))
+
+-- one cell more of a list, with a number that the cells before lack
+pub front_more :
+    (p m : ℕ) (list : List ℕ) → p < length list → IsWindow p m (take p list) → get_or list p 0 < m
+    → is_used (take p list) (get_or list p 0) ≡ false → IsWindow (p + 1) m (take (p + 1) list)
+front_more p m list lt window below free =
+    let more = take_more list p 0 lt in
+    let longer = push_window p m (get_or list p 0) (take p list) window below free in
+    rw (more, add-one) longer
+
+-- the number of the first j+1 identifiers of a window, from that of the first j
+pub front_step :
+    (k m j n : ℕ) (list : List ℕ) → IsWindow k m list → j < k → slice_get (windows j m) n ≡ Some (take j list)
+    → slice_get (windows (j + 1) m) (n * (m - j) + length (unused (get_or list j 0) (take j list))) ≡ Some (take (j + 1) list)
+front_step k m j n list window lt at' =
+    let size = window.size in
+    let within : j < length list = omega arith in
+    let more = take_more list j 0 within in
+    let x : ℕ = get_or list j 0 in
+    let step = window_step j m n x (take j list) at' (window.below j 0 within) (free_at list j window.distinct within) in
+    rw (more, add-one) step
+
+-- where the first j identifiers of a window stand among the windows of length j
+front_place :
+    (k m j : ℕ) (list : List ℕ) → IsWindow k m list → j ≤ k → (n : ℕ) × (slice_get (windows j m) n ≡ Some (take j list))
+front_place k m zero list window le = (0, rw (windows-zero m))
+front_place k m (suc j) list window le =
+    let front = front_place k m j list window (omega arith) in
+    let step = front_step k m j front.0 list window (omega arith) front.1 in
+    (front.0 * (m - j) + length (unused (get_or list j 0) (take j list)), rw add-one at step)
+
+-- each window stands in the list
+pub window_place : (k m : ℕ) (list : List ℕ) → IsWindow k m list → (n : ℕ) × (slice_get (windows k m) n ≡ Some list)
+window_place k m list window =
+    let place = front_place k m k list window (omega arith) in
+    let whole = take_all k list (omega (arith, window.size)) in
+    (place.0, rw whole at place.1)
+
+-- the lists that have a number are the windows
+pub has_number : (k m : ℕ) (list : List ℕ) → IsSome (number_of k m list) ↔ IsWindow k m list
+has_number k m list = (number (number_of k m list) refl, λ window. let place = window_place k m list window in rw (number_of_is k m place.0 list place.1))
+  where
+    number : (o : Option ℕ) → number_of k m list ≡ o → IsSome o → IsWindow k m list
+    number None e some = absurd (false≢true some)
+    number (Some n) e some = windows_all k m n list (number_of_some k m n list e)

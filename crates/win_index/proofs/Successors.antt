@@ -1,0 +1,172 @@
+-- The window after a window: the next number in the last cell, or else the next front with its least number.
+use Rattle.std.proofs.Common.{◌≡◌, ◌≢◌, ℕ, zero, suc, ◌+◌, ◌-◌, ◌*◌, ◌<◌, ◌≤◌, cond, Option, List, [], ◌∷◌, ◌++◌, length, get_or, take, set, find, slice_get, Some, None, AllPairs, sym, ap, ◌∙◌, arith, length-append, add-one}
+use Rattle.std.specs.List.{range_with_len}
+use Rattle.std.proofs.Math.Nat.{suc-mul}
+use Rattle.std.proofs.lemmas.List.{same_from_push, take_more, take_more_set, take-take, length-take-le, get_or-take}
+use Rattle.std.proofs.lemmas.List.Elements.{All-take}
+use Rattle.std.proofs.lemmas.Option.{none-some, slice_get_within}
+use Rattle.win_index.specs.Windows.{unused, windows, IsWindow}
+use Rattle.win_index.specs.Successor.{IsNext, IsLast}
+use Rattle.win_index.proofs.Kept.{kept, kept_at, kept_is, kept_suc}
+use Rattle.win_index.proofs.Unused.{lacks, length-unused}
+use Rattle.win_index.proofs.Positions.{window_place}
+use Rattle.win_index.proofs.Numbers.{window_parts, window_from_parts, windows_all, length-windows}
+
+-- the first number from low on that the list lacks
+abbrev pub first_lacked : ℕ → List ℕ → ℕ → Option ℕ
+first_lacked m front low = find (lacks front) (range_with_len low (m - low))
+
+-- the parts of a window that is given by its front and last number
+pub record PartsOf (k m n : ℕ) (front : List ℕ) (x : ℕ) : Type 0 where
+  pub place : ℕ
+  pub rest : ℕ
+  pub number : n ≡ place * (m - k) + rest
+  pub front_at : slice_get (windows k m) place ≡ Some front
+  pub last_at : slice_get (unused m front) rest ≡ Some x
+
+parts_of : (k m n x : ℕ) (front : List ℕ) → slice_get (windows (suc k) m) n ≡ Some (front ++ x ∷ []) → PartsOf k m n front x
+parts_of k m n x front at' =
+    let parts = window_parts k m n (front ++ x ∷ []) at' in
+    let same = same_from_push parts.front front parts.last x (sym parts.whole) in
+    record {
+      place = parts.place;
+      rest = parts.rest;
+      number = parts.number;
+      front_at = parts.front_at ∙ ap Some same.0;
+      last_at = rw (same.0, same.1) at parts.last_at;
+    }
+
+-- after a number that a list lacks comes the first one from the next on
+after :
+    (m place x : ℕ) (front : List ℕ) → slice_get (unused m front) place ≡ Some x
+    → slice_get (unused m front) (place + 1) ≡ first_lacked m front (x + 1)
+after m place x front at' =
+    let own = kept_is (lacks front) m place x at' in
+    let one : cond (lacks front x) (x ∷ []) [] ≡ x ∷ [] = ap (λ b. cond b (x ∷ []) []) own.passes in
+    let more = rw one at (kept_suc (lacks front) x) in
+    let below = own.below in
+    let before : length (kept (lacks front) (suc x)) ≡ place + 1 =
+    omega (arith, ap length more, length-append (kept (lacks front) x) (x ∷ []), own.before) in
+    let next : suc x ≡ x + 1 = omega arith in
+    let found = rw before at (kept_at (lacks front) (suc x) m (omega arith)) in
+    rw next at found
+
+none_at : {X : Type 0} (xs : List X) (i : ℕ) → slice_get xs i ≡ None → length xs ≤ i
+none_at [] i e = omega arith
+none_at (x ∷ xs) zero e = absurd (none-some x (sym e))
+none_at (x ∷ xs) (suc i) e = omega (arith, none_at xs i e)
+
+-- the last number is followed by another that the front lacks
+next_here :
+    (k m x y : ℕ) (front : List ℕ) → first_lacked m front (x + 1) ≡ Some y → IsNext (suc k) m (front ++ x ∷ []) (front ++ y ∷ [])
+next_here k m x y front found n at' =
+    let parts = parts_of k m n x front at' in
+    let next_at = after m parts.rest x front parts.last_at ∙ found in
+    let place : parts.place * (m - k) + (parts.rest + 1) ≡ n + 1 = omega (arith, parts.number) in
+    rw place at (window_from_parts k m parts.place (parts.rest + 1) y front parts.front_at next_at)
+
+-- the last number is the greatest that the front lacks
+record IsAtEnd (k m n : ℕ) (front : List ℕ) : Type 0 where
+  place : ℕ
+  front_at : slice_get (windows k m) place ≡ Some front
+  number : n + 1 ≡ (place + 1) * (m - k)
+
+at_end :
+    (k m n x : ℕ) (front : List ℕ) → first_lacked m front (x + 1) ≡ None → slice_get (windows (suc k) m) n ≡ Some (front ++ x ∷ [])
+    → IsAtEnd k m n front
+at_end k m n x front none at' =
+    let parts = parts_of k m n x front at' in
+    let window = windows_all k m parts.place front parts.front_at in
+    let free = length-unused front m window.distinct window.below in
+    let size = window.size in
+    let long = none_at (unused m front) (parts.rest + 1) (after m parts.rest x front parts.last_at ∙ none) in
+    let short = slice_get_within (unused m front) parts.rest x parts.last_at in
+    let full : parts.rest + 1 ≡ m - k = omega arith in
+    let turned : (parts.place + 1) * (m - k) ≡ parts.place * (m - k) + (m - k) =
+    rw add-one (suc-mul parts.place (m - k)) in
+    record {
+      place = parts.place;
+      front_at = parts.front_at;
+      number = omega (arith, parts.number);
+    }
+
+-- the next front, with the least number that it lacks
+next_front :
+    (k m x y : ℕ) (front later : List ℕ) → first_lacked m front (x + 1) ≡ None → IsNext k m front later
+    → slice_get (unused m later) 0 ≡ Some y → IsNext (suc k) m (front ++ x ∷ []) (later ++ y ∷ [])
+next_front k m x y front later none next least n at' =
+    let end = at_end k m n x front none at' in
+    let number : (end.place + 1) * (m - k) + 0 ≡ n + 1 = omega (arith, end.number) in
+    rw number at (window_from_parts k m (end.place + 1) 0 y later (next end.place end.front_at) least)
+
+-- no next front
+last_of_all :
+    (k m x : ℕ) (front : List ℕ) → first_lacked m front (x + 1) ≡ None → IsLast k m front → IsLast (suc k) m (front ++ x ∷ [])
+last_of_all k m x front none last n at' =
+    let end = at_end k m n x front none at' in
+    let all = last end.place end.front_at in
+    end.number ∙ ap (λ p. p * (m - k)) all ∙ ap (λ p. p * (m - k)) (length-windows k m) ∙ sym (length-windows (suc k) m)
+
+-- ---- the same of the first cells of a list
+
+-- a window but for its last number
+pub shorter_window : (k m last : ℕ) (list : List ℕ) → k ≡ last + 1 → IsWindow k m (take k list) → IsWindow last m (take last list)
+shorter_window k m last list more window =
+    let whole = take-take last k list (omega arith) in
+    let size = window.size in
+    let long : last ≤ length (take k list) = omega arith in
+    let short : length (take last (take k list)) ≡ last = length-take-le last (take k list) long in
+    let distinct : AllPairs (λ a b. a ≢ b) (take last (take k list)) = λ i j d lt within.
+    let near : j < last = omega arith in
+    let nearer : i < last = omega arith in
+    rw (get_or-take last (take k list) i d nearer, get_or-take last (take k list) j d near) (window.distinct i j d lt (omega arith)) in
+    rw whole at
+    (let front : IsWindow last m (take last (take k list)) =
+    record { size = short; below = All-take (λ x. x < m) last (take k list) window.below; distinct = distinct } in
+    front)
+
+pub next_in_last_cell :
+    (k m last y : ℕ) (list : List ℕ) → k ≡ last + 1 → last < length list → first_lacked m (take last list) (get_or list last 0 + 1) ≡ Some y
+    → IsNext k m (take k list) (take k (set list last y))
+next_in_last_cell k m last y list more lt found =
+    let old = take_more list last 0 lt in
+    let new = take_more_set list last y lt in
+    let step = next_here last m (get_or list last 0) y (take last list) found in
+    rw (more, old, new, add-one) step
+
+pub next_with_later_front :
+    (k m last y : ℕ) (list later : List ℕ) → k ≡ last + 1 → last < length list → length list ≡ length later
+    → first_lacked m (take last list) (get_or list last 0 + 1) ≡ None → IsNext last m (take last list) (take last later)
+    → slice_get (unused m (take last later)) 0 ≡ Some y → IsNext k m (take k list) (take k (set later last y))
+next_with_later_front k m last y list later more lt same none next least =
+    let old = take_more list last 0 lt in
+    let new = take_more_set later last y (omega arith) in
+    let step = next_front last m (get_or list last 0) y (take last list) (take last later) none next least in
+    rw (more, old, new, add-one) step
+
+pub last_with_last_front :
+    (k m last : ℕ) (list : List ℕ) → k ≡ last + 1 → last < length list → first_lacked m (take last list) (get_or list last 0 + 1) ≡ None
+    → IsLast last m (take last list) → IsLast k m (take k list)
+last_with_last_front k m last list more lt none all =
+    let old = take_more list last 0 lt in
+    let step = last_of_all last m (get_or list last 0) (take last list) none all in
+    rw (more, old, add-one) step
+
+-- the one window of length zero is the last
+pub last_of_none : (k m : ℕ) (list : List ℕ) → k ≡ 0 → IsLast k m list
+last_of_none k m list empty n at' =
+    let within = slice_get_within (windows k m) n list at' in
+    let one : length (windows k m) ≡ 1 = rw empty (length-windows zero m) in
+    omega arith
+
+-- the next window is one
+pub next_is_window : (k m : ℕ) (window next : List ℕ) → IsWindow k m window → IsNext k m window next → IsWindow k m next
+next_is_window k m window next own after' =
+    let place = window_place k m window own in
+    windows_all k m (place.0 + 1) next (after' place.0 place.1)
+
+-- a later front lacks some number, where there are more numbers than it has
+pub later_lacks : (last m : ℕ) (front later : List ℕ) → last < m → IsWindow last m front → IsNext last m front later → 0 < length (unused m later)
+later_lacks last m front later lt window next =
+    let own = next_is_window last m front later window next in
+    omega (arith, length-unused later m own.distinct own.below, own.size)

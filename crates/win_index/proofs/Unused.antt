@@ -1,0 +1,119 @@
+-- The numbers below a bound that a list of distinct numbers lacks.
+use Rattle.std.proofs.Common.{◌≡◌, ◌≢◌, ◌⊎◌, ℕ, zero, suc, ◌+◌, ◌<◌, Bool, true, false, not, cond, nat_lt, eqb, List, [], ◌∷◌, length, get_or, count_by, slice_get, Some, All, AllPairs, refl, sym, ap, ◌∙◌, arith, length-append, ⊎_elim}
+use Rattle.std.proofs.lemmas.Bool.{cases_order, lt-ltb, le-ltb, eq-eqb, ne_eqb, false≢true, not_from_false}
+use Rattle.std.proofs.lemmas.Grind.{get_or_default_zero}
+use Rattle.std.proofs.lemmas.List.Elements.{All-head, All-tail}
+use Rattle.std.proofs.lemmas.List.Folds.{list_any_none, list_any_at}
+use Rattle.std.proofs.lemmas.List.Recursion.{is_count_by}
+use Rattle.win_index.specs.Windows.{is_used, unused}
+use Rattle.win_index.proofs.Kept.{kept, kept_suc, kept_more, kept_own}
+
+-- whether a list lacks a number
+abbrev pub lacks : List ℕ → ℕ → Bool
+lacks list x = not (is_used list x)
+
+-- how many numbers of the list are below x
+abbrev rank : List ℕ → ℕ → ℕ
+rank [] x = 0
+rank (y ∷ list) x = cond (nat_lt y x) (1 + rank list x) (rank list x)
+
+rank_is_count : (list : List ℕ) (x : ℕ) → rank list x ≡ count_by (λ y. nat_lt y x) list
+rank_is_count list x = is_count_by (λ l. rank l x) (λ y. nat_lt y x) refl (λ y l. refl) list
+
+abbrev pub IsDistinct : List ℕ → Type 0
+IsDistinct list = AllPairs (λ a b. a ≢ b) list
+
+pub distinct_tail : (y : ℕ) (list : List ℕ) → IsDistinct (y ∷ list) → IsDistinct list
+distinct_tail y list h = λ i j d lt within. h (suc i) (suc j) d (omega arith) (omega arith)
+
+pub distinct_head : (y : ℕ) (list : List ℕ) → IsDistinct (y ∷ list) → is_used list y ≡ false
+distinct_head y list h =
+    list_any_none (λ z. eqb z y) list (λ k d lt. ne_eqb _ _ (λ e. h 0 (suc k) d (omega arith) (omega arith) (sym e)))
+
+-- a number that a list lacks differs from each of its numbers
+pub lacks_differs : (list : List ℕ) (x : ℕ) → is_used list x ≡ false → (k d : ℕ) → k < length list → get_or list k d ≢ x
+lacks_differs list x free k d lt e =
+    false≢true (sym free ∙ list_any_at (λ z. eqb z x) list k d lt (eq-eqb (get_or list k d) x e))
+
+pub lacks_from_differs : (list : List ℕ) (x : ℕ) → ((k : ℕ) → k < length list → get_or list k 0 ≢ x) → is_used list x ≡ false
+lacks_from_differs list x differs =
+    list_any_none (λ z. eqb z x) list (λ k d lt. ne_eqb _ _ (λ e. differs k lt (sym (get_or_default_zero list k d lt) ∙ e)))
+
+rank_zero : (list : List ℕ) → rank list 0 ≡ 0
+rank_zero [] = refl
+rank_zero (y ∷ list) =
+    let none : nat_lt y 0 ≡ false = le-ltb y 0 (omega arith) in
+    rw none (rank_zero list)
+
+rank_all : (list : List ℕ) (m : ℕ) → All (λ x. x < m) list → rank list m ≡ length list
+rank_all [] m below = refl
+rank_all (y ∷ list) m below =
+    let lt : nat_lt y m ≡ true = lt-ltb y m (All-head (λ x. x < m) y list below) in
+    let rest = rank_all list m (All-tail (λ x. x < m) y list below) in
+    rw lt (omega (arith, rest))
+
+-- one number more is counted where it stands in the list
+rank_suc : (list : List ℕ) (x : ℕ) → IsDistinct list → rank list (suc x) ≡ rank list x + cond (is_used list x) 1 0
+rank_suc [] x distinct = refl
+rank_suc (y ∷ list) x distinct =
+    let rest = rank_suc list x (distinct_tail y list distinct) in
+    ⊎_elim
+    (λ (same : y ≡ x).
+    let free : is_used list x ≡ false = rw same at (distinct_head y list distinct) in
+    let counted : nat_lt y (suc x) ≡ true = lt-ltb y (suc x) (omega arith) in
+    let before : nat_lt y x ≡ false = le-ltb y x (omega arith) in
+    let own : eqb y x ≡ true = eq-eqb y x same in
+    let none = rw free at rest in
+    rw (counted, before, own) (omega (arith, none)))
+    (λ (order : (y < x) ⊎ (x < y)).
+    ⊎_elim
+    (λ (lt : y < x).
+    let counted : nat_lt y (suc x) ≡ true = lt-ltb y (suc x) (omega arith) in
+    let before : nat_lt y x ≡ true = lt-ltb y x lt in
+    let other : eqb y x ≡ false = ne_eqb y x (λ e. absurd (omega arith)) in
+    rw (counted, before, other) (omega (arith, rest)))
+    (λ (gt : x < y).
+    let counted : nat_lt y (suc x) ≡ false = le-ltb y (suc x) (omega arith) in
+    let before : nat_lt y x ≡ false = le-ltb y x (omega arith) in
+    let other : eqb y x ≡ false = ne_eqb y x (λ e. absurd (omega arith)) in
+    rw (counted, before, other) rest)
+    order)
+    (cases_order y x)
+
+length_single : (b : Bool) (x : ℕ) → length (cond (not b) (x ∷ []) []) + cond b 1 0 ≡ 1
+length_single true x = refl
+length_single false x = refl
+
+-- below x there are x numbers: those that the list lacks and those of the list
+length-unused_rank : (list : List ℕ) (x : ℕ) → IsDistinct list → length (unused x list) + rank list x ≡ x
+length-unused_rank list zero distinct = omega (arith, rank_zero list)
+length-unused_rank list (suc x) distinct =
+    let fewer = length-unused_rank list x distinct in
+    let one : List ℕ = cond (lacks list x) (x ∷ []) [] in
+    omega (arith, ap length (kept_suc (lacks list) x), length-append (kept (lacks list) x) one, fewer, rank_suc list x distinct, length_single (is_used list x) x)
+
+-- of m numbers a list of distinct ones below m lacks the others
+pub length-unused : (list : List ℕ) (m : ℕ) → IsDistinct list → All (λ x. x < m) list → length (unused m list) + length list ≡ m
+length-unused list m distinct below = omega (arith, length-unused_rank list m distinct, rank_all list m below)
+
+-- a number that the list lacks stands after those below it
+pub unused_at : (list : List ℕ) (m x : ℕ) → x < m → is_used list x ≡ false → slice_get (unused m list) (length (unused x list)) ≡ Some x
+unused_at list m x lt free = kept_own (lacks list) x m lt (not_from_false (is_used list x) free)
+
+-- how many numbers below x the list lacks, as x less how many of the list are below x
+pub unused_below : (list : List ℕ) (x : ℕ) → IsDistinct list → length (unused x list) + count_by (λ y. nat_lt y x) list ≡ x
+unused_below list x distinct = omega (arith, length-unused_rank list x distinct, rank_is_count list x)
+
+-- one number more is counted where the list lacks it
+pub unused_more :
+    (list : List ℕ) (x : ℕ) → (is_used list x ≡ false → length (unused (x + 1) list) ≡ length (unused x list) + 1) × (is_used list x ≡ true → length (unused (x + 1) list) ≡ length (unused x list))
+unused_more list x =
+    let one : List ℕ = cond (lacks list x) (x ∷ []) [] in
+    let more = ap length (kept_more (lacks list) x) ∙ length-append (kept (lacks list) x) one in (
+      λ free.
+          let own : length (cond (lacks list x) (x ∷ []) []) ≡ 1 = rw free in
+          omega (arith, more),
+      λ used.
+          let own : length (cond (lacks list x) (x ∷ []) []) ≡ 0 = rw used in
+          omega (arith, more),
+    )

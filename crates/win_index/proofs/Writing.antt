@@ -1,0 +1,46 @@
+-- A window from its number: the quotient is the number of the window without its last identifier, and the
+-- remainder is the place of that one among those that are left.
+use Rattle.std.proofs.Common.{◌≡◌, ℕ, zero, ◌+◌, ◌-◌, ◌*◌, ◌/◌, ◌%◌, ◌<◌, List, length, take, set, slice_get, Some, arith, add-one}
+use Rattle.std.proofs.lemmas.List.{take_more_set}
+use Rattle.std.proofs.lemmas.Nat.{div_below, mod_below, div-add-mod'}
+use Rattle.win_index.specs.Windows.{unused, windows}
+use Rattle.win_index.specs.Falling.{falling}
+use Rattle.win_index.proofs.Unused.{length-unused}
+use Rattle.win_index.proofs.Numbers.{windows-zero, windows_all, window_from_parts, length-windows}
+use Rattle.win_index.proofs.Sizes.{falling-add_one, some_window}
+
+-- the one window of length 0
+pub only_window : (k m n : ℕ) (list : List ℕ) → k ≡ 0 → n < length (windows k m) → slice_get (windows k m) n ≡ Some (take k list)
+only_window k m n list empty lt =
+    let one = length-windows zero m in
+    let few : n < length (windows zero m) = rw empty at lt in
+    let first : n ≡ 0 = omega arith in
+    rw (empty, first, windows-zero m)
+
+pub some_left : (k m last n : ℕ) → k ≡ last + 1 → n < length (windows k m) → last < m
+some_left k m last n more lt = omega (arith, some_window k m n lt)
+
+pub front_below : (k m last n : ℕ) → k ≡ last + 1 → n < length (windows k m) → n / (m - last) < length (windows last m)
+front_below k m last n more lt =
+    let left = some_left k m last n more lt in
+    let here : n < length (windows (last + 1) m) = rw more at lt in
+    let all : n < falling m last * (m - last) =
+    rw (length-windows (last + 1) m, falling-add_one m last) at here in
+    rw (length-windows last m) (div_below n (m - last) (falling m last) (omega arith) all)
+
+pub rest_below :
+    (m last n place : ℕ) (front : List ℕ) → slice_get (windows last m) place ≡ Some front → last < m
+    → n % (m - last) < length (unused m front)
+rest_below m last n place front at' lt =
+    let window = windows_all last m place front at' in
+    omega (arith, length-unused front m window.distinct window.below, window.size, mod_below n (m - last) (omega arith))
+
+pub written :
+    (k m last n x : ℕ) (list : List ℕ) → k ≡ last + 1 → last < length list
+    → slice_get (windows last m) (n / (m - last)) ≡ Some (take last list) → slice_get (unused m (take last list)) (n % (m - last)) ≡ Some x
+    → slice_get (windows k m) n ≡ Some (take k (set list last x))
+written k m last n x list more lt front_at last_at =
+    let new = take_more_set list last x lt in
+    let whole = window_from_parts last m (n / (m - last)) (n % (m - last)) x (take last list) front_at last_at in
+    let number = div-add-mod' n (m - last) in
+    rw (more, new, add-one) (rw number at whole)

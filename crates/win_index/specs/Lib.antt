@@ -1,0 +1,11 @@
+-- The definitions that the contracts cite: windows in order and their numbers, how many there are, the
+-- window after a window, which numbers make a shape, what is wrong first with a ring, and windows at the
+-- places of a ring. Rings themselves stand in node_lang.
+pub mod Windows
+pub mod Falling
+pub mod Lexicographic
+pub mod Successor
+pub mod ShapeRange
+pub mod Arcs
+pub mod ShapeFaults
+pub mod RingFaults

@@ -1,0 +1,157 @@
+// Lists of distinct numbers below `ids`, of any length, in lexicographic order.
+ghost use Rattle.std.specs.Prelude.{◌≡◌, ◌≢◌, ℕ, ◌+◌, ◌-◌, ◌^◌, ◌<◌, ◌≤◌, ◌↔◌, IsTrue, IfSome, Some, not, find, length, take, slice_get, nat_lt, count_by, AllPairs};
+ghost use Rattle.std.specs.Bool.{OnTrue, OnFalse};
+ghost use Rattle.std.specs.List.{range_with_len};
+ghost use Rattle.win_index.specs.Windows.{is_used, unused, windows, number_of, IsWindow};
+ghost use Rattle.win_index.specs.Falling.{falling};
+ghost use Rattle.win_index.specs.Successor.{IsNext, IsLast};
+
+// How many such lists of this length there are.
+pub(crate) fn count_of_lists(ids: u32, len: usize) -> u64
+    requires len { len ≤ ids }
+    requires fits { falling ids len < 2 ^ 64 }
+    ensures { result ≡ length (windows len ids) }
+{
+    let mut count = 1;
+    for place in 0..len {
+        count *= u64::from(ids) - place as u64;
+    }
+    count
+}
+
+// Whether at most `most` lists of this length are there.
+pub(crate) fn are_few(ids: u32, len: usize, most: u32) -> bool
+    requires { len ≤ ids }
+    ensures { IsTrue result ↔ (length (windows len ids) ≤ most) }
+{
+    let most = u64::from(most);
+    let mut count = 1;
+    for place in 0..len {
+        count *= u64::from(ids) - place as u64;
+        if count > most {
+            return false;
+        }
+    }
+    count <= most
+}
+
+// Whether the list has distinct numbers below `ids`.
+pub(crate) fn is_window(ids: u32, list: &[u32]) -> bool
+    ensures { IsTrue result ↔ IsWindow (length list.now) ids list.now }
+{
+    for (place, x) in list.iter().enumerate() {
+        if *x >= ids || list[..place].contains(x) {
+            return false;
+        }
+    }
+    true
+}
+
+// How many of the numbers are below x.
+fn smaller_before(before: &[u32], x: u32) -> usize
+    ensures { result ≡ count_by (λ y. nat_lt y x) before.now }
+{
+    before.iter().filter(|y| **y < x).count()
+}
+
+// How many numbers below x are not among the distinct ones before.
+fn unused_below(before: &[u32], x: u32) -> u64
+    requires { AllPairs (λ a b. a ≢ b) before.now }
+    ensures { result ≡ length (unused x before.now) }
+{
+    u64::from(x) - smaller_before(before, x) as u64
+}
+
+// The number of the list among those of its length.
+pub(crate) fn number_of_list(ids: u32, list: &[u32]) -> u64
+    requires window { IsWindow (length list.now) ids list.now }
+    requires fits { falling ids (length list.now) < 2 ^ 64 }
+    ensures number { slice_get (windows (length list.now) ids) result ≡ Some list.now }
+    ensures below { result < falling ids (length list.now) }
+{
+    let mut number = 0;
+    for (place, x) in list.iter().enumerate() {
+        let free = u64::from(ids) - place as u64;
+        let digit = unused_below(&list[..place], *x);
+        number = number * free + digit;
+    }
+    number
+}
+
+// The number of the list among those of this length, or `None` where it is none of them.
+pub(crate) fn find_number(ids: u32, len: usize, list: &[u32]) -> Option<u64>
+    requires { falling ids len < 2 ^ 64 }
+    ensures number { result ≡ number_of len ids list.now }
+    ensures below { IfSome result (λ n. n < falling ids len) }
+{
+    if list.len() == len && is_window(ids, list) {
+        Some(number_of_list(ids, list))
+    } else {
+        None
+    }
+}
+
+// The least number from `low` on that is below `ids` and not among those before.
+fn least_unused(ids: u32, before: &[u32], low: u32) -> Option<u32>
+    ensures { result ≡ find (λ x. not (is_used before.now x)) (range_with_len low (ids - low)) }
+{
+    (low..ids).find(|x| !before.contains(x))
+}
+
+// The number below `ids` that stands at this place of those that are not among the ones before.
+fn nth_unused(ids: u32, before: &[u32], place: u64) -> u32
+    requires { place < length (unused ids before.now) }
+    ensures { slice_get (unused ids before.now) place ≡ Some result }
+{
+    let mut left = place;
+    for x in 0..ids {
+        if !before.contains(&x) {
+            if left == 0 {
+                return x;
+            }
+            left -= 1;
+        }
+    }
+    unreachable!()
+}
+
+// Writes the list with this number, of those of `len` numbers, into the first `len` cells.
+pub(crate) fn write_list(ids: u32, number: u64, list: &mut [u32], len: usize)
+    requires room { len ≤ length list.old }
+    requires below { number < length (windows len ids) }
+    ensures item { slice_get (windows len ids) number ≡ Some (take len list.new) }
+    ensures window { IsWindow len ids (take len list.new) }
+{
+    if len == 0 {
+        return;
+    }
+    let last = len - 1;
+    let free = u64::from(ids) - last as u64;
+    write_list(ids, number / free, list, last);
+    list[last] = nth_unused(ids, &list[..last], number % free);
+}
+
+// Writes the next list over the one in the first `len` cells, or says that it is the last.
+pub(crate) fn write_next(ids: u32, list: &mut [u32], len: usize) -> bool
+    requires room { len ≤ length list.old }
+    requires window { IsWindow len ids (take len list.old) }
+    ensures next { OnTrue result (IsNext len ids (take len list.old) (take len list.new)) }
+    ensures last { OnFalse result (IsLast len ids (take len list.old)) }
+    ensures same { OnFalse result (list.new ≡ list.old) }
+    ensures window { IsWindow len ids (take len list.new) }
+{
+    if len == 0 {
+        return false;
+    }
+    let last = len - 1;
+    let current = list[last];
+    if let Some(next) = least_unused(ids, &list[..last], current + 1) {
+        list[last] = next;
+        return true;
+    }
+    if !write_next(ids, list, last) {
+        return false;
+    }
+    list[last] = nth_unused(ids, &list[..last], 0);
+    true
+}

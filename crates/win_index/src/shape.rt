@@ -1,0 +1,157 @@
+ghost use Rattle.std.specs.Prelude.{◌≤◌};
+ghost use Rattle.win_index.specs.ShapeRange.{HasIds, HasFewWindows};
+
+use crate::arrangement::{
+    are_few, count_of_lists, find_number, number_of_list, write_list, write_next,
+};
+
+/// Why there is no shape.
+#[derive(Clone, Copy, Debug, PartialEq, Eq)]
+pub enum ShapeFault {
+    /// X1: fewer than `2t+2` identifiers for `t` rounds, or more than 1,024.
+    IdsOutOfRange,
+    /// X2: more than `2^20` windows of level `t`.
+    TooManyWindows,
+}
+
+/// A number of identifiers and a number of rounds: `t` rounds, 0 to 3, and `2t+2` to 1,024 identifiers,
+/// of which there are at most `2^20` windows of level `t`. Identifiers are the numbers below their number.
+/// A window of level `r` is a list of `2r+1` distinct identifiers, for `r` from 0 to `t`, and a tuple is a
+/// list of `2t+2` distinct identifiers. Windows of a level, and tuples, are numbered in lexicographic order.
+#[derive(Clone, Copy, Debug, PartialEq, Eq)]
+pub struct Shape {
+    pub ids: u32,
+    pub rounds: u32,
+    pub ghost few_rounds: { rounds ≤ 3 },
+    pub ghost in_range: { HasIds ids rounds },
+    pub ghost few_windows: { HasFewWindows ids rounds },
+}
+
+impl Shape {
+    ghost use Rattle.std.specs.Prelude.{◌≡◌, ◌+◌, ◌*◌, ◌<◌, ◌↔◌, IfOk, IfErr, IsOk, Some, length, slice_get};
+    ghost use Rattle.std.specs.Bool.{OnTrue, OnFalse};
+    ghost use Rattle.win_index.specs.Windows.{windows, number_of, IsWindow};
+    ghost use Rattle.win_index.specs.Successor.{IsNext, IsLast};
+    ghost use Rattle.win_index.specs.ShapeRange.{IsShape};
+    ghost use Rattle.win_index.specs.ShapeFaults.{IsFirstShapeFault};
+
+    /// The shape of `ids` identifiers and `rounds` rounds, or what is wrong first: `IdsOutOfRange`, else
+    /// `TooManyWindows`.
+    pub fn new(ids: u32, rounds: u32) -> Result<Shape, ShapeFault>
+        requires { rounds ≤ 3 }
+        ensures ok { IfOk result (λ shape. (shape.ids ≡ ids) × (shape.rounds ≡ rounds)) }
+        ensures exact { IsOk result ↔ IsShape ids rounds }
+        ensures err { IfErr result (IsFirstShapeFault ids rounds) }
+    {
+        if ids < 2 * rounds + 2 || ids > 1024 {
+            return Err(ShapeFault::IdsOutOfRange);
+        }
+        if !are_few(ids, window_len(rounds), 1 << 20) {
+            return Err(ShapeFault::TooManyWindows);
+        }
+        Ok(Shape { ids, rounds })
+    }
+
+    /// The number of identifiers; identifiers are the numbers below it.
+    pub fn ids(&self) -> u32
+        ensures { result ≡ self.now.ids }
+    {
+        self.ids
+    }
+
+    /// The number of rounds, 0 to 3.
+    pub fn rounds(&self) -> u32
+        ensures { result ≡ self.now.rounds }
+    {
+        self.rounds
+    }
+
+    /// How many windows of this level there are.
+    pub fn count(&self, level: u32) -> u32
+        requires { level ≤ self.now.rounds }
+        ensures { result ≡ length (windows (2 * level + 1) self.now.ids) }
+    {
+        count_of_lists(self.ids, window_len(level)) as u32
+    }
+
+    /// How many tuples there are.
+    pub fn tuples(&self) -> u64
+        ensures { result ≡ length (windows (2 * self.now.rounds + 2) self.now.ids) }
+    {
+        count_of_lists(self.ids, tuple_len(self.rounds))
+    }
+
+    /// The number of a window of this level, or `None` where the list is no such window.
+    pub fn number(&self, level: u32, list: &[u32]) -> Option<u32>
+        requires { level ≤ self.now.rounds }
+        ensures { result ≡ number_of (2 * level + 1) self.now.ids list.now }
+    {
+        let number = find_number(self.ids, window_len(level), list)?;
+        Some(number as u32)
+    }
+
+    /// The number of a list that is known to be a window of this level.
+    pub fn window_number(&self, level: u32, window: &[u32]) -> u32
+        requires level { level ≤ self.now.rounds }
+        requires window { IsWindow (2 * level + 1) self.now.ids window.now }
+        ensures { number_of (2 * level + 1) self.now.ids window.now ≡ Some result }
+    {
+        number_of_list(self.ids, window) as u32
+    }
+
+    /// Writes the window of this level with this number into the `2r+1` cells of `out`.
+    pub fn window(&self, level: u32, number: u32, out: &mut [u32])
+        requires level { level ≤ self.now.rounds }
+        requires below { number < length (windows (2 * level + 1) self.now.ids) }
+        requires room { length out.old ≡ 2 * level + 1 }
+        ensures item { slice_get (windows (2 * level + 1) self.now.ids) number ≡ Some out.new }
+        ensures window { IsWindow (2 * level + 1) self.now.ids out.new }
+    {
+        write_list(self.ids, u64::from(number), out, window_len(level));
+    }
+
+    /// Writes the next window of this level over a window and says `true`, or says `false` and changes
+    /// nothing where it is the last.
+    pub fn next_window(&self, level: u32, window: &mut [u32]) -> bool
+        requires level { level ≤ self.now.rounds }
+        requires window { IsWindow (2 * level + 1) self.now.ids window.old }
+        ensures next { OnTrue result (IsNext (2 * level + 1) self.now.ids window.old window.new) }
+        ensures last { OnFalse result (IsLast (2 * level + 1) self.now.ids window.old) }
+        ensures same { OnFalse result (window.new ≡ window.old) }
+        ensures window { IsWindow (2 * level + 1) self.now.ids window.new }
+    {
+        write_next(self.ids, window, window_len(level))
+    }
+
+    /// The number of a tuple, or `None` where the list is no tuple.
+    pub fn tuple_number(&self, list: &[u32]) -> Option<u64>
+        ensures { result ≡ number_of (2 * self.now.rounds + 2) self.now.ids list.now }
+    {
+        find_number(self.ids, tuple_len(self.rounds), list)
+    }
+
+    /// Writes the tuple with this number into the `2t+2` cells of `out`.
+    pub fn tuple(&self, number: u64, out: &mut [u32])
+        requires below { number < length (windows (2 * self.now.rounds + 2) self.now.ids) }
+        requires room { length out.old ≡ 2 * self.now.rounds + 2 }
+        ensures { slice_get (windows (2 * self.now.rounds + 2) self.now.ids) number ≡ Some out.new }
+    {
+        write_list(self.ids, number, out, tuple_len(self.rounds));
+    }
+}
+
+ghost use Rattle.std.specs.Prelude.{◌≡◌, ◌+◌, ◌*◌};
+
+// How many identifiers a window of this level has.
+fn window_len(level: u32) -> usize
+    ensures { result ≡ 2 * level + 1 }
+{
+    2 * level as usize + 1
+}
+
+// How many identifiers a tuple has.
+fn tuple_len(rounds: u32) -> usize
+    ensures { result ≡ 2 * rounds + 2 }
+{
+    2 * rounds as usize + 2
+}

@@ -1,0 +1,142 @@
+use crate::ring::{Ring, RingFault};
+use crate::shape::{Shape, ShapeFault};
+use std::test::Fail;
+
+// A shape of 8 identifiers.
+fn shape_of_eight(rounds: u32) -> Option<Shape>
+    requires { rounds ≤ 3 }
+    ensures { IfSome result (λ shape. shape.rounds ≡ rounds) }
+{
+    Shape::new(8, rounds).ok()
+}
+
+ghost use Rattle.std.specs.Prelude.{◌≡◌, ◌≤◌, IfSome};
+
+#[test]
+fn windows_of_eight_identifiers(rt: HostRuntime) -> Result<(), Fail> {
+    let shape = shape_of_eight(1).ok_or("a shape")?;
+    assert!(rt; shape.rounds() == 1);
+    let count = shape.count(1);
+    assert!(rt; count == 336);
+    let table = [
+        ([0, 1, 2], 0),
+        ([6, 0, 5], 256),
+        ([7, 5, 1], 325),
+        ([7, 6, 5], 335),
+    ];
+    for (window, number) in table {
+        assert_eq!(rt; shape.number(1, &window), Some(number));
+        let mut out = [0; 3];
+        if number < count {
+            shape.window(1, number, &mut out);
+        }
+        assert_eq!(rt; out, window);
+    }
+    assert_eq!(rt; shape.number(1, &[7, 5, 7]), None);
+    assert_eq!(rt; shape.number(1, &[7, 5, 8]), None);
+    assert_eq!(rt; shape.number(1, &[7, 5]), None);
+    Ok(())
+}
+
+#[test]
+fn a_window_of_seven_identifiers(rt: HostRuntime) -> Result<(), Fail> {
+    let shape = shape_of_eight(3).ok_or("a shape")?;
+    assert!(rt; shape.rounds() == 3);
+    let count = shape.count(3);
+    assert!(rt; count == 40320);
+    assert_eq!(rt; shape.number(3, &[5, 1, 3, 7, 0, 2, 4]), Some(26256));
+    let mut out = [0; 7];
+    shape.window(3, 26256, &mut out);
+    assert_eq!(rt; out, [5, 1, 3, 7, 0, 2, 4]);
+    Ok(())
+}
+
+#[test]
+fn windows_one_after_another(rt: HostRuntime) -> Result<(), Fail> {
+    let shape = shape_of_eight(1).ok_or("a shape")?;
+    assert!(rt; shape.rounds() == 1);
+    assert!(rt; shape.count(1) == 336);
+    let mut window = [0; 3];
+    for number in 0..335 {
+        shape.window(1, number, &mut window);
+        assert_eq!(rt; shape.window_number(1, &window), number);
+        assert!(rt; shape.next_window(1, &mut window));
+        assert_eq!(rt; shape.number(1, &window), Some(number + 1));
+    }
+    shape.window(1, 335, &mut window);
+    assert!(rt; !shape.next_window(1, &mut window));
+    assert_eq!(rt; window, [7, 6, 5]);
+    Ok(())
+}
+
+#[test]
+fn tuples_of_eight_identifiers(rt: HostRuntime) -> Result<(), Fail> {
+    let shape = shape_of_eight(1).ok_or("a shape")?;
+    assert!(rt; shape.rounds() == 1);
+    let count = shape.tuples();
+    assert!(rt; count == 1680);
+    let mut out = [0; 4];
+    shape.tuple(0, &mut out);
+    assert_eq!(rt; out, [0, 1, 2, 3]);
+    shape.tuple(1679, &mut out);
+    assert_eq!(rt; out, [7, 6, 5, 4]);
+    assert_eq!(rt; shape.tuple_number(&out), Some(1679));
+    assert_eq!(rt; shape.tuple_number(&[7, 6, 5, 7]), None);
+    Ok(())
+}
+
+#[test]
+fn the_range_of_shapes(rt: HostRuntime) {
+    assert_eq!(rt; Shape::new(3, 1), Err(ShapeFault::IdsOutOfRange));
+    assert_eq!(rt; Shape::new(1025, 0), Err(ShapeFault::IdsOutOfRange));
+    assert_eq!(rt; Shape::new(103, 1), Err(ShapeFault::TooManyWindows));
+    assert_eq!(rt; Shape::new(1024, 3), Err(ShapeFault::TooManyWindows));
+    assert!(rt; Shape::new(102, 1).is_ok());
+    assert!(rt; Shape::new(4, 1).is_ok());
+    assert!(rt; Shape::new(1024, 0).is_ok());
+}
+
+#[test]
+fn rings_and_their_first_faults(rt: HostRuntime) -> Result<(), Fail> {
+    let shape = shape_of_eight(1).ok_or("a shape")?;
+    let faults = [
+        ([0, 1, 2].as_slice(), RingFault::TooShort),
+        ([0, 1, 2, 3, 4, 5, 6, 7, 0].as_slice(), RingFault::TooLong),
+        ([0, 1, 2, 8].as_slice(), RingFault::IdTooLarge(3)),
+        ([0, 1, 2, 0].as_slice(), RingFault::Repeated(0, 3)),
+        ([0, 0, 8, 1].as_slice(), RingFault::Repeated(0, 1)),
+        ([0, 1, 8, 0].as_slice(), RingFault::IdTooLarge(2)),
+    ];
+    for (ids, want) in faults {
+        let (back, fault) = Ring::new(shape, ids.to_vec(rt.alloc())?)
+            .err()
+            .ok_or("no ring")?;
+        assert_eq!(rt; back.as_slice(), ids);
+        assert_eq!(rt; fault, want);
+    }
+    Ok(())
+}
+
+#[test]
+fn windows_round_the_end_of_a_ring(rt: HostRuntime) -> Result<(), Fail> {
+    let shape = shape_of_eight(1).ok_or("a shape")?;
+    let ring = Ring::new(shape, [5, 1, 3, 7].to_vec(rt.alloc())?)
+        .ok()
+        .ok_or("a ring")?;
+    assert!(rt; ring.len() == 4);
+    assert!(rt; ring.shape().rounds() == 1);
+    assert_eq!(rt; ring.id(2), 3);
+    let mut out = [0; 3];
+    ring.window_at(0, 1, &mut out);
+    assert_eq!(rt; out, [7, 5, 1]);
+    ring.window_at(3, 1, &mut out);
+    assert_eq!(rt; out, [3, 7, 5]);
+    ring.window_at(1, 1, &mut out);
+    assert_eq!(rt; out, [5, 1, 3]);
+    let turned = Ring::new(shape, [1, 3, 7, 5].to_vec(rt.alloc())?)
+        .ok()
+        .ok_or("a ring")?;
+    assert!(rt; ring.same(&ring));
+    assert!(rt; !ring.same(&turned));
+    Ok(())
+}
