@@ -1,5 +1,6 @@
 pub mod Numbers
 pub mod Placing
+pub mod Writing
 pub mod Registers
 pub mod Tokens
 pub mod Counts
