@@ -9,4 +9,7 @@ pub mod Blocks
 pub mod Wholes
 pub mod Passing
 pub mod OneReading
+pub mod Lexing
+pub mod ReadBack
+pub mod PrintedLength
 pub mod Faulting

@@ -14,7 +14,7 @@ mod tree;
 mod words;
 
 pub use fault::{FaultKind, TextFault};
-pub use laws::one_reading;
+pub use laws::{one_reading, printed_is_read_back};
 pub use memory::OutOfMemory;
 pub use printing::print;
 pub use program::Program;
