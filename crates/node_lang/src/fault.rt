@@ -39,10 +39,7 @@ impl<T: Drop> From<AllocFailed<T>> for TextFault {
     ghost from_gives = { λ _ f. f ≡ record { kind = OutOfMemory; offset = 0 } };
 
     fn from(_refused: AllocFailed<T>) -> TextFault {
-        TextFault {
-            kind: FaultKind::OutOfMemory,
-            offset: 0,
-        }
+        TextFault::from(AllocError)
     }
 }
 
