@@ -45,7 +45,7 @@ blocks-append (t ∷ ss) s more = ap (block t) (blocks-append ss s more)
 terms-append : (ss : List Step) (s : Step) → step_terms (ss ++ s ∷ []) ≡ step_terms ss ++ terms_of_step s
 terms-append ss s = flat_map-append terms_of_step ss (s ∷ []) ∙ ap (λ xs. step_terms ss ++ xs) (append-nil (terms_of_step s))
 
-size-step : (s : Step) → sum_by size (terms_of_step s) ≡ size s.left + (size s.right + sum_by size s.next)
+pub size-step : (s : Step) → sum_by size (terms_of_step s) ≡ size s.left + (size s.right + sum_by size s.next)
 size-step s = sum_by-cons size s.left (s.right ∷ s.next) ∙ ap (λ n. size s.left + n) (sum_by-cons size s.right s.next)
 
 pub next_round : (count registers j nodes nodes2 nodes3 : ℕ) (ls left left2 : List Lexeme) (rs : List Round) (r : Round) → j < count →

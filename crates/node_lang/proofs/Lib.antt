@@ -1,5 +1,7 @@
 pub mod Numbers
 pub mod Placing
+pub mod Writing
+pub mod Registers
 pub mod Tokens
 pub mod Counts
 pub mod Assigning
@@ -7,4 +9,7 @@ pub mod Blocks
 pub mod Wholes
 pub mod Passing
 pub mod OneReading
+pub mod Lexing
+pub mod ReadBack
+pub mod PrintedLength
 pub mod Faulting

@@ -43,13 +43,13 @@ middle w k x y z p q = rw (p, q) refl
 last : {X : Type 0} (w k : Bool) (x y z : X) → w ≡ false → k ≡ false → cond w x (cond k y z) ≡ z
 last w k x y z p q = rw (p, q) refl
 
-blank_in_front : (b : ℕ) (bs : List ℕ) → is_blank b ≡ true → lexemes_of (b ∷ bs) ≡ lexemes_of bs
+pub blank_in_front : (b : ℕ) (bs : List ℕ) → is_blank b ≡ true → lexemes_of (b ∷ bs) ≡ lexemes_of bs
 blank_in_front b bs h =
     lexemes_of-cons b bs (blank_no_comment b h)
     ∙ ap (λ (s : Split). joined (suc (length (blanked false bs))) s.word s.rest) (middle (is_word_byte b) (is_blank b) _ _ _ (blank_no_word b h) h)
     ∙ sym (lexemes_of-blanked bs)
 
-mark_in_front : (b : ℕ) (bs : List ℕ) → is_word_byte b ≡ false → is_blank b ≡ false → (b == 35) ≡ false →
+pub mark_in_front : (b : ℕ) (bs : List ℕ) → is_word_byte b ≡ false → is_blank b ≡ false → (b == 35) ≡ false →
     lexemes_of (b ∷ bs) ≡ record { from = suc (length bs); token = mark_token b } ∷ lexemes_of bs
 mark_in_front b bs no_word no_blank no_comment =
     lexemes_of-cons b bs no_comment

@@ -6,7 +6,7 @@ use Rattle.std.proofs.lemmas.List.Elements.{All-append, All-cons, All-nil}
 use Rattle.std.proofs.lemmas.List.{length-map}
 use Rattle.node_lang.specs.declared.tree.Expr.{Expr}
 use Rattle.node_lang.specs.declared.tree.Round.{Round}
-use Rattle.node_lang.specs.Term.{step_of, term_of, depth, largest, program_tree, ProgramTree, size, step_terms, terms}
+use Rattle.node_lang.specs.Term.{step_of, term_of, depth, largest, largest_register, program_tree, ProgramTree, size, step_terms, terms}
 use Rattle.node_lang.specs.Limits.{IsSmall, IsWithinLimits}
 
 small_terms : (p : ProgramTree) → All IsSmall p.start → All IsSmall (step_terms p.steps) → IsSmall p.finish → All IsSmall (terms p)
@@ -30,6 +30,7 @@ pub record HasParts (channels rounds registers nodes : ℕ) (start : List Expr) 
   pub small_steps : All IsSmall (step_terms (map step_of steps))
   pub depth : 1 + depth (term_of finish) ≤ 65
   pub numbers : largest (term_of finish) < 2 ^ 32
+  pub one_digit : largest_register (term_of finish) < 10
   pub nodes_are : nodes ≡ sum_by size (map term_of start) + (sum_by size (step_terms (map step_of steps)) + size (term_of finish))
   pub few_nodes : nodes ≤ 4096
 
@@ -37,7 +38,7 @@ pub within_limits : (channels rounds registers nodes : ℕ) (start : List Expr) 
     HasParts channels rounds registers nodes start steps finish → IsWithinLimits (program_tree channels start steps finish)
 within_limits channels rounds registers nodes start steps finish h =
     let count : length (map term_of start) ≡ registers = length-map start term_of ∙ h.start_is in
-    let finish_small : IsSmall (term_of finish) = record { depth = omega (arith, h.depth); numbers = h.numbers } in
+    let finish_small : IsSmall (term_of finish) = record { depth = omega (arith, h.depth); numbers = h.numbers; registers = h.one_digit } in
     record {
       rounds = omega (arith, length-map steps step_of, h.steps_are, h.few_rounds);
       some_channels = h.some_channels;

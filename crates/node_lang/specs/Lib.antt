@@ -1,6 +1,6 @@
 -- The definitions that the contracts cite, in the order of a textbook: programs as trees, the values of
 -- operations and expressions, what a node does, rings and global rounds, then the words, tokens and
--- grammar of a program text and how it is read from the left.
+-- grammar of a program text, its printed form, and how a text is read from the left.
 pub mod Term
 pub mod Limits
 pub mod Operations
@@ -10,6 +10,7 @@ pub mod Ring
 pub mod Words
 pub mod Lexemes
 pub mod Grammar
+pub mod Printed
 pub mod Reading
 pub mod Faults
 pub mod Viable

@@ -1,11 +1,12 @@
 -- The limits that the type of a program keeps.
 use Rattle.std.specs.Prelude.{◌≡◌, ◌^◌, ◌<◌, ◌≤◌, length, All, sum_by}
-use Rattle.node_lang.specs.Term.{Term, ProgramTree, depth, size, largest, terms}
+use Rattle.node_lang.specs.Term.{Term, ProgramTree, depth, size, largest, largest_register, terms}
 
--- an expression is at most 64 deep, and its numbers are below 2^32
+-- an expression is at most 64 deep, its numbers are below 2^32, and its registers have one digit
 pub record IsSmall (e : Term) : Type 0 where
   pub depth : depth e ≤ 64
   pub numbers : largest e < 2 ^ 32
+  pub registers : largest_register e < 10
 
 pub record IsWithinLimits (p : ProgramTree) : Type 0 where
   pub rounds : length p.steps ≤ 3

@@ -64,9 +64,12 @@ abbrev pub keywords : List Token
 keywords = token.Rounds ∷ token.Channels ∷ token.Registers ∷ token.Start ∷ token.Round ∷ token.Send ∷ token.Left
     ∷ token.Right ∷ token.Finish ∷ token.Id ∷ token.FromLeft ∷ token.FromRight ∷ []
 
--- the operations whose names are words of the language so far
+-- the seventeen operations
 abbrev pub operations : List Token
-operations = token.Binary op.Shl ∷ token.Binary op.Add ∷ token.Binary op.Ldb ∷ token.Binary op.Bit ∷ []
+operations = token.Unary Not ∷ token.Binary op.And ∷ token.Binary op.Or ∷ token.Binary op.Xor ∷ token.Binary op.Shl
+    ∷ token.Binary op.Shr ∷ token.Binary op.Add ∷ token.Binary op.Sub ∷ token.Binary op.Min ∷ token.Binary op.Max
+    ∷ token.Binary op.Ldb ∷ token.Binary op.Bit ∷ token.Binary op.Eq ∷ token.Binary op.Ne ∷ token.Binary op.Lt
+    ∷ token.Binary op.Le ∷ token.If ∷ []
 
 -- the token among these that is spelled as this word
 abbrev pub named : List Token → List ℕ → Option Token
@@ -102,3 +105,8 @@ word_token word = if list_all is_digit word then number_token word
 abbrev pub mark_token : ℕ → Token
 mark_token b = if b == 40 then token.Open else if b == 41 then token.Close
     else if b == 44 then token.Comma else if b == 61 then token.Equals else token.Unknown
+
+-- the register that a token names, or 0
+abbrev pub register_of : Token → ℕ
+register_of (token.Register j) = j
+register_of _ = 0

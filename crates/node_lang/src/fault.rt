@@ -1,4 +1,4 @@
-use std::alloc::AllocFailed;
+use std::alloc::{AllocError, AllocFailed};
 
 /// What is wrong with a program text. The report names a kind by `N` and its number.
 #[derive(Clone, Copy, Debug, PartialEq, Eq)]
@@ -39,6 +39,17 @@ impl<T: Drop> From<AllocFailed<T>> for TextFault {
     ghost from_gives = { λ _ f. f ≡ record { kind = OutOfMemory; offset = 0 } };
 
     fn from(_refused: AllocFailed<T>) -> TextFault {
+        TextFault::from(AllocError)
+    }
+}
+
+impl From<AllocError> for TextFault {
+    ghost use Rattle.std.specs.Prelude.{◌≡◌};
+    ghost use Rattle.node_lang.specs.declared.fault.FaultKind.TheVariants.{OutOfMemory};
+
+    ghost from_gives = { λ _ f. f ≡ record { kind = OutOfMemory; offset = 0 } };
+
+    fn from(_refused: AllocError) -> TextFault {
         TextFault {
             kind: FaultKind::OutOfMemory,
             offset: 0,

@@ -6,6 +6,7 @@ mod laws;
 mod lexer;
 mod memory;
 mod parser;
+mod printing;
 mod program;
 mod text;
 mod token;
@@ -13,8 +14,12 @@ mod tree;
 mod words;
 
 pub use fault::{FaultKind, TextFault};
-pub use laws::one_reading;
+pub use laws::{one_reading, printed_is_read_back};
 pub use memory::OutOfMemory;
+pub use printing::print;
 pub use program::Program;
 pub use text::parse;
 pub use tree::{BinOp, Expr, Round, UnOp};
+
+#[cfg(test)]
+mod tests;

@@ -1,8 +1,9 @@
 ghost use Rattle.std.specs.Prelude.{◌≡◌, ◌≢◌, ℕ, ◌+◌, ◌-◌, ◌^◌, ◌<◌, ◌≤◌, [], ◌∷◌, List, Ok, Err, length, map, max, sum_by, All, true, IfOk, IfErr};
 ghost use Rattle.node_lang.specs.declared.fault.FaultKind.TheVariants as kind;
 ghost use Rattle.node_lang.specs.declared.token.Token.TheVariants as token;
-ghost use Rattle.node_lang.specs.Term.{depth, largest, size, step_of, step_terms, term_of};
+ghost use Rattle.node_lang.specs.Term.{depth, largest, largest_register, size, step_of, step_terms, term_of};
 ghost use Rattle.node_lang.specs.Limits.{IsSmall, IsWithinLimits};
+ghost use Rattle.node_lang.specs.Words.{register_of};
 ghost use Rattle.node_lang.specs.Lexemes.{tokens_in};
 ghost use Rattle.node_lang.specs.Grammar.{assigned, block, blocks, spelled, spelling};
 ghost use Rattle.node_lang.specs.Reading.{Want, Exactly, Expression, RoundCount, Go, Stop, Whole, Fault, program_wanted, IsCount, after_count, assigns_wanted, block_wanted, blocks_wanted, body_wanted, reading, node, fault_of, same_token, lexemes_left, Passes, Stops};
@@ -39,12 +40,14 @@ pub(crate) struct Parser<'a> {
 
 impl<'a> Parser<'a> {
     // The next token and its place.
+    #[tactic(auto, using(crate::proofs::Registers::one_digit))]
     fn next(&mut self) -> Result<(Token, usize), TextFault>
         ensures text { self.new.text.now ≡ self.old.text.now }
         ensures nodes { self.new.nodes ≡ self.old.nodes }
         ensures ok { IfOk result (λ t. lexemes_left self.old.text.now self.old.at
             ≡ record { from = length self.old.text.now - t.1; token = t.0 } ∷ lexemes_left self.new.text.now self.new.at) }
         ensures lawful { IfOk result (λ t. fault_of t.0 ≡ kind.Unexpected) }
+        ensures register { IfOk result (λ t. register_of t.0 < 10) }
         ensures place { IfOk result (λ t. t.1 ≤ length self.old.text.now) }
         ensures err { IfErr result (λ f. (w : Want) (more : List Want) (nodes : ℕ) →
             reading (w ∷ more) nodes (lexemes_left self.old.text.now self.old.at) ≡ Fault f.kind (length self.old.text.now - f.offset)) }
@@ -134,6 +137,7 @@ impl<'a> Parser<'a> {
             ≡ spelled (term_of e) (tokens_in (lexemes_left self.new.text.now self.new.at))) }
         ensures depth { IfOk result (λ e. level + depth (term_of e) ≤ 65) }
         ensures numbers { IfOk result (λ e. largest (term_of e) < 2 ^ 32) }
+        ensures registers { IfOk result (λ e. largest_register (term_of e) < 10) }
         ensures size { IfOk result (λ e. self.new.nodes ≡ self.old.nodes + size (term_of e)) }
         ensures err { IfErr result (Stops (λ more. Expression level ∷ more)
             self.old.nodes (lexemes_left self.old.text.now self.old.at) (length self.old.text.now)) }
@@ -187,6 +191,7 @@ impl<'a> Parser<'a> {
             ≡ token.Open ∷ spelled (term_of e) (token.Close ∷ tokens_in (lexemes_left self.new.text.now self.new.at))) }
         ensures depth { IfOk result (λ e. level + depth (term_of e) ≤ 65) }
         ensures numbers { IfOk result (λ e. largest (term_of e) < 2 ^ 32) }
+        ensures registers { IfOk result (λ e. largest_register (term_of e) < 10) }
         ensures size { IfOk result (λ e. self.new.nodes ≡ self.old.nodes + size (term_of e)) }
         ensures err { IfErr result (Stops (λ more. Exactly token.Open ∷ Expression level ∷ Exactly token.Close ∷ more)
             self.old.nodes (lexemes_left self.old.text.now self.old.at) (length self.old.text.now)) }
@@ -209,6 +214,7 @@ impl<'a> Parser<'a> {
             ≡ token.Open ∷ spelled (term_of e.0) (token.Comma ∷ spelled (term_of e.1) (token.Close ∷ tokens_in (lexemes_left self.new.text.now self.new.at)))) }
         ensures depth { IfOk result (λ e. level + max (depth (term_of e.0)) (depth (term_of e.1)) ≤ 65) }
         ensures numbers { IfOk result (λ e. max (largest (term_of e.0)) (largest (term_of e.1)) < 2 ^ 32) }
+        ensures registers { IfOk result (λ e. max (largest_register (term_of e.0)) (largest_register (term_of e.1)) < 10) }
         ensures size { IfOk result (λ e. self.new.nodes ≡ self.old.nodes + (size (term_of e.0) + size (term_of e.1))) }
         ensures err { IfErr result (Stops (λ more. Exactly token.Open ∷ Expression level ∷ Exactly token.Comma ∷ Expression level ∷ Exactly token.Close ∷ more)
             self.old.nodes (lexemes_left self.old.text.now self.old.at) (length self.old.text.now)) }
@@ -233,6 +239,7 @@ impl<'a> Parser<'a> {
             ≡ token.Open ∷ spelled (term_of e.0) (token.Comma ∷ spelled (term_of e.1) (token.Comma ∷ spelled (term_of e.2) (token.Close ∷ tokens_in (lexemes_left self.new.text.now self.new.at))))) }
         ensures depth { IfOk result (λ e. level + max (depth (term_of e.0)) (max (depth (term_of e.1)) (depth (term_of e.2))) ≤ 65) }
         ensures numbers { IfOk result (λ e. max (largest (term_of e.0)) (max (largest (term_of e.1)) (largest (term_of e.2))) < 2 ^ 32) }
+        ensures registers { IfOk result (λ e. max (largest_register (term_of e.0)) (max (largest_register (term_of e.1)) (largest_register (term_of e.2))) < 10) }
         ensures size { IfOk result (λ e. self.new.nodes ≡ self.old.nodes + (size (term_of e.0) + (size (term_of e.1) + size (term_of e.2)))) }
         ensures err { IfErr result (Stops (λ more. Exactly token.Open ∷ Expression level ∷ Exactly token.Comma ∷ Expression level ∷ Exactly token.Comma ∷ Expression level ∷ Exactly token.Close ∷ more)
             self.old.nodes (lexemes_left self.old.text.now self.old.at) (length self.old.text.now)) }

@@ -19,8 +19,7 @@ fn high_byte(text: &[u8]) -> Option<usize>
     text.iter().position(|byte| *byte > 127)
 }
 
-/// Reads a program text of at most 65,536 bytes. The operations `shl`, `add`, `ldb` and `bit` are words of the
-/// language so far.
+/// Reads a program text of at most 65,536 bytes.
 ///
 /// A longer text is `TooLong` at 65,536, else a text with a byte over 127 is `NotAscii` at the first one. Else
 /// the fault stands at the first place where the text can't go on: `BadWord` and `NumberTooLarge` at a

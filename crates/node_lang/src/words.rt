@@ -4,7 +4,7 @@ ghost use Rattle.std.specs.Option.{SomeIff};
 ghost use Rattle.node_lang.specs.Words.{is_blank as blank, is_digit as digit, is_word_byte as word_byte, mark_token as mark, register_named, named, keywords, operations, read_on, word_token};
 
 use crate::token::Token;
-use crate::tree::BinOp;
+use crate::tree::{BinOp, UnOp};
 
 pub(crate) fn is_blank(byte: u8) -> bool
     ensures { result ≡ blank byte }
@@ -45,10 +45,23 @@ fn operation(word: &[u8]) -> Option<Token>
     ensures { result ≡ named operations word.now }
 {
     words! { word;
+        b"not" => Token::Unary(UnOp::Not),
+        b"and" => Token::Binary(BinOp::And),
+        b"or" => Token::Binary(BinOp::Or),
+        b"xor" => Token::Binary(BinOp::Xor),
         b"shl" => Token::Binary(BinOp::Shl),
+        b"shr" => Token::Binary(BinOp::Shr),
         b"add" => Token::Binary(BinOp::Add),
+        b"sub" => Token::Binary(BinOp::Sub),
+        b"min" => Token::Binary(BinOp::Min),
+        b"max" => Token::Binary(BinOp::Max),
         b"ldb" => Token::Binary(BinOp::Ldb),
         b"bit" => Token::Binary(BinOp::Bit),
+        b"eq" => Token::Binary(BinOp::Eq),
+        b"ne" => Token::Binary(BinOp::Ne),
+        b"lt" => Token::Binary(BinOp::Lt),
+        b"le" => Token::Binary(BinOp::Le),
+        b"if" => Token::If,
     }
 }
 

@@ -24,6 +24,7 @@ invariant_of-result c =
       small_steps = steps.small;
       depth = finish.depth;
       numbers = finish.numbers;
+      one_digit = finish.registers;
       nodes_are = omega (arith, c.requires, header.nodes, start.size, steps.size, expect.nodes, finish.size);
       few_nodes = c.expr.new.self.few;
     })

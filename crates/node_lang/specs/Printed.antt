@@ -1,0 +1,57 @@
+-- The one printed form of a program. Numbers are decimal without leading zeros, and each line ends with a line feed.
+use Rattle.std.specs.Prelude.{ℕ, ◌+◌, List, [], ◌∷◌, ◌++◌, length, codes}
+use Rattle.std.specs.List.{flat_map}
+use Rattle.std.specs.Fmt.{decimal}
+use Rattle.node_lang.specs.Term.{Term, Literal, Identifier, LeftMessage, RightMessage, RegisterValue, Unary, Binary, Conditional, Step, ProgramTree}
+use Rattle.node_lang.specs.Words.{unary_name, binary_name}
+
+-- the name of an expression's operation; the others have none
+abbrev pub operation_name : Term → List ℕ
+operation_name (Unary o a) = unary_name o
+operation_name (Binary o a b) = binary_name o
+operation_name (Conditional c a b) = codes "if"
+operation_name _ = []
+
+-- an expression: a comma and one blank part the operands, and no other blanks stand in it
+abbrev pub printed_expression : Term → List ℕ
+printed_expression (Literal n) = decimal n
+printed_expression Identifier = codes "id"
+printed_expression LeftMessage = codes "L"
+printed_expression RightMessage = codes "R"
+printed_expression (RegisterValue j) = codes "r" ++ decimal j
+printed_expression (Unary o a) = unary_name o ++ (codes "(" ++ (printed_expression a ++ codes ")"))
+printed_expression (Binary o a b) =
+    binary_name o ++ (codes "(" ++ (printed_expression a ++ (codes ", " ++ (printed_expression b ++ codes ")"))))
+printed_expression (Conditional c a b) = codes "if" ++ (codes "(" ++ (printed_expression c
+    ++ (codes ", " ++ (printed_expression a ++ (codes ", " ++ (printed_expression b ++ codes ")"))))))
+
+-- the assignment of an expression to register j
+abbrev pub assignment_line : ℕ → Term → List ℕ
+assignment_line j e = codes "r" ++ (decimal j ++ (codes " = " ++ (printed_expression e ++ codes "\n")))
+
+-- assignments to the registers from j on
+abbrev pub assignment_lines : ℕ → List Term → List ℕ
+assignment_lines j [] = []
+assignment_lines j (e ∷ es) = assignment_line j e ++ assignment_lines (j + 1) es
+
+-- what a round sends to one side
+abbrev pub send_line : List ℕ → Term → List ℕ
+send_line side e = codes "send " ++ (side ++ (codes " " ++ (printed_expression e ++ codes "\n")))
+
+-- a round
+abbrev pub round_lines : Step → List ℕ
+round_lines s = codes "round\n"
+    ++ (send_line (codes "left") s.left ++ (send_line (codes "right") s.right ++ assignment_lines 0 s.next))
+
+-- what stands before the first assignment
+abbrev pub header_lines : ProgramTree → List ℕ
+header_lines p = codes "rounds " ++ (decimal (length p.steps) ++ (codes "\nchannels " ++ (decimal p.channels
+    ++ (codes "\nregisters " ++ (decimal (length p.start) ++ codes "\nstart\n")))))
+
+-- the channel
+abbrev pub finish_line : Term → List ℕ
+finish_line e = codes "finish " ++ (printed_expression e ++ codes "\n")
+
+-- a whole program
+abbrev pub printed : ProgramTree → List ℕ
+printed p = header_lines p ++ (assignment_lines 0 p.start ++ (flat_map round_lines p.steps ++ finish_line p.finish))

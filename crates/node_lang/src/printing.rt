@@ -1,0 +1,181 @@
+ghost use Rattle.std.specs.Prelude.{◌≡◌, ◌++◌, length, map, IfOk, IfErr, OnOk, string_bytes};
+ghost use Rattle.std.specs.List.{flat_map};
+ghost use Rattle.node_lang.specs.declared.fault.FaultKind.TheVariants as kind;
+ghost use Rattle.node_lang.specs.Term.{step_of, term_of};
+ghost use Rattle.node_lang.specs.Printed.{operation_name as name_of, printed_expression, assignment_line, assignment_lines, send_line, round_lines, printed};
+
+use crate::fault::TextFault;
+use crate::program::Program;
+use crate::tree::{BinOp, Expr, Round, UnOp};
+use std::alloc::{AllocError, Global};
+use std::fmt::Write;
+
+// The name of an expression's operation: one line per operation of the language.
+macro_rules! names {
+    (
+        $expression:expr;
+        one { $($one:ident => $one_name:literal,)* }
+        two { $($two:ident => $two_name:literal,)* }
+        choose => $choose_name:literal
+    ) => {
+        match $expression {
+            Expr::One(op, _) => match op {
+                $(UnOp::$one => $one_name,)*
+            },
+            Expr::Two(op, _, _) => match op {
+                $(BinOp::$two => $two_name,)*
+            },
+            Expr::Choose(_, _, _) => $choose_name,
+            _ => "",
+        }
+    };
+}
+
+// The name of the operation of an expression, or nothing where it has none.
+fn operation_name(expression: &Expr) -> &'static str
+    ensures { result.now ≡ name_of (term_of expression.now) }
+{
+    names! { expression;
+        one {
+            Not => "not",
+        }
+        two {
+            And => "and",
+            Or => "or",
+            Xor => "xor",
+            Shl => "shl",
+            Shr => "shr",
+            Add => "add",
+            Sub => "sub",
+            Min => "min",
+            Max => "max",
+            Ldb => "ldb",
+            Bit => "bit",
+            Eq => "eq",
+            Ne => "ne",
+            Lt => "lt",
+            Le => "le",
+        }
+        choose => "if"
+    }
+}
+
+// Appends an expression.
+fn write_expression(text: &mut String, expression: &Expr) -> Result<(), AllocError>
+    ensures { OnOk result (string_bytes text.new ≡ string_bytes text.old ++ printed_expression (term_of expression.now)) }
+{
+    match expression {
+        Expr::Number(number) => write!(text, "{number}")?,
+        Expr::Id => text.push_str("id")?,
+        Expr::FromLeft => text.push_str("L")?,
+        Expr::FromRight => text.push_str("R")?,
+        Expr::Register(register) => write!(text, "r{register}")?,
+        Expr::One(_, a) => {
+            text.push_str(operation_name(expression))?;
+            text.push_str("(")?;
+            write_expression(text, a)?;
+            text.push_str(")")?;
+        }
+        Expr::Two(_, a, b) => {
+            text.push_str(operation_name(expression))?;
+            text.push_str("(")?;
+            write_expression(text, a)?;
+            text.push_str(", ")?;
+            write_expression(text, b)?;
+            text.push_str(")")?;
+        }
+        Expr::Choose(c, a, b) => {
+            text.push_str(operation_name(expression))?;
+            text.push_str("(")?;
+            write_expression(text, c)?;
+            text.push_str(", ")?;
+            write_expression(text, a)?;
+            text.push_str(", ")?;
+            write_expression(text, b)?;
+            text.push_str(")")?;
+        }
+    }
+    Ok(())
+}
+
+// Appends the assignment of an expression to a register.
+fn write_assignment(text: &mut String, register: usize, expression: &Expr) -> Result<(), AllocError>
+    ensures { OnOk result (string_bytes text.new ≡ string_bytes text.old ++ assignment_line register (term_of expression.now)) }
+{
+    write!(text, "r{register} = ")?;
+    write_expression(text, expression)?;
+    text.push_str("\n")
+}
+
+// Appends an assignment to each register.
+fn write_assignments(text: &mut String, expressions: &[Expr]) -> Result<(), AllocError>
+    ensures { OnOk result (string_bytes text.new ≡ string_bytes text.old ++ assignment_lines 0 (map term_of expressions.now)) }
+{
+    'registers: for (register, expression) in expressions.iter().enumerate() {
+        write_assignment(text, register, expression)?;
+    }
+    Ok(())
+}
+
+// Appends what a round sends to one side, `left` or `right`.
+fn write_send(text: &mut String, side: &str, expression: &Expr) -> Result<(), AllocError>
+    ensures { OnOk result (string_bytes text.new ≡ string_bytes text.old ++ send_line side.now (term_of expression.now)) }
+{
+    write!(text, "send {side} ")?;
+    write_expression(text, expression)?;
+    text.push_str("\n")
+}
+
+// Appends a round.
+fn write_round(text: &mut String, round: &Round) -> Result<(), AllocError>
+    ensures { OnOk result (string_bytes text.new ≡ string_bytes text.old ++ round_lines (step_of round.now)) }
+{
+    text.push_str("round\n")?;
+    write_send(text, "left", &round.left)?;
+    write_send(text, "right", &round.right)?;
+    write_assignments(text, &round.next)?;
+    Ok(())
+}
+
+// Appends rounds one after the other.
+fn write_rounds(text: &mut String, rounds: &[Round]) -> Result<(), AllocError>
+    ensures { OnOk result (string_bytes text.new ≡ string_bytes text.old ++ flat_map round_lines (map step_of rounds.now)) }
+{
+    'rounds: for round in rounds {
+        write_round(text, round)?;
+    }
+    Ok(())
+}
+
+// Appends a program.
+fn write_program(text: &mut String, program: &Program) -> Result<(), AllocError>
+    ensures { OnOk result (string_bytes text.new ≡ string_bytes text.old ++ printed program.now) }
+{
+    let rounds = program.rounds();
+    let channels = program.channels();
+    let registers = program.registers();
+    write!(
+        text,
+        "rounds {rounds}\nchannels {channels}\nregisters {registers}\nstart\n"
+    )?;
+    write_assignments(text, program.start())?;
+    write_rounds(text, program.steps())?;
+    text.push_str("finish ")?;
+    write_expression(text, program.finish())?;
+    text.push_str("\n")
+}
+
+/// The one printed form of a program, in lines that end with a line feed: `rounds T`, `channels C`, `registers K`,
+/// `start` and the lines `rJ = e`, per round `round`, `send left e`, `send right e` and the lines `rJ = e`, then
+/// `finish e`. Numbers are decimal without leading zeros; in an expression a comma and one blank part the operands,
+/// and no other blanks stand.
+///
+/// Refuses where memory is refused alone: `OutOfMemory` at 0.
+pub fn print(alloc: Global, program: &Program) -> Result<String, TextFault>
+    ensures text { IfOk result (λ text. string_bytes text ≡ printed program.now) }
+    ensures fault { IfErr result (λ f. f ≡ record { kind = kind.OutOfMemory; offset = 0 }) }
+{
+    let mut text = String::new(alloc);
+    write_program(&mut text, program)?;
+    Ok(text)
+}
