@@ -1,5 +1,5 @@
 -- The definitions that the contracts cite, in the order of a textbook: programs as trees, the values of
--- operations and expressions, what a node does, rings and global rounds, then the words, tokens and
+-- operations and expressions, what a node does, rings and global rounds, bounds of values, then the words, tokens and
 -- grammar of a program text and how it is read from the left.
 pub mod Term
 pub mod Limits
@@ -7,6 +7,7 @@ pub mod Operations
 pub mod Value
 pub mod Node
 pub mod Ring
+pub mod Bounds
 pub mod Words
 pub mod Lexemes
 pub mod Grammar
