@@ -1,4 +1,4 @@
-use Rattle.std.proofs.Common.{sym, ◌∙◌, arith}
+use Rattle.std.proofs.Common.{arith}
 use Rattle.lang_check.proofs.Assigned.{each_assigned}
 use Rattle.lang_check.proofs.register_bounds.last_bounds.Goals as goal
 
