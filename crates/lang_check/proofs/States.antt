@@ -27,7 +27,7 @@ pub start_within : (p : ProgramTree) (m id : ℕ) → id ≤ m - 1 → IsWithin 
 start_within p m id h =
     maps-within _ _
     (λ e. value_within e (rounds.knowing_id id) (reading_bounds m 0 0 [])
-      (record { id = h; left = omega arith; right = omega arith; registers = λ j. omega arith }))
+    (record { id = h; left = omega arith; right = omega arith; registers = λ j. omega arith }))
     p.start
 
 -- one round

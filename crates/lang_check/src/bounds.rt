@@ -125,13 +125,7 @@ fn shr_bound(written: Option<u32>, a: u32) -> u32
     ensures { result ≡ bounds.shr_bound written a }
 {
     match written {
-        Some(k) => {
-            if k < 32 {
-                a >> k
-            } else {
-                0
-            }
-        }
+        Some(k) => { if k < 32 { a >> k } else { 0 } }
         None => a,
     }
 }

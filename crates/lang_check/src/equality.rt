@@ -51,9 +51,7 @@ fn same_terms(a: &[Expr], b: &[Expr]) -> bool
 fn same_round(a: &Round, b: &Round) -> bool
     ensures { IsTrue result ↔ (step_of a.now ≡ step_of b.now) }
 {
-    same_term(&a.left, &b.left)
-        && same_term(&a.right, &b.right)
-        && same_terms(&a.next, &b.next)
+    same_term(&a.left, &b.left) && same_term(&a.right, &b.right) && same_terms(&a.next, &b.next)
 }
 
 // Whether the two lists of rounds are equal.

@@ -21,7 +21,7 @@ pub fn next_is_within()
     ensures { (p : ProgramTree) (m r : ℕ) (left own right : List ℕ) → IsWithin left (register_bounds p m r)
         → IsWithin own (register_bounds p m r) → IsWithin right (register_bounds p m r)
         → IsWithin (rounds.next p r own (rounds.to_right p r left) (rounds.to_left p r right))
-            (register_bounds p m (suc r)) }
+        (register_bounds p m (suc r)) }
 {}
 
 /// Bounds hold: on every ring and after each round, the registers of each place are within their bounds.

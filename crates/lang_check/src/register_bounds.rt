@@ -44,7 +44,11 @@ fn round_bounds(round: &Round, ids: u32, registers: &mut [u32])
     before.copy_from_slice(registers);
     let to_left = bound_of(&round.left, limits(ids, 0, 0, before));
     let to_right = bound_of(&round.right, limits(ids, 0, 0, before));
-    assign_bounds(&round.next, limits(ids, to_right, to_left, before), registers);
+    assign_bounds(
+        &round.next,
+        limits(ids, to_right, to_left, before),
+        registers,
+    );
 }
 
 // Writes the bound of each expression into the cell of its place; all of them read the same limits.
@@ -58,7 +62,7 @@ fn assign_bounds(expressions: &[Expr], limits: Limits<'_>, out: &mut [u32])
 }
 
 // The bounds of what an expression may read, with this number of identifiers.
-fn limits(ids: u32, left: u32, right: u32, registers: &[u32]) -> Limits<'_>
+pub(crate) fn limits(ids: u32, left: u32, right: u32, registers: &[u32]) -> Limits<'_>
     ensures id { result.id ≡ ids - 1 }
     ensures left { result.left ≡ left }
     ensures right { result.right ≡ right }
