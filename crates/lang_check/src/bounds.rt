@@ -92,13 +92,7 @@ fn written_number(expression: &Expr) -> Option<u32>
 {
     match expression {
         Expr::Number(number) => Some(*number),
-        Expr::Id
-        | Expr::FromLeft
-        | Expr::FromRight
-        | Expr::Register(_)
-        | Expr::One(_, _)
-        | Expr::Two(_, _, _)
-        | Expr::Choose(_, _, _) => None,
+        _ => None,
     }
 }
 
@@ -108,14 +102,8 @@ fn shl_bound(written: Option<u32>, a: u32) -> u32
     ensures { result ≡ bounds.shl_bound written a }
 {
     match written {
-        Some(k) => {
-            if k < 32 {
-                (u64::from(a) << k).min(u64::from(u32::MAX)) as u32
-            } else {
-                u32::MAX
-            }
-        }
-        None => u32::MAX,
+        Some(k) if k < 32 => (u64::from(a) << k).min(u64::from(u32::MAX)) as u32,
+        _ => u32::MAX,
     }
 }
 
@@ -125,7 +113,8 @@ fn shr_bound(written: Option<u32>, a: u32) -> u32
     ensures { result ≡ bounds.shr_bound written a }
 {
     match written {
-        Some(k) => { if k < 32 { a >> k } else { 0 } }
+        Some(k) if k < 32 => a >> k,
+        Some(_) => 0,
         None => a,
     }
 }
