@@ -6,10 +6,10 @@ use Rattle.node_lang.specs.Term.{ProgramTree}
 use Rattle.node_lang.specs.Ring.{IsRing, channels_of}
 use Rattle.node_lang.specs.Grammar.{Reads}
 use Rattle.node_lang.specs.Faults.{FaultsAt}
-use Rattle.round_eval.specs.declared.acceptance.CheckFault.{CheckFault}
+use Rattle.lang_check.specs.declared.acceptance.CheckFault.{CheckFault}
 use Rattle.win_index.specs.declared.ring.RingFault.{RingFault}
-use Rattle.round_eval.specs.Acceptance.{IsAccepted}
-use Rattle.round_eval.specs.Refusals.{IsFirstRefusal}
+use Rattle.lang_check.specs.Acceptance.{IsAccepted}
+use Rattle.lang_check.specs.Refusals.{IsFirstRefusal}
 use Rattle.win_index.specs.RingFaults.{IsFirstFault}
 use Rattle.plan_print.specs.declared.status.Status.TheVariants.{Done, Refused, RingRefused}
 use Rattle.plan_print.specs.Lines.{line, numbers_text}

@@ -13,8 +13,8 @@ pub use Rattle.node_lang.specs.Term
 pub use Rattle.node_lang.specs.Ring
 pub use Rattle.node_lang.specs.Grammar
 pub use Rattle.node_lang.specs.Faults
-pub use Rattle.round_eval.specs.Acceptance
-pub use Rattle.round_eval.specs.Refusals
+pub use Rattle.lang_check.specs.Acceptance
+pub use Rattle.lang_check.specs.Refusals
 pub use Rattle.win_index.specs.RingFaults
 pub use Rattle.win_index.specs.ShapeRange
 pub use Rattle.win_index.specs.ShapeFaults

@@ -7,12 +7,12 @@ use Rattle.node_lang.specs.Term.{ProgramTree}
 use Rattle.node_lang.specs.Ring.{IsRing, channels_of}
 use Rattle.node_lang.specs.Grammar.{Reads}
 use Rattle.node_lang.specs.Faults.{FaultsAt}
-use Rattle.round_eval.specs.declared.acceptance.CheckFault.{CheckFault}
-use Rattle.round_eval.specs.declared.acceptance.CheckFault.TheVariants as check
+use Rattle.lang_check.specs.declared.acceptance.CheckFault.{CheckFault}
+use Rattle.lang_check.specs.declared.acceptance.CheckFault.TheVariants as check
 use Rattle.win_index.specs.declared.ring.RingFault.{RingFault}
 use Rattle.win_index.specs.declared.ring.RingFault.TheVariants as ring
-use Rattle.round_eval.specs.Acceptance.{IsAccepted}
-use Rattle.round_eval.specs.Refusals.{IsFirstRefusal}
+use Rattle.lang_check.specs.Acceptance.{IsAccepted}
+use Rattle.lang_check.specs.Refusals.{IsFirstRefusal}
 use Rattle.win_index.specs.RingFaults.{IsFirstFault}
 use Rattle.plan_print.specs.declared.status.Status.{Status}
 use Rattle.plan_print.specs.declared.status.Status.TheVariants.{Done, Refused, RingRefused}
@@ -46,6 +46,7 @@ check_fault_line check.TooManyWindows = line (codes "check fault X2" ∷ [])
 check_fault_line (check.RegisterOutOfRange j) = line (codes "check fault C1 register " ∷ decimal j ∷ [])
 check_fault_line check.IdOutsideStart = line (codes "check fault C2" ∷ [])
 check_fault_line check.MessageOutsideStep = line (codes "check fault C3" ∷ [])
+check_fault_line (check.ChannelBound b) = line (codes "check fault C4 bound " ∷ decimal b ∷ [])
 
 abbrev pub ring_fault_line : RingFault → List ℕ
 ring_fault_line ring.TooShort = line (codes "ring fault G1" ∷ [])

@@ -4,7 +4,7 @@ ghost use Rattle.std.specs.Prelude.{◌≡◌, ◌≢◌, ◌<◌, ◌≤◌, �
 ghost use Rattle.node_lang.specs.declared.fault.FaultKind.TheVariants as kind;
 ghost use Rattle.node_lang.specs.Grammar.{Reads};
 ghost use Rattle.node_lang.specs.Faults.{FaultsAt};
-ghost use Rattle.round_eval.specs.Acceptance.{IsAccepted};
+ghost use Rattle.lang_check.specs.Acceptance.{IsAccepted};
 ghost use Rattle.plan_print.specs.declared.status.Status.TheVariants.{Done, Refused, RingRefused};
 ghost use Rattle.plan_print.specs.Report.{IsReport, IsRunReport, IsChannelsReport, IsFirstOver, kind_number, text_fault_line, check_fault_line, ring_fault_line, channel_fault_line};
 
@@ -12,8 +12,9 @@ use crate::fault::EngineFault;
 use crate::lines::numbers_line;
 use crate::status::Status;
 use crate::task::Task;
+use lang_check::{CheckFault, Plan, accept};
 use node_lang::{FaultKind, Program, TextFault, parse};
-use round_eval::{CheckFault, Plan, accept, plain_run};
+use round_eval::plain_run;
 use std::alloc::{AllocError, Global};
 use win_index::{Ring, RingFault};
 
@@ -149,6 +150,7 @@ fn check_fault(alloc: Global, fault: CheckFault) -> Result<String, AllocError>
         }
         CheckFault::IdOutsideStart => format!(in alloc; "check fault C2\n"),
         CheckFault::MessageOutsideStep => format!(in alloc; "check fault C3\n"),
+        CheckFault::ChannelBound(bound) => format!(in alloc; "check fault C4 bound {bound}\n"),
     }
 }
 

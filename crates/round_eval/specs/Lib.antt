@@ -1,8 +1,4 @@
--- The definitions of this crate that contracts cite: which programs are accepted, plans, and rows of states. Those of programs, nodes and rings stand
--- in node_lang.
-pub mod Occurrences
-pub mod Acceptance
-pub mod Refusals
-pub mod Plans
+-- The definitions of this crate that contracts cite: what a node sees, and rows of states. Those of programs, nodes and rings stand in node_lang, those of
+-- plans in lang_check.
 pub mod View
 pub mod Rows

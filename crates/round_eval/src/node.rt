@@ -1,8 +1,9 @@
 ghost use Rattle.std.specs.Prelude.{◌≡◌, ◌<◌, length};
 ghost use Rattle.node_lang.specs.Node as rounds;
+ghost use Rattle.node_lang.specs.Bounds.{register_bounds, IsWithin};
 
-use crate::plan::Plan;
 use crate::value::{View, assign, value_of};
+use lang_check::{Plan, accepted_channels_are_below};
 
 /// Writes what a node with the identifier `id` holds before the first round into `out`, which has a
 /// cell for each register.
@@ -17,7 +18,7 @@ pub fn start_state(plan: &Plan, id: u32, out: &mut [u32])
         right: 0,
         registers: &[],
     };
-    let program = &plan.program;
+    let program = plan.program();
     assign(program.start(), view, out);
 }
 
@@ -44,7 +45,7 @@ pub fn step(plan: &Plan, round: u32, own: &[u32], l: u32, r: u32, out: &mut [u32
     requires cells { length out.old ≡ length plan.now.program.start }
     ensures { out.new ≡ rounds.next plan.now.program round own.now l r }
 {
-    let program = &plan.program;
+    let program = plan.program();
     assign(
         &program.steps()[round as usize].next,
         reading_messages(own, l, r),
@@ -52,13 +53,17 @@ pub fn step(plan: &Plan, round: u32, own: &[u32], l: u32, r: u32, out: &mut [u32
     );
 }
 
-/// The channel of a node with these registers.
+/// The channel of a node with these registers. It is below the number of channels where each register is
+/// within its bound after the last round.
 #[tactic(auto, unfolding(node_lang::specs::Node::channel))]
 pub fn channel(plan: &Plan, own: &[u32]) -> u32
     requires { length own.now ≡ length plan.now.program.start }
-    ensures { result ≡ rounds.channel plan.now.program own.now }
+    ensures value { result ≡ rounds.channel plan.now.program own.now }
+    ensures below { IsWithin own.now (register_bounds plan.now.program plan.now.ids (length plan.now.program.steps))
+        → result < plan.now.program.channels }
 {
-    let program = &plan.program;
+    accepted_channels_are_below();
+    let program = plan.program();
     value_of(program.finish(), reading_messages(own, 0, 0))
 }
 
@@ -68,7 +73,7 @@ pub(crate) fn sent_to_left(plan: &Plan, round: u32, own: &[u32]) -> u32
     requires { round < length plan.now.program.steps }
     ensures { result ≡ rounds.to_left plan.now.program round own.now }
 {
-    let program = &plan.program;
+    let program = plan.program();
     value_of(
         &program.steps()[round as usize].left,
         reading_messages(own, 0, 0),
@@ -81,7 +86,7 @@ pub(crate) fn sent_to_right(plan: &Plan, round: u32, own: &[u32]) -> u32
     requires { round < length plan.now.program.steps }
     ensures { result ≡ rounds.to_right plan.now.program round own.now }
 {
-    let program = &plan.program;
+    let program = plan.program();
     value_of(
         &program.steps()[round as usize].right,
         reading_messages(own, 0, 0),

@@ -4,7 +4,7 @@ ghost use Rattle.node_lang.specs.Ring.{state, channels_of};
 ghost use Rattle.round_eval.specs.Rows.{row, HoldsRows, next_row};
 
 use crate::node::{channel, sent_to_left, sent_to_right, start_state, step};
-use crate::plan::Plan;
+use lang_check::Plan;
 use node_lang::OutOfMemory;
 use std::alloc::Global;
 use std::mem;
@@ -55,7 +55,7 @@ fn width_of(plan: &Plan) -> usize
     ensures value { result ≡ length plan.now.program.start }
     ensures few { result ≤ 8 }
 {
-    let program = &plan.program;
+    let program = plan.program();
     program.registers() as usize
 }
 

@@ -1,0 +1,7 @@
+-- Lemmas that several proofs share.
+mod OccurrenceLemmas
+mod Bits
+mod Within
+mod States
+mod Assigned
+mod Images

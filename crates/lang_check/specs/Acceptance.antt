@@ -1,0 +1,28 @@
+-- Which programs are accepted for m identifiers, and which refusal comes first.
+use Rattle.std.specs.Prelude.{◌≡◌, ℕ, ◌<◌, nat_le, Bool, false, Option, None, length, find, flat_map}
+use Rattle.std.specs.List.{list_any}
+use Rattle.node_lang.specs.Term.{ProgramTree, terms}
+use Rattle.node_lang.specs.Bounds.{finish_bound}
+use Rattle.win_index.specs.ShapeRange.{IsShape}
+use Rattle.lang_check.specs.Occurrences.{registers_read, reads_identifier, reads_message, terms_after_start, terms_outside_assignments}
+
+-- the first register in reading order that the program does not have
+abbrev pub first_missing_register : ProgramTree → Option ℕ
+first_missing_register p = find (λ j. nat_le (length p.start) j) (flat_map registers_read (terms p))
+
+-- whether the identifier is read anywhere but at the start
+abbrev pub reads_id_outside_start : ProgramTree → Bool
+reads_id_outside_start p = list_any reads_identifier (terms_after_start p)
+
+-- whether a message is read anywhere but in the assignments of a round
+abbrev pub reads_message_outside_step : ProgramTree → Bool
+reads_message_outside_step p = list_any reads_message (terms_outside_assignments p)
+
+-- the program is accepted for m identifiers
+pub record IsAccepted (m : ℕ) (p : ProgramTree) : Type 0 where
+  pub shape : IsShape m (length p.steps)
+  pub registers : first_missing_register p ≡ None
+  pub identifiers : reads_id_outside_start p ≡ false
+  pub messages : reads_message_outside_step p ≡ false
+  -- each channel is below the number of channels
+  pub bound : finish_bound p m < p.channels

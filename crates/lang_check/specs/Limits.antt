@@ -1,0 +1,7 @@
+-- What stands beside the bounds of expressions while they are computed.
+use Rattle.node_lang.specs.Value.{Env}
+use Rattle.lang_check.specs.declared.bounds.Limits.{Limits}
+
+-- the bounds of what an expression may read
+abbrev pub env_of : Limits → Env
+env_of l = record { id = l.id; left = l.left; right = l.right; registers = l.registers.now }

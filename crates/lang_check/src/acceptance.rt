@@ -1,0 +1,102 @@
+ghost use Rattle.std.specs.Prelude.{◌≡◌, ◌↔◌, ℕ, length, IfOk, IfErr, IsOk, find, flat_map};
+ghost use Rattle.std.specs.List.{list_any};
+ghost use Rattle.win_index.specs.ShapeRange.{IsShape};
+ghost use Rattle.node_lang.specs.Bounds.{finish_bound};
+ghost use Rattle.lang_check.specs.Acceptance.{IsAccepted, first_missing_register, reads_id_outside_start, reads_message_outside_step};
+ghost use Rattle.lang_check.specs.Refusals.{IsFirstRefusal};
+
+use crate::occurrences::{
+    any_uses_message, missing_in_rounds, missing_in_term, missing_in_terms, rounds_use_id,
+    sends_use_message, uses_id, uses_message,
+};
+use crate::plan::Plan;
+use crate::register_bounds::finish_bound as bound_of_finish;
+use node_lang::Program;
+use win_index::{Shape, ShapeFault};
+
+/// Why a program is not accepted for a number of identifiers.
+#[derive(Clone, Copy, Debug, PartialEq, Eq)]
+pub enum CheckFault {
+    /// X1: fewer than `2t+2` identifiers for `t` rounds, or more than 1,024.
+    IdsOutOfRange,
+    /// X2: more than `2^20` windows of level `t`.
+    TooManyWindows,
+    /// C1: the first register number in reading order that is not below the number of registers.
+    RegisterOutOfRange(u32),
+    /// C2: `id` is read outside the assignments of `start`.
+    IdOutsideStart,
+    /// C3: `L` or `R` is read outside the assignments of a round.
+    MessageOutsideStep,
+    /// C4: the bound of the channels, which is the number of channels or more.
+    ChannelBound(u32),
+}
+
+/// The plan of a program for `ids` identifiers, or the program and its first refusal, in the order of
+/// `CheckFault`.
+pub fn accept(program: Program, ids: u32) -> Result<Plan, (Program, CheckFault)>
+    ensures ok { IfOk result (λ plan. (plan.program ≡ program) × (plan.ids ≡ ids)) }
+    ensures exact { IsOk result ↔ IsAccepted ids program }
+    ensures err { IfErr result (λ e. (e.0 ≡ program) × IsFirstRefusal ids program e.1) }
+{
+    let shape = match Shape::new(ids, program.rounds()) {
+        Ok(shape) => shape,
+        Err(ShapeFault::IdsOutOfRange) => return Err((program, CheckFault::IdsOutOfRange)),
+        Err(ShapeFault::TooManyWindows) => return Err((program, CheckFault::TooManyWindows)),
+    };
+    match channel_bound(&program, ids) {
+        Ok(bound) => Ok(Plan {
+            program,
+            shape,
+            bound,
+        }),
+        Err(fault) => Err((program, fault)),
+    }
+}
+
+// The bound of the channels, or the first refusal that does not come from the number of identifiers.
+fn channel_bound(program: &Program, ids: u32) -> Result<u32, CheckFault>
+    ensures ok { IsShape ids (length program.now.steps)
+        → IfOk result (λ bound. IsAccepted ids program.now × (bound ≡ finish_bound program.now ids)) }
+    ensures err { IsShape ids (length program.now.steps) → IfErr result (IsFirstRefusal ids program.now) }
+{
+    if let Some(register) = missing_register(program) {
+        return Err(CheckFault::RegisterOutOfRange(register));
+    }
+    if id_is_misplaced(program) {
+        return Err(CheckFault::IdOutsideStart);
+    }
+    if message_is_misplaced(program) {
+        return Err(CheckFault::MessageOutsideStep);
+    }
+    let bound = bound_of_finish(program, ids);
+    if bound >= program.channels() {
+        return Err(CheckFault::ChannelBound(bound));
+    }
+    Ok(bound)
+}
+
+// The first register in reading order that the program does not have.
+fn missing_register(program: &Program) -> Option<u32>
+    ensures { result ≡ first_missing_register program.now }
+{
+    let count = program.registers();
+    let in_rounds = missing_in_rounds(count, program.steps());
+    let later = in_rounds.or(missing_in_term(count, program.finish()));
+    missing_in_terms(count, program.start()).or(later)
+}
+
+// Whether the identifier is read outside the start.
+fn id_is_misplaced(program: &Program) -> bool
+    ensures { result ≡ reads_id_outside_start program.now }
+{
+    rounds_use_id(program.steps()) || uses_id(program.finish())
+}
+
+// Whether a message is read outside the assignments of a round.
+fn message_is_misplaced(program: &Program) -> bool
+    ensures { result ≡ reads_message_outside_step program.now }
+{
+    any_uses_message(program.start())
+        || sends_use_message(program.steps())
+        || uses_message(program.finish())
+}

@@ -1,0 +1,142 @@
+ghost use Rattle.std.specs.Prelude.{◌≡◌, ◌-◌, ◌^◌, ◌≤◌, max, slice_index};
+ghost use Rattle.node_lang.specs.Term.{term_of};
+ghost use Rattle.node_lang.specs.Bounds as bounds;
+ghost use Rattle.lang_check.specs.Limits.{env_of};
+
+use node_lang::{BinOp, Expr, UnOp};
+
+// The bounds of what an expression may read: of the identifier, of what comes from the left and from the
+// right, and of the registers.
+#[derive(Clone, Copy)]
+pub(crate) struct Limits<'a> {
+    pub(crate) id: u32,
+    pub(crate) left: u32,
+    pub(crate) right: u32,
+    pub(crate) registers: &'a [u32],
+}
+
+// One line per operation: how its bound follows from those of its operands, and from the number that is
+// written as its second operand.
+macro_rules! bounds {
+    (
+        $expression:expr, $limits:expr, $written:ident;
+        one { $($one:ident => $one_bound:expr),* $(,)? }
+        two { $($two:ident($a:ident, $b:ident) => $two_bound:expr),* $(,)? }
+        choose($then:ident, $otherwise:ident) => $choice:expr
+    ) => {
+        match $expression {
+            Expr::Number(number) => *number,
+            Expr::Id => $limits.id,
+            Expr::FromLeft => $limits.left,
+            Expr::FromRight => $limits.right,
+            Expr::Register(register) => limit_or_zero($limits.registers, *register),
+            Expr::One(op, _) => match op {
+                $(UnOp::$one => $one_bound,)*
+            },
+            Expr::Two(op, a, b) => {
+                let $written = written_number(b);
+                let a = bound_of(a, $limits);
+                let b = bound_of(b, $limits);
+                match op {
+                    $(BinOp::$two => { let $a = a; let $b = b; $two_bound })*
+                }
+            }
+            Expr::Choose(_, a, b) => {
+                let $then = bound_of(a, $limits);
+                let $otherwise = bound_of(b, $limits);
+                $choice
+            }
+        }
+    };
+}
+
+// The bound of an expression.
+pub(crate) fn bound_of(expression: &Expr, limits: Limits<'_>) -> u32
+    ensures { result ≡ bounds.bound (term_of expression.now) (env_of limits.entry) }
+{
+    bounds!(expression, limits, written;
+        one {
+            Not => u32::MAX,
+        }
+        two {
+            And(a, b) => a.min(b),
+            Or(a, b) => all_ones(a.max(b)),
+            Xor(a, b) => all_ones(a.max(b)),
+            Shl(a, _k) => shl_bound(written, a),
+            Shr(a, _k) => shr_bound(written, a),
+            Add(a, b) => a.saturating_add(b),
+            Sub(a, _b) => a,
+            Min(a, b) => a.min(b),
+            Max(a, b) => a.max(b),
+            Ldb(a, b) => bits(a.max(b)).saturating_sub(1),
+            Bit(_a, _i) => 1,
+            Eq(_a, _b) => 1,
+            Ne(_a, _b) => 1,
+            Lt(_a, _b) => 1,
+            Le(_a, _b) => 1,
+        }
+        choose(a, b) => a.max(b)
+    )
+}
+
+// A register that is not there holds 0.
+fn limit_or_zero(registers: &[u32], register: u32) -> u32
+    ensures { result ≡ slice_index registers.now register }
+{
+    registers.get(register as usize).copied().unwrap_or(0)
+}
+
+// The number that an expression is, where it is one.
+fn written_number(expression: &Expr) -> Option<u32>
+    ensures { result ≡ bounds.written_number (term_of expression.now) }
+{
+    match expression {
+        Expr::Number(number) => Some(*number),
+        _ => None,
+    }
+}
+
+// The bound of a shift to the left.
+#[tactic(auto, using(crate::proofs::Bits::shifted))]
+fn shl_bound(written: Option<u32>, a: u32) -> u32
+    ensures { result ≡ bounds.shl_bound written a }
+{
+    match written {
+        Some(k) if k < 32 => (u64::from(a) << k).min(u64::from(u32::MAX)) as u32,
+        _ => u32::MAX,
+    }
+}
+
+// The bound of a shift to the right.
+#[tactic(auto, using(crate::proofs::Bits::shifted))]
+fn shr_bound(written: Option<u32>, a: u32) -> u32
+    ensures { result ≡ bounds.shr_bound written a }
+{
+    match written {
+        Some(k) if k < 32 => a >> k,
+        Some(_) => 0,
+        None => a,
+    }
+}
+
+// The largest number with as many binary digits as x.
+#[tactic(auto, using(crate::proofs::Bits::shifted))]
+fn all_ones(x: u32) -> u32
+    ensures { result ≡ 2 ^ bounds.bits x - 1 }
+{
+    let digits = bits(x);
+    if digits == 32 {
+        u32::MAX
+    } else {
+        (1 << digits) - 1
+    }
+}
+
+// The number of binary digits.
+#[tactic(auto, using(crate::proofs::Bits::counted))]
+fn bits(x: u32) -> u32
+    ensures value { result ≡ bounds.bits x }
+    ensures few { result ≤ 32 }
+{
+    u32::BITS - x.leading_zeros()
+}

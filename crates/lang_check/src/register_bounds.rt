@@ -1,0 +1,77 @@
+ghost use Rattle.std.specs.Prelude.{◌≡◌, ℕ, ◌-◌, ◌≤◌, map, length, Some};
+ghost use Rattle.node_lang.specs.Term.{term_of, step_of};
+ghost use Rattle.node_lang.specs.Bounds as bounds;
+ghost use Rattle.lang_check.specs.Limits.{env_of};
+
+use crate::bounds::{Limits, bound_of};
+use node_lang::{Expr, Program, Round};
+
+// A program has at most so many registers.
+const MOST_REGISTERS: usize = 8;
+
+// The bound of the channels of a program for this number of identifiers.
+#[tactic(auto, unfolding(node_lang::specs::Bounds::finish_bound))]
+pub(crate) fn finish_bound(program: &Program, ids: u32) -> u32
+    ensures { result ≡ bounds.finish_bound program.now ids }
+{
+    let mut cells = [0; MOST_REGISTERS];
+    let count = program.registers() as usize;
+    let registers = &mut cells[..count];
+    last_bounds(program, ids, registers);
+    bound_of(program.finish(), limits(ids, 0, 0, registers))
+}
+
+// Writes the bounds of the registers after the last round.
+fn last_bounds(program: &Program, ids: u32, registers: &mut [u32])
+    requires { length registers.old ≡ length program.now.start }
+    ensures { registers.new ≡ bounds.register_bounds program.now ids (length program.now.steps) }
+{
+    assign_bounds(program.start(), limits(ids, 0, 0, &[]), registers);
+    for round in program.steps() {
+        round_bounds(round, ids, registers);
+    }
+}
+
+// Writes the bounds of the registers after a round over those from before it.
+fn round_bounds(round: &Round, ids: u32, registers: &mut [u32])
+    requires each { length registers.old ≡ length round.now.next.items }
+    requires few { length registers.old ≤ 8 }
+    ensures { registers.new ≡ bounds.next_bounds (Some (step_of round.now)) ids registers.old }
+{
+    let mut cells = [0; MOST_REGISTERS];
+    let count = registers.len();
+    let before = &mut cells[..count];
+    before.copy_from_slice(registers);
+    let to_left = bound_of(&round.left, limits(ids, 0, 0, before));
+    let to_right = bound_of(&round.right, limits(ids, 0, 0, before));
+    assign_bounds(
+        &round.next,
+        limits(ids, to_right, to_left, before),
+        registers,
+    );
+}
+
+// Writes the bound of each expression into the cell of its place; all of them read the same limits.
+fn assign_bounds(expressions: &[Expr], limits: Limits<'_>, out: &mut [u32])
+    requires { length out.old ≡ length expressions.now }
+    ensures { out.new ≡ map (λ e. bounds.bound e (env_of limits.entry)) (map term_of expressions.now) }
+{
+    for (i, expression) in expressions.iter().enumerate() {
+        out[i] = bound_of(expression, limits);
+    }
+}
+
+// The bounds of what an expression may read, with this number of identifiers.
+pub(crate) fn limits(ids: u32, left: u32, right: u32, registers: &[u32]) -> Limits<'_>
+    ensures id { result.id ≡ ids - 1 }
+    ensures left { result.left ≡ left }
+    ensures right { result.right ≡ right }
+    ensures registers { result.registers.now ≡ registers.now }
+{
+    Limits {
+        id: ids.saturating_sub(1),
+        left,
+        right,
+        registers,
+    }
+}
