@@ -8,6 +8,18 @@ pub const CV1: &[u8] =
 pub const CV1_OF_THREE: &[u8] =
     b"rounds 1\nchannels 3\nregisters 1\nstart\nr0 = id\nround\nsend left 0\nsend right r0\nr0 = add(shl(ldb(r0, L), 1), bit(r0, ldb(r0, L)))\nfinish r0\n";
 
+/// `CV1` with eleven channels.
+pub const CV1_OF_11: &[u8] =
+    b"rounds 1\nchannels 11\nregisters 1\nstart\nr0 = id\nround\nsend left 0\nsend right r0\nr0 = add(shl(ldb(r0, L), 1), bit(r0, ldb(r0, L)))\nfinish r0\n";
+
+/// `CV1` with twelve channels.
+pub const CV1_OF_12: &[u8] =
+    b"rounds 1\nchannels 12\nregisters 1\nstart\nr0 = id\nround\nsend left 0\nsend right r0\nr0 = add(shl(ldb(r0, L), 1), bit(r0, ldb(r0, L)))\nfinish r0\n";
+
+/// `CV1` with fourteen channels.
+pub const CV1_OF_14: &[u8] =
+    b"rounds 1\nchannels 14\nregisters 1\nstart\nr0 = id\nround\nsend left 0\nsend right r0\nr0 = add(shl(ldb(r0, L), 1), bit(r0, ldb(r0, L)))\nfinish r0\n";
+
 /// `CV1` that sends what it receives.
 pub const CV1_SENDS_L: &[u8] =
     b"rounds 1\nchannels 6\nregisters 1\nstart\nr0 = id\nround\nsend left 0\nsend right L\nr0 = add(shl(ldb(r0, L), 1), bit(r0, ldb(r0, L)))\nfinish r0\n";
@@ -22,8 +34,16 @@ pub const ID0: &[u8] = b"rounds 0\nchannels 2\nregisters 1\nstart\nr0 = id\nfini
 /// No round: always 0.
 pub const ZERO: &[u8] = b"rounds 0\nchannels 1\nregisters 1\nstart\nr0 = id\nfinish 0\n";
 
+/// `CV1` and then two rounds that take its channels down to four.
+pub const RED: &[u8] =
+    b"rounds 3\nchannels 4\nregisters 1\nstart\nr0 = id\nround\nsend left 0\nsend right r0\nr0 = add(shl(ldb(r0, L), 1), bit(r0, ldb(r0, L)))\nround\nsend left r0\nsend right r0\nr0 = min(if(eq(r0, 5), if(and(ne(L, 0), ne(R, 0)), 0, if(and(ne(L, 1), ne(R, 1)), 1, 2)), r0), 4)\nround\nsend left r0\nsend right r0\nr0 = min(if(eq(r0, 4), if(and(ne(L, 0), ne(R, 0)), 0, if(and(ne(L, 1), ne(R, 1)), 1, 2)), r0), 3)\nfinish r0\n";
+
+/// `CV1` with each blank doubled, after a comment.
+pub const CV1_WITH_BLANKS: &[u8] =
+    b"# note\nrounds  1\nchannels  6\nregisters  1\nstart\nr0  =  id\nround\nsend  left  0\nsend  right  r0\nr0  =  add(shl(ldb(r0,  L),  1),  bit(r0,  ldb(r0,  L)))\nfinish  r0\n";
+
 /// What stands in front of the last expression of a program of one register that starts with 0.
 pub const ZERO_HEAD: &[u8] = b"rounds 0\nchannels 1\nregisters 1\nstart\nr0 = 0\nfinish ";
 
 /// The same with an operation at the start.
-pub const SUM_HEAD: &[u8] = b"rounds 0\nchannels 1\nregisters 1\nstart\nr0 = add(0,0)\nfinish ";
+pub const NOT_HEAD: &[u8] = b"rounds 0\nchannels 1\nregisters 1\nstart\nr0 = not(0)\nfinish ";

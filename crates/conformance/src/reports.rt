@@ -1,6 +1,6 @@
 //! Reports of the engine, byte for byte, with their status.
 
-use crate::programs::{CV1, CV1_OF_THREE, CV1_SENDS_L, ID0, LDB, ZERO};
+use crate::programs::{CV1, CV1_OF_11, CV1_OF_12, CV1_OF_14, CV1_OF_THREE, CV1_SENDS_L, ID0, LDB, RED, ZERO};
 use plan_print::engine::engine;
 use plan_print::fault::EngineFault;
 use plan_print::status::Status;
@@ -10,20 +10,15 @@ use std::alloc::Global;
 use std::process::Abort;
 use std::test::Fail;
 
-/// Runs a program text over memory and compares the report.
+/// Does a task on a program text over memory and compares the report.
 fn reports(
     rt: &impl Abort,
     alloc: Global,
+    task: Task,
     text: &[u8],
-    ids: u32,
-    ring: &[u32],
     line: &str,
     status: Status,
 ) -> Result<(), Fail> {
-    let task = Task::Run {
-        ids,
-        ring: ring.to_vec(alloc)?,
-    };
     let mut reader = Watched::new(text);
     let mut writer = Watched::new(Vec::new(alloc));
     let ended = engine(alloc, task, &mut reader, &mut writer)?;
@@ -36,10 +31,39 @@ fn reports(
     Ok(())
 }
 
+/// Runs a program text on a ring and compares the report.
+fn runs(
+    rt: &impl Abort,
+    alloc: Global,
+    text: &[u8],
+    ids: u32,
+    ring: &[u32],
+    line: &str,
+    status: Status,
+) -> Result<(), Fail> {
+    let task = Task::Run {
+        ids,
+        ring: ring.to_vec(alloc)?,
+    };
+    reports(rt, alloc, task, text, line, status)
+}
+
+/// Checks a program text and compares the report.
+fn checks(
+    rt: &impl Abort,
+    alloc: Global,
+    text: &[u8],
+    ids: u32,
+    line: &str,
+    status: Status,
+) -> Result<(), Fail> {
+    reports(rt, alloc, Task::Check { ids }, text, line, status)
+}
+
 #[test]
 fn cv1_on_eight_repeaters(rt: HostRuntime) -> Result<(), Fail> {
     let ring = [0, 1, 2, 3, 4, 5, 6, 7];
-    reports(
+    runs(
         &rt,
         rt.alloc(),
         CV1,
@@ -52,7 +76,7 @@ fn cv1_on_eight_repeaters(rt: HostRuntime) -> Result<(), Fail> {
 
 #[test]
 fn cv1_on_four_repeaters(rt: HostRuntime) -> Result<(), Fail> {
-    reports(
+    runs(
         &rt,
         rt.alloc(),
         CV1,
@@ -66,12 +90,12 @@ fn cv1_on_four_repeaters(rt: HostRuntime) -> Result<(), Fail> {
 #[test]
 fn cv1_with_the_most_identifiers(rt: HostRuntime) -> Result<(), Fail> {
     let ring = [5, 1, 3, 7];
-    reports(&rt, rt.alloc(), CV1, 102, &ring, "2 4 3 5\n", Status::Done)
+    runs(&rt, rt.alloc(), CV1_OF_14, 102, &ring, "2 4 3 5\n", Status::Done)
 }
 
 #[test]
 fn ldb_on_four_repeaters(rt: HostRuntime) -> Result<(), Fail> {
-    reports(
+    runs(
         &rt,
         rt.alloc(),
         LDB,
@@ -84,14 +108,14 @@ fn ldb_on_four_repeaters(rt: HostRuntime) -> Result<(), Fail> {
 
 #[test]
 fn two_nodes_are_each_other_s_neighbours(rt: HostRuntime) -> Result<(), Fail> {
-    reports(&rt, rt.alloc(), ID0, 2, &[0, 1], "0 1\n", Status::Done)?;
-    reports(&rt, rt.alloc(), ZERO, 2, &[0, 1], "0 0\n", Status::Done)
+    runs(&rt, rt.alloc(), ID0, 2, &[0, 1], "0 1\n", Status::Done)?;
+    runs(&rt, rt.alloc(), ZERO, 2, &[0, 1], "0 0\n", Status::Done)
 }
 
 #[test]
 fn three_channels_are_too_few(rt: HostRuntime) -> Result<(), Fail> {
-    let line = "check fault C6 place 1\n";
-    reports(
+    let line = "check fault C4 bound 5\n";
+    runs(
         &rt,
         rt.alloc(),
         CV1_OF_THREE,
@@ -113,16 +137,57 @@ fn rings_that_are_refused(rt: HostRuntime) -> Result<(), Fail> {
         (&[0, 1, 8, 0], "ring fault G3 place 2\n"),
     ];
     for (ring, line) in rows {
-        reports(&rt, rt.alloc(), CV1, 8, ring, line, Status::RingRefused)?;
+        runs(&rt, rt.alloc(), CV1, 8, ring, line, Status::RingRefused)?;
+    }
+    Ok(())
+}
+
+#[test]
+fn red_on_eight_repeaters(rt: HostRuntime) -> Result<(), Fail> {
+    let ring = [5, 1, 3, 7, 0, 2, 4, 6];
+    runs(
+        &rt,
+        rt.alloc(),
+        RED,
+        8,
+        &ring,
+        "1 0 3 1 0 3 2 3\n",
+        Status::Done,
+    )
+}
+
+#[test]
+fn programs_that_are_accepted(rt: HostRuntime) -> Result<(), Fail> {
+    let rows: [(&[u8], u32, &str); 3] = [
+        (
+            CV1_OF_12,
+            64,
+            "accepted ids 64 rounds 1 channels 12 bound 11 windows 249984\n",
+        ),
+        (
+            CV1_OF_14,
+            102,
+            "accepted ids 102 rounds 1 channels 14 bound 13 windows 1030200\n",
+        ),
+        (
+            RED,
+            8,
+            "accepted ids 8 rounds 3 channels 4 bound 3 windows 40320\n",
+        ),
+    ];
+    for (text, ids, line) in rows {
+        checks(&rt, rt.alloc(), text, ids, line, Status::Done)?;
     }
     Ok(())
 }
 
 #[test]
 fn programs_that_are_refused(rt: HostRuntime) -> Result<(), Fail> {
-    let rows: [(&[u8], u32, &str); 7] = [
-        (CV1, 3, "check fault X1\n"),
-        (CV1, 103, "check fault X2\n"),
+    let rows: [(&[u8], u32, &str); 9] = [
+        (CV1_OF_14, 3, "check fault X1\n"),
+        (CV1_OF_14, 103, "check fault X2\n"),
+        (CV1_OF_11, 64, "check fault C4 bound 11\n"),
+        (CV1_OF_THREE, 8, "check fault C4 bound 5\n"),
         (
             b"rounds 0\nchannels 2\nregisters 1\nstart\nr0 = id\nfinish r1\n",
             2,
@@ -146,21 +211,35 @@ fn programs_that_are_refused(rt: HostRuntime) -> Result<(), Fail> {
         (CV1_SENDS_L, 8, "check fault C3\n"),
     ];
     for (text, ids, line) in rows {
-        reports(&rt, rt.alloc(), text, ids, &[0, 1], line, Status::Refused)?;
+        checks(&rt, rt.alloc(), text, ids, line, Status::Refused)?;
+        runs(&rt, rt.alloc(), text, ids, &[0, 1], line, Status::Refused)?;
     }
     Ok(())
 }
 
 #[test]
 fn texts_that_are_refused(rt: HostRuntime) -> Result<(), Fail> {
-    let rows: [(&[u8], &str); 4] = [
+    let rows: [(&[u8], &str); 6] = [
         (b"", "text fault N9 at 0\n"),
+        (b"rounds 4294967296", "text fault N4 at 7\n"),
         (b"rounds 5", "text fault N5 at 7\n"),
         (b"ronds 1", "text fault N3 at 0\n"),
+        (b"round 1", "text fault N6 at 0\n"),
         (&[0xC3], "text fault N2 at 0\n"),
     ];
     for (text, line) in rows {
-        reports(&rt, rt.alloc(), text, 8, &[0], line, Status::Refused)?;
+        checks(&rt, rt.alloc(), text, 8, line, Status::Refused)?;
+        runs(&rt, rt.alloc(), text, 8, &[0], line, Status::Refused)?;
     }
     Ok(())
+}
+
+#[test]
+fn texts_of_blanks_are_refused(rt: HostRuntime) -> Result<(), Fail> {
+    let blanks = vec![in rt.alloc(); b' '; 65_537]?;
+    let longest = &blanks[..65_536];
+    let too_long = "text fault N1 at 65536\n";
+    checks(&rt, rt.alloc(), &blanks, 8, too_long, Status::Refused)?;
+    let ended = "text fault N9 at 65536\n";
+    checks(&rt, rt.alloc(), longest, 8, ended, Status::Refused)
 }

@@ -1,7 +1,7 @@
 //! Program texts that parse, and the kind and the place of the fault of those that don't.
 
-use crate::programs::{CV1, ID0, LDB, SUM_HEAD, ZERO, ZERO_HEAD};
-use node_lang::{FaultKind, TextFault, parse};
+use crate::programs::{CV1, CV1_WITH_BLANKS, ID0, LDB, RED, NOT_HEAD, ZERO, ZERO_HEAD};
+use node_lang::{FaultKind, TextFault, parse, print};
 use std::alloc::{AllocError, Global};
 use std::process::Abort;
 use std::test::Fail;
@@ -15,15 +15,15 @@ fn faults_at(rt: &impl Abort, alloc: Global, text: &[u8], kind: FaultKind, offse
     assert_eq!(rt; fault_of(alloc, text), Some(TextFault { kind, offset }));
 }
 
-/// Operations nested to this depth in their first operand, with 0 in the middle.
+/// `not` nested this many times, with 0 in the middle.
 fn nested(alloc: Global, head: &[u8], depth: usize) -> Result<Vec<u8>, AllocError> {
     let mut text = head.to_vec(alloc)?;
     for _ in 0..depth {
-        text.extend_from_slice(b"add(")?;
+        text.extend_from_slice(b"not(")?;
     }
     text.extend_from_slice(b"0")?;
     for _ in 0..depth {
-        text.extend_from_slice(b",0)")?;
+        text.extend_from_slice(b")")?;
     }
     Ok(text)
 }
@@ -32,7 +32,7 @@ fn nested(alloc: Global, head: &[u8], depth: usize) -> Result<Vec<u8>, AllocErro
 fn full_tree(alloc: Global, head: &[u8], depth: usize) -> Result<Vec<u8>, AllocError> {
     let mut tree = b"0".to_vec(alloc)?;
     for _ in 1..depth {
-        let mut larger = b"add(".to_vec(alloc)?;
+        let mut larger = b"min(".to_vec(alloc)?;
         larger.extend_from_slice(&tree)?;
         larger.extend_from_slice(b",")?;
         larger.extend_from_slice(&tree)?;
@@ -46,7 +46,7 @@ fn full_tree(alloc: Global, head: &[u8], depth: usize) -> Result<Vec<u8>, AllocE
 
 #[test]
 fn the_programs_parse(rt: HostRuntime) {
-    for text in [CV1, LDB, ID0, ZERO] {
+    for text in [CV1, LDB, ID0, ZERO, RED] {
         assert!(rt; fault_of(rt.alloc(), text).is_none());
     }
 }
@@ -116,15 +116,20 @@ fn headers(rt: HostRuntime) {
 }
 
 #[test]
-fn names_that_are_no_words_yet(rt: HostRuntime) {
-    let rows: [&[u8]; 3] = [
-        b"rounds 0\nchannels 2\nregisters 1\nstart\nr0 = id\nfinish not(r0)\n",
-        b"rounds 0\nchannels 2\nregisters 1\nstart\nr0 = id\nfinish if(r0, 0, 1)\n",
-        b"rounds 0\nchannels 2\nregisters 1\nstart\nr0 = id\nfinish min(r0, 1)\n",
+fn programs_are_printed(rt: HostRuntime) -> Result<(), Fail> {
+    let rows = [
+        (CV1_WITH_BLANKS, CV1),
+        (CV1, CV1),
+        (LDB, LDB),
+        (ID0, ID0),
+        (ZERO, ZERO),
+        (RED, RED),
     ];
-    for text in rows {
-        faults_at(&rt, rt.alloc(), text, FaultKind::BadWord, 53);
+    for (text, printed) in rows {
+        let program = parse(rt.alloc(), text)?;
+        assert_eq!(rt; print(rt.alloc(), &program)?.as_bytes(), printed);
     }
+    Ok(())
 }
 
 #[test]
@@ -139,7 +144,7 @@ fn deep_expressions(rt: HostRuntime) -> Result<(), Fail> {
 fn many_nodes(rt: HostRuntime) -> Result<(), Fail> {
     let full = full_tree(rt.alloc(), ZERO_HEAD, 12)?;
     assert!(rt; fault_of(rt.alloc(), &full).is_none());
-    let over = full_tree(rt.alloc(), SUM_HEAD, 12)?;
+    let over = full_tree(rt.alloc(), NOT_HEAD, 12)?;
     faults_at(&rt, rt.alloc(), &over, FaultKind::TooManyNodes, 14_375);
     Ok(())
 }

@@ -2,3 +2,4 @@ mod Known
 mod Joined
 mod Parts
 pub mod Reports
+pub mod Commands

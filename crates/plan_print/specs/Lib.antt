@@ -1,6 +1,7 @@
 pub mod Decimal
 pub mod RingText
 pub mod Words
+pub mod CommandWords
 pub mod WordsFault
 pub mod Status
 pub mod FaultCodes
@@ -9,6 +10,7 @@ pub mod Input
 pub mod Output
 pub mod Lines
 pub mod Report
+pub mod Planned
 pub use Rattle.node_lang.specs.Term
 pub use Rattle.node_lang.specs.Ring
 pub use Rattle.node_lang.specs.Grammar

@@ -1,9 +1,10 @@
 -- The report: the bytes and the status for a task and an input.
-use Rattle.std.specs.Prelude.{ℕ, ◌<◌, ◌≤◌, List, [], ◌∷◌, length, take, slice_index, All, codes}
+use Rattle.std.specs.Prelude.{ℕ, ◌+◌, ◌*◌, List, [], ◌∷◌, length, codes}
 use Rattle.std.specs.Fmt.{decimal}
 use Rattle.node_lang.specs.declared.fault.FaultKind.{FaultKind}
 use Rattle.node_lang.specs.declared.fault.FaultKind.TheVariants as kind
 use Rattle.node_lang.specs.Term.{ProgramTree}
+use Rattle.node_lang.specs.Bounds.{finish_bound}
 use Rattle.node_lang.specs.Ring.{IsRing, channels_of}
 use Rattle.node_lang.specs.Grammar.{Reads}
 use Rattle.node_lang.specs.Faults.{FaultsAt}
@@ -14,10 +15,11 @@ use Rattle.win_index.specs.declared.ring.RingFault.TheVariants as ring
 use Rattle.lang_check.specs.Acceptance.{IsAccepted}
 use Rattle.lang_check.specs.Refusals.{IsFirstRefusal}
 use Rattle.win_index.specs.RingFaults.{IsFirstFault}
+use Rattle.win_index.specs.Windows.{windows}
 use Rattle.plan_print.specs.declared.status.Status.{Status}
 use Rattle.plan_print.specs.declared.status.Status.TheVariants.{Done, Refused, RingRefused}
 use Rattle.plan_print.specs.declared.task.Task.{Task}
-use Rattle.plan_print.specs.declared.task.Task.TheVariants.{Run}
+use Rattle.plan_print.specs.declared.task.Task.TheVariants.{Check, Run}
 use Rattle.plan_print.specs.Lines.{line, numbers_text}
 
 pub record Report : Type 0 where
@@ -46,7 +48,7 @@ check_fault_line check.TooManyWindows = line (codes "check fault X2" ∷ [])
 check_fault_line (check.RegisterOutOfRange j) = line (codes "check fault C1 register " ∷ decimal j ∷ [])
 check_fault_line check.IdOutsideStart = line (codes "check fault C2" ∷ [])
 check_fault_line check.MessageOutsideStep = line (codes "check fault C3" ∷ [])
-check_fault_line (check.ChannelBound b) = line (codes "check fault C4 bound " ∷ decimal b ∷ [])
+check_fault_line (check.ChannelBound bound) = line (codes "check fault C4 bound " ∷ decimal bound ∷ [])
 
 abbrev pub ring_fault_line : RingFault → List ℕ
 ring_fault_line ring.TooShort = line (codes "ring fault G1" ∷ [])
@@ -54,33 +56,35 @@ ring_fault_line ring.TooLong = line (codes "ring fault G2" ∷ [])
 ring_fault_line (ring.IdTooLarge place) = line (codes "ring fault G3 place " ∷ decimal place ∷ [])
 ring_fault_line (ring.Repeated first second) = line (codes "ring fault G4 places " ∷ decimal first ∷ codes " " ∷ decimal second ∷ [])
 
-abbrev pub channel_fault_line : ℕ → List ℕ
-channel_fault_line place = line (codes "check fault C6 place " ∷ decimal place ∷ [])
+-- the line of a program that is accepted for `ids` identifiers; its windows are those of `2t+1` identifiers for `t` rounds
+abbrev pub accepted_line : ℕ → ProgramTree → List ℕ
+accepted_line ids p =
+    line (codes "accepted ids " ∷ decimal ids ∷ codes " rounds " ∷ decimal (length p.steps) ∷ codes " channels " ∷ decimal p.channels
+    ∷ codes " bound " ∷ decimal (finish_bound p ids)
+    ∷ codes " windows " ∷ decimal (length (windows (2 * length p.steps + 1) ids)) ∷ [])
 
--- the least place whose channel is not below the number of channels
-pub record IsFirstOver (count : ℕ) (channels : List ℕ) (place : ℕ) : Type 0 where
-  pub within : place < length channels
-  pub over : count ≤ slice_index channels place
-  pub before : All (λ c. c < count) (take place channels)
-
--- the report of the channels of a ring: a channel that the program doesn't have, or the channels of all places
-pub data IsChannelsReport (p : ProgramTree) (places : List ℕ) : Report → Type 0 where
-  fault : (place : ℕ) → IsFirstOver p.channels (channels_of p places) place →
-      IsChannelsReport p places (record { bytes = channel_fault_line place; status = Refused })
-  channels : All (λ c. c < p.channels) (channels_of p places) →
-      IsChannelsReport p places (record { bytes = line (numbers_text (channels_of p places) ∷ []); status = Done })
-
--- The report of a run for `ids` identifiers on a ring: the text is judged first, then the program, the ring and the channels.
-pub data IsRunReport (ids : ℕ) (places input : List ℕ) : Report → Type 0 where
+-- The report of an input that is refused for `ids` identifiers: the text is judged first, then the program.
+pub data IsRefusal (ids : ℕ) (input : List ℕ) : Report → Type 0 where
   text_fault : (k : FaultKind) (offset : ℕ) → FaultsAt input k offset →
-      IsRunReport ids places input (record { bytes = text_fault_line k offset; status = Refused })
+      IsRefusal ids input (record { bytes = text_fault_line k offset; status = Refused })
   check_fault : (p : ProgramTree) (f : CheckFault) → Reads input p → IsFirstRefusal ids p f →
-      IsRunReport ids places input (record { bytes = check_fault_line f; status = Refused })
+      IsRefusal ids input (record { bytes = check_fault_line f; status = Refused })
+
+-- The report of a check for `ids` identifiers.
+pub data IsCheckReport (ids : ℕ) (input : List ℕ) : Report → Type 0 where
+  refusal : (r : Report) → IsRefusal ids input r → IsCheckReport ids input r
+  accepted : (p : ProgramTree) → Reads input p → IsAccepted ids p →
+      IsCheckReport ids input (record { bytes = accepted_line ids p; status = Done })
+
+-- The report of a run for `ids` identifiers on a ring: the ring is judged after the text and the program.
+pub data IsRunReport (ids : ℕ) (places input : List ℕ) : Report → Type 0 where
+  refusal : (r : Report) → IsRefusal ids input r → IsRunReport ids places input r
   ring_fault : (p : ProgramTree) (f : RingFault) → Reads input p → IsAccepted ids p → IsFirstFault ids (length p.steps) places f →
       IsRunReport ids places input (record { bytes = ring_fault_line f; status = RingRefused })
-  run : (p : ProgramTree) (r : Report) → Reads input p → IsAccepted ids p → IsRing ids (length p.steps) places → IsChannelsReport p places r →
-      IsRunReport ids places input r
+  channels : (p : ProgramTree) → Reads input p → IsAccepted ids p → IsRing ids (length p.steps) places →
+      IsRunReport ids places input (record { bytes = line (numbers_text (channels_of p places) ∷ []); status = Done })
 
 -- the report of a task
 abbrev pub IsReport : Task → List ℕ → Report → Type 0
+IsReport (Check ids) input report = IsCheckReport ids input report
 IsReport (Run ids places) input report = IsRunReport ids places.items input report

@@ -2,9 +2,13 @@
 
 ghost use Rattle.std.specs.Prelude.{◌≡◌, [], ◌∷◌, IfOk, string_bytes};
 ghost use Rattle.plan_print.specs.Lines.{line, numbers_text};
+ghost use Rattle.plan_print.specs.Report as report;
 
+use lang_check::{CheckFault, Plan};
+use node_lang::{FaultKind, TextFault};
 use std::alloc::{AllocError, Global};
 use std::fmt::Write;
+use win_index::RingFault;
 
 /// Numbers in decimal, parted by single blanks.
 fn joined(alloc: Global, numbers: &[u32]) -> Result<String, AllocError>
@@ -27,4 +31,76 @@ pub fn numbers_line(alloc: Global, numbers: &[u32]) -> Result<String, AllocError
 {
     let numbers = joined(alloc, numbers)?;
     format!(in alloc; "{numbers}\n")
+}
+
+// The number of a kind of text fault.
+fn number_of(fault: FaultKind) -> u32
+    ensures { result ≡ report.kind_number fault }
+{
+    match fault {
+        FaultKind::TooLong => 1,
+        FaultKind::NotAscii => 2,
+        FaultKind::BadWord => 3,
+        FaultKind::NumberTooLarge => 4,
+        FaultKind::HeaderRange => 5,
+        FaultKind::Unexpected => 6,
+        FaultKind::TooDeep => 7,
+        FaultKind::TooManyNodes => 8,
+        FaultKind::EndOfText => 9,
+        FaultKind::OutOfMemory => 10,
+    }
+}
+
+// The line of a text fault.
+pub(crate) fn text_fault_line(alloc: Global, fault: TextFault) -> Result<String, AllocError>
+    ensures { IfOk result (λ text. string_bytes text ≡ report.text_fault_line fault.kind fault.offset) }
+{
+    let number = number_of(fault.kind);
+    let offset = fault.offset;
+    format!(in alloc; "text fault N{number} at {offset}\n")
+}
+
+// The line of a program that is not accepted.
+pub(crate) fn check_fault_line(alloc: Global, fault: CheckFault) -> Result<String, AllocError>
+    ensures { IfOk result (λ text. string_bytes text ≡ report.check_fault_line fault) }
+{
+    match fault {
+        CheckFault::IdsOutOfRange => format!(in alloc; "check fault X1\n"),
+        CheckFault::TooManyWindows => format!(in alloc; "check fault X2\n"),
+        CheckFault::RegisterOutOfRange(register) => {
+            format!(in alloc; "check fault C1 register {register}\n")
+        }
+        CheckFault::IdOutsideStart => format!(in alloc; "check fault C2\n"),
+        CheckFault::MessageOutsideStep => format!(in alloc; "check fault C3\n"),
+        CheckFault::ChannelBound(bound) => format!(in alloc; "check fault C4 bound {bound}\n"),
+    }
+}
+
+// The line of a list that is no ring.
+pub(crate) fn ring_fault_line(alloc: Global, fault: RingFault) -> Result<String, AllocError>
+    ensures { IfOk result (λ text. string_bytes text ≡ report.ring_fault_line fault) }
+{
+    match fault {
+        RingFault::TooShort => format!(in alloc; "ring fault G1\n"),
+        RingFault::TooLong => format!(in alloc; "ring fault G2\n"),
+        RingFault::IdTooLarge(place) => format!(in alloc; "ring fault G3 place {place}\n"),
+        RingFault::Repeated(first, second) => {
+            format!(in alloc; "ring fault G4 places {first} {second}\n")
+        }
+    }
+}
+
+// The line of an accepted program.
+pub(crate) fn accepted_line(alloc: Global, plan: &Plan) -> Result<String, AllocError>
+    ensures { IfOk result (λ text. string_bytes text ≡ report.accepted_line plan.now.ids plan.now.program) }
+{
+    let shape = plan.shape();
+    let ids = shape.ids();
+    let rounds = shape.rounds();
+    let channels = plan.channels();
+    let bound = plan.bound();
+    let windows = shape.count(rounds);
+    format!(in alloc;
+        "accepted ids {ids} rounds {rounds} channels {channels} bound {bound} windows {windows}\n"
+    )
 }

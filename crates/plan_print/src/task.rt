@@ -3,6 +3,11 @@
 /// What the words of a command ask for.
 #[derive(Debug, PartialEq, Eq, Drop)]
 pub enum Task {
+    /// Judges the program text of the input for identifiers below `ids`.
+    Check {
+        /// How many identifiers there are.
+        ids: u32,
+    },
     /// Runs the program text of the input on a ring, for identifiers below `ids`.
     Run {
         /// How many identifiers there are.

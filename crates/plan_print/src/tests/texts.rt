@@ -90,6 +90,14 @@ fn asked(rt: &(impl Abort + AllocGlobal), line: &str) -> Result<Task, WordsFault
 }
 
 #[test]
+fn check_is_a_task(rt: HostRuntime) -> Result<(), Fail> {
+    assert_eq!(rt; asked(&rt, "check --ids 64")?, Task::Check { ids: 64 });
+    let largest = Task::Check { ids: 4_294_967_295 };
+    assert_eq!(rt; asked(&rt, "check --ids 0004294967295")?, largest);
+    Ok(())
+}
+
+#[test]
 fn run_is_a_task(rt: HostRuntime) -> Result<(), Fail> {
     let ring = [5, 1, 3, 7].to_vec(rt.alloc())?;
     assert_eq!(rt;
@@ -127,6 +135,16 @@ fn other_words_are_refused(rt: HostRuntime) {
         "run --ids 8 --ring 5,1,3,7 --segments 1",
         "nbhd run --ids 8 --ring 5,1,3,7",
         "run --ids eight --ring 5,,1",
+        "check",
+        "Check --ids 8",
+        "check 8",
+        "check --ids",
+        "check --ids eight",
+        "check --ids +8",
+        "check --ids 4294967296",
+        "check --ids=8",
+        "check --ids 8 --ring 5,1,3,7",
+        "run --ids 8 8",
     ];
     for line in lines {
         assert_eq!(rt; asked(&rt, line), Err(WordsFault::Usage), "at {line}");
