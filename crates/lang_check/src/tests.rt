@@ -18,6 +18,10 @@ const CV1_OF_12: &[u8] =
 const CV1_OF_14: &[u8] =
     b"rounds 1\nchannels 14\nregisters 1\nstart\nr0 = id\nround\nsend left 0\nsend right r0\nr0 = add(shl(ldb(r0, L), 1), bit(r0, ldb(r0, L)))\nfinish r0\n";
 
+// The same with 6 channels, where each node sends what it receives.
+const CV1_SENDS_L: &[u8] =
+    b"rounds 1\nchannels 6\nregisters 1\nstart\nr0 = id\nround\nsend left 0\nsend right L\nr0 = add(shl(ldb(r0, L), 1), bit(r0, ldb(r0, L)))\nfinish r0\n";
+
 // An operation of two numbers.
 fn of_numbers(alloc: Global, op: BinOp, a: u32, b: u32) -> Result<Expr, AllocError> {
     let a = Box::new(alloc, Expr::Number(a))?;
@@ -135,11 +139,7 @@ fn programs_are_refused(rt: HostRuntime) -> Result<(), Fail> {
             2,
             CheckFault::RegisterOutOfRange(1),
         ),
-        (
-            b"rounds 1 channels 6 registers 1 start r0 = id round send left 0 send right L r0 = ldb(r0, L) finish r0",
-            8,
-            CheckFault::MessageOutsideStep,
-        ),
+        (CV1_SENDS_L, 8, CheckFault::MessageOutsideStep),
         (
             b"rounds 0 channels 2 registers 1 start r0 = id finish 2",
             2,
