@@ -3,7 +3,7 @@ use std::marker::Model;
 
 /// A program of the node language, made by `parse` alone. It has 0 to 3 rounds, 1 to 4,096 channels and
 /// 1 to 8 registers, an expression for each register in `start` and in each round, at most 4,096
-/// expression nodes, and no expression of a depth over 64. Expressions name registers 0 to 9.
+/// expression nodes, and no expression of a depth over 64. An expression names registers 0 to 9.
 #[derive(Drop)]
 pub struct Program {
     pub(crate) channels: u32,
