@@ -9,4 +9,6 @@ pub mod Sizes
 pub mod Writing
 pub mod Levels
 pub mod Arcs
+pub mod Tuples
 pub mod Order
+pub mod JobPlaces

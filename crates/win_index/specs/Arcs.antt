@@ -1,5 +1,5 @@
--- Windows at the places of a ring; places are taken modulo the ring's length.
-use Rattle.std.specs.Prelude.{ℕ, ◌+◌, ◌-◌, ◌*◌, ◌%◌, List, map, length, slice_index}
+-- Windows at the places of a ring, where places are taken modulo the ring's length, and windows of longer lists.
+use Rattle.std.specs.Prelude.{ℕ, ◌+◌, ◌-◌, ◌*◌, ◌%◌, List, map, length, slice_index, take, drop}
 use Rattle.std.specs.List.{range_with_len}
 
 -- the identifiers of as many places as count, from the place start on to the right, round the ring
@@ -9,3 +9,7 @@ arc x start count = map (λ k. slice_index x ((start + k) % length x)) (range_wi
 -- the window of level r at place i: the identifiers of places i-r to i+r
 abbrev pub window_around : List ℕ → ℕ → ℕ → List ℕ
 window_around x r i = arc x (i + length x - r) (2 * r + 1)
+
+-- the window of level r that a list has from an offset on
+abbrev pub part_at : ℕ → ℕ → List ℕ → List ℕ
+part_at r offset list = take (2 * r + 1) (drop offset list)

@@ -1,11 +1,13 @@
 -- The definitions that the contracts cite: windows in order and their numbers, how many there are, the
--- window after a window, which numbers make a shape, what is wrong first with a ring, and windows at the
--- places of a ring. Rings themselves stand in node_lang.
+-- window after a window, which numbers make a shape, blocks of windows and jobs, what is wrong first with a
+-- ring, and windows at the places of a ring. Rings themselves stand in node_lang.
 pub mod Windows
 pub mod Falling
 pub mod Lexicographic
 pub mod Successor
 pub mod ShapeRange
+pub mod Blocks
+pub mod Jobs
 pub mod Arcs
 pub mod ShapeFaults
 pub mod RingFaults

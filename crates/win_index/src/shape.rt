@@ -28,7 +28,7 @@ pub struct Shape {
 }
 
 impl Shape {
-    ghost use Rattle.std.specs.Prelude.{◌≡◌, ◌+◌, ◌*◌, ◌<◌, ◌↔◌, IfOk, IfErr, IsOk, Some, length, slice_get};
+    ghost use Rattle.std.specs.Prelude.{◌≡◌, ◌+◌, ◌*◌, ◌<◌, ◌↔◌, IfOk, IfErr, IfSome, IsOk, Some, length, slice_get};
     ghost use Rattle.std.specs.Bool.{OnTrue, OnFalse};
     ghost use Rattle.win_index.specs.Windows.{windows, number_of, IsWindow};
     ghost use Rattle.win_index.specs.Successor.{IsNext, IsLast};
@@ -84,7 +84,8 @@ impl Shape {
     /// The number of a window of this level, or `None` where the list is no such window.
     pub fn number(&self, level: u32, list: &[u32]) -> Option<u32>
         requires { level ≤ self.now.rounds }
-        ensures { result ≡ number_of (2 * level + 1) self.now.ids list.now }
+        ensures number { result ≡ number_of (2 * level + 1) self.now.ids list.now }
+        ensures below { IfSome result (λ n. n < length (windows (2 * level + 1) self.now.ids)) }
     {
         let number = find_number(self.ids, window_len(level), list)?;
         Some(number as u32)
@@ -94,7 +95,8 @@ impl Shape {
     pub fn window_number(&self, level: u32, window: &[u32]) -> u32
         requires level { level ≤ self.now.rounds }
         requires window { IsWindow (2 * level + 1) self.now.ids window.now }
-        ensures { number_of (2 * level + 1) self.now.ids window.now ≡ Some result }
+        ensures number { number_of (2 * level + 1) self.now.ids window.now ≡ Some result }
+        ensures item { slice_get (windows (2 * level + 1) self.now.ids) result ≡ Some window.now }
     {
         number_of_list(self.ids, window) as u32
     }
@@ -134,9 +136,22 @@ impl Shape {
     pub fn tuple(&self, number: u64, out: &mut [u32])
         requires below { number < length (windows (2 * self.now.rounds + 2) self.now.ids) }
         requires room { length out.old ≡ 2 * self.now.rounds + 2 }
-        ensures { slice_get (windows (2 * self.now.rounds + 2) self.now.ids) number ≡ Some out.new }
+        ensures item { slice_get (windows (2 * self.now.rounds + 2) self.now.ids) number ≡ Some out.new }
+        ensures tuple { IsWindow (2 * self.now.rounds + 2) self.now.ids out.new }
     {
         write_list(self.ids, number, out, tuple_len(self.rounds));
+    }
+
+    /// Writes the next tuple over a tuple and says `true`, or says `false` and changes nothing where it is
+    /// the last.
+    pub fn after(&self, tuple: &mut [u32]) -> bool
+        requires { IsWindow (2 * self.now.rounds + 2) self.now.ids tuple.old }
+        ensures next { OnTrue result (IsNext (2 * self.now.rounds + 2) self.now.ids tuple.old tuple.new) }
+        ensures last { OnFalse result (IsLast (2 * self.now.rounds + 2) self.now.ids tuple.old) }
+        ensures same { OnFalse result (tuple.new ≡ tuple.old) }
+        ensures tuple { IsWindow (2 * self.now.rounds + 2) self.now.ids tuple.new }
+    {
+        write_next(self.ids, tuple, tuple_len(self.rounds))
     }
 }
 

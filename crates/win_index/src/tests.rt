@@ -140,3 +140,31 @@ fn windows_round_the_end_of_a_ring(rt: HostRuntime) -> Result<(), Fail> {
     assert!(rt; !ring.same(&turned));
     Ok(())
 }
+
+#[test]
+fn jobs_of_three_rounds(rt: HostRuntime) -> Result<(), Fail> {
+    let shape = shape_of_eight(3).ok_or("a shape")?;
+    assert!(rt; shape.rounds() == 3);
+    assert_eq!(rt; shape.blocks(0), 1);
+    assert_eq!(rt; shape.blocks(1), 2);
+    assert_eq!(rt; shape.blocks(2), 27);
+    assert_eq!(rt; shape.blocks(3), 158);
+    let jobs = shape.jobs();
+    assert!(rt; jobs == 188);
+    assert_eq!(rt; shape.job(0), (0, 0));
+    assert_eq!(rt; shape.job(3), (2, 0));
+    assert_eq!(rt; shape.job(187), (3, 157));
+    Ok(())
+}
+
+#[test]
+fn jobs_of_one_round(rt: HostRuntime) -> Result<(), Fail> {
+    let shape = shape_of_eight(1).ok_or("a shape")?;
+    assert!(rt; shape.rounds() == 1);
+    let jobs = shape.jobs();
+    assert!(rt; jobs == 3);
+    assert_eq!(rt; shape.job(0), (0, 0));
+    assert_eq!(rt; shape.job(1), (1, 0));
+    assert_eq!(rt; shape.job(2), (1, 1));
+    Ok(())
+}

@@ -14,7 +14,8 @@ overflow_cast-result c =
     let few = level_is_few shape.ids shape.rounds c.args.level _ c.requires.window.size shape.in_range shape.few_windows c.requires.level in
     omega (arith, few, c.number_of_list.ensures.below)
 
-pub returns : goal.returns
-returns c =
-    let at' = rw c.requires.window.size at c.number_of_list.ensures.number in
-    number_of_is _ _ _ c.args.window.now at'
+pub returns-clause-item : goal.returns-clause-item
+returns-clause-item c = rw c.requires.window.size at c.number_of_list.ensures.number
+
+pub returns-clause-number : goal.returns-clause-number
+returns-clause-number c = number_of_is _ _ _ c.args.window.now (returns-clause-item c)

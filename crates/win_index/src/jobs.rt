@@ -1,0 +1,50 @@
+use crate::shape::Shape;
+
+/// How many windows a block holds; the last block of a level may hold fewer.
+pub const BLOCK_WINDOWS: u32 = 256;
+
+impl Shape {
+    ghost use Rattle.std.specs.Prelude.{◌≡◌, ◌*◌, ◌<◌, ◌≤◌, Some, length, slice_get};
+    ghost use Rattle.win_index.specs.Blocks.{block_count};
+    ghost use Rattle.win_index.specs.Jobs.{jobs_of};
+
+    /// How many blocks the windows of this level fill, 256 a block. Block `b` holds the windows from number
+    /// `256*b` on; the last block may hold fewer than 256.
+    pub fn blocks(&self, level: u32) -> u32
+        requires { level ≤ self.now.rounds }
+        ensures value { result ≡ block_count self.now.ids level }
+        ensures few { result ≤ 4096 }
+    {
+        self.count(level).div_ceil(BLOCK_WINDOWS)
+    }
+
+    /// How many jobs there are: one for each block of each level from 0 to `t`.
+    pub fn jobs(&self) -> u32
+        ensures value { result ≡ length (jobs_of self.now.ids self.now.rounds) }
+        ensures few { result ≤ 4 * 4096 }
+    {
+        let mut jobs = 0;
+        for level in 0..self.rounds + 1 {
+            jobs += self.blocks(level);
+        }
+        jobs
+    }
+
+    /// The level and the block of a job. Jobs are numbered by level from 0, then by block.
+    pub fn job(&self, number: u32) -> (u32, u32)
+        requires { number < length (jobs_of self.now.ids self.now.rounds) }
+        ensures job { slice_get (jobs_of self.now.ids self.now.rounds) number ≡ Some result }
+        ensures level { result.0 ≤ self.now.rounds }
+        ensures block { result.1 < block_count self.now.ids result.0 }
+    {
+        let mut block = number;
+        for level in 0..self.rounds + 1 {
+            let blocks = self.blocks(level);
+            if block < blocks {
+                return (level, block);
+            }
+            block -= blocks;
+        }
+        unreachable!()
+    }
+}
