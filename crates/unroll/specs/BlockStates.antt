@@ -1,0 +1,33 @@
+-- What a block holds: the states of windows of one level that follow one another, 256 at most.
+use Rattle.std.specs.Prelude.{ℕ, ◌+◌, ◌-◌, ◌*◌, min, List, [], slice_index_or, refl}
+use Rattle.std.specs.Coded.{Coded, code_by, coded×, coded_ℕ}
+use Rattle.win_index.specs.Windows.{windows}
+use Rattle.win_index.specs.Blocks.{window_count}
+use Rattle.lang_check.specs.Plans.{ProgramForIds, plan_code}
+use Rattle.unroll.specs.Line.{middle_state}
+
+-- the window of level r with number n
+abbrev pub window_numbered : ℕ → ℕ → ℕ → List ℕ
+window_numbered m r n = slice_index_or (windows (2 * r + 1) m) n []
+
+-- how many windows block b of level r holds: those from number 256*b on, 256 at most
+abbrev pub block_len : ℕ → ℕ → ℕ → ℕ
+block_len m r b = min 256 (window_count m r - 256 * b)
+
+-- state i of block b of level r: that of the window with number 256*b + i
+abbrev pub block_state : ProgramForIds → ℕ → ℕ → ℕ → List ℕ
+block_state plan r b i = middle_state plan.program r (window_numbered plan.ids r (256 * b + i))
+
+-- a block: its plan, its level and number, and who made it. Its states follow from the first three
+pub record MadeBlock : Type 0 where
+  pub plan : ProgramForIds
+  pub level : ℕ
+  pub number : ℕ
+  pub maker : ℕ
+
+-- by which a proof tells blocks apart
+abbrev pub block_code : Coded MadeBlock
+block_code =
+    code_by (ProgramForIds × (ℕ × (ℕ × ℕ))) (coded× plan_code (coded× coded_ℕ (coded× coded_ℕ coded_ℕ)))
+    (λ b. (b.plan, (b.level, (b.number, b.maker))))
+    (λ t. record { plan = t.0; level = t.1.0; number = t.1.1.0; maker = t.1.1.1 }) (λ _. refl)

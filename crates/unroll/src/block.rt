@@ -1,0 +1,84 @@
+use lang_check::Plan;
+use std::marker::Model;
+
+/// The states of up to 256 windows of one level of a plan, in the order of their numbers: block `b` holds
+/// those of the windows from number `256*b` on. Each is its window's state after as many rounds as the level
+/// says. A block names who made it, by any number. It is made by `make_block` alone.
+#[derive(Drop)]
+pub struct Block<'a> {
+    pub(crate) plan: &'a Plan,
+    pub(crate) level: u32,
+    pub(crate) number: u32,
+    pub(crate) maker: u32,
+    pub(crate) len: u32,
+    pub(crate) states: Vec<u32>,
+}
+
+impl<'a> Model for Block<'a> {
+    ghost use Rattle.unroll.specs.BlockStates.{MadeBlock, block_code};
+    ghost use Rattle.unroll.specs.HeldStates.{HoldsStates};
+
+    ghost Value = { MadeBlock };
+
+    ghost coded = { block_code };
+
+    ghost view = { λ b. record { plan = b.plan.now; level = b.level; number = b.number; maker = b.maker } };
+
+    ghost invariant = { λ b. HoldsStates b.plan.now b.level b.number b.len b.states.items };
+}
+
+impl<'a> Block<'a> {
+    ghost use Rattle.std.specs.Prelude.{◌≡◌, ◌<◌, ◌≤◌, length};
+    ghost use Rattle.unroll.specs.BlockStates.{block_len, block_state};
+    ghost use Rattle.win_index.specs.Blocks.{block_count};
+
+    /// The plan whose states it holds.
+    pub fn plan(&self) -> &'a Plan
+        ensures { result.now ≡ self.now.plan }
+    {
+        self.plan
+    }
+
+    /// The level of its windows, at most the number of rounds.
+    pub fn level(&self) -> u32
+        ensures value { result ≡ self.now.level }
+        ensures few { result ≤ length self.now.plan.program.steps }
+    {
+        self.level
+    }
+
+    /// Its number among the blocks of its level.
+    pub fn number(&self) -> u32
+        ensures value { result ≡ self.now.number }
+        ensures inside { result < block_count self.now.plan.ids self.now.level }
+    {
+        self.number
+    }
+
+    /// Who made it.
+    pub fn maker(&self) -> u32
+        ensures { result ≡ self.now.maker }
+    {
+        self.maker
+    }
+
+    /// How many states it holds, at most 256.
+    pub fn len(&self) -> u32
+        ensures { result ≡ block_len self.now.plan.ids self.now.level self.now.number }
+    {
+        self.len
+    }
+
+    /// The state of its `i`-th window, which has number `256*b + i` in block `b`: a cell for each register.
+    #[tactic(auto, using(crate::proofs::WrittenRows::row_fits))]
+    pub fn state(&self, i: u32) -> &[u32]
+        requires { i < block_len self.now.plan.ids self.now.level self.now.number }
+        ensures value { result.now ≡ block_state self.now.plan self.now.level self.now.number i }
+        ensures cells { length result.now ≡ length self.now.plan.program.start }
+    {
+        let plan = self.plan;
+        row_at(&self.states, width_of(plan), i as usize)
+    }
+}
+
+use crate::rows::{row_at, width_of};

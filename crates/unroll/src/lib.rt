@@ -1,0 +1,21 @@
+//! What a node holds after some rounds, by the identifiers around it: one window at a time, or in blocks of
+//! 256 windows that are made from the blocks one level below.
+#![tactic(auto)]
+
+mod block;
+mod fault;
+mod laws;
+mod making;
+mod rows;
+mod source;
+mod window;
+
+pub use block::Block;
+pub use fault::MakeFault;
+pub use laws::{locality, one_state_is_left, windows_are_within};
+pub use making::make_block;
+pub use source::Source;
+pub use window::window_state;
+
+#[cfg(test)]
+mod tests;

@@ -1,0 +1,24 @@
+ghost use Rattle.std.specs.Prelude.{◌≡◌, ◌<◌, ◌≤◌, length, IfSome, IfNone, None};
+ghost use Rattle.lang_check.specs.Plans.{ProgramForIds};
+ghost use Rattle.unroll.specs.Entries.{Entries, Grows, IsEntry};
+ghost use Rattle.win_index.specs.Blocks.{block_count};
+
+use crate::block::Block;
+
+/// A finite map of known blocks, all of one plan, from level and number. It only grows and never changes an
+/// entry.
+pub trait Source<'s> {
+    ghost plan: { Self → ProgramForIds };
+
+    ghost entries: { Self → Entries };
+
+    /// The block of a level of the plan and a number below the number of its blocks, known from then on, or
+    /// `None` where there is no entry.
+    fn block(&mut self, level: u32, number: u32) -> Option<&'s Block<'s>>
+        requires level { level ≤ length (plan self.old).program.steps }
+        requires number { number < block_count (plan self.old).ids level }
+        ensures same_plan { plan self.new ≡ plan self.old }
+        ensures grows { Grows (entries self.old) (entries self.new) }
+        ensures found { IfSome result (λ b. IsEntry (plan self.new) (entries self.new) level number b.now) }
+        ensures missing { IfNone result (entries self.new level number ≡ None) };
+}
