@@ -1,0 +1,13 @@
+//! The judge: whether neighbours' channels differ on every ring.
+#![tactic(auto)]
+
+mod laws;
+mod part;
+mod verdict;
+
+pub use laws::tuples_suffice;
+pub use part::judge_part;
+pub use verdict::{Verdict, judge};
+
+#[cfg(test)]
+mod tests;
