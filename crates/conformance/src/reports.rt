@@ -1,6 +1,8 @@
 //! Reports of the engine, byte for byte, with their status.
 
-use crate::programs::{CV1, CV1_OF_11, CV1_OF_12, CV1_OF_14, CV1_OF_THREE, CV1_SENDS_L, ID0, LDB, RED, ZERO};
+use crate::programs::{
+    CV1, CV1_OF_11, CV1_OF_12, CV1_OF_14, CV1_OF_THREE, CV1_SENDS_L, ID0, LDB, RED, ZERO,
+};
 use plan_print::engine::engine;
 use plan_print::fault::EngineFault;
 use plan_print::status::Status;
@@ -90,7 +92,15 @@ fn cv1_on_four_repeaters(rt: HostRuntime) -> Result<(), Fail> {
 #[test]
 fn cv1_with_the_most_identifiers(rt: HostRuntime) -> Result<(), Fail> {
     let ring = [5, 1, 3, 7];
-    runs(&rt, rt.alloc(), CV1_OF_14, 102, &ring, "2 4 3 5\n", Status::Done)
+    runs(
+        &rt,
+        rt.alloc(),
+        CV1_OF_14,
+        102,
+        &ring,
+        "2 4 3 5\n",
+        Status::Done,
+    )
 }
 
 #[test]

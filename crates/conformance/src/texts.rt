@@ -1,6 +1,6 @@
 //! Program texts that parse, and the kind and the place of the fault of those that don't.
 
-use crate::programs::{CV1, CV1_WITH_BLANKS, ID0, LDB, RED, NOT_HEAD, ZERO, ZERO_HEAD};
+use crate::programs::{CV1, CV1_WITH_BLANKS, ID0, LDB, NOT_HEAD, RED, ZERO, ZERO_HEAD};
 use node_lang::{FaultKind, TextFault, parse, print};
 use std::alloc::{AllocError, Global};
 use std::process::Abort;

@@ -3,14 +3,18 @@ use crate::fault::MakeFault;
 use crate::making::make_block;
 use crate::source::Source;
 use crate::window::window_state;
-use node_lang::parse;
 use lang_check::{Plan, accept};
+use node_lang::parse;
 use std::alloc::Global;
 use std::test::Fail;
 
 // One round of Cole and Vishkin (1986).
 const CV1: &[u8] =
     b"rounds 1\nchannels 6\nregisters 1\nstart\nr0 = id\nround\nsend left 0\nsend right r0\nr0 = add(shl(ldb(r0, L), 1), bit(r0, ldb(r0, L)))\nfinish r0\n";
+
+// One round of Cole and Vishkin (1986), and two that take its channels down to four.
+const RED: &[u8] =
+    b"rounds 3\nchannels 4\nregisters 1\nstart\nr0 = id\nround\nsend left 0\nsend right r0\nr0 = add(shl(ldb(r0, L), 1), bit(r0, ldb(r0, L)))\nround\nsend left r0\nsend right r0\nr0 = min(if(eq(r0, 5), if(and(ne(L, 0), ne(R, 0)), 0, if(and(ne(L, 1), ne(R, 1)), 1, 2)), r0), 4)\nround\nsend left r0\nsend right r0\nr0 = min(if(eq(r0, 4), if(and(ne(L, 0), ne(R, 0)), 0, if(and(ne(L, 1), ne(R, 1)), 1, 2)), r0), 3)\nfinish r0\n";
 
 // A source that is a list of lent blocks of one plan.
 #[derive(Drop)]
@@ -59,6 +63,22 @@ fn the_state_of_a_window(rt: HostRuntime) -> Result<(), Fail> {
     let mut state = [0];
     window_state(&plan, &window, &mut state);
     assert_eq!(rt; state, [2]);
+    Ok(())
+}
+
+#[test]
+fn the_state_of_a_window_after_three_rounds(rt: HostRuntime) -> Result<(), Fail> {
+    let plan = plan_of(rt.alloc(), RED)?;
+    let shape = plan.shape();
+    assert!(rt; shape.rounds() == 3);
+    assert!(rt; plan.program().registers() == 1);
+    assert!(rt; shape.count(3) == 40_320);
+    let mut window = [0; 7];
+    shape.window(3, 26_256, &mut window);
+    assert_eq!(rt; window, [5, 1, 3, 7, 0, 2, 4]);
+    let mut state = [0];
+    window_state(&plan, &window, &mut state);
+    assert_eq!(rt; state, [1]);
     Ok(())
 }
 
