@@ -1,1 +1,3 @@
-pub mod Filling
+-- Lemmas that several proofs share.
+pub mod BegunTables
+pub mod Programs

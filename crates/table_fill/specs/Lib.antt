@@ -1,2 +1,3 @@
--- The definitions that the contracts cite: tables, and a table's channel at a window.
+-- The definitions that the contracts cite: tables, a table's channel at a window, and the table of a program.
 pub mod Tables
+pub mod ProgramTables

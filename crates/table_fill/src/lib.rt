@@ -1,8 +1,14 @@
-//! Tables of channels, one for each window.
+//! Tables of channels, one for each window, and the table of a program.
 #![tactic(auto)]
 
+mod fault;
+mod filling;
+mod laws;
 mod maker;
 mod table;
 
+pub use fault::FillFault;
+pub use filling::compile;
+pub use laws::table_has_the_channels_of_rounds;
 pub use maker::TableMaker;
 pub use table::Table;
