@@ -12,3 +12,6 @@ pub use filling::compile;
 pub use laws::table_has_the_channels_of_rounds;
 pub use maker::TableMaker;
 pub use table::Table;
+
+#[cfg(test)]
+mod tests;
