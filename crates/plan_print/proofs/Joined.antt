@@ -1,5 +1,5 @@
 -- Lemmas on numbers that are parted by single bytes.
-use Rattle.std.proofs.Common.{◌≡◌, ℕ, ◌-◌, ◌≤◌, List, [], ◌∷◌, ◌++◌, length, map, get_or, take, drop, ap, ◌∙◌, arith, append-nil}
+use Rattle.std.proofs.Common.{◌≡◌, ℕ, ◌-◌, ◌≤◌, List, [], ◌∷◌, ◌++◌, length, map, get_or, take, drop, ap, ◌∙◌, arith, append-nil, append_assoc}
 use Rattle.std.specs.List.{flat_map, join_with_byte}
 use Rattle.std.proofs.lemmas.List.{take_all, take_rest}
 
@@ -14,11 +14,12 @@ joined_parts : (f : ℕ → List ℕ) (c : ℕ) (ns : List ℕ) → 1 ≤ length
 joined_parts f c [] some = absurd (omega arith)
 joined_parts f c (n ∷ ns) some = joined_after f c n ns
 
--- the same of a text that was begun empty, got the first piece, and then the others up to a number that is past them all
-pub joined_text : (f : ℕ → List ℕ) (c : ℕ) (ns empty first text : List ℕ) (i : ℕ) → 1 ≤ length ns → empty ≡ [] → first ≡ empty ++ f (get_or ns 0 0)
+-- the same behind what a text held before: it got the first piece, and then the others up to a number that is past them all
+pub joined_text : (f : ℕ → List ℕ) (c : ℕ) (ns before first text : List ℕ) (i : ℕ) → 1 ≤ length ns → first ≡ before ++ f (get_or ns 0 0)
     → length (take (length ns - 1) (drop 1 ns)) ≤ i → text ≡ first ++ flat_map (λ k. c ∷ f k) (take i (take (length ns - 1) (drop 1 ns)))
-    → text ≡ join_with_byte c (map f ns)
-joined_text f c ns empty first text i some none begun all written =
+    → text ≡ before ++ join_with_byte c (map f ns)
+joined_text f c ns before first text i some begun all written =
     let others : take i (take (length ns - 1) (drop 1 ns)) ≡ drop 1 ns = take_all i _ all ∙ take_rest ns 1 in
-    written ∙ ap (λ l. l ++ flat_map (λ k. c ∷ f k) (take i (take (length ns - 1) (drop 1 ns)))) (begun ∙ ap (λ l. l ++ f (get_or ns 0 0)) none)
-    ∙ ap (λ l. f (get_or ns 0 0) ++ flat_map (λ k. c ∷ f k) l) others ∙ joined_parts f c ns some
+    written ∙ ap (λ l. l ++ flat_map (λ k. c ∷ f k) (take i (take (length ns - 1) (drop 1 ns)))) begun
+    ∙ ap (λ l. (before ++ f (get_or ns 0 0)) ++ flat_map (λ k. c ∷ f k) l) others
+    ∙ append_assoc before (f (get_or ns 0 0)) (flat_map (λ k. c ∷ f k) (drop 1 ns)) ∙ ap (λ l. before ++ l) (joined_parts f c ns some)

@@ -9,6 +9,7 @@ pub mod Watched
 pub mod Input
 pub mod Output
 pub mod Lines
+pub mod TableText
 pub mod Report
 pub mod Planned
 pub use Rattle.node_lang.specs.Term
@@ -17,7 +18,9 @@ pub use Rattle.node_lang.specs.Grammar
 pub use Rattle.node_lang.specs.Faults
 pub use Rattle.lang_check.specs.Acceptance
 pub use Rattle.lang_check.specs.Refusals
+pub use Rattle.win_index.specs.Windows
 pub use Rattle.win_index.specs.RingFaults
 pub use Rattle.win_index.specs.ShapeRange
 pub use Rattle.win_index.specs.ShapeFaults
+pub use Rattle.table_fill.specs.Tables
 pub mod Engine

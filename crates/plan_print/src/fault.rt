@@ -2,6 +2,7 @@
 
 ghost use Rattle.std.specs.Prelude.{◌≡◌};
 ghost use Rattle.plan_print.specs.declared.fault.EngineFault.TheVariants.{Memory};
+ghost use Rattle.plan_print.specs.declared.fault.OutFault.TheVariants.{Memory as NoMemory};
 
 use node_lang::OutOfMemory;
 use std::alloc::AllocError;
@@ -48,5 +49,24 @@ impl From<OutOfMemory> for EngineFault {
 
     fn from(_refused: OutOfMemory) -> EngineFault {
         EngineFault::Memory
+    }
+}
+
+/// Why a table's text did not go out whole.
+#[derive(Clone, Copy, Debug, PartialEq, Eq, Error)]
+pub enum OutFault {
+    /// A write failed, or took no byte.
+    #[error("nbhd: write failed")]
+    Write,
+    /// Memory was refused.
+    #[error("nbhd: out of memory")]
+    Memory,
+}
+
+impl From<AllocError> for OutFault {
+    ghost from_gives = { λ _ fault. fault ≡ NoMemory };
+
+    fn from(_refused: AllocError) -> OutFault {
+        OutFault::Memory
     }
 }

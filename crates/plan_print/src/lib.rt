@@ -10,6 +10,7 @@ pub mod output;
 mod report;
 pub mod ring_text;
 pub mod status;
+pub mod table_text;
 pub mod task;
 #[cfg(test)]
 mod tests;

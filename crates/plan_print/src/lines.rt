@@ -1,6 +1,6 @@
 //! Lines of the report.
 
-ghost use Rattle.std.specs.Prelude.{◌≡◌, [], ◌∷◌, IfOk, string_bytes};
+ghost use Rattle.std.specs.Prelude.{◌≡◌, [], ◌∷◌, ◌++◌, IfOk, OnOk, string_bytes};
 ghost use Rattle.plan_print.specs.Lines.{line, numbers_text};
 ghost use Rattle.plan_print.specs.Report as report;
 
@@ -10,27 +10,28 @@ use std::alloc::{AllocError, Global};
 use std::fmt::Write;
 use win_index::RingFault;
 
-/// Numbers in decimal, parted by single blanks.
-fn joined(alloc: Global, numbers: &[u32]) -> Result<String, AllocError>
-    ensures { IfOk result (λ text. string_bytes text ≡ numbers_text numbers.now) }
+// Writes numbers in decimal, parted by single blanks.
+pub(crate) fn write_numbers(text: &mut String, numbers: &[u32]) -> Result<(), AllocError>
+    ensures { OnOk result (string_bytes text.new ≡ string_bytes text.old ++ numbers_text numbers.now) }
 {
-    let mut text = String::new(alloc);
     let [first, others @ ..] = numbers else {
-        return Ok(text);
+        return Ok(());
     };
     write!(text, "{first}")?;
     for number in others {
         write!(text, " {number}")?;
     }
-    Ok(text)
+    Ok(())
 }
 
 /// One line of numbers in decimal, parted by single blanks and ended by a line feed.
 pub fn numbers_line(alloc: Global, numbers: &[u32]) -> Result<String, AllocError>
     ensures { IfOk result (λ text. string_bytes text ≡ line (numbers_text numbers.now ∷ [])) }
 {
-    let numbers = joined(alloc, numbers)?;
-    format!(in alloc; "{numbers}\n")
+    let mut text = String::new(alloc);
+    write_numbers(&mut text, numbers)?;
+    text.push_str("\n")?;
+    Ok(text)
 }
 
 // The number of a kind of text fault.
