@@ -1,5 +1,5 @@
 -- Lines of the report.
-use Rattle.std.specs.Prelude.{ℕ, List, [], ◌∷◌, ◌++◌, map}
+use Rattle.std.specs.Prelude.{ℕ, List, [], ◌∷◌, ◌++◌, ◌-◌, map, length, replicate}
 use Rattle.std.specs.List.{join_with_byte}
 use Rattle.std.specs.Fmt.{decimal}
 
@@ -11,3 +11,7 @@ line (piece ∷ pieces) = piece ++ line pieces
 -- numbers in decimal without leading zeros, parted by single blanks (byte 32)
 abbrev pub numbers_text : List ℕ → List ℕ
 numbers_text numbers = join_with_byte 32 (map decimal numbers)
+
+-- a number in decimal, after blanks that fill it up to 4 places
+abbrev pub right_aligned : ℕ → List ℕ
+right_aligned number = replicate (4 - length (decimal number)) 32 ++ decimal number

@@ -2,8 +2,8 @@
 use Rattle.std.specs.Prelude.{◌≡◌, ℕ, List, string_bytes}
 use Rattle.node_lang.specs.Grammar.{Reads}
 use Rattle.lang_check.specs.Acceptance.{IsAccepted}
-use Rattle.plan_print.specs.declared.report.Planned.{Planned}
-use Rattle.plan_print.specs.declared.report.Planned.TheVariants.{Accepted, Refusal}
+use Rattle.plan_print.specs.declared.planned.Planned.{Planned}
+use Rattle.plan_print.specs.declared.planned.Planned.TheVariants.{Accepted, Refusal}
 use Rattle.plan_print.specs.declared.status.Status.TheVariants.{Refused}
 use Rattle.plan_print.specs.Report.{IsRefusal}
 

@@ -3,39 +3,58 @@ use Rattle.std.specs.Prelude.{◌≡◌, ◌⊎◌, ℕ, List, [], ◌∷◌, co
 use Rattle.plan_print.specs.Decimal.{IsNumber, number_in}
 use Rattle.plan_print.specs.RingText.{IsRingText, ring_in}
 use Rattle.plan_print.specs.declared.task.Task.{Task}
-use Rattle.plan_print.specs.declared.task.Task.TheVariants.{Check, Run}
+use Rattle.plan_print.specs.declared.task.Task.TheVariants.{Check, Table, Judge, Run, Plan}
 
--- the three words `check --ids NUMBER`
-abbrev pub check_words : List ℕ → List (List ℕ)
-check_words number = codes "check" ∷ codes "--ids" ∷ number ∷ []
+-- the names of the commands that take a number of identifiers alone
+abbrev pub IsPlainName : List ℕ → Type 0
+IsPlainName name = (name ≡ codes "check") ⊎ ((name ≡ codes "table") ⊎ (name ≡ codes "judge"))
 
--- the five words `run --ids NUMBER --ring RING`
-abbrev pub run_words : List ℕ → List ℕ → List (List ℕ)
-run_words number ring = codes "run" ∷ codes "--ids" ∷ number ∷ codes "--ring" ∷ ring ∷ []
+-- the names of the commands that take a ring too
+abbrev pub IsRingName : List ℕ → Type 0
+IsRingName name = (name ≡ codes "run") ⊎ (name ≡ codes "plan")
 
--- the words are the command `check` with this number of identifiers
-abbrev pub IsCheck : List (List ℕ) → ℕ → Type 0
-IsCheck words ids = (number : List ℕ) × (words ≡ check_words number) × IsNumber number × (ids ≡ number_in number)
+-- the three words `NAME --ids NUMBER`
+abbrev pub plain_words : List ℕ → List ℕ → List (List ℕ)
+plain_words name number = name ∷ codes "--ids" ∷ number ∷ []
 
--- the words are the command `run` with this number of identifiers and this text after `--ring`
-abbrev pub IsRun : List (List ℕ) → ℕ → List ℕ → Type 0
-IsRun words ids ring =
-    (number : List ℕ) × (words ≡ run_words number ring) × IsNumber number × (ids ≡ number_in number)
+-- the five words `NAME --ids NUMBER --ring RING`
+abbrev pub ring_words : List ℕ → List ℕ → List ℕ → List (List ℕ)
+ring_words name number ring = name ∷ codes "--ids" ∷ number ∷ codes "--ring" ∷ ring ∷ []
+
+-- the words are the command of this name with this number of identifiers
+abbrev pub IsPlain : List ℕ → List (List ℕ) → ℕ → Type 0
+IsPlain name words ids = (number : List ℕ) × (words ≡ plain_words name number) × IsNumber number × (ids ≡ number_in number)
+
+-- the words are the command of this name with this number of identifiers and this text after `--ring`
+abbrev pub IsOnRing : List ℕ → List (List ℕ) → ℕ → List ℕ → Type 0
+IsOnRing name words ids ring =
+    (number : List ℕ) × (words ≡ ring_words name number ring) × IsNumber number × (ids ≡ number_in number)
 
 -- the words are a command, with a ring text or with another text in its place
 abbrev pub IsCommand : List (List ℕ) → Type 0
-IsCommand words = ((ids : ℕ) × IsCheck words ids) ⊎ ((ids : ℕ) × (ring : List ℕ) × IsRun words ids ring)
+IsCommand words =
+    ((name : List ℕ) × (ids : ℕ) × IsPlainName name × IsPlain name words ids)
+    ⊎ ((name : List ℕ) × (ids : ℕ) × (ring : List ℕ) × IsRingName name × IsOnRing name words ids ring)
 
 -- the words are a command without a ring, or with a ring text
 abbrev pub IsGoodCommand : List (List ℕ) → Type 0
-IsGoodCommand words = ((ids : ℕ) × IsCheck words ids) ⊎ ((ids : ℕ) × (ring : List ℕ) × IsRun words ids ring × IsRingText ring)
+IsGoodCommand words =
+    ((name : List ℕ) × (ids : ℕ) × IsPlainName name × IsPlain name words ids)
+    ⊎ ((name : List ℕ) × (ids : ℕ) × (ring : List ℕ) × IsRingName name × IsOnRing name words ids ring × IsRingText ring)
 
 -- the words are a command, but the text after `--ring` is no ring text
 abbrev pub HasBadRing : List (List ℕ) → Type 0
-HasBadRing words = (ids : ℕ) × (ring : List ℕ) × IsRun words ids ring × ¬ IsRingText ring
+HasBadRing words =
+    (name : List ℕ) × (ids : ℕ) × (ring : List ℕ) × IsRingName name × IsOnRing name words ids ring × ¬ IsRingText ring
+
+-- the words are the command of this name with this number of identifiers, and these are the numbers of its ring text
+abbrev pub IsOnNumbers : List ℕ → List (List ℕ) → ℕ → List ℕ → Type 0
+IsOnNumbers name words ids ring = (text : List ℕ) × IsOnRing name words ids text × IsRingText text × (ring ≡ ring_in text)
 
 -- the task that the words ask for
 abbrev pub IsTaskOf : List (List ℕ) → Task → Type 0
-IsTaskOf words (Check ids) = IsCheck words ids
-IsTaskOf words (Run ids ring) =
-    (text : List ℕ) × IsRun words ids text × IsRingText text × (ring.items ≡ ring_in text)
+IsTaskOf words (Check ids) = IsPlain (codes "check") words ids
+IsTaskOf words (Table ids) = IsPlain (codes "table") words ids
+IsTaskOf words (Judge ids) = IsPlain (codes "judge") words ids
+IsTaskOf words (Run ids ring) = IsOnNumbers (codes "run") words ids ring.items
+IsTaskOf words (Plan ids ring) = IsOnNumbers (codes "plan") words ids ring.items

@@ -7,9 +7,12 @@ pub mod fault;
 pub mod input;
 pub mod lines;
 pub mod output;
+mod plan_report;
+mod planned;
 mod report;
 pub mod ring_text;
 pub mod status;
+mod table_report;
 pub mod table_text;
 pub mod task;
 #[cfg(test)]

@@ -105,3 +105,39 @@ pub(crate) fn accepted_line(alloc: Global, plan: &Plan) -> Result<String, AllocE
         "accepted ids {ids} rounds {rounds} channels {channels} bound {bound} windows {windows}\n"
     )
 }
+
+// The line of a table that is good everywhere.
+pub(crate) fn good_line(alloc: Global, tuples: u64) -> Result<String, AllocError>
+    ensures { IfOk result (λ text. string_bytes text ≡ report.good_line tuples) }
+{
+    format!(in alloc; "yes: {tuples} tuples\n")
+}
+
+// The line of a ring on which a place and its right neighbour share a channel.
+pub(crate) fn bad_line(
+    alloc: Global,
+    ring: &[u32],
+    place: u32,
+    channel: u32,
+) -> Result<String, AllocError>
+    ensures { IfOk result (λ text. string_bytes text ≡ report.bad_line ring.now place channel) }
+{
+    let mut text = String::new(alloc);
+    text.push_str("no: ring ")?;
+    write_numbers(&mut text, ring)?;
+    write!(text, " place {place} channel {channel}\n")?;
+    Ok(text)
+}
+
+// Writes the line of a place, with its identifier and its channel.
+#[tactic(auto, using(crate::proofs::Aligned::aligned))]
+pub(crate) fn write_place(
+    text: &mut String,
+    place: u32,
+    id: u32,
+    channel: u32,
+) -> Result<(), AllocError>
+    ensures { OnOk result (string_bytes text.new ≡ string_bytes text.old ++ report.place_line place id channel) }
+{
+    write!(text, "{place:>4} {id:>4} {channel:>4}\n")
+}

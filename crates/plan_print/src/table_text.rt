@@ -69,7 +69,7 @@ fn head_lines(alloc: Global, table: &Table) -> Result<String, AllocError>
 }
 
 // How many identifiers a window has.
-fn window_len(table: &Table) -> usize
+pub(crate) fn window_len(table: &Table) -> usize
     ensures length { result ≡ 2 * table.now.rounds + 1 }
     ensures few { result ≤ 7 }
 {

@@ -8,8 +8,27 @@ pub enum Task {
         /// How many identifiers there are.
         ids: u32,
     },
+    /// Makes the table of the program text of the input for identifiers below `ids`.
+    Table {
+        /// How many identifiers there are.
+        ids: u32,
+    },
+    /// Tells whether the channels of neighbours differ on every ring of identifiers below `ids`, by the
+    /// program text of the input.
+    Judge {
+        /// How many identifiers there are.
+        ids: u32,
+    },
     /// Runs the program text of the input on a ring, for identifiers below `ids`.
     Run {
+        /// How many identifiers there are.
+        ids: u32,
+        /// The identifiers of the ring's places, from place 0 on.
+        ring: Vec<u32>,
+    },
+    /// Looks up the channels of a ring's places in the table of the program text of the input, for
+    /// identifiers below `ids`.
+    Plan {
         /// How many identifiers there are.
         ids: u32,
         /// The identifiers of the ring's places, from place 0 on.

@@ -1,8 +1,8 @@
 //! The words of the command line.
 
-ghost use Rattle.std.specs.Prelude.{◌≡◌, ◌↔◌, ℕ, List, map, IsOk, IsErrOf, IfOk, IfSome, IfNone, string_bytes};
-ghost use Rattle.plan_print.specs.Words.{check_words, run_words, IsCommand, IsGoodCommand, HasBadRing, IsTaskOf};
-ghost use Rattle.plan_print.specs.CommandWords.{command_words};
+ghost use Rattle.std.specs.Prelude.{◌≡◌, ◌↔◌, ℕ, List, map, codes, IsOk, IsErrOf, IfOk, IfSome, IfNone, string_bytes};
+ghost use Rattle.plan_print.specs.Words.{plain_words, ring_words, IsPlain, IsOnNumbers, IsCommand, IsGoodCommand, HasBadRing, IsTaskOf};
+ghost use Rattle.plan_print.specs.CommandWords.{plain_name, ring_name, command_words};
 ghost use Rattle.plan_print.specs.WordsFault.{MemoryAside};
 ghost use Rattle.plan_print.specs.declared.words.WordsFault.TheVariants.{OutOfMemory};
 
@@ -57,11 +57,11 @@ impl<T: Drop> From<AllocFailed<T>> for WordsFault {
 }
 
 /// The task that the words ask for. They are the words after the program's name, and a command is
-/// `check --ids M` or `run --ids M --ring A,B,..`, in this order: `M` is a decimal number up to
-/// 4294967295, leading zeros allowed, and what stands after `--ring` is a ring text. `Usage` comes
-/// where the words are no command, `BadRing` where they are one but for the ring text. `OutOfMemory`
-/// comes where memory was refused, and only at a command.
-#[tactic(auto, using(crate::proofs::Commands::run_command, crate::proofs::Commands::good_run))]
+/// `NAME --ids M` for the names `check`, `table` and `judge`, or `NAME --ids M --ring A,B,..` for the names
+/// `run` and `plan`, in this order: `M` is a decimal number up to 4294967295, leading zeros allowed, and
+/// what stands after `--ring` is a ring text. `Usage` comes where the words are no command, `BadRing` where
+/// they are one but for the ring text. `OutOfMemory` comes where memory was refused, and only at a command.
+#[tactic(auto, using(crate::proofs::Commands::no_number, crate::proofs::Commands::no_number_on_ring, crate::proofs::Commands::plain_command, crate::proofs::Commands::ring_command, crate::proofs::Commands::good_on_ring, crate::proofs::Commands::not_bad_on_ring, crate::proofs::Commands::not_good_on_ring))]
 pub fn task_of(alloc: Global, words: &[String]) -> Result<Task, WordsFault>
     ensures task { IfOk result (IsTaskOf (map string_bytes words.now)) }
     ensures ok { MemoryAside result (IsOk result ↔ IsGoodCommand (map string_bytes words.now)) }
@@ -71,14 +71,14 @@ pub fn task_of(alloc: Global, words: &[String]) -> Result<Task, WordsFault>
     ensures memory { IsErrOf result WordsFault.OutOfMemory → IsCommand (map string_bytes words.now) }
 {
     match command_in(words) {
-        Some(Command::Check { number }) => {
+        Some(Command::Plain { name, number }) => {
             let ids = number_of(number).ok_or(WordsFault::Usage)?;
-            Ok(Task::Check { ids })
+            Ok(plain_task(name, ids))
         }
-        Some(Command::Run { number, ring }) => {
+        Some(Command::OnRing { name, number, ring }) => {
             let ids = number_of(number).ok_or(WordsFault::Usage)?;
             let ring = ring_of(alloc, ring)?;
-            Ok(Task::Run { ids, ring })
+            Ok(ring_task(name, ids, ring))
         }
         None => Err(WordsFault::Usage),
     }
@@ -86,34 +86,82 @@ pub fn task_of(alloc: Global, words: &[String]) -> Result<Task, WordsFault>
 
 /// The words of a command, before their texts are looked at.
 enum Command<'a> {
-    Check { number: &'a str },
-    Run { number: &'a str, ring: &'a str },
+    Plain {
+        name: PlainName,
+        number: &'a str,
+    },
+    OnRing {
+        name: RingName,
+        number: &'a str,
+        ring: &'a str,
+    },
+}
+
+/// The commands that take a number of identifiers alone.
+#[derive(Clone, Copy)]
+enum PlainName {
+    Check,
+    Table,
+    Judge,
+}
+
+/// The commands that take a ring too.
+#[derive(Clone, Copy)]
+enum RingName {
+    Run,
+    Plan,
+}
+
+// The task of a command that takes a number of identifiers alone.
+fn plain_task(name: PlainName, ids: u32) -> Task
+    ensures { (words : List (List ℕ)) → IsPlain (plain_name name) words ids → IsTaskOf words result }
+{
+    match name {
+        PlainName::Check => Task::Check { ids },
+        PlainName::Table => Task::Table { ids },
+        PlainName::Judge => Task::Judge { ids },
+    }
+}
+
+// The task of a command that takes a ring too.
+fn ring_task(name: RingName, ids: u32, ring: Vec<u32>) -> Task
+    ensures { (words : List (List ℕ)) → IsOnNumbers (ring_name name) words ids ring.items → IsTaskOf words result }
+{
+    match name {
+        RingName::Run => Task::Run { ids, ring },
+        RingName::Plan => Task::Plan { ids, ring },
+    }
 }
 
 /// The command that the words are by their number and their fixed words.
 fn command_in(words: &[String]) -> Option<Command<'_>>
     ensures command { IfSome result (λ c. map string_bytes words.now ≡ command_words c) }
-    ensures no_check { IfNone result ((number : List ℕ) → ¬ map string_bytes words.now ≡ check_words number) }
-    ensures no_run { IfNone result ((number ring : List ℕ)
-        → ¬ map string_bytes words.now ≡ run_words number ring) }
+    ensures no_check { IfNone result ((number : List ℕ) → ¬ map string_bytes words.now ≡ plain_words (codes "check") number) }
+    ensures no_table { IfNone result ((number : List ℕ) → ¬ map string_bytes words.now ≡ plain_words (codes "table") number) }
+    ensures no_judge { IfNone result ((number : List ℕ) → ¬ map string_bytes words.now ≡ plain_words (codes "judge") number) }
+    ensures no_run { IfNone result ((number ring : List ℕ) → ¬ map string_bytes words.now ≡ ring_words (codes "run") number ring) }
+    ensures no_plan { IfNone result ((number ring : List ℕ) → ¬ map string_bytes words.now ≡ ring_words (codes "plan") number ring) }
 {
     match words {
-        [command, ids_option, number] => {
-            match (command.as_str(), ids_option.as_str()) {
-                ("check", "--ids") => Some(Command::Check {
-                    number: number.as_str(),
-                }),
-                _ => None,
-            }
+        [name, ids_option, number] => {
+            let number = number.as_str();
+            let name = match (name.as_str(), ids_option.as_str()) {
+                ("check", "--ids") => PlainName::Check,
+                ("table", "--ids") => PlainName::Table,
+                ("judge", "--ids") => PlainName::Judge,
+                _ => return None,
+            };
+            Some(Command::Plain { name, number })
         }
-        [command, ids_option, number, ring_option, ring] => {
-            match (command.as_str(), ids_option.as_str(), ring_option.as_str()) {
-                ("run", "--ids", "--ring") => Some(Command::Run {
-                    number: number.as_str(),
-                    ring: ring.as_str(),
-                }),
-                _ => None,
-            }
+        [name, ids_option, number, ring_option, ring] => {
+            let number = number.as_str();
+            let ring = ring.as_str();
+            let name = match (name.as_str(), ids_option.as_str(), ring_option.as_str()) {
+                ("run", "--ids", "--ring") => RingName::Run,
+                ("plan", "--ids", "--ring") => RingName::Plan,
+                _ => return None,
+            };
+            Some(Command::OnRing { name, number, ring })
         }
         _ => None,
     }

@@ -116,6 +116,23 @@ fn run_is_a_task(rt: HostRuntime) -> Result<(), Fail> {
 }
 
 #[test]
+fn table_and_judge_are_tasks(rt: HostRuntime) -> Result<(), Fail> {
+    assert_eq!(rt; asked(&rt, "table --ids 8")?, Task::Table { ids: 8 });
+    assert_eq!(rt; asked(&rt, "judge --ids 008")?, Task::Judge { ids: 8 });
+    Ok(())
+}
+
+#[test]
+fn plan_is_a_task(rt: HostRuntime) -> Result<(), Fail> {
+    let ring = [5, 1, 3, 7].to_vec(rt.alloc())?;
+    assert_eq!(rt;
+        asked(&rt, "plan --ids 8 --ring 5,1,3,7")?,
+        Task::Plan { ids: 8, ring }
+    );
+    Ok(())
+}
+
+#[test]
 fn other_words_are_refused(rt: HostRuntime) {
     let lines = [
         "",
@@ -145,6 +162,14 @@ fn other_words_are_refused(rt: HostRuntime) {
         "check --ids=8",
         "check --ids 8 --ring 5,1,3,7",
         "run --ids 8 8",
+        "table",
+        "table --ids 8 --ring 5,1,3,7",
+        "table --ids 8 --workers 1",
+        "judge --ids",
+        "judge --ids eight",
+        "plan --ids 8",
+        "plan --ring 5,1,3,7 --ids 8",
+        "audit",
     ];
     for line in lines {
         assert_eq!(rt; asked(&rt, line), Err(WordsFault::Usage), "at {line}");
@@ -157,6 +182,7 @@ fn words_with_a_bad_ring_are_told(rt: HostRuntime) {
         "run --ids 8 --ring 5,,1",
         "run --ids 8 --ring --ids",
         "run --ids 8 --ring ",
+        "plan --ids 8 --ring 5,,1",
     ] {
         assert_eq!(rt; asked(&rt, line), Err(WordsFault::BadRing), "at {line}");
     }
