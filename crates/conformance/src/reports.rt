@@ -33,6 +33,26 @@ fn reports(
     Ok(())
 }
 
+/// The report of a task on a program text that is done.
+fn done(rt: &impl Abort, alloc: Global, task: Task, text: &[u8]) -> Result<Vec<u8>, Fail> {
+    let mut reader = Watched::new(text);
+    let mut writer = Watched::new(Vec::new(alloc));
+    let ended = engine(alloc, task, &mut reader, &mut writer)?;
+    assert_eq!(rt; ended, Status::Done);
+    Ok(writer.into_device())
+}
+
+/// How many lines a text has.
+fn count_of_lines(text: &[u8]) -> usize {
+    text.iter().filter(|byte| **byte == b'\n').count()
+}
+
+/// The line with this number, from 1 on, without its line feed.
+fn line_of(text: &[u8], number: usize) -> Option<&[u8]> {
+    text.split(|byte| *byte == b'\n')
+        .nth(number.saturating_sub(1))
+}
+
 /// Runs a program text on a ring and compares the report.
 fn runs(
     rt: &impl Abort,
@@ -252,4 +272,93 @@ fn texts_of_blanks_are_refused(rt: HostRuntime) -> Result<(), Fail> {
     checks(&rt, rt.alloc(), &blanks, 8, too_long, Status::Refused)?;
     let ended = "text fault N9 at 65536\n";
     checks(&rt, rt.alloc(), longest, 8, ended, Status::Refused)
+}
+
+#[test]
+fn the_table_of_identifiers(rt: HostRuntime) -> Result<(), Fail> {
+    let task = Task::Table { ids: 2 };
+    let text = "nbhd-table 1\nrounds 0 ids 2 channels 2\n0 : 0\n1 : 1\nend\n";
+    assert_eq!(rt; text.len(), 55);
+    reports(&rt, rt.alloc(), task, ID0, text, Status::Done)
+}
+
+#[test]
+fn the_table_of_cv1(rt: HostRuntime) -> Result<(), Fail> {
+    let text = done(&rt, rt.alloc(), Task::Table { ids: 8 }, CV1)?;
+    assert_eq!(rt; count_of_lines(&text), 339);
+    let rows: [(usize, &[u8]); 6] = [
+        (1, b"nbhd-table 1"),
+        (2, b"rounds 1 ids 8 channels 6"),
+        (3, b"0 1 2 : 1"),
+        (328, b"7 5 1 : 2"),
+        (338, b"7 6 5 : 0"),
+        (339, b"end"),
+    ];
+    for (number, line) in rows {
+        assert_eq!(rt; line_of(&text, number), Some(line), "line {number}");
+    }
+    Ok(())
+}
+
+#[test]
+fn the_table_of_red(rt: HostRuntime) -> Result<(), Fail> {
+    let text = done(&rt, rt.alloc(), Task::Table { ids: 8 }, RED)?;
+    let line: &[u8] = b"5 1 3 7 0 2 4 : 1";
+    assert_eq!(rt; line_of(&text, 26_259), Some(line));
+    Ok(())
+}
+
+#[test]
+fn judges(rt: HostRuntime) -> Result<(), Fail> {
+    let rows: [(&[u8], u32, &str, Status); 5] = [
+        (CV1, 8, "yes: 1680 tuples\n", Status::Done),
+        (LDB, 8, "no: ring 0 1 2 3 place 1 channel 0\n", Status::No),
+        (ID0, 2, "yes: 2 tuples\n", Status::Done),
+        (ZERO, 2, "no: ring 0 1 place 0 channel 0\n", Status::No),
+        (RED, 8, "yes: 40320 tuples\n", Status::Done),
+    ];
+    for (text, ids, line, status) in rows {
+        reports(&rt, rt.alloc(), Task::Judge { ids }, text, line, status)?;
+    }
+    Ok(())
+}
+
+#[test]
+fn the_plan_of_cv1(rt: HostRuntime) -> Result<(), Fail> {
+    let ring = [5, 1, 3, 7].to_vec(rt.alloc())?;
+    let lines = "   0    5    2\n   1    1    4\n   2    3    3\n   3    7    5\n";
+    let task = Task::Plan { ids: 8, ring };
+    reports(&rt, rt.alloc(), task, CV1, lines, Status::Done)
+}
+
+#[test]
+fn refusals_of_the_table_and_its_kin(rt: HostRuntime) -> Result<(), Fail> {
+    let refusal = "check fault C4 bound 5\n";
+    for task in [
+        Task::Table { ids: 8 },
+        Task::Judge { ids: 8 },
+        Task::Plan {
+            ids: 8,
+            ring: Vec::new(rt.alloc()),
+        },
+    ] {
+        reports(
+            &rt,
+            rt.alloc(),
+            task,
+            CV1_OF_THREE,
+            refusal,
+            Status::Refused,
+        )?;
+    }
+    let ring = [0, 1, 2].to_vec(rt.alloc())?;
+    let task = Task::Plan { ids: 8, ring };
+    reports(
+        &rt,
+        rt.alloc(),
+        task,
+        CV1,
+        "ring fault G1\n",
+        Status::RingRefused,
+    )
 }
