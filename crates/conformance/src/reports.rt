@@ -323,6 +323,14 @@ fn judges(rt: HostRuntime) -> Result<(), Fail> {
     Ok(())
 }
 
+// Over fifteen million tuples: too many for a run that is not built.
+#[test]
+fn the_judge_of_64_identifiers(rt: HostRuntime) -> Result<(), Fail> {
+    let task = Task::Judge { ids: 64 };
+    let line = "yes: 15249024 tuples\n";
+    reports(&rt, rt.alloc(), task, CV1_OF_12, line, Status::Done)
+}
+
 #[test]
 fn the_plan_of_cv1(rt: HostRuntime) -> Result<(), Fail> {
     let ring = [5, 1, 3, 7].to_vec(rt.alloc())?;
