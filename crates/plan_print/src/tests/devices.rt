@@ -12,13 +12,13 @@ use std::test::Fail;
 /// A reader and a writer of one byte a call. It counts its calls, and the call that its count of
 /// good calls does not cover fails.
 #[derive(Drop)]
-struct Trickle {
+pub(crate) struct Trickle {
     calls: usize,
     good_calls: usize,
 }
 
 impl Trickle {
-    fn failing_after(good_calls: usize) -> Trickle {
+    pub(crate) fn failing_after(good_calls: usize) -> Trickle {
         Trickle {
             calls: 0,
             good_calls,
