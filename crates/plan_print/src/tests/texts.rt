@@ -132,48 +132,64 @@ fn plan_is_a_task(rt: HostRuntime) -> Result<(), Fail> {
     Ok(())
 }
 
-#[test]
-fn other_words_are_refused(rt: HostRuntime) {
-    let lines = [
-        "",
-        "run",
-        "walk --ids 8 --ring 5,1,3,7",
-        "RUN --ids 8 --ring 5,1,3,7",
-        "run --ids 8",
-        "run --ids 8 --ring",
-        "run --ids --ring 5,1,3,7",
-        "run --ring 5,1,3,7 --ids 8",
-        "run --ids=8 --ring 5,1,3,7",
-        "run --ids +8 --ring 5,1,3,7",
-        "run --ids -8 --ring 5,1,3,7",
-        "run --ids 4294967296 --ring 5,1,3,7",
-        "run --ids eight --ring 5,1,3,7",
-        "run --ids  --ring 5,1,3,7",
-        "run --ids 8 --ring 5,1,3,7 --segments 1",
-        "nbhd run --ids 8 --ring 5,1,3,7",
-        "run --ids eight --ring 5,,1",
-        "check",
-        "Check --ids 8",
-        "check 8",
-        "check --ids",
-        "check --ids eight",
-        "check --ids +8",
-        "check --ids 4294967296",
-        "check --ids=8",
-        "check --ids 8 --ring 5,1,3,7",
-        "run --ids 8 8",
-        "table",
-        "table --ids 8 --ring 5,1,3,7",
-        "table --ids 8 --workers 1",
-        "judge --ids",
-        "judge --ids eight",
-        "plan --ids 8",
-        "plan --ring 5,1,3,7 --ids 8",
-        "audit",
-    ];
+/// None of these lines is a command.
+fn are_no_commands(rt: &(impl Abort + AllocGlobal), lines: &[&str]) {
     for line in lines {
-        assert_eq!(rt; asked(&rt, line), Err(WordsFault::Usage), "at {line}");
+        assert_eq!(rt; asked(rt, line), Err(WordsFault::Usage), "at {line}");
     }
+}
+
+#[test]
+fn words_near_a_run_are_refused(rt: HostRuntime) {
+    are_no_commands(
+        &rt,
+        &[
+            "",
+            "run",
+            "walk --ids 8 --ring 5,1,3,7",
+            "RUN --ids 8 --ring 5,1,3,7",
+            "run --ids 8",
+            "run --ids 8 --ring",
+            "run --ids --ring 5,1,3,7",
+            "run --ring 5,1,3,7 --ids 8",
+            "run --ids=8 --ring 5,1,3,7",
+            "run --ids +8 --ring 5,1,3,7",
+            "run --ids -8 --ring 5,1,3,7",
+            "run --ids 4294967296 --ring 5,1,3,7",
+            "run --ids eight --ring 5,1,3,7",
+            "run --ids  --ring 5,1,3,7",
+            "run --ids 8 --ring 5,1,3,7 --segments 1",
+            "nbhd run --ids 8 --ring 5,1,3,7",
+            "run --ids eight --ring 5,,1",
+            "run --ids 8 8",
+        ],
+    );
+}
+
+#[test]
+fn words_near_the_other_commands_are_refused(rt: HostRuntime) {
+    are_no_commands(
+        &rt,
+        &[
+            "check",
+            "Check --ids 8",
+            "check 8",
+            "check --ids",
+            "check --ids eight",
+            "check --ids +8",
+            "check --ids 4294967296",
+            "check --ids=8",
+            "check --ids 8 --ring 5,1,3,7",
+            "table",
+            "table --ids 8 --ring 5,1,3,7",
+            "table --ids 8 --workers 1",
+            "judge --ids",
+            "judge --ids eight",
+            "plan --ids 8",
+            "plan --ring 5,1,3,7 --ids 8",
+            "audit",
+        ],
+    );
 }
 
 #[test]
