@@ -1,5 +1,5 @@
 ghost use Rattle.std.specs.Prelude.{◌≡◌, ℕ, ◌+◌, ◌-◌, ◌*◌, ◌%◌, ◌<◌, ◌≤◌, ◌↔◌, List, length, slice_get, slice_index, slice_index_or, Some, IsSome};
-ghost use Rattle.node_lang.specs.Ring.{IsRing};
+ghost use Rattle.win_index.specs.Ring.{IsRing};
 ghost use Rattle.win_index.specs.Arcs.{arc, window_around, part_at};
 ghost use Rattle.win_index.specs.Blocks.{block_count};
 ghost use Rattle.win_index.specs.Falling.{falling};

@@ -1,6 +1,8 @@
 ghost use Rattle.std.specs.Prelude.{◌≤◌};
+ghost use Rattle.win_index.specs.declared.limits.TheConstants.{MAX_ROUNDS};
 ghost use Rattle.win_index.specs.ShapeRange.{HasIds, HasFewWindows};
 
+use crate::limits::{MAX_IDS, MAX_ROUNDS, MAX_WINDOWS};
 use crate::arrangement::{
     are_few, count_of_lists, find_number, number_of_list, write_list, write_next,
 };
@@ -22,7 +24,7 @@ pub enum ShapeFault {
 pub struct Shape {
     pub ids: u32,
     pub rounds: u32,
-    pub ghost few_rounds: { rounds ≤ 3 },
+    pub ghost few_rounds: { rounds ≤ MAX_ROUNDS },
     pub ghost in_range: { HasIds ids rounds },
     pub ghost few_windows: { HasFewWindows ids rounds },
 }
@@ -38,15 +40,15 @@ impl Shape {
     /// The shape of `ids` identifiers and `rounds` rounds, or what is wrong first: `IdsOutOfRange`, else
     /// `TooManyWindows`.
     pub fn new(ids: u32, rounds: u32) -> Result<Shape, ShapeFault>
-        requires { rounds ≤ 3 }
+        requires { rounds ≤ MAX_ROUNDS }
         ensures ok { IfOk result (λ shape. (shape.ids ≡ ids) × (shape.rounds ≡ rounds)) }
         ensures exact { IsOk result ↔ IsShape ids rounds }
         ensures err { IfErr result (IsFirstShapeFault ids rounds) }
     {
-        if ids < 2 * rounds + 2 || ids > 1024 {
+        if ids < 2 * rounds + 2 || ids > MAX_IDS {
             return Err(ShapeFault::IdsOutOfRange);
         }
-        if !are_few(ids, window_len(rounds), 1 << 20) {
+        if !are_few(ids, window_len(rounds), MAX_WINDOWS) {
             return Err(ShapeFault::TooManyWindows);
         }
         Ok(Shape { ids, rounds })
