@@ -16,3 +16,4 @@ pub mod Reading
 pub mod Faults
 pub mod Viable
 pub mod Code
+pub mod Laws

@@ -1,5 +1,6 @@
 -- The definitions that the contracts cite: windows in order and their numbers, how many there are, the
--- window after a window, which numbers make a shape, blocks of windows and jobs, rings and what is wrong first with a list that is none, and windows at the places of a ring.
+-- window after a window, which numbers make a shape, blocks of windows and jobs, rings, the windows at their
+-- places, what is wrong first with a shape or a ring, and the statements of the laws.
 pub mod Windows
 pub mod Falling
 pub mod Lexicographic
@@ -11,3 +12,4 @@ pub mod Ring
 pub mod Arcs
 pub mod ShapeFaults
 pub mod RingFaults
+pub mod Laws

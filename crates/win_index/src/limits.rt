@@ -11,10 +11,10 @@ pub const MAX_WINDOWS: u32 = 1 << 20;
 pub const BLOCK_WINDOWS: u32 = 256;
 
 /// The most blocks of a level of a shape.
-pub const MAX_BLOCKS: u32 = 4096;
+pub const MAX_BLOCKS: u32 = MAX_WINDOWS / BLOCK_WINDOWS;
 
 /// The most identifiers of a window of a shape.
-pub const MAX_WINDOW_LEN: usize = 7;
+pub const MAX_WINDOW_LEN: usize = 2 * MAX_ROUNDS as usize + 1;
 
 /// The most identifiers of a tuple of a shape.
-pub const MAX_TUPLE_LEN: usize = 8;
+pub const MAX_TUPLE_LEN: usize = 2 * MAX_ROUNDS as usize + 2;
