@@ -2,8 +2,8 @@ ghost use Rattle.std.specs.Prelude.{◌≤◌};
 ghost use Rattle.win_index.specs.declared.limits.TheConstants.{MAX_ROUNDS};
 ghost use Rattle.win_index.specs.ShapeRange.{HasIds, HasFewWindows};
 
-use crate::limits::{MAX_IDS, MAX_ROUNDS, MAX_WINDOWS};
 use crate::arrangement::{Lists, are_few};
+use crate::limits::{MAX_IDS, MAX_ROUNDS, MAX_WINDOWS};
 
 /// Why there is no shape.
 #[derive(Clone, Copy, Debug, PartialEq, Eq)]
