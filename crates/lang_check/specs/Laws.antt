@@ -1,10 +1,12 @@
--- The laws of this crate: what bounds hold of.
-use Rattle.std.specs.Prelude.{◌↔◌, ℕ, suc, ◌^◌, ◌<◌, ◌≤◌, List, length}
+-- The laws of this crate: what bounds hold of, and that a program has at most one refusal.
+use Rattle.std.specs.Prelude.{◌≡◌, ◌↔◌, ℕ, suc, ◌^◌, ◌<◌, ◌≤◌, List, length}
 use Rattle.node_lang.specs.Term.{ProgramTree}
 use Rattle.node_lang.specs.Node as rounds
 use Rattle.node_lang.specs.Ring.{IsRing, state, channel_at}
 use Rattle.node_lang.specs.Bounds.{bits, register_bounds, IsWithin}
 use Rattle.lang_check.specs.Acceptance.{IsAccepted}
+use Rattle.lang_check.specs.Refusals.{IsFirstRefusal}
+use Rattle.lang_check.specs.declared.acceptance.CheckFault.{CheckFault}
 
 -- a number has at most k binary digits where it is below 2^k, and only there
 abbrev pub BinaryDigits : Type 0
@@ -38,3 +40,11 @@ abbrev pub ChannelsAreBelow : Type 0
 ChannelsAreBelow =
     (p : ProgramTree) (m : ℕ) (x : List ℕ) → IsAccepted m p → IsRing m (length p.steps) x → (i : ℕ) → i < length x
     → channel_at p x i < p.channels
+
+-- two first refusals of a program for m identifiers are one
+abbrev pub OneRefusal : Type 0
+OneRefusal = (m : ℕ) (p : ProgramTree) (f g : CheckFault) → IsFirstRefusal m p f → IsFirstRefusal m p g → f ≡ g
+
+-- a program with a refusal for m identifiers is not accepted for them
+abbrev pub RefusedIsNotAccepted : Type 0
+RefusedIsNotAccepted = (m : ℕ) (p : ProgramTree) (f : CheckFault) → IsFirstRefusal m p f → ¬ IsAccepted m p

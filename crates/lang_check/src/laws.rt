@@ -37,3 +37,10 @@ pub fn accepted_channels_are_below()
 pub fn channels_are_below()
     ensures { laws.ChannelsAreBelow }
 {}
+
+/// A program has at most one first refusal for a number of identifiers, and with one it is not accepted.
+#[tactic(auto, using(crate::proofs::Refused::one_refusal, crate::proofs::Refused::refused))]
+pub fn one_refusal()
+    ensures one { laws.OneRefusal }
+    ensures refused { laws.RefusedIsNotAccepted }
+{}
