@@ -1,11 +1,12 @@
 -- Tuples suffice: the windows of neighbours are the first and the last window of a tuple.
-use Rattle.std.proofs.Common.{◌≡◌, ◌↔◌, ℕ, ◌+◌, ◌-◌, ◌*◌, ◌≤◌, Option, List, length, get_or, slice_get, Some, None, IsSome, subst, sym, ap, ◌∙◌, arith, refl}
+use Rattle.std.proofs.Common.{◌≡◌, ◌↔◌, ℕ, ◌+◌, ◌-◌, ◌*◌, ◌<◌, ◌≤◌, Option, List, length, get_or, slice_get, Some, None, IsSome, subst, sym, ap, ◌∙◌, arith, refl}
 use Rattle.std.proofs.lemmas.Bool.{false≢true}
 use Rattle.std.proofs.lemmas.Option.{slice_get-get_or, slice_get_within, get_or_from_slice_get, same_Some}
 use Rattle.node_lang.specs.Ring.{IsRing}
 use Rattle.win_index.specs.Arcs.{arc, window_around, part_at}
 use Rattle.win_index.specs.Windows.{windows, number_of, IsWindow}
 use Rattle.table_fill.specs.Tables.{ChannelTable, channel_of}
+use Rattle.nbhd_check.specs.Laws.{TuplesSuffice, OneWitness, WitnessedIsNotGood}
 use Rattle.nbhd_check.specs.Proper.{tuples, IsBad, NoneIsBad, IsLeastBad, IsProper, IsGoodEverywhere}
 use Rattle.nbhd_check.specs.Verdicts.{IsWitness}
 
@@ -57,19 +58,33 @@ module _ (has_number : (k m : ℕ) (list : List ℕ) → IsSome (number_of k m l
       let size = window.size in
       good tuple t.rounds ring.0 (omega arith) ring.1
 
--- none is bad where no number has a bad tuple
-pub proper_of_none : (t : ChannelTable) → NoneIsBad t 0 (length (tuples t)) → IsProper t
-proper_of_none t none k d within = none k (get_or (tuples t) k d) (omega arith) within (slice_get-get_or (tuples t) k d within)
+-- a table none of whose tuples is bad
+pub none_is_good :
+    (t : ChannelTable) (count : ℕ) → TuplesSuffice → count ≡ length (tuples t) → NoneIsBad t 0 count → IsGoodEverywhere t
+none_is_good t count suffice all none =
+    (suffice t).0 (λ k d within. none k (get_or (tuples t) k d) (omega arith) (omega arith) (slice_get-get_or (tuples t) k d within))
 
--- a bad tuple
-pub improper : (t : ChannelTable) (low n : ℕ) (tuple : List ℕ) → IsLeastBad t low n tuple → IsProper t → ⊥
-improper t low n tuple bad proper =
-    proper n tuple (slice_get_within (tuples t) n tuple bad.item)
+-- a table with a bad tuple
+pub bad_is_not_good : (t : ChannelTable) (n : ℕ) (tuple : List ℕ) → TuplesSuffice → IsLeastBad t 0 n tuple → ¬ IsGoodEverywhere t
+bad_is_not_good t n tuple suffice bad good =
+    (suffice t).1 good n tuple (slice_get_within (tuples t) n tuple bad.item)
     (subst (IsBad t) (sym (get_or_from_slice_get (tuples t) n tuple tuple bad.item)) bad.bad)
 
--- a bad tuple on a table that would be good everywhere
-pub is_not_good : (t : ChannelTable) (n : ℕ) (tuple : List ℕ) → (IsProper t ↔ IsGoodEverywhere t) → IsLeastBad t 0 n tuple → IsGoodEverywhere t → ⊥
-is_not_good t n tuple exact bad good = improper t 0 n tuple bad (exact.1 good)
+pub witnessed : TuplesSuffice → WitnessedIsNotGood
+witnessed suffice t ring place c w = bad_is_not_good t w.number ring suffice w.least
+
+-- no number stands before that of a least bad tuple
+least : (t : ChannelTable) (n k : ℕ) (x y : List ℕ) → IsLeastBad t 0 n x → IsLeastBad t 0 k y → n ≤ k
+least t n k x y a b = let none : ¬ (k < n) = λ lt. a.least k y (omega arith) lt b.item b.bad in omega arith
+
+pub one_witness : OneWitness
+one_witness t ring other i j c d a b =
+    let after = least t a.number b.number ring other a.least b.least in
+    let before = least t b.number a.number other ring b.least a.least in
+    let number : a.number ≡ b.number = omega arith in
+    let same : ring ≡ other = same_Some ring other (sym a.least.item ∙ ap (slice_get (tuples t)) number ∙ b.least.item) in
+    let place : i ≡ j = a.place_is ∙ sym b.place_is in
+    (same, place, same_Some c d (sym a.here ∙ (λ k. channel_of t (window_around (same k) t.rounds (place k))) ∙ b.here))
 
 -- the least bad tuple as a ring
 pub is_witness : (t : ChannelTable) (n place channel : ℕ) (ring tuple : List ℕ) → IsLeastBad t 0 n tuple → slice_get (tuples t) n ≡ Some ring

@@ -38,7 +38,7 @@ pub fn judge(alloc: Global, table: &Table) -> Result<Verdict, OutOfMemory>
 }
 
 // The answer that the tuple with this number is the least bad one.
-#[tactic(auto, using(crate::proofs::Tuples::is_not_good))]
+#[tactic(auto, using(crate::proofs::Tuples::bad_is_not_good))]
 fn no(alloc: Global, table: &Table, number: u64) -> Result<Verdict, OutOfMemory>
     requires { (tuple : List ℕ) × IsLeastBad table.now 0 number tuple }
     ensures verdict { IfOk result (IsVerdict table.now) }
