@@ -1,6 +1,6 @@
--- The laws of this crate: tuples suffice, and a table has at most one witness.
+-- The statements of the laws of this crate, one definition each.
 use Rattle.std.specs.Prelude.{◌≡◌, ◌↔◌, ℕ, ◌+◌, ◌*◌, List}
-use Rattle.node_lang.specs.Ring.{IsRing}
+use Rattle.win_index.specs.Ring.{IsRing}
 use Rattle.win_index.specs.Arcs.{window_around}
 use Rattle.win_index.specs.Windows.{IsWindow}
 use Rattle.table_fill.specs.Tables.{ChannelTable, channel_of}

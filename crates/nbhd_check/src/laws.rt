@@ -1,4 +1,4 @@
-ghost use Rattle.nbhd_check.specs.Laws as laws;
+ghost use Rattle.nbhd_check.specs.Laws as law;
 
 use win_index::{
     number_of_window, rings_have_tuples, tuples_are_rings, window_of_number, windows_have_numbers,
@@ -7,8 +7,8 @@ use win_index::{
 /// Tuples suffice: a table is proper exactly where it is good everywhere, and a bad tuple, taken as a
 /// ring, has one channel at the places `t` and `t+1`.
 pub fn tuples_suffice()
-    ensures exact { laws.TuplesSuffice }
-    ensures bad_ring { laws.BadTuplesAreRings }
+    ensures exact { law.TuplesSuffice }
+    ensures bad_ring { law.BadTuplesAreRings }
 {
     tuples_are_rings();
     rings_have_tuples();
@@ -20,8 +20,8 @@ pub fn tuples_suffice()
 /// A table has at most one witness, which is the ring, the place and the channel of the judge's no, and with
 /// one it is not good everywhere.
 pub fn one_witness()
-    ensures one { laws.OneWitness }
-    ensures refused { laws.WitnessedIsNotGood }
+    ensures one { law.OneWitness }
+    ensures refused { law.WitnessedIsNotGood }
 {
     tuples_suffice();
 }

@@ -1,6 +1,7 @@
--- The law of this crate: what a program's table has is what its rounds give.
+-- The statement of the law of this crate.
 use Rattle.std.specs.Prelude.{◌≡◌, ℕ, ◌<◌, List, length, Some}
-use Rattle.node_lang.specs.Ring.{IsRing, channel_at}
+use Rattle.node_lang.specs.GlobalRounds.{channel_at}
+use Rattle.win_index.specs.Ring.{IsRing}
 use Rattle.node_lang.specs.Term.{ProgramTree}
 use Rattle.win_index.specs.Arcs.{window_around}
 use Rattle.table_fill.specs.ProgramTables.{table_of}
