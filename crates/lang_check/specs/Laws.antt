@@ -42,10 +42,10 @@ ChannelsAreBelow =
     (p : ProgramTree) (m : ℕ) (x : List ℕ) → IsAccepted m p → IsRing m (length p.steps) x → (i : ℕ) → i < length x
     → channel_at p x i < p.channels
 
--- two first refusals of a program for m identifiers are one
+-- a program has at most one first refusal for m identifiers
 abbrev pub OneRefusal : Type 0
 OneRefusal = (m : ℕ) (p : ProgramTree) (f g : CheckFault) → IsFirstRefusal m p f → IsFirstRefusal m p g → f ≡ g
 
--- a program with a refusal for m identifiers is not accepted for them
-abbrev pub RefusedIsNotAccepted : Type 0
-RefusedIsNotAccepted = (m : ℕ) (p : ProgramTree) (f : CheckFault) → IsFirstRefusal m p f → ¬ IsAccepted m p
+-- an accepted one has none
+abbrev pub AcceptedProgramsHaveNoRefusal : Type 0
+AcceptedProgramsHaveNoRefusal = (m : ℕ) (p : ProgramTree) (f : CheckFault) → IsAccepted m p → IsFirstRefusal m p f → ⊥

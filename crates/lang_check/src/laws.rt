@@ -38,9 +38,9 @@ pub fn channels_are_below()
     ensures { law.ChannelsAreBelow }
 {}
 
-/// A program has at most one first refusal for a number of identifiers, and with one it is not accepted.
-#[tactic(auto, using(crate::proofs::Refused::one_refusal, crate::proofs::Refused::refused))]
+/// A program has at most one first refusal for a number of identifiers, and an accepted one has none.
+#[tactic(auto, using(crate::proofs::Refused::one_refusal, crate::proofs::Refused::no_refusal))]
 pub fn one_refusal()
     ensures one { law.OneRefusal }
-    ensures refused { law.RefusedIsNotAccepted }
+    ensures none { law.AcceptedProgramsHaveNoRefusal }
 {}
