@@ -4,9 +4,10 @@ use Rattle.std.proofs.lemmas.Bool.{false≢true}
 use Rattle.std.proofs.lemmas.Option.{slice_get-get_or, slice_get_within, get_or_from_slice_get, same_Some}
 use Rattle.win_index.specs.Ring.{IsRing}
 use Rattle.win_index.specs.Arcs.{arc, window_around, part_at}
+use Rattle.win_index.specs.Laws.{NumberOfWindow, WindowOfNumber, WindowsHaveNumbers, TuplesAreRings, RingsHaveTuples}
 use Rattle.win_index.specs.Windows.{windows, number_of, IsWindow}
 use Rattle.table_fill.specs.Tables.{ChannelTable, channel_of}
-use Rattle.nbhd_check.specs.Laws.{TuplesSuffice, OneWitness, WitnessedIsNotGood}
+use Rattle.nbhd_check.specs.Laws.{TuplesSuffice, OneWitness, GoodTablesHaveNoWitness}
 use Rattle.nbhd_check.specs.Proper.{tuples, IsBad, NoneIsBad, IsLeastBad, IsProper, IsGoodEverywhere}
 use Rattle.nbhd_check.specs.Verdicts.{IsWitness}
 
@@ -15,16 +16,8 @@ some_number : (o : Option ℕ) → IsSome o → (n : ℕ) × (o ≡ Some n)
 some_number (Some n) is = (n, refl)
 some_number None is = absurd (false≢true is)
 
-module _ (has_number : (k m : ℕ) (list : List ℕ) → IsSome (number_of k m list) ↔ IsWindow k m list)
-    (item_of : (k m n : ℕ) (list : List ℕ) → number_of k m list ≡ Some n → slice_get (windows k m) n ≡ Some list)
-    (number_at : (k m n : ℕ) (window : List ℕ) → slice_get (windows k m) n ≡ Some window → number_of k m window ≡ Some n)
-    (is_ring : (m t step : ℕ) (list : List ℕ) → 1 ≤ step → IsWindow (2 * t + 1 + step) m list
-    → IsRing m t list × (window_around list t t ≡ part_at t 0 list) × (window_around list t (t + step) ≡ part_at t step list))
-    (has_tuple : (m t step place : ℕ) (ring : List ℕ) → IsRing m t ring → 2 * t + 1 + step ≤ length ring
-    → let list = arc ring (place + length ring - t) (2 * t + 1 + step) in
-    IsWindow (2 * t + 1 + step) m list × (part_at t 0 list ≡ window_around ring t place)
-    × (part_at t step list ≡ window_around ring t (place + step)))
-    (t : ChannelTable) where
+module _ (has_number : WindowsHaveNumbers) (item_of : WindowOfNumber) (number_at : NumberOfWindow) (is_ring : TuplesAreRings)
+    (has_tuple : RingsHaveTuples) (t : ChannelTable) where
   size_of : 2 * t.rounds + 1 + 1 ≡ 2 * t.rounds + 2
   size_of = omega arith
 
@@ -70,8 +63,8 @@ bad_is_not_good t n tuple suffice bad good =
     (suffice t).1 good n tuple (slice_get_within (tuples t) n tuple bad.item)
     (subst (IsBad t) (sym (get_or_from_slice_get (tuples t) n tuple tuple bad.item)) bad.bad)
 
-pub witnessed : TuplesSuffice → WitnessedIsNotGood
-witnessed suffice t ring place c w = bad_is_not_good t w.number ring suffice w.least
+pub no_witness : TuplesSuffice → GoodTablesHaveNoWitness
+no_witness suffice t ring place c good w = bad_is_not_good t w.number ring suffice w.least good
 
 -- no number stands before that of a least bad tuple
 least : (t : ChannelTable) (n k : ℕ) (x y : List ℕ) → IsLeastBad t 0 n x → IsLeastBad t 0 k y → n ≤ k

@@ -18,12 +18,12 @@ BadTuplesAreRings =
     → let t = table.rounds in
     IsRing table.ids t tuple × (channel_of table (window_around tuple t t) ≡ channel_of table (window_around tuple t (t + 1)))
 
--- two witnesses of a table are one
+-- a table has at most one witness
 abbrev pub OneWitness : Type 0
 OneWitness =
     (t : ChannelTable) (ring other : List ℕ) (i j c d : ℕ) → IsWitness t ring i c → IsWitness t other j d
     → (ring ≡ other) × (i ≡ j) × (c ≡ d)
 
--- a table with a witness is not good everywhere
-abbrev pub WitnessedIsNotGood : Type 0
-WitnessedIsNotGood = (t : ChannelTable) (ring : List ℕ) (place c : ℕ) → IsWitness t ring place c → ¬ IsGoodEverywhere t
+-- a table that is good everywhere has none
+abbrev pub GoodTablesHaveNoWitness : Type 0
+GoodTablesHaveNoWitness = (t : ChannelTable) (ring : List ℕ) (place c : ℕ) → IsGoodEverywhere t → IsWitness t ring place c → ⊥

@@ -17,11 +17,11 @@ pub fn tuples_suffice()
     number_of_window();
 }
 
-/// A table has at most one witness, which is the ring, the place and the channel of the judge's no, and with
-/// one it is not good everywhere.
+/// A table has at most one witness, which is the ring, the place and the channel of the judge's no, and one
+/// that is good everywhere has none.
 pub fn one_witness()
     ensures one { law.OneWitness }
-    ensures refused { law.WitnessedIsNotGood }
+    ensures none { law.GoodTablesHaveNoWitness }
 {
     tuples_suffice();
 }

@@ -3,7 +3,7 @@ use crate::part::{first_channel, judge_part, tuple_count, tuple_len, write_tuple
 use node_lang::OutOfMemory;
 use std::alloc::Global;
 use table_fill::Table;
-use win_index::tuples_are_rings;
+use win_index::{MAX_TUPLE_LEN, tuples_are_rings};
 
 /// The judge's answer.
 #[derive(Debug, PartialEq, Eq, Drop)]
@@ -48,7 +48,7 @@ fn no(alloc: Global, table: &Table, number: u64) -> Result<Verdict, OutOfMemory>
 {
     tuples_suffice();
     tuples_are_rings();
-    let mut cells = [0u32; 8];
+    let mut cells = [0; MAX_TUPLE_LEN];
     let tuple = &mut cells[..tuple_len(table)];
     write_tuple(table, number, tuple);
     let channel = first_channel(table, tuple);
