@@ -7,7 +7,7 @@ use Rattle.win_index.specs.Arcs.{arc, window_around, part_at}
 use Rattle.win_index.specs.Laws.{NumberOfWindow, WindowOfNumber, WindowsHaveNumbers, TuplesAreRings, RingsHaveTuples}
 use Rattle.win_index.specs.Windows.{windows, number_of, IsWindow}
 use Rattle.table_fill.specs.Tables.{ChannelTable, channel_of}
-use Rattle.nbhd_check.specs.Laws.{TuplesSuffice, OneWitness, GoodTablesHaveNoWitness}
+use Rattle.nbhd_check.specs.Laws.{TuplesSuffice, BadTuplesAreRings, OneWitness, GoodTablesHaveNoWitness}
 use Rattle.nbhd_check.specs.Proper.{tuples, IsBad, NoneIsBad, IsLeastBad, IsProper, IsGoodEverywhere}
 use Rattle.nbhd_check.specs.Verdicts.{IsWitness}
 
@@ -17,39 +17,38 @@ some_number (Some n) is = (n, refl)
 some_number None is = absurd (false≢true is)
 
 module _ (has_number : WindowsHaveNumbers) (item_of : WindowOfNumber) (number_at : NumberOfWindow) (is_ring : TuplesAreRings)
-    (has_tuple : RingsHaveTuples) (t : ChannelTable) where
-  size_of : 2 * t.rounds + 1 + 1 ≡ 2 * t.rounds + 2
-  size_of = omega arith
-
-  -- a tuple as a ring
-  pub bad_ring : (tuple : List ℕ) → IsWindow (2 * t.rounds + 2) t.ids tuple → IsBad t tuple
-      → IsRing t.ids t.rounds tuple
-      × (channel_of t (window_around tuple t.rounds t.rounds) ≡ channel_of t (window_around tuple t.rounds (t.rounds + 1)))
-  bad_ring tuple window bad =
-      let ring = is_ring t.ids t.rounds 1 tuple (omega arith) (subst (λ k. IsWindow k t.ids tuple) (sym size_of) window) in
+    (has_tuple : RingsHaveTuples) where
+  pub bad_ring : BadTuplesAreRings
+  bad_ring t tuple window bad =
+      let size : 2 * t.rounds + 2 ≡ 2 * t.rounds + 1 + 1 = omega arith in
+      let ring = is_ring t.ids t.rounds 1 tuple (omega arith) (subst (λ k. IsWindow k t.ids tuple) size window) in
       (ring.0, ap (channel_of t) ring.1 ∙ bad ∙ sym (ap (channel_of t) ring.2))
 
-  pub good_of_proper : IsProper t → IsGoodEverywhere t
-  good_of_proper proper ring place is within same =
+  good_of_proper : (t : ChannelTable) → IsProper t → IsGoodEverywhere t
+  good_of_proper t proper ring place is within same =
       let long = is.long in
+      let size : 2 * t.rounds + 1 + 1 ≡ 2 * t.rounds + 2 = omega arith in
       let around = has_tuple t.ids t.rounds 1 place ring is (omega arith) in
       let list = arc ring (place + length ring - t.rounds) (2 * t.rounds + 1 + 1) in
-      let window : IsWindow (2 * t.rounds + 2) t.ids list = subst (λ k. IsWindow k t.ids list) size_of around.0 in
+      let window : IsWindow (2 * t.rounds + 2) t.ids list = subst (λ k. IsWindow k t.ids list) size around.0 in
       let numbered = some_number (number_of (2 * t.rounds + 2) t.ids list) ((has_number (2 * t.rounds + 2) t.ids list).1 window) in
       let item = item_of (2 * t.rounds + 2) t.ids numbered.0 list numbered.1 in
       let inside = slice_get_within (tuples t) numbered.0 list item in
       let bad : IsBad t list = ap (channel_of t) around.1 ∙ same ∙ sym (ap (channel_of t) around.2) in
       proper numbered.0 list inside (subst (IsBad t) (sym (get_or_from_slice_get (tuples t) numbered.0 list list item)) bad)
 
-  pub proper_of_good : IsGoodEverywhere t → IsProper t
-  proper_of_good good k d within bad =
+  proper_of_good : (t : ChannelTable) → IsGoodEverywhere t → IsProper t
+  proper_of_good t good k d within bad =
       let tuple = get_or (tuples t) k d in
       let item = slice_get-get_or (tuples t) k d within in
       let numbered = number_at (2 * t.rounds + 2) t.ids k tuple item in
       let window = (has_number (2 * t.rounds + 2) t.ids tuple).0 (subst IsSome (sym numbered) refl) in
-      let ring = bad_ring tuple window bad in
+      let ring = bad_ring t tuple window bad in
       let size = window.size in
       good tuple t.rounds ring.0 (omega arith) ring.1
+
+  pub suffice : TuplesSuffice
+  suffice t = (good_of_proper t, proper_of_good t)
 
 -- a table none of whose tuples is bad
 pub none_is_good :
