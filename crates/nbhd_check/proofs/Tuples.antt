@@ -79,16 +79,18 @@ one_witness t ring other i j c d a b =
     (same, place, same_Some c d (sym a.here ∙ (λ k. channel_of t (window_around (same k) t.rounds (place k))) ∙ b.here))
 
 -- the least bad tuple as a ring
-pub is_witness : (t : ChannelTable) (n place channel : ℕ) (ring tuple : List ℕ) → IsLeastBad t 0 n tuple → slice_get (tuples t) n ≡ Some ring
-    → window_around ring t.rounds t.rounds ≡ part_at t.rounds 0 ring → window_around ring t.rounds (t.rounds + 1) ≡ part_at t.rounds 1 ring
-    → place ≡ t.rounds → channel_of t (part_at t.rounds 0 ring) ≡ Some channel → IsWitness t ring place channel
-is_witness t n place channel ring tuple bad item first last at' here =
-    let same : tuple ≡ ring = same_Some tuple ring (sym bad.item ∙ item) in
-    let bad' : IsLeastBad t 0 n ring = subst (IsLeastBad t 0 n) same bad in
+pub is_witness :
+    (t : ChannelTable) (n place channel : ℕ) (ring tuple : List ℕ) → TuplesAreRings → IsLeastBad t 0 n tuple
+    → slice_get (tuples t) n ≡ Some ring → IsWindow (2 * t.rounds + 2) t.ids ring → place ≡ t.rounds
+    → channel_of t (part_at t.rounds 0 ring) ≡ Some channel → IsWitness t ring place channel
+is_witness t n place channel ring tuple rings bad item window at' here =
+    let size : 2 * t.rounds + 2 ≡ 2 * t.rounds + 1 + 1 = omega arith in
+    let parts = rings t.ids t.rounds 1 ring (omega arith) (subst (λ k. IsWindow k t.ids ring) size window) in
+    let least : IsLeastBad t 0 n ring = subst (IsLeastBad t 0 n) (same_Some tuple ring (sym bad.item ∙ item)) bad in
     record {
       number = n;
-      least = bad';
+      least = least;
       place_is = at';
-      here = ap (λ i. channel_of t (window_around ring t.rounds i)) at' ∙ ap (channel_of t) first ∙ here;
-      right = ap (λ i. channel_of t (window_around ring t.rounds (i + 1))) at' ∙ ap (channel_of t) last ∙ sym bad'.bad ∙ here;
+      here = ap (λ i. channel_of t (window_around ring t.rounds i)) at' ∙ ap (channel_of t) parts.1 ∙ here;
+      right = ap (λ i. channel_of t (window_around ring t.rounds (i + 1))) at' ∙ ap (channel_of t) parts.2 ∙ sym least.bad ∙ here;
     }
