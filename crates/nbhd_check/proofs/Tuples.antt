@@ -1,11 +1,10 @@
 -- Tuples suffice: the windows of neighbours are the first and the last window of a tuple.
-use Rattle.std.proofs.Common.{◌≡◌, ◌↔◌, ℕ, ◌+◌, ◌-◌, ◌*◌, ◌<◌, ◌≤◌, Option, List, length, get_or, slice_get, Some, None, IsSome, subst, sym, ap, ◌∙◌, arith, refl}
+use Rattle.std.proofs.Common.{◌≡◌, ℕ, ◌+◌, ◌-◌, ◌*◌, ◌<◌, ◌≤◌, Option, List, length, get_or, slice_get, Some, None, IsSome, subst, sym, ap, ◌∙◌, arith, refl}
 use Rattle.std.proofs.lemmas.Bool.{false≢true}
 use Rattle.std.proofs.lemmas.Option.{slice_get-get_or, slice_get_within, get_or_from_slice_get, same_Some}
-use Rattle.win_index.specs.Ring.{IsRing}
 use Rattle.win_index.specs.Arcs.{arc, window_around, part_at}
 use Rattle.win_index.specs.Laws.{NumberOfWindow, WindowOfNumber, WindowsHaveNumbers, TuplesAreRings, RingsHaveTuples}
-use Rattle.win_index.specs.Windows.{windows, number_of, IsWindow}
+use Rattle.win_index.specs.Windows.{number_of, IsWindow}
 use Rattle.table_fill.specs.Tables.{ChannelTable, channel_of}
 use Rattle.nbhd_check.specs.Laws.{TuplesSuffice, BadTuplesAreRings, OneWitness, GoodTablesHaveNoWitness}
 use Rattle.nbhd_check.specs.Proper.{tuples, IsBad, NoneIsBad, IsLeastBad, IsProper, IsGoodEverywhere}
