@@ -5,3 +5,4 @@ mod Within
 mod States
 mod Assigned
 mod Images
+mod Refused
