@@ -59,7 +59,7 @@ fn zeros(alloc: Global, len: usize) -> Result<Vec<u32>, OutOfMemory>
 }
 
 // Writes the channel of each node.
-#[tactic(auto, using(crate::proofs::RowLemmas::row_fits))]
+#[tactic(auto, using(std::proofs::lemmas::Nat::row_fits))]
 fn channel_all(plan: &Plan, states: &[u32], channels: &mut [u32])
     requires { length channels.old * length plan.now.program.start ≤ length states.now }
     ensures { (i : ℕ) → i < length channels.old → slice_index channels.new i

@@ -1,5 +1,5 @@
 // Rows of nodes. Their registers stand row by row in one list, a cell for each register.
-ghost use Rattle.std.specs.Prelude.{◌≡◌, ℕ, ◌+◌, ◌*◌, ◌<◌, ◌≤◌, map, length, slice_index_or, All, []};
+ghost use Rattle.std.specs.Prelude.{◌≡◌, ℕ, ◌+◌, ◌*◌, ◌<◌, ◌≤◌, map, length, slice_index_or, All, [], ◌∷◌, ◌++◌};
 ghost use Rattle.node_lang.specs.Node as rounds;
 ghost use Rattle.round_eval.specs.Rows.{row_after, rows};
 
@@ -17,18 +17,19 @@ pub fn width_of(plan: &Plan) -> usize
     program.registers() as usize
 }
 
-/// The cells of one row, where each row has this width.
-#[tactic(auto, using(crate::proofs::RowLemmas::row_is))]
+/// The cells of one row, where each row has this width. With the rows before it they are one row more.
+#[tactic(auto, using(crate::proofs::RowLemmas::row_is, crate::proofs::RowLemmas::rows_more))]
 pub fn row_at(cells: &[u32], width: usize, place: usize) -> &[u32]
     requires { place * width + width ≤ length cells.now }
     ensures value { (n : ℕ) → place < n → slice_index_or (rows width n cells.now) place [] ≡ result.now }
+    ensures last { rows width (place + 1) cells.now ≡ rows width place cells.now ++ result.now ∷ [] }
     ensures size { length result.now ≡ width }
 {
     &cells[place * width..place * width + width]
 }
 
 /// Writes what each node of a row holds before the first round, by their identifiers.
-#[tactic(auto, using(crate::proofs::RowLemmas::row_fits))]
+#[tactic(auto, using(std::proofs::lemmas::Nat::row_fits))]
 pub fn start_of_row(plan: &Plan, ids: &[u32], states: &mut [u32])
     requires below { All (λ id. id < plan.now.ids) ids.now }
     requires few { length ids.now ≤ 1024 }
@@ -43,7 +44,7 @@ pub fn start_of_row(plan: &Plan, ids: &[u32], states: &mut [u32])
 
 /// Writes what each node of a row of this many nodes holds after a round into `out`: `from_left` was sent to the
 /// first of them in that round, `from_right` to the last one. Rounds count from 0.
-#[tactic(auto, using(crate::proofs::RowLemmas::row_fits))]
+#[tactic(auto, using(std::proofs::lemmas::Nat::row_fits))]
 pub fn round_of_row(
     plan: &Plan,
     round: u32,

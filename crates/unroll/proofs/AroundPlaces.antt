@@ -3,9 +3,10 @@ use Rattle.std.proofs.Common.{◌≡◌, ℕ, zero, suc, ◌+◌, ◌-◌, ◌*�
 use Rattle.std.proofs.Math.Nat.{mod-add-mod, add-mod_right, mod-eq_of_lt}
 use Rattle.node_lang.specs.Term.{ProgramTree}
 use Rattle.node_lang.specs.Node.{start}
-use Rattle.node_lang.specs.Ring.{IsRing, left_of, right_of, state}
-use Rattle.win_index.specs.Arcs.{arc, window_around}
+use Rattle.node_lang.specs.Ring.{left_of, right_of, state}
+use Rattle.win_index.specs.Arcs.{arc}
 use Rattle.unroll.specs.Line.{between, item, line, middle_state}
+use Rattle.unroll.specs.Laws.{Locality}
 use Rattle.unroll.proofs.Lines.{between_same, line_start, line_next}
 
 -- the neighbours of place a + 1, all taken modulo the ring's length
@@ -56,9 +57,7 @@ module _ (length-arc : (x : List ℕ) (start count : ℕ) → length (arc x star
   mod_inside : (i n : ℕ) → i < n → (i + n) % n ≡ i
   mod_inside i n lt = add-mod_right i n ∙ mod-eq_of_lt lt
 
-  pub around :
-      (p : ProgramTree) (m t r i : ℕ) (x : List ℕ) → IsRing m t x → r ≤ t → i < length x
-      → state p x r i ≡ middle_state p r (window_around x r i)
+  pub around : Locality
   unfolding middle_state
   around p m t r i x ring le lt =
       let n : ℕ = length x in

@@ -1,10 +1,12 @@
 -- The items of a shrinking line, and the line of a part of a window.
-use Rattle.std.proofs.Common.{◌≡◌, ℕ, zero, suc, ◌+◌, ◌-◌, ◌*◌, ◌<◌, ◌≤◌, List, [], ◌∷◌, length, get_or, take, drop, refl, sym, ap, ◌∙◌, arith, add-one, length-drop}
+use Rattle.std.proofs.Common.{◌≡◌, ℕ, zero, suc, ◌+◌, ◌-◌, ◌*◌, ◌<◌, ◌≤◌, List, [], ◌∷◌, ◌++◌, length, length-append, get_or, take, drop, refl, sym, ap, ◌∙◌, arith, add-one, length-drop}
 use Rattle.std.proofs.lemmas.List.{get_or-map, length-map, get_or-take, get_or-drop, length-take-le}
-use Rattle.std.proofs.lemmas.List.FromFn.{length-map-range_with_len, get_or-map-range_with_len}
+use Rattle.std.proofs.lemmas.List.FromFn.{fill_by_all, length-map-range_with_len, get_or-map-range_with_len}
 use Rattle.node_lang.specs.Term.{ProgramTree}
-use Rattle.node_lang.specs.Node.{start}
+use Rattle.node_lang.specs.Node.{start, to_left, to_right}
+use Rattle.round_eval.specs.Rows.{row_after}
 use Rattle.unroll.specs.Line.{between, item, line, middle_state}
+use Rattle.unroll.specs.Laws.{LinesAreRows, OneStateIsLeft}
 use Rattle.unroll.specs.Below.{part}
 
 pub between_same :
@@ -81,13 +83,39 @@ pub middle_state-zero : (p : ProgramTree) (x : ℕ) (w : List ℕ) → 0 < lengt
 unfolding middle_state
 middle_state-zero p x w some first = line_start p w 0 some ∙ ap (start p) first
 
+length-row_after :
+    (p : ProgramTree) (k left right : ℕ) (row : List (List ℕ)) → length (row_after p k left row right) ≡ length row
+length-row_after p k left right [] = refl
+length-row_after p k left right (own ∷ row) = ap (λ n. suc n) (length-row_after p k (to_right p k own) right row)
+
+-- an item of a row after a round, by the line around the row
+item_after :
+    (p : ProgramTree) (k : ℕ) (first last : List ℕ) (row : List (List ℕ)) (j : ℕ) → j < length row
+    → item (row_after p k (to_right p k first) row (to_left p k last)) j
+    ≡ between p k (item (first ∷ (row ++ last ∷ [])) j) (item (row ++ last ∷ []) j) (item (row ++ last ∷ []) (suc j))
+item_after p k first last [] j lt = absurd (omega arith)
+item_after p k first last (own ∷ []) zero lt = refl
+item_after p k first last (own ∷ []) (suc j) lt = absurd (omega arith)
+item_after p k first last (own ∷ (after ∷ row)) zero lt = refl
+item_after p k first last (own ∷ (after ∷ row)) (suc j) lt = item_after p k own last (after ∷ row) j (omega arith)
+
+pub shrunk_row : LinesAreRows
+shrunk_row p k first last row =
+    let u : List (List ℕ) = first ∷ (row ++ last ∷ []) in
+    let size : length row ≡ length u - 2 = omega (arith, length-append row (last ∷ [])) in
+    sym
+    (fill_by_all (λ j. between p k (item u j) (item u (j + 1)) (item u (j + 2))) _ (length u - 2) []
+    (length-row_after p k (to_right p k first) (to_left p k last) row ∙ size)
+    (λ j lt.
+    let two : j + 2 ≡ suc (suc j) = omega arith in
+    rw (add-one j, two) (item_after p k first last row j (omega arith))))
+
 only_item : (u : List (List ℕ)) → length u ≡ 1 → u ≡ item u 0 ∷ []
 only_item [] size = absurd (omega arith)
 only_item (x ∷ []) size = refl
 only_item (x ∷ (y ∷ u)) size = absurd (omega arith)
 
 -- the line of a window is one state long in the end
-pub one_left :
-    (p : ProgramTree) (r : ℕ) (w : List ℕ) → length w ≡ 2 * r + 1 → line p w r ≡ middle_state p r w ∷ []
+pub one_left : OneStateIsLeft
 unfolding middle_state
 one_left p r w size = only_item (line p w r) (omega (arith, length-line p w r))

@@ -1,7 +1,7 @@
 use Rattle.std.proofs.Common.{◌≡◌, ℕ, ◌+◌, ◌∷◌, [], ◌++◌, length, map, take, get_or, refl, sym, ◌∙◌, ap, arith, rules}
 use Rattle.std.proofs.lemmas.List.{take_more, map-append}
 use Rattle.node_lang.specs.Node as rounds
-use Rattle.round_eval.proofs.RowLemmas.{row_fits, rows_written}
+use Rattle.round_eval.proofs.RowLemmas.{rows_written}
 use Rattle.round_eval.proofs.row.start_of_row.Goals as goal
 
 pub loop-place-preserved : goal.loop-place-preserved

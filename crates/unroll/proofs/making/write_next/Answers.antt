@@ -4,7 +4,7 @@ use Rattle.unroll.proofs.making.write_next.Goals as goal
 
 pub returns-clause-state : goal.returns-clause-state
 returns-clause-state g c =
-    let made = rw (c.messages-from_left.ensures.to_right, c.messages-from_right.ensures.to_left) at c.step.ensures in
+    let made = rw (c.sent_to_right-from_left.ensures, c.sent_to_left-from_right.ensures) at c.step.ensures in
     middle_from_parts c.args.plan.now.program c.args.below c.args.window.now _ _ _ c.step.new.out c.requires.window.size
     c.in_ok-left.ensures.state c.in_ok-own.ensures.state c.in_ok-right.ensures.state made
 
