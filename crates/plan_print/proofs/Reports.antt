@@ -2,7 +2,8 @@
 use Rattle.std.proofs.Common.{◌≡◌, ℕ, List, [], ◌∷◌, length, subst}
 use Rattle.node_lang.specs.declared.fault.FaultKind.{FaultKind}
 use Rattle.node_lang.specs.Term.{ProgramTree}
-use Rattle.node_lang.specs.Ring.{IsRing, channels_of}
+use Rattle.node_lang.specs.GlobalRounds.{channels_of}
+use Rattle.win_index.specs.Ring.{IsRing}
 use Rattle.node_lang.specs.Grammar.{Reads}
 use Rattle.node_lang.specs.Faults.{FaultsAt}
 use Rattle.lang_check.specs.declared.acceptance.CheckFault.{CheckFault}

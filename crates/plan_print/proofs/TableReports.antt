@@ -5,7 +5,8 @@ use Rattle.std.proofs.lemmas.Bool.{false≢true}
 use Rattle.std.proofs.lemmas.List.Concat.{flat_map-append}
 use Rattle.std.proofs.lemmas.Option.{same_Some}
 use Rattle.node_lang.specs.Term.{ProgramTree}
-use Rattle.node_lang.specs.Ring.{IsRing, channel_at}
+use Rattle.node_lang.specs.GlobalRounds.{channel_at}
+use Rattle.win_index.specs.Ring.{IsRing}
 use Rattle.node_lang.specs.Grammar.{Reads}
 use Rattle.win_index.specs.declared.ring.RingFault.{RingFault}
 use Rattle.win_index.specs.Arcs.{window_around}

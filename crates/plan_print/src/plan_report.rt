@@ -1,6 +1,6 @@
 //! The report of a plan: the channels of a ring's places, looked up in the table.
 
-ghost use Rattle.std.specs.Prelude.{◌≡◌, ◌<◌, ◌++◌, ℕ, List, Some, length, vec_len, IfOk, IfErr, OnOk, string_bytes};
+ghost use Rattle.std.specs.Prelude.{◌≡◌, ◌<◌, ◌++◌, ℕ, List, Some, length, IfOk, IfErr, OnOk, string_bytes};
 ghost use Rattle.std.specs.List.{flat_map, range_with_len};
 ghost use Rattle.node_lang.specs.Term.{ProgramTree};
 ghost use Rattle.node_lang.specs.Grammar.{Reads};
@@ -56,10 +56,10 @@ fn ring_plan(alloc: Global, plan: &Plan, ring: Vec<u32>) -> Result<(String, Stat
 
 // The lines of a ring's places, from place 0 on.
 fn places_text(alloc: Global, table: &Table, ring: &Ring) -> Result<String, AllocError>
-    requires ids { ring.now.shape.ids ≡ table.now.ids }
-    requires rounds { ring.now.shape.rounds ≡ table.now.rounds }
+    requires ids { ring.now.ids ≡ table.now.ids }
+    requires rounds { ring.now.rounds ≡ table.now.rounds }
     ensures { IfOk result (λ text. (p : ProgramTree) → table.now ≡ table_of p table.now.ids
-        → string_bytes text ≡ place_lines p ring.now.ids.items) }
+        → string_bytes text ≡ place_lines p ring.now.places) }
 {
     table_has_the_channels_of_rounds();
     let mut text = String::new(alloc);
@@ -72,10 +72,10 @@ fn places_text(alloc: Global, table: &Table, ring: &Ring) -> Result<String, Allo
 
 // The table's channel at the window around a place.
 fn channel_of_place(table: &Table, ring: &Ring, place: u32) -> u32
-    requires ids { ring.now.shape.ids ≡ table.now.ids }
-    requires rounds { ring.now.shape.rounds ≡ table.now.rounds }
-    requires place { place < vec_len ring.now.ids }
-    ensures { channel_of table.now (window_around ring.now.ids.items table.now.rounds place) ≡ Some result }
+    requires ids { ring.now.ids ≡ table.now.ids }
+    requires rounds { ring.now.rounds ≡ table.now.rounds }
+    requires place { place < length ring.now.places }
+    ensures { channel_of table.now (window_around ring.now.places table.now.rounds place) ≡ Some result }
 {
     rings_have_windows();
     windows_have_numbers();

@@ -5,7 +5,7 @@ use Rattle.std.proofs.lemmas.List.{length-map, get_or-map}
 use Rattle.std.proofs.lemmas.List.FromFn.{fill_by_all, get_or-map-range_with_len}
 use Rattle.node_lang.specs.Term.{ProgramTree}
 use Rattle.node_lang.specs.Node.{start, to_left, to_right, next, channel}
-use Rattle.node_lang.specs.Ring.{left_of, right_of, state, channel_at, channels_of}
+use Rattle.node_lang.specs.GlobalRounds.{left_of, right_of, state, channel_at, channels_of}
 use Rattle.round_eval.specs.Rows.{row_after, rows, stretch}
 use Rattle.round_eval.specs.Laws.{StretchesAreRows, RingsAreClosedRows}
 
@@ -54,16 +54,15 @@ module _ (p : ProgramTree) (x : List ℕ) where
       fill_by_all (state p x 0) (map (start p) x) (length x) [] (length-map x (start p)) (λ i lt. get_or-map (start p) x i 0 [] lt)
 
   pub round_more :
-      (r n left right : ℕ) (before after : List (List ℕ)) → n ≡ length x → 0 < length x → RingsAreClosedRows
-      → before ≡ stretch p x r 0 n → left ≡ to_right p r (get_or before (n - 1) []) → right ≡ to_left p r (get_or before 0 [])
-      → after ≡ row_after p r left before right → after ≡ stretch p x (r + 1) 0 n
-  round_more r n left right before after size some law held from_last from_first made =
-      let place : (i : ℕ) → i < n → get_or before i [] ≡ state p x r i = λ i lt.
-      rw held (get_or-map-range_with_len (state p x r) 0 n i i [] lt (omega arith)) in
-      let last : left ≡ to_right p r (state p x r (length x - 1)) =
-      from_last ∙ ap (to_right p r) (place (n - 1) (omega arith)) ∙ ap (λ k. to_right p r (state p x r (k - 1))) size in
-      let first : right ≡ to_left p r (state p x r 0) = from_first ∙ ap (to_left p r) (place 0 (omega arith)) in
-      made ∙ (λ i. row_after p r (last i) (held i) (first i)) ∙ (rw size (sym (law p x r some)))
+      (r left right : ℕ) (before after : List (List ℕ)) → 0 < length x → RingsAreClosedRows → before ≡ stretch p x r 0 (length x)
+      → left ≡ to_right p r (get_or before (length x - 1) []) → right ≡ to_left p r (get_or before 0 [])
+      → after ≡ row_after p r left before right → after ≡ stretch p x (r + 1) 0 (length x)
+  round_more r left right before after some law held last first made =
+      let place : (i : ℕ) → i < length x → get_or before i [] ≡ state p x r i = λ i lt.
+      rw held (get_or-map-range_with_len (state p x r) 0 (length x) i i [] lt (omega arith)) in
+      let from_last = last ∙ ap (to_right p r) (place (length x - 1) (omega arith)) in
+      let from_first = first ∙ ap (to_left p r) (place 0 some) in
+      made ∙ (λ i. row_after p r (from_last i) (held i) (from_first i)) ∙ sym (law p x r some)
 
   pub channels_from_rows :
       (channels : List ℕ) (states : List (List ℕ)) → length channels ≡ length x → states ≡ stretch p x (length p.steps) 0 (length x)

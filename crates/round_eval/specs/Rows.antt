@@ -3,7 +3,7 @@ use Rattle.std.specs.Prelude.{ℕ, zero, suc, List, [], ◌∷◌, map, take, dr
 use Rattle.std.specs.List.{range_with_len}
 use Rattle.node_lang.specs.Term.{ProgramTree}
 use Rattle.node_lang.specs.Node.{to_left, to_right, next}
-use Rattle.node_lang.specs.Ring.{state}
+use Rattle.node_lang.specs.GlobalRounds.{state}
 
 -- what a row sends left in round r, by the registers of its nodes: what its first node sends, or right where it has none
 abbrev pub sent_left : ProgramTree → ℕ → List (List ℕ) → ℕ → ℕ

@@ -1,7 +1,7 @@
-ghost use Rattle.std.specs.Prelude.{◌≡◌, ℕ, ◌*◌, ◌<◌, ◌≤◌, length, slice_index, slice_index_or, [], IfOk};
+ghost use Rattle.std.specs.Prelude.{◌≡◌, ℕ, ◌*◌, ◌<◌, ◌≤◌, length, slice_index, slice_index_or, [], All, IfOk};
+ghost use Rattle.node_lang.specs.GlobalRounds.{channels_of};
 ghost use Rattle.node_lang.specs.Node as rounds;
-ghost use Rattle.node_lang.specs.Ring.{channels_of};
-ghost use Rattle.round_eval.specs.Rows.{rows, stretch};
+ghost use Rattle.round_eval.specs.Rows.{rows};
 
 use crate::laws::rings_are_closed_rows;
 use crate::node::{channel, sent_to_left, sent_to_right};
@@ -9,46 +9,22 @@ use crate::row::{round_of_row, row_at, start_of_row, width_of};
 use lang_check::Plan;
 use node_lang::OutOfMemory;
 use std::alloc::Global;
-use std::mem;
-use win_index::Ring;
+use win_index::{MAX_IDS, Ring};
 
 /// The channels of a ring after all rounds of a plan, in the order of the places: in each round all nodes
 /// send, and then all of them step. The ring has the plan's shape.
 pub fn plain_run(alloc: Global, plan: &Plan, ring: &Ring) -> Result<Vec<u32>, OutOfMemory>
-    requires ids { ring.now.shape.ids ≡ plan.now.ids }
-    requires rounds { ring.now.shape.rounds ≡ length plan.now.program.steps }
-    ensures { IfOk result (λ channels. channels.items ≡ channels_of plan.now.program ring.now.ids.items) }
+    requires ids { ring.now.ids ≡ plan.now.ids }
+    requires rounds { ring.now.rounds ≡ length plan.now.program.steps }
+    ensures { IfOk result (λ channels. channels.items ≡ channels_of plan.now.program ring.now.places) }
 {
-    let states = last_states(alloc, plan, ring)?;
-    let mut channels = zeros(alloc, ring.ids.len())?;
-    channel_all(plan, &states, &mut channels);
+    let ids = ring.ids();
+    let cells = ids.len() * width_of(plan);
+    let mut states = zeros(alloc, cells)?;
+    let mut next = zeros(alloc, cells)?;
+    let mut channels = zeros(alloc, ids.len())?;
+    run_rounds(plan, ids, &mut states, &mut next, &mut channels);
     Ok(channels)
-}
-
-// What each node of a ring holds after all rounds, row by row.
-fn last_states(alloc: Global, plan: &Plan, ring: &Ring) -> Result<Vec<u32>, OutOfMemory>
-    requires ids { ring.now.shape.ids ≡ plan.now.ids }
-    requires rounds { ring.now.shape.rounds ≡ length plan.now.program.steps }
-    ensures size { IfOk result (λ states. length states.items ≡ length ring.now.ids.items * length plan.now.program.start) }
-    ensures states { IfOk result (λ states.
-        rows (length plan.now.program.start) (length ring.now.ids.items) states.items
-        ≡ stretch plan.now.program ring.now.ids.items (length plan.now.program.steps) 0 (length ring.now.ids.items)) }
-{
-    rings_are_closed_rows();
-    let places = ring.ids.len();
-    let width = width_of(plan);
-    let mut states = zeros(alloc, places * width)?;
-    let mut next = zeros(alloc, places * width)?;
-    start_of_row(plan, &ring.ids, &mut states);
-    for round in 0..ring.shape.rounds {
-        let from_last = sent_to_right(plan, round, row_at(&states, width, places - 1));
-        let from_first = sent_to_left(plan, round, row_at(&states, width, 0));
-        round_of_row(
-            plan, round, places, from_last, &states, from_first, &mut next,
-        );
-        mem::swap(&mut states, &mut next);
-    }
-    Ok(states)
 }
 
 // A list of zeros.
@@ -58,7 +34,30 @@ fn zeros(alloc: Global, len: usize) -> Result<Vec<u32>, OutOfMemory>
     vec![in alloc; 0; len].map_err(|_| OutOfMemory)
 }
 
-// Writes the channel of each node.
+// Writes the channels of the nodes of a ring after all rounds. The others have a row for each node.
+fn run_rounds(plan: &Plan, ids: &[u32], states: &mut [u32], next: &mut [u32], channels: &mut [u32])
+    requires below { All (λ id. id < plan.now.ids) ids.now }
+    requires some { 1 ≤ length ids.now }
+    requires few { length ids.now ≤ MAX_IDS }
+    requires states { length states.old ≡ length ids.now * length plan.now.program.start }
+    requires next { length next.old ≡ length ids.now * length plan.now.program.start }
+    requires channels { length channels.old ≡ length ids.now }
+    ensures { channels.new ≡ channels_of plan.now.program ids.now }
+{
+    rings_are_closed_rows();
+    let width = width_of(plan);
+    let nodes = ids.len();
+    start_of_row(plan, ids, states);
+    for round in 0..plan.shape().rounds() {
+        let from_last = sent_to_right(plan, round, row_at(states, width, nodes - 1));
+        let from_first = sent_to_left(plan, round, row_at(states, width, 0));
+        round_of_row(plan, round, nodes, from_last, states, from_first, next);
+        states.copy_from_slice(next);
+    }
+    channel_all(plan, states, channels);
+}
+
+// Writes the channel of each node of a row.
 #[tactic(auto, using(std::proofs::lemmas::Nat::row_fits))]
 fn channel_all(plan: &Plan, states: &[u32], channels: &mut [u32])
     requires { length channels.old * length plan.now.program.start ≤ length states.now }

@@ -5,6 +5,7 @@ ghost use Rattle.round_eval.specs.Rows.{row_after, rows};
 
 use crate::node::{sent_to_left, sent_to_right, start_state, step};
 use lang_check::Plan;
+use win_index::MAX_IDS;
 
 /// The number of registers of a plan's program, as the width of a row.
 pub fn width_of(plan: &Plan) -> usize
@@ -32,7 +33,7 @@ pub fn row_at(cells: &[u32], width: usize, place: usize) -> &[u32]
 #[tactic(auto, using(std::proofs::lemmas::Nat::row_fits))]
 pub fn start_of_row(plan: &Plan, ids: &[u32], states: &mut [u32])
     requires below { All (λ id. id < plan.now.ids) ids.now }
-    requires few { length ids.now ≤ 1024 }
+    requires few { length ids.now ≤ MAX_IDS }
     requires room { length ids.now * length plan.now.program.start ≤ length states.old }
     ensures { rows (length plan.now.program.start) (length ids.now) states.new ≡ map (rounds.start plan.now.program) ids.now }
 {
@@ -56,7 +57,7 @@ pub fn round_of_row(
 )
     requires round { round < length plan.now.program.steps }
     requires some { 1 ≤ nodes }
-    requires few { nodes ≤ 1024 }
+    requires few { nodes ≤ MAX_IDS }
     requires size { nodes * length plan.now.program.start ≤ length states.now }
     requires out_size { nodes * length plan.now.program.start ≤ length out.old }
     ensures { rows (length plan.now.program.start) nodes out.new

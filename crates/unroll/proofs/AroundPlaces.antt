@@ -3,8 +3,9 @@ use Rattle.std.proofs.Common.{◌≡◌, ℕ, zero, suc, ◌+◌, ◌-◌, ◌*�
 use Rattle.std.proofs.Math.Nat.{mod-add-mod, add-mod_right, mod-eq_of_lt}
 use Rattle.node_lang.specs.Term.{ProgramTree}
 use Rattle.node_lang.specs.Node.{start}
-use Rattle.node_lang.specs.Ring.{left_of, right_of, state}
+use Rattle.node_lang.specs.GlobalRounds.{left_of, right_of, state}
 use Rattle.win_index.specs.Arcs.{arc}
+use Rattle.win_index.specs.Laws.{LengthOfArcs, ItemsOfArcs}
 use Rattle.unroll.specs.Line.{between, item, line, middle_state}
 use Rattle.unroll.specs.Laws.{Locality}
 use Rattle.unroll.proofs.Lines.{between_same, line_start, line_next}
@@ -29,8 +30,7 @@ state_next :
     ≡ between p k (state p x k (a % length x)) (state p x k ((a + 1) % length x)) (state p x k ((a + 2) % length x))
 state_next p x k a some = rw (left_place x a some, right_place x a)
 
-module _ (length-arc : (x : List ℕ) (start count : ℕ) → length (arc x start count) ≡ count)
-    (get_or-arc : (x : List ℕ) (start count k d : ℕ) → k < count → get_or (arc x start count) k d ≡ get_or x ((start + k) % length x) 0) where
+module _ (length-arc : LengthOfArcs) (get_or-arc : ItemsOfArcs) where
   -- after k rounds, item j of the line of an arc is the state of place start + k + j
   line_of_arc :
       (p : ProgramTree) (x : List ℕ) (first count k j : ℕ) → 0 < length x → j + 2 * k < count

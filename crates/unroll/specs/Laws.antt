@@ -2,7 +2,8 @@
 use Rattle.std.specs.Prelude.{◌≡◌, ℕ, ◌+◌, ◌*◌, ◌<◌, ◌≤◌, List, [], ◌∷◌, ◌++◌, length}
 use Rattle.node_lang.specs.Term.{ProgramTree}
 use Rattle.node_lang.specs.Node.{to_left, to_right}
-use Rattle.node_lang.specs.Ring.{IsRing, state}
+use Rattle.node_lang.specs.GlobalRounds.{state}
+use Rattle.win_index.specs.Ring.{IsRing}
 use Rattle.node_lang.specs.Bounds.{register_bounds, IsWithin}
 use Rattle.win_index.specs.Arcs.{window_around}
 use Rattle.win_index.specs.Windows.{IsWindow}

@@ -16,7 +16,7 @@ use crate::source::Source;
 use lang_check::Plan;
 use round_eval::{rows_are_written, sent_to_left, sent_to_right, start_state, step, width_of};
 use std::alloc::Global;
-use win_index::{BLOCK_WINDOWS, Shape, blocks_are_few};
+use win_index::{BLOCK_WINDOWS, MAX_WINDOW_LEN, Shape, blocks_are_few};
 
 /// The block of a plan with this level, number and maker. At level 0 the states are those before the first
 /// round, and the source is not asked. Above it each state comes from three of the blocks one level below,
@@ -48,7 +48,7 @@ pub fn make_block<'a, 's, S: Source<'s>>(
     let shape = plan.shape();
     let len = len_of(shape, level, number);
     let mut states = zeros(alloc, len as usize * width_of(plan))?;
-    let mut cells = [0; 7];
+    let mut cells = [0; MAX_WINDOW_LEN];
     let window = &mut cells[..2 * level as usize + 1];
     shape.window(level, BLOCK_WINDOWS * number, window);
     fill(plan, source, level, number, window, &mut states)?;

@@ -5,10 +5,12 @@ ghost use Rattle.win_index.specs.Windows.{IsWindow};
 
 use crate::laws::lines_are_rows;
 use lang_check::Plan;
+use node_lang::MAX_REGISTERS;
 use round_eval::{round_of_row, row_at, sent_to_left, sent_to_right, start_of_row, width_of};
+use win_index::MAX_WINDOW_LEN;
 
-// The most cells of a line: a window has at most 7 identifiers, and a node at most 8 registers.
-const LINE_CELLS: usize = 56;
+// The most cells of a line: a row for each identifier of a window.
+const LINE_CELLS: usize = MAX_WINDOW_LEN * MAX_REGISTERS as usize;
 
 /// Writes what a node holds after `r` rounds into `out`, which has a cell for each register, where the
 /// `2r+1` identifiers around it are the window: one window of any level up to that of the plan.

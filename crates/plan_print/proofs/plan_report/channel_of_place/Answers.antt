@@ -6,6 +6,6 @@ use Rattle.plan_print.proofs.plan_report.channel_of_place.Goals as goal
 pub unreachable-requires : goal.unreachable-requires
 unreachable-requires c =
     let ring = c.args.ring.now in
-    has_channel c.rings_have_windows.ensures c.windows_have_numbers.ensures c.args.table.now ring.shape.ids ring.shape.rounds c.rounds.result c.args.place
-    ring.ids.items c.window_at.new.out ring.valid c.requires.ids c.requires.rounds (c.rounds.ensures ∙ c.shape-shape.ensures.rounds) c.window_at.ensures
+    has_channel c.rings_have_windows.ensures c.windows_have_numbers.ensures c.args.table.now ring.ids ring.rounds c.rounds.result c.args.place
+    ring.places c.window_at.new.out c.window_at.ensures.valid c.requires.ids c.requires.rounds (c.rounds.ensures ∙ c.shape-shape.ensures.rounds) c.window_at.ensures.window
     (sym c.channel_at.ensures.value ∙ c.in-None.is)
