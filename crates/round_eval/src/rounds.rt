@@ -37,7 +37,7 @@ fn zeros(alloc: Global, len: usize) -> Result<Vec<u32>, OutOfMemory>
 // Writes the channels of the nodes of a ring after all rounds. The others have a row for each node.
 fn run_rounds(plan: &Plan, ids: &[u32], states: &mut [u32], next: &mut [u32], channels: &mut [u32])
     requires below { All (λ id. id < plan.now.ids) ids.now }
-    requires some { 1 ≤ length ids.now }
+    requires some { 2 ≤ length ids.now }
     requires few { length ids.now ≤ MAX_IDS }
     requires states { length states.old ≡ length ids.now * length plan.now.program.start }
     requires next { length next.old ≡ length ids.now * length plan.now.program.start }
