@@ -14,9 +14,6 @@ pub between_same :
 between_same p k {a} {b} {c} {x} {y} {z} left own right =
     ap (λ u. between p k u b c) left ∙ ap (λ u. between p k x u c) own ∙ ap (λ u. between p k x y u) right
 
-length-part : (w : List ℕ) (len d : ℕ) → d + len ≤ length w → length (take len (drop d w)) ≡ len
-length-part w len d fits = length-take-le len (drop d w) (omega (arith, length-drop d w))
-
 -- a line of k rounds is 2k shorter
 pub length-line : (p : ProgramTree) (w : List ℕ) (k : ℕ) → length (line p w k) ≡ length w - 2 * k
 length-line p w zero = length-map w (start p) ∙ (omega arith)
@@ -36,47 +33,45 @@ line_next p w k j lt =
     let inside : j < length u - 2 = omega (arith, length-line p w k) in
     get_or-map-range_with_len (λ i. between p k (item u i) (item u (i + 1)) (item u (i + 2))) 0 (length u - 2) j j [] inside (omega arith)
 
+-- states that begin as the identifiers of w start, and go on as a line does, are the items of the line
+pub line_is :
+    (p : ProgramTree) (w : List ℕ) (f : ℕ → ℕ → List ℕ) → ((j : ℕ) → j < length w → start p (get_or w j 0) ≡ f 0 j)
+    → ((k j : ℕ) → j + 2 * k + 2 < length w → f (suc k) j ≡ between p k (f k j) (f k (j + 1)) (f k (j + 2)))
+    → (k j : ℕ) → j + 2 * k < length w → item (line p w k) j ≡ f k j
+line_is p w f starts goes zero j lt = line_start p w j (omega arith) ∙ starts j (omega arith)
+line_is p w f starts goes (suc k) j lt =
+    let here = line_is p w f starts goes k in
+    line_next p w k j (omega arith)
+    ∙ between_same p k (here j (omega arith)) (here (j + 1) (omega arith)) (here (j + 2) (omega arith))
+    ∙ sym (goes k j (omega arith))
+
 -- the line of the first, the middle or the last identifiers is a part of the whole line
 line_of_part :
     (p : ProgramTree) (w : List ℕ) (len d k j : ℕ) → d + len ≤ length w → j + 2 * k < len
     → item (line p (take len (drop d w)) k) j ≡ item (line p w k) (d + j)
-line_of_part p w len d zero j fits lt =
+line_of_part p w len d k j fits lt =
     let part : List ℕ = take len (drop d w) in
-    let size : length part ≡ len = length-part w len d fits in
+    let size : length part ≡ len = length-take-le len (drop d w) (omega (arith, length-drop d w)) in
+    line_is p part (λ i j. item (line p w i) (d + j))
+    (λ j small.
     let same : get_or part j 0 ≡ get_or w (d + j) 0 = get_or-take len (drop d w) j 0 (omega arith) ∙ get_or-drop d w j 0 in
-    line_start p part j (omega arith) ∙ ap (start p) same ∙ sym (line_start p w (d + j) (omega arith))
-line_of_part p w len d (suc k) j fits lt =
-    let part : List ℕ = take len (drop d w) in
-    let size : length part ≡ len = length-part w len d fits in
+    ap (start p) same ∙ sym (line_start p w (d + j) (omega arith)))
+    (λ i j small.
     let own : d + (j + 1) ≡ d + j + 1 = omega arith in
     let right : d + (j + 2) ≡ d + j + 2 = omega arith in
-    let left_is = line_of_part p w len d k j fits (omega arith) in
-    let own_is = rw own at (line_of_part p w len d k (j + 1) fits (omega arith)) in
-    let right_is = rw right at (line_of_part p w len d k (j + 2) fits (omega arith)) in
-    let u : List (List ℕ) = line p w k in
-    line_next p part k j (omega arith)
-    ∙ between_same p k left_is own_is right_is
-    ∙ sym (line_next p w k (d + j) (omega arith))
-
--- the state of a window one level higher, by those of its first, its middle and its last identifiers
-middle_state-suc :
-    (p : ProgramTree) (r : ℕ) (w : List ℕ) → length w ≡ 2 * r + 3
-    → middle_state p (suc r) w
-    ≡ between p r (middle_state p r (part w r 0)) (middle_state p r (part w r 1)) (middle_state p r (part w r 2))
-unfolding middle_state
-middle_state-suc p r w size =
-    let left = line_of_part p w (2 * r + 1) 0 r 0 (omega arith) (omega arith) in
-    let own = line_of_part p w (2 * r + 1) 1 r 0 (omega arith) (omega arith) in
-    let right = line_of_part p w (2 * r + 1) 2 r 0 (omega arith) (omega arith) in
-    line_next p w r 0 (omega arith) ∙ sym (between_same p r left own right)
+    rw (own, right) (line_next p w i (d + j) (omega arith)))
+    k j (omega arith)
 
 -- what comes between the states of the three parts is the state of the window
 pub middle_from_parts :
     (p : ProgramTree) (r : ℕ) (w left own right made : List ℕ) → length w ≡ 2 * r + 3
     → left ≡ middle_state p r (part w r 0) → own ≡ middle_state p r (part w r 1) → right ≡ middle_state p r (part w r 2)
     → made ≡ between p r left own right → made ≡ middle_state p (r + 1) w
+unfolding middle_state
 middle_from_parts p r w left own right made size left_is own_is right_is made_is =
-    rw (add-one r) (made_is ∙ between_same p r left_is own_is right_is ∙ sym (middle_state-suc p r w size))
+    let of_part = λ (d : ℕ) (le : d ≤ 2). line_of_part p w (2 * r + 1) d r 0 (omega arith) (omega arith) in
+    let three = between_same p r (left_is ∙ of_part 0 (omega arith)) (own_is ∙ of_part 1 (omega arith)) (right_is ∙ of_part 2 (omega arith)) in
+    rw (add-one r) (made_is ∙ three ∙ sym (line_next p w r 0 (omega arith)))
 
 -- level 0
 pub middle_state-zero : (p : ProgramTree) (x : ℕ) (w : List ℕ) → 0 < length w → get_or w 0 0 ≡ x → middle_state p 0 w ≡ start p x

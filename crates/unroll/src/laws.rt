@@ -19,6 +19,7 @@ pub fn locality()
 
 /// Bounds hold of windows too: the state that is left of a window after its rounds is within the bounds of
 /// the registers after as many rounds.
+#[tactic(auto, using(crate::proofs::Within::middle_within))]
 pub fn windows_are_within()
     ensures { law.WindowsAreWithin }
 {

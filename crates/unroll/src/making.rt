@@ -47,9 +47,10 @@ pub fn make_block<'a, 's, S: Source<'s>>(
     blocks_are_few();
     let shape = plan.shape();
     let len = len_of(shape, level, number);
-    let mut states = zeros(alloc, len as usize * width_of(plan))?;
-    let mut cells = [0; MAX_WINDOW_LEN];
-    let window = &mut cells[..2 * level as usize + 1];
+    let cells = len as usize * width_of(plan);
+    let mut states = vec![in alloc; 0; cells].map_err(|_| MakeFault::OutOfMemory)?;
+    let mut ids = [0; MAX_WINDOW_LEN];
+    let window = &mut ids[..2 * level as usize + 1];
     shape.window(level, BLOCK_WINDOWS * number, window);
     fill(plan, source, level, number, window, &mut states)?;
     Ok(Block {
@@ -60,14 +61,6 @@ pub fn make_block<'a, 's, S: Source<'s>>(
         len,
         states,
     })
-}
-
-// A list of zeros.
-fn zeros(alloc: Global, len: usize) -> Result<Vec<u32>, MakeFault>
-    ensures ok { IfOk result (λ cells. length cells.items ≡ len) }
-    ensures err { IfErr result (λ fault. fault ≡ MakeFault.OutOfMemory) }
-{
-    vec![in alloc; 0; len].map_err(|_| MakeFault::OutOfMemory)
 }
 
 // How many windows a block holds.
