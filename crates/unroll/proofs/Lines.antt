@@ -64,14 +64,14 @@ line_of_part p w len d k j fits lt =
 
 -- what comes between the states of the three parts is the state of the window
 pub middle_from_parts :
-    (p : ProgramTree) (r : ℕ) (w left own right made : List ℕ) → length w ≡ 2 * r + 3
+    (p : ProgramTree) (r high : ℕ) (w left own right made : List ℕ) → high ≡ r + 1 → length w ≡ 2 * r + 3
     → left ≡ middle_state p r (part w r 0) → own ≡ middle_state p r (part w r 1) → right ≡ middle_state p r (part w r 2)
-    → made ≡ between p r left own right → made ≡ middle_state p (r + 1) w
+    → made ≡ between p r left own right → made ≡ middle_state p high w
 unfolding middle_state
-middle_from_parts p r w left own right made size left_is own_is right_is made_is =
+middle_from_parts p r high w left own right made above size left_is own_is right_is made_is =
     let of_part = λ (d : ℕ) (le : d ≤ 2). line_of_part p w (2 * r + 1) d r 0 (omega arith) (omega arith) in
     let three = between_same p r (left_is ∙ of_part 0 (omega arith)) (own_is ∙ of_part 1 (omega arith)) (right_is ∙ of_part 2 (omega arith)) in
-    rw (add-one r) (made_is ∙ three ∙ sym (line_next p w r 0 (omega arith)))
+    rw (above, add-one r) (made_is ∙ three ∙ sym (line_next p w r 0 (omega arith)))
 
 -- level 0
 pub middle_state-zero : (p : ProgramTree) (x : ℕ) (w : List ℕ) → 0 < length w → get_or w 0 0 ≡ x → middle_state p 0 w ≡ start p x

@@ -112,7 +112,7 @@ fn fill<'s, S: Source<'s>>(
     Ok(())
 }
 
-// Writes the state of a window of a level into its cells.
+// Writes the state of a window of a level into its cells: above level 0 from the states of its three parts.
 fn write_state<'s, S: Source<'s>>(
     plan: &Plan,
     source: &mut S,
@@ -134,31 +134,9 @@ fn write_state<'s, S: Source<'s>>(
 {
     if level == 0 {
         start_state(plan, window[0], cells);
-        Ok(())
-    } else {
-        write_next(plan, source, level - 1, window, cells)
+        return Ok(());
     }
-}
-
-// The same for a window one level above `below`, from the states of its three parts.
-fn write_next<'s, S: Source<'s>>(
-    plan: &Plan,
-    source: &mut S,
-    below: u32,
-    window: &[u32],
-    cells: &mut [u32],
-) -> Result<(), MakeFault>
-    requires plan { S.plan source.old ≡ plan.now }
-    requires below { below < length plan.now.program.steps }
-    requires window { IsWindow (2 * below + 3) plan.now.ids window.now }
-    requires cells { length cells.old ≡ length plan.now.program.start }
-    ensures same_plan { S.plan source.new ≡ S.plan source.old }
-    ensures same_fixed { S.fixed source.new ≡ S.fixed source.old }
-    ensures grows { Grows (S.entries source.old) (S.entries source.new) }
-    ensures state { OnOk result (cells.new ≡ middle_state plan.now.program (below + 1) window.now) }
-    ensures known { OnOk result (KnowsParts (S.entries source.new) plan.now.ids below window.now) }
-    ensures fault { IfErr result (IsMissingPart (S.entries source.new) plan.now.ids (below + 1) window.now) }
-{
+    let below = level - 1;
     let left = state_below(plan, source, below, window, 0)?;
     let own = state_below(plan, source, below, window, 1)?;
     let right = state_below(plan, source, below, window, 2)?;
@@ -187,7 +165,7 @@ fn state_below<'s, S: Source<'s>>(
     ensures cells { IfOk result (λ s. length s.now ≡ length plan.now.program.start) }
     ensures known { OnOk result ((n : ℕ) → number_of (2 * below + 1) plan.now.ids (part window.now below offset) ≡ Some n
         → IsSome (S.entries source.new below (n / 256))) }
-    ensures fault { IfErr result (IsMissingPart (S.entries source.new) plan.now.ids (below + 1) window.now) }
+    ensures fault { (level : ℕ) → level ≡ below + 1 → IfErr result (IsMissingPart (S.entries source.new) plan.now.ids level window.now) }
 {
     let number = plan
         .shape()
