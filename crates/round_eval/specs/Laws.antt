@@ -1,24 +1,18 @@
 -- The laws of this crate.
-use Rattle.std.specs.Prelude.{◌≡◌, ℕ, ◌+◌, ◌-◌, ◌*◌, ◌<◌, ◌≤◌, List, [], ◌∷◌, ◌++◌, take, length}
+use Rattle.std.specs.Prelude.{◌≡◌, ℕ, ◌+◌, ◌-◌, ◌*◌, ◌≤◌, List, [], ◌∷◌, ◌++◌, take, length}
 use Rattle.node_lang.specs.Term.{ProgramTree}
 use Rattle.node_lang.specs.Node.{to_left, to_right}
 use Rattle.node_lang.specs.GlobalRounds.{left_of, right_of, state}
 use Rattle.round_eval.specs.Rows.{row_after, rows, stretch}
 
--- a stretch of places of a ring does its part of a global round as a row between what the two places beside it send
+-- a stretch of places of a ring does its part of a global round as a row between what the two places beside it send.
+-- All places are such a stretch, closed on itself: its last place stands to the left of place 0
 abbrev pub StretchesAreRows : Type 0
 StretchesAreRows =
     (p : ProgramTree) (x : List ℕ) (r first count : ℕ) → first + count ≤ length x
     → stretch p x (r + 1) first count
     ≡ row_after p r (to_right p r (state p x r (left_of x first))) (stretch p x r first count)
     (to_left p r (state p x r (right_of x (first + count - 1))))
-
--- a ring's global round is that of the row of its places, closed by what the last one and the first one send
-abbrev pub RingsAreClosedRows : Type 0
-RingsAreClosedRows =
-    (p : ProgramTree) (x : List ℕ) (r : ℕ) → 0 < length x
-    → stretch p x (r + 1) 0 (length x)
-    ≡ row_after p r (to_right p r (state p x r (length x - 1))) (stretch p x r 0 (length x)) (to_left p r (state p x r 0))
 
 -- cells that are written behind n rows are one row more
 abbrev pub RowsAreWritten : Type 0

@@ -3,7 +3,6 @@ ghost use Rattle.node_lang.specs.GlobalRounds.{channels_of};
 ghost use Rattle.node_lang.specs.Node as rounds;
 ghost use Rattle.round_eval.specs.Rows.{rows};
 
-use crate::laws::rings_are_closed_rows;
 use crate::node::{channel, sent_to_left, sent_to_right};
 use crate::row::{round_of_row, row_at, start_of_row, width_of};
 use lang_check::Plan;
@@ -44,7 +43,6 @@ fn run_rounds(plan: &Plan, ids: &[u32], states: &mut [u32], next: &mut [u32], ch
     requires channels { length channels.old ≡ length ids.now }
     ensures { channels.new ≡ channels_of plan.now.program ids.now }
 {
-    rings_are_closed_rows();
     let width = width_of(plan);
     let nodes = ids.len();
     start_of_row(plan, ids, states);

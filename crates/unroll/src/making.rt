@@ -1,4 +1,4 @@
-ghost use Rattle.std.specs.Prelude.{◌≡◌, ℕ, ◌+◌, ◌*◌, ◌/◌, ◌<◌, ◌≤◌, length, slice_get, Some, IsSome, IfOk, IfErr, OnOk, IsErrOf};
+ghost use Rattle.std.specs.Prelude.{◌≡◌, ℕ, ◌+◌, ◌*◌, ◌/◌, ◌^◌, ◌<◌, ◌≤◌, length, slice_get, Some, IsSome, IfOk, IfErr, OnOk, IsErrOf};
 ghost use Rattle.round_eval.specs.Rows.{rows};
 ghost use Rattle.unroll.specs.Below.{IsBelow, part};
 ghost use Rattle.unroll.specs.BlockStates.{block_len};
@@ -16,7 +16,7 @@ use crate::source::Source;
 use lang_check::Plan;
 use round_eval::{rows_are_written, sent_to_left, sent_to_right, start_state, step, width_of};
 use std::alloc::Global;
-use win_index::{BLOCK_WINDOWS, MAX_WINDOW_LEN, Shape, blocks_are_few};
+use win_index::{BLOCK_WINDOWS, MAX_WINDOW_LEN, Shape};
 
 /// The block of a plan with this level, number and maker. At level 0 the states are those before the first
 /// round, and the source is not asked. Above it each state comes from three of the blocks one level below,
@@ -44,7 +44,6 @@ pub fn make_block<'a, 's, S: Source<'s>>(
     ensures fault { IfErr result (IsMakeFault (S.entries source.new) plan.now.ids level number) }
     ensures no_memory { IsErrOf result MakeFault.OutOfMemory → source.new ≡ source.old }
 {
-    blocks_are_few();
     let shape = plan.shape();
     let len = len_of(shape, level, number);
     let cells = len as usize * width_of(plan);
@@ -68,6 +67,7 @@ fn len_of(shape: Shape, level: u32, number: u32) -> u32
     requires level { level ≤ shape.rounds }
     requires number { number < block_count shape.ids level }
     ensures value { result ≡ block_len shape.ids level number }
+    ensures fits { BLOCK_WINDOWS * number < 2 ^ 32 }
     ensures few { result ≤ 256 }
 {
     (shape.count(level) - BLOCK_WINDOWS * number).min(BLOCK_WINDOWS)

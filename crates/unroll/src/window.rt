@@ -10,7 +10,7 @@ use round_eval::{round_of_row, row_at, sent_to_left, sent_to_right, start_of_row
 use win_index::MAX_WINDOW_LEN;
 
 // The most cells of a line: a row for each identifier of a window.
-const LINE_CELLS: usize = MAX_WINDOW_LEN * MAX_REGISTERS as usize;
+const CELLS: usize = MAX_WINDOW_LEN * MAX_REGISTERS as usize;
 
 /// Writes what a node holds after `r` rounds into `out`, which has a cell for each register, where the
 /// `2r+1` identifiers around it are the window: one window of any level up to that of the plan.
@@ -22,8 +22,8 @@ pub fn window_state(plan: &Plan, window: &[u32], out: &mut [u32])
 {
     let width = width_of(plan);
     let level = (window.len() / 2) as u32;
-    let mut line = [0; LINE_CELLS];
-    let mut next = [0; LINE_CELLS];
+    let mut line = [0; CELLS];
+    let mut next = [0; CELLS];
     start_of_row(plan, window, &mut line);
     for round in 0..level {
         shrink(
@@ -39,13 +39,7 @@ pub fn window_state(plan: &Plan, window: &[u32], out: &mut [u32])
 }
 
 // Writes what the inner nodes of a line hold after a round, by what all of them hold before it.
-fn shrink(
-    plan: &Plan,
-    round: u32,
-    inner: usize,
-    line: &[u32; LINE_CELLS],
-    next: &mut [u32; LINE_CELLS],
-)
+fn shrink(plan: &Plan, round: u32, inner: usize, line: &[u32; CELLS], next: &mut [u32; CELLS])
     requires round { round < length plan.now.program.steps }
     requires some { 1 ≤ inner }
     requires few { inner ≤ 5 }

@@ -18,7 +18,7 @@ loop-round-preserved c =
     let first = c.sent_to_left-from_first.ensures ∙ ap (to_left p r) (sym (c.row_at-in-loop-round.ensures.value (length x) (omega arith))) in
     let made = rw (← c.width_of-width.ensures.value) at c.round_of_row.ensures in
     rw c.copy_from_slice.ensures.after
-    (round_more p x r _ _ (rows w (length x) c.loop-round.states) _ (omega arith) c.rings_are_closed_rows.ensures c.loop-round.invariant last first made)
+    (round_more p x r _ _ (rows w (length x) c.loop-round.states) _ (omega arith) c.loop-round.invariant last first made)
 
 pub returns : goal.returns
 returns c =
