@@ -1,19 +1,26 @@
--- States of many nodes as rows of one list.
-use Rattle.std.specs.Prelude.{◌≡◌, ℕ, ◌+◌, ◌-◌, ◌*◌, ◌%◌, ◌<◌, List, length, slice_range}
+-- Rows of nodes: each node stands to the left of the one after it. And rows of cells, which hold the registers of such nodes.
+use Rattle.std.specs.Prelude.{ℕ, zero, suc, List, [], ◌∷◌, map, take, drop}
+use Rattle.std.specs.List.{range_with_len}
 use Rattle.node_lang.specs.Term.{ProgramTree}
 use Rattle.node_lang.specs.Node.{to_left, to_right, next}
+use Rattle.node_lang.specs.GlobalRounds.{state}
 
--- row i of rows of this width, one after another
-abbrev pub row : List ℕ → ℕ → ℕ → List ℕ
-row cells width i = slice_range cells (i * width) (i * width + width)
+-- what a row sends left in round r, by the registers of its nodes: what its first node sends, or right where it has none
+abbrev pub sent_left : ProgramTree → ℕ → List (List ℕ) → ℕ → ℕ
+sent_left p r [] right = right
+sent_left p r (own ∷ row) right = to_left p r own
 
--- n rows of this width, of which row i is f i
-pub record HoldsRows (cells : List ℕ) (width n : ℕ) (f : ℕ → List ℕ) : Type 0 where
-  pub size : length cells ≡ n * width
-  pub rows : (i : ℕ) → i < n → row cells width i ≡ f i
+-- the registers of a row after round r, by those before it: left is sent to its first node from the left, and right to
+-- its last one from the right
+abbrev pub row_after : ProgramTree → ℕ → ℕ → List (List ℕ) → ℕ → List (List ℕ)
+row_after p r left [] right = []
+row_after p r left (own ∷ row) right = next p r own left (sent_left p r row right) ∷ row_after p r (to_right p r own) row right
 
--- what place i of a circle of n places holds after round r, by the rows of all places before it
-abbrev pub next_row : ProgramTree → ℕ → List ℕ → ℕ → ℕ → List ℕ
-next_row p r cells n i =
-    let width = length p.start in
-    next p r (row cells width i) (to_right p r (row cells width ((i + n - 1) % n))) (to_left p r (row cells width ((i + 1) % n)))
+-- the first n rows of a list of cells, where each row has this width
+abbrev pub rows : ℕ → ℕ → List ℕ → List (List ℕ)
+rows width zero cells = []
+rows width (suc n) cells = take width cells ∷ rows width n (drop width cells)
+
+-- the registers of as many places of the ring x as count, from the place first on, after r rounds
+abbrev pub stretch : ProgramTree → List ℕ → ℕ → ℕ → ℕ → List (List ℕ)
+stretch p x r first count = map (state p x r) (range_with_len first count)

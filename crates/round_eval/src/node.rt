@@ -67,9 +67,9 @@ pub fn channel(plan: &Plan, own: &[u32]) -> u32
     value_of(program.finish(), reading_messages(own, 0, 0))
 }
 
-// What a node with these registers sends to its left in a round.
+/// What a node with these registers sends to its left in a round. Rounds count from 0.
 #[tactic(auto, unfolding(node_lang::specs::Node::to_left))]
-pub(crate) fn sent_to_left(plan: &Plan, round: u32, own: &[u32]) -> u32
+pub fn sent_to_left(plan: &Plan, round: u32, own: &[u32]) -> u32
     requires { round < length plan.now.program.steps }
     ensures { result ≡ rounds.to_left plan.now.program round own.now }
 {
@@ -80,9 +80,9 @@ pub(crate) fn sent_to_left(plan: &Plan, round: u32, own: &[u32]) -> u32
     )
 }
 
-// What it sends to its right.
+/// What a node with these registers sends to its right in a round.
 #[tactic(auto, unfolding(node_lang::specs::Node::to_right))]
-pub(crate) fn sent_to_right(plan: &Plan, round: u32, own: &[u32]) -> u32
+pub fn sent_to_right(plan: &Plan, round: u32, own: &[u32]) -> u32
     requires { round < length plan.now.program.steps }
     ensures { result ≡ rounds.to_right plan.now.program round own.now }
 {

@@ -4,10 +4,11 @@ use Rattle.std.proofs.Math.Nat.{mod-add-mod, add-mod_right, mod-eq_of_lt}
 use Rattle.node_lang.specs.Term.{ProgramTree}
 use Rattle.node_lang.specs.Node.{start}
 use Rattle.node_lang.specs.GlobalRounds.{left_of, right_of, state}
-use Rattle.win_index.specs.Ring.{IsRing}
-use Rattle.win_index.specs.Arcs.{arc, window_around}
+use Rattle.win_index.specs.Arcs.{arc}
+use Rattle.win_index.specs.Laws.{LengthOfArcs, ItemsOfArcs}
 use Rattle.unroll.specs.Line.{between, item, line, middle_state}
-use Rattle.unroll.proofs.Lines.{between_same, line_start, line_next}
+use Rattle.unroll.specs.Laws.{Locality}
+use Rattle.unroll.proofs.Lines.{line_is}
 
 -- the neighbours of place a + 1, all taken modulo the ring's length
 left_place : (x : List ℕ) (a : ℕ) → 0 < length x → left_of x ((a + 1) % length x) ≡ a % length x
@@ -29,37 +30,29 @@ state_next :
     ≡ between p k (state p x k (a % length x)) (state p x k ((a + 1) % length x)) (state p x k ((a + 2) % length x))
 state_next p x k a some = rw (left_place x a some, right_place x a)
 
-module _ (length-arc : (x : List ℕ) (start count : ℕ) → length (arc x start count) ≡ count)
-    (get_or-arc : (x : List ℕ) (start count k d : ℕ) → k < count → get_or (arc x start count) k d ≡ get_or x ((start + k) % length x) 0) where
+module _ (length-arc : LengthOfArcs) (get_or-arc : ItemsOfArcs) where
   -- after k rounds, item j of the line of an arc is the state of place start + k + j
   line_of_arc :
       (p : ProgramTree) (x : List ℕ) (first count k j : ℕ) → 0 < length x → j + 2 * k < count
       → item (line p (arc x first count) k) j ≡ state p x k ((first + k + j) % length x)
-  line_of_arc p x first count zero j some lt =
-      let inside : j < length (arc x first count) = omega (arith, length-arc x first count) in
+  line_of_arc p x first count k j some lt =
+      let size = length-arc x first count in
+      line_is p (arc x first count) (λ i j. state p x i ((first + i + j) % length x))
+      (λ j small.
       let place : first + zero + j ≡ first + j = omega arith in
-      line_start p (arc x first count) j inside
-      ∙ ap (start p) (get_or-arc x first count j 0 (omega arith))
-      ∙ ap (λ i. start p (get_or x (i % length x) 0)) (sym place)
-  line_of_arc p x first count (suc k) j some lt =
-      let a : ℕ = first + k + j in
-      let own : first + k + (j + 1) ≡ a + 1 = omega arith in
-      let right : first + k + (j + 2) ≡ a + 2 = omega arith in
-      let place : first + suc k + j ≡ a + 1 = omega arith in
-      let left_is = line_of_arc p x first count k j some (omega arith) in
-      let own_is = rw own at (line_of_arc p x first count k (j + 1) some (omega arith)) in
-      let right_is = rw right at (line_of_arc p x first count k (j + 2) some (omega arith)) in
-      line_next p (arc x first count) k j (omega (arith, length-arc x first count))
-      ∙ between_same p k left_is own_is right_is
-      ∙ sym (state_next p x k a some)
-      ∙ ap (λ b. state p x (suc k) (b % length x)) (sym place)
+      rw place (ap (start p) (get_or-arc x first count j 0 (omega (arith, size)))))
+      (λ i j small.
+      let a : ℕ = first + i + j in
+      let own : first + i + (j + 1) ≡ a + 1 = omega arith in
+      let right : first + i + (j + 2) ≡ a + 2 = omega arith in
+      let place : first + suc i + j ≡ a + 1 = omega arith in
+      rw (own, right, place) (state_next p x i a some))
+      k j (omega (arith, size))
 
   mod_inside : (i n : ℕ) → i < n → (i + n) % n ≡ i
   mod_inside i n lt = add-mod_right i n ∙ mod-eq_of_lt lt
 
-  pub around :
-      (p : ProgramTree) (m t r i : ℕ) (x : List ℕ) → IsRing m t x → r ≤ t → i < length x
-      → state p x r i ≡ middle_state p r (window_around x r i)
+  pub around : Locality
   unfolding middle_state
   around p m t r i x ring le lt =
       let n : ℕ = length x in

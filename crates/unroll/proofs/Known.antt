@@ -65,7 +65,7 @@ fault_of_block entries m r b place window (Missing low c) lt own missing = (
   },
   missing.2,
 )
-fault_of_block entries m r b place window OutOfMemory lt own missing = tt
+fault_of_block entries m r b place window OutOfMemory lt own missing = absurd missing
 
 -- the parts of one window more are known
 pub knows_more :

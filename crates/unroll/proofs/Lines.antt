@@ -1,19 +1,18 @@
 -- The items of a shrinking line, and the line of a part of a window.
-use Rattle.std.proofs.Common.{◌≡◌, ℕ, zero, suc, ◌+◌, ◌-◌, ◌*◌, ◌<◌, ◌≤◌, List, [], ◌∷◌, length, get_or, take, drop, refl, sym, ap, ◌∙◌, arith, add-one, length-drop}
+use Rattle.std.proofs.Common.{◌≡◌, ℕ, zero, suc, ◌+◌, ◌-◌, ◌*◌, ◌<◌, ◌≤◌, List, [], ◌∷◌, ◌++◌, length, length-append, get_or, take, drop, refl, sym, ap, ◌∙◌, arith, add-one, length-drop}
 use Rattle.std.proofs.lemmas.List.{get_or-map, length-map, get_or-take, get_or-drop, length-take-le}
-use Rattle.std.proofs.lemmas.List.FromFn.{length-map-range_with_len, get_or-map-range_with_len}
+use Rattle.std.proofs.lemmas.List.FromFn.{fill_by_all, length-map-range_with_len, get_or-map-range_with_len}
 use Rattle.node_lang.specs.Term.{ProgramTree}
-use Rattle.node_lang.specs.Node.{start}
+use Rattle.node_lang.specs.Node.{start, to_left, to_right}
+use Rattle.round_eval.specs.Rows.{row_after}
 use Rattle.unroll.specs.Line.{between, item, line, middle_state}
+use Rattle.unroll.specs.Laws.{LinesAreRows, OneStateIsLeft}
 use Rattle.unroll.specs.Below.{part}
 
 pub between_same :
     (p : ProgramTree) (k : ℕ) {a b c x y z : List ℕ} → a ≡ x → b ≡ y → c ≡ z → between p k a b c ≡ between p k x y z
 between_same p k {a} {b} {c} {x} {y} {z} left own right =
     ap (λ u. between p k u b c) left ∙ ap (λ u. between p k x u c) own ∙ ap (λ u. between p k x y u) right
-
-length-part : (w : List ℕ) (len d : ℕ) → d + len ≤ length w → length (take len (drop d w)) ≡ len
-length-part w len d fits = length-take-le len (drop d w) (omega (arith, length-drop d w))
 
 -- a line of k rounds is 2k shorter
 pub length-line : (p : ProgramTree) (w : List ℕ) (k : ℕ) → length (line p w k) ≡ length w - 2 * k
@@ -34,52 +33,77 @@ line_next p w k j lt =
     let inside : j < length u - 2 = omega (arith, length-line p w k) in
     get_or-map-range_with_len (λ i. between p k (item u i) (item u (i + 1)) (item u (i + 2))) 0 (length u - 2) j j [] inside (omega arith)
 
+-- states that begin as the identifiers of w start, and go on as a line does, are the items of the line
+pub line_is :
+    (p : ProgramTree) (w : List ℕ) (f : ℕ → ℕ → List ℕ) → ((j : ℕ) → j < length w → start p (get_or w j 0) ≡ f 0 j)
+    → ((k j : ℕ) → j + 2 * k + 2 < length w → f (suc k) j ≡ between p k (f k j) (f k (j + 1)) (f k (j + 2)))
+    → (k j : ℕ) → j + 2 * k < length w → item (line p w k) j ≡ f k j
+line_is p w f starts goes zero j lt = line_start p w j (omega arith) ∙ starts j (omega arith)
+line_is p w f starts goes (suc k) j lt =
+    let here = line_is p w f starts goes k in
+    line_next p w k j (omega arith)
+    ∙ between_same p k (here j (omega arith)) (here (j + 1) (omega arith)) (here (j + 2) (omega arith))
+    ∙ sym (goes k j (omega arith))
+
 -- the line of the first, the middle or the last identifiers is a part of the whole line
 line_of_part :
     (p : ProgramTree) (w : List ℕ) (len d k j : ℕ) → d + len ≤ length w → j + 2 * k < len
     → item (line p (take len (drop d w)) k) j ≡ item (line p w k) (d + j)
-line_of_part p w len d zero j fits lt =
+line_of_part p w len d k j fits lt =
     let part : List ℕ = take len (drop d w) in
-    let size : length part ≡ len = length-part w len d fits in
+    let size : length part ≡ len = length-take-le len (drop d w) (omega (arith, length-drop d w)) in
+    line_is p part (λ i j. item (line p w i) (d + j))
+    (λ j small.
     let same : get_or part j 0 ≡ get_or w (d + j) 0 = get_or-take len (drop d w) j 0 (omega arith) ∙ get_or-drop d w j 0 in
-    line_start p part j (omega arith) ∙ ap (start p) same ∙ sym (line_start p w (d + j) (omega arith))
-line_of_part p w len d (suc k) j fits lt =
-    let part : List ℕ = take len (drop d w) in
-    let size : length part ≡ len = length-part w len d fits in
+    ap (start p) same ∙ sym (line_start p w (d + j) (omega arith)))
+    (λ i j small.
     let own : d + (j + 1) ≡ d + j + 1 = omega arith in
     let right : d + (j + 2) ≡ d + j + 2 = omega arith in
-    let left_is = line_of_part p w len d k j fits (omega arith) in
-    let own_is = rw own at (line_of_part p w len d k (j + 1) fits (omega arith)) in
-    let right_is = rw right at (line_of_part p w len d k (j + 2) fits (omega arith)) in
-    let u : List (List ℕ) = line p w k in
-    line_next p part k j (omega arith)
-    ∙ between_same p k left_is own_is right_is
-    ∙ sym (line_next p w k (d + j) (omega arith))
-
--- the state of a window one level higher, by those of its first, its middle and its last identifiers
-middle_state-suc :
-    (p : ProgramTree) (r : ℕ) (w : List ℕ) → length w ≡ 2 * r + 3
-    → middle_state p (suc r) w
-    ≡ between p r (middle_state p r (part w r 0)) (middle_state p r (part w r 1)) (middle_state p r (part w r 2))
-unfolding middle_state
-middle_state-suc p r w size =
-    let left = line_of_part p w (2 * r + 1) 0 r 0 (omega arith) (omega arith) in
-    let own = line_of_part p w (2 * r + 1) 1 r 0 (omega arith) (omega arith) in
-    let right = line_of_part p w (2 * r + 1) 2 r 0 (omega arith) (omega arith) in
-    line_next p w r 0 (omega arith) ∙ sym (between_same p r left own right)
+    rw (own, right) (line_next p w i (d + j) (omega arith)))
+    k j (omega arith)
 
 -- what comes between the states of the three parts is the state of the window
 pub middle_from_parts :
-    (p : ProgramTree) (r : ℕ) (w left own right made : List ℕ) → length w ≡ 2 * r + 3
+    (p : ProgramTree) (r high : ℕ) (w left own right made : List ℕ) → high ≡ r + 1 → length w ≡ 2 * r + 3
     → left ≡ middle_state p r (part w r 0) → own ≡ middle_state p r (part w r 1) → right ≡ middle_state p r (part w r 2)
-    → made ≡ between p r left own right → made ≡ middle_state p (r + 1) w
-middle_from_parts p r w left own right made size left_is own_is right_is made_is =
-    rw (add-one r) (made_is ∙ between_same p r left_is own_is right_is ∙ sym (middle_state-suc p r w size))
+    → made ≡ between p r left own right → made ≡ middle_state p high w
+unfolding middle_state
+middle_from_parts p r high w left own right made above size left_is own_is right_is made_is =
+    let of_part = λ (d : ℕ) (le : d ≤ 2). line_of_part p w (2 * r + 1) d r 0 (omega arith) (omega arith) in
+    let three = between_same p r (left_is ∙ of_part 0 (omega arith)) (own_is ∙ of_part 1 (omega arith)) (right_is ∙ of_part 2 (omega arith)) in
+    rw (above, add-one r) (made_is ∙ three ∙ sym (line_next p w r 0 (omega arith)))
 
 -- level 0
 pub middle_state-zero : (p : ProgramTree) (x : ℕ) (w : List ℕ) → 0 < length w → get_or w 0 0 ≡ x → middle_state p 0 w ≡ start p x
 unfolding middle_state
 middle_state-zero p x w some first = line_start p w 0 some ∙ ap (start p) first
+
+length-row_after :
+    (p : ProgramTree) (k left right : ℕ) (row : List (List ℕ)) → length (row_after p k left row right) ≡ length row
+length-row_after p k left right [] = refl
+length-row_after p k left right (own ∷ row) = ap (λ n. suc n) (length-row_after p k (to_right p k own) right row)
+
+-- an item of a row after a round, by the line around the row
+item_after :
+    (p : ProgramTree) (k : ℕ) (first last : List ℕ) (row : List (List ℕ)) (j : ℕ) → j < length row
+    → item (row_after p k (to_right p k first) row (to_left p k last)) j
+    ≡ between p k (item (first ∷ (row ++ last ∷ [])) j) (item (row ++ last ∷ []) j) (item (row ++ last ∷ []) (suc j))
+item_after p k first last [] j lt = absurd (omega arith)
+item_after p k first last (own ∷ []) zero lt = refl
+item_after p k first last (own ∷ []) (suc j) lt = absurd (omega arith)
+item_after p k first last (own ∷ (after ∷ row)) zero lt = refl
+item_after p k first last (own ∷ (after ∷ row)) (suc j) lt = item_after p k own last (after ∷ row) j (omega arith)
+
+pub shrunk_row : LinesAreRows
+shrunk_row p k first last row =
+    let u : List (List ℕ) = first ∷ (row ++ last ∷ []) in
+    let size : length row ≡ length u - 2 = omega (arith, length-append row (last ∷ [])) in
+    sym
+    (fill_by_all (λ j. between p k (item u j) (item u (j + 1)) (item u (j + 2))) _ (length u - 2) []
+    (length-row_after p k (to_right p k first) (to_left p k last) row ∙ size)
+    (λ j lt.
+    let two : j + 2 ≡ suc (suc j) = omega arith in
+    rw (add-one j, two) (item_after p k first last row j (omega arith))))
 
 only_item : (u : List (List ℕ)) → length u ≡ 1 → u ≡ item u 0 ∷ []
 only_item [] size = absurd (omega arith)
@@ -87,7 +111,6 @@ only_item (x ∷ []) size = refl
 only_item (x ∷ (y ∷ u)) size = absurd (omega arith)
 
 -- the line of a window is one state long in the end
-pub one_left :
-    (p : ProgramTree) (r : ℕ) (w : List ℕ) → length w ≡ 2 * r + 1 → line p w r ≡ middle_state p r w ∷ []
+pub one_left : OneStateIsLeft
 unfolding middle_state
 one_left p r w size = only_item (line p w r) (omega (arith, length-line p w r))

@@ -3,8 +3,8 @@ use Rattle.std.proofs.Common.{ℕ, zero, suc, ◌+◌, ◌*◌, ◌<◌, List, A
 use Rattle.node_lang.specs.Term.{ProgramTree}
 use Rattle.node_lang.specs.Node.{start, next, to_left, to_right}
 use Rattle.node_lang.specs.Bounds.{register_bounds, IsWithin}
-use Rattle.win_index.specs.Windows.{IsWindow}
 use Rattle.unroll.specs.Line.{item, line, middle_state}
+use Rattle.unroll.specs.Laws.{WindowsAreWithin}
 use Rattle.unroll.proofs.Lines.{line_start, line_next}
 
 module _ (start_is_within : (p : ProgramTree) (m id : ℕ) → id < m → IsWithin (start p id) (register_bounds p m 0))
@@ -24,8 +24,7 @@ module _ (start_is_within : (p : ProgramTree) (m id : ℕ) → id < m → IsWith
       (item_within p m w k j below (omega arith)) (item_within p m w k (j + 1) below (omega arith)) (item_within p m w k (j + 2) below (omega arith)))
 
   -- and so is the one that is left
-  pub middle_within :
-      (p : ProgramTree) (m r : ℕ) (w : List ℕ) → IsWindow (2 * r + 1) m w → IsWithin (middle_state p r w) (register_bounds p m r)
+  pub middle_within : WindowsAreWithin
   unfolding middle_state
   middle_within p m r w window =
       let size = window.size in

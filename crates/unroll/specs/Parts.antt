@@ -15,8 +15,8 @@ abbrev pub KnowsBelow : Entries → ℕ → ℕ → ℕ → ℕ → Type 0
 KnowsBelow entries m r b count =
     (low place : ℕ) → r ≡ low + 1 → place < count → KnowsParts entries m low (window_numbered m r (256 * b + place))
 
--- a missing block is one that holds a part of the window w of level r
+-- a block is missing that holds a part of the window w of level r: no other fault comes
 abbrev pub IsMissingPart : Entries → ℕ → ℕ → List ℕ → MakeFault → Type 0
 IsMissingPart entries m r w (Missing low c) =
     (r ≡ low + 1) × ((n : ℕ) × IsPartNumber m low w n × (c ≡ n / 256)) × (entries low c ≡ None)
-IsMissingPart entries m r w OutOfMemory = Unit {0}
+IsMissingPart entries m r w OutOfMemory = ⊥

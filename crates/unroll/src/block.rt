@@ -1,4 +1,5 @@
 use lang_check::Plan;
+use round_eval::{row_at, width_of};
 use std::marker::Model;
 
 /// The states of up to 256 windows of one level of a plan, in the order of their numbers: block `b` holds
@@ -70,7 +71,6 @@ impl<'a> Block<'a> {
     }
 
     /// The state of its `i`-th window, which has number `256*b + i` in block `b`: a cell for each register.
-    #[tactic(auto, using(crate::proofs::WrittenRows::row_fits))]
     pub fn state(&self, i: u32) -> &[u32]
         requires { i < block_len self.now.plan.ids self.now.level self.now.number }
         ensures value { result.now ≡ block_state self.now.plan self.now.level self.now.number i }
@@ -80,5 +80,3 @@ impl<'a> Block<'a> {
         row_at(&self.states, width_of(plan), i as usize)
     }
 }
-
-use crate::rows::{row_at, width_of};

@@ -1,36 +1,34 @@
-ghost use Rattle.std.specs.Prelude.{◌≡◌, ℕ, ◌+◌, ◌*◌, ◌<◌, ◌≤◌, List, [], ◌∷◌, length};
-ghost use Rattle.node_lang.specs.GlobalRounds.{state};
-ghost use Rattle.win_index.specs.Ring.{IsRing};
-ghost use Rattle.node_lang.specs.Term.{ProgramTree};
-ghost use Rattle.node_lang.specs.Bounds.{register_bounds, IsWithin};
-ghost use Rattle.unroll.specs.Line.{line, middle_state};
-ghost use Rattle.win_index.specs.Arcs.{window_around};
-ghost use Rattle.win_index.specs.Windows.{IsWindow};
+ghost use Rattle.unroll.specs.Laws as law;
 
 use lang_check::{next_is_within, start_is_within};
 use win_index::places_of_arcs;
 
+/// A round on a line is one on the row of its inner nodes, between what its first and its last node send.
+#[tactic(auto, using(crate::proofs::Lines::shrunk_row))]
+pub fn lines_are_rows()
+    ensures { law.LinesAreRows }
+{}
+
 /// Locality (Linial 1992): what a node of a ring holds after `r` rounds follows from the `2r+1` identifiers
 /// around it alone, by a line of their states that gets two shorter in each round.
 pub fn locality()
-    ensures { (p : ProgramTree) (m t r i : ℕ) (ring : List ℕ) → IsRing m t ring → r ≤ t → i < length ring
-        → state p ring r i ≡ middle_state p r (window_around ring r i) }
+    ensures { law.Locality }
 {
     places_of_arcs();
 }
 
 /// Bounds hold of windows too: the state that is left of a window after its rounds is within the bounds of
 /// the registers after as many rounds.
+#[tactic(auto, using(crate::proofs::Within::middle_within))]
 pub fn windows_are_within()
-    ensures { (p : ProgramTree) (m r : ℕ) (window : List ℕ) → IsWindow (2 * r + 1) m window
-        → IsWithin (middle_state p r window) (register_bounds p m r) }
+    ensures { law.WindowsAreWithin }
 {
     start_is_within();
     next_is_within();
 }
 
 /// After `r` rounds a line of `2r+1` identifiers is one state long.
+#[tactic(auto, using(crate::proofs::Lines::one_left))]
 pub fn one_state_is_left()
-    ensures { (p : ProgramTree) (r : ℕ) (window : List ℕ) → length window ≡ 2 * r + 1
-        → line p window r ≡ middle_state p r window ∷ [] }
+    ensures { law.OneStateIsLeft }
 {}

@@ -6,13 +6,12 @@ mod block;
 mod fault;
 mod laws;
 mod making;
-mod rows;
 mod source;
 mod window;
 
 pub use block::Block;
 pub use fault::MakeFault;
-pub use laws::{locality, one_state_is_left, windows_are_within};
+pub use laws::{lines_are_rows, locality, one_state_is_left, windows_are_within};
 pub use making::make_block;
 pub use source::Source;
 pub use window::window_state;

@@ -1,8 +1,9 @@
-ghost use Rattle.std.specs.Prelude.{◌≡◌, ℕ, ◌+◌, ◌*◌, ◌/◌, ◌<◌, ◌≤◌, length, slice_get, Some, IsSome, IfOk, IfErr, OnOk};
-ghost use Rattle.round_eval.specs.Rows.{HoldsRows};
+ghost use Rattle.std.specs.Prelude.{◌≡◌, ℕ, ◌+◌, ◌*◌, ◌/◌, ◌^◌, ◌<◌, ◌≤◌, length, slice_get, Some, IsSome, IfOk, IfErr, OnOk, IsErrOf};
+ghost use Rattle.round_eval.specs.Rows.{rows};
 ghost use Rattle.unroll.specs.Below.{IsBelow, part};
-ghost use Rattle.unroll.specs.BlockStates.{block_len, block_state};
+ghost use Rattle.unroll.specs.BlockStates.{block_len};
 ghost use Rattle.unroll.specs.Entries.{Grows};
+ghost use Rattle.unroll.specs.HeldStates.{first_states};
 ghost use Rattle.unroll.specs.Line.{middle_state};
 ghost use Rattle.unroll.specs.MakeFaults.{IsMakeFault};
 ghost use Rattle.unroll.specs.Parts.{KnowsParts, KnowsBelow, IsMissingPart};
@@ -11,17 +12,17 @@ ghost use Rattle.win_index.specs.Windows.{windows, number_of, IsWindow};
 
 use crate::block::Block;
 use crate::fault::MakeFault;
-use crate::rows::width_of;
 use crate::source::Source;
 use lang_check::Plan;
-use round_eval::{messages, start_state, step};
+use round_eval::{rows_are_written, sent_to_left, sent_to_right, start_state, step, width_of};
 use std::alloc::Global;
-use win_index::{BLOCK_WINDOWS, Shape, blocks_are_few};
+use win_index::{BLOCK_WINDOWS, MAX_WINDOW_LEN, Shape};
 
 /// The block of a plan with this level, number and maker. At level 0 the states are those before the first
 /// round, and the source is not asked. Above it each state comes from three of the blocks one level below,
 /// which the source has; each of them is known to the source from then on. `Missing` names one for which the
-/// source has no entry, `OutOfMemory` comes where memory was refused; the source may know more afterwards.
+/// source has no entry; the source may know more afterwards. `OutOfMemory` comes where memory was refused, and
+/// the source is as before.
 pub fn make_block<'a, 's, S: Source<'s>>(
     alloc: Global,
     plan: &'a Plan,
@@ -34,19 +35,21 @@ pub fn make_block<'a, 's, S: Source<'s>>(
     requires level { level ≤ length plan.now.program.steps }
     requires number { number < block_count plan.now.ids level }
     ensures same_plan { S.plan source.new ≡ S.plan source.old }
+    ensures same_fixed { S.fixed source.new ≡ S.fixed source.old }
     ensures grows { Grows (S.entries source.old) (S.entries source.new) }
     ensures not_asked { level ≡ 0 → source.new ≡ source.old }
     ensures block { IfOk result (λ b. (b.plan ≡ plan.now) × (b.level ≡ level) × (b.number ≡ number) × (b.maker ≡ maker)) }
     ensures known { OnOk result ((low c : ℕ) → IsBelow plan.now.ids level number low c
         → IsSome (S.entries source.new low c)) }
     ensures fault { IfErr result (IsMakeFault (S.entries source.new) plan.now.ids level number) }
+    ensures no_memory { IsErrOf result MakeFault.OutOfMemory → source.new ≡ source.old }
 {
-    blocks_are_few();
     let shape = plan.shape();
     let len = len_of(shape, level, number);
-    let mut states = zeros(alloc, len as usize * width_of(plan))?;
-    let mut cells = [0; 7];
-    let window = &mut cells[..2 * level as usize + 1];
+    let cells = len as usize * width_of(plan);
+    let mut states = vec![in alloc; 0; cells].map_err(|_| MakeFault::OutOfMemory)?;
+    let mut ids = [0; MAX_WINDOW_LEN];
+    let window = &mut ids[..2 * level as usize + 1];
     shape.window(level, BLOCK_WINDOWS * number, window);
     fill(plan, source, level, number, window, &mut states)?;
     Ok(Block {
@@ -59,19 +62,12 @@ pub fn make_block<'a, 's, S: Source<'s>>(
     })
 }
 
-// A list of zeros.
-fn zeros(alloc: Global, len: usize) -> Result<Vec<u32>, MakeFault>
-    ensures ok { IfOk result (λ cells. length cells.items ≡ len) }
-    ensures err { IfErr result (λ fault. fault ≡ MakeFault.OutOfMemory) }
-{
-    vec![in alloc; 0; len].map_err(|_| MakeFault::OutOfMemory)
-}
-
 // How many windows a block holds.
 fn len_of(shape: Shape, level: u32, number: u32) -> u32
     requires level { level ≤ shape.rounds }
     requires number { number < block_count shape.ids level }
     ensures value { result ≡ block_len shape.ids level number }
+    ensures fits { BLOCK_WINDOWS * number < 2 ^ 32 }
     ensures few { result ≤ 256 }
 {
     (shape.count(level) - BLOCK_WINDOWS * number).min(BLOCK_WINDOWS)
@@ -79,7 +75,7 @@ fn len_of(shape: Shape, level: u32, number: u32) -> u32
 
 // Writes the state of each window of a block into its row. The first window is given, and it goes on to the
 // next one in place.
-#[tactic(auto, using(crate::proofs::WrittenRows::row_fits))]
+#[tactic(auto, using(std::proofs::lemmas::Nat::row_fits))]
 fn fill<'s, S: Source<'s>>(
     plan: &Plan,
     source: &mut S,
@@ -95,14 +91,17 @@ fn fill<'s, S: Source<'s>>(
     requires first { slice_get (windows (2 * level + 1) plan.now.ids) (256 * number) ≡ Some window.old }
     requires window { IsWindow (2 * level + 1) plan.now.ids window.old }
     ensures same_plan { S.plan source.new ≡ S.plan source.old }
+    ensures same_fixed { S.fixed source.new ≡ S.fixed source.old }
     ensures grows { Grows (S.entries source.old) (S.entries source.new) }
     ensures not_asked { level ≡ 0 → source.new ≡ source.old }
-    ensures states { OnOk result (HoldsRows states.new (length plan.now.program.start)
-        (block_len plan.now.ids level number) (block_state plan.now level number)) }
+    ensures states { OnOk result (rows (length plan.now.program.start) (block_len plan.now.ids level number) states.new
+        ≡ first_states plan.now level number (block_len plan.now.ids level number)) }
     ensures known { OnOk result (KnowsBelow (S.entries source.new) plan.now.ids level number
         (block_len plan.now.ids level number)) }
     ensures fault { IfErr result (IsMakeFault (S.entries source.new) plan.now.ids level number) }
+    ensures memory { IsErrOf result MakeFault.OutOfMemory → ⊥ }
 {
+    rows_are_written();
     let shape = plan.shape();
     let width = width_of(plan);
     for place in 0..len_of(shape, level, number) as usize {
@@ -113,7 +112,7 @@ fn fill<'s, S: Source<'s>>(
     Ok(())
 }
 
-// Writes the state of a window of a level into its cells.
+// Writes the state of a window of a level into its cells: above level 0 from the states of its three parts.
 fn write_state<'s, S: Source<'s>>(
     plan: &Plan,
     source: &mut S,
@@ -126,6 +125,7 @@ fn write_state<'s, S: Source<'s>>(
     requires window { IsWindow (2 * level + 1) plan.now.ids window.now }
     requires cells { length cells.old ≡ length plan.now.program.start }
     ensures same_plan { S.plan source.new ≡ S.plan source.old }
+    ensures same_fixed { S.fixed source.new ≡ S.fixed source.old }
     ensures grows { Grows (S.entries source.old) (S.entries source.new) }
     ensures not_asked { level ≡ 0 → source.new ≡ source.old }
     ensures state { OnOk result (cells.new ≡ middle_state plan.now.program level window.now) }
@@ -134,35 +134,14 @@ fn write_state<'s, S: Source<'s>>(
 {
     if level == 0 {
         start_state(plan, window[0], cells);
-        Ok(())
-    } else {
-        write_next(plan, source, level - 1, window, cells)
+        return Ok(());
     }
-}
-
-// The same for a window one level above `below`, from the states of its three parts.
-fn write_next<'s, S: Source<'s>>(
-    plan: &Plan,
-    source: &mut S,
-    below: u32,
-    window: &[u32],
-    cells: &mut [u32],
-) -> Result<(), MakeFault>
-    requires plan { S.plan source.old ≡ plan.now }
-    requires below { below < length plan.now.program.steps }
-    requires window { IsWindow (2 * below + 3) plan.now.ids window.now }
-    requires cells { length cells.old ≡ length plan.now.program.start }
-    ensures same_plan { S.plan source.new ≡ S.plan source.old }
-    ensures grows { Grows (S.entries source.old) (S.entries source.new) }
-    ensures state { OnOk result (cells.new ≡ middle_state plan.now.program (below + 1) window.now) }
-    ensures known { OnOk result (KnowsParts (S.entries source.new) plan.now.ids below window.now) }
-    ensures fault { IfErr result (IsMissingPart (S.entries source.new) plan.now.ids (below + 1) window.now) }
-{
+    let below = level - 1;
     let left = state_below(plan, source, below, window, 0)?;
     let own = state_below(plan, source, below, window, 1)?;
     let right = state_below(plan, source, below, window, 2)?;
-    let (_, from_left) = messages(plan, below, left);
-    let (from_right, _) = messages(plan, below, right);
+    let from_left = sent_to_right(plan, below, left);
+    let from_right = sent_to_left(plan, below, right);
     step(plan, below, own, from_left, from_right, cells);
     Ok(())
 }
@@ -180,12 +159,13 @@ fn state_below<'s, S: Source<'s>>(
     requires window { IsWindow (2 * below + 3) plan.now.ids window.now }
     requires offset { offset ≤ 2 }
     ensures same_plan { S.plan source.new ≡ S.plan source.old }
+    ensures same_fixed { S.fixed source.new ≡ S.fixed source.old }
     ensures grows { Grows (S.entries source.old) (S.entries source.new) }
     ensures state { IfOk result (λ s. s.now ≡ middle_state plan.now.program below (part window.now below offset)) }
     ensures cells { IfOk result (λ s. length s.now ≡ length plan.now.program.start) }
     ensures known { OnOk result ((n : ℕ) → number_of (2 * below + 1) plan.now.ids (part window.now below offset) ≡ Some n
         → IsSome (S.entries source.new below (n / 256))) }
-    ensures fault { IfErr result (IsMissingPart (S.entries source.new) plan.now.ids (below + 1) window.now) }
+    ensures fault { (level : ℕ) → level ≡ below + 1 → IfErr result (IsMissingPart (S.entries source.new) plan.now.ids level window.now) }
 {
     let number = plan
         .shape()

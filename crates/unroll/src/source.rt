@@ -12,12 +12,16 @@ pub trait Source<'s> {
 
     ghost entries: { Self → Entries };
 
+    // What no call changes: the entries, for a source that learns nothing from its calls.
+    ghost fixed: { Self → Entries };
+
     /// The block of a level of the plan and a number below the number of its blocks, known from then on, or
     /// `None` where there is no entry.
     fn block(&mut self, level: u32, number: u32) -> Option<&'s Block<'s>>
         requires level { level ≤ length (plan self.old).program.steps }
         requires number { number < block_count (plan self.old).ids level }
         ensures same_plan { plan self.new ≡ plan self.old }
+        ensures same_fixed { fixed self.new ≡ fixed self.old }
         ensures grows { Grows (entries self.old) (entries self.new) }
         ensures found { IfSome result (λ b. IsEntry (plan self.new) (entries self.new) level number b.now) }
         ensures missing { IfNone result (entries self.new level number ≡ None) };

@@ -16,7 +16,12 @@ const CV1: &[u8] =
 const RED: &[u8] =
     b"rounds 3\nchannels 4\nregisters 1\nstart\nr0 = id\nround\nsend left 0\nsend right r0\nr0 = add(shl(ldb(r0, L), 1), bit(r0, ldb(r0, L)))\nround\nsend left r0\nsend right r0\nr0 = min(if(eq(r0, 5), if(and(ne(L, 0), ne(R, 0)), 0, if(and(ne(L, 1), ne(R, 1)), 1, 2)), r0), 4)\nround\nsend left r0\nsend right r0\nr0 = min(if(eq(r0, 4), if(and(ne(L, 0), ne(R, 0)), 0, if(and(ne(L, 1), ne(R, 1)), 1, 2)), r0), 3)\nfinish r0\n";
 
-// A source that is a list of lent blocks of one plan.
+// One round, in which the first register takes the second one and the second the sum of the first one and what
+// comes from the left.
+const SUM: &[u8] =
+    b"rounds 1\nchannels 64\nregisters 2\nstart\nr0 = id\nr1 = 0\nround\nsend left r1\nsend right r0\nr0 = r1\nr1 = add(r0, L)\nfinish r1\n";
+
+// A source that knows the first of the blocks that are lent to it.
 #[derive(Drop)]
 struct Lent<'s> {
     plan: &'s Plan,
@@ -24,20 +29,22 @@ struct Lent<'s> {
     ghost of_plan: { All (λ b. b.plan ≡ plan.now) blocks.now },
 }
 
-ghost use Rattle.std.specs.Prelude.{◌≡◌, ◌==◌, ◌&&◌, All, find, length, IfOk};
+ghost use Rattle.std.specs.Prelude.{◌≡◌, ◌==◌, ◌&&◌, Some, None, if◌then◌else◌, All, slice_get, IfOk};
+ghost use Rattle.std.specs.Option.{option_and_then};
 
 impl<'s> Source<'s> for Lent<'s> {
     ghost plan = { λ s. s.plan.now };
 
-    ghost entries = { λ s level number. find (λ b. (b.level == level) && (b.number == number)) s.blocks.now };
+    ghost entries = { λ s level number. option_and_then
+        (λ b. if (b.level == level) && (b.number == number) then Some b else None) (slice_get s.blocks.now 0) };
+
+    ghost fixed = { λ s _ _. None };
 
     fn block(&mut self, level: u32, number: u32) -> Option<&'s Block<'s>> {
-        for block in self.blocks {
-            if block.level() == level && block.number() == number {
-                return Some(block);
-            }
+        match self.blocks.first() {
+            Some(block) if block.level() == level && block.number() == number => Some(block),
+            _ => None,
         }
-        None
     }
 }
 
@@ -51,34 +58,25 @@ fn plan_of(alloc: Global, text: &[u8]) -> Result<Plan, Fail>
 }
 
 #[test]
-fn the_state_of_a_window(rt: HostRuntime) -> Result<(), Fail> {
-    let plan = plan_of(rt.alloc(), CV1)?;
-    let shape = plan.shape();
-    assert!(rt; shape.rounds() == 1);
-    assert!(rt; plan.program().registers() == 1);
-    assert!(rt; shape.count(1) == 336);
-    let mut window = [0; 3];
-    shape.window(1, 325, &mut window);
-    assert_eq!(rt; window, [7, 5, 1]);
-    let mut state = [0];
-    window_state(&plan, &window, &mut state);
-    assert_eq!(rt; state, [2]);
-    Ok(())
-}
-
-#[test]
-fn the_state_of_a_window_after_three_rounds(rt: HostRuntime) -> Result<(), Fail> {
-    let plan = plan_of(rt.alloc(), RED)?;
-    let shape = plan.shape();
-    assert!(rt; shape.rounds() == 3);
-    assert!(rt; plan.program().registers() == 1);
-    assert!(rt; shape.count(3) == 40_320);
-    let mut window = [0; 7];
-    shape.window(3, 26_256, &mut window);
-    assert_eq!(rt; window, [5, 1, 3, 7, 0, 2, 4]);
-    let mut state = [0];
-    window_state(&plan, &window, &mut state);
-    assert_eq!(rt; state, [1]);
+fn windows_have_their_states(rt: HostRuntime) -> Result<(), Fail> {
+    let table: [(&[u8], u32, u32, &[u32], &[u32]); 3] = [
+        (CV1, 1, 325, &[7, 5, 1], &[2]),
+        (SUM, 1, 325, &[7, 5, 1], &[0, 12]),
+        (RED, 3, 26_256, &[5, 1, 3, 7, 0, 2, 4], &[1]),
+    ];
+    for (text, level, number, identifiers, want) in table {
+        let plan = plan_of(rt.alloc(), text)?;
+        let shape = plan.shape();
+        assert!(rt; level <= shape.rounds() && number < shape.count(level));
+        let mut cells = [0; 7];
+        let window = &mut cells[..2 * level as usize + 1];
+        shape.window(level, number, window);
+        assert_eq!(rt; *window, *identifiers);
+        let mut registers = [0; 8];
+        let state = &mut registers[..plan.program().registers() as usize];
+        window_state(&plan, window, state);
+        assert_eq!(rt; *state, *want);
+    }
     Ok(())
 }
 
@@ -86,9 +84,7 @@ fn the_state_of_a_window_after_three_rounds(rt: HostRuntime) -> Result<(), Fail>
 fn the_last_block_of_a_level(rt: HostRuntime) -> Result<(), Fail> {
     let plan = plan_of(rt.alloc(), CV1)?;
     let shape = plan.shape();
-    assert!(rt; shape.rounds() == 1);
-    assert!(rt; shape.blocks(0) == 1);
-    assert!(rt; shape.blocks(1) == 2);
+    assert!(rt; shape.rounds() == 1 && shape.blocks(0) == 1 && shape.blocks(1) == 2);
     let mut nothing = Lent {
         plan: &plan,
         blocks: &[],
@@ -106,32 +102,26 @@ fn the_last_block_of_a_level(rt: HostRuntime) -> Result<(), Fail> {
     let block = make_block(rt.alloc(), &plan, &mut source, 1, 1, 4)
         .ok()
         .ok_or("a block of level 1")?;
-    assert_eq!(rt; block.level(), 1);
-    assert_eq!(rt; block.number(), 1);
-    assert_eq!(rt; block.maker(), 4);
+    assert_eq!(rt; (block.level(), block.number(), block.maker()), (1, 1, 4));
     let len = block.len();
     assert!(rt; len == 80);
     assert_eq!(rt; block.state(0), [2].as_slice());
-    assert!(rt; shape.count(1) == 336);
-    let mut window = [0; 3];
-    shape.window(1, 256, &mut window);
-    assert_eq!(rt; window, [6, 0, 5]);
     Ok(())
 }
 
 #[test]
 fn a_block_below_is_missing(rt: HostRuntime) -> Result<(), Fail> {
-    let plan = plan_of(rt.alloc(), CV1)?;
+    let plan = plan_of(rt.alloc(), RED)?;
     let shape = plan.shape();
-    assert!(rt; shape.rounds() == 1);
-    assert!(rt; shape.blocks(1) == 2);
-    let mut nothing = Lent {
-        plan: &plan,
-        blocks: &[],
-    };
-    let fault = make_block(rt.alloc(), &plan, &mut nothing, 1, 0, 0)
-        .err()
-        .ok_or("no block")?;
-    assert_eq!(rt; fault, MakeFault::Missing(0, 0));
+    // the first window of block 26 of level 2 has number 6,656; its first part has number 332, in block 1
+    for (level, number, missing) in [(1, 0, 0), (2, 0, 0), (2, 26, 1)] {
+        assert!(rt; level <= shape.rounds() && number < shape.blocks(level));
+        let mut nothing = Lent {
+            plan: &plan,
+            blocks: &[],
+        };
+        let fault = make_block(rt.alloc(), &plan, &mut nothing, level, number, 0).err();
+        assert_eq!(rt; fault, Some(MakeFault::Missing(level - 1, missing)));
+    }
     Ok(())
 }

@@ -1,6 +1,6 @@
-use Rattle.std.proofs.Common.{◌≡◌, ◌+◌, ◌*◌, ◌<◌, sym, ◌∙◌, ap, arith}
+use Rattle.std.proofs.Common.{◌≡◌, ◌+◌, ◌*◌, ◌<◌, [], ◌∷◌, ◌++◌, sym, ◌∙◌, arith, rules}
 use Rattle.std.proofs.lemmas.Result.{err_from_is_err_and}
-use Rattle.unroll.proofs.WrittenRows.{rows_more}
+use Rattle.std.proofs.lemmas.List.FromFn.{map-range_with_len_more}
 use Rattle.unroll.specs.BlockStates.{block_len, block_state}
 use Rattle.unroll.proofs.Known.{window_at, next_in_block, fault_of_block, knows_more}
 use Rattle.unroll.proofs.making.fill.Goals as goal
@@ -30,16 +30,17 @@ loop-place-preserved g c =
     let own = window_at m r (256 * b + place) window (before.here inside) in
     let next = rw c.shape-shape.ensures.ids at c.next_window.ensures.next in
     let last = rw c.shape-shape.ensures.ids at c.next_window.ensures.last in
-    let size =
-    c.loop-place.auto.states ∙ c.requires.size ∙ ap (λ w. block_len m r b * w) (sym c.width_of-width.ensures.value) in
+    let here = rw (← own) at wrote.state in
+    let written = c.rows_are_written.ensures c.width_of-width.result place c.loop-place.states c.write_state.new.cells _ (search rules) (search rules) in
     record {
       same_plan = wrote.same_plan ∙ before.same_plan;
+      same_fixed = wrote.same_fixed ∙ before.same_fixed;
       grows = record { kept = λ low n known at'. wrote.grows.kept low n known (before.grows.kept low n known at') };
       not_asked = λ lowest. wrote.not_asked lowest ∙ before.not_asked lowest;
       window = rw c.shape-shape.ensures.ids at c.next_window.ensures.window;
       here = next_in_block m r b place c.next_window.result window c.next_window.new.window next last (before.here inside);
-      rows = rows_more (block_state c.args.plan.now r b) c.loop-place.states c.write_state.new.cells c.width_of-width.result
-          (block_len m r b) place _ size inside c.write_state.auto.cells before.rows (rw own wrote.state);
+      states = written ∙ (λ i. before.states i ++ here i ∷ [])
+          ∙ sym (map-range_with_len_more (block_state c.args.plan.now r b) 0 place place (omega arith));
       known = knows_more (g.S.Source.entries c.loop-place.source) (g.S.Source.entries c.write_state.new.source) m r b place window
           wrote.grows before.known own wrote.known;
     }

@@ -1,0 +1,21 @@
+-- The laws of this crate.
+use Rattle.std.specs.Prelude.{◌≡◌, ℕ, ◌+◌, ◌-◌, ◌*◌, ◌≤◌, List, [], ◌∷◌, ◌++◌, take, length}
+use Rattle.node_lang.specs.Term.{ProgramTree}
+use Rattle.node_lang.specs.Node.{to_left, to_right}
+use Rattle.node_lang.specs.GlobalRounds.{left_of, right_of, state}
+use Rattle.round_eval.specs.Rows.{row_after, rows, stretch}
+
+-- a stretch of places of a ring does its part of a global round as a row between what the two places beside it send.
+-- All places are such a stretch, closed on itself: its last place stands to the left of place 0
+abbrev pub StretchesAreRows : Type 0
+StretchesAreRows =
+    (p : ProgramTree) (x : List ℕ) (r first count : ℕ) → first + count ≤ length x
+    → stretch p x (r + 1) first count
+    ≡ row_after p r (to_right p r (state p x r (left_of x first))) (stretch p x r first count)
+    (to_left p r (state p x r (right_of x (first + count - 1))))
+
+-- cells that are written behind n rows are one row more
+abbrev pub RowsAreWritten : Type 0
+RowsAreWritten =
+    (width n : ℕ) (before cells after : List ℕ) → n * width ≤ length before → length cells ≡ width
+    → rows width (n + 1) (take (n * width) before ++ (cells ++ after)) ≡ rows width n before ++ cells ∷ []

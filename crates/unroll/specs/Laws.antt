@@ -1,0 +1,35 @@
+-- The laws of this crate.
+use Rattle.std.specs.Prelude.{◌≡◌, ℕ, ◌+◌, ◌*◌, ◌<◌, ◌≤◌, List, [], ◌∷◌, ◌++◌, length}
+use Rattle.node_lang.specs.Term.{ProgramTree}
+use Rattle.node_lang.specs.Node.{to_left, to_right}
+use Rattle.node_lang.specs.GlobalRounds.{state}
+use Rattle.win_index.specs.Ring.{IsRing}
+use Rattle.node_lang.specs.Bounds.{register_bounds, IsWithin}
+use Rattle.win_index.specs.Arcs.{window_around}
+use Rattle.win_index.specs.Windows.{IsWindow}
+use Rattle.round_eval.specs.Rows.{row_after}
+use Rattle.unroll.specs.Line.{shrunk, line, middle_state}
+
+-- a round on a line is one on the row of its inner nodes, between what its first and its last node send
+abbrev pub LinesAreRows : Type 0
+LinesAreRows =
+    (p : ProgramTree) (k : ℕ) (first last : List ℕ) (row : List (List ℕ))
+    → shrunk p k (first ∷ (row ++ last ∷ [])) ≡ row_after p k (to_right p k first) row (to_left p k last)
+
+-- what a place of a ring holds after r rounds is the state that is left of the 2r+1 identifiers around it
+abbrev pub Locality : Type 0
+Locality =
+    (p : ProgramTree) (m t r i : ℕ) (ring : List ℕ) → IsRing m t ring → r ≤ t → i < length ring
+    → state p ring r i ≡ middle_state p r (window_around ring r i)
+
+-- the state that is left of a window after r rounds is within the bounds of the registers after r rounds
+abbrev pub WindowsAreWithin : Type 0
+WindowsAreWithin =
+    (p : ProgramTree) (m r : ℕ) (window : List ℕ) → IsWindow (2 * r + 1) m window
+    → IsWithin (middle_state p r window) (register_bounds p m r)
+
+-- after r rounds a line of 2r+1 identifiers is one state long
+abbrev pub OneStateIsLeft : Type 0
+OneStateIsLeft =
+    (p : ProgramTree) (r : ℕ) (window : List ℕ) → length window ≡ 2 * r + 1
+    → line p window r ≡ middle_state p r window ∷ []
