@@ -1,16 +1,13 @@
 -- Bounds along a shrinking line.
 use Rattle.std.proofs.Common.{ℕ, zero, suc, ◌+◌, ◌*◌, ◌<◌, List, All, length, get_or, subst, sym, arith}
 use Rattle.node_lang.specs.Term.{ProgramTree}
-use Rattle.node_lang.specs.Node.{start, next, to_left, to_right}
 use Rattle.node_lang.specs.Bounds.{register_bounds, IsWithin}
+use Rattle.lang_check.specs.Laws.{StartIsWithin, NextIsWithin}
 use Rattle.unroll.specs.Line.{item, line, middle_state}
 use Rattle.unroll.specs.Laws.{WindowsAreWithin}
 use Rattle.unroll.proofs.Lines.{line_start, line_next}
 
-module _ (start_is_within : (p : ProgramTree) (m id : ℕ) → id < m → IsWithin (start p id) (register_bounds p m 0))
-    (next_is_within : (p : ProgramTree) (m r : ℕ) (left own right : List ℕ) → IsWithin left (register_bounds p m r)
-    → IsWithin own (register_bounds p m r) → IsWithin right (register_bounds p m r)
-    → IsWithin (next p r own (to_right p r left) (to_left p r right)) (register_bounds p m (suc r))) where
+module _ (start_is_within : StartIsWithin) (next_is_within : NextIsWithin) where
   -- each state of the line is within the bounds of as many rounds
   item_within :
       (p : ProgramTree) (m : ℕ) (w : List ℕ) (k j : ℕ) → All (λ x. x < m) w → j + 2 * k < length w
