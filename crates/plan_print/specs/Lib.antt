@@ -3,8 +3,7 @@ pub mod RingText
 pub mod Words
 pub mod CommandWords
 pub mod WordsFault
-pub mod Status
-pub mod FaultCodes
+pub mod ExitCodes
 pub mod Watched
 pub mod Input
 pub mod Output

@@ -27,7 +27,7 @@ pub enum WordsFault {
 }
 
 impl WordsFault {
-    ghost use Rattle.plan_print.specs.FaultCodes.{words_fault_code};
+    ghost use Rattle.plan_print.specs.ExitCodes.{words_fault_code};
 
     /// The exit status of the process: 2 where the words are refused, 6 where memory was.
     pub fn code(self) -> u8
