@@ -1,5 +1,6 @@
 pub mod Decimal
 pub mod RingText
+pub mod Task
 pub mod Words
 pub mod CommandWords
 pub mod WordsFault
@@ -10,7 +11,6 @@ pub mod Output
 pub mod Lines
 pub mod TableText
 pub mod Report
-pub mod Planned
 pub use Rattle.node_lang.specs.Term
 pub use Rattle.node_lang.specs.Ring
 pub use Rattle.node_lang.specs.Grammar

@@ -1,0 +1,17 @@
+use Rattle.std.proofs.Common.{slice_index, sym, ap, ◌∙◌}
+use Rattle.std.proofs.lemmas.Option.{get_or_from_slice_get}
+use Rattle.node_lang.specs.Ring.{channel_at}
+use Rattle.plan_print.specs.Report.{place_line}
+use Rattle.plan_print.proofs.PlaceLines.{place_more}
+use Rattle.plan_print.proofs.places.places_text.Goals as goal
+
+-- One line more was written.
+pub loop-place-preserved : goal.loop-place-preserved
+loop-place-preserved c =
+    let ids = c.args.ring.now.ids.items in
+    let p = c.args.plan.now.program in
+    let n = c.loop-place.place in
+    let id = get_or_from_slice_get ids n c.id.result 0 c.id.ensures in
+    place_more (λ place. place_line place (slice_index ids place) (channel_at p ids place)) n _ _ _ c.loop-place.invariant
+    (ap (λ i. place_line n i c.channel_of_place-channel.result) (sym id) ∙ ap (place_line n (slice_index ids n)) c.channel_of_place-channel.ensures)
+    c.in_ok-write_place.ensures
