@@ -1,7 +1,8 @@
 ghost use Rattle.std.specs.Prelude.{◌≡◌, ◌↔◌, ℕ, suc, ◌^◌, ◌<◌, ◌≤◌, List, length};
 ghost use Rattle.node_lang.specs.Term.{ProgramTree};
 ghost use Rattle.node_lang.specs.Node as rounds;
-ghost use Rattle.node_lang.specs.Ring.{IsRing, state, channel_at};
+ghost use Rattle.node_lang.specs.GlobalRounds.{state, channel_at};
+ghost use Rattle.win_index.specs.Ring.{IsRing};
 ghost use Rattle.node_lang.specs.Bounds.{bits, register_bounds, IsWithin};
 ghost use Rattle.lang_check.specs.Acceptance.{IsAccepted};
 

@@ -2,7 +2,7 @@
 use Rattle.std.proofs.Common.{◌≡◌, ◌↔◌, ℕ, ◌+◌, ◌-◌, ◌*◌, ◌≤◌, Option, List, length, get_or, slice_get, Some, None, IsSome, subst, sym, ap, ◌∙◌, arith, refl}
 use Rattle.std.proofs.lemmas.Bool.{false≢true}
 use Rattle.std.proofs.lemmas.Option.{slice_get-get_or, slice_get_within, get_or_from_slice_get, same_Some}
-use Rattle.node_lang.specs.Ring.{IsRing}
+use Rattle.win_index.specs.Ring.{IsRing}
 use Rattle.win_index.specs.Arcs.{arc, window_around, part_at}
 use Rattle.win_index.specs.Windows.{windows, number_of, IsWindow}
 use Rattle.table_fill.specs.Tables.{ChannelTable, channel_of}

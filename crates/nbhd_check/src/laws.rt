@@ -1,5 +1,5 @@
 ghost use Rattle.std.specs.Prelude.{◌≡◌, ℕ, ◌+◌, ◌*◌, ◌↔◌, List};
-ghost use Rattle.node_lang.specs.Ring.{IsRing};
+ghost use Rattle.win_index.specs.Ring.{IsRing};
 ghost use Rattle.win_index.specs.Arcs.{window_around};
 ghost use Rattle.win_index.specs.Windows.{IsWindow};
 ghost use Rattle.table_fill.specs.Tables.{ChannelTable, channel_of};

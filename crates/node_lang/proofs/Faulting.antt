@@ -1,15 +1,17 @@
 -- The fault of a text, by how reading it ends.
-use Rattle.std.proofs.Common.{◌≡◌, ◌≢◌, ℕ, ◌-◌, ◌<◌, ◌≤◌, List, length, get_or, take, arith, inl, inr}
+use Rattle.std.proofs.Common.{◌≡◌, ◌≢◌, ℕ, ◌-◌, ◌<◌, ◌≤◌, List, length, get_or, take, refl, sym, ◌∙◌, arith, inl, inr}
 use Rattle.std.specs.Prelude.{Result, Ok, Err, IfErr, All}
 use Rattle.std.proofs.lemmas.Bool.{cases_order}
 use Rattle.std.proofs.lemmas.List.{length-take-le, get_or-take}
+use Rattle.node_lang.specs.declared.limits.TheConstants.{LONGEST_TEXT}
 use Rattle.node_lang.specs.declared.fault.FaultKind.TheVariants as kind
 use Rattle.node_lang.specs.declared.fault.TextFault.{TextFault}
 use Rattle.node_lang.specs.Term.{ProgramTree}
 use Rattle.node_lang.specs.Lexemes.{lexemes_of}
 use Rattle.node_lang.specs.Grammar.{Reads}
-use Rattle.node_lang.specs.Reading.{Fault, reading, program_wanted}
-use Rattle.node_lang.specs.Faults.{FaultsAt, IsFirstHighByte, stopped}
+use Rattle.node_lang.specs.Reading.{Fault, reading, program_wanted, IsPlaced}
+use Rattle.node_lang.specs.Faults.{FaultsAt, IsFirstHighByte, too_long, not_ascii, stopped}
+use Rattle.node_lang.specs.Laws.{OneTextFault, ReadableTextsHaveNoFault}
 use Rattle.node_lang.proofs.Passing.{passes_program}
 
 -- a high byte stands not before the first one
@@ -23,19 +25,44 @@ pub one_high_byte : (text : List ℕ) (m n : ℕ) → IsFirstHighByte text m →
 one_high_byte text m n a b =
     elim (cases_order m n) [ inl e ↦ e | inr (inl h) ↦ absurd (not_before text m n a b h) | inr (inr h) ↦ absurd (not_before text n m b a h) ]
 
--- where reading stops at a fault, the text reads as no program
-pub reads_none : {T : Type 0} (text : List ℕ) (r : Result T TextFault) →
-    IfErr r (λ f. f.kind ≢ kind.OutOfMemory → reading program_wanted 0 (lexemes_of text) ≡ Fault f.kind (length text - f.offset)) →
-    IfErr r (λ f. f.kind ≢ kind.OutOfMemory → (p : ProgramTree) → Reads text p → ⊥)
-reads_none text (Ok v) h = h
-reads_none text (Err f) h = λ m p reads.
+has_no_high_byte : (text : List ℕ) (n : ℕ) → All (λ b. b < 128) text → IsFirstHighByte text n → ⊥
+has_no_high_byte text n ascii first =
+    let low = ascii n 0 first.within in
+    let high = first.high in
+    omega arith
+
+-- a text has one fault
+pub one_fault : OneTextFault
+one_fault text k l m n (too_long a) (too_long b) = (refl, refl)
+one_fault text k l m n (too_long a) (not_ascii j short first) = absurd (omega arith)
+one_fault text k l m n (too_long a) (stopped j i from short ascii at place) = absurd (omega arith)
+one_fault text k l m n (not_ascii i short first) (too_long b) = absurd (omega arith)
+one_fault text k l m n (not_ascii i short a) (not_ascii j _ b) = (refl, one_high_byte text i j a b)
+one_fault text k l m n (not_ascii i short a) (stopped j o from _ ascii at place) = absurd (has_no_high_byte text i ascii a)
+one_fault text k l m n (stopped j i from short ascii at place) (too_long b) = absurd (omega arith)
+one_fault text k l m n (stopped j i from short ascii at place) (not_ascii o _ b) = absurd (has_no_high_byte text o ascii b)
+one_fault text k l m n (stopped j i from short ascii at place) (stopped h o since _ _ at' place') =
+    let same : Fault j from ≡ Fault h since = sym at ∙ at' in
+    let rest : from ≡ since = cc in
+    (cc, omega arith)
+
+-- a text that reads as a program has no fault
+pub no_fault : ReadableTextsHaveNoFault
+no_fault text p k m reads (too_long long) = omega (arith, reads.short, long)
+no_fault text p k m reads (not_ascii n short first) = has_no_high_byte text n reads.ascii first
+no_fault text p k m reads (stopped j n from short ascii at place) =
     let whole = passes_program p (lexemes_of text) reads.limits reads.tokens in
-    let fault = h m in
     cc
 
 -- and the text has this fault
-pub faults_at : {T : Type 0} (text : List ℕ) (r : Result T TextFault) → length text ≤ 65536 → All (λ b. b < 128) text →
+pub faults_at : {T : Type 0} (text : List ℕ) (r : Result T TextFault) → length text ≤ LONGEST_TEXT → All (λ b. b < 128) text →
     IfErr r (λ f. f.kind ≢ kind.OutOfMemory → reading program_wanted 0 (lexemes_of text) ≡ Fault f.kind (length text - f.offset)) →
-    IfErr r (λ f. f.offset ≤ length text) → IfErr r (λ f. f.kind ≢ kind.OutOfMemory → FaultsAt text f.kind f.offset)
+    IfErr r (IsPlaced (length text)) → IfErr r (λ f. f.kind ≢ kind.OutOfMemory → FaultsAt text f.kind f.offset)
 faults_at text (Ok v) short ascii h place = h
-faults_at text (Err f) short ascii h place = λ m. stopped f.kind f.offset (length text - f.offset) short ascii (h m) (omega (arith, place))
+faults_at text (Err f) short ascii h place = λ m. stopped f.kind f.offset (length text - f.offset) short ascii (h m) (omega (arith, place.0))
+
+-- so it reads as none
+pub reads_none : {T : Type 0} (text : List ℕ) (r : Result T TextFault) → IfErr r (λ f. f.kind ≢ kind.OutOfMemory → FaultsAt text f.kind f.offset) →
+    IfErr r (λ f. f.kind ≢ kind.OutOfMemory → (p : ProgramTree) → Reads text p → ⊥)
+reads_none text (Ok v) h = h
+reads_none text (Err f) h = λ m p reads. no_fault text p f.kind f.offset reads (h m)

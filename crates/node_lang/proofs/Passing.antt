@@ -4,6 +4,7 @@ use Rattle.std.specs.Prelude.{sum_by, All}
 use Rattle.std.proofs.lemmas.Bool.{le-ltb, lt-leb, le-leb, eq-eqb, and_from}
 use Rattle.std.proofs.lemmas.List.Sums.{sum_by-append, sum_by-cons}
 use Rattle.std.proofs.lemmas.List.Elements.{All-cons}
+use Rattle.node_lang.specs.declared.limits.TheConstants.{MAX_CHANNELS, MAX_DEPTH, MAX_NODES, MAX_REGISTERS, MAX_ROUNDS}
 use Rattle.node_lang.proofs.Wholes.{size-terms}
 use Rattle.node_lang.specs.declared.fault.FaultKind.TheVariants as kind
 use Rattle.node_lang.specs.declared.token.Token.{Token}
@@ -48,16 +49,16 @@ same_register j = eq-eqb j j refl
 
 -- the first token of an expression
 opened : (level nodes count : ℕ) (t : Token) (ts : List Token) (more wanted : List Want) (ls : List Lexeme) → opens level more t ≡ Some wanted →
-    level ≤ 64 → nodes < 4096 → count ≡ nodes + 1 → tokens_in ls ≡ t ∷ ts → GoesOn (reading (Expression level ∷ more) nodes ls) wanted count ts
+    level ≤ MAX_DEPTH → nodes < MAX_NODES → count ≡ nodes + 1 → tokens_in ls ≡ t ∷ ts → GoesOn (reading (Expression level ∷ more) nodes ls) wanted count ts
 opened level nodes count t ts more wanted ls o shallow few n e =
     step (Expression level) more wanted nodes count t ts ls e
     (ap (λ p. begun level nodes p (fault_of t)) o
-    ∙ ap (λ b. cond b (Stop kind.TooDeep) (cond (nat_le 4096 nodes) (Stop kind.TooManyNodes) (Go wanted (nodes + 1)))) (le-ltb 64 level shallow)
-    ∙ ap (λ b. cond b (Stop kind.TooManyNodes) (Go wanted (nodes + 1))) (lt-leb 4096 nodes few)
+    ∙ ap (λ b. cond b (Stop kind.TooDeep) (cond (nat_le MAX_NODES nodes) (Stop kind.TooManyNodes) (Go wanted (nodes + 1)))) (le-ltb MAX_DEPTH level shallow)
+    ∙ ap (λ b. cond b (Stop kind.TooManyNodes) (Go wanted (nodes + 1))) (lt-leb MAX_NODES nodes few)
     ∙ ap (Go wanted) (sym n))
 
 -- an expression
-pub expression : (e : Term) (level nodes count : ℕ) (ts : List Token) (more : List Want) (ls : List Lexeme) → level + depth e ≤ 65 → count ≤ 4096 →
+pub expression : (e : Term) (level nodes count : ℕ) (ts : List Token) (more : List Want) (ls : List Lexeme) → level + depth e ≤ MAX_DEPTH + 1 → count ≤ MAX_NODES →
     count ≡ nodes + size e → tokens_in ls ≡ spelled e ts → GoesOn (reading (Expression level ∷ more) nodes ls) more count ts
 expression (Literal n) level nodes count ts more ls d few s e = opened level nodes count _ ts more more ls refl (omega arith) (omega arith) s e
 expression Identifier level nodes count ts more ls d few s e = opened level nodes count _ ts more more ls refl (omega arith) (omega arith) s e
@@ -87,7 +88,7 @@ expression (Conditional c a b) level nodes count ts more ls d few s e =
     (λ l7 e7. exactly token.Close ts more count l7 refl e7)))))))
 
 -- assignments from register j on
-assignments : (es : List Term) (j nodes count : ℕ) (ts : List Token) (more : List Want) (ls : List Lexeme) → All IsSmall es → count ≤ 4096 →
+assignments : (es : List Term) (j nodes count : ℕ) (ts : List Token) (more : List Want) (ls : List Lexeme) → All IsSmall es → count ≤ MAX_NODES →
     count ≡ nodes + sum_by size es → tokens_in ls ≡ assigned j es ts → GoesOn (reading (assigns_wanted j (length es) more) nodes ls) more count ts
 assignments [] j nodes count ts more ls small few s e = record { left = ls; tokens = e; is = ap (λ n. reading more n ls) (let t : nodes ≡ count = omega arith in t) }
 assignments (d ∷ es) j nodes count ts more ls small few s e =
@@ -111,7 +112,7 @@ back_small (e ∷ es) fs small = back_small es fs (λ k d h. small (suc k) d (om
 
 -- a round
 a_round : (s : Step) (registers nodes count : ℕ) (ts : List Token) (more : List Want) (ls : List Lexeme) → length s.next ≡ registers → All IsSmall (terms_of_step s) →
-    count ≤ 4096 → count ≡ nodes + sum_by size (terms_of_step s) → tokens_in ls ≡ block s ts → GoesOn (reading (block_wanted registers more) nodes ls) more count ts
+    count ≤ MAX_NODES → count ≡ nodes + sum_by size (terms_of_step s) → tokens_in ls ≡ block s ts → GoesOn (reading (block_wanted registers more) nodes ls) more count ts
 a_round s registers nodes count ts more ls each small few sizes e =
     let left : IsSmall s.left = small 0 s.left (omega arith) in
     let right : IsSmall s.right = small 1 s.right (omega arith) in
@@ -127,7 +128,7 @@ a_round s registers nodes count ts more ls each small few sizes e =
     (λ l7 e7. rw (← each) (assignments s.next 0 (nodes + size s.left + size s.right) count ts more l7 next few (omega arith) e7))))))))
 
 rounds_of : (ss : List Step) (registers nodes count : ℕ) (ts : List Token) (more : List Want) (ls : List Lexeme) → All (λ s. length s.next ≡ registers) ss →
-    All IsSmall (step_terms ss) → count ≤ 4096 → count ≡ nodes + sum_by size (step_terms ss) → tokens_in ls ≡ blocks ss ts →
+    All IsSmall (step_terms ss) → count ≤ MAX_NODES → count ≡ nodes + sum_by size (step_terms ss) → tokens_in ls ≡ blocks ss ts →
     GoesOn (reading (blocks_wanted (length ss) registers more) nodes ls) more count ts
 rounds_of [] registers nodes count ts more ls each small few s e = record { left = ls; tokens = e; is = ap (λ n. reading more n ls) (let t : nodes ≡ count = omega arith in t) }
 rounds_of (s ∷ ss) registers nodes count ts more ls each small few sizes e =
@@ -158,11 +159,11 @@ whole p ls limits e =
     let n2 : ℕ = n1 + sum_by size (step_terms p.steps) in
     let total : sum_by size (terms p) ≡ sum_by size p.start + (sum_by size (step_terms p.steps) + size p.finish) = size-terms p in
     after _ _ _ _ _ _ _ (exactly token.Rounds _ _ 0 ls refl e)
-    (λ l1 e1. after _ _ _ _ _ _ _ (a_count RoundCount 0 3 (length p.steps) 0 _ _ l1 refl (omega arith) limits.rounds e1)
+    (λ l1 e1. after _ _ _ _ _ _ _ (a_count RoundCount 0 MAX_ROUNDS (length p.steps) 0 _ _ l1 refl (omega arith) limits.rounds e1)
     (λ l2 e2. after _ _ _ _ _ _ _ (exactly token.Channels _ _ 0 l2 refl e2)
-    (λ l3 e3. after _ _ _ _ _ _ _ (a_count (ChannelCount (length p.steps)) 1 4096 p.channels 0 _ _ l3 refl limits.some_channels limits.few_channels e3)
+    (λ l3 e3. after _ _ _ _ _ _ _ (a_count (ChannelCount (length p.steps)) 1 MAX_CHANNELS p.channels 0 _ _ l3 refl limits.some_channels limits.few_channels e3)
     (λ l4 e4. after _ _ _ _ _ _ _ (exactly token.Registers _ _ 0 l4 refl e4)
-    (λ l5 e5. after _ _ _ _ _ _ _ (a_count (RegisterCount (length p.steps)) 1 8 (length p.start) 0 _ _ l5 refl limits.some_registers limits.few_registers e5)
+    (λ l5 e5. after _ _ _ _ _ _ _ (a_count (RegisterCount (length p.steps)) 1 MAX_REGISTERS (length p.start) 0 _ _ l5 refl limits.some_registers limits.few_registers e5)
     (λ l6 e6. after _ _ _ _ _ _ _ (exactly token.Start _ _ 0 l6 refl e6)
     (λ l7 e7. after _ _ _ _ _ _ _ (assignments p.start 0 0 n1 _ _ l7 (front_small p.start _ limits.small) (omega (arith, limits.nodes, total)) (omega arith) e7)
     (λ l8 e8. after _ _ _ _ _ _ _ (rounds_of p.steps (length p.start) n1 n2 _ _ l8 limits.each_register (front_small (step_terms p.steps) _ middle) (omega (arith, limits.nodes, total)) refl e8)

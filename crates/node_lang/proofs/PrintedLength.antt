@@ -7,6 +7,7 @@ use Rattle.std.proofs.lemmas.Bool.{ltb-true}
 use Rattle.std.proofs.lemmas.Fmt.{IsAscii-decimal, length-decimal-le}
 use Rattle.std.proofs.lemmas.List.Elements.{All-append, All-from_get_or, All-head, All-tail, All-weaker}
 use Rattle.std.proofs.lemmas.List.Sums.{AllPass-from_list_all, sum_by-append, sum_by-cons}
+use Rattle.node_lang.specs.declared.limits.TheConstants.{LONGEST_TEXT}
 use Rattle.node_lang.specs.declared.tree.UnOp.{UnOp}
 use Rattle.node_lang.specs.declared.tree.UnOp.TheVariants.{Not}
 use Rattle.node_lang.specs.declared.tree.BinOp.{BinOp}
@@ -175,7 +176,7 @@ printed_short p limits =
     let from_start = both _ _ _ _ (10 * sum_by size p.start + (10 * sum_by size (step_terms p.steps) + (10 * size p.finish + 338))) start from_steps (omega (arith, limits.few_registers)) in
     both _ _ 70 _ 65535 (header_short p limits) from_start (omega (arith, size-terms p, limits.nodes))
 
-pub printed_length : (p : ProgramTree) → IsWithinLimits p → length (printed p) < 65536
+pub printed_length : (p : ProgramTree) → IsWithinLimits p → length (printed p) < LONGEST_TEXT
 printed_length p limits = let short = printed_short p limits in omega (arith, short.short)
 
 pub printed_reads : (p : ProgramTree) → IsWithinLimits p → Reads (printed p) p

@@ -1,5 +1,6 @@
 -- The fault of a whole text: a text that is too long, else the first byte over 127, else the fault at which reading from the left stops.
 use Rattle.std.specs.Prelude.{◌≡◌, ℕ, ◌+◌, ◌<◌, ◌≤◌, List, length, All, take, slice_index}
+use Rattle.node_lang.specs.declared.limits.TheConstants.{LONGEST_TEXT}
 use Rattle.node_lang.specs.declared.fault.FaultKind.{FaultKind}
 use Rattle.node_lang.specs.declared.fault.FaultKind.TheVariants as kind
 use Rattle.node_lang.specs.Lexemes.{lexemes_of}
@@ -13,7 +14,7 @@ pub record IsFirstHighByte (text : List ℕ) (offset : ℕ) : Type 0 where
 
 -- this fault is the one of the text
 pub data FaultsAt (text : List ℕ) : FaultKind → ℕ → Type 0 where
-  too_long : 65536 < length text → FaultsAt text kind.TooLong 65536
-  not_ascii : (offset : ℕ) → length text ≤ 65536 → IsFirstHighByte text offset → FaultsAt text kind.NotAscii offset
-  stopped : (k : FaultKind) (offset from : ℕ) → length text ≤ 65536 → All (λ b. b < 128) text →
+  too_long : LONGEST_TEXT < length text → FaultsAt text kind.TooLong LONGEST_TEXT
+  not_ascii : (offset : ℕ) → length text ≤ LONGEST_TEXT → IsFirstHighByte text offset → FaultsAt text kind.NotAscii offset
+  stopped : (k : FaultKind) (offset from : ℕ) → length text ≤ LONGEST_TEXT → All (λ b. b < 128) text →
       reading program_wanted 0 (lexemes_of text) ≡ Fault k from → offset + from ≡ length text → FaultsAt text k offset

@@ -1,5 +1,6 @@
 -- The grammar: the tokens that spell an expression, a round and a program. Each definition puts them in front of the tokens after them.
 use Rattle.std.specs.Prelude.{◌≡◌, ℕ, ◌+◌, ◌<◌, ◌≤◌, List, [], ◌∷◌, length, All}
+use Rattle.node_lang.specs.declared.limits.TheConstants.{LONGEST_TEXT}
 use Rattle.node_lang.specs.declared.token.Token.{Token}
 use Rattle.node_lang.specs.declared.token.Token.TheVariants as token
 use Rattle.node_lang.specs.Term.{Term, Literal, Identifier, LeftMessage, RightMessage, RegisterValue, Unary, Binary, Conditional, Step, ProgramTree}
@@ -43,7 +44,7 @@ spelling p = token.Rounds ∷ token.Number (length p.steps) ∷ token.Channels �
 
 -- this text reads as this program
 pub record Reads (text : List ℕ) (p : ProgramTree) : Type 0 where
-  pub short : length text ≤ 65536
+  pub short : length text ≤ LONGEST_TEXT
   pub ascii : All (λ b. b < 128) text
   pub tokens : tokens_of text ≡ spelling p
   pub limits : IsWithinLimits p

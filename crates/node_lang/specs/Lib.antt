@@ -1,12 +1,12 @@
 -- The definitions that the contracts cite, in the order of a textbook: programs as trees, the values of
--- operations and expressions, what a node does, rings and global rounds, bounds of values, then the words, tokens
+-- operations and expressions, what a node does, global rounds, bounds of values, then the words, tokens
 -- and grammar of a program text, its printed form, and how a text is read from the left.
 pub mod Term
 pub mod Limits
 pub mod Operations
 pub mod Value
 pub mod Node
-pub mod Ring
+pub mod GlobalRounds
 pub mod Bounds
 pub mod Words
 pub mod Lexemes
@@ -16,3 +16,4 @@ pub mod Reading
 pub mod Faults
 pub mod Viable
 pub mod Code
+pub mod Laws

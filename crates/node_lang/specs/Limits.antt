@@ -1,21 +1,22 @@
 -- The limits that the type of a program keeps.
 use Rattle.std.specs.Prelude.{◌≡◌, ◌^◌, ◌<◌, ◌≤◌, length, All, sum_by}
+use Rattle.node_lang.specs.declared.limits.TheConstants.{MAX_CHANNELS, MAX_DEPTH, MAX_NODES, MAX_REGISTERS, MAX_ROUNDS}
 use Rattle.node_lang.specs.Term.{Term, ProgramTree, depth, size, largest, largest_register, terms}
 
 -- an expression is at most 64 deep, its numbers are below 2^32, and its registers have one digit
 pub record IsSmall (e : Term) : Type 0 where
-  pub depth : depth e ≤ 64
+  pub depth : depth e ≤ MAX_DEPTH
   pub numbers : largest e < 2 ^ 32
   pub registers : largest_register e < 10
 
 pub record IsWithinLimits (p : ProgramTree) : Type 0 where
-  pub rounds : length p.steps ≤ 3
+  pub rounds : length p.steps ≤ MAX_ROUNDS
   pub some_channels : 1 ≤ p.channels
-  pub few_channels : p.channels ≤ 4096
+  pub few_channels : p.channels ≤ MAX_CHANNELS
   pub some_registers : 1 ≤ length p.start
-  pub few_registers : length p.start ≤ 8
+  pub few_registers : length p.start ≤ MAX_REGISTERS
   -- each round has an expression for each register
   pub each_register : All (λ s. length s.next ≡ length p.start) p.steps
   pub small : All IsSmall (terms p)
   -- at most 4,096 expression nodes
-  pub nodes : sum_by size (terms p) ≤ 4096
+  pub nodes : sum_by size (terms p) ≤ MAX_NODES

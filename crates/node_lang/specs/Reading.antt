@@ -1,5 +1,6 @@
 -- How a text is read from the left: what is wanted next, how many expression nodes there are so far, and the lexemes that are left.
-use Rattle.std.specs.Prelude.{◌≡◌, ◌≢◌, ◌-◌, ℕ, zero, suc, ◌+◌, ◌==◌, ◌&&◌, Bool, true, false, nat_lt, nat_le, List, [], ◌∷◌, Option, Some, None, drop, if◌then◌else◌}
+use Rattle.std.specs.Prelude.{◌≡◌, ◌≢◌, ◌-◌, ℕ, zero, suc, ◌+◌, ◌≤◌, ◌==◌, ◌&&◌, Bool, true, false, nat_lt, nat_le, List, [], ◌∷◌, Option, Some, None, drop, if◌then◌else◌}
+use Rattle.node_lang.specs.declared.limits.TheConstants.{MAX_CHANNELS, MAX_DEPTH, MAX_NODES, MAX_REGISTERS, MAX_ROUNDS}
 use Rattle.node_lang.specs.declared.fault.FaultKind.{FaultKind}
 use Rattle.node_lang.specs.declared.fault.TextFault.{TextFault}
 use Rattle.node_lang.specs.declared.fault.FaultKind.TheVariants as kind
@@ -46,8 +47,8 @@ pub data Met : Type 0 where
 
 -- a node of an expression, at this depth and after this many nodes
 abbrev pub node : ℕ → ℕ → List Want → Met
-node depth nodes more = if nat_lt 64 depth then Stop kind.TooDeep
-    else if nat_le 4096 nodes then Stop kind.TooManyNodes else Go more (nodes + 1)
+node depth nodes more = if nat_lt MAX_DEPTH depth then Stop kind.TooDeep
+    else if nat_le MAX_NODES nodes then Stop kind.TooManyNodes else Go more (nodes + 1)
 
 -- a number of the header, from low to high
 abbrev pub counted : ℕ → ℕ → ℕ → List Want → ℕ → Met
@@ -106,17 +107,17 @@ after_count _ n more = more
 
 -- a number of the header that is wanted from low to high
 abbrev pub IsCount : Want → ℕ → ℕ → Type 0
-IsCount RoundCount low high = (low ≡ 0) × (high ≡ 3)
-IsCount (ChannelCount rounds) low high = (low ≡ 1) × (high ≡ 4096)
-IsCount (RegisterCount rounds) low high = (low ≡ 1) × (high ≡ 8)
+IsCount RoundCount low high = (low ≡ 0) × (high ≡ MAX_ROUNDS)
+IsCount (ChannelCount rounds) low high = (low ≡ 1) × (high ≡ MAX_CHANNELS)
+IsCount (RegisterCount rounds) low high = (low ≡ 1) × (high ≡ MAX_REGISTERS)
 IsCount _ low high = ⊥
 
 -- what a token does where this is wanted, with more after it
 abbrev pub meets : Want → List Want → ℕ → Token → Met
 meets (Exactly t) more nodes met = if same_token met t then Go more nodes else Stop (fault_of met)
-meets RoundCount more nodes (token.Number n) = counted 0 3 n (after_count RoundCount n more) nodes
-meets (ChannelCount rounds) more nodes (token.Number n) = counted 1 4096 n (after_count (ChannelCount rounds) n more) nodes
-meets (RegisterCount rounds) more nodes (token.Number n) = counted 1 8 n (after_count (RegisterCount rounds) n more) nodes
+meets RoundCount more nodes (token.Number n) = counted 0 MAX_ROUNDS n (after_count RoundCount n more) nodes
+meets (ChannelCount rounds) more nodes (token.Number n) = counted 1 MAX_CHANNELS n (after_count (ChannelCount rounds) n more) nodes
+meets (RegisterCount rounds) more nodes (token.Number n) = counted 1 MAX_REGISTERS n (after_count (RegisterCount rounds) n more) nodes
 meets (Expression depth) more nodes met = begun depth nodes (opens depth more met) (fault_of met)
 meets _ more nodes met = Stop (fault_of met)
 
@@ -147,3 +148,7 @@ Passes wanted nodes lexemes count left = (more : List Want) → reading (wanted 
 abbrev pub Stops : (List Want → List Want) → ℕ → List Lexeme → ℕ → TextFault → Type 0
 Stops wanted nodes lexemes length fault =
     fault.kind ≢ kind.OutOfMemory → (more : List Want) → reading (wanted more) nodes lexemes ≡ Fault fault.kind (length - fault.offset)
+
+-- A fault stands in a text of `length` bytes or at its end, and want of memory at its beginning.
+abbrev pub IsPlaced : ℕ → TextFault → Type 0
+IsPlaced length fault = (fault.offset ≤ length) × (fault.kind ≡ kind.OutOfMemory → fault.offset ≡ 0)

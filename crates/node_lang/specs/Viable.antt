@@ -1,5 +1,6 @@
 -- The first fault of a program text, without a way of reading: the first place at which the tokens up to it can't begin a program of the language.
 use Rattle.std.specs.Prelude.{◌≡◌, ◌⊎◌, ℕ, zero, suc, ◌+◌, ◌<◌, ◌≤◌, List, [], ◌∷◌, ◌++◌, length, All, sum_by}
+use Rattle.node_lang.specs.declared.limits.TheConstants.{MAX_CHANNELS, MAX_DEPTH, MAX_NODES, MAX_REGISTERS, MAX_ROUNDS}
 use Rattle.node_lang.specs.declared.fault.FaultKind.{FaultKind}
 use Rattle.node_lang.specs.declared.fault.FaultKind.TheVariants as kind
 use Rattle.node_lang.specs.declared.token.Token.{Token}
@@ -66,12 +67,12 @@ pub record BeginsNode (before : List Token) (met : Token) (depth nodes : ℕ) : 
 
 -- a number of the header out of its range: rounds up to 3, channels 1 to 4,096, registers 1 to 8
 pub data IsOutOfRange : List Token → Token → Type 0 where
-  rounds : (n : ℕ) → 3 < n → IsOutOfRange (token.Rounds ∷ []) (token.Number n)
+  rounds : (n : ℕ) → MAX_ROUNDS < n → IsOutOfRange (token.Rounds ∷ []) (token.Number n)
   no_channel : (t : ℕ) → IsOutOfRange (token.Rounds ∷ token.Number t ∷ token.Channels ∷ []) (token.Number 0)
-  channels : (t n : ℕ) → 4096 < n → IsOutOfRange (token.Rounds ∷ token.Number t ∷ token.Channels ∷ []) (token.Number n)
+  channels : (t n : ℕ) → MAX_CHANNELS < n → IsOutOfRange (token.Rounds ∷ token.Number t ∷ token.Channels ∷ []) (token.Number n)
   no_register : (t c : ℕ) →
       IsOutOfRange (token.Rounds ∷ token.Number t ∷ token.Channels ∷ token.Number c ∷ token.Registers ∷ []) (token.Number 0)
-  registers : (t c n : ℕ) → 8 < n →
+  registers : (t c n : ℕ) → MAX_REGISTERS < n →
       IsOutOfRange (token.Rounds ∷ token.Number t ∷ token.Channels ∷ token.Number c ∷ token.Registers ∷ []) (token.Number n)
 
 -- A fault of this kind stands at the token after these. Where two kinds could, the order is that of the rules.
@@ -81,8 +82,8 @@ pub data Stands (before : List Token) (met : Token) : FaultKind → Type 0 where
   out_of_range : IsOutOfRange before met → Stands before met kind.HeaderRange
   unexpected : fault_of met ≡ kind.Unexpected → (IsOutOfRange before met → ⊥) → (IsViable (before ++ met ∷ []) → ⊥) →
       Stands before met kind.Unexpected
-  too_deep : (depth nodes : ℕ) → 64 < depth → BeginsNode before met depth nodes → Stands before met kind.TooDeep
-  too_many : (depth nodes : ℕ) → depth ≤ 64 → 4096 ≤ nodes → BeginsNode before met depth nodes → Stands before met kind.TooManyNodes
+  too_deep : (depth nodes : ℕ) → MAX_DEPTH < depth → BeginsNode before met depth nodes → Stands before met kind.TooDeep
+  too_many : (depth nodes : ℕ) → depth ≤ MAX_DEPTH → MAX_NODES ≤ nodes → BeginsNode before met depth nodes → Stands before met kind.TooManyNodes
 
 -- The first fault of these lexemes after these tokens, with the number of bytes from it to the text's end.
 abbrev pub FirstFault : List Token → List Lexeme → FaultKind → ℕ → Type 0

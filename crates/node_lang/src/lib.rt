@@ -4,6 +4,7 @@
 mod fault;
 mod laws;
 mod lexer;
+mod limits;
 mod memory;
 mod parser;
 mod printing;
@@ -14,7 +15,8 @@ mod tree;
 mod words;
 
 pub use fault::{FaultKind, TextFault};
-pub use laws::{one_reading, printed_is_read_back};
+pub use laws::{one_reading, one_text_fault, printed_is_read_back};
+pub use limits::{LONGEST_TEXT, MAX_CHANNELS, MAX_DEPTH, MAX_NODES, MAX_REGISTERS, MAX_ROUNDS};
 pub use memory::OutOfMemory;
 pub use printing::print;
 pub use program::Program;

@@ -1,15 +1,17 @@
 ghost use Rattle.std.specs.Prelude.{◌≡◌, ◌≢◌, ℕ, ◌+◌, ◌-◌, ◌^◌, ◌<◌, ◌≤◌, [], ◌∷◌, List, Ok, Err, length, map, max, sum_by, All, true, IfOk, IfErr};
 ghost use Rattle.node_lang.specs.declared.fault.FaultKind.TheVariants as kind;
 ghost use Rattle.node_lang.specs.declared.token.Token.TheVariants as token;
+ghost use Rattle.node_lang.specs.declared.limits.TheConstants.{MAX_NODES};
 ghost use Rattle.node_lang.specs.Term.{depth, largest, largest_register, size, step_of, step_terms, term_of};
 ghost use Rattle.node_lang.specs.Limits.{IsSmall, IsWithinLimits};
 ghost use Rattle.node_lang.specs.Words.{register_of};
 ghost use Rattle.node_lang.specs.Lexemes.{tokens_in};
 ghost use Rattle.node_lang.specs.Grammar.{assigned, block, blocks, spelled, spelling};
-ghost use Rattle.node_lang.specs.Reading.{Want, Exactly, Expression, RoundCount, Go, Stop, Whole, Fault, program_wanted, IsCount, after_count, assigns_wanted, block_wanted, blocks_wanted, body_wanted, reading, node, fault_of, same_token, lexemes_left, Passes, Stops};
+ghost use Rattle.node_lang.specs.Reading.{Want, Exactly, Expression, RoundCount, Go, Stop, Whole, Fault, program_wanted, IsCount, after_count, assigns_wanted, block_wanted, blocks_wanted, body_wanted, reading, node, fault_of, same_token, lexemes_left, Passes, Stops, IsPlaced};
 
 use crate::fault::{FaultKind, TextFault};
 use crate::lexer::token_from;
+use crate::limits::{MAX_CHANNELS, MAX_DEPTH, MAX_NODES, MAX_REGISTERS, MAX_ROUNDS};
 use crate::program::Program;
 use crate::token::Token;
 use crate::tree::{Expr, Round};
@@ -23,10 +25,6 @@ struct Header {
     registers: u32,
 }
 
-const MOST_DEEP: u32 = 64;
-
-const MOST_NODES: u32 = 4096;
-
 // A program text, read from the left: the place that is reached, and the expression nodes so far.
 #[derive(Drop)]
 pub(crate) struct Parser<'a> {
@@ -35,7 +33,7 @@ pub(crate) struct Parser<'a> {
     pub(crate) at: usize,
     pub(crate) nodes: u32,
     ghost within: { at ≤ length text.now },
-    ghost few: { nodes ≤ 4096 },
+    ghost few: { nodes ≤ MAX_NODES },
 }
 
 impl<'a> Parser<'a> {
@@ -51,7 +49,7 @@ impl<'a> Parser<'a> {
         ensures place { IfOk result (λ t. t.1 ≤ length self.old.text.now) }
         ensures err { IfErr result (λ f. (w : Want) (more : List Want) (nodes : ℕ) →
             reading (w ∷ more) nodes (lexemes_left self.old.text.now self.old.at) ≡ Fault f.kind (length self.old.text.now - f.offset)) }
-        ensures fault_place { IfErr result (λ f. f.offset ≤ length self.old.text.now) }
+        ensures fault_place { IfErr result (IsPlaced (length self.old.text.now)) }
     {
         let Some(placed) = token_from(self.text, self.at) else {
             return Err(TextFault {
@@ -88,7 +86,7 @@ impl<'a> Parser<'a> {
             ≡ token ∷ tokens_in (lexemes_left self.new.text.now self.new.at)) }
         ensures err { IfErr result (λ f. (nodes : ℕ) → Stops (λ more. Exactly token ∷ more)
             nodes (lexemes_left self.old.text.now self.old.at) (length self.old.text.now) f) }
-        ensures fault_place { IfErr result (λ f. f.offset ≤ length self.old.text.now) }
+        ensures fault_place { IfErr result (IsPlaced (length self.old.text.now)) }
     {
         let (found, offset) = self.next()?;
         if found != token {
@@ -106,17 +104,18 @@ impl<'a> Parser<'a> {
         ensures at { self.new.at ≡ self.old.at }
         ensures ok { IfOk result (λ _. (more : List Want) → node level self.old.nodes more ≡ Go more self.new.nodes) }
         ensures size { IfOk result (λ _. self.new.nodes ≡ self.old.nodes + 1) }
-        ensures shallow { IfOk result (λ _. level ≤ 64) }
+        ensures shallow { IfOk result (λ _. level ≤ MAX_DEPTH) }
         ensures err { IfErr result (λ f. (more : List Want) → node level self.old.nodes more ≡ Stop f.kind) }
         ensures fault_place { IfErr result (λ f. f.offset ≡ offset) }
+        ensures no_memory { IfErr result (λ f. f.kind ≢ kind.OutOfMemory) }
     {
-        if level > MOST_DEEP {
+        if level > MAX_DEPTH {
             return Err(TextFault {
                 kind: FaultKind::TooDeep,
                 offset,
             });
         }
-        if self.nodes >= MOST_NODES {
+        if self.nodes >= MAX_NODES {
             return Err(TextFault {
                 kind: FaultKind::TooManyNodes,
                 offset,
@@ -141,7 +140,7 @@ impl<'a> Parser<'a> {
         ensures size { IfOk result (λ e. self.new.nodes ≡ self.old.nodes + size (term_of e)) }
         ensures err { IfErr result (Stops (λ more. Expression level ∷ more)
             self.old.nodes (lexemes_left self.old.text.now self.old.at) (length self.old.text.now)) }
-        ensures fault_place { IfErr result (λ f. f.offset ≤ length self.old.text.now) }
+        ensures fault_place { IfErr result (IsPlaced (length self.old.text.now)) }
     {
         let (token, offset) = self.next()?;
         let leaf = match token {
@@ -195,7 +194,7 @@ impl<'a> Parser<'a> {
         ensures size { IfOk result (λ e. self.new.nodes ≡ self.old.nodes + size (term_of e)) }
         ensures err { IfErr result (Stops (λ more. Exactly token.Open ∷ Expression level ∷ Exactly token.Close ∷ more)
             self.old.nodes (lexemes_left self.old.text.now self.old.at) (length self.old.text.now)) }
-        ensures fault_place { IfErr result (λ f. f.offset ≤ length self.old.text.now) }
+        ensures fault_place { IfErr result (IsPlaced (length self.old.text.now)) }
     {
         self.expect(Token::Open)?;
         let a = self.expr(level)?;
@@ -218,7 +217,7 @@ impl<'a> Parser<'a> {
         ensures size { IfOk result (λ e. self.new.nodes ≡ self.old.nodes + (size (term_of e.0) + size (term_of e.1))) }
         ensures err { IfErr result (Stops (λ more. Exactly token.Open ∷ Expression level ∷ Exactly token.Comma ∷ Expression level ∷ Exactly token.Close ∷ more)
             self.old.nodes (lexemes_left self.old.text.now self.old.at) (length self.old.text.now)) }
-        ensures fault_place { IfErr result (λ f. f.offset ≤ length self.old.text.now) }
+        ensures fault_place { IfErr result (IsPlaced (length self.old.text.now)) }
     {
         self.expect(Token::Open)?;
         let a = self.expr(level)?;
@@ -243,7 +242,7 @@ impl<'a> Parser<'a> {
         ensures size { IfOk result (λ e. self.new.nodes ≡ self.old.nodes + (size (term_of e.0) + (size (term_of e.1) + size (term_of e.2)))) }
         ensures err { IfErr result (Stops (λ more. Exactly token.Open ∷ Expression level ∷ Exactly token.Comma ∷ Expression level ∷ Exactly token.Comma ∷ Expression level ∷ Exactly token.Close ∷ more)
             self.old.nodes (lexemes_left self.old.text.now self.old.at) (length self.old.text.now)) }
-        ensures fault_place { IfErr result (λ f. f.offset ≤ length self.old.text.now) }
+        ensures fault_place { IfErr result (IsPlaced (length self.old.text.now)) }
     {
         self.expect(Token::Open)?;
         let c = self.expr(level)?;
@@ -268,7 +267,7 @@ impl<'a> Parser<'a> {
         ensures high { IfOk result (λ n. n ≤ high) }
         ensures err { IfErr result (λ f. (w : Want) (nodes : ℕ) (more : List Want) → IsCount w low high →
             reading (w ∷ more) nodes (lexemes_left self.old.text.now self.old.at) ≡ Fault f.kind (length self.old.text.now - f.offset)) }
-        ensures fault_place { IfErr result (λ f. f.offset ≤ length self.old.text.now) }
+        ensures fault_place { IfErr result (IsPlaced (length self.old.text.now)) }
     {
         let (token, offset) = self.next()?;
         let Token::Number(number) = token else {
@@ -296,19 +295,19 @@ impl<'a> Parser<'a> {
         ensures tokens { IfOk result (λ h. tokens_in (lexemes_left self.old.text.now self.old.at)
             ≡ token.Rounds ∷ token.Number h.rounds ∷ token.Channels ∷ token.Number h.channels ∷ token.Registers
             ∷ token.Number h.registers ∷ token.Start ∷ tokens_in (lexemes_left self.new.text.now self.new.at)) }
-        ensures rounds { IfOk result (λ h. h.rounds ≤ 3) }
-        ensures channels { IfOk result (λ h. (1 ≤ h.channels) × (h.channels ≤ 4096)) }
-        ensures registers { IfOk result (λ h. (1 ≤ h.registers) × (h.registers ≤ 8)) }
+        ensures rounds { IfOk result (λ h. h.rounds ≤ MAX_ROUNDS) }
+        ensures channels { IfOk result (λ h. (1 ≤ h.channels) × (h.channels ≤ MAX_CHANNELS)) }
+        ensures registers { IfOk result (λ h. (1 ≤ h.registers) × (h.registers ≤ MAX_REGISTERS)) }
         ensures err { IfErr result (λ f. (nodes : ℕ) → Stops (λ more. Exactly token.Rounds ∷ RoundCount ∷ more)
             nodes (lexemes_left self.old.text.now self.old.at) (length self.old.text.now) f) }
-        ensures fault_place { IfErr result (λ f. f.offset ≤ length self.old.text.now) }
+        ensures fault_place { IfErr result (IsPlaced (length self.old.text.now)) }
     {
         self.expect(Token::Rounds)?;
-        let rounds = self.number(0, 3)?;
+        let rounds = self.number(0, MAX_ROUNDS)?;
         self.expect(Token::Channels)?;
-        let channels = self.number(1, 4096)?;
+        let channels = self.number(1, MAX_CHANNELS)?;
         self.expect(Token::Registers)?;
-        let registers = self.number(1, 8)?;
+        let registers = self.number(1, MAX_REGISTERS)?;
         self.expect(Token::Start)?;
         Ok(Header {
             rounds,
@@ -323,7 +322,7 @@ impl<'a> Parser<'a> {
         ensures ok { IfOk result (λ _. lexemes_left self.old.text.now self.old.at ≡ []) }
         ensures err { IfErr result (λ f. (nodes : ℕ) →
             reading [] nodes (lexemes_left self.old.text.now self.old.at) ≡ Fault f.kind (length self.old.text.now - f.offset)) }
-        ensures fault_place { IfErr result (λ f. f.offset ≤ length self.old.text.now) }
+        ensures fault_place { IfErr result (IsPlaced (length self.old.text.now)) }
     {
         let Some(extra) = token_from(self.text, self.at) else {
             return Ok(());
@@ -350,7 +349,7 @@ impl<'a> Parser<'a> {
         ensures size { IfOk result (λ e. self.new.nodes ≡ self.old.nodes + size (term_of e)) }
         ensures err { IfErr result (Stops (λ more. Exactly (token.Register register) ∷ Exactly token.Equals ∷ Expression 1 ∷ more)
             self.old.nodes (lexemes_left self.old.text.now self.old.at) (length self.old.text.now)) }
-        ensures fault_place { IfErr result (λ f. f.offset ≤ length self.old.text.now) }
+        ensures fault_place { IfErr result (IsPlaced (length self.old.text.now)) }
     {
         self.expect(Token::Register(register))?;
         self.expect(Token::Equals)?;
@@ -369,7 +368,7 @@ impl<'a> Parser<'a> {
         ensures size { IfOk result (λ v. self.new.nodes ≡ self.old.nodes + sum_by size (map term_of v.items)) }
         ensures err { IfErr result (Stops (assigns_wanted 0 registers)
             self.old.nodes (lexemes_left self.old.text.now self.old.at) (length self.old.text.now)) }
-        ensures fault_place { IfErr result (λ f. f.offset ≤ length self.old.text.now) }
+        ensures fault_place { IfErr result (IsPlaced (length self.old.text.now)) }
     {
         let mut expressions = Vec::new(self.alloc);
         'registers: for register in 0..registers {
@@ -394,7 +393,7 @@ impl<'a> Parser<'a> {
             ≡ self.old.nodes + (size (term_of r.left) + (size (term_of r.right) + sum_by size (map term_of r.next.items)))) }
         ensures err { IfErr result (Stops (block_wanted registers)
             self.old.nodes (lexemes_left self.old.text.now self.old.at) (length self.old.text.now)) }
-        ensures fault_place { IfErr result (λ f. f.offset ≤ length self.old.text.now) }
+        ensures fault_place { IfErr result (IsPlaced (length self.old.text.now)) }
     {
         self.expect(Token::Round)?;
         self.expect(Token::Send)?;
@@ -420,7 +419,7 @@ impl<'a> Parser<'a> {
         ensures size { IfOk result (λ v. self.new.nodes ≡ self.old.nodes + sum_by size (step_terms (map step_of v.items))) }
         ensures err { IfErr result (Stops (blocks_wanted count registers)
             self.old.nodes (lexemes_left self.old.text.now self.old.at) (length self.old.text.now)) }
-        ensures fault_place { IfErr result (λ f. f.offset ≤ length self.old.text.now) }
+        ensures fault_place { IfErr result (IsPlaced (length self.old.text.now)) }
     {
         let mut steps = Vec::new(self.alloc);
         'rounds: for index in 0..count {
@@ -438,7 +437,7 @@ impl<'a> Parser<'a> {
         ensures ok { IfOk result (λ _. reading program_wanted 0 (lexemes_left self.old.text.now self.old.at) ≡ Whole) }
         ensures err { IfErr result (λ f. f.kind ≢ kind.OutOfMemory →
             reading program_wanted 0 (lexemes_left self.old.text.now self.old.at) ≡ Fault f.kind (length self.old.text.now - f.offset)) }
-        ensures fault_place { IfErr result (λ f. f.offset ≤ length self.old.text.now) }
+        ensures fault_place { IfErr result (IsPlaced (length self.old.text.now)) }
     {
         let header = self.header()?;
         let start = self.assigns(header.registers)?;

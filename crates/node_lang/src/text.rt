@@ -5,11 +5,10 @@ ghost use Rattle.node_lang.specs.Grammar.{Reads};
 ghost use Rattle.node_lang.specs.Faults.{FaultsAt, IsFirstHighByte};
 
 use crate::fault::{FaultKind, TextFault};
+use crate::limits::LONGEST_TEXT;
 use crate::parser::Parser;
 use crate::program::Program;
 use std::alloc::Global;
-
-const LONGEST: usize = 65_536;
 
 // The first byte over 127.
 fn high_byte(text: &[u8]) -> Option<usize>
@@ -29,15 +28,16 @@ fn high_byte(text: &[u8]) -> Option<usize>
 pub fn parse(alloc: Global, text: &[u8]) -> Result<Program, TextFault>
     ensures program { IfOk result (Reads text.now) }
     ensures none { IfErr result (λ f. f.kind ≢ kind.OutOfMemory → (p : ProgramTree) → Reads text.now p → ⊥) }
+    ensures memory { IfErr result (λ f. f.kind ≡ kind.OutOfMemory → f.offset ≡ 0) }
     ensures fault { IfErr result (λ f. f.kind ≢ kind.OutOfMemory → FaultsAt text.now f.kind f.offset) }
-    ensures too_long { 65536 < length text.now → result ≡ Err (record { kind = kind.TooLong; offset = 65536 }) }
-    ensures not_ascii { (offset : ℕ) → length text.now ≤ 65536 → IsFirstHighByte text.now offset →
+    ensures too_long { LONGEST_TEXT < length text.now → result ≡ Err (record { kind = kind.TooLong; offset = LONGEST_TEXT }) }
+    ensures not_ascii { (offset : ℕ) → length text.now ≤ LONGEST_TEXT → IsFirstHighByte text.now offset →
         result ≡ Err (record { kind = kind.NotAscii; offset = offset }) }
 {
-    if text.len() > LONGEST {
+    if text.len() > LONGEST_TEXT {
         return Err(TextFault {
             kind: FaultKind::TooLong,
-            offset: LONGEST,
+            offset: LONGEST_TEXT,
         });
     }
     if let Some(offset) = high_byte(text) {

@@ -12,12 +12,13 @@ pub mod Lines
 pub mod TableText
 pub mod Report
 pub use Rattle.node_lang.specs.Term
-pub use Rattle.node_lang.specs.Ring
+pub use Rattle.node_lang.specs.GlobalRounds
 pub use Rattle.node_lang.specs.Grammar
 pub use Rattle.node_lang.specs.Faults
 pub use Rattle.lang_check.specs.Acceptance
 pub use Rattle.lang_check.specs.Refusals
 pub use Rattle.win_index.specs.Windows
+pub use Rattle.win_index.specs.Ring
 pub use Rattle.win_index.specs.RingFaults
 pub use Rattle.win_index.specs.ShapeRange
 pub use Rattle.win_index.specs.ShapeFaults

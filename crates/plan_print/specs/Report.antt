@@ -6,7 +6,8 @@ use Rattle.node_lang.specs.declared.fault.FaultKind.{FaultKind}
 use Rattle.node_lang.specs.declared.fault.FaultKind.TheVariants as kind
 use Rattle.node_lang.specs.Term.{ProgramTree}
 use Rattle.node_lang.specs.Bounds.{finish_bound}
-use Rattle.node_lang.specs.Ring.{IsRing, channel_at, channels_of}
+use Rattle.node_lang.specs.GlobalRounds.{channel_at, channels_of}
+use Rattle.win_index.specs.Ring.{IsRing}
 use Rattle.node_lang.specs.Grammar.{Reads}
 use Rattle.node_lang.specs.Faults.{FaultsAt}
 use Rattle.lang_check.specs.declared.acceptance.CheckFault.{CheckFault}

@@ -2,7 +2,7 @@
 use Rattle.std.specs.Prelude.{ℕ}
 use Rattle.plan_print.specs.declared.task.Task.{Task}
 use Rattle.plan_print.specs.declared.task.Task.TheVariants.{Check, Table, Judge, Run, Plan}
-use Rattle.plan_print.specs.declared.task.TheConstants.{LONGEST_TEXT}
+use Rattle.node_lang.specs.declared.limits.TheConstants.{LONGEST_TEXT}
 
 -- the number of identifiers that it is for
 abbrev pub ids_of : Task → ℕ

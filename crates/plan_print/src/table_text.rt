@@ -16,7 +16,7 @@ use std::alloc::{AllocError, Global};
 use std::fmt::Write as _;
 use std::io::Write;
 use table_fill::Table;
-use win_index::count_of_windows;
+use win_index::{MAX_WINDOW_LEN, count_of_windows};
 
 /// Writes the text of a table: a line with the version, a line with the numbers of rounds, identifiers
 /// and channels, a line for each window and its channel in the windows' order, and the line `end`.
@@ -49,7 +49,7 @@ pub(crate) fn table_text(alloc: Global, table: &Table) -> Result<String, AllocEr
     ensures { IfOk result (λ text. string_bytes text ≡ written.table_text table.now) }
 {
     let mut text = head_lines(alloc, table)?;
-    let mut cells = [0u32; 7];
+    let mut cells = [0u32; MAX_WINDOW_LEN];
     let window = &mut cells[..window_len(table)];
     write_first_window(table, window);
     write_entries(&mut text, table, window)?;

@@ -1,7 +1,6 @@
 //! The tasks that the program can be asked to do.
 
-/// The most bytes that a program text may have.
-pub const LONGEST_TEXT: usize = 65_536;
+use node_lang::LONGEST_TEXT;
 
 /// What the words of a command ask for.
 #[derive(Debug, PartialEq, Eq, Drop)]

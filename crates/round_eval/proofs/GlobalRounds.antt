@@ -4,7 +4,7 @@ use Rattle.std.proofs.Math.Nat.{mod-lt}
 use Rattle.std.proofs.lemmas.List.FromFn.{fill_by_all}
 use Rattle.node_lang.specs.Term.{ProgramTree}
 use Rattle.node_lang.specs.Node.{channel}
-use Rattle.node_lang.specs.Ring.{left_of, right_of, state, channel_at, channels_of}
+use Rattle.node_lang.specs.GlobalRounds.{left_of, right_of, state, channel_at, channels_of}
 use Rattle.round_eval.specs.Rows.{row, HoldsRows, next_row}
 
 module _ (p : ProgramTree) (x cells : List ℕ) (r : ℕ) (held : HoldsRows cells (length p.start) (length x) (state p x r)) where

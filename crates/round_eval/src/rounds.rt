@@ -1,6 +1,6 @@
 ghost use Rattle.std.specs.Prelude.{◌≡◌, ℕ, ◌+◌, ◌*◌, ◌<◌, ◌≤◌, length, slice_index, All, IfOk};
 ghost use Rattle.node_lang.specs.Node as rounds;
-ghost use Rattle.node_lang.specs.Ring.{state, channels_of};
+ghost use Rattle.node_lang.specs.GlobalRounds.{state, channels_of};
 ghost use Rattle.round_eval.specs.Rows.{row, HoldsRows, next_row};
 
 use crate::node::{channel, sent_to_left, sent_to_right, start_state, step};
@@ -13,30 +13,31 @@ use win_index::Ring;
 /// The channels of a ring after all rounds of a plan, in the order of the places: in each round all nodes
 /// send, and then all of them step. The ring has the plan's shape.
 pub fn plain_run(alloc: Global, plan: &Plan, ring: &Ring) -> Result<Vec<u32>, OutOfMemory>
-    requires ids { ring.now.shape.ids ≡ plan.now.ids }
-    requires rounds { ring.now.shape.rounds ≡ length plan.now.program.steps }
-    ensures { IfOk result (λ channels. channels.items ≡ channels_of plan.now.program ring.now.ids.items) }
+    requires ids { ring.now.ids ≡ plan.now.ids }
+    requires rounds { ring.now.rounds ≡ length plan.now.program.steps }
+    ensures { IfOk result (λ channels. channels.items ≡ channels_of plan.now.program ring.now.places) }
 {
     let states = last_states(alloc, plan, ring)?;
-    let mut channels = zeros(alloc, ring.ids.len())?;
+    let mut channels = zeros(alloc, ring.len() as usize)?;
     channel_all(plan, &states, &mut channels);
     Ok(channels)
 }
 
 // What each node of a ring holds after all rounds, row by row.
 fn last_states(alloc: Global, plan: &Plan, ring: &Ring) -> Result<Vec<u32>, OutOfMemory>
-    requires ids { ring.now.shape.ids ≡ plan.now.ids }
-    requires rounds { ring.now.shape.rounds ≡ length plan.now.program.steps }
+    requires ids { ring.now.ids ≡ plan.now.ids }
+    requires rounds { ring.now.rounds ≡ length plan.now.program.steps }
     ensures { IfOk result (λ states.
-        HoldsRows states.items (length plan.now.program.start) (length ring.now.ids.items)
-        (state plan.now.program ring.now.ids.items (length plan.now.program.steps))) }
+        HoldsRows states.items (length plan.now.program.start) (length ring.now.places)
+        (state plan.now.program ring.now.places (length plan.now.program.steps))) }
 {
-    let places = ring.ids.len();
+    let ids = ring.ids();
+    let places = ids.len();
     let width = width_of(plan);
     let mut states = zeros(alloc, places * width)?;
     let mut next = zeros(alloc, places * width)?;
-    start_all(plan, &ring.ids, &mut states);
-    for round in 0..ring.shape.rounds {
+    start_all(plan, ids, &mut states);
+    for round in 0..plan.shape().rounds() {
         global_round(plan, round, places, &states, &mut next);
         mem::swap(&mut states, &mut next);
     }

@@ -3,7 +3,8 @@ use Rattle.std.proofs.Common.{◌≡◌, ℕ, zero, suc, ◌+◌, ◌-◌, ◌*�
 use Rattle.std.proofs.Math.Nat.{mod-add-mod, add-mod_right, mod-eq_of_lt}
 use Rattle.node_lang.specs.Term.{ProgramTree}
 use Rattle.node_lang.specs.Node.{start}
-use Rattle.node_lang.specs.Ring.{IsRing, left_of, right_of, state}
+use Rattle.node_lang.specs.GlobalRounds.{left_of, right_of, state}
+use Rattle.win_index.specs.Ring.{IsRing}
 use Rattle.win_index.specs.Arcs.{arc, window_around}
 use Rattle.unroll.specs.Line.{between, item, line, middle_state}
 use Rattle.unroll.proofs.Lines.{between_same, line_start, line_next}

@@ -1,5 +1,6 @@
 ghost use Rattle.std.specs.Prelude.{◌≡◌, ℕ, ◌+◌, ◌*◌, ◌<◌, ◌≤◌, List, [], ◌∷◌, length};
-ghost use Rattle.node_lang.specs.Ring.{IsRing, state};
+ghost use Rattle.node_lang.specs.GlobalRounds.{state};
+ghost use Rattle.win_index.specs.Ring.{IsRing};
 ghost use Rattle.node_lang.specs.Term.{ProgramTree};
 ghost use Rattle.node_lang.specs.Bounds.{register_bounds, IsWithin};
 ghost use Rattle.unroll.specs.Line.{line, middle_state};

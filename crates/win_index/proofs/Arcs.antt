@@ -5,7 +5,7 @@ use Rattle.std.proofs.lemmas.Bool.{cases_lt, cases_order}
 use Rattle.std.proofs.lemmas.Grind.{same_number_lists}
 use Rattle.std.proofs.lemmas.List.FromFn.{length-map-range_with_len, get_or-map-range_with_len, take-map-range_with_len}
 use Rattle.std.proofs.lemmas.Nat.{mul-le, mod_below, div-add-mod'}
-use Rattle.node_lang.specs.Ring.{IsRing}
+use Rattle.win_index.specs.Ring.{IsRing}
 use Rattle.win_index.specs.Arcs.{arc, window_around}
 use Rattle.win_index.specs.Windows.{IsWindow}
 

@@ -4,6 +4,7 @@ use Rattle.std.specs.List.{range_with_len}
 use Rattle.std.proofs.lemmas.List.FromFn.{length-range_with_len, length-map-range_with_len, get_or-range_with_len}
 use Rattle.std.proofs.lemmas.List.Concat.{flat_map-append}
 use Rattle.std.proofs.lemmas.Option.{slice_get-map, slice_get-get_or}
+use Rattle.win_index.specs.declared.limits.TheConstants.{MAX_BLOCKS}
 use Rattle.win_index.specs.Blocks.{block_count}
 use Rattle.win_index.specs.Jobs.{level_jobs, jobs_of}
 use Rattle.win_index.specs.ShapeRange.{HasIds, HasFewWindows}
@@ -12,7 +13,7 @@ use Rattle.win_index.proofs.Numbers.{length-windows}
 use Rattle.win_index.proofs.Kept.{range_with_len-append, slice_get-append_left, slice_get-append_right}
 
 -- at most 2^20 windows fill at most 4,096 blocks
-pub few_blocks : (m t level : ℕ) → HasIds m t → HasFewWindows m t → level ≤ t → block_count m level ≤ 4096
+pub few_blocks : (m t level : ℕ) → HasIds m t → HasFewWindows m t → level ≤ t → block_count m level ≤ MAX_BLOCKS
 few_blocks m t level ids few le =
     let most = level_is_few m t level (2 * level + 1) refl ids few le in
     omega (arith, most, length-windows (2 * level + 1) m)

@@ -12,3 +12,4 @@ pub mod Arcs
 pub mod Tuples
 pub mod Order
 pub mod JobPlaces
+pub mod OneFault

@@ -1,6 +1,6 @@
 -- The definitions that the contracts cite: windows in order and their numbers, how many there are, the
--- window after a window, which numbers make a shape, blocks of windows and jobs, what is wrong first with a
--- ring, and windows at the places of a ring. Rings themselves stand in node_lang.
+-- window after a window, which numbers make a shape, blocks of windows and jobs, rings, the windows at their
+-- places, what is wrong first with a shape or a ring, and the statements of the laws.
 pub mod Windows
 pub mod Falling
 pub mod Lexicographic
@@ -8,6 +8,8 @@ pub mod Successor
 pub mod ShapeRange
 pub mod Blocks
 pub mod Jobs
+pub mod Ring
 pub mod Arcs
 pub mod ShapeFaults
 pub mod RingFaults
+pub mod Laws

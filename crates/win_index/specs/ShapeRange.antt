@@ -1,15 +1,16 @@
 -- Which numbers of identifiers and rounds make a shape.
-use Rattle.std.specs.Prelude.{ℕ, ◌+◌, ◌*◌, ◌^◌, ◌≤◌, length}
+use Rattle.std.specs.Prelude.{ℕ, ◌+◌, ◌*◌, ◌≤◌, length}
+use Rattle.win_index.specs.declared.limits.TheConstants.{MAX_IDS, MAX_WINDOWS}
 use Rattle.win_index.specs.Windows.{windows}
 
 -- m identifiers are enough for a ring of 2t+2 nodes, and at most 1,024
 pub record HasIds (m t : ℕ) : Type 0 where
   pub enough : 2 * t + 2 ≤ m
-  pub few : m ≤ 1024
+  pub few : m ≤ MAX_IDS
 
 -- there are at most 2^20 windows of level t, which are those of length 2t+1
 abbrev pub HasFewWindows : ℕ → ℕ → Type 0
-HasFewWindows m t = length (windows (2 * t + 1) m) ≤ 2 ^ 20
+HasFewWindows m t = length (windows (2 * t + 1) m) ≤ MAX_WINDOWS
 
 -- m identifiers and t rounds make a shape
 pub record IsShape (m t : ℕ) : Type 0 where

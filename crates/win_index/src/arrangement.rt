@@ -6,17 +6,78 @@ ghost use Rattle.win_index.specs.Windows.{is_used, unused, windows, number_of, I
 ghost use Rattle.win_index.specs.Falling.{falling};
 ghost use Rattle.win_index.specs.Successor.{IsNext, IsLast};
 
-// How many such lists of this length there are.
-pub(crate) fn count_of_lists(ids: u32, len: usize) -> u64
-    requires len { len ≤ ids }
-    requires fits { falling ids len < 2 ^ 64 }
-    ensures { result ≡ length (windows len ids) }
-{
-    let mut count = 1;
-    for place in 0..len {
-        count *= u64::from(ids) - place as u64;
+// The lists of one length, in order. Their number has at most 64 bits.
+#[derive(Clone, Copy)]
+pub(crate) struct Lists {
+    pub(crate) ids: u32,
+    pub(crate) len: usize,
+    pub(crate) ghost short: { len ≤ ids },
+    pub(crate) ghost few: { falling ids len < 2 ^ 64 },
+}
+
+impl Lists {
+    // How many there are.
+    pub(crate) fn count(self) -> u64
+        ensures value { result ≡ length (windows self.len self.ids) }
+        ensures some { 0 < result }
+    {
+        let Lists { ids, len } = self;
+        let mut count = 1;
+        for place in 0..len {
+            count *= u64::from(ids) - place as u64;
+        }
+        count
     }
-    count
+
+    // The number of a list that is known to be one of them.
+    pub(crate) fn number(self, list: &[u32]) -> u64
+        requires { IsWindow self.len self.ids list.now }
+        ensures item { slice_get (windows self.len self.ids) result ≡ Some list.now }
+        ensures below { result < length (windows self.len self.ids) }
+    {
+        let Lists { ids, len: _ } = self;
+        let mut number = 0;
+        for (place, x) in list.iter().enumerate() {
+            let free = u64::from(ids) - place as u64;
+            let digit = unused_below(&list[..place], *x);
+            number = number * free + digit;
+        }
+        number
+    }
+
+    // The number of a list, or `None` where it is none of them.
+    pub(crate) fn find(self, list: &[u32]) -> Option<u64>
+        ensures number { result ≡ number_of self.len self.ids list.now }
+        ensures below { IfSome result (λ n. n < length (windows self.len self.ids)) }
+    {
+        let Lists { ids, len } = self;
+        if list.len() == len && is_window(ids, list) {
+            Some(self.number(list))
+        } else {
+            None
+        }
+    }
+
+    // Writes the list with this number.
+    pub(crate) fn write(self, number: u64, out: &mut [u32])
+        requires below { number < length (windows self.len self.ids) }
+        requires room { length out.old ≡ self.len }
+        ensures item { slice_get (windows self.len self.ids) number ≡ Some out.new }
+        ensures window { IsWindow self.len self.ids out.new }
+    {
+        write_list(self.ids, number, out, self.len);
+    }
+
+    // Writes the next list over this one, or says that it is the last.
+    pub(crate) fn write_next(self, list: &mut [u32]) -> bool
+        requires { IsWindow self.len self.ids list.old }
+        ensures next { OnTrue result (IsNext self.len self.ids list.old list.new) }
+        ensures last { OnFalse result (IsLast self.len self.ids list.old) }
+        ensures same { OnFalse result (list.new ≡ list.old) }
+        ensures window { IsWindow self.len self.ids list.new }
+    {
+        write_next(self.ids, list, self.len)
+    }
 }
 
 // Whether at most `most` lists of this length are there.
@@ -36,7 +97,7 @@ pub(crate) fn are_few(ids: u32, len: usize, most: u32) -> bool
 }
 
 // Whether the list has distinct numbers below `ids`.
-pub(crate) fn is_window(ids: u32, list: &[u32]) -> bool
+fn is_window(ids: u32, list: &[u32]) -> bool
     ensures { IsTrue result ↔ IsWindow (length list.now) ids list.now }
 {
     for (place, x) in list.iter().enumerate() {
@@ -60,35 +121,6 @@ fn unused_below(before: &[u32], x: u32) -> u64
     ensures { result ≡ length (unused x before.now) }
 {
     u64::from(x) - smaller_before(before, x) as u64
-}
-
-// The number of the list among those of its length.
-pub(crate) fn number_of_list(ids: u32, list: &[u32]) -> u64
-    requires window { IsWindow (length list.now) ids list.now }
-    requires fits { falling ids (length list.now) < 2 ^ 64 }
-    ensures number { slice_get (windows (length list.now) ids) result ≡ Some list.now }
-    ensures below { result < falling ids (length list.now) }
-{
-    let mut number = 0;
-    for (place, x) in list.iter().enumerate() {
-        let free = u64::from(ids) - place as u64;
-        let digit = unused_below(&list[..place], *x);
-        number = number * free + digit;
-    }
-    number
-}
-
-// The number of the list among those of this length, or `None` where it is none of them.
-pub(crate) fn find_number(ids: u32, len: usize, list: &[u32]) -> Option<u64>
-    requires { falling ids len < 2 ^ 64 }
-    ensures number { result ≡ number_of len ids list.now }
-    ensures below { IfSome result (λ n. n < falling ids len) }
-{
-    if list.len() == len && is_window(ids, list) {
-        Some(number_of_list(ids, list))
-    } else {
-        None
-    }
 }
 
 // The least number from `low` on that is below `ids` and not among those before.
@@ -116,7 +148,7 @@ fn nth_unused(ids: u32, before: &[u32], place: u64) -> u32
 }
 
 // Writes the list with this number, of those of `len` numbers, into the first `len` cells.
-pub(crate) fn write_list(ids: u32, number: u64, list: &mut [u32], len: usize)
+fn write_list(ids: u32, number: u64, list: &mut [u32], len: usize)
     requires room { len ≤ length list.old }
     requires below { number < length (windows len ids) }
     ensures item { slice_get (windows len ids) number ≡ Some (take len list.new) }
@@ -132,7 +164,7 @@ pub(crate) fn write_list(ids: u32, number: u64, list: &mut [u32], len: usize)
 }
 
 // Writes the next list over the one in the first `len` cells, or says that it is the last.
-pub(crate) fn write_next(ids: u32, list: &mut [u32], len: usize) -> bool
+fn write_next(ids: u32, list: &mut [u32], len: usize) -> bool
     requires room { len ≤ length list.old }
     requires window { IsWindow len ids (take len list.old) }
     ensures next { OnTrue result (IsNext len ids (take len list.old) (take len list.new)) }

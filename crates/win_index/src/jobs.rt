@@ -1,10 +1,8 @@
+use crate::limits::{BLOCK_WINDOWS, MAX_BLOCKS, MAX_ROUNDS};
 use crate::shape::Shape;
 
-/// How many windows a block holds; the last block of a level may hold fewer.
-pub const BLOCK_WINDOWS: u32 = 256;
-
 impl Shape {
-    ghost use Rattle.std.specs.Prelude.{◌≡◌, ◌*◌, ◌<◌, ◌≤◌, Some, length, slice_get};
+    ghost use Rattle.std.specs.Prelude.{◌≡◌, ◌+◌, ◌*◌, ◌<◌, ◌≤◌, Some, length, slice_get};
     ghost use Rattle.win_index.specs.Blocks.{block_count};
     ghost use Rattle.win_index.specs.Jobs.{jobs_of};
 
@@ -13,7 +11,7 @@ impl Shape {
     pub fn blocks(&self, level: u32) -> u32
         requires { level ≤ self.now.rounds }
         ensures value { result ≡ block_count self.now.ids level }
-        ensures few { result ≤ 4096 }
+        ensures few { result ≤ MAX_BLOCKS }
     {
         self.count(level).div_ceil(BLOCK_WINDOWS)
     }
@@ -21,7 +19,7 @@ impl Shape {
     /// How many jobs there are: one for each block of each level from 0 to `t`.
     pub fn jobs(&self) -> u32
         ensures value { result ≡ length (jobs_of self.now.ids self.now.rounds) }
-        ensures few { result ≤ 4 * 4096 }
+        ensures few { result ≤ (MAX_ROUNDS + 1) * MAX_BLOCKS }
     {
         let mut jobs = 0;
         for level in 0..self.rounds + 1 {

@@ -4,14 +4,17 @@
 mod arrangement;
 mod jobs;
 mod laws;
+mod limits;
 mod ring;
 mod shape;
 
-pub use jobs::BLOCK_WINDOWS;
 pub use laws::{
-    blocks_are_few, count_of_windows, number_of_window, places_of_arcs, rings_have_tuples,
-    rings_have_windows, tuples_are_rings, window_of_number, windows_are_in_order,
-    windows_have_numbers,
+    blocks_are_few, count_of_windows, number_of_window, one_ring_fault, places_of_arcs,
+    rings_have_tuples, rings_have_windows, tuples_are_rings, window_of_number,
+    windows_are_in_order, windows_have_numbers,
+};
+pub use limits::{
+    BLOCK_WINDOWS, MAX_BLOCKS, MAX_IDS, MAX_ROUNDS, MAX_TUPLE_LEN, MAX_WINDOW_LEN, MAX_WINDOWS,
 };
 pub use ring::{Ring, RingFault};
 pub use shape::{Shape, ShapeFault};

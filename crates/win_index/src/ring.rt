@@ -1,6 +1,8 @@
-ghost use Rattle.node_lang.specs.Ring.{IsRing};
+ghost use Rattle.win_index.specs.Ring.{IsRing};
 
+use crate::limits::MAX_IDS;
 use crate::shape::Shape;
+use std::marker::Model;
 
 /// What is wrong with a list of identifiers that is no ring of a shape.
 #[derive(Clone, Copy, Debug, PartialEq, Eq)]
@@ -17,22 +19,31 @@ pub enum RingFault {
 
 /// An oriented ring of a shape: `2t+2` to 1,024 places with distinct identifiers, read in a circle. The
 /// right neighbour of place `i` is place `i+1`, and that of the last place is place 0.
-#[derive(Debug, Drop)]
+#[derive(Drop)]
 pub struct Ring {
-    pub shape: Shape,
-    pub ids: Vec<u32>,
-    pub ghost valid: { IsRing shape.ids shape.rounds ids.items },
+    shape: Shape,
+    ids: Vec<u32>,
+}
+
+impl Model for Ring {
+    ghost use Rattle.win_index.specs.Ring.{OrientedRing, IsRing};
+
+    ghost Value = { OrientedRing };
+
+    ghost view = { λ r. record { ids = r.shape.ids; rounds = r.shape.rounds; places = r.ids.items } };
+
+    ghost invariant = { λ r. IsRing r.shape.ids r.shape.rounds r.ids.items };
 }
 
 impl Ring {
-    ghost use Rattle.std.specs.Prelude.{◌≡◌, ◌+◌, ◌*◌, ◌<◌, ◌≤◌, ◌↔◌, IfOk, IfErr, IsOk, IsTrue, length, vec_len, slice_get, Some};
+    ghost use Rattle.std.specs.Prelude.{◌≡◌, ◌+◌, ◌*◌, ◌<◌, ◌≤◌, ◌↔◌, IfOk, IfErr, IsOk, IsTrue, length, slice_get, Some};
     ghost use Rattle.win_index.specs.Arcs.{window_around};
     ghost use Rattle.win_index.specs.RingFaults.{IsFirstFault};
 
     /// The ring of these identifiers, or the list and what is wrong with it first: its length, else
     /// the least place whose identifier is too large or stood before.
     pub fn new(shape: Shape, ids: Vec<u32>) -> Result<Ring, (Vec<u32>, RingFault)>
-        ensures ok { IfOk result (λ ring. (ring.shape ≡ shape) × (ring.ids ≡ ids)) }
+        ensures ok { IfOk result (λ ring. ring ≡ record { ids = shape.ids; rounds = shape.rounds; places = ids.items }) }
         ensures exact { IsOk result ↔ IsRing shape.ids shape.rounds ids.items }
         ensures err { IfErr result (λ e. (e.0 ≡ ids) × IsFirstFault shape.ids shape.rounds ids.items e.1) }
     {
@@ -44,30 +55,42 @@ impl Ring {
 
     /// The shape that the ring was made for.
     pub fn shape(&self) -> Shape
-        ensures { result ≡ self.now.shape }
+        ensures ids { result.ids ≡ self.now.ids }
+        ensures rounds { result.rounds ≡ self.now.rounds }
+        ensures valid { IsRing self.now.ids self.now.rounds self.now.places }
     {
         self.shape
     }
 
     /// The number of places, `2t+2` to 1,024.
     pub fn len(&self) -> u32
-        ensures { result ≡ vec_len self.now.ids }
+        ensures value { result ≡ length self.now.places }
+        ensures valid { IsRing self.now.ids self.now.rounds self.now.places }
+        ensures few { result ≤ MAX_IDS }
     {
         self.ids.len() as u32
     }
 
+    /// The identifiers, from place 0 on.
+    pub fn ids(&self) -> &[u32]
+        ensures value { result.now ≡ self.now.places }
+        ensures valid { IsRing self.now.ids self.now.rounds self.now.places }
+        ensures few { length result.now ≤ MAX_IDS }
+    {
+        &self.ids
+    }
+
     /// The identifier of a place.
     pub fn id(&self, place: u32) -> u32
-        requires { place < vec_len self.now.ids }
-        ensures { slice_get self.now.ids.items place ≡ Some result }
+        requires { place < length self.now.places }
+        ensures { slice_get self.now.places place ≡ Some result }
     {
         self.ids[place as usize]
     }
 
     /// Whether the two rings have one shape and the same identifiers from place 0 on.
     pub fn same(&self, other: &Ring) -> bool
-        ensures { IsTrue result ↔ ((self.now.shape.ids ≡ other.now.shape.ids)
-            × (self.now.shape.rounds ≡ other.now.shape.rounds) × (self.now.ids.items ≡ other.now.ids.items)) }
+        ensures { IsTrue result ↔ (self.now ≡ other.now) }
     {
         self.ids.as_slice() == other.ids.as_slice() && self.shape == other.shape
     }
@@ -75,15 +98,16 @@ impl Ring {
     /// Writes the window of level `r` at a place, which is the identifiers from `r` places to its left to
     /// `r` places to its right, into the `2r+1` cells of `out`.
     pub fn window_at(&self, place: u32, level: u32, out: &mut [u32])
-        requires place { place < vec_len self.now.ids }
-        requires level { level ≤ self.now.shape.rounds }
+        requires place { place < length self.now.places }
+        requires level { level ≤ self.now.rounds }
         requires room { length out.old ≡ 2 * level + 1 }
-        ensures { out.new ≡ window_around self.now.ids.items level place }
+        ensures window { out.new ≡ window_around self.now.places level place }
+        ensures valid { IsRing self.now.ids self.now.rounds self.now.places }
     {
-        let len = self.ids.len();
-        let start = place as usize + len - level as usize;
+        let ids = self.ids();
+        let start = place as usize + ids.len() - level as usize;
         for (k, cell) in out.iter_mut().enumerate() {
-            *cell = self.ids[(start + k) % len];
+            *cell = ids[(start + k) % ids.len()];
         }
     }
 }

@@ -1,9 +1,9 @@
 ghost use Rattle.std.specs.Prelude.{◌≤◌};
+ghost use Rattle.win_index.specs.declared.limits.TheConstants.{MAX_ROUNDS};
 ghost use Rattle.win_index.specs.ShapeRange.{HasIds, HasFewWindows};
 
-use crate::arrangement::{
-    are_few, count_of_lists, find_number, number_of_list, write_list, write_next,
-};
+use crate::arrangement::{Lists, are_few};
+use crate::limits::{MAX_IDS, MAX_ROUNDS, MAX_WINDOWS};
 
 /// Why there is no shape.
 #[derive(Clone, Copy, Debug, PartialEq, Eq)]
@@ -20,9 +20,9 @@ pub enum ShapeFault {
 /// list of `2t+2` distinct identifiers. Windows of a level, and tuples, are numbered in lexicographic order.
 #[derive(Clone, Copy, Debug, PartialEq, Eq)]
 pub struct Shape {
-    pub ids: u32,
-    pub rounds: u32,
-    pub ghost few_rounds: { rounds ≤ 3 },
+    pub(crate) ids: u32,
+    pub(crate) rounds: u32,
+    pub ghost few_rounds: { rounds ≤ MAX_ROUNDS },
     pub ghost in_range: { HasIds ids rounds },
     pub ghost few_windows: { HasFewWindows ids rounds },
 }
@@ -38,15 +38,15 @@ impl Shape {
     /// The shape of `ids` identifiers and `rounds` rounds, or what is wrong first: `IdsOutOfRange`, else
     /// `TooManyWindows`.
     pub fn new(ids: u32, rounds: u32) -> Result<Shape, ShapeFault>
-        requires { rounds ≤ 3 }
+        requires { rounds ≤ MAX_ROUNDS }
         ensures ok { IfOk result (λ shape. (shape.ids ≡ ids) × (shape.rounds ≡ rounds)) }
         ensures exact { IsOk result ↔ IsShape ids rounds }
         ensures err { IfErr result (IsFirstShapeFault ids rounds) }
     {
-        if ids < 2 * rounds + 2 || ids > 1024 {
+        if ids < 2 * rounds + 2 || ids > MAX_IDS {
             return Err(ShapeFault::IdsOutOfRange);
         }
-        if !are_few(ids, window_len(rounds), 1 << 20) {
+        if !are_few(ids, 2 * rounds as usize + 1, MAX_WINDOWS) {
             return Err(ShapeFault::TooManyWindows);
         }
         Ok(Shape { ids, rounds })
@@ -69,16 +69,18 @@ impl Shape {
     /// How many windows of this level there are.
     pub fn count(&self, level: u32) -> u32
         requires { level ≤ self.now.rounds }
-        ensures { result ≡ length (windows (2 * level + 1) self.now.ids) }
+        ensures value { result ≡ length (windows (2 * level + 1) self.now.ids) }
+        ensures some { 0 < result }
     {
-        count_of_lists(self.ids, window_len(level)) as u32
+        self.windows(level).count() as u32
     }
 
     /// How many tuples there are.
     pub fn tuples(&self) -> u64
-        ensures { result ≡ length (windows (2 * self.now.rounds + 2) self.now.ids) }
+        ensures value { result ≡ length (windows (2 * self.now.rounds + 2) self.now.ids) }
+        ensures some { 0 < result }
     {
-        count_of_lists(self.ids, tuple_len(self.rounds))
+        self.all_tuples().count()
     }
 
     /// The number of a window of this level, or `None` where the list is no such window.
@@ -87,7 +89,7 @@ impl Shape {
         ensures number { result ≡ number_of (2 * level + 1) self.now.ids list.now }
         ensures below { IfSome result (λ n. n < length (windows (2 * level + 1) self.now.ids)) }
     {
-        let number = find_number(self.ids, window_len(level), list)?;
+        let number = self.windows(level).find(list)?;
         Some(number as u32)
     }
 
@@ -98,7 +100,7 @@ impl Shape {
         ensures number { number_of (2 * level + 1) self.now.ids window.now ≡ Some result }
         ensures item { slice_get (windows (2 * level + 1) self.now.ids) result ≡ Some window.now }
     {
-        number_of_list(self.ids, window) as u32
+        self.windows(level).number(window) as u32
     }
 
     /// Writes the window of this level with this number into the `2r+1` cells of `out`.
@@ -109,7 +111,7 @@ impl Shape {
         ensures item { slice_get (windows (2 * level + 1) self.now.ids) number ≡ Some out.new }
         ensures window { IsWindow (2 * level + 1) self.now.ids out.new }
     {
-        write_list(self.ids, u64::from(number), out, window_len(level));
+        self.windows(level).write(u64::from(number), out);
     }
 
     /// Writes the next window of this level over a window and says `true`, or says `false` and changes
@@ -122,14 +124,14 @@ impl Shape {
         ensures same { OnFalse result (window.new ≡ window.old) }
         ensures window { IsWindow (2 * level + 1) self.now.ids window.new }
     {
-        write_next(self.ids, window, window_len(level))
+        self.windows(level).write_next(window)
     }
 
     /// The number of a tuple, or `None` where the list is no tuple.
     pub fn tuple_number(&self, list: &[u32]) -> Option<u64>
         ensures { result ≡ number_of (2 * self.now.rounds + 2) self.now.ids list.now }
     {
-        find_number(self.ids, tuple_len(self.rounds), list)
+        self.all_tuples().find(list)
     }
 
     /// Writes the tuple with this number into the `2t+2` cells of `out`.
@@ -139,7 +141,7 @@ impl Shape {
         ensures item { slice_get (windows (2 * self.now.rounds + 2) self.now.ids) number ≡ Some out.new }
         ensures tuple { IsWindow (2 * self.now.rounds + 2) self.now.ids out.new }
     {
-        write_list(self.ids, number, out, tuple_len(self.rounds));
+        self.all_tuples().write(number, out);
     }
 
     /// Writes the next tuple over a tuple and says `true`, or says `false` and changes nothing where it is
@@ -151,22 +153,30 @@ impl Shape {
         ensures same { OnFalse result (tuple.new ≡ tuple.old) }
         ensures tuple { IsWindow (2 * self.now.rounds + 2) self.now.ids tuple.new }
     {
-        write_next(self.ids, tuple, tuple_len(self.rounds))
+        self.all_tuples().write_next(tuple)
     }
-}
 
-ghost use Rattle.std.specs.Prelude.{◌≡◌, ◌+◌, ◌*◌};
+    // The windows of this level.
+    fn windows(&self, level: u32) -> Lists
+        requires { level ≤ self.now.rounds }
+        ensures ids { result.ids ≡ self.now.ids }
+        ensures len { result.len ≡ 2 * level + 1 }
+        ensures few { length (windows result.len result.ids) ≤ MAX_WINDOWS }
+    {
+        Lists {
+            ids: self.ids,
+            len: 2 * level as usize + 1,
+        }
+    }
 
-// How many identifiers a window of this level has.
-fn window_len(level: u32) -> usize
-    ensures { result ≡ 2 * level + 1 }
-{
-    2 * level as usize + 1
-}
-
-// How many identifiers a tuple has.
-fn tuple_len(rounds: u32) -> usize
-    ensures { result ≡ 2 * rounds + 2 }
-{
-    2 * rounds as usize + 2
+    // The tuples.
+    fn all_tuples(&self) -> Lists
+        ensures ids { result.ids ≡ self.now.ids }
+        ensures len { result.len ≡ 2 * self.now.rounds + 2 }
+    {
+        Lists {
+            ids: self.ids,
+            len: 2 * self.rounds as usize + 2,
+        }
+    }
 }

@@ -1,6 +1,6 @@
 use Rattle.std.proofs.Common.{slice_index, sym, ap, ◌∙◌}
 use Rattle.std.proofs.lemmas.Option.{get_or_from_slice_get}
-use Rattle.node_lang.specs.Ring.{channel_at}
+use Rattle.node_lang.specs.GlobalRounds.{channel_at}
 use Rattle.plan_print.specs.Report.{place_line}
 use Rattle.plan_print.proofs.PlaceLines.{place_more}
 use Rattle.plan_print.proofs.places.places_text.Goals as goal
@@ -8,7 +8,7 @@ use Rattle.plan_print.proofs.places.places_text.Goals as goal
 -- One line more was written.
 pub loop-place-preserved : goal.loop-place-preserved
 loop-place-preserved c =
-    let ids = c.args.ring.now.ids.items in
+    let ids = c.args.ring.now.places in
     let p = c.args.plan.now.program in
     let n = c.loop-place.place in
     let id = get_or_from_slice_get ids n c.id.result 0 c.id.ensures in

@@ -1,18 +1,17 @@
 use Rattle.std.proofs.Common.{sym, ◌∙◌}
 use Rattle.std.proofs.lemmas.Bool.{false≢true}
 use Rattle.win_index.proofs.Positions.{number_of_is, number_of_none}
-use Rattle.win_index.proofs.arrangement.find_number.Goals as goal
-use Rattle.win_index.proofs.arrangement.find_number.Goals.{else-list-len-via-then-list-len+else-is_window, else-list-len-via-else-list-len}
+use Rattle.win_index.proofs.arrangement.Lists.find.Goals as goal
+use Rattle.win_index.proofs.arrangement.Lists.find.Goals.{else-list-len-via-then-list-len+else-is_window, else-list-len-via-else-list-len}
 
 pub returns-then-is_window-clause-number : goal.returns-then-is_window-clause-number
 returns-then-is_window-clause-number c =
-    let at' = rw c.if-list-len.true at c.number_of_list.ensures.number in
-    sym (number_of_is _ _ _ c.args.list.now at')
+    sym (number_of_is _ _ _ c.args.list.now c.number.ensures.item)
 
 pub returns-else-list-len-clause-number : goal.returns-else-list-len-clause-number
 returns-else-list-len-clause-number c =
     let list = c.args.list.now in
-    sym (number_of_none c.args.len c.args.ids list (λ window.
+    sym (number_of_none c.args.self.len c.args.self.ids list (λ window.
     elim c.else-list-len.branch [
       | else-list-len-via-then-list-len+else-is_window w ↦
           false≢true (sym w.if-is_window.false ∙ w.is_window.ensures.1 (rw (← w.if-list-len.true) at window))

@@ -1,15 +1,8 @@
--- Oriented rings, and the LOCAL model on them: all places step at once (Linial 1992).
-use Rattle.std.specs.Prelude.{◌≢◌, ℕ, zero, suc, ◌+◌, ◌-◌, ◌*◌, ◌%◌, ◌<◌, ◌≤◌, List, map, length, slice_index, All, AllPairs}
+-- Global rounds, the LOCAL model on an oriented ring: all places step at once (Linial 1992).
+use Rattle.std.specs.Prelude.{ℕ, zero, suc, ◌+◌, ◌-◌, ◌%◌, List, map, length, slice_index}
 use Rattle.std.specs.List.{range_with_len}
 use Rattle.node_lang.specs.Term.{ProgramTree}
 use Rattle.node_lang.specs.Node.{start, to_left, to_right, next, channel}
-
--- a ring for m identifiers and t rounds: 2t+2 to m distinct identifiers below m, read in a circle
-pub record IsRing (m t : ℕ) (x : List ℕ) : Type 0 where
-  pub long : 2 * t + 2 ≤ length x
-  pub short : length x ≤ m
-  pub below : All (λ id. id < m) x
-  pub distinct : AllPairs (λ a b. a ≢ b) x
 
 -- the places of a node's neighbours; places are taken modulo the ring's length
 abbrev pub left_of : List ℕ → ℕ → ℕ

@@ -1,0 +1,52 @@
+use Rattle.std.proofs.Common.{◌≡◌, ◌+◌, ◌-◌, ◌*◌, ◌<◌, length, take, slice_get, Some, sym, ap, ◌∙◌, arith}
+use Rattle.std.proofs.lemmas.List.{take_all}
+use Rattle.std.proofs.lemmas.Option.{slice_get_within}
+use Rattle.win_index.specs.Windows.{windows}
+use Rattle.win_index.specs.Falling.{falling}
+use Rattle.win_index.proofs.Numbers.{windows-zero, windows_all}
+use Rattle.win_index.proofs.Positions.{front_step}
+use Rattle.win_index.proofs.Sizes.{number_fits}
+use Rattle.win_index.proofs.arrangement.Lists.number.Goals as goal
+
+pub loop-place-init : goal.loop-place-init
+loop-place-init c = rw (windows-zero c.args.self.ids)
+
+pub overflow_sub-free : goal.overflow_sub-free
+overflow_sub-free c = omega (arith, c.from.ensures, c.requires.size, c.args.self.short)
+
+pub unused_below-digit-requires : goal.unused_below-digit-requires
+unused_below-digit-requires c = (windows_all _ _ _ _ c.loop-place.invariant).distinct
+
+-- the number after this place
+step :
+    (c : goal.After-unused_below-digit)
+    → slice_get (windows (c.loop-place.place + 1) c.args.self.ids) (c.loop-place.number * (c.from.result - c.loop-place.place) + c.unused_below-digit.result)
+    ≡ Some (take (c.loop-place.place + 1) c.args.list.now)
+step c =
+    let list = c.args.list.now in
+    rw (c.from.ensures, c.unused_below-digit.ensures)
+    (front_step c.args.self.len c.args.self.ids c.loop-place.place c.loop-place.number list c.requires (omega (arith, c.loop-place-test.true, c.requires.size)) c.loop-place.invariant)
+
+-- it is below the number of lists
+small :
+    (c : goal.After-unused_below-digit)
+    → c.loop-place.number * (c.from.result - c.loop-place.place) + c.unused_below-digit.result < falling c.args.self.ids c.args.self.len
+small c = number_fits c.args.self.ids (c.loop-place.place + 1) c.args.self.len _ _ (step c) (omega (arith, c.requires.size)) c.args.self.short
+
+pub overflow_mul-number : goal.overflow_mul-number
+overflow_mul-number c = omega (arith, small c, c.args.self.few)
+
+pub overflow_add-number : goal.overflow_add-number
+overflow_add-number c = omega (arith, small c, c.args.self.few)
+
+pub loop-place-preserved : goal.loop-place-preserved
+loop-place-preserved c = step c
+
+pub returns-clause-item : goal.returns-clause-item
+returns-clause-item c =
+    let list = c.args.list.now in
+    let all : c.loop-place.place ≡ length list = omega arith in
+    rw (sym c.requires.size, ← all) (c.loop-place.invariant ∙ ap Some (take_all c.loop-place.place list (omega arith)))
+
+pub returns-clause-below : goal.returns-clause-below
+returns-clause-below c = slice_get_within _ _ _ (returns-clause-item c)

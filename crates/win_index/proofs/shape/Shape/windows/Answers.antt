@@ -1,0 +1,17 @@
+use Rattle.std.proofs.Common.{◌+◌, ◌*◌, arith, refl}
+use Rattle.win_index.proofs.Numbers.{length-windows}
+use Rattle.win_index.proofs.Levels.{level_is_few}
+use Rattle.win_index.proofs.shape.Shape.windows.Goals as goal
+
+pub invariant_of-result : goal.invariant_of-result
+invariant_of-result c =
+    let shape = c.args.self.now in
+    let enough = shape.in_range.enough in
+    let few = level_is_few shape.ids shape.rounds c.args.level _ refl shape.in_range shape.few_windows c.requires in
+    record { short = omega (arith, c.requires); few = omega arith }
+
+pub returns-clause-few : goal.returns-clause-few
+returns-clause-few c =
+    let shape = c.args.self.now in
+    let few = level_is_few shape.ids shape.rounds c.args.level _ refl shape.in_range shape.few_windows c.requires in
+    omega (arith, few, length-windows (2 * c.args.level + 1) shape.ids)

@@ -1,0 +1,76 @@
+-- The statements of the laws of this crate, one definition each.
+use Rattle.std.specs.Prelude.{◌≡◌, ℕ, ◌+◌, ◌-◌, ◌*◌, ◌%◌, ◌<◌, ◌≤◌, ◌↔◌, List, length, slice_get, slice_index, slice_index_or, Some, IsSome}
+use Rattle.win_index.specs.declared.limits.TheConstants.{MAX_BLOCKS}
+use Rattle.win_index.specs.declared.ring.RingFault.{RingFault}
+use Rattle.win_index.specs.Arcs.{arc, window_around, part_at}
+use Rattle.win_index.specs.Blocks.{block_count}
+use Rattle.win_index.specs.Falling.{falling}
+use Rattle.win_index.specs.Lexicographic.{StandsBefore}
+use Rattle.win_index.specs.Ring.{IsRing}
+use Rattle.win_index.specs.RingFaults.{IsFirstFault}
+use Rattle.win_index.specs.ShapeRange.{IsShape}
+use Rattle.win_index.specs.Windows.{windows, number_of, IsWindow}
+
+-- the number of the window at a number is that number
+abbrev pub NumberOfWindow : Type 0
+NumberOfWindow = (k m n : ℕ) (window : List ℕ) → slice_get (windows k m) n ≡ Some window → number_of k m window ≡ Some n
+
+-- the window at the number of a list is that list
+abbrev pub WindowOfNumber : Type 0
+WindowOfNumber = (k m n : ℕ) (list : List ℕ) → number_of k m list ≡ Some n → slice_get (windows k m) n ≡ Some list
+
+-- a list has a number where it is a list of k distinct numbers below m, and only there
+abbrev pub WindowsHaveNumbers : Type 0
+WindowsHaveNumbers = (k m : ℕ) (list : List ℕ) → IsSome (number_of k m list) ↔ IsWindow k m list
+
+-- of two windows the one with the smaller number stands before the other in lexicographic order
+abbrev pub WindowsAreInOrder : Type 0
+WindowsAreInOrder =
+    (k m i j : ℕ) (a b : List ℕ) → i < j → slice_get (windows k m) i ≡ Some a → slice_get (windows k m) j ≡ Some b → StandsBefore a b
+
+-- the windows of length k below m are as many as the product of the k numbers from m down
+abbrev pub CountOfWindows : Type 0
+CountOfWindows = (k m : ℕ) → length (windows k m) ≡ falling m k
+
+-- the windows of a level of a shape fill few blocks
+abbrev pub BlocksAreFew : Type 0
+BlocksAreFew = (m t level : ℕ) → IsShape m t → level ≤ t → block_count m level ≤ MAX_BLOCKS
+
+-- what stands around a place of a ring is a window
+abbrev pub RingsHaveWindows : Type 0
+RingsHaveWindows =
+    (m t level place : ℕ) (ring : List ℕ) → IsRing m t ring → level ≤ t → IsWindow (2 * level + 1) m (window_around ring level place)
+
+-- a list of 2t+1+step distinct identifiers, taken as a ring, has its first window at place t and its last one at
+-- place t+step
+abbrev pub TuplesAreRings : Type 0
+TuplesAreRings =
+    (m t step : ℕ) (list : List ℕ) → 1 ≤ step → IsWindow (2 * t + 1 + step) m list
+    → IsRing m t list × (window_around list t t ≡ part_at t 0 list) × (window_around list t (t + step) ≡ part_at t step list)
+
+-- what stands from t places to the left of a place of a ring to t+step places to its right is a list of distinct
+-- identifiers, with the windows of both places
+abbrev pub RingsHaveTuples : Type 0
+RingsHaveTuples =
+    (m t step place : ℕ) (ring : List ℕ) → IsRing m t ring → 2 * t + 1 + step ≤ length ring
+    → let list = arc ring (place + length ring - t) (2 * t + 1 + step) in
+    IsWindow (2 * t + 1 + step) m list × (part_at t 0 list ≡ window_around ring t place)
+    × (part_at t step list ≡ window_around ring t (place + step))
+
+-- an arc has as many identifiers as were asked for
+abbrev pub LengthOfArcs : Type 0
+LengthOfArcs = (ring : List ℕ) (start count : ℕ) → length (arc ring start count) ≡ count
+
+-- the k-th identifier of an arc is that of the place k further than its start, round the ring
+abbrev pub ItemsOfArcs : Type 0
+ItemsOfArcs =
+    (ring : List ℕ) (start count k d : ℕ) → k < count
+    → slice_index_or (arc ring start count) k d ≡ slice_index ring ((start + k) % length ring)
+
+-- a list has at most one first fault
+abbrev pub OneRingFault : Type 0
+OneRingFault = (m t : ℕ) (list : List ℕ) (f g : RingFault) → IsFirstFault m t list f → IsFirstFault m t list g → f ≡ g
+
+-- a ring has none
+abbrev pub RingsHaveNoFault : Type 0
+RingsHaveNoFault = (m t : ℕ) (list : List ℕ) (f : RingFault) → IsRing m t list → IsFirstFault m t list f → ⊥
