@@ -1,5 +1,5 @@
 -- The exit status of the process.
-use Rattle.std.specs.Prelude.{ℕ, Result, Ok, Err}
+use Rattle.std.specs.Prelude.{◌≡◌, ◌⊎◌, ℕ, Result, Ok, Err}
 use Rattle.plan_print.specs.declared.status.Status.{Status}
 use Rattle.plan_print.specs.declared.status.Status.TheVariants.{Done, No, Words, Refused, RingRefused}
 use Rattle.plan_print.specs.declared.fault.EngineFault.{EngineFault}
@@ -31,3 +31,8 @@ abbrev pub words_fault_code : WordsFault → ℕ
 words_fault_code Usage = 2
 words_fault_code BadRing = 2
 words_fault_code OutOfMemory = 6
+
+-- the status is one after an answer of the engine, or after words that are refused
+abbrev pub IsExitStatus : ℕ → Type 0
+IsExitStatus status =
+    ((answer : Result Status EngineFault) × (status ≡ answer_code answer)) ⊎ ((fault : WordsFault) × (status ≡ words_fault_code fault))

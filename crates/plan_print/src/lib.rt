@@ -9,6 +9,7 @@ pub mod input;
 pub mod lines;
 pub mod output;
 mod places;
+pub mod process;
 mod report;
 pub mod ring_text;
 pub mod status;

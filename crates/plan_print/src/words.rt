@@ -10,6 +10,8 @@ use crate::decimal::number_of;
 use crate::ring_text::ring_of;
 use crate::task::Task;
 use std::alloc::{AllocError, AllocFailed, Global};
+use std::io;
+use std::io::ErrorKind;
 use thiserror::Error;
 
 /// Why words are refused.
@@ -53,6 +55,21 @@ impl<T: Drop> From<AllocFailed<T>> for WordsFault {
 
     fn from(_refused: AllocFailed<T>) -> WordsFault {
         WordsFault::OutOfMemory
+    }
+}
+
+impl From<io::Error> for WordsFault {
+    ghost use Rattle.std.specs.IoError.{error_kind};
+    ghost use Rattle.plan_print.specs.WordsFault.{refusal_of};
+
+    ghost from_gives = { λ error fault. fault ≡ refusal_of (error_kind error) };
+
+    // The error is that of `env::args`: memory was refused, or else a word is not UTF-8.
+    fn from(error: io::Error) -> WordsFault {
+        match error.kind() {
+            ErrorKind::OutOfMemory => WordsFault::OutOfMemory,
+            _ => WordsFault::Usage,
+        }
     }
 }
 
