@@ -2,6 +2,5 @@ mod Known
 mod Joined
 mod Entries
 pub mod Aligned
-mod PlaceLines
 mod Parts
 pub mod Commands

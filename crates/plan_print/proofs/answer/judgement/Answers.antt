@@ -1,4 +1,4 @@
-use Rattle.std.proofs.Common.{refl, rules}
+use Rattle.std.proofs.Common.{rules}
 use Rattle.nbhd_check.specs.Verdicts.{IsWitness}
 use Rattle.plan_print.specs.Report.{bad}
 use Rattle.plan_print.proofs.answer.judgement.Goals as goal
