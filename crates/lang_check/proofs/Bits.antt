@@ -1,12 +1,12 @@
 -- The number of binary digits, against powers of two, and what shifts of machine words give.
 use Rattle.std.proofs.Common.{◌≡◌, ℕ, zero, suc, ◌+◌, ◌*◌, ◌/◌, ◌%◌, ◌^◌, ◌<◌, ◌≤◌, inl, inr, refl, arith}
-use Rattle.std.specs.Prelude.{◌↔◌}
 use Rattle.std.specs.Int.{leading_zeros, w32}
 use Rattle.std.proofs.lemmas.Bool.{cases_lt}
 use Rattle.std.proofs.lemmas.Nat.{pow_pos, leading_length, shl_whole, one_shl}
 use Rattle.std.proofs.Math.Nat.{pow-suc}
 use Rattle.std.proofs.Math.Pow.{pow_mono}
 use Rattle.node_lang.specs.Bounds.{halvings, bits}
+use Rattle.lang_check.specs.Laws.{BinaryDigits}
 
 -- nothing is left at once
 halvings-zero : (n : ℕ) → halvings n 0 ≡ 0
@@ -62,7 +62,7 @@ bits-le x k h =
       | inr short ↦ short
     ]
 
-pub binary_digits : (x k : ℕ) → (bits x ≤ k) ↔ (x < 2 ^ k)
+pub binary_digits : BinaryDigits
 binary_digits x k =
     (λ h. let longer : 2 ^ bits x ≤ 2 ^ k = pow_mono h in omega (arith, bits-above x), bits-le x k)
 

@@ -3,5 +3,5 @@ mod OccurrenceLemmas
 mod Bits
 mod Within
 mod States
-mod Assigned
 mod Images
+mod Refused

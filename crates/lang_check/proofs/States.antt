@@ -8,7 +8,7 @@ use Rattle.node_lang.specs.Node as rounds
 use Rattle.node_lang.specs.GlobalRounds.{left_of, right_of, state, channel_at}
 use Rattle.win_index.specs.Ring.{IsRing}
 use Rattle.node_lang.specs.Bounds.{reading_bounds, next_bounds, register_bounds, finish_bound, IsWithin}
-use Rattle.lang_check.specs.Acceptance.{IsAccepted}
+use Rattle.lang_check.specs.Laws.{StartIsWithin, NextIsWithin, RegistersAreWithin, AcceptedChannelsAreBelow, ChannelsAreBelow}
 use Rattle.lang_check.proofs.Within.{EnvIsWithin, value_within}
 
 -- values of one list of expressions, one by one
@@ -24,12 +24,15 @@ reads_within :
 reads_within m left right c d registers bounds p q h = record { id = omega arith; left = p; right = q; registers = h }
 
 -- before the first round
-pub start_within : (p : ProgramTree) (m id : ℕ) → id ≤ m - 1 → IsWithin (rounds.start p id) (register_bounds p m 0)
-start_within p m id h =
+started_within : (p : ProgramTree) (m id : ℕ) → id ≤ m - 1 → IsWithin (rounds.start p id) (register_bounds p m 0)
+started_within p m id h =
     maps-within _ _
     (λ e. value_within e (rounds.knowing_id id) (reading_bounds m 0 0 [])
     (record { id = h; left = omega arith; right = omega arith; registers = λ j. omega arith }))
     p.start
+
+pub start_within : StartIsWithin
+start_within p m id below = started_within p m id (omega arith)
 
 -- one round
 assigned_within :
@@ -43,10 +46,7 @@ assigned_within (Some s) m left own right bounds l o r =
     let sent_left = value_within s.left _ _ (reads_within m 0 0 0 0 right bounds nothing nothing r) in
     maps-within _ _ (λ e. value_within e _ _ (reads_within m _ _ _ _ own bounds sent_right sent_left o)) s.next
 
-pub next_within :
-    (p : ProgramTree) (m r : ℕ) (left own right : List ℕ) → IsWithin left (register_bounds p m r)
-    → IsWithin own (register_bounds p m r) → IsWithin right (register_bounds p m r)
-    → IsWithin (rounds.next p r own (rounds.to_right p r left) (rounds.to_left p r right)) (register_bounds p m (suc r))
+pub next_within : NextIsWithin
 unfolding rounds.next rounds.to_right rounds.to_left
 next_within p m r left own right = assigned_within (slice_get p.steps r) m left own right (register_bounds p m r)
 
@@ -62,29 +62,23 @@ ids-below m t x ring i =
 states-within :
     (p : ProgramTree) (m : ℕ) (x : List ℕ) → ((i : ℕ) → slice_index x i ≤ m - 1) → (r i : ℕ)
     → IsWithin (state p x r i) (register_bounds p m r)
-states-within p m x ids zero i = start_within p m (slice_index x i) (ids i)
+states-within p m x ids zero i = started_within p m (slice_index x i) (ids i)
 states-within p m x ids (suc r) i =
     next_within p m r (state p x r (left_of x i)) (state p x r i) (state p x r (right_of x i))
     (states-within p m x ids r (left_of x i)) (states-within p m x ids r i) (states-within p m x ids r (right_of x i))
 
-pub registers_within :
-    (p : ProgramTree) (m : ℕ) (x : List ℕ) → IsRing m (length p.steps) x → (r i : ℕ)
-    → IsWithin (state p x r i) (register_bounds p m r)
-registers_within p m x ring = states-within p m x (ids-below m (length p.steps) x ring)
+pub registers_within : RegistersAreWithin
+registers_within p m x ring r i le lt = states-within p m x (ids-below m (length p.steps) x ring) r i
 
 -- the channel after all rounds
-pub channel_within :
-    (p : ProgramTree) (m : ℕ) (registers : List ℕ) → IsAccepted m p
-    → IsWithin registers (register_bounds p m (length p.steps)) → rounds.channel p registers < p.channels
+pub channel_within : AcceptedChannelsAreBelow
 unfolding rounds.channel finish_bound
 channel_within p m registers accepted h =
     let nothing : 0 ≤ 0 = omega arith in
     let least = value_within p.finish _ _ (reads_within m 0 0 0 0 registers (register_bounds p m (length p.steps)) nothing nothing h) in
     omega (arith, least, accepted.bound)
 
-pub channels_within :
-    (p : ProgramTree) (m : ℕ) (x : List ℕ) → IsAccepted m p → IsRing m (length p.steps) x → (i : ℕ)
-    → channel_at p x i < p.channels
+pub channels_within : ChannelsAreBelow
 unfolding channel_at
-channels_within p m x accepted ring i =
-    channel_within p m (state p x (length p.steps) i) accepted (registers_within p m x ring (length p.steps) i)
+channels_within p m x accepted ring i lt =
+    channel_within p m (state p x (length p.steps) i) accepted (registers_within p m x ring (length p.steps) i (omega arith) lt)

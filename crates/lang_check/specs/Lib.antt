@@ -1,7 +1,8 @@
--- The definitions of this crate that contracts cite: what expressions read, which programs are accepted for a number of identifiers, which refusal
--- comes first, and plans. Bounds stand in node_lang.
+-- The definitions of this crate that contracts cite: what expressions read, which programs are accepted for a
+-- number of identifiers, which refusal comes first, plans, and the laws. Bounds stand in node_lang.
 pub mod Occurrences
 pub mod Acceptance
 pub mod Refusals
 pub mod Plans
+pub mod Laws
 pub mod Limits

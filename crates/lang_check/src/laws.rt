@@ -1,45 +1,46 @@
-ghost use Rattle.std.specs.Prelude.{◌≡◌, ◌↔◌, ℕ, suc, ◌^◌, ◌<◌, ◌≤◌, List, length};
-ghost use Rattle.node_lang.specs.Term.{ProgramTree};
-ghost use Rattle.node_lang.specs.Node as rounds;
-ghost use Rattle.node_lang.specs.GlobalRounds.{state, channel_at};
-ghost use Rattle.win_index.specs.Ring.{IsRing};
-ghost use Rattle.node_lang.specs.Bounds.{bits, register_bounds, IsWithin};
-ghost use Rattle.lang_check.specs.Acceptance.{IsAccepted};
+ghost use Rattle.lang_check.specs.Laws as law;
 
 /// A number has at most `k` binary digits where it is below `2^k`, and only there.
+#[tactic(auto, using(crate::proofs::Bits::binary_digits))]
 pub fn binary_digits()
-    ensures { (x k : ℕ) → (bits x ≤ k) ↔ (x < 2 ^ k) }
+    ensures { law.BinaryDigits }
 {}
 
 /// What a node with an identifier below `m` holds before the first round is within its bounds.
+#[tactic(auto, using(crate::proofs::States::start_within))]
 pub fn start_is_within()
-    ensures { (p : ProgramTree) (m id : ℕ) → id < m → IsWithin (rounds.start p id) (register_bounds p m 0) }
+    ensures { law.StartIsWithin }
 {}
 
 /// Where three nodes in a row are within the bounds of `r` rounds, the one in the middle is within those of
 /// one round more after it.
+#[tactic(auto, using(crate::proofs::States::next_within))]
 pub fn next_is_within()
-    ensures { (p : ProgramTree) (m r : ℕ) (left own right : List ℕ) → IsWithin left (register_bounds p m r)
-        → IsWithin own (register_bounds p m r) → IsWithin right (register_bounds p m r)
-        → IsWithin (rounds.next p r own (rounds.to_right p r left) (rounds.to_left p r right))
-        (register_bounds p m (suc r)) }
+    ensures { law.NextIsWithin }
 {}
 
 /// Bounds hold: on every ring and after each round, the registers of each place are within their bounds.
+#[tactic(auto, using(crate::proofs::States::registers_within))]
 pub fn registers_are_within()
-    ensures { (p : ProgramTree) (m : ℕ) (x : List ℕ) → IsRing m (length p.steps) x → (r i : ℕ)
-        → r ≤ length p.steps → i < length x → IsWithin (state p x r i) (register_bounds p m r) }
+    ensures { law.RegistersAreWithin }
 {}
 
 /// Where the registers are within the bounds of all rounds of an accepted program, the channel is below the
 /// number of channels.
+#[tactic(auto, using(crate::proofs::States::channel_within))]
 pub fn accepted_channels_are_below()
-    ensures { (p : ProgramTree) (m : ℕ) (registers : List ℕ) → IsAccepted m p
-        → IsWithin registers (register_bounds p m (length p.steps)) → rounds.channel p registers < p.channels }
+    ensures { law.AcceptedChannelsAreBelow }
 {}
 
 /// On every ring of an accepted program, each channel is below the number of channels.
+#[tactic(auto, using(crate::proofs::States::channels_within))]
 pub fn channels_are_below()
-    ensures { (p : ProgramTree) (m : ℕ) (x : List ℕ) → IsAccepted m p → IsRing m (length p.steps) x
-        → (i : ℕ) → i < length x → channel_at p x i < p.channels }
+    ensures { law.ChannelsAreBelow }
+{}
+
+/// A program has at most one first refusal for a number of identifiers, and an accepted one has none.
+#[tactic(auto, using(crate::proofs::Refused::one_refusal, crate::proofs::Refused::no_refusal))]
+pub fn one_refusal()
+    ensures one { law.OneRefusal }
+    ensures none { law.AcceptedProgramsHaveNoRefusal }
 {}

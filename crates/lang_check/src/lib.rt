@@ -12,7 +12,7 @@ mod register_bounds;
 
 pub use acceptance::{CheckFault, accept};
 pub use laws::{
-    accepted_channels_are_below, binary_digits, channels_are_below, next_is_within,
+    accepted_channels_are_below, binary_digits, channels_are_below, next_is_within, one_refusal,
     registers_are_within, start_is_within,
 };
 pub use plan::Plan;

@@ -4,17 +4,14 @@ ghost use Rattle.node_lang.specs.Bounds as bounds;
 ghost use Rattle.lang_check.specs.Limits.{env_of};
 
 use crate::bounds::{Limits, bound_of};
-use node_lang::{Expr, Program, Round};
-
-// A program has at most so many registers.
-const MOST_REGISTERS: usize = 8;
+use node_lang::{Expr, MAX_REGISTERS, Program, Round};
 
 // The bound of the channels of a program for this number of identifiers.
 #[tactic(auto, unfolding(node_lang::specs::Bounds::finish_bound))]
 pub(crate) fn finish_bound(program: &Program, ids: u32) -> u32
     ensures { result ≡ bounds.finish_bound program.now ids }
 {
-    let mut cells = [0; MOST_REGISTERS];
+    let mut cells = [0; MAX_REGISTERS as usize];
     let count = program.registers() as usize;
     let registers = &mut cells[..count];
     last_bounds(program, ids, registers);
@@ -35,10 +32,10 @@ fn last_bounds(program: &Program, ids: u32, registers: &mut [u32])
 // Writes the bounds of the registers after a round over those from before it.
 fn round_bounds(round: &Round, ids: u32, registers: &mut [u32])
     requires each { length registers.old ≡ length round.now.next.items }
-    requires few { length registers.old ≤ 8 }
+    requires few { length registers.old ≤ MAX_REGISTERS }
     ensures { registers.new ≡ bounds.next_bounds (Some (step_of round.now)) ids registers.old }
 {
-    let mut cells = [0; MOST_REGISTERS];
+    let mut cells = [0; MAX_REGISTERS as usize];
     let count = registers.len();
     let before = &mut cells[..count];
     before.copy_from_slice(registers);

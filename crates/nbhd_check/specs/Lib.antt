@@ -1,3 +1,4 @@
--- The definitions that the contracts cite: proper tables, good tables, and the judge's verdict.
+-- The definitions that the contracts cite: proper tables, good tables, the judge's verdict, and the laws.
 pub mod Proper
 pub mod Verdicts
+pub mod Laws

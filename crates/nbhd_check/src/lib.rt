@@ -5,7 +5,7 @@ mod laws;
 mod part;
 mod verdict;
 
-pub use laws::tuples_suffice;
+pub use laws::{one_witness, tuples_suffice};
 pub use part::judge_part;
 pub use verdict::{Verdict, judge};
 

@@ -5,7 +5,7 @@ ghost use Rattle.table_fill.specs.Tables.{channel_of};
 ghost use Rattle.nbhd_check.specs.Proper.{tuples, IsBad, NoneIsBad, IsLeastBad};
 
 use table_fill::Table;
-use win_index::{rings_have_windows, tuples_are_rings};
+use win_index::{MAX_TUPLE_LEN, rings_have_windows, tuples_are_rings};
 
 /// The least number from `low` on and below `high` of a bad tuple, which is a tuple whose first and last
 /// window have one channel, or `None` where none is bad.
@@ -18,7 +18,7 @@ pub fn judge_part(table: &Table, low: u64, high: u64) -> Option<u64>
     if low == high {
         return None;
     }
-    let mut cells = [0u32; 8];
+    let mut cells = [0; MAX_TUPLE_LEN];
     let tuple = &mut cells[..tuple_len(table)];
     write_tuple(table, low, tuple);
     scan(table, tuple, low, high)
@@ -34,7 +34,7 @@ pub(crate) fn tuple_count(table: &Table) -> u64
 // How many identifiers a tuple has.
 pub(crate) fn tuple_len(table: &Table) -> usize
     ensures length { result ≡ 2 * table.now.rounds + 2 }
-    ensures few { result ≤ 8 }
+    ensures few { result ≤ MAX_TUPLE_LEN }
 {
     2 * table.shape().rounds() as usize + 2
 }

@@ -3,7 +3,7 @@ use crate::part::{first_channel, judge_part, tuple_count, tuple_len, write_tuple
 use node_lang::OutOfMemory;
 use std::alloc::Global;
 use table_fill::Table;
-use win_index::tuples_are_rings;
+use win_index::{MAX_TUPLE_LEN, tuples_are_rings};
 
 /// The judge's answer.
 #[derive(Debug, PartialEq, Eq, Drop)]
@@ -19,16 +19,17 @@ pub enum Verdict {
     },
 }
 
-ghost use Rattle.std.specs.Prelude.{◌≡◌, ℕ, List, ◌↔◌, IfOk};
+ghost use Rattle.std.specs.Prelude.{◌≡◌, ℕ, List, ◌↔◌, IfOk, OnErr};
 ghost use Rattle.nbhd_check.specs.Proper.{IsGoodEverywhere, IsLeastBad};
 ghost use Rattle.nbhd_check.specs.Verdicts.{IsVerdict};
 
 /// Whether neighbours' channels differ on every ring of the table's shape. `No` has the least tuple
 /// whose first and last window share a channel, as a ring, and the place `t` for `t` rounds.
-/// `OutOfMemory` comes where memory for that ring was refused.
+/// `OutOfMemory` comes where memory for that ring was refused, so only where the answer is no.
 pub fn judge(alloc: Global, table: &Table) -> Result<Verdict, OutOfMemory>
     ensures verdict { IfOk result (IsVerdict table.now) }
     ensures yes { IfOk result (λ verdict. (verdict ≡ Verdict.Yes) ↔ IsGoodEverywhere table.now) }
+    ensures memory { OnErr result (¬ IsGoodEverywhere table.now) }
 {
     tuples_suffice();
     match judge_part(table, 0, tuple_count(table)) {
@@ -38,15 +39,16 @@ pub fn judge(alloc: Global, table: &Table) -> Result<Verdict, OutOfMemory>
 }
 
 // The answer that the tuple with this number is the least bad one.
-#[tactic(auto, using(crate::proofs::Tuples::is_not_good))]
+#[tactic(auto, using(crate::proofs::Tuples::bad_is_not_good))]
 fn no(alloc: Global, table: &Table, number: u64) -> Result<Verdict, OutOfMemory>
     requires { (tuple : List ℕ) × IsLeastBad table.now 0 number tuple }
     ensures verdict { IfOk result (IsVerdict table.now) }
     ensures yes { IfOk result (λ verdict. (verdict ≡ Verdict.Yes) ↔ IsGoodEverywhere table.now) }
+    ensures memory { OnErr result (¬ IsGoodEverywhere table.now) }
 {
     tuples_suffice();
     tuples_are_rings();
-    let mut cells = [0u32; 8];
+    let mut cells = [0; MAX_TUPLE_LEN];
     let tuple = &mut cells[..tuple_len(table)];
     write_tuple(table, number, tuple);
     let channel = first_channel(table, tuple);

@@ -5,7 +5,8 @@ use Rattle.node_lang.specs.declared.fault.FaultKind.TheVariants as kind
 use Rattle.node_lang.specs.declared.token.Token.{Token}
 use Rattle.node_lang.specs.declared.token.Token.TheVariants as token
 use Rattle.node_lang.specs.Lexemes.{Lexeme}
-use Rattle.node_lang.specs.Reading.{Want, Exactly, Expression, RoundCount, ChannelCount, RegisterCount, Go, Stop, Fault, IsCount, after_count, go_on, meets, counted, reading, fault_of}
+use Rattle.node_lang.specs.Reading.{Want, Exactly, Expression, RoundCount, ChannelCount, RegisterCount, Go, Stop, Fault, after_count, go_on, meets, counted, reading, fault_of}
+use Rattle.node_lang.specs.Parsing.{IsCount}
 
 -- a number where one from low to high is wanted
 meets_count : (w : Want) (more : List Want) (nodes n low high : ℕ) → IsCount w low high →

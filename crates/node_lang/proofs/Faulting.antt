@@ -9,7 +9,8 @@ use Rattle.node_lang.specs.declared.fault.TextFault.{TextFault}
 use Rattle.node_lang.specs.Term.{ProgramTree}
 use Rattle.node_lang.specs.Lexemes.{lexemes_of}
 use Rattle.node_lang.specs.Grammar.{Reads}
-use Rattle.node_lang.specs.Reading.{Fault, reading, program_wanted, IsPlaced}
+use Rattle.node_lang.specs.Reading.{Fault, reading, program_wanted}
+use Rattle.node_lang.specs.Parsing.{IsPlaced}
 use Rattle.node_lang.specs.Faults.{FaultsAt, IsFirstHighByte, too_long, not_ascii, stopped}
 use Rattle.node_lang.specs.Laws.{OneTextFault, ReadableTextsHaveNoFault}
 use Rattle.node_lang.proofs.Passing.{passes_program}

@@ -13,3 +13,4 @@ pub mod Lexing
 pub mod ReadBack
 pub mod PrintedLength
 pub mod Faulting
+pub mod Assigned

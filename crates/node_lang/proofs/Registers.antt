@@ -10,7 +10,7 @@ use Rattle.node_lang.specs.declared.token.Token.{Token}
 use Rattle.node_lang.specs.declared.token.Token.TheVariants as token
 use Rattle.node_lang.specs.Words.{is_digit, is_blank, is_word_byte, word_token, mark_token, number_token, read_on, register_named, register_of, or_unknown, named, keywords, operations, word_of}
 use Rattle.node_lang.specs.Lexemes.{Lexeme, Split, blanked, joined, split_of, lexemes_of}
-use Rattle.node_lang.specs.Reading.{lexemes_left}
+use Rattle.node_lang.specs.Parsing.{lexemes_left}
 
 -- the register of a token, or 0 where there is none
 abbrev register_in : Option Token → ℕ

@@ -16,4 +16,5 @@ pub mod Reading
 pub mod Faults
 pub mod Viable
 pub mod Code
+pub mod Parsing
 pub mod Laws

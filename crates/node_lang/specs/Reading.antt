@@ -1,12 +1,11 @@
 -- How a text is read from the left: what is wanted next, how many expression nodes there are so far, and the lexemes that are left.
-use Rattle.std.specs.Prelude.{◌≡◌, ◌≢◌, ◌-◌, ℕ, zero, suc, ◌+◌, ◌≤◌, ◌==◌, ◌&&◌, Bool, true, false, nat_lt, nat_le, List, [], ◌∷◌, Option, Some, None, drop, if◌then◌else◌}
+use Rattle.std.specs.Prelude.{ℕ, zero, suc, ◌+◌, ◌==◌, ◌&&◌, Bool, true, false, nat_lt, nat_le, List, [], ◌∷◌, Option, Some, None, if◌then◌else◌}
 use Rattle.node_lang.specs.declared.limits.TheConstants.{MAX_CHANNELS, MAX_DEPTH, MAX_NODES, MAX_REGISTERS, MAX_ROUNDS}
 use Rattle.node_lang.specs.declared.fault.FaultKind.{FaultKind}
-use Rattle.node_lang.specs.declared.fault.TextFault.{TextFault}
 use Rattle.node_lang.specs.declared.fault.FaultKind.TheVariants as kind
 use Rattle.node_lang.specs.declared.token.Token.{Token}
 use Rattle.node_lang.specs.declared.token.Token.TheVariants as token
-use Rattle.node_lang.specs.Lexemes.{Lexeme, lexemes_of}
+use Rattle.node_lang.specs.Lexemes.{Lexeme}
 
 -- what may be wanted: this token, an expression whose root has this depth, or a number of the header
 pub data Want : Type 0 where
@@ -105,13 +104,6 @@ after_count (ChannelCount rounds) n more = Exactly token.Registers ∷ RegisterC
 after_count (RegisterCount rounds) n more = Exactly token.Start ∷ body_wanted rounds n more
 after_count _ n more = more
 
--- a number of the header that is wanted from low to high
-abbrev pub IsCount : Want → ℕ → ℕ → Type 0
-IsCount RoundCount low high = (low ≡ 0) × (high ≡ MAX_ROUNDS)
-IsCount (ChannelCount rounds) low high = (low ≡ 1) × (high ≡ MAX_CHANNELS)
-IsCount (RegisterCount rounds) low high = (low ≡ 1) × (high ≡ MAX_REGISTERS)
-IsCount _ low high = ⊥
-
 -- what a token does where this is wanted, with more after it
 abbrev pub meets : Want → List Want → ℕ → Token → Met
 meets (Exactly t) more nodes met = if same_token met t then Go more nodes else Stop (fault_of met)
@@ -135,20 +127,3 @@ reading [] nodes [] = Whole
 reading [] nodes (l ∷ ls) = Fault (fault_of l.token) l.from
 reading (w ∷ more) nodes [] = Fault kind.EndOfText 0
 reading (w ∷ more) nodes (l ∷ ls) = go_on (meets w more nodes l.token) (λ wanted count. reading wanted count ls) l.from
-
--- the lexemes of a text from the byte `at` on
-abbrev pub lexemes_left : List ℕ → ℕ → List Lexeme
-lexemes_left text at = lexemes_of (drop at text)
-
--- Reading what is wanted here goes from these nodes and lexemes to those, whatever is wanted after it.
-abbrev pub Passes : (List Want → List Want) → ℕ → List Lexeme → ℕ → List Lexeme → Type 0
-Passes wanted nodes lexemes count left = (more : List Want) → reading (wanted more) nodes lexemes ≡ reading more count left
-
--- Reading what is wanted here stops at this fault of a text of `length` bytes, whatever is wanted after it; of want of memory nothing is said.
-abbrev pub Stops : (List Want → List Want) → ℕ → List Lexeme → ℕ → TextFault → Type 0
-Stops wanted nodes lexemes length fault =
-    fault.kind ≢ kind.OutOfMemory → (more : List Want) → reading (wanted more) nodes lexemes ≡ Fault fault.kind (length - fault.offset)
-
--- A fault stands in a text of `length` bytes or at its end, and want of memory at its beginning.
-abbrev pub IsPlaced : ℕ → TextFault → Type 0
-IsPlaced length fault = (fault.offset ≤ length) × (fault.kind ≡ kind.OutOfMemory → fault.offset ≡ 0)

@@ -2,7 +2,7 @@ ghost use Rattle.std.specs.Prelude.{◌≡◌, ◌==◌, not, ◌-◌, ◌<◌, 
 ghost use Rattle.std.specs.List.{prefix_len};
 ghost use Rattle.node_lang.specs.Words.{is_blank as blank, is_word_byte as word_byte};
 ghost use Rattle.node_lang.specs.Lexemes.{lexemes_of};
-ghost use Rattle.node_lang.specs.Reading.{lexemes_left};
+ghost use Rattle.node_lang.specs.Parsing.{lexemes_left};
 
 use crate::token::Token;
 use crate::words::{is_blank, is_word_byte, mark_token, token_of};

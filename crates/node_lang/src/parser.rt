@@ -7,7 +7,8 @@ ghost use Rattle.node_lang.specs.Limits.{IsSmall, IsWithinLimits};
 ghost use Rattle.node_lang.specs.Words.{register_of};
 ghost use Rattle.node_lang.specs.Lexemes.{tokens_in};
 ghost use Rattle.node_lang.specs.Grammar.{assigned, block, blocks, spelled, spelling};
-ghost use Rattle.node_lang.specs.Reading.{Want, Exactly, Expression, RoundCount, Go, Stop, Whole, Fault, program_wanted, IsCount, after_count, assigns_wanted, block_wanted, blocks_wanted, body_wanted, reading, node, fault_of, same_token, lexemes_left, Passes, Stops, IsPlaced};
+ghost use Rattle.node_lang.specs.Reading.{Want, Exactly, Expression, RoundCount, Go, Stop, Whole, Fault, program_wanted, after_count, assigns_wanted, block_wanted, blocks_wanted, body_wanted, reading, node, fault_of, same_token};
+ghost use Rattle.node_lang.specs.Parsing.{IsCount, lexemes_left, Passes, Stops, IsPlaced};
 
 use crate::fault::{FaultKind, TextFault};
 use crate::lexer::token_from;

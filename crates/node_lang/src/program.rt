@@ -27,7 +27,7 @@ impl Model for Program {
 }
 
 impl Program {
-    ghost use Rattle.std.specs.Prelude.{◌≡◌, ◌≤◌, length, map};
+    ghost use Rattle.std.specs.Prelude.{◌≡◌, ◌≤◌, length, map, All};
     ghost use Rattle.node_lang.specs.Limits.{IsWithinLimits};
     ghost use Rattle.node_lang.specs.Term.{term_of, step_of};
 
@@ -63,9 +63,11 @@ impl Program {
         &self.start
     }
 
-    /// The rounds in order.
+    /// The rounds in order, each with an expression for each register.
+    #[tactic(auto, using(crate::proofs::Assigned::each_assigned))]
     pub fn steps(&self) -> &[Round]
         ensures value { map step_of result.now ≡ self.now.steps }
+        ensures each { All (λ round. length round.next.items ≡ length self.now.start) result.now }
         ensures limits { IsWithinLimits self.now }
     {
         &self.steps

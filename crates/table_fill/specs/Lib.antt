@@ -1,5 +1,6 @@
--- The definitions that the contracts cite: tables, a table's channel at a window, the table of a program, and
--- how many workers may fill it.
+-- The definitions that the contracts cite: tables, a table's channel at a window, the table of a program, how
+-- many workers may fill it, and the law.
 pub mod Tables
 pub mod ProgramTables
 pub mod Workers
+pub mod Laws

@@ -1,6 +1,6 @@
 use Rattle.std.proofs.Common.{◌≡◌, ℕ, List}
 use Rattle.node_lang.specs.declared.tree.Expr.{Expr}
-use Rattle.node_lang.specs.Reading.{lexemes_left}
+use Rattle.node_lang.specs.Parsing.{lexemes_left}
 use Rattle.node_lang.proofs.Assigning.{HasAssigned}
 use Rattle.node_lang.proofs.parser.Parser.assigns.Given as goal
 

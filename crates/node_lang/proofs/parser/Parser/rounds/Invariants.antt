@@ -1,6 +1,6 @@
 use Rattle.std.proofs.Common.{◌≡◌, ℕ, List}
 use Rattle.node_lang.specs.declared.tree.Round.{Round}
-use Rattle.node_lang.specs.Reading.{lexemes_left}
+use Rattle.node_lang.specs.Parsing.{lexemes_left}
 use Rattle.node_lang.proofs.Blocks.{HasRounds}
 use Rattle.node_lang.proofs.parser.Parser.rounds.Given as goal
 

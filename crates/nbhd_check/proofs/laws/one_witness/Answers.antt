@@ -1,0 +1,8 @@
+use Rattle.nbhd_check.proofs.Tuples.{one_witness, no_witness}
+use Rattle.nbhd_check.proofs.laws.one_witness.Goals as goal
+
+pub returns-clause-one : goal.returns-clause-one
+returns-clause-one c = one_witness
+
+pub returns-clause-none : goal.returns-clause-none
+returns-clause-none c = no_witness c.tuples_suffice.ensures.exact

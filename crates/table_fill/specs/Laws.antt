@@ -1,0 +1,14 @@
+-- The statement of the law of this crate.
+use Rattle.std.specs.Prelude.{◌≡◌, ℕ, ◌<◌, List, length, Some}
+use Rattle.node_lang.specs.GlobalRounds.{channel_at}
+use Rattle.win_index.specs.Ring.{IsRing}
+use Rattle.node_lang.specs.Term.{ProgramTree}
+use Rattle.win_index.specs.Arcs.{window_around}
+use Rattle.table_fill.specs.ProgramTables.{table_of}
+use Rattle.table_fill.specs.Tables.{channel_of}
+
+-- on every ring, the channel that a program's table has at the window of a place is the channel of that place after all rounds
+abbrev pub TableHasTheChannelsOfRounds : Type 0
+TableHasTheChannelsOfRounds =
+    (p : ProgramTree) (m : ℕ) (ring : List ℕ) (place : ℕ) → IsRing m (length p.steps) ring → place < length ring
+    → channel_of (table_of p m) (window_around ring (length p.steps) place) ≡ Some (channel_at p ring place)
