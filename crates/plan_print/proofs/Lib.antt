@@ -4,3 +4,4 @@ mod Entries
 pub mod Aligned
 mod Parts
 pub mod Commands
+mod OneReport

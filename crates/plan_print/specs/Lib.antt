@@ -11,6 +11,7 @@ pub mod Output
 pub mod Lines
 pub mod TableText
 pub mod Report
+pub mod Laws
 pub use Rattle.node_lang.specs.Term
 pub use Rattle.node_lang.specs.GlobalRounds
 pub use Rattle.node_lang.specs.Grammar

@@ -6,6 +6,7 @@ mod decimal;
 pub mod engine;
 pub mod fault;
 pub mod input;
+pub mod laws;
 pub mod lines;
 pub mod output;
 mod places;
