@@ -42,6 +42,15 @@ pub const RED: &[u8] =
 pub const CV1_WITH_BLANKS: &[u8] =
     b"# note\nrounds  1\nchannels  6\nregisters  1\nstart\nr0  =  id\nround\nsend  left  0\nsend  right  r0\nr0  =  add(shl(ldb(r0,  L),  1),  bit(r0,  ldb(r0,  L)))\nfinish  r0\n";
 
+/// Two registers, each of which reads the other: the channel is the identifier and the left neighbour's.
+pub const TWO_REGISTERS: &[u8] =
+    b"rounds 1\nchannels 64\nregisters 2\nstart\nr0 = id\nr1 = 0\nround\nsend left r1\nsend right r0\nr0 = r1\nr1 = add(r0, L)\nfinish r1\n";
+
+/// Eight registers in three rounds: each round moves them down by one and puts what came from the left last. So
+/// at the end register 0 is what register 3 was, and register 5 what the left neighbour's register 1 was.
+pub const EIGHT_REGISTERS: &[u8] =
+    b"rounds 3\nchannels 64\nregisters 8\nstart\nr0 = id\nr1 = add(id, 1)\nr2 = add(id, 2)\nr3 = add(id, 3)\nr4 = add(id, 4)\nr5 = add(id, 5)\nr6 = add(id, 6)\nr7 = add(id, 7)\nround\nsend left 0\nsend right r1\nr0 = r1\nr1 = r2\nr2 = r3\nr3 = r4\nr4 = r5\nr5 = r6\nr6 = r7\nr7 = L\nround\nsend left 0\nsend right r1\nr0 = r1\nr1 = r2\nr2 = r3\nr3 = r4\nr4 = r5\nr5 = r6\nr6 = r7\nr7 = L\nround\nsend left 0\nsend right r1\nr0 = r1\nr1 = r2\nr2 = r3\nr3 = r4\nr4 = r5\nr5 = r6\nr6 = r7\nr7 = L\nfinish add(r0, r5)\n";
+
 /// What stands in front of the last expression of a program of one register that starts with 0.
 pub const ZERO_HEAD: &[u8] = b"rounds 0\nchannels 1\nregisters 1\nstart\nr0 = 0\nfinish ";
 

@@ -1,8 +1,10 @@
 //! Reports of the engine, byte for byte, with their status.
 
 use crate::programs::{
-    CV1, CV1_OF_11, CV1_OF_12, CV1_OF_14, CV1_OF_THREE, CV1_SENDS_L, ID0, LDB, RED, ZERO,
+    CV1, CV1_OF_11, CV1_OF_12, CV1_OF_14, CV1_OF_THREE, CV1_SENDS_L, EIGHT_REGISTERS, ID0, LDB,
+    NOT_HEAD, RED, TWO_REGISTERS, ZERO,
 };
+use crate::texts::{full_tree, nested};
 use plan_print::engine::engine;
 use plan_print::fault::EngineFault;
 use plan_print::status::Status;
@@ -53,166 +55,97 @@ fn line_of(text: &[u8], number: usize) -> Option<&[u8]> {
         .nth(number.saturating_sub(1))
 }
 
-/// Runs a program text on a ring and compares the report.
-fn runs(
+/// Every task refuses a program text for `ids` identifiers with this line.
+fn all_refuse(
     rt: &impl Abort,
     alloc: Global,
-    text: &[u8],
     ids: u32,
-    ring: &[u32],
-    line: &str,
-    status: Status,
-) -> Result<(), Fail> {
-    let task = Task::Run {
-        ids,
-        ring: ring.to_vec(alloc)?,
-    };
-    reports(rt, alloc, task, text, line, status)
-}
-
-/// Checks a program text and compares the report.
-fn checks(
-    rt: &impl Abort,
-    alloc: Global,
     text: &[u8],
-    ids: u32,
     line: &str,
-    status: Status,
 ) -> Result<(), Fail> {
-    reports(rt, alloc, Task::Check { ids }, text, line, status)
-}
-
-#[test]
-fn cv1_on_eight_repeaters(rt: HostRuntime) -> Result<(), Fail> {
-    let ring = [0, 1, 2, 3, 4, 5, 6, 7];
-    runs(
-        &rt,
-        rt.alloc(),
-        CV1,
-        8,
-        &ring,
-        "0 1 0 1 0 1 0 1\n",
-        Status::Done,
-    )
-}
-
-#[test]
-fn cv1_on_four_repeaters(rt: HostRuntime) -> Result<(), Fail> {
-    runs(
-        &rt,
-        rt.alloc(),
-        CV1,
-        8,
-        &[5, 1, 3, 7],
-        "2 4 3 5\n",
-        Status::Done,
-    )
-}
-
-#[test]
-fn cv1_with_the_most_identifiers(rt: HostRuntime) -> Result<(), Fail> {
-    let ring = [5, 1, 3, 7];
-    runs(
-        &rt,
-        rt.alloc(),
-        CV1_OF_14,
-        102,
-        &ring,
-        "2 4 3 5\n",
-        Status::Done,
-    )
-}
-
-#[test]
-fn ldb_on_four_repeaters(rt: HostRuntime) -> Result<(), Fail> {
-    runs(
-        &rt,
-        rt.alloc(),
-        LDB,
-        8,
-        &[5, 1, 3, 7],
-        "1 2 1 2\n",
-        Status::Done,
-    )
-}
-
-#[test]
-fn two_nodes_are_each_other_s_neighbours(rt: HostRuntime) -> Result<(), Fail> {
-    runs(&rt, rt.alloc(), ID0, 2, &[0, 1], "0 1\n", Status::Done)?;
-    runs(&rt, rt.alloc(), ZERO, 2, &[0, 1], "0 0\n", Status::Done)
-}
-
-#[test]
-fn three_channels_are_too_few(rt: HostRuntime) -> Result<(), Fail> {
-    let line = "check fault C4 bound 5\n";
-    runs(
-        &rt,
-        rt.alloc(),
-        CV1_OF_THREE,
-        8,
-        &[5, 1, 3, 7],
-        line,
-        Status::Refused,
-    )
-}
-
-#[test]
-fn rings_that_are_refused(rt: HostRuntime) -> Result<(), Fail> {
-    let rows: [(&[u32], &str); 6] = [
-        (&[0, 1, 2], "ring fault G1\n"),
-        (&[0, 1, 2, 3, 4, 5, 6, 7, 0], "ring fault G2\n"),
-        (&[0, 1, 2, 8], "ring fault G3 place 3\n"),
-        (&[0, 1, 2, 0], "ring fault G4 places 0 3\n"),
-        (&[0, 0, 8, 1], "ring fault G4 places 0 1\n"),
-        (&[0, 1, 8, 0], "ring fault G3 place 2\n"),
+    let tasks = [
+        Task::Check { ids },
+        Task::Table { ids },
+        Task::Judge { ids },
+        Task::Run {
+            ids,
+            ring: [0, 1].to_vec(alloc)?,
+        },
+        Task::Plan {
+            ids,
+            ring: Vec::new(alloc),
+        },
     ];
-    for (ring, line) in rows {
-        runs(&rt, rt.alloc(), CV1, 8, ring, line, Status::RingRefused)?;
+    for task in tasks {
+        reports(rt, alloc, task, text, line, Status::Refused)?;
     }
     Ok(())
 }
 
 #[test]
-fn red_on_eight_repeaters(rt: HostRuntime) -> Result<(), Fail> {
-    let ring = [5, 1, 3, 7, 0, 2, 4, 6];
-    runs(
-        &rt,
-        rt.alloc(),
-        RED,
-        8,
-        &ring,
-        "1 0 3 1 0 3 2 3\n",
-        Status::Done,
-    )
-}
-
-#[test]
-fn programs_that_are_accepted(rt: HostRuntime) -> Result<(), Fail> {
-    let rows: [(&[u8], u32, &str); 3] = [
+fn text_faults(rt: HostRuntime) -> Result<(), Fail> {
+    let rows: [(&[u8], &str); 9] = [
+        (b"", "text fault N9 at 0\n"),
+        (b"rounds 4294967296", "text fault N4 at 7\n"),
+        (b"rounds 5", "text fault N5 at 7\n"),
+        (b"ronds 1", "text fault N3 at 0\n"),
+        (b"round 1", "text fault N6 at 0\n"),
+        (&[0xC3], "text fault N2 at 0\n"),
         (
-            CV1_OF_12,
-            64,
-            "accepted ids 64 rounds 1 channels 12 bound 11 windows 249984\n",
+            b"rounds 0\nchannels 2\nregisters 0\nstart\nr0 = id\nfinish r0\n",
+            "text fault N5 at 30\n",
         ),
         (
-            CV1_OF_14,
-            102,
-            "accepted ids 102 rounds 1 channels 14 bound 13 windows 1030200\n",
+            b"rounds 0\nchannels 4097\nregisters 1\nstart\nr0 = id\nfinish r0\n",
+            "text fault N5 at 18\n",
         ),
         (
-            RED,
-            8,
-            "accepted ids 8 rounds 3 channels 4 bound 3 windows 40320\n",
+            b"rounds 0\nchannels 2\nregisters 1\nstart\nr0 = id\nfinish r0\n0",
+            "text fault N6 at 56\n",
         ),
     ];
-    for (text, ids, line) in rows {
-        checks(&rt, rt.alloc(), text, ids, line, Status::Done)?;
+    for (text, line) in rows {
+        all_refuse(&rt, rt.alloc(), 8, text, line)?;
     }
     Ok(())
 }
 
 #[test]
-fn programs_that_are_refused(rt: HostRuntime) -> Result<(), Fail> {
+fn text_faults_of_a_text_that_is_cut(rt: HostRuntime) -> Result<(), Fail> {
+    let rows = [
+        (9, "text fault N9 at 9\n"),
+        (44, "text fault N3 at 43\n"),
+        (45, "text fault N9 at 45\n"),
+        (52, "text fault N9 at 52\n"),
+        (53, "text fault N9 at 53\n"),
+        (54, "text fault N3 at 53\n"),
+    ];
+    for (length, line) in rows {
+        let text = ID0.get(..length).unwrap_or(b"");
+        all_refuse(&rt, rt.alloc(), 8, text, line)?;
+    }
+    Ok(())
+}
+
+#[test]
+fn text_faults_of_long_texts(rt: HostRuntime) -> Result<(), Fail> {
+    let blanks = vec![in rt.alloc(); b' '; 65_537]?;
+    let deep = nested(rt.alloc(), 64)?;
+    let over = full_tree(rt.alloc(), NOT_HEAD, 12)?;
+    let rows: [(&[u8], &str); 4] = [
+        (&blanks, "text fault N1 at 65536\n"),
+        (&blanks[..65_536], "text fault N9 at 65536\n"),
+        (&deep, "text fault N7 at 308\n"),
+        (&over, "text fault N8 at 14375\n"),
+    ];
+    for (text, line) in rows {
+        all_refuse(&rt, rt.alloc(), 8, text, line)?;
+    }
+    Ok(())
+}
+
+#[test]
+fn check_faults(rt: HostRuntime) -> Result<(), Fail> {
     let rows: [(&[u8], u32, &str); 9] = [
         (CV1_OF_14, 3, "check fault X1\n"),
         (CV1_OF_14, 103, "check fault X2\n"),
@@ -241,37 +174,86 @@ fn programs_that_are_refused(rt: HostRuntime) -> Result<(), Fail> {
         (CV1_SENDS_L, 8, "check fault C3\n"),
     ];
     for (text, ids, line) in rows {
-        checks(&rt, rt.alloc(), text, ids, line, Status::Refused)?;
-        runs(&rt, rt.alloc(), text, ids, &[0, 1], line, Status::Refused)?;
+        all_refuse(&rt, rt.alloc(), ids, text, line)?;
     }
     Ok(())
 }
 
 #[test]
-fn texts_that_are_refused(rt: HostRuntime) -> Result<(), Fail> {
-    let rows: [(&[u8], &str); 6] = [
-        (b"", "text fault N9 at 0\n"),
-        (b"rounds 4294967296", "text fault N4 at 7\n"),
-        (b"rounds 5", "text fault N5 at 7\n"),
-        (b"ronds 1", "text fault N3 at 0\n"),
-        (b"round 1", "text fault N6 at 0\n"),
-        (&[0xC3], "text fault N2 at 0\n"),
+fn accepted_programs(rt: HostRuntime) -> Result<(), Fail> {
+    let rows: [(&[u8], u32, &str); 3] = [
+        (
+            CV1_OF_12,
+            64,
+            "rounds 1 channels 12 bound 11 windows 249984",
+        ),
+        (
+            CV1_OF_14,
+            102,
+            "rounds 1 channels 14 bound 13 windows 1030200",
+        ),
+        (RED, 8, "rounds 3 channels 4 bound 3 windows 40320"),
     ];
-    for (text, line) in rows {
-        checks(&rt, rt.alloc(), text, 8, line, Status::Refused)?;
-        runs(&rt, rt.alloc(), text, 8, &[0], line, Status::Refused)?;
+    for (text, ids, numbers) in rows {
+        let line = format!(in rt.alloc(); "accepted ids {ids} {numbers}\n")?;
+        let task = Task::Check { ids };
+        reports(&rt, rt.alloc(), task, text, &line, Status::Done)?;
     }
     Ok(())
 }
 
 #[test]
-fn texts_of_blanks_are_refused(rt: HostRuntime) -> Result<(), Fail> {
-    let blanks = vec![in rt.alloc(); b' '; 65_537]?;
-    let longest = &blanks[..65_536];
-    let too_long = "text fault N1 at 65536\n";
-    checks(&rt, rt.alloc(), &blanks, 8, too_long, Status::Refused)?;
-    let ended = "text fault N9 at 65536\n";
-    checks(&rt, rt.alloc(), longest, 8, ended, Status::Refused)
+fn ring_faults(rt: HostRuntime) -> Result<(), Fail> {
+    let ids = 8;
+    let rows: [(&[u32], &str); 6] = [
+        (&[0, 1, 2], "ring fault G1\n"),
+        (&[0, 1, 2, 3, 4, 5, 6, 7, 0], "ring fault G2\n"),
+        (&[0, 1, 2, 8], "ring fault G3 place 3\n"),
+        (&[0, 1, 2, 0], "ring fault G4 places 0 3\n"),
+        (&[0, 0, 8, 1], "ring fault G4 places 0 1\n"),
+        (&[0, 1, 8, 0], "ring fault G3 place 2\n"),
+    ];
+    for (ring, line) in rows {
+        let alloc = rt.alloc();
+        let ring = ring.to_vec(alloc)?;
+        let again = ring.to_vec(alloc)?;
+        for task in [Task::Run { ids, ring }, Task::Plan { ids, ring: again }] {
+            reports(&rt, alloc, task, CV1, line, Status::RingRefused)?;
+        }
+    }
+    Ok(())
+}
+
+#[test]
+fn runs(rt: HostRuntime) -> Result<(), Fail> {
+    let rows: [(&[u8], u32, &[u32], &str); 9] = [
+        (CV1, 8, &[0, 1, 2, 3, 4, 5, 6, 7], "0 1 0 1 0 1 0 1\n"),
+        (CV1, 8, &[5, 1, 3, 7], "2 4 3 5\n"),
+        (CV1_OF_14, 102, &[5, 1, 3, 7], "2 4 3 5\n"),
+        (LDB, 8, &[5, 1, 3, 7], "1 2 1 2\n"),
+        (ID0, 2, &[0, 1], "0 1\n"),
+        (ZERO, 2, &[0, 1], "0 0\n"),
+        (RED, 8, &[5, 1, 3, 7, 0, 2, 4, 6], "1 0 3 1 0 3 2 3\n"),
+        (TWO_REGISTERS, 8, &[5, 1, 3, 7], "12 6 4 10\n"),
+        (
+            EIGHT_REGISTERS,
+            8,
+            &[0, 1, 2, 3, 4, 5, 6, 7],
+            "11 5 7 9 11 13 15 17\n",
+        ),
+    ];
+    for (text, ids, ring, line) in rows {
+        let ring = ring.to_vec(rt.alloc())?;
+        reports(
+            &rt,
+            rt.alloc(),
+            Task::Run { ids, ring },
+            text,
+            line,
+            Status::Done,
+        )?;
+    }
+    Ok(())
 }
 
 #[test]
@@ -337,36 +319,4 @@ fn the_plan_of_cv1(rt: HostRuntime) -> Result<(), Fail> {
     let lines = "   0    5    2\n   1    1    4\n   2    3    3\n   3    7    5\n";
     let task = Task::Plan { ids: 8, ring };
     reports(&rt, rt.alloc(), task, CV1, lines, Status::Done)
-}
-
-#[test]
-fn refusals_of_the_table_and_its_kin(rt: HostRuntime) -> Result<(), Fail> {
-    let refusal = "check fault C4 bound 5\n";
-    for task in [
-        Task::Table { ids: 8 },
-        Task::Judge { ids: 8 },
-        Task::Plan {
-            ids: 8,
-            ring: Vec::new(rt.alloc()),
-        },
-    ] {
-        reports(
-            &rt,
-            rt.alloc(),
-            task,
-            CV1_OF_THREE,
-            refusal,
-            Status::Refused,
-        )?;
-    }
-    let ring = [0, 1, 2].to_vec(rt.alloc())?;
-    let task = Task::Plan { ids: 8, ring };
-    reports(
-        &rt,
-        rt.alloc(),
-        task,
-        CV1,
-        "ring fault G1\n",
-        Status::RingRefused,
-    )
 }

@@ -10,7 +10,7 @@ use Rattle.plan_print.specs.declared.words.PlainName.TheVariants as plain_varian
 use Rattle.plan_print.specs.declared.words.RingName.{RingName}
 use Rattle.plan_print.specs.declared.words.RingName.TheVariants as ring_variant
 use Rattle.plan_print.specs.CommandWords.{plain_name, ring_name}
-use Rattle.plan_print.specs.Words.{plain_words, ring_words, IsPlainName, IsRingName, IsPlain, IsOnRing, IsCommand, IsGoodCommand, HasBadRing}
+use Rattle.plan_print.specs.Words.{plain_words, ring_words, IsPlainName, IsRingName, IsPlainCommand, HasRing, IsRingCommand, IsCommand, IsGoodCommand, HasBadRing}
 
 is_plain_name : (name : PlainName) → IsPlainName (plain_name name)
 is_plain_name plain_variant.Check = inl refl
@@ -30,14 +30,11 @@ apart words a m b n r three five =
 
 good_is_command : (words : List (List ℕ)) → IsGoodCommand words → IsCommand words
 good_is_command words (inl plain) = inl plain
-good_is_command words (inr (name, ids, ring, is, on, text)) = inr (name, ids, ring, is, on)
-
-bad_is_command : (words : List (List ℕ)) → HasBadRing words → IsCommand words
-bad_is_command words (name, ids, ring, is, on, bad) = inr (name, ids, ring, is, on)
+good_is_command words (inr (ring, has, text)) = inr (ring, has)
 
 -- what words that are no command are not
 pub refused : (words : List (List ℕ)) → (¬ IsCommand words) → (¬ IsCommand words) × (¬ IsGoodCommand words) × (¬ HasBadRing words)
-refused words lacks = (lacks, λ good. lacks (good_is_command words good), λ bad. lacks (bad_is_command words bad))
+refused words lacks = (lacks, λ good. lacks (good_is_command words good), λ (ring, has, bad). lacks (inr (ring, has)))
 
 -- three words whose third is no number
 pub no_number : (words : List (List ℕ)) (name : PlainName) (number : List ℕ) → words ≡ plain_words (plain_name name) number → (¬ IsNumber number)
@@ -46,7 +43,7 @@ no_number words name number are bad =
     refused words (λ command. elim command [
       | inl (other, ids, is, (digits, same, numeral, value)) ↦
           bad (subst IsNumber (ap (λ ws. get_or ws 2 []) (sym same ∙ are)) numeral)
-      | inr (other, ids, ring, is, (digits, same, numeral, value)) ↦ apart words (plain_name name) number other digits ring are same
+      | inr (ring, (other, ids, is, (digits, same, numeral, value))) ↦ apart words (plain_name name) number other digits ring are same
     ])
 
 -- five words whose third is no number
@@ -55,54 +52,41 @@ pub no_number_on_ring : (words : List (List ℕ)) (name : RingName) (number ring
 no_number_on_ring words name number ring are bad =
     refused words (λ command. elim command [
       | inl (other, ids, is, (digits, same, numeral, value)) ↦ apart words other digits (ring_name name) number ring same are
-      | inr (other, ids, text, is, (digits, same, numeral, value)) ↦
+      | inr (text, (other, ids, is, (digits, same, numeral, value))) ↦
           bad (subst IsNumber (ap (λ ws. get_or ws 2 []) (sym same ∙ are)) numeral)
     ])
-
--- three words have no ring, good or bad
-no_ring : (words : List (List ℕ)) (name number : List ℕ) → words ≡ plain_words name number → HasBadRing words → ⊥
-no_ring words name number are (other, ids, ring, is, (digits, same, numeral, value), not_text) = apart words name number other digits ring are same
 
 -- three words whose third is a number
 pub plain_command : (words : List (List ℕ)) (name : PlainName) (number : List ℕ) → words ≡ plain_words (plain_name name) number → IsNumber number
     → IsCommand words × IsGoodCommand words × (¬ HasBadRing words)
 plain_command words name number are numeral =
-    let plain : (name : List ℕ) × (ids : ℕ) × IsPlainName name × IsPlain name words ids =
-    (plain_name name, number_in number, is_plain_name name, (number, are, numeral, refl)) in
-    (inl plain, inl plain, no_ring words (plain_name name) number are)
-
--- five words with a ring text have no other text in its place, and the other way round
-not_bad : (words : List (List ℕ)) (name number ring : List ℕ) → words ≡ ring_words name number ring → IsRingText ring → HasBadRing words → ⊥
-not_bad words name number ring are text (other, ids, given, is, (digits, same, numeral, value), not_text) =
-    not_text (subst IsRingText (ap (λ ws. get_or ws 4 []) (sym are ∙ same)) text)
-
-not_good : (words : List (List ℕ)) (name number ring : List ℕ) → words ≡ ring_words name number ring → (¬ IsRingText ring) → IsGoodCommand words → ⊥
-not_good words name number ring are not_text (inl (other, ids, is, (digits, same, numeral, value))) = apart words other digits name number ring same are
-not_good words name number ring are not_text (inr (other, ids, given, is, (digits, same, numeral, value), text)) =
-    not_text (subst IsRingText (ap (λ ws. get_or ws 4 []) (sym same ∙ are)) text)
+    let plain : IsPlainCommand words = (plain_name name, number_in number, is_plain_name name, (number, are, numeral, refl)) in
+    (inl plain, inl plain, λ (ring, (other, ids, is, (digits, same, numeral', value)), bad). apart words (plain_name name) number other digits ring are same)
 
 bad_is_no_memory : {A : Type 0} → ◌≡◌ {A = Result A WordsFault} (Err BadRing) (Err OutOfMemory) → ⊥
 bad_is_no_memory same = cc
 
 -- five words whose third is a number
 module _ (words : List (List ℕ)) (name : RingName) (number ring : List ℕ) (are : words ≡ ring_words (ring_name name) number ring) (numeral : IsNumber number) where
-  on_ring : IsOnRing (ring_name name) words (number_in number) ring
-  on_ring = (number, are, numeral, refl)
+  has_ring : HasRing words ring
+  has_ring = (ring_name name, number_in number, is_ring_name name, (number, are, numeral, refl))
 
-  pub ring_command : IsCommand words
-  ring_command = inr (ring_name name, number_in number, ring, is_ring_name name, on_ring)
+  -- their fifth is what stands after `--ring`
+  same_ring : (text : List ℕ) → HasRing words text → text ≡ ring
+  same_ring text (other, ids, is, (digits, same, numeral', value)) = ap (λ ws. get_or ws 4 []) (sym same ∙ are)
+
+  pub ring_command : IsRingCommand words
+  ring_command = (ring, has_ring)
 
   pub good_on_ring : IsRingText ring → IsGoodCommand words
-  good_on_ring text = inr (ring_name name, number_in number, ring, is_ring_name name, on_ring, text)
-
-  pub bad_on_ring : (¬ IsRingText ring) → HasBadRing words
-  bad_on_ring not_text = (ring_name name, number_in number, ring, is_ring_name name, on_ring, not_text)
+  good_on_ring text = inr (ring, has_ring, text)
 
   pub not_bad_on_ring : IsRingText ring → HasBadRing words → ⊥
-  not_bad_on_ring text bad = not_bad words (ring_name name) number ring are text bad
+  not_bad_on_ring text (other, has, bad) = bad (subst IsRingText (sym (same_ring other has)) text)
 
   pub not_good_on_ring : (¬ IsRingText ring) → IsGoodCommand words → ⊥
-  not_good_on_ring not_text good = not_good words (ring_name name) number ring are not_text good
+  not_good_on_ring bad (inl (other, ids, is, (digits, same, numeral', value))) = apart words other digits (ring_name name) number ring same are
+  not_good_on_ring bad (inr (other, has, text)) = bad (subst IsRingText (same_ring other has) text)
 
   -- what a refusal of the ring's text says of the words
   pub refused_ring : {A B : Type 0} (e : WordsFault) (r : Result A WordsFault) (s : Result B WordsFault) → r ≡ Err e → s ≡ Err e → (e ≡ BadRing) ⊎ (e ≡ OutOfMemory)
@@ -110,5 +94,5 @@ module _ (words : List (List ℕ)) (name : RingName) (number ring : List ℕ) (a
   refused_ring e r s from to (inl is) told aside =
       let bad : r ≡ Err BadRing = from ∙ ap Err is in
       let not_text : ¬ IsRingText ring = (told (λ memory. bad_is_no_memory (sym bad ∙ memory))).0 bad in
-      (λ refused. bad_on_ring not_text, λ has. to ∙ ap Err is)
+      (λ refused. (ring, has_ring, not_text), λ has. to ∙ ap Err is)
   refused_ring e r s from to (inr is) told aside = absurd (aside (to ∙ ap Err is))

@@ -1,31 +1,9 @@
 -- Lemmas on the lines of windows and their channels.
-use Rattle.std.proofs.Common.{◌≡◌, ℕ, zero, suc, ◌+◌, ◌-◌, ◌<◌, ◌≤◌, List, [], ◌∷◌, ◌++◌, length, get_or, slice_get, take, Some, sym, ap, ◌∙◌, arith, refl}
+use Rattle.std.proofs.Common.{◌≡◌, ℕ, ◌+◌, ◌≤◌, List, [], ◌∷◌, ◌++◌, length, get_or, slice_get, take, Some, sym, ap, ◌∙◌, arith}
 use Rattle.std.specs.List.{flat_map, zip}
-use Rattle.std.proofs.Math.Nat.{mul-pos}
 use Rattle.std.proofs.lemmas.List.{take_more, take_all, flat_map_more}
 use Rattle.std.proofs.lemmas.Option.{get_or_from_slice_get, slice_get_within}
-use Rattle.win_index.specs.Falling.{falling}
-
--- there are windows that are no longer than there are identifiers
-pub some_windows : (m k : ℕ) → k ≤ m → 0 < falling m k
-some_windows m zero le = omega arith
-some_windows m (suc k) le =
-    let less : 0 < falling m k = some_windows m k (omega arith) in
-    let free : 0 < m - k = omega arith in
-    mul-pos less free
-
--- the pairs of two lists of one length
-length-zip : {A B : Type 0} (xs : List A) (ys : List B) → length ys ≡ length xs → length (zip xs ys) ≡ length xs
-length-zip [] ys same = refl
-length-zip (x ∷ xs) [] same = absurd (omega arith)
-length-zip (x ∷ xs) (y ∷ ys) same = ap suc (length-zip xs ys (omega arith))
-
-get_or-zip : {A B : Type 0} (xs : List A) (ys : List B) (n : ℕ) (d : A) (e : B) → n < length xs → n < length ys
-    → get_or (zip xs ys) n (d, e) ≡ (get_or xs n d, get_or ys n e)
-get_or-zip [] ys n d e in_xs in_ys = absurd (omega arith)
-get_or-zip (x ∷ xs) [] n d e in_xs in_ys = absurd (omega arith)
-get_or-zip (x ∷ xs) (y ∷ ys) zero d e in_xs in_ys = refl
-get_or-zip (x ∷ xs) (y ∷ ys) (suc n) d e in_xs in_ys = get_or-zip xs ys n d e (omega arith) (omega arith)
+use Rattle.std.proofs.lemmas.Slice.Zip.{length-zip, get_or-zip}
 
 -- the text of the first n pairs, and then that of the next one
 pub text_more : {A B : Type 0} (f : A × B → List ℕ) (xs : List A) (ys : List B) (n : ℕ) (x : A) (d : B) (before text after : List ℕ)
@@ -33,9 +11,8 @@ pub text_more : {A B : Type 0} (f : A × B → List ℕ) (xs : List A) (ys : Lis
     → after ≡ before ++ flat_map f (take (n + 1) (zip xs ys))
 text_more f xs ys n x d before text after same item written more =
     let within = slice_get_within xs n x item in
-    let size = length-zip xs ys same in
-    let pair : get_or (zip xs ys) n (x, d) ≡ (x, get_or ys n d) =
-    get_or-zip xs ys n x d within (omega arith) ∙ ap (λ w. (w, get_or ys n d)) (get_or_from_slice_get xs n x x item) in
+    let size : length (zip xs ys) ≡ length xs = omega (arith, length-zip xs ys) in
+    let pair = get_or-zip xs ys n (x, d) within (omega arith) ∙ ap (λ w. (w, get_or ys n d)) (get_or_from_slice_get xs n x x item) in
     more ∙ ap (λ l. l ++ f (x, get_or ys n d)) written
     ∙ flat_map_more f before (take n (zip xs ys)) (x, get_or ys n d)
     ∙ ap (λ p. before ++ flat_map f (take n (zip xs ys) ++ p ∷ [])) (sym pair)
@@ -45,5 +22,5 @@ text_more f xs ys n x d before text after same item written more =
 pub text_of_all : {A B : Type 0} (f : A × B → List ℕ) (xs : List A) (ys : List B) (n : ℕ) (before text : List ℕ)
     → length ys ≡ length xs → length xs ≤ n → text ≡ before ++ flat_map f (take n (zip xs ys)) → text ≡ before ++ flat_map f (zip xs ys)
 text_of_all f xs ys n before text same all written =
-    let size = length-zip xs ys same in
+    let size : length (zip xs ys) ≡ length xs = omega (arith, length-zip xs ys) in
     written ∙ ap (λ l. before ++ flat_map f l) (take_all n (zip xs ys) (omega arith))

@@ -1,4 +1,4 @@
--- The words of a command whose texts have not been looked at.
+-- The words of a command whose texts have not been looked at. No public contract cites this file.
 use Rattle.std.specs.Prelude.{ℕ, List, codes}
 use Rattle.plan_print.specs.declared.words.PlainName.{PlainName}
 use Rattle.plan_print.specs.declared.words.PlainName.TheVariants as plain_command

@@ -3,6 +3,7 @@ use Rattle.std.specs.Prelude.{◌≡◌, ℕ, List, Option}
 use Rattle.std.specs.Io.KnownBytes.{Appends}
 use Rattle.plan_print.specs.declared.status.Status.{Status}
 use Rattle.plan_print.specs.declared.task.Task.{Task}
+use Rattle.plan_print.specs.Task.{limit_of}
 use Rattle.plan_print.specs.Input.{GivesInput}
 use Rattle.plan_print.specs.Output.{AppendsFront}
 use Rattle.plan_print.specs.Report.{Report, IsReport}
@@ -10,7 +11,7 @@ use Rattle.plan_print.specs.Report.{Report, IsReport}
 -- The input was read, and the report of the task on it was written whole; the status is the report's.
 pub record WritesReport (task : Task) (unread left before after : Option (List ℕ)) (status : Status) : Type 0 where
   pub input : List ℕ
-  pub read : GivesInput unread left 65536 input
+  pub read : GivesInput unread left (limit_of task) input
   pub report : Report
   pub is_report : IsReport task input report
   pub written : Appends before after report.bytes
@@ -19,7 +20,7 @@ pub record WritesReport (task : Task) (unread left before after : Option (List �
 -- The input was read, and a front of the report of the task on it was written.
 pub record WritesFront (task : Task) (unread left before after : Option (List ℕ)) : Type 0 where
   pub input : List ℕ
-  pub read : GivesInput unread left 65536 input
+  pub read : GivesInput unread left (limit_of task) input
   pub report : Report
   pub is_report : IsReport task input report
   pub written : AppendsFront before after report.bytes

@@ -1,5 +1,5 @@
 -- The report: the bytes and the status for a task and an input.
-use Rattle.std.specs.Prelude.{ℕ, ◌+◌, ◌*◌, List, [], ◌∷◌, length, slice_index, codes}
+use Rattle.std.specs.Prelude.{◌≡◌, ℕ, ◌+◌, ◌*◌, List, [], ◌∷◌, length, slice_index, codes}
 use Rattle.std.specs.List.{flat_map, range_with_len}
 use Rattle.std.specs.Fmt.{decimal}
 use Rattle.node_lang.specs.declared.fault.FaultKind.{FaultKind}
@@ -19,18 +19,24 @@ use Rattle.lang_check.specs.Refusals.{IsFirstRefusal}
 use Rattle.win_index.specs.RingFaults.{IsFirstFault}
 use Rattle.win_index.specs.Windows.{windows}
 use Rattle.table_fill.specs.ProgramTables.{table_of}
+use Rattle.table_fill.specs.Tables.{ChannelTable}
 use Rattle.nbhd_check.specs.Proper.{tuples, IsGoodEverywhere}
 use Rattle.nbhd_check.specs.Verdicts.{IsWitness}
 use Rattle.plan_print.specs.declared.status.Status.{Status}
 use Rattle.plan_print.specs.declared.status.Status.TheVariants.{Done, No, Refused, RingRefused}
 use Rattle.plan_print.specs.declared.task.Task.{Task}
 use Rattle.plan_print.specs.declared.task.Task.TheVariants.{Check, Table, Judge, Run, Plan}
+use Rattle.plan_print.specs.Task.{ids_of}
 use Rattle.plan_print.specs.Lines.{line, numbers_text, right_aligned}
 use Rattle.plan_print.specs.TableText.{table_text}
 
 pub record Report : Type 0 where
   pub bytes : List ℕ
   pub status : Status
+
+-- the report has these bytes and this status
+abbrev pub Says : List ℕ → Status → Report → Type 0
+Says bytes status r = (r.bytes ≡ bytes) × (r.status ≡ status)
 
 -- the number of a kind of text fault
 abbrev pub kind_number : FaultKind → ℕ
@@ -88,54 +94,29 @@ abbrev pub place_lines : ProgramTree → List ℕ → List ℕ
 place_lines p places =
     flat_map (λ place. place_line place (slice_index places place) (channel_at p places place)) (range_with_len 0 (length places))
 
--- The report of an input that is refused for `ids` identifiers: the text is judged first, then the program.
-pub data IsRefusal (ids : ℕ) (input : List ℕ) : Report → Type 0 where
-  text_fault : (k : FaultKind) (offset : ℕ) → FaultsAt input k offset →
-      IsRefusal ids input (record { bytes = text_fault_line k offset; status = Refused })
-  check_fault : (p : ProgramTree) (f : CheckFault) → Reads input p → IsFirstRefusal ids p f →
-      IsRefusal ids input (record { bytes = check_fault_line f; status = Refused })
+-- The judge's answer: the table is good everywhere, or this ring shows that it is not.
+pub data IsJudgement (t : ChannelTable) (r : Report) : Type 0 where
+  good : IsGoodEverywhere t → Says (good_line (length (tuples t))) Done r → IsJudgement t r
+  bad : (ring : List ℕ) (place channel : ℕ) → IsWitness t ring place channel → Says (bad_line ring place channel) No r → IsJudgement t r
 
--- The report of a check for `ids` identifiers.
-pub data IsCheckReport (ids : ℕ) (input : List ℕ) : Report → Type 0 where
-  refusal : (r : Report) → IsRefusal ids input r → IsCheckReport ids input r
-  accepted : (p : ProgramTree) → Reads input p → IsAccepted ids p →
-      IsCheckReport ids input (record { bytes = accepted_line ids p; status = Done })
+-- The answer on a list of identifiers, for m identifiers and t rounds: what is wrong first with a list that is no ring, or on a ring these bytes.
+pub data IsAnswerOnRing (m t : ℕ) (places bytes : List ℕ) (r : Report) : Type 0 where
+  ring_fault : (f : RingFault) → IsFirstFault m t places f → Says (ring_fault_line f) RingRefused r → IsAnswerOnRing m t places bytes r
+  on_ring : IsRing m t places → Says bytes Done r → IsAnswerOnRing m t places bytes r
 
--- The report of a table for `ids` identifiers.
-pub data IsTableReport (ids : ℕ) (input : List ℕ) : Report → Type 0 where
-  refusal : (r : Report) → IsRefusal ids input r → IsTableReport ids input r
-  text_of_table : (p : ProgramTree) → Reads input p → IsAccepted ids p →
-      IsTableReport ids input (record { bytes = table_text (table_of p ids); status = Done })
+-- the answer of a task on a program that is accepted
+abbrev pub IsAnswer : Task → ProgramTree → Report → Type 0
+IsAnswer (Check ids) p r = Says (accepted_line ids p) Done r
+IsAnswer (Table ids) p r = Says (table_text (table_of p ids)) Done r
+IsAnswer (Judge ids) p r = IsJudgement (table_of p ids) r
+IsAnswer (Run ids places) p r = IsAnswerOnRing ids (length p.steps) places.items (line (numbers_text (channels_of p places.items) ∷ [])) r
+IsAnswer (Plan ids places) p r = IsAnswerOnRing ids (length p.steps) places.items (place_lines p places.items) r
 
--- The report of a judge for `ids` identifiers: whether neighbours' channels differ on every ring.
-pub data IsJudgeReport (ids : ℕ) (input : List ℕ) : Report → Type 0 where
-  refusal : (r : Report) → IsRefusal ids input r → IsJudgeReport ids input r
-  good_table : (p : ProgramTree) → Reads input p → IsAccepted ids p → IsGoodEverywhere (table_of p ids) →
-      IsJudgeReport ids input (record { bytes = good_line (length (tuples (table_of p ids))); status = Done })
-  bad_table : (p : ProgramTree) (places : List ℕ) (place channel : ℕ) → Reads input p → IsAccepted ids p →
-      IsWitness (table_of p ids) places place channel →
-      IsJudgeReport ids input (record { bytes = bad_line places place channel; status = No })
-
--- The report of a run for `ids` identifiers on a ring: the ring is judged after the text and the program.
-pub data IsRunReport (ids : ℕ) (places input : List ℕ) : Report → Type 0 where
-  refusal : (r : Report) → IsRefusal ids input r → IsRunReport ids places input r
-  ring_fault : (p : ProgramTree) (f : RingFault) → Reads input p → IsAccepted ids p → IsFirstFault ids (length p.steps) places f →
-      IsRunReport ids places input (record { bytes = ring_fault_line f; status = RingRefused })
-  channels : (p : ProgramTree) → Reads input p → IsAccepted ids p → IsRing ids (length p.steps) places →
-      IsRunReport ids places input (record { bytes = line (numbers_text (channels_of p places) ∷ []); status = Done })
-
--- The report of a plan for `ids` identifiers on a ring: the ring is judged after the text and the program.
-pub data IsPlanReport (ids : ℕ) (places input : List ℕ) : Report → Type 0 where
-  refusal : (r : Report) → IsRefusal ids input r → IsPlanReport ids places input r
-  ring_fault : (p : ProgramTree) (f : RingFault) → Reads input p → IsAccepted ids p → IsFirstFault ids (length p.steps) places f →
-      IsPlanReport ids places input (record { bytes = ring_fault_line f; status = RingRefused })
-  channels : (p : ProgramTree) → Reads input p → IsAccepted ids p → IsRing ids (length p.steps) places →
-      IsPlanReport ids places input (record { bytes = place_lines p places; status = Done })
-
--- the report of a task
-abbrev pub IsReport : Task → List ℕ → Report → Type 0
-IsReport (Check ids) input report = IsCheckReport ids input report
-IsReport (Table ids) input report = IsTableReport ids input report
-IsReport (Judge ids) input report = IsJudgeReport ids input report
-IsReport (Run ids places) input report = IsRunReport ids places.items input report
-IsReport (Plan ids places) input report = IsPlanReport ids places.items input report
+-- The report of a task on an input: the fault of a text that reads as no program, or the first refusal of the program that it reads as, or the task's
+-- answer on that program.
+pub data IsReport (task : Task) (input : List ℕ) (r : Report) : Type 0 where
+  text_fault : (k : FaultKind) (offset : ℕ) → ((p : ProgramTree) → ¬ Reads input p) → FaultsAt input k offset →
+      Says (text_fault_line k offset) Refused r → IsReport task input r
+  check_fault : (p : ProgramTree) (f : CheckFault) → Reads input p → IsFirstRefusal (ids_of task) p f →
+      Says (check_fault_line f) Refused r → IsReport task input r
+  answered : (p : ProgramTree) → Reads input p → IsAccepted (ids_of task) p → IsAnswer task p r → IsReport task input r

@@ -30,22 +30,29 @@ abbrev pub IsOnRing : List ℕ → List (List ℕ) → ℕ → List ℕ → Type
 IsOnRing name words ids ring =
     (number : List ℕ) × (words ≡ ring_words name number ring) × IsNumber number × (ids ≡ number_in number)
 
--- the words are a command, with a ring text or with another text in its place
+-- the words are a command without a ring
+abbrev pub IsPlainCommand : List (List ℕ) → Type 0
+IsPlainCommand words = (name : List ℕ) × (ids : ℕ) × IsPlainName name × IsPlain name words ids
+
+-- the words are a command with this text after `--ring`
+abbrev pub HasRing : List (List ℕ) → List ℕ → Type 0
+HasRing words ring = (name : List ℕ) × (ids : ℕ) × IsRingName name × IsOnRing name words ids ring
+
+-- the words are a command on a ring, with a ring text or with another text in its place
+abbrev pub IsRingCommand : List (List ℕ) → Type 0
+IsRingCommand words = (ring : List ℕ) × HasRing words ring
+
+-- the words are a command
 abbrev pub IsCommand : List (List ℕ) → Type 0
-IsCommand words =
-    ((name : List ℕ) × (ids : ℕ) × IsPlainName name × IsPlain name words ids)
-    ⊎ ((name : List ℕ) × (ids : ℕ) × (ring : List ℕ) × IsRingName name × IsOnRing name words ids ring)
+IsCommand words = IsPlainCommand words ⊎ IsRingCommand words
 
 -- the words are a command without a ring, or with a ring text
 abbrev pub IsGoodCommand : List (List ℕ) → Type 0
-IsGoodCommand words =
-    ((name : List ℕ) × (ids : ℕ) × IsPlainName name × IsPlain name words ids)
-    ⊎ ((name : List ℕ) × (ids : ℕ) × (ring : List ℕ) × IsRingName name × IsOnRing name words ids ring × IsRingText ring)
+IsGoodCommand words = IsPlainCommand words ⊎ ((ring : List ℕ) × HasRing words ring × IsRingText ring)
 
 -- the words are a command, but the text after `--ring` is no ring text
 abbrev pub HasBadRing : List (List ℕ) → Type 0
-HasBadRing words =
-    (name : List ℕ) × (ids : ℕ) × (ring : List ℕ) × IsRingName name × IsOnRing name words ids ring × ¬ IsRingText ring
+HasBadRing words = (ring : List ℕ) × HasRing words ring × ¬ IsRingText ring
 
 -- the words are the command of this name with this number of identifiers, and these are the numbers of its ring text
 abbrev pub IsOnNumbers : List ℕ → List (List ℕ) → ℕ → List ℕ → Type 0

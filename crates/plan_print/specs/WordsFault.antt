@@ -1,8 +1,15 @@
 -- When a refusal of words comes.
 use Rattle.std.specs.Prelude.{◌≡◌, Result, Err}
+use Rattle.std.specs.declared.io.ErrorKind.{ErrorKind}
+use Rattle.std.specs.declared.io.ErrorKind.TheVariants as kind
 use Rattle.plan_print.specs.declared.words.WordsFault.{WordsFault}
-use Rattle.plan_print.specs.declared.words.WordsFault.TheVariants.{OutOfMemory}
+use Rattle.plan_print.specs.declared.words.WordsFault.TheVariants.{Usage, OutOfMemory}
 
 -- a fact that holds unless memory was refused
 abbrev pub MemoryAside : {T : Type 0} → Result T WordsFault → Type 0 → Type 0
 MemoryAside result fact = ¬ (result ≡ Err OutOfMemory) → fact
+
+-- the refusal where the words could not be had: memory was refused, or else a word is not UTF-8
+abbrev pub refusal_of : ErrorKind → WordsFault
+refusal_of kind.OutOfMemory = OutOfMemory
+refusal_of _ = Usage

@@ -2,6 +2,7 @@
 
 ghost use Rattle.std.specs.Prelude.{◌≡◌, ◌↔◌, ℕ, List, false, IsTrue, IfOk, OnErr, IsErrOf};
 ghost use Rattle.std.specs.Io.KnownBytes.{Keeps};
+ghost use Rattle.plan_print.specs.Task.{limit_of};
 ghost use Rattle.plan_print.specs.Input.{TakesFront};
 ghost use Rattle.plan_print.specs.Watched.{device_of, has_failed};
 ghost use Rattle.plan_print.specs.Engine.{WritesReport, WritesFront};
@@ -16,11 +17,8 @@ use crate::watched::Watched;
 use std::alloc::Global;
 use std::io::{Read, Write};
 
-/// The limit of a program text in bytes. One byte more of the input is read, and no further.
-pub const LIMIT: usize = 65_536;
-
-/// Reads the input of a task, all of it or the first 65,537 bytes of a longer one, and writes its
-/// report; the answer is the report's status.
+/// Reads the input of a task, all of it or one byte more than the task's limit of a longer one, and
+/// writes its report; the answer is the report's status.
 ///
 /// `Read` comes exactly where a read failed, `Write` exactly where a write failed or took no byte, `Memory`
 /// where memory was refused. After `Read` and `Memory` nothing was written, after `Write` a front of the
@@ -41,11 +39,11 @@ pub fn engine<R: Read, W: Write>(
         (W.contents (device_of writer.old)) (W.contents (device_of writer.new)) }
     ensures unread { IsErrOf result EngineFault.Read → Keeps (W.contents (device_of writer.old)) (W.contents (device_of writer.new)) }
     ensures no_memory { IsErrOf result EngineFault.Memory → Keeps (W.contents (device_of writer.old)) (W.contents (device_of writer.new)) }
-    ensures taken { OnErr result (TakesFront (R.remaining (device_of reader.old)) (R.remaining (device_of reader.new)) LIMIT) }
+    ensures taken { OnErr result (TakesFront (R.remaining (device_of reader.old)) (R.remaining (device_of reader.new)) (limit_of task)) }
     ensures reader_failed { IsErrOf result EngineFault.Read ↔ IsTrue (has_failed reader.new) }
     ensures writer_failed { IsErrOf result EngineFault.Write ↔ IsTrue (has_failed writer.new) }
 {
-    let input = read_input(alloc, reader, LIMIT)?;
+    let input = read_input(alloc, reader, task.limit())?;
     let (text, status) = report_of(alloc, task, &input)?;
     send(writer, text.as_bytes())?;
     Ok(status)

@@ -23,7 +23,7 @@ pub enum EngineFault {
 }
 
 impl EngineFault {
-    ghost use Rattle.plan_print.specs.FaultCodes.{engine_fault_code};
+    ghost use Rattle.plan_print.specs.ExitCodes.{engine_fault_code};
 
     /// The exit status of the process: 5 after a failed read or write, 6 where memory was refused.
     pub fn code(self) -> u8

@@ -1,7 +1,9 @@
 //! How the program ends.
 
 ghost use Rattle.std.specs.Prelude.{◌≡◌};
-ghost use Rattle.plan_print.specs.Status.{exit_code};
+ghost use Rattle.plan_print.specs.ExitCodes.{exit_code, answer_code};
+
+use crate::fault::EngineFault;
 
 /// How a task ended whose report was written.
 #[derive(Clone, Copy, Debug, PartialEq, Eq)]
@@ -30,5 +32,15 @@ impl Status {
             Status::Refused => 3,
             Status::RingRefused => 4,
         }
+    }
+}
+
+/// The exit status of the process after the engine's answer.
+pub fn code_of(answer: Result<Status, EngineFault>) -> u8
+    ensures { result ≡ answer_code answer }
+{
+    match answer {
+        Ok(status) => status.code(),
+        Err(fault) => fault.code(),
     }
 }

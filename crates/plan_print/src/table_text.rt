@@ -16,7 +16,7 @@ use std::alloc::{AllocError, Global};
 use std::fmt::Write as _;
 use std::io::Write;
 use table_fill::Table;
-use win_index::count_of_windows;
+use win_index::MAX_WINDOW_LEN;
 
 /// Writes the text of a table: a line with the version, a line with the numbers of rounds, identifiers
 /// and channels, a line for each window and its channel in the windows' order, and the line `end`.
@@ -49,10 +49,7 @@ pub(crate) fn table_text(alloc: Global, table: &Table) -> Result<String, AllocEr
     ensures { IfOk result (λ text. string_bytes text ≡ written.table_text table.now) }
 {
     let mut text = head_lines(alloc, table)?;
-    let mut cells = [0u32; 7];
-    let window = &mut cells[..window_len(table)];
-    write_first_window(table, window);
-    write_entries(&mut text, table, window)?;
+    write_entries(&mut text, table)?;
     text.push_str("end\n")?;
     Ok(text)
 }
@@ -68,35 +65,18 @@ fn head_lines(alloc: Global, table: &Table) -> Result<String, AllocError>
     format!(in alloc; "nbhd-table 1\nrounds {rounds} ids {ids} channels {channels}\n")
 }
 
-// How many identifiers a window has.
-pub(crate) fn window_len(table: &Table) -> usize
-    ensures length { result ≡ 2 * table.now.rounds + 1 }
-    ensures few { result ≤ 7 }
-{
-    2 * table.shape().rounds() as usize + 1
-}
-
-// Writes the first window.
-fn write_first_window(table: &Table, out: &mut [u32])
-    requires { length out.old ≡ 2 * table.now.rounds + 1 }
-    ensures item { slice_get (windows (2 * table.now.rounds + 1) table.now.ids) 0 ≡ Some out.new }
-    ensures window { IsWindow (2 * table.now.rounds + 1) table.now.ids out.new }
-{
-    count_of_windows();
-    let shape = table.shape();
-    shape.window(shape.rounds(), 0, out);
-}
-
 // Writes the lines of all windows, from the first one on.
-fn write_entries(text: &mut String, table: &Table, window: &mut [u32]) -> Result<(), AllocError>
-    requires first { slice_get (windows (2 * table.now.rounds + 1) table.now.ids) 0 ≡ Some window.old }
-    requires window { IsWindow (2 * table.now.rounds + 1) table.now.ids window.old }
+fn write_entries(text: &mut String, table: &Table) -> Result<(), AllocError>
     ensures { OnOk result (string_bytes text.new
         ≡ string_bytes text.old ++ flat_map written.entry_line (written.entries_of table.now)) }
 {
     let shape = table.shape();
     let level = shape.rounds();
-    for number in 0..shape.count(level) {
+    let count = shape.count(level);
+    let mut cells = [0u32; MAX_WINDOW_LEN];
+    let window = &mut cells[..2 * level as usize + 1];
+    shape.window(level, 0, window);
+    for number in 0..count {
         write_entry(text, window, table.entry(number))?;
         shape.next_window(level, window);
     }

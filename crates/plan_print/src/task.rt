@@ -1,5 +1,7 @@
 //! The tasks that the program can be asked to do.
 
+use node_lang::LONGEST_TEXT;
+
 /// What the words of a command ask for.
 #[derive(Debug, PartialEq, Eq, Drop)]
 pub enum Task {
@@ -34,4 +36,26 @@ pub enum Task {
         /// The identifiers of the ring's places, from place 0 on.
         ring: Vec<u32>,
     },
+}
+
+impl Task {
+    ghost use Rattle.std.specs.Prelude.{◌≡◌};
+    ghost use Rattle.plan_print.specs.Task.{ids_of, limit_of};
+
+    /// How many identifiers there are.
+    pub fn ids(&self) -> u32
+        ensures { result ≡ ids_of self.now }
+    {
+        match self {
+            Task::Check { ids } | Task::Table { ids } | Task::Judge { ids } => *ids,
+            Task::Run { ids, ring: _ } | Task::Plan { ids, ring: _ } => *ids,
+        }
+    }
+
+    /// The most bytes that the input may have.
+    pub fn limit(&self) -> usize
+        ensures { result ≡ limit_of self.now }
+    {
+        LONGEST_TEXT
+    }
 }

@@ -1,7 +1,7 @@
 //! The words of the command line.
 
 ghost use Rattle.std.specs.Prelude.{◌≡◌, ◌↔◌, ℕ, List, map, codes, IsOk, IsErrOf, IfOk, IfSome, IfNone, string_bytes};
-ghost use Rattle.plan_print.specs.Words.{plain_words, ring_words, IsPlain, IsOnNumbers, IsCommand, IsGoodCommand, HasBadRing, IsTaskOf};
+ghost use Rattle.plan_print.specs.Words.{plain_words, ring_words, IsPlain, IsOnNumbers, IsCommand, IsRingCommand, IsGoodCommand, HasBadRing, IsTaskOf};
 ghost use Rattle.plan_print.specs.CommandWords.{plain_name, ring_name, command_words};
 ghost use Rattle.plan_print.specs.WordsFault.{MemoryAside};
 ghost use Rattle.plan_print.specs.declared.words.WordsFault.TheVariants.{OutOfMemory};
@@ -10,6 +10,8 @@ use crate::decimal::number_of;
 use crate::ring_text::ring_of;
 use crate::task::Task;
 use std::alloc::{AllocError, AllocFailed, Global};
+use std::io;
+use std::io::ErrorKind;
 use thiserror::Error;
 
 /// Why words are refused.
@@ -27,7 +29,7 @@ pub enum WordsFault {
 }
 
 impl WordsFault {
-    ghost use Rattle.plan_print.specs.FaultCodes.{words_fault_code};
+    ghost use Rattle.plan_print.specs.ExitCodes.{words_fault_code};
 
     /// The exit status of the process: 2 where the words are refused, 6 where memory was.
     pub fn code(self) -> u8
@@ -56,11 +58,27 @@ impl<T: Drop> From<AllocFailed<T>> for WordsFault {
     }
 }
 
+impl From<io::Error> for WordsFault {
+    ghost use Rattle.std.specs.IoError.{error_kind};
+    ghost use Rattle.plan_print.specs.WordsFault.{refusal_of};
+
+    ghost from_gives = { λ error fault. fault ≡ refusal_of (error_kind error) };
+
+    // The error is that of `env::args`: memory was refused, or else a word is not UTF-8.
+    fn from(error: io::Error) -> WordsFault {
+        match error.kind() {
+            ErrorKind::OutOfMemory => WordsFault::OutOfMemory,
+            _ => WordsFault::Usage,
+        }
+    }
+}
+
 /// The task that the words ask for. They are the words after the program's name, and a command is
 /// `NAME --ids M` for the names `check`, `table` and `judge`, or `NAME --ids M --ring A,B,..` for the names
 /// `run` and `plan`, in this order: `M` is a decimal number up to 4294967295, leading zeros allowed, and
 /// what stands after `--ring` is a ring text. `Usage` comes where the words are no command, `BadRing` where
-/// they are one but for the ring text. `OutOfMemory` comes where memory was refused, and only at a command.
+/// they are one but for the ring text. `OutOfMemory` comes where memory was refused, and only at a command
+/// with a ring.
 #[tactic(auto, using(crate::proofs::Commands::no_number, crate::proofs::Commands::no_number_on_ring, crate::proofs::Commands::plain_command, crate::proofs::Commands::ring_command, crate::proofs::Commands::good_on_ring, crate::proofs::Commands::not_bad_on_ring, crate::proofs::Commands::not_good_on_ring))]
 pub fn task_of(alloc: Global, words: &[String]) -> Result<Task, WordsFault>
     ensures task { IfOk result (IsTaskOf (map string_bytes words.now)) }
@@ -68,7 +86,7 @@ pub fn task_of(alloc: Global, words: &[String]) -> Result<Task, WordsFault>
     ensures usage { IsErrOf result WordsFault.Usage ↔ (¬ (IsCommand (map string_bytes words.now))) }
     ensures bad_ring { MemoryAside result
         (IsErrOf result WordsFault.BadRing ↔ HasBadRing (map string_bytes words.now)) }
-    ensures memory { IsErrOf result WordsFault.OutOfMemory → IsCommand (map string_bytes words.now) }
+    ensures memory { IsErrOf result WordsFault.OutOfMemory → IsRingCommand (map string_bytes words.now) }
 {
     match command_in(words) {
         Some(Command::Plain { name, number }) => {

@@ -1,9 +1,12 @@
 //! The input and the output over memory, and over devices that give or take one byte a call and
 //! fail.
 
+use crate::engine::engine;
 use crate::fault::EngineFault;
 use crate::input::read_input;
 use crate::output::send;
+use crate::status::Status;
+use crate::task::Task;
 use crate::watched::Watched;
 use std::io;
 use std::io::{ErrorKind, Read, Write};
@@ -105,6 +108,27 @@ fn single_bytes_are_read_in_no_more_calls_than_bytes(rt: HostRuntime) -> Result<
 }
 
 #[test]
+fn a_long_input_is_read_in_one_call_more_than_its_limit(rt: HostRuntime) -> Result<(), Fail> {
+    let mut reader = Watched::new(Trickle::failing_after(100_000));
+    let mut writer = Watched::new(Vec::new(rt.alloc()));
+    let status = engine(rt.alloc(), Task::Check { ids: 8 }, &mut reader, &mut writer)?;
+    assert_eq!(rt; status, Status::Refused);
+    assert_eq!(rt; reader.into_device().calls, 65_537);
+    let report = writer.into_device();
+    assert_eq!(rt; report.as_slice(), b"text fault N1 at 65536\n".as_slice());
+    Ok(())
+}
+
+#[test]
+fn a_read_into_no_room_is_no_failure(rt: HostRuntime) {
+    let mut reader = Watched::new(Trickle::failing_after(1));
+    assert_eq!(rt; reader.read(&mut []), Ok(0));
+    assert!(rt; !reader.failed());
+    assert_eq!(rt; reader.read(&mut []), Err(EngineFault::Read));
+    assert!(rt; reader.failed());
+}
+
+#[test]
 fn a_failed_read_is_the_fault_at_once(rt: HostRuntime) {
     let mut reader = Watched::new(Trickle::failing_after(2));
     assert_eq!(rt;
@@ -144,6 +168,7 @@ fn a_failed_write_is_the_fault_at_once(rt: HostRuntime) {
 fn a_write_that_takes_nothing_is_the_fault(rt: HostRuntime) {
     let mut writer = Watched::new(Full);
     assert_eq!(rt; send(&mut writer, b""), Ok(()));
+    assert_eq!(rt; writer.write(b""), Ok(0));
     assert!(rt; !writer.failed());
     assert_eq!(rt; send(&mut writer, b"0"), Err(EngineFault::Write));
     assert!(rt; writer.failed());

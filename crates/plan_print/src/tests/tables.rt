@@ -44,16 +44,3 @@ fn a_table_that_is_not_written_whole(rt: HostRuntime) -> Result<(), Fail> {
     assert_eq!(rt; write_table(rt.alloc(), &table, &mut writer), Ok(()));
     Ok(())
 }
-
-#[test]
-fn table_faults_are_displayed(rt: HostRuntime) -> Result<(), Fail> {
-    assert_eq!(rt;
-        OutFault::Write.to_string(rt.alloc())?.as_str(),
-        "nbhd: write failed"
-    );
-    assert_eq!(rt;
-        OutFault::Memory.to_string(rt.alloc())?.as_str(),
-        "nbhd: out of memory"
-    );
-    Ok(())
-}

@@ -1,0 +1,70 @@
+-- A task and an input have at most one report: nothing that a report tells has two values.
+use Rattle.std.proofs.Common.{◌≡◌, ℕ, List, ap, subst, sym, ◌∙◌, refl}
+use Rattle.node_lang.specs.Term.{ProgramTree}
+use Rattle.node_lang.specs.Laws.{OneReading, OneTextFault}
+use Rattle.win_index.specs.Laws.{OneRingFault, RingsHaveNoFault}
+use Rattle.lang_check.specs.Acceptance.{IsAccepted}
+use Rattle.lang_check.specs.Refusals.{IsFirstRefusal}
+use Rattle.table_fill.specs.Tables.{ChannelTable}
+use Rattle.lang_check.specs.Laws.{OneRefusal, AcceptedProgramsHaveNoRefusal}
+use Rattle.nbhd_check.specs.Laws.{OneWitness, GoodTablesHaveNoWitness}
+use Rattle.plan_print.specs.declared.task.Task.{Task}
+use Rattle.plan_print.specs.declared.task.Task.TheVariants.{Check, Table, Judge, Run, Plan}
+use Rattle.plan_print.specs.declared.status.Status.{Status}
+use Rattle.plan_print.specs.Task.{ids_of}
+use Rattle.plan_print.specs.Report as report
+use Rattle.plan_print.specs.Report.{Report, Says, IsJudgement, good, bad, IsAnswerOnRing, ring_fault, on_ring, IsAnswer, IsReport, text_fault, check_fault, answered}
+use Rattle.plan_print.specs.Laws.{OneReport}
+
+-- two reports that say the same are one
+said_once : (bytes other : List ℕ) (status : Status) (r s : Report) → bytes ≡ other → Says bytes status r → Says other status s → r ≡ s
+said_once bytes other status r s same says says' = λ i. record { bytes = (says.0 ∙ same ∙ sym says'.0) i; status = (says.1 ∙ sym says'.1) i }
+
+one_judgement : OneWitness → GoodTablesHaveNoWitness → (t : ChannelTable) (r s : Report) → IsJudgement t r → IsJudgement t s → r ≡ s
+one_judgement one no_witness t r s (good is says) (good is' says') = said_once _ _ _ r s refl says says'
+one_judgement one no_witness t r s (good is says) (bad ring i c witness says') = absurd (no_witness t ring i c is witness)
+one_judgement one no_witness t r s (bad ring i c witness says) (good is says') = absurd (no_witness t ring i c is witness)
+one_judgement one no_witness t r s (bad ring i c witness says) (bad other j d witness' says') =
+    let same = one t ring other i j c d witness witness' in
+    said_once _ _ _ r s (λ k. report.bad_line (same.0 k) (same.1 k) (same.2 k)) says says'
+
+one_on_ring : OneRingFault → RingsHaveNoFault → (m t : ℕ) (x bytes : List ℕ) (r s : Report) → IsAnswerOnRing m t x bytes r → IsAnswerOnRing m t x bytes s → r ≡ s
+one_on_ring one no_fault m t x bytes r s (ring_fault f first says) (ring_fault g first' says') =
+    said_once _ _ _ r s (ap report.ring_fault_line (one m t x f g first first')) says says'
+one_on_ring one no_fault m t x bytes r s (ring_fault f first says) (on_ring ring says') = absurd (no_fault m t x f ring first)
+one_on_ring one no_fault m t x bytes r s (on_ring ring says) (ring_fault f first says') = absurd (no_fault m t x f ring first)
+one_on_ring one no_fault m t x bytes r s (on_ring ring says) (on_ring ring' says') = said_once _ _ _ r s refl says says'
+
+one_answer : OneRingFault → RingsHaveNoFault → OneWitness → GoodTablesHaveNoWitness
+    → (task : Task) (p : ProgramTree) (r s : Report) → IsAnswer task p r → IsAnswer task p s → r ≡ s
+one_answer one_fault no_fault one_witness no_witness (Check ids) p r s = said_once _ _ _ r s refl
+one_answer one_fault no_fault one_witness no_witness (Table ids) p r s = said_once _ _ _ r s refl
+one_answer one_fault no_fault one_witness no_witness (Judge ids) p r s = one_judgement one_witness no_witness _ r s
+one_answer one_fault no_fault one_witness no_witness (Run ids ring) p r s = one_on_ring one_fault no_fault _ _ _ _ r s
+one_answer one_fault no_fault one_witness no_witness (Plan ids ring) p r s = one_on_ring one_fault no_fault _ _ _ _ r s
+
+pub one_report : OneReading → OneTextFault → OneRefusal → AcceptedProgramsHaveNoRefusal → OneRingFault → RingsHaveNoFault → OneWitness → GoodTablesHaveNoWitness → OneReport
+one_report one_reading one_text_fault one_refusal no_refusal one_fault no_fault one_witness no_witness task input r s first second =
+    let m = ids_of task in
+    elim first [
+      | text_fault k i none faults says ↦ elim second [
+        | text_fault l j none' faults' says' ↦
+            let same = one_text_fault input k l i j faults faults' in
+            said_once _ _ _ r s (λ n. report.text_fault_line (same.0 n) (same.1 n)) says says'
+        | check_fault p f reads refused says' ↦ absurd (none p reads)
+        | answered p reads accepted answer ↦ absurd (none p reads)
+      ]
+      | check_fault p f reads refused says ↦ elim second [
+        | text_fault k i none faults says' ↦ absurd (none p reads)
+        | check_fault q g reads' refused' says' ↦
+            let refused'' = subst (λ h. IsFirstRefusal m h g) (one_reading input q p reads' reads) refused' in
+            said_once _ _ _ r s (ap report.check_fault_line (one_refusal m p f g refused refused'')) says says'
+        | answered q reads' accepted answer ↦ absurd (no_refusal m p f (subst (IsAccepted m) (one_reading input q p reads' reads) accepted) refused)
+      ]
+      | answered p reads accepted answer ↦ elim second [
+        | text_fault k i none faults says' ↦ absurd (none p reads)
+        | check_fault q f reads' refused says' ↦ absurd (no_refusal m q f (subst (IsAccepted m) (one_reading input p q reads reads') accepted) refused)
+        | answered q reads' accepted' answer' ↦
+            one_answer one_fault no_fault one_witness no_witness task p r s answer (subst (λ h. IsAnswer task h s) (one_reading input q p reads' reads) answer')
+      ]
+    ]

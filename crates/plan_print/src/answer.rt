@@ -1,0 +1,90 @@
+//! The answers of the tasks on a program that is accepted.
+
+ghost use Rattle.std.specs.Prelude.{◌≡◌, ℕ, List, IfOk, IfErr, string_bytes};
+ghost use Rattle.win_index.specs.RingFaults.{IsFirstFault};
+ghost use Rattle.table_fill.specs.ProgramTables.{table_of};
+ghost use Rattle.plan_print.specs.Task.{ids_of};
+ghost use Rattle.plan_print.specs.Report.{IsAnswer, IsAnswerOnRing, IsJudgement};
+
+use crate::fault::EngineFault;
+use crate::lines::{accepted_line, bad_line, good_line, numbers_line, ring_fault_line};
+use crate::places::places_text;
+use crate::status::Status;
+use crate::table_text::table_text;
+use crate::task::Task;
+use lang_check::Plan;
+use nbhd_check::{Verdict, judge};
+use round_eval::{OpenGate, plain_run};
+use std::alloc::Global;
+use table_fill::{FillFault, Table, compile};
+use win_index::{Ring, RingFault};
+
+// The text of a task's answer on the program of a plan, and its status.
+pub(crate) fn answer_of(
+    alloc: Global,
+    task: Task,
+    plan: &Plan,
+) -> Result<(String, Status), EngineFault>
+    requires { plan.now.ids ≡ ids_of task }
+    ensures answer { IfOk result (λ r. IsAnswer task plan.now.program (record { bytes = string_bytes r.0; status = r.1 })) }
+    ensures fault { IfErr result (λ fault. fault ≡ EngineFault.Memory) }
+{
+    match task {
+        Task::Check { ids: _ } => Ok((accepted_line(alloc, plan)?, Status::Done)),
+        Task::Table { ids: _ } => {
+            let table = compiled(alloc, plan)?;
+            Ok((table_text(alloc, &table)?, Status::Done))
+        }
+        Task::Judge { ids: _ } => judgement(alloc, &compiled(alloc, plan)?),
+        Task::Run { ids: _, ring } => match Ring::new(plan.shape(), ring) {
+            Ok(ring) => {
+                let channels = plain_run(alloc, plan, &ring)?;
+                Ok((numbers_line(alloc, &channels)?, Status::Done))
+            }
+            Err((_ids, fault)) => ring_refusal(alloc, fault),
+        },
+        Task::Plan { ids: _, ring } => match Ring::new(plan.shape(), ring) {
+            Ok(ring) => {
+                let table = compiled(alloc, plan)?;
+                Ok((places_text(alloc, plan, &table, &ring)?, Status::Done))
+            }
+            Err((_ids, fault)) => ring_refusal(alloc, fault),
+        },
+    }
+}
+
+// The answer on a list of identifiers that is no ring.
+fn ring_refusal(alloc: Global, fault: RingFault) -> Result<(String, Status), EngineFault>
+    ensures answer { IfOk result (λ r. (m t : ℕ) (places bytes : List ℕ) → IsFirstFault m t places fault
+        → IsAnswerOnRing m t places bytes (record { bytes = string_bytes r.0; status = r.1 })) }
+    ensures fault { IfErr result (λ fault. fault ≡ EngineFault.Memory) }
+{
+    Ok((ring_fault_line(alloc, fault)?, Status::RingRefused))
+}
+
+// The judge's answer on a table.
+fn judgement(alloc: Global, table: &Table) -> Result<(String, Status), EngineFault>
+    ensures answer { IfOk result (λ r. IsJudgement table.now (record { bytes = string_bytes r.0; status = r.1 })) }
+    ensures fault { IfErr result (λ fault. fault ≡ EngineFault.Memory) }
+{
+    match judge(alloc, table)? {
+        Verdict::Yes => Ok((good_line(alloc, table.shape().tuples())?, Status::Done)),
+        Verdict::No {
+            ring,
+            place,
+            channel,
+        } => Ok((bad_line(alloc, &ring, place, channel)?, Status::No)),
+    }
+}
+
+// The table of an accepted program.
+fn compiled(alloc: Global, plan: &Plan) -> Result<Table, EngineFault>
+    ensures table { IfOk result (λ table. table ≡ table_of plan.now.program plan.now.ids) }
+    ensures fault { IfErr result (λ fault. fault ≡ EngineFault.Memory) }
+{
+    match compile(alloc, plan, 1, &OpenGate) {
+        Ok(table) => Ok(table),
+        Err(FillFault::OutOfMemory) => Err(EngineFault::Memory),
+        Err(FillFault::WorkersOutOfRange) => unreachable!(),
+    }
+}

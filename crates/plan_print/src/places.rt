@@ -1,0 +1,51 @@
+//! The channels of a ring's places, looked up in the table.
+
+ghost use Rattle.std.specs.Prelude.{◌≡◌, ◌<◌, length, IfOk, string_bytes};
+ghost use Rattle.node_lang.specs.GlobalRounds.{channel_at};
+ghost use Rattle.table_fill.specs.ProgramTables.{table_of};
+ghost use Rattle.plan_print.specs.Report.{place_lines};
+
+use crate::lines::write_place;
+use lang_check::Plan;
+use std::alloc::{AllocError, Global};
+use table_fill::{Table, table_has_the_channels_of_rounds};
+use win_index::{MAX_WINDOW_LEN, Ring};
+
+// The lines of a ring's places, from place 0 on, by the table of a plan's program.
+pub(crate) fn places_text(
+    alloc: Global,
+    plan: &Plan,
+    table: &Table,
+    ring: &Ring,
+) -> Result<String, AllocError>
+    requires table { table.now ≡ table_of plan.now.program plan.now.ids }
+    requires ids { ring.now.ids ≡ plan.now.ids }
+    requires rounds { ring.now.rounds ≡ length plan.now.program.steps }
+    ensures { IfOk result (λ text. string_bytes text ≡ place_lines plan.now.program ring.now.places) }
+{
+    let mut text = String::new(alloc);
+    for place in 0..ring.len() {
+        let channel = channel_of_place(plan, table, ring, place);
+        write_place(&mut text, place, ring.id(place), channel)?;
+    }
+    Ok(text)
+}
+
+// The table's channel at the window around a place.
+fn channel_of_place(plan: &Plan, table: &Table, ring: &Ring, place: u32) -> u32
+    requires table { table.now ≡ table_of plan.now.program plan.now.ids }
+    requires ids { ring.now.ids ≡ plan.now.ids }
+    requires rounds { ring.now.rounds ≡ length plan.now.program.steps }
+    requires place { place < length ring.now.places }
+    ensures { result ≡ channel_at plan.now.program ring.now.places place }
+{
+    table_has_the_channels_of_rounds();
+    let rounds = plan.shape().rounds();
+    let mut cells = [0u32; MAX_WINDOW_LEN];
+    let window = &mut cells[..2 * rounds as usize + 1];
+    ring.window_at(place, rounds, window);
+    match table.channel_at(window) {
+        Some(channel) => channel,
+        None => unreachable!(),
+    }
+}

@@ -1,0 +1,47 @@
+//! The program `nbhd` as a process: its words, its standard input and its standard output are handed to the engine.
+
+ghost use Rattle.plan_print.specs.ExitCodes.{IsExitStatus};
+
+use crate::engine::engine;
+use crate::fault::EngineFault;
+use crate::status::{Status, code_of};
+use crate::task::Task;
+use crate::watched::Watched;
+use crate::words::{WordsFault, task_of};
+use std::rt::Env;
+use std::{env, io};
+
+/// Does what the words after the program's name ask for, and answers the exit status. A fault is told on
+/// the standard error.
+pub fn exit_status<T: AllocGlobal + Env + Input + Print + Eprint>(rt: &T) -> u8
+    ensures { IsExitStatus result }
+{
+    match asked(rt) {
+        Ok(task) => {
+            let answer = done(rt, task);
+            if let Err(fault) = answer {
+                let _ = eprintln!(rt; "{fault}");
+            }
+            code_of(answer)
+        }
+        Err(fault) => {
+            let _ = eprintln!(rt; "{fault}");
+            fault.code()
+        }
+    }
+}
+
+// The task that the words after the program's name ask for.
+fn asked<T: AllocGlobal + Env>(rt: &T) -> Result<Task, WordsFault> {
+    let mut args = env::args(rt)?;
+    let _name = args.next();
+    let words = args.collect::<Vec<_>>(rt.alloc())?;
+    task_of(rt.alloc(), &words)
+}
+
+// The engine's answer to a task on the standard input and output.
+fn done<T: AllocGlobal + Input + Print>(rt: &T, task: Task) -> Result<Status, EngineFault> {
+    let mut reader = Watched::new(rt.reader());
+    let mut writer = Watched::new(io::writer(rt));
+    engine(rt.alloc(), task, &mut reader, &mut writer)
+}
