@@ -1,5 +1,4 @@
-use Rattle.std.proofs.Common.{◌≡◌, ℕ, ◌+◌, ◌-◌, ◌<◌, List, [], ◌∷◌, ◌++◌, length, drop, get_or, refl, sym, ◌∙◌, ap, append_assoc, arith, rules}
-use Rattle.node_lang.specs.Node.{to_left, to_right, next}
+use Rattle.std.proofs.Common.{◌≡◌, ℕ, ◌+◌, ◌-◌, ◌<◌, [], ◌∷◌, ◌++◌, length, drop, get_or, refl, sym, ◌∙◌, ap, append_assoc, arith, rules}
 use Rattle.round_eval.specs.Rows.{row_after, rows}
 use Rattle.round_eval.proofs.RowLemmas.{length-rows, rows_written, row_from, row_from_last}
 use Rattle.round_eval.proofs.row.round_of_row.Goals as goal

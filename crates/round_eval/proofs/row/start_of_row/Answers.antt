@@ -1,4 +1,4 @@
-use Rattle.std.proofs.Common.{◌≡◌, ℕ, ◌+◌, ◌∷◌, [], ◌++◌, length, map, take, get_or, refl, sym, ◌∙◌, ap, arith, rules}
+use Rattle.std.proofs.Common.{ℕ, ◌+◌, ◌∷◌, [], ◌++◌, map, take, get_or, refl, sym, ◌∙◌, ap, rules}
 use Rattle.std.proofs.lemmas.List.{take_more, map-append}
 use Rattle.node_lang.specs.Node as rounds
 use Rattle.round_eval.proofs.RowLemmas.{rows_written}
