@@ -26,13 +26,8 @@ pub fn window_state(plan: &Plan, window: &[u32], out: &mut [u32])
     let mut next = [0; CELLS];
     start_of_row(plan, window, &mut line);
     for round in 0..level {
-        shrink(
-            plan,
-            round,
-            2 * (level - round) as usize - 1,
-            &line,
-            &mut next,
-        );
+        let inner = 2 * (level - round) as usize - 1;
+        shrink(plan, round, inner, &line, &mut next);
         line = next;
     }
     out.copy_from_slice(&line[..width]);
