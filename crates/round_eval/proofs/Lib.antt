@@ -1,5 +1,4 @@
 -- Lemmas that several proofs share.
 mod LowestDifference
-mod Assigned
 mod RowLemmas
 mod GlobalRounds
