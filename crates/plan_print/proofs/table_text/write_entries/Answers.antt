@@ -14,7 +14,7 @@ loop-number-preserved c =
     record {
       next = search rules;
       window = search rules;
-      written = text_more entry_line ws t.entries c.loop-number.number c.loop-number.window 0 _ _ _ c.shape-shape.ensures.table.full
+      written = text_more entry_line ws t.entries c.loop-number.number c.loop-number.window 0 _ _ _ c.shape-shape.ensures.table.size
           (c.loop-number.invariant.next within) c.loop-number.invariant.written (search rules);
     }
 
@@ -24,4 +24,4 @@ returns c =
     let t = c.args.table.now in
     let ws = windows (2 * t.rounds + 1) t.ids in
     let all : length ws ≤ c.loop-number.number = search rules in
-    text_of_all entry_line ws t.entries c.loop-number.number _ _ c.shape-shape.ensures.table.full all c.loop-number.invariant.written
+    text_of_all entry_line ws t.entries c.loop-number.number _ _ c.shape-shape.ensures.table.size all c.loop-number.invariant.written
