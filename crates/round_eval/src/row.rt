@@ -5,14 +5,15 @@ ghost use Rattle.round_eval.specs.Rows.{row_after, rows};
 
 use crate::node::{sent_to_left, sent_to_right, start_state, step};
 use lang_check::Plan;
+use node_lang::{MAX_REGISTERS, MAX_ROUNDS};
 use win_index::MAX_IDS;
 
 /// The number of registers of a plan's program, as the width of a row.
 pub fn width_of(plan: &Plan) -> usize
     ensures value { result ≡ length plan.now.program.start }
     ensures some { 1 ≤ result }
-    ensures few { result ≤ 8 }
-    ensures few_rounds { length plan.now.program.steps ≤ 3 }
+    ensures few { result ≤ MAX_REGISTERS }
+    ensures few_rounds { length plan.now.program.steps ≤ MAX_ROUNDS }
 {
     let program = plan.program();
     program.registers() as usize
