@@ -8,6 +8,47 @@ use std::test::Fail;
 
 const TOP: u32 = 4_294_967_295;
 
+// Expressions, and their bounds for six identifiers, at most 10 from the left and 20 from the right, and registers of
+// at most 1 and 9.
+const BOUNDS: [(&str, u32); 36] = [
+    ("7", 7),
+    ("id", 5),
+    ("L", 10),
+    ("R", 20),
+    ("r0", 1),
+    ("r1", 9),
+    ("r2", 0),
+    ("not(0)", TOP),
+    ("and(5, 3)", 3),
+    ("or(5, 5)", 7),
+    ("or(0, 0)", 0),
+    ("or(2147483648, 1)", TOP),
+    ("xor(5, 5)", 7),
+    ("xor(3, 8)", 15),
+    ("shl(5, 1)", 10),
+    ("shl(2, 31)", TOP),
+    ("shl(1, 31)", 2_147_483_648),
+    ("shl(0, 32)", TOP),
+    ("shl(2, r0)", TOP),
+    ("shr(63, 3)", 7),
+    ("shr(4294967295, 32)", 0),
+    ("shr(63, r0)", 63),
+    ("add(10, 1)", 11),
+    ("add(4294967295, 1)", TOP),
+    ("sub(5, 9)", 5),
+    ("min(5, 3)", 3),
+    ("max(5, 3)", 5),
+    ("ldb(63, 63)", 5),
+    ("ldb(5, 5)", 2),
+    ("ldb(0, 0)", 0),
+    ("bit(5, 2)", 1),
+    ("eq(5, 2)", 1),
+    ("ne(5, 2)", 1),
+    ("lt(5, 2)", 1),
+    ("le(5, 2)", 1),
+    ("if(9, 3, id)", 5),
+];
+
 // A program of no rounds with two channels and one register, which ends in this expression.
 fn ends_in(alloc: Global, finish: &str) -> Result<Program, Fail> {
     let text = format!(in alloc; "rounds 0 channels 2 registers 1 start r0 = id finish {finish}")?;
@@ -33,47 +74,8 @@ fn cv1_plan(alloc: Global, channels: u32, ids: u32) -> Result<Plan, Fail> {
 
 #[test]
 fn bounds_of_expressions(rt: HostRuntime) -> Result<(), Fail> {
-    // Six identifiers, at most 10 from the left and 20 from the right, and registers of at most 1 and 9.
     let limits = limits(6, 10, 20, &[1, 9]);
-    let rows = [
-        ("7", 7),
-        ("id", 5),
-        ("L", 10),
-        ("R", 20),
-        ("r0", 1),
-        ("r1", 9),
-        ("r2", 0),
-        ("not(0)", TOP),
-        ("and(5, 3)", 3),
-        ("or(5, 5)", 7),
-        ("or(0, 0)", 0),
-        ("or(2147483648, 1)", TOP),
-        ("xor(5, 5)", 7),
-        ("xor(3, 8)", 15),
-        ("shl(5, 1)", 10),
-        ("shl(2, 31)", TOP),
-        ("shl(1, 31)", 2_147_483_648),
-        ("shl(0, 32)", TOP),
-        ("shl(2, r0)", TOP),
-        ("shr(63, 3)", 7),
-        ("shr(4294967295, 32)", 0),
-        ("shr(63, r0)", 63),
-        ("add(10, 1)", 11),
-        ("add(4294967295, 1)", TOP),
-        ("sub(5, 9)", 5),
-        ("min(5, 3)", 3),
-        ("max(5, 3)", 5),
-        ("ldb(63, 63)", 5),
-        ("ldb(5, 5)", 2),
-        ("ldb(0, 0)", 0),
-        ("bit(5, 2)", 1),
-        ("eq(5, 2)", 1),
-        ("ne(5, 2)", 1),
-        ("lt(5, 2)", 1),
-        ("le(5, 2)", 1),
-        ("if(9, 3, id)", 5),
-    ];
-    for (text, want) in rows {
+    for (text, want) in BOUNDS {
         let program = ends_in(rt.alloc(), text)?;
         assert_eq!(rt; bound_of(program.finish(), limits), want, "{text}");
     }
