@@ -29,7 +29,7 @@ jobs_below_more m level =
     ∙ flat_map-append (level_jobs m) (range_with_len 0 level) (range_with_len level 1)
     ∙ ap (λ l. jobs_below m level ++ l) (append-nil (level_jobs m level))
 
-length-level_jobs : (m level : ℕ) → length (level_jobs m level) ≡ block_count m level
+pub length-level_jobs : (m level : ℕ) → length (level_jobs m level) ≡ block_count m level
 length-level_jobs m level = length-map-range_with_len (λ b. (level, b)) 0 (block_count m level)
 
 -- how many there are
@@ -46,7 +46,7 @@ jobs_are_below m t level e = rw e
 zero-add : (n : ℕ) → 0 + n ≡ n
 zero-add n = omega arith
 
-level_job_at : (m level block : ℕ) → block < block_count m level → slice_get (level_jobs m level) block ≡ Some (level, block)
+pub level_job_at : (m level block : ℕ) → block < block_count m level → slice_get (level_jobs m level) block ≡ Some (level, block)
 level_job_at m level block lt =
     let n : ℕ = block_count m level in
     let inside : block < length (range_with_len 0 n) = omega (arith, length-range_with_len 0 n) in

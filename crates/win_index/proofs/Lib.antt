@@ -12,4 +12,5 @@ pub mod Arcs
 pub mod Tuples
 pub mod Order
 pub mod JobPlaces
+pub mod JobNumbers
 pub mod OneFault

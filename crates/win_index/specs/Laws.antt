@@ -5,6 +5,7 @@ use Rattle.win_index.specs.declared.ring.RingFault.{RingFault}
 use Rattle.win_index.specs.Arcs.{arc, window_around, part_at}
 use Rattle.win_index.specs.Blocks.{block_count}
 use Rattle.win_index.specs.Falling.{falling}
+use Rattle.win_index.specs.Jobs.{jobs_of, job_number}
 use Rattle.win_index.specs.Lexicographic.{StandsBefore}
 use Rattle.win_index.specs.Ring.{IsRing}
 use Rattle.win_index.specs.RingFaults.{IsFirstFault}
@@ -35,6 +36,16 @@ CountOfWindows = (k m : ℕ) → length (windows k m) ≡ falling m k
 -- the windows of a level of a shape fill few blocks
 abbrev pub BlocksAreFew : Type 0
 BlocksAreFew = (m t level : ℕ) → IsShape m t → level ≤ t → block_count m level ≤ MAX_BLOCKS
+
+-- a job stands at its number and nowhere else
+abbrev pub JobsStandAtNumbers : Type 0
+JobsStandAtNumbers =
+    (m t level block n : ℕ) → (job_number m t level block ≡ Some n) ↔ (slice_get (jobs_of m t) n ≡ Some (level, block))
+
+-- a block of a level has a job where the level is one of the levels and has this block, and only there
+abbrev pub BlocksHaveJobs : Type 0
+BlocksHaveJobs =
+    (m t level block : ℕ) → IsSome (job_number m t level block) ↔ (level ≤ t) × (block < block_count m level)
 
 -- what stands around a place of a ring is a window
 abbrev pub RingsHaveWindows : Type 0

@@ -2,9 +2,9 @@ use crate::limits::{BLOCK_WINDOWS, MAX_BLOCKS, MAX_ROUNDS};
 use crate::shape::Shape;
 
 impl Shape {
-    ghost use Rattle.std.specs.Prelude.{◌≡◌, ◌+◌, ◌*◌, ◌<◌, ◌≤◌, Some, length, slice_get};
+    ghost use Rattle.std.specs.Prelude.{◌≡◌, ◌+◌, ◌*◌, ◌<◌, ◌≤◌, Some, IfSome, length, slice_get};
     ghost use Rattle.win_index.specs.Blocks.{block_count};
-    ghost use Rattle.win_index.specs.Jobs.{jobs_of};
+    ghost use Rattle.win_index.specs.Jobs.{jobs_of, job_number as number_of_job};
 
     /// How many blocks the windows of this level fill, 256 a block. Block `b` holds the windows from number
     /// `256*b` on; the last block may hold fewer than 256.
@@ -44,5 +44,20 @@ impl Shape {
             block -= blocks;
         }
         unreachable!()
+    }
+
+    /// The number of the job for a block of a level, or `None` where there is no such block.
+    pub fn job_number(&self, level: u32, block: u32) -> Option<u32>
+        ensures number { result ≡ number_of_job self.now.ids self.now.rounds level block }
+        ensures below { IfSome result (λ n. n < length (jobs_of self.now.ids self.now.rounds)) }
+    {
+        if level > self.rounds || block >= self.blocks(level) {
+            return None;
+        }
+        let mut number = block;
+        for lower in 0..level {
+            number += self.blocks(lower);
+        }
+        Some(number)
     }
 }

@@ -56,6 +56,13 @@ pub fn blocks_are_few()
     ensures { law.BlocksAreFew }
 {}
 
+/// A job stands at its number and nowhere else. A block of a level has a job exactly where the level is at
+/// most the number of rounds and the block is below the number of the level's blocks.
+pub fn jobs_have_numbers()
+    ensures at { law.JobsStandAtNumbers }
+    ensures exact { law.BlocksHaveJobs }
+{}
+
 /// A list has at most one first fault, and a ring has none.
 #[tactic(auto, using(crate::proofs::OneFault::one_fault, crate::proofs::OneFault::no_fault))]
 pub fn one_ring_fault()

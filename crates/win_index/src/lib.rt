@@ -9,8 +9,8 @@ mod ring;
 mod shape;
 
 pub use laws::{
-    blocks_are_few, count_of_windows, number_of_window, one_ring_fault, places_of_arcs,
-    rings_have_tuples, rings_have_windows, tuples_are_rings, window_of_number,
+    blocks_are_few, count_of_windows, jobs_have_numbers, number_of_window, one_ring_fault,
+    places_of_arcs, rings_have_tuples, rings_have_windows, tuples_are_rings, window_of_number,
     windows_are_in_order, windows_have_numbers,
 };
 pub use limits::{

@@ -154,6 +154,11 @@ fn jobs_of_three_rounds(rt: HostRuntime) -> Result<(), Fail> {
     assert_eq!(rt; shape.job(0), (0, 0));
     assert_eq!(rt; shape.job(3), (2, 0));
     assert_eq!(rt; shape.job(187), (3, 157));
+    assert_eq!(rt; shape.job_number(0, 0), Some(0));
+    assert_eq!(rt; shape.job_number(2, 0), Some(3));
+    assert_eq!(rt; shape.job_number(3, 157), Some(187));
+    assert_eq!(rt; shape.job_number(3, 158), None);
+    assert_eq!(rt; shape.job_number(4, 0), None);
     Ok(())
 }
 
