@@ -1,0 +1,21 @@
+-- The jobs of a plan: one for each block of each of its levels.
+use Rattle.std.specs.Prelude.{◌≡◌, ℕ, ◌<◌, ◌≤◌, Option, length}
+use Rattle.win_index.specs.Blocks.{block_count}
+use Rattle.win_index.specs.Jobs.{jobs_of, job_number}
+use Rattle.lang_check.specs.Plans.{ProgramForIds}
+use Rattle.unroll.specs.BlockStates.{MadeBlock}
+
+abbrev pub job_count : ProgramForIds → ℕ
+job_count plan = length (jobs_of plan.ids (length plan.program.steps))
+
+-- the number of the job for a block of a level, where there is one
+abbrev pub job_of : ProgramForIds → ℕ → ℕ → Option ℕ
+job_of plan level number = job_number plan.ids (length plan.program.steps) level number
+
+-- a level of the plan, and the number of one of its blocks
+abbrev pub IsKey : ProgramForIds → ℕ → ℕ → Type 0
+IsKey plan level number = (level ≤ length plan.program.steps) × (number < block_count plan.ids level)
+
+-- a block of this plan, level and number
+abbrev pub IsKeyedBlock : ProgramForIds → ℕ → ℕ → MadeBlock → Type 0
+IsKeyedBlock plan level number b = (b.plan ≡ plan) × (b.level ≡ level) × (b.number ≡ number)
