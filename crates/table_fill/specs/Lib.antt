@@ -1,6 +1,7 @@
 -- The definitions that the contracts cite: tables, a table's channel at a window, the table of a program, how
--- many workers may fill it, and the law.
+-- many workers may fill it, what a pass knows then, and the law.
 pub mod Tables
 pub mod ProgramTables
 pub mod Workers
+pub mod Filled
 pub mod Laws

@@ -1,11 +1,15 @@
 //! Tables of channels, one for each window, and the table of a program.
 #![tactic(auto)]
 
+mod crew;
 mod fault;
 mod filling;
 mod laws;
+mod looks;
 mod maker;
+mod reading;
 mod table;
+mod worker;
 
 pub use fault::FillFault;
 pub use filling::compile;

@@ -1,0 +1,158 @@
+ghost use Rattle.std.specs.Prelude.{◌≡◌, ◌+◌, ◌≤◌, IfOk, vec_len, vec_capacity, All};
+ghost use Rattle.shared_memo.specs.Tickets.{told, IsTicketOf};
+ghost use Rattle.table_fill.specs.Workers.{IsWorkerCount};
+
+use crate::fault::WorkFault;
+use crate::worker::{Fills, Worker};
+use round_eval::Gate;
+use shared_memo::{Desk, Memo, Ticket};
+use std::alloc::Global;
+use std::sync::Wait;
+use std::thread;
+use std::thread::{JoinHandle, Scope, Threads};
+
+// What a worker answers once it has ended.
+type Answer = Result<(), WorkFault>;
+
+// Fills a memo by so many workers, each in a thread of its own. That threads may share a memo is shown here,
+// where few values are in scope.
+pub(crate) fn fill_memo<'a, R: Threads + Wait + Sync, G: Gate + Sync>(
+    rt: &R,
+    alloc: Global,
+    memo: &Memo<'a>,
+    workers: u32,
+    gate: &G,
+) -> Answer
+    requires { IsWorkerCount workers }
+{
+    fill_by_workers(rt, alloc, memo, workers, gate)
+}
+
+// Fills what has jobs: the workers draw them at one desk.
+pub(crate) fn fill_by_workers<R: Threads + Wait + Sync, M: Fills + Sync, G: Gate + Sync>(
+    rt: &R,
+    alloc: Global,
+    memo: &M,
+    workers: u32,
+    gate: &G,
+) -> Answer
+    requires { IsWorkerCount workers }
+{
+    let Ok((desk, tickets)) = Desk::new(alloc, memo.total(), workers) else {
+        return Err(WorkFault::OutOfMemory);
+    };
+    fill_at(rt, alloc, memo, &desk, tickets, gate)
+}
+
+// Makes a worker of each ticket, and runs them all.
+fn fill_at<R: Threads + Wait + Sync, M: Fills + Sync, G: Gate + Sync>(
+    rt: &R,
+    alloc: Global,
+    memo: &M,
+    desk: &Desk,
+    tickets: Vec<Ticket>,
+    gate: &G,
+) -> Answer
+    requires tickets { All (λ t. IsTicketOf desk.now t × (told t ≡ 0)) tickets.items }
+    requires jobs { desk.now.total ≡ M.jobs memo.now }
+{
+    let Ok(handles) = Vec::with_capacity(alloc, tickets.len()) else {
+        return Err(WorkFault::OutOfMemory);
+    };
+    let crew = crew_of(alloc, memo, desk, tickets, gate)?;
+    run_all(rt, crew, handles)
+}
+
+// A worker for each ticket, numbered from 0.
+fn crew_of<'d, 'm, 'g, M: Fills, G: Gate>(
+    alloc: Global,
+    memo: &'m M,
+    desk: &'d Desk,
+    tickets: Vec<Ticket>,
+    gate: &'g G,
+) -> Result<Vec<Worker<'d, 'm, 'g, M, G>>, WorkFault>
+    requires tickets { All (λ t. IsTicketOf desk.now t × (told t ≡ 0)) tickets.items }
+    requires jobs { desk.now.total ≡ M.jobs memo.now }
+    ensures { IfOk result (λ crew. vec_len crew ≡ vec_len tickets) }
+{
+    let Ok(mut crew) = Vec::with_capacity(alloc, tickets.len()) else {
+        return Err(WorkFault::OutOfMemory);
+    };
+    let mut number: u32 = 0;
+    for ticket in tickets {
+        let worker = Worker {
+            number,
+            alloc,
+            memo,
+            desk,
+            gate,
+            ticket,
+        };
+        if crew.push(worker).is_err() {
+            return Err(WorkFault::OutOfMemory);
+        }
+        number = number.wrapping_add(1);
+    }
+    Ok(crew)
+}
+
+// Runs each worker in a thread until all have ended.
+fn run_all<'d, 'm, 'g, R: Threads + Wait + Sync, M: Fills + Sync, G: Gate + Sync>(
+    rt: &R,
+    crew: Vec<Worker<'d, 'm, 'g, M, G>>,
+    handles: Vec<JoinHandle<Answer>>,
+) -> Answer
+    requires { vec_len handles + vec_len crew ≤ vec_capacity handles }
+{
+    thread::scope(
+        thread::scope_env(),
+        rt,
+        |scope| -> Answer
+            requires { vec_len handles + vec_len crew ≤ vec_capacity handles }
+        { start_all(rt, scope, crew, handles) },
+    )
+}
+
+// Starts the workers, and joins all that were started. A refused start counts first.
+fn start_all<'s, 'd: 's, 'm: 's, 'g: 's, E, R: Threads, M: Fills + Sync + 's, G: Gate + Sync + 's>(
+    rt: &R,
+    scope: &Scope<'s, E>,
+    crew: Vec<Worker<'d, 'm, 'g, M, G>>,
+    mut handles: Vec<JoinHandle<Answer>>,
+) -> Answer
+    requires { vec_len handles + vec_len crew ≤ vec_capacity handles }
+{
+    let mut started = Ok(());
+    for worker in crew {
+        let Some(handle) = start_one(scope, worker) else {
+            started = Err(WorkFault::NoThread);
+            break;
+        };
+        let Ok(()) = handles.push(handle) else {
+            unreachable!()
+        };
+    }
+    let joined = join_all(rt, handles);
+    started?;
+    joined
+}
+
+// Starts one worker in a thread, or answers `None` where that was refused.
+fn start_one<'s, 'd: 's, 'm: 's, 'g: 's, E, M: Fills + Sync + 's, G: Gate + Sync + 's>(
+    scope: &Scope<'s, E>,
+    worker: Worker<'d, 'm, 'g, M, G>,
+) -> Option<JoinHandle<Answer>> {
+    scope.spawn(move || worker.run()).ok()
+}
+
+// Joins the workers in their order. The fault of the lowest that has one counts.
+fn join_all<R: Threads>(rt: &R, handles: Vec<JoinHandle<Answer>>) -> Answer {
+    let mut lowest = Ok(());
+    for handle in handles {
+        let answer = handle.join(rt);
+        if lowest.is_ok() {
+            lowest = answer;
+        }
+    }
+    lowest
+}

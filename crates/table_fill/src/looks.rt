@@ -1,0 +1,25 @@
+ghost use Rattle.std.specs.Prelude.{◌≡◌, IsTrue};
+ghost use Rattle.shared_memo.specs.Passes.{known, IsPassOf};
+ghost use Rattle.table_fill.specs.Filled.{KnowsAll};
+ghost use Rattle.unroll.specs.Entries.{Grows};
+
+use shared_memo::{Memo, Pass};
+
+// Looks at each cell, and answers whether it found a block of its level and number in each. The pass then knows
+// them all.
+pub(crate) fn look_at_all<'a>(memo: &Memo<'a>, pass: &mut Pass<'a>) -> bool
+    requires { IsPassOf memo.now pass.old }
+    ensures pass { IsPassOf memo.now pass.new }
+    ensures kept { Grows (known pass.old) (known pass.new) }
+    ensures known { IsTrue result → KnowsAll memo.now.plan.now (known pass.new) }
+{
+    let shape = memo.plan().shape();
+    for level in 0..shape.rounds() + 1 {
+        for number in 0..shape.blocks(level) {
+            let Ok(Some(_)) = memo.look(pass, level, number) else {
+                return false;
+            };
+        }
+    }
+    true
+}
