@@ -4,4 +4,5 @@ pub mod Tables
 pub mod ProgramTables
 pub mod Workers
 pub mod Filled
+pub mod MissingBlocks
 pub mod Laws

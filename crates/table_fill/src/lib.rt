@@ -1,6 +1,7 @@
 //! Tables of channels, one for each window, and the table of a program.
 #![tactic(auto)]
 
+mod cell;
 mod crew;
 mod fault;
 mod filling;

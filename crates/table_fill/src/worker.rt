@@ -1,14 +1,12 @@
 ghost use Rattle.std.specs.Prelude.{◌≡◌, ℕ, ◌≤◌, ◌^◌};
-ghost use Rattle.shared_memo.specs.PlanJobs.{IsKey, job_count};
+ghost use Rattle.shared_memo.specs.PlanJobs.{job_count};
 ghost use Rattle.shared_memo.specs.Tickets.{told, IsTicketOf};
 
+use crate::cell::fill_cell;
 use crate::fault::WorkFault;
-use lang_check::Plan;
 use round_eval::Gate;
-use shared_memo::{Desk, Installed, Memo, Reader, Ticket};
+use shared_memo::{Desk, Memo, Reader, Ticket};
 use std::alloc::Global;
-use unroll::{Block, MakeFault, make_block};
-use win_index::{MAX_BLOCKS, window_of_number};
 
 // What workers fill, job by job.
 pub(crate) trait Fills {
@@ -50,13 +48,12 @@ impl<'a> Fills for Memo<'a> {
         let Ok(mut pass) = self.pass(alloc) else {
             return Err(WorkFault::OutOfMemory);
         };
-        let plan = self.plan();
-        let shape = plan.shape();
+        let shape = self.plan().shape();
         let mut reader = Reader::new(self, &mut pass);
         while let Some(job) = desk.draw(&mut ticket) {
             gate.entered(number, job);
             let (level, block) = shape.job(job);
-            fill_cell(alloc, plan, &mut reader, number, level, block)?;
+            fill_cell(alloc, &mut reader, number, level, block)?;
         }
         Ok(())
     }
@@ -87,59 +84,5 @@ impl<'d, 'm, 'g, M: Fills, G: Gate> Worker<'d, 'm, 'g, M, G> {
             ticket,
         } = self;
         memo.work(alloc, desk, ticket, gate, number)
-    }
-}
-
-// Fills the cell of a level and a number, unless it is full. Blocks below that are missing are made and installed
-// first: at most all blocks of a level, so that the last attempt misses none.
-fn fill_cell<'a>(
-    alloc: Global,
-    plan: &'a Plan,
-    reader: &mut Reader<'_, '_, 'a>,
-    maker: u32,
-    level: u32,
-    number: u32,
-) -> Result<(), WorkFault>
-    requires plan { reader.old.pass.now.plan.now ≡ plan.now }
-    requires key { IsKey plan.now level number }
-    ensures { reader.new.pass.now.plan.now ≡ plan.entry.now }
-{
-    window_of_number();
-    if reader.finds(level, number) {
-        return Ok(());
-    }
-    for _attempt in 0..MAX_BLOCKS + 1 {
-        match make_block(alloc, plan, reader, level, number, maker) {
-            Ok(block) => return install(alloc, reader, block),
-            Err(MakeFault::Missing(low, below)) => {
-                if reader.stranger() {
-                    return Err(WorkFault::Stranger);
-                }
-                fill_cell(alloc, plan, reader, maker, low, below)?;
-            }
-            Err(MakeFault::OutOfMemory) => return Err(WorkFault::OutOfMemory),
-        }
-    }
-    Err(WorkFault::Stranger)
-}
-
-// Installs a block, or finds the one that stood there before.
-fn install<'a>(
-    alloc: Global,
-    reader: &mut Reader<'_, '_, 'a>,
-    block: Block<'a>,
-) -> Result<(), WorkFault>
-    requires { reader.old.pass.now.plan.now ≡ block.plan }
-    ensures { reader.new.pass.now.plan.now ≡ reader.old.pass.now.plan.now }
-{
-    let level = block.level();
-    let number = block.number();
-    let Ok(block) = Box::new(alloc, block) else {
-        return Err(WorkFault::OutOfMemory);
-    };
-    match reader.install(block) {
-        Ok(Installed::Fresh) => Ok(()),
-        Ok(Installed::Stood(_)) if reader.finds(level, number) => Ok(()),
-        _ => Err(WorkFault::Stranger),
     }
 }

@@ -1,0 +1,8 @@
+use Rattle.std.proofs.Common.{◌≡◌}
+use Rattle.table_fill.proofs.cell.+fill_cell.Given as goal
+
+abbrev pub decreases-fill_cell : goal.decreases-fill_cell
+decreases-fill_cell g l = l.level
+
+abbrev pub invariant-loop-attempt : goal.invariant-loop-attempt
+invariant-loop-attempt g l = g.C.Cells.plan l.cells ≡ g.C.Cells.plan l.fn.cells

@@ -1,0 +1,107 @@
+ghost use Rattle.std.specs.Prelude.{◌≡◌, IfErr};
+ghost use Rattle.lang_check.specs.Plans.{ProgramForIds};
+ghost use Rattle.shared_memo.specs.PlanJobs.{IsKey};
+ghost use Rattle.table_fill.specs.MissingBlocks.{IsMissingBlock};
+
+use crate::fault::WorkFault;
+use shared_memo::{Installed, Reader};
+use std::alloc::Global;
+use unroll::{MakeFault, make_block};
+use win_index::{MAX_BLOCKS, window_of_number};
+
+// What became of a block that was made.
+#[derive(Clone, Copy, Debug, PartialEq, Eq)]
+pub(crate) enum Made {
+    // It stands in its cell.
+    Fresh,
+    // Another stood there before.
+    Stood,
+    // It is of another plan.
+    Refused,
+}
+
+// The cells of a plan's blocks, as one worker knows them.
+pub(crate) trait Cells {
+    ghost plan: { Self → ProgramForIds };
+
+    // Whether it finds the block of a level and a number.
+    fn finds(&mut self, level: u32, number: u32) -> bool
+        requires { IsKey (plan self.old) level number }
+        ensures { plan self.new ≡ plan self.old };
+
+    // Makes the block of a level and a number and installs it, or names a block of a lower level that is missing.
+    fn make(
+        &mut self,
+        alloc: Global,
+        maker: u32,
+        level: u32,
+        number: u32,
+    ) -> Result<Made, MakeFault>
+        requires { IsKey (plan self.old) level number }
+        ensures plan { plan self.new ≡ plan self.old }
+        ensures missing { IfErr result (IsMissingBlock (plan self.old) level) };
+
+    // Whether it met a block in another's place.
+    fn stranger(&self) -> bool;
+}
+
+impl<'s, 'p, 'a> Cells for Reader<'s, 'p, 'a> {
+    ghost plan = { λ r. r.pass.now.plan.now };
+
+    fn finds(&mut self, level: u32, number: u32) -> bool {
+        Reader::finds(self, level, number)
+    }
+
+    fn make(
+        &mut self,
+        alloc: Global,
+        maker: u32,
+        level: u32,
+        number: u32,
+    ) -> Result<Made, MakeFault> {
+        window_of_number();
+        let plan = self.plan();
+        let block = make_block(alloc, plan, self, level, number, maker)?;
+        let Ok(block) = Box::new(alloc, block) else {
+            return Err(MakeFault::OutOfMemory);
+        };
+        match self.install(block) {
+            Ok(Installed::Fresh) => Ok(Made::Fresh),
+            Ok(Installed::Stood(_)) => Ok(Made::Stood),
+            Err(_) => Ok(Made::Refused),
+        }
+    }
+
+    fn stranger(&self) -> bool {
+        Reader::stranger(self)
+    }
+}
+
+// Fills the cell of a level and a number, unless it is full. Blocks below that are missing are made first: at most
+// all blocks of a level, so that the last attempt misses none.
+pub(crate) fn fill_cell<C: Cells>(
+    alloc: Global,
+    cells: &mut C,
+    maker: u32,
+    level: u32,
+    number: u32,
+) -> Result<(), WorkFault>
+    requires { IsKey (C.plan cells.old) level number }
+    ensures { C.plan cells.new ≡ C.plan cells.old }
+{
+    if cells.finds(level, number) {
+        return Ok(());
+    }
+    for _attempt in 0..MAX_BLOCKS + 1 {
+        match cells.make(alloc, maker, level, number) {
+            Ok(Made::Fresh) => return Ok(()),
+            Ok(Made::Stood) if cells.finds(level, number) => return Ok(()),
+            Err(MakeFault::Missing(low, below)) if !cells.stranger() => {
+                fill_cell(alloc, cells, maker, low, below)?;
+            }
+            Err(MakeFault::OutOfMemory) => return Err(WorkFault::OutOfMemory),
+            _ => return Err(WorkFault::Stranger),
+        }
+    }
+    Err(WorkFault::Stranger)
+}

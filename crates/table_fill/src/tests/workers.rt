@@ -1,0 +1,71 @@
+use super::{CV1, plan_of, table_by};
+use crate::crew::fill_by_workers;
+use crate::fault::WorkFault;
+use crate::worker::Fills;
+use crate::{FillFault, compile};
+use round_eval::{Gate, OpenGate};
+use shared_memo::{Desk, Memo, Ticket};
+use std::alloc::Global;
+use std::test::Fail;
+
+#[test]
+fn one_to_64_workers(rt: HostRuntime) -> Result<(), Fail> {
+    let plan = plan_of(rt.alloc(), CV1, 8)?;
+    for workers in [0, 65] {
+        let memo = Memo::new(rt.alloc(), &plan).ok().ok_or("a memo")?;
+        let mut pass = memo.pass(rt.alloc()).ok().ok_or("a pass")?;
+        let refused = compile(&rt, rt.alloc(), &plan, &memo, &mut pass, workers, &OpenGate);
+        assert_eq!(rt; refused.err(), Some(FillFault::WorkersOutOfRange));
+    }
+    for workers in [1, 64] {
+        table_by(&rt, rt.alloc(), &plan, workers)?;
+    }
+    Ok(())
+}
+
+// Four workers that do nothing but answer.
+#[derive(Drop)]
+struct Answers {
+    of_workers: [Option<WorkFault>; 4],
+}
+
+impl Fills for Answers {
+    ghost jobs = { λ _. 0 };
+
+    fn total(&self) -> u32 {
+        0
+    }
+
+    fn work<G: Gate>(
+        &self,
+        _alloc: Global,
+        _desk: &Desk,
+        _ticket: Ticket,
+        _gate: &G,
+        number: u32,
+    ) -> Result<(), WorkFault> {
+        match self.of_workers.get(number as usize) {
+            Some(Some(fault)) => Err(*fault),
+            _ => Ok(()),
+        }
+    }
+}
+
+#[test]
+fn the_fault_of_the_lowest_worker_counts(rt: HostRuntime) -> Result<(), Fail> {
+    let memory = Some(WorkFault::OutOfMemory);
+    let stranger = Some(WorkFault::Stranger);
+    let rows = [
+        ([None, None, None, None], None),
+        ([None, None, None, stranger], stranger),
+        ([None, stranger, memory, None], stranger),
+        ([None, memory, stranger, stranger], memory),
+        ([stranger, None, None, memory], stranger),
+    ];
+    for (of_workers, fault) in rows {
+        let answers = Answers { of_workers };
+        let answer = fill_by_workers(&rt, rt.alloc(), &answers, 4, &OpenGate);
+        assert_eq!(rt; answer.err(), fault);
+    }
+    Ok(())
+}
