@@ -1,11 +1,17 @@
 -- A block below a block is one of its level.
-use Rattle.std.proofs.Common.{◌≡◌, ℕ, ◌+◌, ◌*◌, ◌<◌, List, Some, slice_get, arith}
+use Rattle.std.proofs.Common.{◌≡◌, ℕ, ◌+◌, ◌*◌, ◌<◌, ◌≤◌, List, Some, length, slice_get, arith}
 use Rattle.std.proofs.lemmas.Option.{slice_get_within}
+use Rattle.lang_check.specs.Plans.{ProgramForIds}
 use Rattle.win_index.specs.Blocks.{block_count}
 use Rattle.win_index.specs.Laws.{WindowOfNumber}
 use Rattle.win_index.specs.Windows.{windows, number_of}
 use Rattle.unroll.specs.Below.{part, IsBelow}
 use Rattle.unroll.specs.BlockStates.{window_numbered}
+use Rattle.unroll.specs.Entries.{Entries}
+use Rattle.unroll.specs.MakeFaults.{IsMakeFault}
+use Rattle.unroll.specs.declared.fault.MakeFault.{MakeFault}
+use Rattle.unroll.specs.declared.fault.MakeFault.TheVariants.{Missing, OutOfMemory}
+use Rattle.table_fill.specs.MissingBlocks.{IsMissingBlock}
 
 pub below_is_block : (m level number low c : ℕ) → WindowOfNumber → IsBelow m level number low c → c < block_count m low
 below_is_block m level number low c window below =
@@ -14,3 +20,12 @@ below_is_block m level number low c window below =
     let there = window k m below.number list below.is_part.number_is in
     let lt = slice_get_within (windows k m) below.number list there in
     omega (arith, below.block_is, lt)
+
+-- a block that is missing where a block of a level is made is one of a lower level
+pub missing_is_block :
+    WindowOfNumber → (plan : ProgramForIds) (entries : Entries) (level number : ℕ) (fault : MakeFault) → level ≤ length plan.program.steps
+    → IsMakeFault entries plan.ids level number fault → IsMissingBlock plan level fault
+missing_is_block window plan entries level number (Missing low c) le is =
+    let one = is.0.one_lower in
+    (omega (arith, one), (omega (arith, one, le), below_is_block plan.ids level number low c window is.0))
+missing_is_block window plan entries level number OutOfMemory le is = is

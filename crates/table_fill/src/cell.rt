@@ -61,7 +61,10 @@ impl<'s, 'p, 'a> Cells for Reader<'s, 'p, 'a> {
     ) -> Result<Made, MakeFault> {
         window_of_number();
         let plan = self.plan();
-        let block = make_block(alloc, plan, self, level, number, maker)?;
+        let block = match make_block(alloc, plan, self, level, number, maker) {
+            Ok(block) => block,
+            Err(fault) => return Err(fault),
+        };
         let Ok(block) = Box::new(alloc, block) else {
             return Err(MakeFault::OutOfMemory);
         };
