@@ -1,7 +1,4 @@
-mod Known
 mod Joined
 mod Entries
 pub mod Aligned
-mod Parts
-pub mod Commands
 mod OneReport

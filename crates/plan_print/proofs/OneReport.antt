@@ -8,10 +8,10 @@ use Rattle.lang_check.specs.Refusals.{IsFirstRefusal}
 use Rattle.table_fill.specs.Tables.{ChannelTable}
 use Rattle.lang_check.specs.Laws.{OneRefusal, AcceptedProgramsHaveNoRefusal}
 use Rattle.nbhd_check.specs.Laws.{OneWitness, GoodTablesHaveNoWitness}
-use Rattle.plan_print.specs.declared.task.Task.{Task}
-use Rattle.plan_print.specs.declared.task.Task.TheVariants.{Check, Table, Judge, Run, Plan}
+use Rattle.task_words.specs.declared.task.Task.{Task}
+use Rattle.task_words.specs.declared.task.Task.TheVariants.{Check, Table, Judge, Run, Plan}
 use Rattle.plan_print.specs.declared.status.Status.{Status}
-use Rattle.plan_print.specs.Task.{ids_of}
+use Rattle.task_words.specs.Task.{ids_of}
 use Rattle.plan_print.specs.Report as report
 use Rattle.plan_print.specs.Report.{Report, Says, IsJudgement, good, bad, IsAnswerOnRing, ring_fault, on_ring, IsAnswer, IsReport, text_fault, check_fault, answered}
 use Rattle.plan_print.specs.Laws.{OneReport}

@@ -2,10 +2,10 @@
 use Rattle.std.specs.Prelude.{◌≡◌, ℕ, List, Option}
 use Rattle.std.specs.Io.KnownBytes.{Appends}
 use Rattle.plan_print.specs.declared.status.Status.{Status}
-use Rattle.plan_print.specs.declared.task.Task.{Task}
-use Rattle.plan_print.specs.Task.{limit_of}
-use Rattle.plan_print.specs.Input.{GivesInput}
-use Rattle.plan_print.specs.Output.{AppendsFront}
+use Rattle.task_words.specs.declared.task.Task.{Task}
+use Rattle.task_words.specs.Task.{limit_of}
+use Rattle.devices.specs.Input.{GivesInput}
+use Rattle.devices.specs.Output.{AppendsFront}
 use Rattle.plan_print.specs.Report.{Report, IsReport}
 
 -- The input was read, and the report of the task on it was written whole; the status is the report's.

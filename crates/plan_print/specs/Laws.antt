@@ -1,6 +1,6 @@
 -- The law of this crate.
 use Rattle.std.specs.Prelude.{◌≡◌, ℕ, List}
-use Rattle.plan_print.specs.declared.task.Task.{Task}
+use Rattle.task_words.specs.declared.task.Task.{Task}
 use Rattle.plan_print.specs.Report.{Report, IsReport}
 
 -- two reports of a task on an input are one

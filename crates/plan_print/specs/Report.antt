@@ -24,9 +24,9 @@ use Rattle.nbhd_check.specs.Proper.{tuples, IsGoodEverywhere}
 use Rattle.nbhd_check.specs.Verdicts.{IsWitness}
 use Rattle.plan_print.specs.declared.status.Status.{Status}
 use Rattle.plan_print.specs.declared.status.Status.TheVariants.{Done, No, Refused, RingRefused}
-use Rattle.plan_print.specs.declared.task.Task.{Task}
-use Rattle.plan_print.specs.declared.task.Task.TheVariants.{Check, Table, Judge, Run, Plan}
-use Rattle.plan_print.specs.Task.{ids_of}
+use Rattle.task_words.specs.declared.task.Task.{Task}
+use Rattle.task_words.specs.declared.task.Task.TheVariants.{Check, Table, Judge, Run, Plan}
+use Rattle.task_words.specs.Task.{ids_of}
 use Rattle.plan_print.specs.Lines.{line, numbers_text, right_aligned}
 use Rattle.plan_print.specs.TableText.{table_text}
 

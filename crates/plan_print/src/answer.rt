@@ -3,20 +3,20 @@
 ghost use Rattle.std.specs.Prelude.{◌≡◌, ℕ, List, IfOk, IfErr, string_bytes};
 ghost use Rattle.win_index.specs.RingFaults.{IsFirstFault};
 ghost use Rattle.table_fill.specs.ProgramTables.{table_of};
-ghost use Rattle.plan_print.specs.Task.{ids_of};
+ghost use Rattle.task_words.specs.Task.{ids_of};
 ghost use Rattle.plan_print.specs.Report.{IsAnswer, IsAnswerOnRing, IsJudgement};
 
-use crate::fault::EngineFault;
 use crate::lines::{accepted_line, bad_line, good_line, numbers_line, ring_fault_line};
 use crate::places::places_text;
 use crate::status::Status;
 use crate::table_text::table_text;
-use crate::task::Task;
+use devices::fault::EngineFault;
 use lang_check::Plan;
 use nbhd_check::{Verdict, judge};
 use round_eval::{OpenGate, plain_run};
 use std::alloc::Global;
 use table_fill::{FillFault, Table, compile};
+use task_words::task::Task;
 use win_index::{Ring, RingFault};
 
 // The text of a task's answer on the program of a plan, and its status.

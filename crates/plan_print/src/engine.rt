@@ -2,20 +2,20 @@
 
 ghost use Rattle.std.specs.Prelude.{◌≡◌, ◌↔◌, ℕ, List, false, IsTrue, IfOk, OnErr, IsErrOf};
 ghost use Rattle.std.specs.Io.KnownBytes.{Keeps};
-ghost use Rattle.plan_print.specs.Task.{limit_of};
-ghost use Rattle.plan_print.specs.Input.{TakesFront};
-ghost use Rattle.plan_print.specs.Watched.{device_of, has_failed};
+ghost use Rattle.task_words.specs.Task.{limit_of};
+ghost use Rattle.devices.specs.Input.{TakesFront};
+ghost use Rattle.devices.specs.Watched.{device_of, has_failed};
 ghost use Rattle.plan_print.specs.Engine.{WritesReport, WritesFront};
 
-use crate::fault::EngineFault;
-use crate::input::read_input;
-use crate::output::send;
 use crate::report::report_of;
 use crate::status::Status;
-use crate::task::Task;
-use crate::watched::Watched;
+use devices::fault::EngineFault;
+use devices::input::read_input;
+use devices::output::send;
+use devices::watched::Watched;
 use std::alloc::Global;
 use std::io::{Read, Write};
+use task_words::task::Task;
 
 /// Reads the input of a task, all of it or one byte more than the task's limit of a longer one, and
 /// writes its report; the answer is the report's status.

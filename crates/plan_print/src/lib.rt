@@ -1,22 +1,17 @@
-//! The command line, the input, the report and the output of the program `nbhd`.
+//! The report of a task and its table text, the engine, and the process of the program `nbhd`.
 #![tactic(auto)]
 
 mod answer;
-mod decimal;
 pub mod engine;
-pub mod fault;
-pub mod input;
 pub mod laws;
 pub mod lines;
-pub mod output;
 mod places;
 pub mod process;
 mod report;
-pub mod ring_text;
 pub mod status;
 pub mod table_text;
-pub mod task;
 #[cfg(test)]
 mod tests;
-pub mod watched;
-pub mod words;
+
+pub use devices::{fault, input, output, watched};
+pub use task_words::{ring_text, task, words};

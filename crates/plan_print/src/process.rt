@@ -3,13 +3,13 @@
 ghost use Rattle.plan_print.specs.ExitCodes.{IsExitStatus};
 
 use crate::engine::engine;
-use crate::fault::EngineFault;
 use crate::status::{Status, code_of};
-use crate::task::Task;
-use crate::watched::Watched;
-use crate::words::{WordsFault, task_of};
+use devices::fault::EngineFault;
+use devices::watched::Watched;
 use std::rt::Env;
 use std::{env, io};
+use task_words::task::Task;
+use task_words::words::{WordsFault, task_of};
 
 /// Does what the words after the program's name ask for, and answers the exit status. A fault is told on
 /// the standard error.

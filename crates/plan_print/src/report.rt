@@ -4,13 +4,13 @@ ghost use Rattle.std.specs.Prelude.{◌≡◌, IfOk, IfErr, string_bytes};
 ghost use Rattle.plan_print.specs.Report.{IsReport};
 
 use crate::answer::answer_of;
-use crate::fault::EngineFault;
 use crate::lines::{check_fault_line, text_fault_line};
 use crate::status::Status;
-use crate::task::Task;
+use devices::fault::EngineFault;
 use lang_check::accept;
 use node_lang::{FaultKind, TextFault, parse};
 use std::alloc::Global;
+use task_words::task::Task;
 
 // The text of a task's report on an input, and its status.
 pub(crate) fn report_of(

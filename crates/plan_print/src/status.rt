@@ -3,7 +3,7 @@
 ghost use Rattle.std.specs.Prelude.{◌≡◌};
 ghost use Rattle.plan_print.specs.ExitCodes.{exit_code, answer_code};
 
-use crate::fault::EngineFault;
+use devices::fault::EngineFault;
 
 /// How a task ended whose report was written.
 #[derive(Clone, Copy, Debug, PartialEq, Eq)]

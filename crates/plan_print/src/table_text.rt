@@ -4,14 +4,14 @@ ghost use Rattle.std.specs.Prelude.{◌≡◌, ◌↔◌, ◌+◌, ◌*◌, ◌�
 ghost use Rattle.std.specs.List.{flat_map};
 ghost use Rattle.std.specs.Io.KnownBytes.{Appends, Keeps};
 ghost use Rattle.win_index.specs.Windows.{windows, IsWindow};
-ghost use Rattle.plan_print.specs.Output.{AppendsFront};
-ghost use Rattle.plan_print.specs.Watched.{device_of, has_failed};
+ghost use Rattle.devices.specs.Output.{AppendsFront};
+ghost use Rattle.devices.specs.Watched.{device_of, has_failed};
 ghost use Rattle.plan_print.specs.TableText as written;
 
-use crate::fault::OutFault;
 use crate::lines::write_numbers;
-use crate::output::send;
-use crate::watched::Watched;
+use devices::fault::OutFault;
+use devices::output::send;
+use devices::watched::Watched;
 use std::alloc::{AllocError, Global};
 use std::fmt::Write as _;
 use std::io::Write;

@@ -1,16 +1,12 @@
-//! The input and the output over memory, and over devices that give or take one byte a call and
-//! fail.
+//! The engine over a device that gives one byte a call.
 
 use crate::engine::engine;
-use crate::fault::EngineFault;
-use crate::input::read_input;
-use crate::output::send;
 use crate::status::Status;
-use crate::task::Task;
-use crate::watched::Watched;
+use devices::watched::Watched;
 use std::io;
 use std::io::{ErrorKind, Read, Write};
 use std::test::Fail;
+use task_words::task::Task;
 
 /// A reader and a writer of one byte a call. It counts its calls, and the call that its count of
 /// good calls does not cover fails.
@@ -59,54 +55,6 @@ impl Write for Trickle {
     }
 }
 
-/// A writer that takes nothing.
-#[derive(Drop)]
-struct Full;
-
-impl Write for Full {
-    fn write(&mut self, _bytes: &[u8]) -> io::Result<usize> {
-        Ok(0)
-    }
-
-    fn flush(&mut self) -> io::Result<()> {
-        Ok(())
-    }
-}
-
-#[test]
-fn a_short_input_is_read_whole(rt: HostRuntime) -> Result<(), Fail> {
-    let mut reader = Watched::new(b"start".as_slice());
-    assert_eq!(rt;
-        read_input(rt.alloc(), &mut reader, 5)?.as_slice(),
-        b"start".as_slice()
-    );
-    assert!(rt; !reader.failed());
-    assert!(rt; reader.into_device().is_empty());
-    Ok(())
-}
-
-#[test]
-fn one_byte_past_the_limit_is_read(rt: HostRuntime) -> Result<(), Fail> {
-    let mut reader = Watched::new(b"start".as_slice());
-    assert_eq!(rt;
-        read_input(rt.alloc(), &mut reader, 2)?.as_slice(),
-        b"sta".as_slice()
-    );
-    assert_eq!(rt; reader.into_device(), b"rt".as_slice());
-    Ok(())
-}
-
-#[test]
-fn single_bytes_are_read_in_no_more_calls_than_bytes(rt: HostRuntime) -> Result<(), Fail> {
-    let mut reader = Watched::new(Trickle::failing_after(9));
-    assert_eq!(rt;
-        read_input(rt.alloc(), &mut reader, 3)?.as_slice(),
-        [7, 7, 7, 7].as_slice()
-    );
-    assert_eq!(rt; reader.into_device().calls, 4);
-    Ok(())
-}
-
 #[test]
 fn a_long_input_is_read_in_one_call_more_than_its_limit(rt: HostRuntime) -> Result<(), Fail> {
     let mut reader = Watched::new(Trickle::failing_after(100_000));
@@ -117,59 +65,4 @@ fn a_long_input_is_read_in_one_call_more_than_its_limit(rt: HostRuntime) -> Resu
     let report = writer.into_device();
     assert_eq!(rt; report.as_slice(), b"text fault N1 at 65536\n".as_slice());
     Ok(())
-}
-
-#[test]
-fn a_read_into_no_room_is_no_failure(rt: HostRuntime) {
-    let mut reader = Watched::new(Trickle::failing_after(1));
-    assert_eq!(rt; reader.read(&mut []), Ok(0));
-    assert!(rt; !reader.failed());
-    assert_eq!(rt; reader.read(&mut []), Err(EngineFault::Read));
-    assert!(rt; reader.failed());
-}
-
-#[test]
-fn a_failed_read_is_the_fault_at_once(rt: HostRuntime) {
-    let mut reader = Watched::new(Trickle::failing_after(2));
-    assert_eq!(rt;
-        read_input(rt.alloc(), &mut reader, 3).err(),
-        Some(EngineFault::Read)
-    );
-    assert!(rt; reader.failed());
-    assert_eq!(rt; reader.into_device().calls, 3);
-}
-
-#[test]
-fn bytes_are_sent_to_memory(rt: HostRuntime) -> Result<(), Fail> {
-    let mut writer = Watched::new(Vec::new(rt.alloc()));
-    send(&mut writer, b"2 4 3 5\n")?;
-    assert!(rt; !writer.failed());
-    assert_eq!(rt; writer.into_device().as_slice(), b"2 4 3 5\n".as_slice());
-    Ok(())
-}
-
-#[test]
-fn single_bytes_are_sent(rt: HostRuntime) -> Result<(), Fail> {
-    let mut writer = Watched::new(Trickle::failing_after(4));
-    send(&mut writer, b"0 1\n")?;
-    assert_eq!(rt; writer.into_device().calls, 4);
-    Ok(())
-}
-
-#[test]
-fn a_failed_write_is_the_fault_at_once(rt: HostRuntime) {
-    let mut writer = Watched::new(Trickle::failing_after(3));
-    assert_eq!(rt; send(&mut writer, b"0 1\n"), Err(EngineFault::Write));
-    assert!(rt; writer.failed());
-    assert_eq!(rt; writer.into_device().calls, 4);
-}
-
-#[test]
-fn a_write_that_takes_nothing_is_the_fault(rt: HostRuntime) {
-    let mut writer = Watched::new(Full);
-    assert_eq!(rt; send(&mut writer, b""), Ok(()));
-    assert_eq!(rt; writer.write(b""), Ok(0));
-    assert!(rt; !writer.failed());
-    assert_eq!(rt; send(&mut writer, b"0"), Err(EngineFault::Write));
-    assert!(rt; writer.failed());
 }

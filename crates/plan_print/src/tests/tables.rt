@@ -1,9 +1,9 @@
 //! The text of a table, over memory and over a device that fails.
 
-use crate::fault::OutFault;
 use crate::table_text::write_table;
 use crate::tests::devices::Trickle;
-use crate::watched::Watched;
+use devices::fault::OutFault;
+use devices::watched::Watched;
 use lang_check::accept;
 use node_lang::parse;
 use round_eval::OpenGate;

@@ -4,7 +4,7 @@ use Rattle.node_lang.specs.declared.fault.FaultKind.TheVariants.{OutOfMemory}
 use Rattle.node_lang.specs.Grammar.{Reads}
 use Rattle.lang_check.specs.Acceptance.{IsAccepted}
 use Rattle.lang_check.specs.Refusals.{IsFirstRefusal}
-use Rattle.plan_print.specs.Task.{ids_of}
+use Rattle.task_words.specs.Task.{ids_of}
 use Rattle.plan_print.specs.Report.{text_fault, check_fault, answered}
 use Rattle.plan_print.proofs.report.report_of.Goals as goal
 

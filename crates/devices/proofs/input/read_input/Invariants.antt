@@ -1,0 +1,11 @@
+use Rattle.std.proofs.Common.{◌≡◌, false, ◌+◌, ◌≤◌, length}
+use Rattle.std.specs.Io.KnownBytes.{Consumes}
+use Rattle.devices.proofs.input.read_input.Given as goal
+
+abbrev pub invariant-reads : goal.invariant-reads
+invariant-reads g l = record {
+  taken : Consumes (g.R.Read.remaining l.initial.reader.device) (g.R.Read.remaining l.reader.device) l.input.items;
+  turns : l._turn ≤ length l.input.items;
+  bounded : length l.input.items ≤ l.limit + 1;
+  working : l.reader.failed ≡ false;
+}

@@ -1,0 +1,15 @@
+-- A reader or a writer with a note that tells whether a call of it failed.
+use Rattle.std.specs.Prelude.{◌≡◌, Bool, true, Result, MatchResult}
+use Rattle.devices.specs.declared.watched.Watched.{Watched}
+
+-- the reader or the writer itself
+abbrev pub device_of : {D : Type 0} → Watched D → D
+device_of watched = watched.device
+
+-- whether a read or a write of it failed
+abbrev pub has_failed : {D : Type 0} → Watched D → Bool
+has_failed watched = watched.failed
+
+-- a call that failed is noted, and one that did not leaves the note as it was
+abbrev pub Notes : {T E : Type 0} → Result T E → Bool → Bool → Type 0
+Notes result old new = MatchResult result (λ _. new ≡ old) (λ _. new ≡ true)

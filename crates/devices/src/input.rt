@@ -1,0 +1,46 @@
+//! Reading the input.
+
+ghost use Rattle.std.specs.Prelude.{◌≡◌, ◌<◌, ◌⊎◌, ◌↔◌, false, IsTrue, IfOk, IfErr, OnErr, IsErrOf};
+ghost use Rattle.devices.specs.Input.{GivesInput, TakesFront};
+ghost use Rattle.devices.specs.Watched.{device_of, has_failed};
+
+use crate::fault::EngineFault;
+use crate::watched::Watched;
+use std::alloc::Global;
+use std::io::Read;
+
+/// How many bytes are asked for in one read at most.
+const CHUNK: usize = 4096;
+
+/// Reads the whole input, or its first `limit + 1` bytes where it is longer, in at most `limit + 1`
+/// reads. `Read` comes exactly where a read failed, and `Memory` where memory was refused; up to
+/// `limit + 1` bytes were then taken from the reader.
+pub fn read_input<R: Read>(
+    alloc: Global,
+    reader: &mut Watched<R>,
+    limit: usize,
+) -> Result<Vec<u8>, EngineFault>
+    requires limited { limit < usize.MAX }
+    requires working { has_failed reader.old ≡ false }
+    ensures input { IfOk result (λ input. GivesInput (R.remaining (device_of reader.old))
+        (R.remaining (device_of reader.new)) limit input.items) }
+    ensures refused { OnErr result (TakesFront (R.remaining (device_of reader.old))
+        (R.remaining (device_of reader.new)) limit) }
+    ensures faults { IfErr result (λ fault. (fault ≡ EngineFault.Read) ⊎ (fault ≡ EngineFault.Memory)) }
+    ensures failed { IsErrOf result EngineFault.Read ↔ IsTrue (has_failed reader.new) }
+{
+    let mut input = Vec::new(alloc);
+    let mut chunk = [0u8; CHUNK];
+    'reads: for _turn in 0..limit + 1 {
+        if input.len() > limit {
+            break;
+        }
+        let room = CHUNK.min(limit + 1 - input.len());
+        let count = reader.read(&mut chunk[..room])?;
+        if count == 0 {
+            break;
+        }
+        input.extend_from_slice(&chunk[..count])?;
+    }
+    Ok(input)
+}

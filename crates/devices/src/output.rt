@@ -1,0 +1,28 @@
+//! Writing the report.
+
+ghost use Rattle.std.specs.Prelude.{◌≡◌, ◌↔◌, false, IsTrue, IfErr, OnOk, OnErr, IsErrOf};
+ghost use Rattle.std.specs.Io.KnownBytes.{Appends};
+ghost use Rattle.devices.specs.Output.{AppendsFront};
+ghost use Rattle.devices.specs.Watched.{device_of, has_failed};
+
+use crate::fault::EngineFault;
+use crate::watched::Watched;
+use std::io::Write;
+
+/// Writes all the bytes. `Write` comes exactly where a write failed or took no byte; a front of the
+/// bytes was then written, and nothing else.
+pub fn send<W: Write>(writer: &mut Watched<W>, bytes: &[u8]) -> Result<(), EngineFault>
+    requires { has_failed writer.old ≡ false }
+    ensures ok { OnOk result (Appends (W.contents (device_of writer.old))
+        (W.contents (device_of writer.new)) bytes.now) }
+    ensures err { OnErr result (AppendsFront (W.contents (device_of writer.old))
+        (W.contents (device_of writer.new)) bytes.now) }
+    ensures fault { IfErr result (λ fault. fault ≡ EngineFault.Write) }
+    ensures failed { IsErrOf result EngineFault.Write ↔ IsTrue (has_failed writer.new) }
+{
+    let mut sent = 0;
+    while sent < bytes.len() {
+        sent += writer.write(&bytes[sent..])?;
+    }
+    Ok(())
+}

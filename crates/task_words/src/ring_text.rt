@@ -1,0 +1,47 @@
+//! Ring texts: decimal numbers parted by single commas.
+
+ghost use Rattle.std.specs.Prelude.{◌≡◌, ◌⊎◌, ◌↔◌, map, All, IsOk, IsErrOf, IfOk, IfErr};
+ghost use Rattle.task_words.specs.Decimal.{IsNumber, number_in};
+ghost use Rattle.task_words.specs.RingText.{parts_of, IsRingText, ring_in};
+ghost use Rattle.task_words.specs.WordsFault.{MemoryAside};
+
+use crate::decimal::number_of;
+use crate::words::WordsFault;
+use std::alloc::{AllocError, Global};
+
+/// The numbers of a ring text, in order. A ring text is one or more runs of decimal digits, leading
+/// zeros allowed, each with a value up to 4294967295, parted by single commas. Another text is
+/// `BadRing`. `OutOfMemory` comes where memory was refused.
+pub fn ring_of(alloc: Global, text: &str) -> Result<Vec<u32>, WordsFault>
+    ensures ring { IfOk result (λ ring. IsRingText text.now × (ring.items ≡ ring_in text.now)) }
+    ensures ok { MemoryAside result (IsOk result ↔ IsRingText text.now) }
+    ensures bad_ring { MemoryAside result (IsErrOf result WordsFault.BadRing ↔ (¬ IsRingText text.now)) }
+    ensures faults { IfErr result (λ fault. (fault ≡ WordsFault.BadRing) ⊎ (fault ≡ WordsFault.OutOfMemory)) }
+{
+    let parts = parts(alloc, text)?;
+    numbers(alloc, &parts)
+}
+
+/// The parts of a text before, between and after its commas.
+fn parts(alloc: Global, text: &str) -> Result<Vec<&str>, AllocError>
+    ensures { IfOk result (λ parts. map (λ part. part.now) parts.items ≡ parts_of text.now) }
+{
+    text.split(',').collect(alloc)
+}
+
+/// The values of parts that are numbers each, in order; `BadRing` where one is no number.
+fn numbers(alloc: Global, parts: &[&str]) -> Result<Vec<u32>, WordsFault>
+    ensures numbers { IfOk result (λ numbers. All (λ part. IsNumber part.now) parts.now
+        × (numbers.items ≡ map (λ part. number_in part.now) parts.now)) }
+    ensures refused { IfErr result (λ fault. (fault ≡ WordsFault.OutOfMemory)
+        ⊎ ((fault ≡ WordsFault.BadRing) × ¬ (All (λ part. IsNumber part.now) parts.now))) }
+{
+    let mut numbers = Vec::with_capacity(alloc, parts.len())?;
+    for part in parts {
+        let Some(number) = number_of(part) else {
+            return Err(WordsFault::BadRing);
+        };
+        numbers.push(number)?;
+    }
+    Ok(numbers)
+}
