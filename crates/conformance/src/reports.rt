@@ -12,11 +12,13 @@ use plan_print::task::Task;
 use plan_print::watched::Watched;
 use std::alloc::Global;
 use std::process::Abort;
+use std::sync::Wait;
 use std::test::Fail;
+use std::thread::Threads;
 
 /// Does a task on a program text over memory and compares the report.
-fn reports(
-    rt: &impl Abort,
+fn reports<R: Abort + Threads + Wait + Sync>(
+    rt: &R,
     alloc: Global,
     task: Task,
     text: &[u8],
@@ -25,7 +27,7 @@ fn reports(
 ) -> Result<(), Fail> {
     let mut reader = Watched::new(text);
     let mut writer = Watched::new(Vec::new(alloc));
-    let ended = engine(alloc, task, &mut reader, &mut writer)?;
+    let ended = engine(rt, alloc, task, &mut reader, &mut writer)?;
     assert_eq!(rt; ended, status, "the status of {line}");
     assert_eq!(rt;
         writer.into_device().as_slice(),
@@ -36,10 +38,15 @@ fn reports(
 }
 
 /// The report of a task on a program text that is done.
-fn done(rt: &impl Abort, alloc: Global, task: Task, text: &[u8]) -> Result<Vec<u8>, Fail> {
+fn done<R: Abort + Threads + Wait + Sync>(
+    rt: &R,
+    alloc: Global,
+    task: Task,
+    text: &[u8],
+) -> Result<Vec<u8>, Fail> {
     let mut reader = Watched::new(text);
     let mut writer = Watched::new(Vec::new(alloc));
-    let ended = engine(alloc, task, &mut reader, &mut writer)?;
+    let ended = engine(rt, alloc, task, &mut reader, &mut writer)?;
     assert_eq!(rt; ended, Status::Done);
     Ok(writer.into_device())
 }
@@ -56,8 +63,8 @@ fn line_of(text: &[u8], number: usize) -> Option<&[u8]> {
 }
 
 /// Every task refuses a program text for `ids` identifiers with this line.
-fn all_refuse(
-    rt: &impl Abort,
+fn all_refuse<R: Abort + Threads + Wait + Sync>(
+    rt: &R,
     alloc: Global,
     ids: u32,
     text: &[u8],

@@ -1,10 +1,12 @@
 -- The exit status after a fault of the engine.
 use Rattle.std.specs.Prelude.{ℕ}
 use Rattle.devices.specs.declared.fault.EngineFault.{EngineFault}
-use Rattle.devices.specs.declared.fault.EngineFault.TheVariants.{Read, Write, Memory}
+use Rattle.devices.specs.declared.fault.EngineFault.TheVariants.{Read, Write, Memory, Thread, Stranger}
 
 -- the exit status after a fault of the engine
 abbrev pub engine_fault_code : EngineFault → ℕ
 engine_fault_code Read = 5
 engine_fault_code Write = 5
 engine_fault_code Memory = 6
+engine_fault_code Thread = 6
+engine_fault_code Stranger = 6

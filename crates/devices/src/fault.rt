@@ -20,18 +20,24 @@ pub enum EngineFault {
     /// Memory was refused.
     #[error("nbhd: out of memory")]
     Memory,
+    /// The start of a thread was refused.
+    #[error("nbhd: no thread")]
+    Thread,
+    /// What threads share held another's part, or none where one was put.
+    #[error("nbhd: stranger")]
+    Stranger,
 }
 
 impl EngineFault {
     ghost use Rattle.devices.specs.FaultCodes.{engine_fault_code};
 
-    /// The exit status of the process: 5 after a failed read or write, 6 where memory was refused.
+    /// The exit status of the process: 5 after a failed read or write, else 6.
     pub fn code(self) -> u8
         ensures { result ≡ engine_fault_code self }
     {
         match self {
             EngineFault::Read | EngineFault::Write => 5,
-            EngineFault::Memory => 6,
+            EngineFault::Memory | EngineFault::Thread | EngineFault::Stranger => 6,
         }
     }
 }

@@ -1,6 +1,8 @@
 -- What the engine does to its reader and its writer.
-use Rattle.std.specs.Prelude.{◌≡◌, ℕ, List, Option}
+use Rattle.std.specs.Prelude.{◌≡◌, ◌≢◌, ℕ, List, Option}
 use Rattle.std.specs.Io.KnownBytes.{Appends}
+use Rattle.devices.specs.declared.fault.EngineFault.{EngineFault}
+use Rattle.devices.specs.declared.fault.EngineFault.TheVariants.{Read, Write}
 use Rattle.plan_print.specs.declared.status.Status.{Status}
 use Rattle.task_words.specs.declared.task.Task.{Task}
 use Rattle.task_words.specs.Task.{limit_of}
@@ -24,3 +26,7 @@ pub record WritesFront (task : Task) (unread left before after : Option (List �
   pub report : Report
   pub is_report : IsReport task input report
   pub written : AppendsFront before after report.bytes
+
+-- The fault is of the task itself: no read and no write failed.
+abbrev pub IsTaskFault : EngineFault → Type 0
+IsTaskFault fault = (fault ≢ Read) × (fault ≢ Write)

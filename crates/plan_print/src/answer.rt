@@ -3,7 +3,9 @@
 ghost use Rattle.std.specs.Prelude.{◌≡◌, ℕ, List, IfOk, IfErr, string_bytes};
 ghost use Rattle.win_index.specs.RingFaults.{IsFirstFault};
 ghost use Rattle.table_fill.specs.ProgramTables.{table_of};
+ghost use Rattle.table_fill.specs.Workers.{IsWorkerCount};
 ghost use Rattle.task_words.specs.Task.{ids_of};
+ghost use Rattle.plan_print.specs.Engine.{IsTaskFault};
 ghost use Rattle.plan_print.specs.Report.{IsAnswer, IsAnswerOnRing, IsJudgement};
 
 use crate::lines::{accepted_line, bad_line, good_line, numbers_line, ring_fault_line};
@@ -14,28 +16,32 @@ use devices::fault::EngineFault;
 use lang_check::Plan;
 use nbhd_check::{Verdict, judge};
 use round_eval::{OpenGate, plain_run};
+use shared_memo::Memo;
 use std::alloc::Global;
+use std::sync::Wait;
+use std::thread::Threads;
 use table_fill::{FillFault, Table, compile};
 use task_words::task::Task;
 use win_index::{Ring, RingFault};
 
 // The text of a task's answer on the program of a plan, and its status.
-pub(crate) fn answer_of(
+pub(crate) fn answer_of<T: Threads + Wait + Sync>(
+    rt: &T,
     alloc: Global,
     task: Task,
     plan: &Plan,
 ) -> Result<(String, Status), EngineFault>
     requires { plan.now.ids ≡ ids_of task }
     ensures answer { IfOk result (λ r. IsAnswer task plan.now.program (record { bytes = string_bytes r.0; status = r.1 })) }
-    ensures fault { IfErr result (λ fault. fault ≡ EngineFault.Memory) }
+    ensures fault { IfErr result IsTaskFault }
 {
     match task {
         Task::Check { ids: _ } => Ok((accepted_line(alloc, plan)?, Status::Done)),
         Task::Table { ids: _ } => {
-            let table = compiled(alloc, plan)?;
+            let table = compiled(rt, alloc, plan, 1)?;
             Ok((table_text(alloc, &table)?, Status::Done))
         }
-        Task::Judge { ids: _ } => judgement(alloc, &compiled(alloc, plan)?),
+        Task::Judge { ids: _ } => judgement(alloc, &compiled(rt, alloc, plan, 1)?),
         Task::Run { ids: _, ring } => match Ring::new(plan.shape(), ring) {
             Ok(ring) => {
                 let channels = plain_run(alloc, plan, &ring)?;
@@ -45,7 +51,7 @@ pub(crate) fn answer_of(
         },
         Task::Plan { ids: _, ring } => match Ring::new(plan.shape(), ring) {
             Ok(ring) => {
-                let table = compiled(alloc, plan)?;
+                let table = compiled(rt, alloc, plan, 1)?;
                 Ok((places_text(alloc, plan, &table, &ring)?, Status::Done))
             }
             Err((_ids, fault)) => ring_refusal(alloc, fault),
@@ -77,14 +83,24 @@ fn judgement(alloc: Global, table: &Table) -> Result<(String, Status), EngineFau
     }
 }
 
-// The table of an accepted program.
-fn compiled(alloc: Global, plan: &Plan) -> Result<Table, EngineFault>
+// The table of an accepted program, filled by so many workers. The memo is dropped here.
+fn compiled<T: Threads + Wait + Sync>(
+    rt: &T,
+    alloc: Global,
+    plan: &Plan,
+    workers: u32,
+) -> Result<Table, EngineFault>
+    requires { IsWorkerCount workers }
     ensures table { IfOk result (λ table. table ≡ table_of plan.now.program plan.now.ids) }
-    ensures fault { IfErr result (λ fault. fault ≡ EngineFault.Memory) }
+    ensures fault { IfErr result IsTaskFault }
 {
-    match compile(alloc, plan, 1, &OpenGate) {
+    let memo = Memo::new(alloc, plan)?;
+    let mut pass = memo.pass(alloc)?;
+    match compile(rt, alloc, plan, &memo, &mut pass, workers, &OpenGate) {
         Ok(table) => Ok(table),
         Err(FillFault::OutOfMemory) => Err(EngineFault::Memory),
+        Err(FillFault::NoThread) => Err(EngineFault::Thread),
+        Err(FillFault::Stranger) => Err(EngineFault::Stranger),
         Err(FillFault::WorkersOutOfRange) => unreachable!(),
     }
 }

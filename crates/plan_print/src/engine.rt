@@ -1,6 +1,6 @@
 //! Doing a task: the input is read whole, then its report is written.
 
-ghost use Rattle.std.specs.Prelude.{◌≡◌, ◌↔◌, ℕ, List, false, IsTrue, IfOk, OnErr, IsErrOf};
+ghost use Rattle.std.specs.Prelude.{◌≡◌, ◌≢◌, ◌↔◌, ℕ, List, false, IsTrue, IfOk, IfErr, OnErr, IsErrOf};
 ghost use Rattle.std.specs.Io.KnownBytes.{Keeps};
 ghost use Rattle.task_words.specs.Task.{limit_of};
 ghost use Rattle.devices.specs.Input.{TakesFront};
@@ -15,15 +15,18 @@ use devices::output::send;
 use devices::watched::Watched;
 use std::alloc::Global;
 use std::io::{Read, Write};
+use std::sync::Wait;
+use std::thread::Threads;
 use task_words::task::Task;
 
 /// Reads the input of a task, all of it or one byte more than the task's limit of a longer one, and
 /// writes its report; the answer is the report's status.
 ///
 /// `Read` comes exactly where a read failed, `Write` exactly where a write failed or took no byte, `Memory`
-/// where memory was refused. After `Read` and `Memory` nothing was written, after `Write` a front of the
-/// report.
-pub fn engine<R: Read, W: Write>(
+/// where memory was refused, `Thread` where the start of a thread was, and `Stranger` where a worker had that
+/// fault. After `Write` a front of the report was written, after each other fault nothing.
+pub fn engine<T: Threads + Wait + Sync, R: Read, W: Write>(
+    rt: &T,
     alloc: Global,
     task: Task,
     reader: &mut Watched<R>,
@@ -37,14 +40,14 @@ pub fn engine<R: Read, W: Write>(
     ensures front { IsErrOf result EngineFault.Write → WritesFront task
         (R.remaining (device_of reader.old)) (R.remaining (device_of reader.new))
         (W.contents (device_of writer.old)) (W.contents (device_of writer.new)) }
-    ensures unread { IsErrOf result EngineFault.Read → Keeps (W.contents (device_of writer.old)) (W.contents (device_of writer.new)) }
-    ensures no_memory { IsErrOf result EngineFault.Memory → Keeps (W.contents (device_of writer.old)) (W.contents (device_of writer.new)) }
+    ensures unwritten { IfErr result (λ fault. fault ≢ EngineFault.Write
+        → Keeps (W.contents (device_of writer.old)) (W.contents (device_of writer.new))) }
     ensures taken { OnErr result (TakesFront (R.remaining (device_of reader.old)) (R.remaining (device_of reader.new)) (limit_of task)) }
     ensures reader_failed { IsErrOf result EngineFault.Read ↔ IsTrue (has_failed reader.new) }
     ensures writer_failed { IsErrOf result EngineFault.Write ↔ IsTrue (has_failed writer.new) }
 {
     let input = read_input(alloc, reader, task.limit())?;
-    let (text, status) = report_of(alloc, task, &input)?;
+    let (text, status) = report_of(rt, alloc, task, &input)?;
     send(writer, text.as_bytes())?;
     Ok(status)
 }

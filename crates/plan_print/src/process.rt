@@ -7,13 +7,15 @@ use crate::status::{Status, code_of};
 use devices::fault::EngineFault;
 use devices::watched::Watched;
 use std::rt::Env;
+use std::sync::Wait;
+use std::thread::Threads;
 use std::{env, io};
 use task_words::task::Task;
 use task_words::words::{WordsFault, task_of};
 
 /// Does what the words after the program's name ask for, and answers the exit status. A fault is told on
 /// the standard error.
-pub fn exit_status<T: AllocGlobal + Env + Input + Print + Eprint>(rt: &T) -> u8
+pub fn exit_status<T: AllocGlobal + Env + Input + Print + Eprint + Threads + Wait + Sync>(rt: &T) -> u8
     ensures { IsExitStatus result }
 {
     match asked(rt) {
@@ -40,8 +42,8 @@ fn asked<T: AllocGlobal + Env>(rt: &T) -> Result<Task, WordsFault> {
 }
 
 // The engine's answer to a task on the standard input and output.
-fn done<T: AllocGlobal + Input + Print>(rt: &T, task: Task) -> Result<Status, EngineFault> {
+fn done<T: AllocGlobal + Input + Print + Threads + Wait + Sync>(rt: &T, task: Task) -> Result<Status, EngineFault> {
     let mut reader = Watched::new(rt.reader());
     let mut writer = Watched::new(io::writer(rt));
-    engine(rt.alloc(), task, &mut reader, &mut writer)
+    engine(rt, rt.alloc(), task, &mut reader, &mut writer)
 }

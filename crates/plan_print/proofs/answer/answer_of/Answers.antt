@@ -5,7 +5,7 @@ use Rattle.plan_print.proofs.answer.answer_of.Goals as goal
 
 -- A run on a list that is no ring.
 pub returns-in-Err-clause-answer : goal.returns-in-Err-clause-answer
-returns-in-Err-clause-answer c =
+returns-in-Err-clause-answer g c =
     let shape = c.shape.result in
     let ids : shape.ids ≡ c.in-Run.ids = search rules in
     let rounds : shape.rounds ≡ length c.args.plan.now.program.steps = search rules in
@@ -14,7 +14,7 @@ returns-in-Err-clause-answer c =
 
 -- A plan on a list that is no ring.
 pub returns-in-Err-new-clause-answer : goal.returns-in-Err-new-clause-answer
-returns-in-Err-new-clause-answer c =
+returns-in-Err-new-clause-answer g c =
     let shape = c.shape-in-Plan.result in
     let ids : shape.ids ≡ c.in-Plan.ids = search rules in
     let rounds : shape.rounds ≡ length c.args.plan.now.program.steps = search rules in

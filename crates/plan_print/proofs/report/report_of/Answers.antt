@@ -10,7 +10,7 @@ use Rattle.plan_print.proofs.report.report_of.Goals as goal
 
 -- The program is accepted.
 pub returns-in-Ok-accept-clause-report : goal.returns-in-Ok-accept-clause-report
-returns-in-Ok-accept-clause-report c =
+returns-in-Ok-accept-clause-report g c =
     let p = c.in-Ok-accept.plan.program in
     let reads : Reads c.args.input.now p = search rules in
     let accepted : IsAccepted (ids_of c.args.task) p = search rules in
@@ -18,13 +18,13 @@ returns-in-Ok-accept-clause-report c =
 
 -- The program is refused.
 pub returns-in-Ok-clause-report : goal.returns-in-Ok-clause-report
-returns-in-Ok-clause-report c =
+returns-in-Ok-clause-report g c =
     let first : IsFirstRefusal (ids_of c.args.task) c.in-Ok.program c.in-Err-accept.fault = search rules in
     check_fault c.in-Ok.program c.in-Err-accept.fault c.in-Ok.ensures.program first (search rules)
 
 -- The text reads as no program.
 pub returns : goal.returns
-returns c =
+returns g c =
     let known : c.in-Err.fault.kind ≢ OutOfMemory = search rules in
     record {
       report = text_fault c.in-Err.fault.kind c.in-Err.fault.offset (c.in-Err.ensures.none known) (c.in-Err.ensures.fault known) (search rules);
