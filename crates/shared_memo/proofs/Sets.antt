@@ -1,5 +1,5 @@
 -- What a pass knows after one entry was changed.
-use Rattle.std.proofs.Common.{◌≡◌, ◌≢◌, ℕ, ◌+◌, ◌<◌, ◌≤◌, Bool, true, false, cond, List, map, length, get_or, set, None, Some, ◌↔◌, ◌⊎◌, inl, inr, ⊎_elim, refl, sym, ap, ◌∙◌, subst, arith, length-set, get_or-set_same, get_or-set_other}
+use Rattle.std.proofs.Common.{◌≡◌, ◌≢◌, ℕ, ◌+◌, ◌<◌, ◌≤◌, List, map, length, get_or, set, None, Some, ◌↔◌, ◌⊎◌, inl, inr, ⊎_elim, refl, sym, ap, ◌∙◌, subst, arith, get_or-set_same, get_or-set_other}
 use Rattle.std.specs.Prelude.{Option}
 use mathlib.Core.Logic.{dite}
 use native.Mathlib.Decide.{ℕ_discrete}
@@ -10,7 +10,6 @@ use Rattle.std.specs.Prelude.{slice_get}
 use Rattle.win_index.specs.Jobs.{jobs_of, job_number}
 use Rattle.lang_check.specs.Plans.{ProgramForIds}
 use Rattle.unroll.specs.BlockStates.{MadeBlock}
-use Rattle.unroll.specs.Entries.{Entries}
 use Rattle.shared_memo.specs.declared.entry.Entry.{Entry}
 use Rattle.once_cell.specs.Once.{cell_name}
 use Rattle.once_cell.specs.declared.race.once_box.OnceBox.{OnceBox}
@@ -98,8 +97,8 @@ pub right_put : (p q : ProgramForIds) (es : List Entry) (at : ℕ) (d e : Entry)
     → (known_of e ≡ known_of d) ⊎ (known_of e ≡ Some x) → (b : MadeBlock) → known_of e ≡ Some b → IsBlockOf p at b
 right_put p q es at d e x same job plan h keeps only b is =
     ⊎_elim (λ (old : known_of e ≡ known_of d). keeps at b (known_here es at d h ∙ sym old ∙ is))
-        (λ (new : known_of e ≡ Some x). subst (λ (y : MadeBlock). IsBlockOf p at y) (some_is x b (sym new ∙ is)) (to_place p q x.level x.number at x same job (plan, refl, refl)))
-        only
+    (λ (new : known_of e ≡ Some x). subst (λ (y : MadeBlock). IsBlockOf p at y) (some_is x b (sym new ∙ is)) (to_place p q x.level x.number at x same job (plan, refl, refl)))
+    only
 
 pub same_set : (es : List Entry) (at : ℕ) (d e : Entry) → IsAt es at d → known_of e ≡ known_of d → (k : ℕ) → known_in (set es at e) k ≡ known_in es k
 same_set es at d e h is k = dite (ℕ_discrete k at)
@@ -116,8 +115,8 @@ pub keeps_either : (p q : ProgramForIds) (es fs : List Entry) (at : ℕ) (d f e 
     → (known_of e ≡ known_of d) ⊎ (known_of e ≡ known_of f) → AllInPlace p (set es at e)
 keeps_either p q es fs at d f e same h j keeps others only = keeps_set p es at e h.0 keeps (λ b is.
     ⊎_elim (λ (old : known_of e ≡ known_of d). keeps at b (known_here es at d h ∙ sym old ∙ is))
-        (λ (new : known_of e ≡ known_of f). subst (λ (x : ProgramForIds). IsBlockOf x at b) (sym same) (others at b (known_here fs at f j ∙ sym new ∙ is)))
-        only)
+    (λ (new : known_of e ≡ known_of f). subst (λ (x : ProgramForIds). IsBlockOf x at b) (sym same) (others at b (known_here fs at f j ∙ sym new ∙ is)))
+    only)
 
 pub learned_set : (es fs : List Entry) (at : ℕ) (d f e : Entry) (F : ℕ → Option MadeBlock) → IsAt es at d → IsAt fs at f → ((k : ℕ) → known_in fs k ≡ F k) → ((b : MadeBlock) → known_of f ≡ Some b → known_of e ≡ Some b)
     → ((k : ℕ) (b : MadeBlock) → k < at → F k ≡ Some b → known_in es k ≡ Some b) → (k : ℕ) (b : MadeBlock) → k < at + 1 → F k ≡ Some b → known_in (set es at e) k ≡ Some b
@@ -129,9 +128,9 @@ pub only_set : (es fs : List Entry) (at : ℕ) (d f e : Entry) (E F : ℕ → Op
     → ((k : ℕ) (b : MadeBlock) → known_in es k ≡ Some b → (E k ≡ Some b) ⊎ (F k ≡ Some b)) → (k : ℕ) (b : MadeBlock) → known_in (set es at e) k ≡ Some b → (E k ≡ Some b) ⊎ (F k ≡ Some b)
 only_set es fs at d f e E F h j same only before k b is = dite (ℕ_discrete k at)
     (λ here. let is' : known_of e ≡ Some b = sym (known_set_here es at e h.0) ∙ ap (known_in (set es at e)) (sym here) ∙ is in
-        ⊎_elim (λ (old : known_of e ≡ known_of d). before k b (ap (known_in es) here ∙ known_here es at d h ∙ sym old ∙ is'))
-            (λ (new : known_of e ≡ known_of f). inr (ap F here ∙ sym (same at) ∙ known_here fs at f j ∙ sym new ∙ is'))
-            only)
+    ⊎_elim (λ (old : known_of e ≡ known_of d). before k b (ap (known_in es) here ∙ known_here es at d h ∙ sym old ∙ is'))
+    (λ (new : known_of e ≡ known_of f). inr (ap F here ∙ sym (same at) ∙ known_here fs at f j ∙ sym new ∙ is'))
+    only)
     (λ apart. before k b (sym (known_set_else es at k e apart) ∙ is))
 
 pub known_past : (es : List Entry) (k : ℕ) (b : MadeBlock) → length es ≤ k → known_in es k ≡ Some b → ⊥

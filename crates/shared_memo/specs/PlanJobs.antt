@@ -5,6 +5,7 @@ use Rattle.win_index.specs.Jobs.{jobs_of, job_number}
 use Rattle.lang_check.specs.Plans.{ProgramForIds}
 use Rattle.unroll.specs.BlockStates.{MadeBlock}
 
+-- how many jobs a plan has
 abbrev pub job_count : ProgramForIds → ℕ
 job_count plan = length (jobs_of plan.ids (length plan.program.steps))
 

@@ -1,0 +1,18 @@
+-- What asking a reader for a block does to it.
+use Rattle.std.specs.Prelude.{◌≡◌, ℕ, Bool, true, false, None, Some}
+use Rattle.unroll.specs.BlockStates.{MadeBlock}
+use Rattle.shared_memo.specs.declared.reader.Reader.{Reader}
+use Rattle.shared_memo.specs.Passes.{known, LearnsAt, KnowsSame}
+
+-- a reader before and after it was asked for the block of a level and a number; `found` says whether it answered one
+pub record Asks (level number : ℕ) (found : Bool) (old new : Reader) : Type 0 where
+  -- nothing but this block is learnt, and nothing where none is answered
+  pub learns : LearnsAt level number (known old.pass.now) (known new.pass.now)
+  pub missed : found ≡ false → KnowsSame (known old.pass.now) (known new.pass.now)
+  -- a block that was known is answered
+  pub known_found : (b : MadeBlock) → known old.pass.now level number ≡ Some b → found ≡ true
+  -- the mark of a stranger stays once it is set, and an answer leaves it as it was
+  pub mark_stays : old.stranger ≡ true → new.stranger ≡ true
+  pub mark_as_was : found ≡ true → new.stranger ≡ old.stranger
+  -- where the mark was set, a block that was not known is not answered
+  pub only_known : old.stranger ≡ true → known old.pass.now level number ≡ None → found ≡ false
