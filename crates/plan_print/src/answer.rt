@@ -3,7 +3,8 @@
 ghost use Rattle.std.specs.Prelude.{◌≡◌, ℕ, List, IfOk, IfErr, string_bytes};
 ghost use Rattle.win_index.specs.RingFaults.{IsFirstFault};
 ghost use Rattle.table_fill.specs.ProgramTables.{table_of};
-ghost use Rattle.task_words.specs.Task.{ids_of};
+ghost use Rattle.task_words.specs.Workers.{IsWorkerCount};
+ghost use Rattle.task_words.specs.Task.{ids_of, IsRunnable};
 ghost use Rattle.plan_print.specs.Report.{IsAnswer, IsAnswerOnRing, IsJudgement};
 
 use crate::lines::{accepted_line, bad_line, good_line, numbers_line, ring_fault_line};
@@ -25,17 +26,18 @@ pub(crate) fn answer_of(
     task: Task,
     plan: &Plan,
 ) -> Result<(String, Status), EngineFault>
-    requires { plan.now.ids ≡ ids_of task }
+    requires ids { plan.now.ids ≡ ids_of task }
+    requires runnable { IsRunnable task }
     ensures answer { IfOk result (λ r. IsAnswer task plan.now.program (record { bytes = string_bytes r.0; status = r.1 })) }
     ensures fault { IfErr result (λ fault. fault ≡ EngineFault.Memory) }
 {
     match task {
         Task::Check { ids: _ } => Ok((accepted_line(alloc, plan)?, Status::Done)),
-        Task::Table { ids: _ } => {
-            let table = compiled(alloc, plan)?;
+        Task::Table { ids: _, workers } => {
+            let table = compiled(alloc, plan, workers)?;
             Ok((table_text(alloc, &table)?, Status::Done))
         }
-        Task::Judge { ids: _ } => judgement(alloc, &compiled(alloc, plan)?),
+        Task::Judge { ids: _, workers } => judgement(alloc, &compiled(alloc, plan, workers)?),
         Task::Run { ids: _, ring } => match Ring::new(plan.shape(), ring) {
             Ok(ring) => {
                 let channels = plain_run(alloc, plan, &ring)?;
@@ -43,9 +45,13 @@ pub(crate) fn answer_of(
             }
             Err((_ids, fault)) => ring_refusal(alloc, fault),
         },
-        Task::Plan { ids: _, ring } => match Ring::new(plan.shape(), ring) {
+        Task::Plan {
+            ids: _,
+            ring,
+            workers,
+        } => match Ring::new(plan.shape(), ring) {
             Ok(ring) => {
-                let table = compiled(alloc, plan)?;
+                let table = compiled(alloc, plan, workers)?;
                 Ok((places_text(alloc, plan, &table, &ring)?, Status::Done))
             }
             Err((_ids, fault)) => ring_refusal(alloc, fault),
@@ -77,12 +83,14 @@ fn judgement(alloc: Global, table: &Table) -> Result<(String, Status), EngineFau
     }
 }
 
-// The table of an accepted program.
-fn compiled(alloc: Global, plan: &Plan) -> Result<Table, EngineFault>
+// The table of an accepted program, made by so many workers.
+#[tactic(auto, using(crate::proofs::Workers::worker_count))]
+fn compiled(alloc: Global, plan: &Plan, workers: u32) -> Result<Table, EngineFault>
+    requires { IsWorkerCount workers }
     ensures table { IfOk result (λ table. table ≡ table_of plan.now.program plan.now.ids) }
     ensures fault { IfErr result (λ fault. fault ≡ EngineFault.Memory) }
 {
-    match compile(alloc, plan, 1, &OpenGate) {
+    match compile(alloc, plan, workers, &OpenGate) {
         Ok(table) => Ok(table),
         Err(FillFault::OutOfMemory) => Err(EngineFault::Memory),
         Err(FillFault::WorkersOutOfRange) => unreachable!(),

@@ -2,7 +2,7 @@
 
 ghost use Rattle.std.specs.Prelude.{◌≡◌, ◌↔◌, ℕ, List, false, IsTrue, IfOk, OnErr, IsErrOf};
 ghost use Rattle.std.specs.Io.KnownBytes.{Keeps};
-ghost use Rattle.task_words.specs.Task.{limit_of};
+ghost use Rattle.task_words.specs.Task.{limit_of, IsRunnable};
 ghost use Rattle.devices.specs.Input.{TakesFront};
 ghost use Rattle.devices.specs.Watched.{device_of, has_failed};
 ghost use Rattle.plan_print.specs.Engine.{WritesReport, WritesFront};
@@ -18,7 +18,7 @@ use std::io::{Read, Write};
 use task_words::task::Task;
 
 /// Reads the input of a task, all of it or one byte more than the task's limit of a longer one, and
-/// writes its report; the answer is the report's status.
+/// writes its report; the answer is the report's status. A number of workers that the task names is 1 to 64.
 ///
 /// `Read` comes exactly where a read failed, `Write` exactly where a write failed or took no byte, `Memory`
 /// where memory was refused. After `Read` and `Memory` nothing was written, after `Write` a front of the
@@ -29,6 +29,7 @@ pub fn engine<R: Read, W: Write>(
     reader: &mut Watched<R>,
     writer: &mut Watched<W>,
 ) -> Result<Status, EngineFault>
+    requires runnable { IsRunnable task }
     requires reads { has_failed reader.old ≡ false }
     requires writes { has_failed writer.old ≡ false }
     ensures report { IfOk result (λ status. WritesReport task
