@@ -25,6 +25,7 @@ fn reports<R: Abort + Threads + Wait + Sync>(
     line: &str,
     status: Status,
 ) -> Result<(), Fail> {
+    assert!(rt; task.is_runnable());
     let mut reader = Watched::new(text);
     let mut writer = Watched::new(Vec::new(alloc));
     let ended = engine(rt, alloc, task, &mut reader, &mut writer)?;
@@ -44,6 +45,7 @@ fn done<R: Abort + Threads + Wait + Sync>(
     task: Task,
     text: &[u8],
 ) -> Result<Vec<u8>, Fail> {
+    assert!(rt; task.is_runnable());
     let mut reader = Watched::new(text);
     let mut writer = Watched::new(Vec::new(alloc));
     let ended = engine(rt, alloc, task, &mut reader, &mut writer)?;
@@ -72,8 +74,8 @@ fn all_refuse<R: Abort + Threads + Wait + Sync>(
 ) -> Result<(), Fail> {
     let tasks = [
         Task::Check { ids },
-        Task::Table { ids },
-        Task::Judge { ids },
+        Task::Table { ids, workers: 1 },
+        Task::Judge { ids, workers: 1 },
         Task::Run {
             ids,
             ring: [0, 1].to_vec(alloc)?,
@@ -81,6 +83,7 @@ fn all_refuse<R: Abort + Threads + Wait + Sync>(
         Task::Plan {
             ids,
             ring: Vec::new(alloc),
+            workers: 1,
         },
     ];
     for task in tasks {
@@ -224,7 +227,12 @@ fn ring_faults(rt: HostRuntime) -> Result<(), Fail> {
         let alloc = rt.alloc();
         let ring = ring.to_vec(alloc)?;
         let again = ring.to_vec(alloc)?;
-        for task in [Task::Run { ids, ring }, Task::Plan { ids, ring: again }] {
+        let plan = Task::Plan {
+            ids,
+            ring: again,
+            workers: 1,
+        };
+        for task in [Task::Run { ids, ring }, plan] {
             reports(&rt, alloc, task, CV1, line, Status::RingRefused)?;
         }
     }
@@ -265,7 +273,7 @@ fn runs(rt: HostRuntime) -> Result<(), Fail> {
 
 #[test]
 fn the_table_of_identifiers(rt: HostRuntime) -> Result<(), Fail> {
-    let task = Task::Table { ids: 2 };
+    let task = Task::Table { ids: 2, workers: 1 };
     let text = "nbhd-table 1\nrounds 0 ids 2 channels 2\n0 : 0\n1 : 1\nend\n";
     assert_eq!(rt; text.len(), 55);
     reports(&rt, rt.alloc(), task, ID0, text, Status::Done)
@@ -273,7 +281,8 @@ fn the_table_of_identifiers(rt: HostRuntime) -> Result<(), Fail> {
 
 #[test]
 fn the_table_of_cv1(rt: HostRuntime) -> Result<(), Fail> {
-    let text = done(&rt, rt.alloc(), Task::Table { ids: 8 }, CV1)?;
+    let task = Task::Table { ids: 8, workers: 1 };
+    let text = done(&rt, rt.alloc(), task, CV1)?;
     assert_eq!(rt; count_of_lines(&text), 339);
     let rows: [(usize, &[u8]); 6] = [
         (1, b"nbhd-table 1"),
@@ -291,9 +300,17 @@ fn the_table_of_cv1(rt: HostRuntime) -> Result<(), Fail> {
 
 #[test]
 fn the_table_of_red(rt: HostRuntime) -> Result<(), Fail> {
-    let text = done(&rt, rt.alloc(), Task::Table { ids: 8 }, RED)?;
     let line: &[u8] = b"5 1 3 7 0 2 4 : 1";
+    let task = Task::Table { ids: 8, workers: 1 };
+    let text = done(&rt, rt.alloc(), task, RED)?;
     assert_eq!(rt; line_of(&text, 26_259), Some(line));
+    for workers in [2, 64] {
+        let task = Task::Table { ids: 8, workers };
+        assert!(rt;
+            done(&rt, rt.alloc(), task, RED)? == text,
+            "{workers} workers"
+        );
+    }
     Ok(())
 }
 
@@ -307,7 +324,8 @@ fn judges(rt: HostRuntime) -> Result<(), Fail> {
         (RED, 8, "yes: 40320 tuples\n", Status::Done),
     ];
     for (text, ids, line, status) in rows {
-        reports(&rt, rt.alloc(), Task::Judge { ids }, text, line, status)?;
+        let task = Task::Judge { ids, workers: 1 };
+        reports(&rt, rt.alloc(), task, text, line, status)?;
     }
     Ok(())
 }
@@ -315,7 +333,10 @@ fn judges(rt: HostRuntime) -> Result<(), Fail> {
 // Over fifteen million tuples: too many for a run that is not built.
 #[test]
 fn the_judge_of_64_identifiers(rt: HostRuntime) -> Result<(), Fail> {
-    let task = Task::Judge { ids: 64 };
+    let task = Task::Judge {
+        ids: 64,
+        workers: 1,
+    };
     let line = "yes: 15249024 tuples\n";
     reports(&rt, rt.alloc(), task, CV1_OF_12, line, Status::Done)
 }
@@ -324,6 +345,10 @@ fn the_judge_of_64_identifiers(rt: HostRuntime) -> Result<(), Fail> {
 fn the_plan_of_cv1(rt: HostRuntime) -> Result<(), Fail> {
     let ring = [5, 1, 3, 7].to_vec(rt.alloc())?;
     let lines = "   0    5    2\n   1    1    4\n   2    3    3\n   3    7    5\n";
-    let task = Task::Plan { ids: 8, ring };
+    let task = Task::Plan {
+        ids: 8,
+        ring,
+        workers: 2,
+    };
     reports(&rt, rt.alloc(), task, CV1, lines, Status::Done)
 }

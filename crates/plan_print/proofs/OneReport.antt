@@ -38,10 +38,10 @@ one_on_ring one no_fault m t x bytes r s (on_ring ring says) (on_ring ring' says
 one_answer : OneRingFault → RingsHaveNoFault → OneWitness → GoodTablesHaveNoWitness
     → (task : Task) (p : ProgramTree) (r s : Report) → IsAnswer task p r → IsAnswer task p s → r ≡ s
 one_answer one_fault no_fault one_witness no_witness (Check ids) p r s = said_once _ _ _ r s refl
-one_answer one_fault no_fault one_witness no_witness (Table ids) p r s = said_once _ _ _ r s refl
-one_answer one_fault no_fault one_witness no_witness (Judge ids) p r s = one_judgement one_witness no_witness _ r s
+one_answer one_fault no_fault one_witness no_witness (Table ids workers) p r s = said_once _ _ _ r s refl
+one_answer one_fault no_fault one_witness no_witness (Judge ids workers) p r s = one_judgement one_witness no_witness _ r s
 one_answer one_fault no_fault one_witness no_witness (Run ids ring) p r s = one_on_ring one_fault no_fault _ _ _ _ r s
-one_answer one_fault no_fault one_witness no_witness (Plan ids ring) p r s = one_on_ring one_fault no_fault _ _ _ _ r s
+one_answer one_fault no_fault one_witness no_witness (Plan ids ring workers) p r s = one_on_ring one_fault no_fault _ _ _ _ r s
 
 pub one_report : OneReading → OneTextFault → OneRefusal → AcceptedProgramsHaveNoRefusal → OneRingFault → RingsHaveNoFault → OneWitness → GoodTablesHaveNoWitness → OneReport
 one_report one_reading one_text_fault one_refusal no_refusal one_fault no_fault one_witness no_witness task input r s first second =

@@ -5,6 +5,7 @@ pub mod Report
 pub mod Laws
 pub use Rattle.task_words.specs.Decimal
 pub use Rattle.task_words.specs.RingText
+pub use Rattle.task_words.specs.Workers
 pub use Rattle.task_words.specs.Task
 pub use Rattle.task_words.specs.Words
 pub use Rattle.task_words.specs.WordsFault

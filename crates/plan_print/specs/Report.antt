@@ -104,13 +104,13 @@ pub data IsAnswerOnRing (m t : ℕ) (places bytes : List ℕ) (r : Report) : Typ
   ring_fault : (f : RingFault) → IsFirstFault m t places f → Says (ring_fault_line f) RingRefused r → IsAnswerOnRing m t places bytes r
   on_ring : IsRing m t places → Says bytes Done r → IsAnswerOnRing m t places bytes r
 
--- the answer of a task on a program that is accepted
+-- the answer of a task on a program that is accepted; it is the same whatever the number of workers
 abbrev pub IsAnswer : Task → ProgramTree → Report → Type 0
 IsAnswer (Check ids) p r = Says (accepted_line ids p) Done r
-IsAnswer (Table ids) p r = Says (table_text (table_of p ids)) Done r
-IsAnswer (Judge ids) p r = IsJudgement (table_of p ids) r
+IsAnswer (Table ids workers) p r = Says (table_text (table_of p ids)) Done r
+IsAnswer (Judge ids workers) p r = IsJudgement (table_of p ids) r
 IsAnswer (Run ids places) p r = IsAnswerOnRing ids (length p.steps) places.items (line (numbers_text (channels_of p places.items) ∷ [])) r
-IsAnswer (Plan ids places) p r = IsAnswerOnRing ids (length p.steps) places.items (place_lines p places.items) r
+IsAnswer (Plan ids places workers) p r = IsAnswerOnRing ids (length p.steps) places.items (place_lines p places.items) r
 
 -- The report of a task on an input: the fault of a text that reads as no program, or the first refusal of the program that it reads as, or the task's
 -- answer on that program.

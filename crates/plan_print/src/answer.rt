@@ -3,8 +3,8 @@
 ghost use Rattle.std.specs.Prelude.{◌≡◌, ℕ, List, IfOk, IfErr, string_bytes};
 ghost use Rattle.win_index.specs.RingFaults.{IsFirstFault};
 ghost use Rattle.table_fill.specs.ProgramTables.{table_of};
-ghost use Rattle.table_fill.specs.Workers.{IsWorkerCount};
-ghost use Rattle.task_words.specs.Task.{ids_of};
+ghost use Rattle.task_words.specs.Workers.{IsWorkerCount};
+ghost use Rattle.task_words.specs.Task.{ids_of, IsRunnable};
 ghost use Rattle.plan_print.specs.Engine.{IsTaskFault};
 ghost use Rattle.plan_print.specs.Report.{IsAnswer, IsAnswerOnRing, IsJudgement};
 
@@ -31,17 +31,18 @@ pub(crate) fn answer_of<T: Threads + Wait + Sync>(
     task: Task,
     plan: &Plan,
 ) -> Result<(String, Status), EngineFault>
-    requires { plan.now.ids ≡ ids_of task }
+    requires ids { plan.now.ids ≡ ids_of task }
+    requires runnable { IsRunnable task }
     ensures answer { IfOk result (λ r. IsAnswer task plan.now.program (record { bytes = string_bytes r.0; status = r.1 })) }
     ensures fault { IfErr result IsTaskFault }
 {
     match task {
         Task::Check { ids: _ } => Ok((accepted_line(alloc, plan)?, Status::Done)),
-        Task::Table { ids: _ } => {
-            let table = compiled(rt, alloc, plan, 1)?;
+        Task::Table { ids: _, workers } => {
+            let table = compiled(rt, alloc, plan, workers)?;
             Ok((table_text(alloc, &table)?, Status::Done))
         }
-        Task::Judge { ids: _ } => judgement(alloc, &compiled(rt, alloc, plan, 1)?),
+        Task::Judge { ids: _, workers } => judgement(alloc, &compiled(rt, alloc, plan, workers)?),
         Task::Run { ids: _, ring } => match Ring::new(plan.shape(), ring) {
             Ok(ring) => {
                 let channels = plain_run(alloc, plan, &ring)?;
@@ -49,9 +50,13 @@ pub(crate) fn answer_of<T: Threads + Wait + Sync>(
             }
             Err((_ids, fault)) => ring_refusal(alloc, fault),
         },
-        Task::Plan { ids: _, ring } => match Ring::new(plan.shape(), ring) {
+        Task::Plan {
+            ids: _,
+            ring,
+            workers,
+        } => match Ring::new(plan.shape(), ring) {
             Ok(ring) => {
-                let table = compiled(rt, alloc, plan, 1)?;
+                let table = compiled(rt, alloc, plan, workers)?;
                 Ok((places_text(alloc, plan, &table, &ring)?, Status::Done))
             }
             Err((_ids, fault)) => ring_refusal(alloc, fault),
@@ -84,6 +89,7 @@ fn judgement(alloc: Global, table: &Table) -> Result<(String, Status), EngineFau
 }
 
 // The table of an accepted program, filled by so many workers. The memo is dropped here.
+#[tactic(auto, using(crate::proofs::Workers::worker_count))]
 fn compiled<T: Threads + Wait + Sync>(
     rt: &T,
     alloc: Global,

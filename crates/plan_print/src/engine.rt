@@ -2,7 +2,7 @@
 
 ghost use Rattle.std.specs.Prelude.{◌≡◌, ◌≢◌, ◌↔◌, ℕ, List, false, IsTrue, IfOk, IfErr, OnErr, IsErrOf};
 ghost use Rattle.std.specs.Io.KnownBytes.{Keeps};
-ghost use Rattle.task_words.specs.Task.{limit_of};
+ghost use Rattle.task_words.specs.Task.{limit_of, IsRunnable};
 ghost use Rattle.devices.specs.Input.{TakesFront};
 ghost use Rattle.devices.specs.Watched.{device_of, has_failed};
 ghost use Rattle.plan_print.specs.Engine.{WritesReport, WritesFront};
@@ -20,7 +20,7 @@ use std::thread::Threads;
 use task_words::task::Task;
 
 /// Reads the input of a task, all of it or one byte more than the task's limit of a longer one, and
-/// writes its report; the answer is the report's status.
+/// writes its report; the answer is the report's status. A number of workers that the task names is 1 to 64.
 ///
 /// `Read` comes exactly where a read failed, `Write` exactly where a write failed or took no byte, `Memory`
 /// where memory was refused, `Thread` where the start of a thread was, and `Stranger` where a worker had that
@@ -32,6 +32,7 @@ pub fn engine<T: Threads + Wait + Sync, R: Read, W: Write>(
     reader: &mut Watched<R>,
     writer: &mut Watched<W>,
 ) -> Result<Status, EngineFault>
+    requires runnable { IsRunnable task }
     requires reads { has_failed reader.old ≡ false }
     requires writes { has_failed writer.old ≡ false }
     ensures report { IfOk result (λ status. WritesReport task

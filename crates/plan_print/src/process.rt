@@ -1,6 +1,8 @@
 //! The program `nbhd` as a process: its words, its standard input and its standard output are handed to the engine.
 
+ghost use Rattle.std.specs.Prelude.{IfOk};
 ghost use Rattle.plan_print.specs.ExitCodes.{IsExitStatus};
+ghost use Rattle.task_words.specs.Task.{IsRunnable};
 
 use crate::engine::engine;
 use crate::status::{Status, code_of};
@@ -34,7 +36,9 @@ pub fn exit_status<T: AllocGlobal + Env + Input + Print + Eprint + Threads + Wai
 }
 
 // The task that the words after the program's name ask for.
-fn asked<T: AllocGlobal + Env>(rt: &T) -> Result<Task, WordsFault> {
+fn asked<T: AllocGlobal + Env>(rt: &T) -> Result<Task, WordsFault>
+    ensures { IfOk result IsRunnable }
+{
     let mut args = env::args(rt)?;
     let _name = args.next();
     let words = args.collect::<Vec<_>>(rt.alloc())?;
@@ -42,7 +46,12 @@ fn asked<T: AllocGlobal + Env>(rt: &T) -> Result<Task, WordsFault> {
 }
 
 // The engine's answer to a task on the standard input and output.
-fn done<T: AllocGlobal + Input + Print + Threads + Wait + Sync>(rt: &T, task: Task) -> Result<Status, EngineFault> {
+fn done<T: AllocGlobal + Input + Print + Threads + Wait + Sync>(
+    rt: &T,
+    task: Task,
+) -> Result<Status, EngineFault>
+    requires { IsRunnable task }
+{
     let mut reader = Watched::new(rt.reader());
     let mut writer = Watched::new(io::writer(rt));
     engine(rt, rt.alloc(), task, &mut reader, &mut writer)

@@ -3,6 +3,7 @@
 ghost use Rattle.std.specs.Prelude.{◌≡◌, IfOk, IfErr, string_bytes};
 ghost use Rattle.plan_print.specs.Engine.{IsTaskFault};
 ghost use Rattle.plan_print.specs.Report.{IsReport};
+ghost use Rattle.task_words.specs.Task.{IsRunnable};
 
 use crate::answer::answer_of;
 use crate::lines::{check_fault_line, text_fault_line};
@@ -22,6 +23,7 @@ pub(crate) fn report_of<T: Threads + Wait + Sync>(
     task: Task,
     input: &[u8],
 ) -> Result<(String, Status), EngineFault>
+    requires { IsRunnable task }
     ensures report { IfOk result (λ r. IsReport task input.now (record { bytes = string_bytes r.0; status = r.1 })) }
     ensures fault { IfErr result IsTaskFault }
 {

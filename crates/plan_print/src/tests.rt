@@ -1,5 +1,5 @@
 //! Tests of what no clause says.
 
-mod devices;
 mod tables;
 mod texts;
+mod trickle;

@@ -1,2 +1,3 @@
 mod Parts
+mod Ends
 pub mod Commands

@@ -2,41 +2,52 @@
 use Rattle.std.specs.Prelude.{◌≡◌, ◌⊎◌, ℕ, List, [], ◌∷◌, codes}
 use Rattle.task_words.specs.Decimal.{IsNumber, number_in}
 use Rattle.task_words.specs.RingText.{IsRingText, ring_in}
+use Rattle.task_words.specs.Workers.{SaysWorkers}
 use Rattle.task_words.specs.declared.task.Task.{Task}
 use Rattle.task_words.specs.declared.task.Task.TheVariants.{Check, Table, Judge, Run, Plan}
 
--- the names of the commands that take a number of identifiers alone
+-- the names of the commands that take no ring
 abbrev pub IsPlainName : List ℕ → Type 0
 IsPlainName name = (name ≡ codes "check") ⊎ ((name ≡ codes "table") ⊎ (name ≡ codes "judge"))
 
--- the names of the commands that take a ring too
+-- the names of the commands that take a ring
 abbrev pub IsRingName : List ℕ → Type 0
 IsRingName name = (name ≡ codes "run") ⊎ (name ≡ codes "plan")
 
--- the three words `NAME --ids NUMBER`
-abbrev pub plain_words : List ℕ → List ℕ → List (List ℕ)
-plain_words name number = name ∷ codes "--ids" ∷ number ∷ []
+-- the names of the commands that workers do
+abbrev pub TakesWorkers : List ℕ → Type 0
+TakesWorkers name = (name ≡ codes "table") ⊎ ((name ≡ codes "judge") ⊎ (name ≡ codes "plan"))
 
--- the five words `NAME --ids NUMBER --ring RING`
-abbrev pub ring_words : List ℕ → List ℕ → List ℕ → List (List ℕ)
-ring_words name number ring = name ∷ codes "--ids" ∷ number ∷ codes "--ring" ∷ ring ∷ []
+-- the words may end the command of this name: there are none, or they say a number of workers and workers do it
+abbrev pub IsEndOf : List ℕ → List (List ℕ) → Type 0
+IsEndOf name end = (end ≡ []) ⊎ (TakesWorkers name × (workers : ℕ) × SaysWorkers end workers)
 
--- the words are the command of this name with this number of identifiers
-abbrev pub IsPlain : List ℕ → List (List ℕ) → ℕ → Type 0
-IsPlain name words ids = (number : List ℕ) × (words ≡ plain_words name number) × IsNumber number × (ids ≡ number_in number)
+-- the three words `NAME --ids NUMBER`, and the words that end them
+abbrev pub plain_words : List ℕ → List ℕ → List (List ℕ) → List (List ℕ)
+plain_words name number end = name ∷ codes "--ids" ∷ number ∷ end
 
--- the words are the command of this name with this number of identifiers and this text after `--ring`
-abbrev pub IsOnRing : List ℕ → List (List ℕ) → ℕ → List ℕ → Type 0
-IsOnRing name words ids ring =
-    (number : List ℕ) × (words ≡ ring_words name number ring) × IsNumber number × (ids ≡ number_in number)
+-- the five words `NAME --ids NUMBER --ring RING`, and the words that end them
+abbrev pub ring_words : List ℕ → List ℕ → List ℕ → List (List ℕ) → List (List ℕ)
+ring_words name number ring end = name ∷ codes "--ids" ∷ number ∷ codes "--ring" ∷ ring ∷ end
+
+-- the words are the command of this name with this number of identifiers, ended by these words
+abbrev pub IsPlain : List ℕ → List (List ℕ) → ℕ → List (List ℕ) → Type 0
+IsPlain name words ids end = (number : List ℕ) × (words ≡ plain_words name number end) × IsNumber number × (ids ≡ number_in number)
+
+-- the words are the command of this name with this number of identifiers and this text after `--ring`, ended by these words
+abbrev pub IsOnRing : List ℕ → List (List ℕ) → ℕ → List ℕ → List (List ℕ) → Type 0
+IsOnRing name words ids ring end =
+    (number : List ℕ) × (words ≡ ring_words name number ring end) × IsNumber number × (ids ≡ number_in number)
 
 -- the words are a command without a ring
 abbrev pub IsPlainCommand : List (List ℕ) → Type 0
-IsPlainCommand words = (name : List ℕ) × (ids : ℕ) × IsPlainName name × IsPlain name words ids
+IsPlainCommand words =
+    (name : List ℕ) × (ids : ℕ) × (end : List (List ℕ)) × IsPlainName name × IsPlain name words ids end × IsEndOf name end
 
 -- the words are a command with this text after `--ring`
 abbrev pub HasRing : List (List ℕ) → List ℕ → Type 0
-HasRing words ring = (name : List ℕ) × (ids : ℕ) × IsRingName name × IsOnRing name words ids ring
+HasRing words ring =
+    (name : List ℕ) × (ids : ℕ) × (end : List (List ℕ)) × IsRingName name × IsOnRing name words ids ring end × IsEndOf name end
 
 -- the words are a command on a ring, with a ring text or with another text in its place
 abbrev pub IsRingCommand : List (List ℕ) → Type 0
@@ -54,14 +65,15 @@ IsGoodCommand words = IsPlainCommand words ⊎ ((ring : List ℕ) × HasRing wor
 abbrev pub HasBadRing : List (List ℕ) → Type 0
 HasBadRing words = (ring : List ℕ) × HasRing words ring × ¬ IsRingText ring
 
--- the words are the command of this name with this number of identifiers, and these are the numbers of its ring text
-abbrev pub IsOnNumbers : List ℕ → List (List ℕ) → ℕ → List ℕ → Type 0
-IsOnNumbers name words ids ring = (text : List ℕ) × IsOnRing name words ids text × IsRingText text × (ring ≡ ring_in text)
+-- the words are the command of this name with this number of identifiers, ended by these words, and these are the numbers of its ring text
+abbrev pub IsOnNumbers : List ℕ → List (List ℕ) → ℕ → List ℕ → List (List ℕ) → Type 0
+IsOnNumbers name words ids ring end = (text : List ℕ) × IsOnRing name words ids text end × IsRingText text × (ring ≡ ring_in text)
 
 -- the task that the words ask for
 abbrev pub IsTaskOf : List (List ℕ) → Task → Type 0
-IsTaskOf words (Check ids) = IsPlain (codes "check") words ids
-IsTaskOf words (Table ids) = IsPlain (codes "table") words ids
-IsTaskOf words (Judge ids) = IsPlain (codes "judge") words ids
-IsTaskOf words (Run ids ring) = IsOnNumbers (codes "run") words ids ring.items
-IsTaskOf words (Plan ids ring) = IsOnNumbers (codes "plan") words ids ring.items
+IsTaskOf words (Check ids) = IsPlain (codes "check") words ids []
+IsTaskOf words (Table ids workers) = (end : List (List ℕ)) × IsPlain (codes "table") words ids end × SaysWorkers end workers
+IsTaskOf words (Judge ids workers) = (end : List (List ℕ)) × IsPlain (codes "judge") words ids end × SaysWorkers end workers
+IsTaskOf words (Run ids ring) = IsOnNumbers (codes "run") words ids ring.items []
+IsTaskOf words (Plan ids ring workers) =
+    (end : List (List ℕ)) × IsOnNumbers (codes "plan") words ids ring.items end × SaysWorkers end workers

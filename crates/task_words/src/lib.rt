@@ -2,6 +2,7 @@
 #![tactic(auto)]
 
 mod decimal;
+pub mod limits;
 pub mod ring_text;
 pub mod task;
 #[cfg(test)]

@@ -1,5 +1,9 @@
 //! The tasks that the program can be asked to do.
 
+ghost use Rattle.std.specs.Prelude.{◌↔◌, IsTrue};
+ghost use Rattle.task_words.specs.Workers.{IsWorkerCount};
+
+use crate::limits::MAX_WORKERS;
 use node_lang::LONGEST_TEXT;
 
 /// What the words of a command ask for.
@@ -14,12 +18,16 @@ pub enum Task {
     Table {
         /// How many identifiers there are.
         ids: u32,
+        /// How many workers do it, 1 to 64.
+        workers: u32,
     },
     /// Tells whether the channels of neighbours differ on every ring of identifiers below `ids`, by the
     /// program text of the input.
     Judge {
         /// How many identifiers there are.
         ids: u32,
+        /// How many workers do it, 1 to 64.
+        workers: u32,
     },
     /// Runs the program text of the input on a ring, for identifiers below `ids`.
     Run {
@@ -35,20 +43,45 @@ pub enum Task {
         ids: u32,
         /// The identifiers of the ring's places, from place 0 on.
         ring: Vec<u32>,
+        /// How many workers do it, 1 to 64.
+        workers: u32,
     },
 }
 
 impl Task {
-    ghost use Rattle.std.specs.Prelude.{◌≡◌};
-    ghost use Rattle.task_words.specs.Task.{ids_of, limit_of};
+    ghost use Rattle.std.specs.Prelude.{◌≡◌, ◌↔◌, IsTrue};
+    ghost use Rattle.task_words.specs.Task.{ids_of, limit_of, IsRunnable};
 
     /// How many identifiers there are.
     pub fn ids(&self) -> u32
         ensures { result ≡ ids_of self.now }
     {
         match self {
-            Task::Check { ids } | Task::Table { ids } | Task::Judge { ids } => *ids,
-            Task::Run { ids, ring: _ } | Task::Plan { ids, ring: _ } => *ids,
+            Task::Check { ids } => *ids,
+            Task::Table { ids, workers: _ } | Task::Judge { ids, workers: _ } => *ids,
+            Task::Run { ids, ring: _ } => *ids,
+            Task::Plan {
+                ids,
+                ring: _,
+                workers: _,
+            } => *ids,
+        }
+    }
+
+    /// Whether the task can be done: where it names a number of workers, that is 1 to 64.
+    pub fn is_runnable(&self) -> bool
+        ensures { IsTrue result ↔ IsRunnable self.now }
+    {
+        match self {
+            Task::Check { ids: _ } | Task::Run { ids: _, ring: _ } => true,
+            Task::Table { ids: _, workers } | Task::Judge { ids: _, workers } => {
+                is_worker_count(*workers)
+            }
+            Task::Plan {
+                ids: _,
+                ring: _,
+                workers,
+            } => is_worker_count(*workers),
         }
     }
 
@@ -58,4 +91,11 @@ impl Task {
     {
         LONGEST_TEXT
     }
+}
+
+// Whether a task may have so many workers.
+pub(crate) fn is_worker_count(workers: u32) -> bool
+    ensures { IsTrue result ↔ IsWorkerCount workers }
+{
+    1 <= workers && workers <= MAX_WORKERS
 }

@@ -70,8 +70,23 @@ fn commands_without_a_ring_are_tasks(rt: HostRuntime) {
     let rows = [
         ("check --ids 64", Task::Check { ids: 64 }),
         ("check --ids 0004294967295", Task::Check { ids: largest }),
-        ("table --ids 8", Task::Table { ids: 8 }),
-        ("judge --ids 008", Task::Judge { ids: 8 }),
+        ("table --ids 8", Task::Table { ids: 8, workers: 1 }),
+        (
+            "table --ids 8 --workers 1",
+            Task::Table { ids: 8, workers: 1 },
+        ),
+        (
+            "table --ids 8 --workers 64",
+            Task::Table {
+                ids: 8,
+                workers: 64,
+            },
+        ),
+        ("judge --ids 008", Task::Judge { ids: 8, workers: 1 }),
+        (
+            "judge --ids 8 --workers 02",
+            Task::Judge { ids: 8, workers: 2 },
+        ),
     ];
     for (line, task) in rows {
         assert_eq!(rt; asked(&rt, line), Ok(task));
@@ -87,10 +102,38 @@ fn commands_on_a_ring_are_tasks(rt: HostRuntime) -> Result<(), Fail> {
     let ids = 4_294_967_295;
     let task = Task::Run { ids, ring };
     assert_eq!(rt; asked(&rt, "run --ids 0004294967295 --ring 7")?, task);
-    let ring = [5, 1, 3, 7].to_vec(rt.alloc())?;
-    let task = Task::Plan { ids: 8, ring };
-    assert_eq!(rt; asked(&rt, "plan --ids 8 --ring 5,1,3,7")?, task);
+    let rows = [
+        ("plan --ids 8 --ring 5,1,3,7", 1),
+        ("plan --ids 8 --ring 5,1,3,7 --workers 1", 1),
+        ("plan --ids 8 --ring 5,1,3,7 --workers 64", 64),
+    ];
+    for (line, workers) in rows {
+        let ring = [5, 1, 3, 7].to_vec(rt.alloc())?;
+        let task = Task::Plan {
+            ids: 8,
+            ring,
+            workers,
+        };
+        assert_eq!(rt; asked(&rt, line)?, task);
+    }
     Ok(())
+}
+
+#[test]
+fn tasks_of_1_to_64_workers_can_be_done(rt: HostRuntime) {
+    for (workers, can) in [(0, false), (1, true), (64, true), (65, false)] {
+        let table = Task::Table { ids: 8, workers };
+        assert_eq!(rt; table.is_runnable(), can, "{workers} workers");
+        let judge = Task::Judge { ids: 8, workers };
+        assert_eq!(rt; judge.is_runnable(), can, "{workers} workers");
+        let plan = Task::Plan {
+            ids: 8,
+            ring: Vec::new(rt.alloc()),
+            workers,
+        };
+        assert_eq!(rt; plan.is_runnable(), can, "{workers} workers");
+    }
+    assert!(rt; Task::Check { ids: 8 }.is_runnable());
 }
 
 /// None of the lines, which are parted by bars, is a command.
@@ -138,18 +181,45 @@ fn words_near_the_other_commands_are_refused(rt: HostRuntime) {
         &rt,
         "check --ids 8 --ring 5,1,3,7|table|table --ids 8 --ring 5,1,3,7",
     );
+    are_no_commands(&rt, "judge --ids|judge --ids eight|audit");
+    are_no_commands(&rt, "plan --ids 8|plan --ring 5,1,3,7 --ids 8");
+}
+
+#[test]
+fn words_near_a_number_of_workers_are_refused(rt: HostRuntime) {
     are_no_commands(
         &rt,
-        "table --ids 8 --workers 1|judge --ids|judge --ids eight|audit",
+        "table --ids 8 --workers 0|table --ids 8 --workers 65|table --ids 8 --workers x",
     );
-    are_no_commands(&rt, "plan --ids 8|plan --ring 5,1,3,7 --ids 8");
+    are_no_commands(
+        &rt,
+        "table --ids 8 --workers|table --ids 8 --workers |table --ids 8 --workers +1",
+    );
+    are_no_commands(&rt, "table --ids 8 --workers 1 --workers 1");
+    are_no_commands(&rt, "table --ids 8 --workers 4294967297");
+    are_no_commands(&rt, "table --workers 1 --ids 8|table --ids 8 --worker 1");
+    are_no_commands(&rt, "judge --ids 8 --workers 0|judge --ids 8 --workers 65");
+    are_no_commands(&rt, "check --ids 8 --workers 1");
+    are_no_commands(&rt, "run --ids 8 --ring 5,1,3,7 --workers 1");
+    are_no_commands(&rt, "run --ids 8 --workers 1");
+    are_no_commands(
+        &rt,
+        "plan --ids 8 --ring 5,1,3,7 --workers 0|plan --ids 8 --ring 5,1,3,7 --workers 65",
+    );
+    are_no_commands(
+        &rt,
+        "plan --ids 8 --workers 1 --ring 5,1,3,7|plan --ids 8 --ring 5,,1 --workers 0",
+    );
 }
 
 #[test]
 fn words_with_a_bad_ring_are_told(rt: HostRuntime) {
     let lines =
         "run --ids 8 --ring 5,,1|run --ids 8 --ring --ids|run --ids 8 --ring |plan --ids 8 --ring 5,,1";
-    for line in lines.split('|') {
+    for line in lines
+        .split('|')
+        .chain("plan --ids 8 --ring 5,,1 --workers 2".split('|'))
+    {
         assert_eq!(rt; asked(&rt, line), Err(WordsFault::BadRing), "at {line}");
     }
 }

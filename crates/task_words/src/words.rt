@@ -1,18 +1,24 @@
 //! The words of the command line.
 
-ghost use Rattle.std.specs.Prelude.{◌≡◌, ◌↔◌, ℕ, List, map, codes, IsOk, IsErrOf, IfOk, IfSome, IfNone, string_bytes};
+ghost use Rattle.std.specs.Prelude.{◌≡◌, ◌↔◌, ℕ, [], ◌∷◌, List, map, codes, IsOk, IsErrOf, IfOk, IfSome, IfNone, string_bytes};
+ghost use Rattle.task_words.specs.Decimal.{IsNumber, number_in};
+ghost use Rattle.task_words.specs.Workers.{IsWorkerCount, SaysWorkers};
+ghost use Rattle.task_words.specs.Task.{IsRunnable};
 ghost use Rattle.task_words.specs.Words.{plain_words, ring_words, IsPlain, IsOnNumbers, IsCommand, IsRingCommand, IsGoodCommand, HasBadRing, IsTaskOf};
-ghost use Rattle.task_words.specs.CommandWords.{plain_name, ring_name, command_words};
+ghost use Rattle.task_words.specs.CommandWords.{plain_name, ring_name, plain_ends, ring_ends, command_words};
 ghost use Rattle.task_words.specs.WordsFault.{MemoryAside};
 ghost use Rattle.task_words.specs.declared.words.WordsFault.TheVariants.{OutOfMemory};
 
 use crate::decimal::number_of;
 use crate::ring_text::ring_of;
-use crate::task::Task;
+use crate::task::{Task, is_worker_count};
 use std::alloc::{AllocError, AllocFailed, Global};
 use std::io;
 use std::io::ErrorKind;
 use thiserror::Error;
+
+/// How many workers a command has that workers do, where its words don't say it.
+const DEFAULT_WORKERS: u32 = 1;
 
 /// Why words are refused.
 #[derive(Clone, Copy, Debug, PartialEq, Eq, Error)]
@@ -74,14 +80,16 @@ impl From<io::Error> for WordsFault {
 }
 
 /// The task that the words ask for. They are the words after the program's name, and a command is
-/// `NAME --ids M` for the names `check`, `table` and `judge`, or `NAME --ids M --ring A,B,..` for the names
-/// `run` and `plan`, in this order: `M` is a decimal number up to 4294967295, leading zeros allowed, and
-/// what stands after `--ring` is a ring text. `Usage` comes where the words are no command, `BadRing` where
-/// they are one but for the ring text. `OutOfMemory` comes where memory was refused, and only at a command
-/// with a ring.
-#[tactic(auto, using(crate::proofs::Commands::no_number, crate::proofs::Commands::no_number_on_ring, crate::proofs::Commands::plain_command, crate::proofs::Commands::ring_command, crate::proofs::Commands::good_on_ring, crate::proofs::Commands::not_bad_on_ring, crate::proofs::Commands::not_good_on_ring))]
+/// `check --ids M`, `table --ids M`, `judge --ids M`, `run --ids M --ring A,B,..` or `plan --ids M --ring A,B,..`,
+/// in this order, where `--workers W` may end each of `table`, `judge` and `plan`: `M` is a decimal number
+/// up to 4294967295 and `W` one from 1 to 64, leading zeros allowed, and what stands after `--ring` is a
+/// ring text. There is one worker where the words don't say how many. `Usage` comes where the words are no
+/// command, `BadRing` where they are one but for the ring text. `OutOfMemory` comes where memory was
+/// refused, and only at a command with a ring.
+#[tactic(auto, using(crate::proofs::Commands::no_number, crate::proofs::Commands::no_number_on_ring, crate::proofs::Commands::not_bad_on_ring, crate::proofs::Commands::not_good_on_ring))]
 pub fn task_of(alloc: Global, words: &[String]) -> Result<Task, WordsFault>
     ensures task { IfOk result (IsTaskOf (map string_bytes words.now)) }
+    ensures runnable { IfOk result IsRunnable }
     ensures ok { MemoryAside result (IsOk result ↔ IsGoodCommand (map string_bytes words.now)) }
     ensures usage { IsErrOf result WordsFault.Usage ↔ (¬ (IsCommand (map string_bytes words.now))) }
     ensures bad_ring { MemoryAside result
@@ -89,33 +97,48 @@ pub fn task_of(alloc: Global, words: &[String]) -> Result<Task, WordsFault>
     ensures memory { IsErrOf result WordsFault.OutOfMemory → IsRingCommand (map string_bytes words.now) }
 {
     match command_in(words) {
-        Some(Command::Plain { name, number }) => {
+        Some(Command::Plain { name, number, end }) => {
             let ids = number_of(number).ok_or(WordsFault::Usage)?;
-            Ok(plain_task(name, ids))
+            let Some(workers) = plain_workers(name, end) else {
+                return Err(WordsFault::Usage);
+            };
+            Ok(plain_task(name, ids, workers))
         }
-        Some(Command::OnRing { name, number, ring }) => {
+        Some(
+            Command::OnRing {
+                name,
+                number,
+                ring,
+                end,
+            },
+        ) => {
             let ids = number_of(number).ok_or(WordsFault::Usage)?;
+            let Some(workers) = ring_workers(name, end) else {
+                return Err(WordsFault::Usage);
+            };
             let ring = ring_of(alloc, ring)?;
-            Ok(ring_task(name, ids, ring))
+            Ok(ring_task(name, ids, ring, workers))
         }
         None => Err(WordsFault::Usage),
     }
 }
 
-/// The words of a command, before their texts are looked at.
+/// The words of a command, before their texts and the words that end it are looked at.
 enum Command<'a> {
     Plain {
         name: PlainName,
         number: &'a str,
+        end: &'a [String],
     },
     OnRing {
         name: RingName,
         number: &'a str,
         ring: &'a str,
+        end: &'a [String],
     },
 }
 
-/// The commands that take a number of identifiers alone.
+/// The commands that take no ring.
 #[derive(Clone, Copy)]
 enum PlainName {
     Check,
@@ -123,64 +146,147 @@ enum PlainName {
     Judge,
 }
 
-/// The commands that take a ring too.
+/// The commands that take a ring.
 #[derive(Clone, Copy)]
 enum RingName {
     Run,
     Plan,
 }
 
-// The task of a command that takes a number of identifiers alone.
-fn plain_task(name: PlainName, ids: u32) -> Task
-    ensures { (words : List (List ℕ)) → IsPlain (plain_name name) words ids → IsTaskOf words result }
+// The task of a command that takes no ring.
+fn plain_task(name: PlainName, ids: u32, workers: u32) -> Task
+    ensures task { (words end : List (List ℕ)) → IsPlain (plain_name name) words ids end
+        → plain_ends name end workers → IsTaskOf words result }
+    ensures runnable { (end : List (List ℕ)) → plain_ends name end workers → IsRunnable result }
 {
     match name {
         PlainName::Check => Task::Check { ids },
-        PlainName::Table => Task::Table { ids },
-        PlainName::Judge => Task::Judge { ids },
+        PlainName::Table => Task::Table { ids, workers },
+        PlainName::Judge => Task::Judge { ids, workers },
     }
 }
 
-// The task of a command that takes a ring too.
-fn ring_task(name: RingName, ids: u32, ring: Vec<u32>) -> Task
-    ensures { (words : List (List ℕ)) → IsOnNumbers (ring_name name) words ids ring.items → IsTaskOf words result }
+// The task of a command that takes a ring.
+fn ring_task(name: RingName, ids: u32, ring: Vec<u32>, workers: u32) -> Task
+    ensures task { (words end : List (List ℕ)) → IsOnNumbers (ring_name name) words ids ring.items end
+        → ring_ends name end workers → IsTaskOf words result }
+    ensures runnable { (end : List (List ℕ)) → ring_ends name end workers → IsRunnable result }
 {
     match name {
         RingName::Run => Task::Run { ids, ring },
-        RingName::Plan => Task::Plan { ids, ring },
+        RingName::Plan => Task::Plan { ids, ring, workers },
     }
 }
 
-/// The command that the words are by their number and their fixed words.
+/// The command that the words are by their fixed words.
 fn command_in(words: &[String]) -> Option<Command<'_>>
     ensures command { IfSome result (λ c. map string_bytes words.now ≡ command_words c) }
-    ensures no_check { IfNone result ((number : List ℕ) → ¬ map string_bytes words.now ≡ plain_words (codes "check") number) }
-    ensures no_table { IfNone result ((number : List ℕ) → ¬ map string_bytes words.now ≡ plain_words (codes "table") number) }
-    ensures no_judge { IfNone result ((number : List ℕ) → ¬ map string_bytes words.now ≡ plain_words (codes "judge") number) }
-    ensures no_run { IfNone result ((number ring : List ℕ) → ¬ map string_bytes words.now ≡ ring_words (codes "run") number ring) }
-    ensures no_plan { IfNone result ((number ring : List ℕ) → ¬ map string_bytes words.now ≡ ring_words (codes "plan") number ring) }
+    ensures no_check { IfNone result ((number : List ℕ) (end : List (List ℕ)) → ¬ map string_bytes words.now ≡ plain_words (codes "check") number end) }
+    ensures no_table { IfNone result ((number : List ℕ) (end : List (List ℕ)) → ¬ map string_bytes words.now ≡ plain_words (codes "table") number end) }
+    ensures no_judge { IfNone result ((number : List ℕ) (end : List (List ℕ)) → ¬ map string_bytes words.now ≡ plain_words (codes "judge") number end) }
+    ensures no_run { IfNone result ((number ring : List ℕ) (end : List (List ℕ)) → ¬ map string_bytes words.now ≡ ring_words (codes "run") number ring end) }
+    ensures no_plan { IfNone result ((number ring : List ℕ) (end : List (List ℕ)) → ¬ map string_bytes words.now ≡ ring_words (codes "plan") number ring end) }
+{
+    let [name, ids_option, number, end @ ..] = words else {
+        return None;
+    };
+    let number = number.as_str();
+    match (name.as_str(), ids_option.as_str()) {
+        ("check", "--ids") => Some(Command::Plain {
+            name: PlainName::Check,
+            number,
+            end,
+        }),
+        ("table", "--ids") => Some(Command::Plain {
+            name: PlainName::Table,
+            number,
+            end,
+        }),
+        ("judge", "--ids") => Some(Command::Plain {
+            name: PlainName::Judge,
+            number,
+            end,
+        }),
+        ("run", "--ids") => on_ring(RingName::Run, number, end),
+        ("plan", "--ids") => on_ring(RingName::Plan, number, end),
+        _ => None,
+    }
+}
+
+// The command on a ring of this name and this number of identifiers, by the words after them.
+fn on_ring<'a>(name: RingName, number: &'a str, words: &'a [String]) -> Option<Command<'a>>
+    ensures command { IfSome result (λ c. (ring_name name ∷ codes "--ids" ∷ number.now ∷ map string_bytes words.now) ≡ command_words c) }
+    ensures none { IfNone result ((ring : List ℕ) (end : List (List ℕ)) → ¬ map string_bytes words.now ≡ codes "--ring" ∷ ring ∷ end) }
 {
     match words {
-        [name, ids_option, number] => {
-            let number = number.as_str();
-            let name = match (name.as_str(), ids_option.as_str()) {
-                ("check", "--ids") => PlainName::Check,
-                ("table", "--ids") => PlainName::Table,
-                ("judge", "--ids") => PlainName::Judge,
-                _ => return None,
-            };
-            Some(Command::Plain { name, number })
-        }
-        [name, ids_option, number, ring_option, ring] => {
-            let number = number.as_str();
+        [ring_option, ring, end @ ..] if ring_option.as_str() == "--ring" => {
             let ring = ring.as_str();
-            let name = match (name.as_str(), ids_option.as_str(), ring_option.as_str()) {
-                ("run", "--ids", "--ring") => RingName::Run,
-                ("plan", "--ids", "--ring") => RingName::Plan,
-                _ => return None,
-            };
-            Some(Command::OnRing { name, number, ring })
+            Some(Command::OnRing {
+                name,
+                number,
+                ring,
+                end,
+            })
         }
         _ => None,
+    }
+}
+
+// How many workers a command without a ring has by the words that end it; None where they can't end it.
+fn plain_workers(name: PlainName, end: &[String]) -> Option<u32>
+    ensures some { IfSome result (plain_ends name (map string_bytes end.now)) }
+    ensures none { IfNone result ((workers : ℕ) → ¬ plain_ends name (map string_bytes end.now) workers) }
+{
+    match name {
+        PlainName::Check => no_workers(end),
+        PlainName::Table | PlainName::Judge => workers_in(end),
+    }
+}
+
+// How many workers a command with a ring has by the words that end it; None where they can't end it.
+fn ring_workers(name: RingName, end: &[String]) -> Option<u32>
+    ensures some { IfSome result (ring_ends name (map string_bytes end.now)) }
+    ensures none { IfNone result ((workers : ℕ) → ¬ ring_ends name (map string_bytes end.now) workers) }
+{
+    match name {
+        RingName::Run => no_workers(end),
+        RingName::Plan => workers_in(end),
+    }
+}
+
+// One worker, where there are no words.
+fn no_workers(end: &[String]) -> Option<u32>
+    ensures some { IfSome result (λ _. map string_bytes end.now ≡ []) }
+    ensures none { IfNone result (¬ map string_bytes end.now ≡ []) }
+{
+    if end.is_empty() {
+        Some(DEFAULT_WORKERS)
+    } else {
+        None
+    }
+}
+
+// How many workers the words say; None where they don't say it.
+fn workers_in(end: &[String]) -> Option<u32>
+    ensures some { IfSome result (SaysWorkers (map string_bytes end.now)) }
+    ensures none { IfNone result ((workers : ℕ) → ¬ SaysWorkers (map string_bytes end.now) workers) }
+{
+    match end {
+        [] => Some(DEFAULT_WORKERS),
+        [option, number] if option.as_str() == "--workers" => worker_count(number.as_str()),
+        _ => None,
+    }
+}
+
+// The number of workers that a text says.
+fn worker_count(text: &str) -> Option<u32>
+    ensures some { IfSome result (λ workers. IsNumber text.now × (workers ≡ number_in text.now) × IsWorkerCount workers) }
+    ensures none { IfNone result (IsNumber text.now → ¬ IsWorkerCount (number_in text.now)) }
+{
+    let workers = number_of(text)?;
+    if is_worker_count(workers) {
+        Some(workers)
+    } else {
+        None
     }
 }

@@ -1,7 +1,7 @@
 //! The text of a table, over memory and over a device that fails.
 
 use crate::table_text::write_table;
-use crate::tests::devices::Trickle;
+use crate::tests::trickle::Trickle;
 use devices::fault::OutFault;
 use devices::watched::Watched;
 use lang_check::accept;

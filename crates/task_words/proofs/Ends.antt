@@ -1,0 +1,25 @@
+-- Lemmas on lists of words that are taken apart at their front, and on the words that say how many workers there are.
+use Rattle.std.proofs.Common.{◌≡◌, ℕ, ◌-◌, ◌<◌, ◌≤◌, List, [], ◌∷◌, length, get_or, take, drop, Option, Some, None, IfSome, sym, arith}
+use Rattle.std.proofs.lemmas.List.{take_rest}
+use Rattle.task_words.specs.Decimal.{IsNumber, number_in}
+use Rattle.task_words.specs.Workers.{IsWorkerCount, workers_words, SaysWorkers, said}
+
+-- two items, and what is left after them
+pub after_two : {A : Type 0} (ws : List A) (a b : A) → 2 ≤ length ws → a ≡ get_or ws 0 a → b ≡ get_or ws 1 b
+    → ws ≡ a ∷ b ∷ take (length ws - 2) (drop 2 ws)
+after_two [] a b two first second = absurd (omega arith)
+after_two (x ∷ []) a b two first second = absurd (omega arith)
+after_two (x ∷ y ∷ ws) a b two first second = λ i. sym first i ∷ sym second i ∷ sym (take_rest (x ∷ y ∷ ws) 2) i
+
+-- two items, and nothing after them
+pub two_alone : {A : Type 0} (ws : List A) (a b : A) → 2 ≤ length ws → length ws < 3 → a ≡ get_or ws 0 a → b ≡ get_or ws 1 b → ws ≡ a ∷ b ∷ []
+two_alone [] a b two few first second = absurd (omega arith)
+two_alone (x ∷ []) a b two few first second = absurd (omega arith)
+two_alone (x ∷ y ∷ []) a b two few first second = λ i. sym first i ∷ sym second i ∷ []
+two_alone (x ∷ y ∷ z ∷ ws) a b two few first second = absurd (omega arith)
+
+-- the number after `--workers` is said
+pub named : (words : List (List ℕ)) (number : List ℕ) (r : Option ℕ) → words ≡ workers_words number
+    → IfSome r (λ workers. IsNumber number × (workers ≡ number_in number) × IsWorkerCount workers) → IfSome r (SaysWorkers words)
+named words number None are told = tt
+named words number (Some workers) are (numeral, value, count) = said number are numeral value count
