@@ -1,5 +1,5 @@
 -- The jobs of a plan: one for each block of each of its levels.
-use Rattle.std.specs.Prelude.{◌≡◌, ℕ, ◌<◌, ◌≤◌, Option, length}
+use Rattle.std.specs.Prelude.{◌≡◌, ℕ, ◌+◌, ◌<◌, ◌≤◌, List, Option, Some, length, slice_index}
 use Rattle.win_index.specs.Blocks.{block_count}
 use Rattle.win_index.specs.Jobs.{jobs_of, job_number}
 use Rattle.lang_check.specs.Plans.{ProgramForIds}
@@ -20,3 +20,9 @@ IsKey plan level number = (level ≤ length plan.program.steps) × (number < blo
 -- a block of this plan, level and number
 abbrev pub IsKeyedBlock : ProgramForIds → ℕ → ℕ → MadeBlock → Type 0
 IsKeyedBlock plan level number b = (b.plan ≡ plan) × (b.level ≡ level) × (b.number ≡ number)
+
+-- for each level of the plan the number of the job of its first block, after which the others of the level follow
+abbrev pub AreFirstJobs : ProgramForIds → List ℕ → Type 0
+AreFirstJobs plan firsts =
+    (length firsts ≡ length plan.program.steps + 1)
+    × ((level number : ℕ) → IsKey plan level number → job_of plan level number ≡ Some (slice_index firsts level + number))

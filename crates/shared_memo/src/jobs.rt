@@ -1,31 +1,27 @@
-// The number of the job for a block of a plan.
-ghost use Rattle.std.specs.Prelude.{◌≡◌, ◌≢◌, ◌<◌, Some, MatchOption};
-ghost use Rattle.shared_memo.specs.PlanJobs.{job_count, job_of, IsKey};
+// Where the jobs of a plan's levels begin.
+ghost use Rattle.std.specs.Prelude.{IfOk};
+ghost use Rattle.win_index.specs.declared.limits.TheConstants.{MAX_BLOCKS};
+ghost use Rattle.shared_memo.specs.PlanJobs.{AreFirstJobs};
 
 use lang_check::Plan;
-use unroll::Block;
+use node_lang::OutOfMemory;
+use std::alloc::Global;
 use win_index::jobs_have_numbers;
 
-// The number of the job for a level and a number of the plan.
-pub(crate) fn job_at(plan: &Plan, level: u32, number: u32) -> usize
-    requires { IsKey plan.now level number }
-    ensures at { job_of plan.now level number ≡ Some result }
-    ensures below { result < job_count plan.now }
+// For each level of a plan the number of the job of its first block. The jobs of a level follow one another, so each
+// job of the level is found from there.
+pub(crate) fn first_jobs(alloc: Global, plan: &Plan) -> Result<Vec<u32>, OutOfMemory>
+    ensures { IfOk result (λ v. AreFirstJobs plan.now v.items) }
 {
     jobs_have_numbers();
-    match plan.shape().job_number(level, number) {
-        Some(job) => job as usize,
-        None => unreachable!(),
+    let shape = plan.shape();
+    let mut numbers = Vec::new(alloc);
+    let mut first = 0u32;
+    for level in 0..shape.rounds() + 1 {
+        if numbers.push(first).is_err() {
+            return Err(OutOfMemory);
+        }
+        first += shape.blocks(level);
     }
-}
-
-// The number of a block's job, or `None` where the block names another plan.
-pub(crate) fn job_of_block(plan: &Plan, block: &Block<'_>) -> Option<usize>
-    ensures { MatchOption result (block.now.plan ≢ plan.now) (λ at. (block.now.plan ≡ plan.now)
-        × (job_of plan.now block.now.level block.now.number ≡ Some at) × (at < job_count plan.now)) }
-{
-    if !block.plan().same(plan) {
-        return None;
-    }
-    Some(job_at(plan, block.level(), block.number()))
+    Ok(numbers)
 }
