@@ -1,2 +1,6 @@
 -- Lemmas that several proofs share.
 pub mod Programs
+pub mod FillViews
+pub mod KnownSources
+pub mod FillKeeps
+pub mod OneRuns

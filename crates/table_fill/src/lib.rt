@@ -2,6 +2,7 @@
 #![tactic(auto)]
 
 mod fault;
+pub mod fill_core;
 mod filling;
 mod laws;
 mod maker;
