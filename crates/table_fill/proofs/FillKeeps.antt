@@ -52,53 +52,65 @@ record Keeps (s : Machine) (w : ℕ) (v : Worker) (cells : List (Option MadeBloc
 
 keeps : (s : Machine) (w : ℕ) (v : Worker) (cells : List (Option MadeBlock)) (next : ℕ) → IsConsistent s → Keeps s w v cells next → Follows s (replaced s w v cells next)
 keeps s w v cells next h k =
-    let l : List Worker = s.workers in
-    let t : Machine = replaced s w v cells next in
-    let n : ℕ = job_count s.plan in
-    let count : length (set l w v) ≡ length l = length-set l w v in
-    let each : (P : ℕ → Worker → Type 0) → P w v → ((u : ℕ) → P u (worker s u)) → (u : ℕ) → P u (worker t u) = λ P own others. each_worker P l w v k.inside own others in
     record {
       plan = refl;
       workers = count;
       consistent = record {
         cells = k.holds;
         some_worker = omega (arith, count, h.some_worker);
-        marks = λ u lt. each (λ u x. u < length l → length x.knows ≡ n) (λ _. k.marks) h.marks u (omega (arith, count, lt));
+        marks = λ u lt. each (λ u x. u < length s.workers → length x.knows ≡ n) (λ _. k.marks) h.marks u (omega (arith, count, lt));
         known = each (λ u x. MarkedAreFull cells x.knows) k.known (λ u job e. k.grows job (h.known u job e));
         few = k.few;
-        placed = λ job lt.
-            let placed : Type 0 = is_full cells job ⊎ ((u : ℕ) × ((worker t u).hand ≡ Some job)) in
-            let held : (u : ℕ) → worker t u ≡ worker t u → (worker s u).hand ≡ Some job → placed =
-            each (λ u x. x ≡ worker t u → (worker s u).hand ≡ Some job → placed)
-            (λ is old.
-            ⊎_elim (λ (still : v.hand ≡ Some job). inr (w, ap (λ (x : Worker). x.hand) (sym is) ∙ still)) (λ (full : is_full cells job). inl full)
-            (k.dropped job old))
-            (λ u is old. inr (u, ap (λ (x : Worker). x.hand) (sym is) ∙ old)) in
-            ⊎_elim
-            (λ (before : job < s.next).
-            ⊎_elim (λ (full : is_full s.cells job). inl (k.grows job full))
-            (λ (old : (u : ℕ) × ((worker s u).hand ≡ Some job)). held old.0 refl old.1)
-            (h.placed job before))
-            (λ (now : v.hand ≡ Some job). inr (w, ap (λ (x : Worker). x.hand) (get_or-set_same l w v nobody k.inside) ∙ now))
-            (k.new_job job lt);
+        placed = λ job lt. placed job (k.new_job job lt);
         one_hand = λ u y job.
-            let theirs : (z : ℕ) → v.hand ≡ Some job → (worker s z).hand ≡ Some job → w ≡ z = λ z mine its.
-            ⊎_elim (λ (old : (worker s w).hand ≡ Some job). h.one_hand w z job old its)
-            (λ (fresh : (job ≡ s.next) × (s.next < next)). absurd (omega (arith, fresh.0, h.below z job its)))
-            (k.hand job mine) in
             each (λ u x. x.hand ≡ Some job → (worker t y).hand ≡ Some job → u ≡ y)
-            (λ mine. each (λ z x. x.hand ≡ Some job → w ≡ z) (λ _. refl) (λ z. theirs z mine) y)
-            (λ u its. each (λ z x. x.hand ≡ Some job → u ≡ z) (λ mine. sym (theirs u mine its)) (λ z other. h.one_hand u z job its other) y) u;
-        below = each (λ u x. (job : ℕ) → x.hand ≡ Some job → job < next)
-            (λ job mine.
-            ⊎_elim (λ (old : (worker s w).hand ≡ Some job). omega (arith, h.below w job old, k.onward))
-            (λ (fresh : (job ≡ s.next) × (s.next < next)). omega (arith, fresh.0, fresh.1))
-            (k.hand job mine))
-            (λ u job its. omega (arith, h.below u job its, k.onward));
-        ended = λ u lt. each (λ u x. u < length l → x.stopped ≡ true → (n ≤ next) × (x.hand ≡ None)) (λ _. k.ended)
+            (λ mine. each (λ z x. x.hand ≡ Some job → w ≡ z) (λ _. refl) (λ z its. sole z job its (k.hand job mine)) y)
+            (λ u its. each (λ z x. x.hand ≡ Some job → u ≡ z) (λ mine. sym (sole u job its (k.hand job mine))) (λ z other. h.one_hand u z job its other) y) u;
+        below = each (λ u x. (job : ℕ) → x.hand ≡ Some job → job < next) (λ job mine. below job (k.hand job mine)) (λ u job its. omega (arith, h.below u job its, k.onward));
+        ended = λ u lt.
+            each (λ u x. u < length s.workers → x.stopped ≡ true → (n ≤ next) × (x.hand ≡ None)) (λ _. k.ended)
             (λ u lt e. let end = h.ended u lt e in (omega (arith, end.0, k.onward), end.1)) u (omega (arith, count, lt));
       };
     }
+  where
+    t : Machine
+    t = replaced s w v cells next
+
+    n : ℕ
+    n = job_count s.plan
+
+    count : length (set s.workers w v) ≡ length s.workers
+    count = length-set s.workers w v
+
+    each : (P : ℕ → Worker → Type 0) → P w v → ((u : ℕ) → P u (worker s u)) → (u : ℕ) → P u (worker t u)
+    each P own others = each_worker P s.workers w v k.inside own others
+
+    IsPlaced : ℕ → Type 0
+    IsPlaced job = is_full cells job ⊎ ((u : ℕ) × ((worker t u).hand ≡ Some job))
+
+    kept : (job : ℕ) → worker t w ≡ v → (v.hand ≡ Some job) ⊎ is_full cells job → IsPlaced job
+    kept job is (inl still) = inr (w, ap (λ (x : Worker). x.hand) is ∙ still)
+    kept job is (inr full) = inl full
+
+    held : (job u : ℕ) → worker t u ≡ worker t u → (worker s u).hand ≡ Some job → IsPlaced job
+    held job = each (λ u x. worker t u ≡ x → (worker s u).hand ≡ Some job → IsPlaced job) (λ is old. kept job is (k.dropped job old))
+        (λ u is old. inr (u, ap (λ (x : Worker). x.hand) is ∙ old))
+
+    stays : (job : ℕ) → is_full s.cells job ⊎ ((u : ℕ) × ((worker s u).hand ≡ Some job)) → IsPlaced job
+    stays job (inl full) = inl (k.grows job full)
+    stays job (inr old) = held job old.0 refl old.1
+
+    placed : (job : ℕ) → (job < s.next) ⊎ (v.hand ≡ Some job) → IsPlaced job
+    placed job (inl before) = stays job (h.placed job before)
+    placed job (inr now) = kept job (get_or-set_same s.workers w v nobody k.inside) (inl now)
+
+    sole : (z job : ℕ) → (worker s z).hand ≡ Some job → ((worker s w).hand ≡ Some job) ⊎ ((job ≡ s.next) × (s.next < next)) → w ≡ z
+    sole z job its (inl old) = h.one_hand w z job old its
+    sole z job its (inr fresh) = absurd (omega (arith, fresh.0, h.below z job its))
+
+    below : (job : ℕ) → ((worker s w).hand ≡ Some job) ⊎ ((job ≡ s.next) × (s.next < next)) → job < next
+    below job (inl old) = omega (arith, h.below w job old, k.onward)
+    below job (inr fresh) = omega (arith, fresh.0, fresh.1)
 
 follows_drawn : (s : Machine) (w : ℕ) → IsConsistent s → CanDraw s w → s.next < job_count s.plan → Follows s (drawn s w)
 follows_drawn s w h can more =
@@ -214,23 +226,14 @@ unchanged : (s : Machine) → IsConsistent s → Follows s s
 unchanged s h = record { plan = refl; workers = refl; consistent = h }
 
 step_follows : (e : FillEvent) (s t : Machine) (law : JobsStandAtNumbers) → IsConsistent s → Steps s e t → Follows s t
-step_follows (Draw w) s t law h step =
-    ⊎_elim (λ (one : CanDraw s w × (s.next < job_count s.plan) × (t ≡ drawn s w)). along s (drawn s w) t (follows_drawn s w h one.0 one.1) one.2)
-    (λ (rest : (CanDraw s w × (job_count s.plan ≤ s.next) × (t ≡ stopped s w)) ⊎ ((¬ CanDraw s w) × (t ≡ s))).
-    ⊎_elim (λ (one : CanDraw s w × (job_count s.plan ≤ s.next) × (t ≡ stopped s w)). along s (stopped s w) t (follows_stopped s w h one.0 one.1) one.2)
-    (λ (none : (¬ CanDraw s w) × (t ≡ s)). along s s t (unchanged s h) none.1) rest)
-    step
-step_follows (Look w level number) s t law h step =
-    ⊎_elim
-    (λ (one : (job : ℕ) × CanLook s w level number job × (t ≡ looked s w job)). along s (looked s w one.0) t (follows_looked s w level number one.0 h one.1) one.2)
-    (λ (none : ((job : ℕ) → ¬ CanLook s w level number job) × (t ≡ s)). along s s t (unchanged s h) none.1)
-    step
-step_follows (Install w level number) s t law h step =
-    ⊎_elim
-    (λ (one : (job : ℕ) × CanInstall s w level number job × (t ≡ installed s w level number job)).
-    along s (installed s w level number one.0) t (follows_installed s w level number one.0 law h one.1) one.2)
-    (λ (none : ((job : ℕ) → ¬ CanInstall s w level number job) × (t ≡ s)). along s s t (unchanged s h) none.1)
-    step
+step_follows (Draw w) s t law h (inl one) = along s (drawn s w) t (follows_drawn s w h one.0 one.1) one.2
+step_follows (Draw w) s t law h (inr (inl one)) = along s (stopped s w) t (follows_stopped s w h one.0 one.1) one.2
+step_follows (Draw w) s t law h (inr (inr none)) = along s s t (unchanged s h) none.1
+step_follows (Look w level number) s t law h (inl one) = along s (looked s w one.0) t (follows_looked s w level number one.0 h one.1) one.2
+step_follows (Look w level number) s t law h (inr none) = along s s t (unchanged s h) none.1
+step_follows (Install w level number) s t law h (inl one) =
+    along s (installed s w level number one.0) t (follows_installed s w level number one.0 law h one.1) one.2
+step_follows (Install w level number) s t law h (inr none) = along s s t (unchanged s h) none.1
 
 runs_follow : (es : List FillEvent) (s t : Machine) (law : JobsStandAtNumbers) → IsConsistent s → Runs s es t → Follows s t
 runs_follow [] s t law h run = along s s t (unchanged s h) run

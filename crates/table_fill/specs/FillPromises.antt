@@ -15,9 +15,11 @@ pub record HoldsJobs (plan : ProgramForIds) (cells : List (Option MadeBlock)) : 
 abbrev pub MarkedAreFull : List (Option MadeBlock) → List Bool → Type 0
 MarkedAreFull cells marks = (job : ℕ) → slice_index_or marks job false ≡ true → IsSome (slice_index_or cells job None)
 
+-- how the cells, the next job and the workers fit together
 pub record IsConsistent (s : Machine) : Type 0 where
   -- each full cell holds the block of its job
   pub cells : HoldsJobs s.plan s.cells
+  -- there is a worker
   pub some_worker : 0 < length s.workers
   -- each worker tells of each job whether its block is known; what is known is there
   pub marks : (w : ℕ) → w < length s.workers → length (worker s w).knows ≡ job_count s.plan

@@ -70,8 +70,8 @@ impl<'a> FillWorld<'a> {
     ghost use Rattle.shared_memo.specs.PlanJobs.{IsKeyedBlock};
     ghost use Rattle.table_fill.specs.FillMachine.{worker as worker_of, cell_at, knows_at};
 
-    /// The block in the cell of a level and a number: one of the plan, of this level and number. `None` where the
-    /// cell is empty or there is no such block.
+    /// The block in the cell of a level and a number. It is the plan's block of this level and number, so it holds
+    /// the states of that block's windows. `None` where the cell is empty or there is no such block.
     pub fn cell(&self, level: u32, number: u32) -> Option<&Block<'a>>
         ensures value { MatchOption result (cell_at self.now level number ≡ None) (λ b. cell_at self.now level number ≡ Some b.now) }
         ensures block { IfSome result (λ b. IsKeyedBlock self.now.plan level number b.now) }
@@ -91,7 +91,7 @@ impl<'a> FillWorld<'a> {
         self.world.next
     }
 
-    /// The job that a worker has in hand.
+    /// The job that a worker has in hand, below the next job to be drawn.
     pub fn hand(&self, worker: u32) -> Option<u32>
         ensures { result ≡ (worker_of self.now worker).hand }
     {
