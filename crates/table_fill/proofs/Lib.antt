@@ -1,3 +1,7 @@
 -- Lemmas that several proofs share.
 pub mod Programs
 pub mod BelowBlocks
+pub mod FillViews
+pub mod KnownSources
+pub mod FillKeeps
+pub mod OneRuns

@@ -6,3 +6,8 @@ pub mod Workers
 pub mod Filled
 pub mod MissingBlocks
 pub mod Laws
+-- The fill machine, what it promises, and what private contracts say of the code's fields and of a worker's source.
+pub mod FillMachine
+pub mod FillPromises
+pub mod FillStates
+pub mod KnownCells

@@ -4,6 +4,7 @@
 mod cell;
 mod crew;
 mod fault;
+pub mod fill_core;
 mod filling;
 mod laws;
 mod looks;

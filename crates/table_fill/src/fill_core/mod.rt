@@ -1,0 +1,18 @@
+//! The fill machine: what workers that draw jobs, look at cells and install blocks have done after a list of events.
+
+mod draws;
+mod event;
+mod installs;
+mod known;
+mod laws;
+mod looks;
+mod replaying;
+mod state;
+mod world;
+
+pub use event::FillEvent;
+pub use laws::one_run;
+pub use world::{FillWorld, replay};
+
+#[cfg(test)]
+mod tests;
