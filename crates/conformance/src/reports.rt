@@ -304,12 +304,18 @@ fn the_table_of_red(rt: HostRuntime) -> Result<(), Fail> {
     let task = Task::Table { ids: 8, workers: 1 };
     let text = done(&rt, rt.alloc(), task, RED)?;
     assert_eq!(rt; line_of(&text, 26_259), Some(line));
-    for workers in [2, 64] {
-        let task = Task::Table { ids: 8, workers };
-        assert!(rt;
-            done(&rt, rt.alloc(), task, RED)? == text,
-            "{workers} workers"
-        );
+    Ok(())
+}
+
+#[test]
+fn each_number_of_workers_prints_the_same_table(rt: HostRuntime) -> Result<(), Fail> {
+    let rows: [(&[u8], u32); 4] = [(CV1, 8), (CV1_OF_12, 64), (RED, 8), (TWO_REGISTERS, 8)];
+    for (program, ids) in rows {
+        let one = done(&rt, rt.alloc(), Task::Table { ids, workers: 1 }, program)?;
+        for workers in [2, 3, 4, 16, 64] {
+            let text = done(&rt, rt.alloc(), Task::Table { ids, workers }, program)?;
+            assert!(rt; text == one, "{ids} identifiers, {workers} workers");
+        }
     }
     Ok(())
 }

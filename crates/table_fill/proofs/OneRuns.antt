@@ -3,7 +3,8 @@ use Rattle.std.proofs.Common.{◌≡◌, ℕ, ◌⊎◌, [], ◌∷◌, sym, sub
 use Rattle.std.proofs.lemmas.Option.{same_Some}
 use Rattle.table_fill.specs.declared.fill_core.event.FillEvent.{FillEvent}
 use Rattle.table_fill.specs.declared.fill_core.event.FillEvent.TheVariants.{Draw, Look, Install}
-use Rattle.table_fill.specs.FillMachine.{Machine, CanLook, looked, CanInstall, installed, Steps, Runs, OneRun}
+use Rattle.table_fill.specs.FillMachine.{Machine, CanLook, looked, CanInstall, installed, Steps, Runs}
+use Rattle.table_fill.specs.Laws.{OneRun}
 
 -- an event that is enabled for one job at most
 one_change :

@@ -141,7 +141,3 @@ Steps s (Install w level number) t =
 abbrev pub Runs : Machine → List FillEvent → Machine → Type 0
 Runs s [] t = t ≡ s
 Runs s (e ∷ es) t = (m : Machine) × Steps s e m × Runs m es t
-
--- a list of events leads from a machine to one machine at most
-abbrev pub OneRun : Type 0
-OneRun = (s t u : Machine) (es : List FillEvent) → Runs s es t → Runs s es u → t ≡ u

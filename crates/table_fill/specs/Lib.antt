@@ -1,13 +1,13 @@
 -- The definitions that the contracts cite: tables, a table's channel at a window, the table of a program, how
--- many workers may fill it, what a pass knows then, and the law.
+-- many workers may fill it, what a pass knows then; the fill machine and what holds of it; the laws; what private
+-- contracts say of the code's fields, of a worker's source and of a missing block.
 pub mod Tables
 pub mod ProgramTables
 pub mod Workers
 pub mod Filled
-pub mod MissingBlocks
-pub mod Laws
--- The fill machine, what it promises, and what private contracts say of the code's fields and of a worker's source.
 pub mod FillMachine
 pub mod FillPromises
+pub mod Laws
 pub mod FillStates
 pub mod KnownCells
+pub mod MissingBlocks

@@ -4,24 +4,25 @@ use crate::table_text::write_table;
 use crate::tests::trickle::Trickle;
 use devices::fault::OutFault;
 use devices::watched::Watched;
-use lang_check::accept;
-use node_lang::parse;
-use round_eval::OpenGate;
 use std::alloc::Global;
+use std::process::Abort;
 use std::test::Fail;
-use table_fill::{Table, compile};
+use table_fill::{Table, TableMaker};
+use win_index::Shape;
 
-/// The table of a program without rounds that answers the identifier.
-fn table_of_identifiers(alloc: Global) -> Result<Table, Fail> {
-    let text = b"rounds 0\nchannels 2\nregisters 1\nstart\nr0 = id\nfinish r0\n";
-    let program = parse(alloc, text)?;
-    let plan = accept(program, 2).map_err(|(_program, fault)| fault)?;
-    Ok(compile(alloc, &plan, 1, &OpenGate)?)
+/// The table of two identifiers and no rounds that gives each identifier itself as its channel.
+fn table_of_identifiers(rt: &impl Abort, alloc: Global) -> Result<Table, Fail> {
+    let shape = Shape::new(2, 0).expect(rt, "a shape");
+    assert!(rt; shape.count(shape.rounds()) == 2);
+    let mut maker = TableMaker::new(alloc, shape, 2)?;
+    maker.push(0);
+    maker.push(1);
+    Ok(maker.done())
 }
 
 #[test]
 fn a_table_is_written(rt: HostRuntime) -> Result<(), Fail> {
-    let table = table_of_identifiers(rt.alloc())?;
+    let table = table_of_identifiers(&rt, rt.alloc())?;
     let mut writer = Watched::new(Vec::new(rt.alloc()));
     write_table(rt.alloc(), &table, &mut writer)?;
     assert_eq!(rt;
@@ -33,7 +34,7 @@ fn a_table_is_written(rt: HostRuntime) -> Result<(), Fail> {
 
 #[test]
 fn a_table_that_is_not_written_whole(rt: HostRuntime) -> Result<(), Fail> {
-    let table = table_of_identifiers(rt.alloc())?;
+    let table = table_of_identifiers(&rt, rt.alloc())?;
     let mut writer = Watched::new(Trickle::failing_after(54));
     assert_eq!(rt;
         write_table(rt.alloc(), &table, &mut writer),

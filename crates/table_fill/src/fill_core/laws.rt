@@ -1,7 +1,7 @@
-ghost use Rattle.table_fill.specs.FillMachine as machine;
+ghost use Rattle.table_fill.specs.Laws as law;
 
 /// A list of events leads from a state to one state at most.
 #[tactic(auto, using(crate::proofs::OneRuns::one_run))]
 pub fn one_run()
-    ensures { machine.OneRun }
+    ensures { law.OneRun }
 {}

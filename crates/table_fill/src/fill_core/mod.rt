@@ -13,6 +13,3 @@ mod world;
 pub use event::FillEvent;
 pub use laws::one_run;
 pub use world::{FillWorld, replay};
-
-#[cfg(test)]
-mod tests;

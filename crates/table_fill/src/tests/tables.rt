@@ -1,4 +1,4 @@
-use super::{CV1, CV1_OF_12, RED, TWO_REGISTERS, plan_of, table_by};
+use super::{CV1, plan_of, table_by};
 use crate::Table;
 use std::alloc::Global;
 use std::test::Fail;
@@ -35,25 +35,6 @@ fn entries_of(alloc: Global, table: &Table) -> Result<Vec<u32>, Fail> {
         entries.push(table.entry(number))?;
     }
     Ok(entries)
-}
-
-#[test]
-fn each_number_of_workers_fills_the_same_table(rt: HostRuntime) -> Result<(), Fail> {
-    let programs = [
-        (CV1, 8),
-        (CV1_OF_12, 64),
-        (RED, 8),
-        (TWO_REGISTERS, 8),
-    ];
-    for (text, ids) in programs {
-        let plan = plan_of(rt.alloc(), text, ids)?;
-        let one = entries_of(rt.alloc(), &table_by(&rt, rt.alloc(), &plan, 1)?)?;
-        for workers in [2, 3, 4, 16, 64] {
-            let table = table_by(&rt, rt.alloc(), &plan, workers)?;
-            assert!(rt; entries_of(rt.alloc(), &table)? == one, "{ids} by {workers}");
-        }
-    }
-    Ok(())
 }
 
 #[test]

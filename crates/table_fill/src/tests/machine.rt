@@ -1,19 +1,10 @@
+use super::{CV1, plan_of};
 use crate::fill_core::{FillEvent, FillWorld, replay};
-use lang_check::{Plan, accept};
-use node_lang::parse;
+use lang_check::Plan;
 use std::alloc::Global;
 use std::test::Fail;
 
-// One round of Cole and Vishkin (1986).
-const CV1: &[u8] =
-    b"rounds 1\nchannels 6\nregisters 1\nstart\nr0 = id\nround\nsend left 0\nsend right r0\nr0 = add(shl(ldb(r0, L), 1), bit(r0, ldb(r0, L)))\nfinish r0\n";
-
-// The plan of this program for 8 identifiers. Its jobs are block 0 of level 0, and blocks 0 and 1 of level 1.
-fn cv1(alloc: Global) -> Result<Plan, Fail> {
-    let program = parse(alloc, CV1).ok().ok_or("a program")?;
-    let plan = accept(program, 8).ok().ok_or("a plan")?;
-    Ok(plan)
-}
+// CV1 for 8 identifiers has three jobs: block 0 of level 0, and blocks 0 and 1 of level 1.
 
 // Two workers after these events.
 fn after<'a>(alloc: Global, plan: &'a Plan, events: &[FillEvent]) -> Result<FillWorld<'a>, Fail> {
@@ -28,7 +19,7 @@ fn maker(world: &FillWorld<'_>, level: u32, number: u32) -> Option<u32> {
 
 #[test]
 fn two_workers_fill_three_cells(rt: HostRuntime) -> Result<(), Fail> {
-    let plan = cv1(rt.alloc())?;
+    let plan = plan_of(rt.alloc(), CV1, 8)?;
     let events = [
         FillEvent::Draw(0),
         FillEvent::Draw(1),
@@ -62,7 +53,7 @@ fn two_workers_fill_three_cells(rt: HostRuntime) -> Result<(), Fail> {
 
 #[test]
 fn an_install_into_a_full_cell_changes_nothing(rt: HostRuntime) -> Result<(), Fail> {
-    let plan = cv1(rt.alloc())?;
+    let plan = plan_of(rt.alloc(), CV1, 8)?;
     let events = [
         FillEvent::Draw(0),
         FillEvent::Draw(1),
@@ -81,7 +72,7 @@ fn an_install_into_a_full_cell_changes_nothing(rt: HostRuntime) -> Result<(), Fa
 
 #[test]
 fn events_out_of_range_change_nothing(rt: HostRuntime) -> Result<(), Fail> {
-    let plan = cv1(rt.alloc())?;
+    let plan = plan_of(rt.alloc(), CV1, 8)?;
     let before = [FillEvent::Draw(0), FillEvent::Install(0, 0, 0)];
     let events = [
         FillEvent::Draw(2),
@@ -109,7 +100,7 @@ fn events_out_of_range_change_nothing(rt: HostRuntime) -> Result<(), Fail> {
 
 #[test]
 fn readers_take_what_is_out_of_range(rt: HostRuntime) -> Result<(), Fail> {
-    let plan = cv1(rt.alloc())?;
+    let plan = plan_of(rt.alloc(), CV1, 8)?;
     let world = after(rt.alloc(), &plan, &[])?;
     assert!(rt; world.cell(2, 0).is_none());
     assert!(rt; world.cell(0, 1).is_none());
