@@ -17,7 +17,9 @@ use task_words::words::{WordsFault, task_of};
 
 /// Does what the words after the program's name ask for, and answers the exit status. A fault is told on
 /// the standard error.
-pub fn exit_status<T: AllocGlobal + Env + Input + Print + Eprint + Threads + Wait + Sync>(rt: &T) -> u8
+pub fn exit_status<T: AllocGlobal + Env + Input + Print + Eprint + Threads + Wait + Sync>(
+    rt: &T,
+) -> u8
     ensures { IsExitStatus result }
 {
     match asked(rt) {

@@ -59,7 +59,13 @@ impl Write for Trickle {
 fn a_long_input_is_read_in_one_call_more_than_its_limit(rt: HostRuntime) -> Result<(), Fail> {
     let mut reader = Watched::new(Trickle::failing_after(100_000));
     let mut writer = Watched::new(Vec::new(rt.alloc()));
-    let status = engine(&rt, rt.alloc(), Task::Check { ids: 8 }, &mut reader, &mut writer)?;
+    let status = engine(
+        &rt,
+        rt.alloc(),
+        Task::Check { ids: 8 },
+        &mut reader,
+        &mut writer,
+    )?;
     assert_eq!(rt; status, Status::Refused);
     assert_eq!(rt; reader.into_device().calls, 65_537);
     let report = writer.into_device();
