@@ -13,13 +13,7 @@ use Rattle.unroll.specs.BlockStates.{MadeBlock}
 use Rattle.table_fill.specs.declared.fill_core.event.FillEvent.{FillEvent}
 use Rattle.table_fill.specs.declared.fill_core.event.FillEvent.TheVariants.{Draw, Look, Install}
 use Rattle.table_fill.specs.FillMachine.{Worker, Machine, idle, opening, nobody, worker, cell_of, CanDraw, drawn, stopped, CanLook, put_down, learned, looked, CanInstall, block_by, installed, Steps, Runs}
-use Rattle.table_fill.specs.FillPromises.{HoldsJobs, MarkedAreFull, IsConsistent, IsFilledWhenStopped}
-
--- t is of the plan of s, has as many workers, and is consistent
-pub record Follows (s t : Machine) : Type 0 where
-  pub plan : t.plan ≡ s.plan
-  pub workers : length t.workers ≡ length s.workers
-  pub consistent : IsConsistent t
+use Rattle.table_fill.specs.FillPromises.{HoldsJobs, MarkedAreFull, IsConsistent, Follows, IsFilledWhenStopped}
 
 abbrev is_full : List (Option MadeBlock) → ℕ → Type 0
 is_full cells job = IsSome (get_or cells job None)

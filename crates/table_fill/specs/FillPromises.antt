@@ -35,6 +35,12 @@ pub record IsConsistent (s : Machine) : Type 0 where
   -- a stopped worker found all jobs drawn, and has none in hand
   pub ended : (w : ℕ) → w < length s.workers → (worker s w).stopped ≡ true → (job_count s.plan ≤ s.next) × ((worker s w).hand ≡ None)
 
+-- t is of the plan of s, has as many workers, and is consistent
+pub record Follows (s t : Machine) : Type 0 where
+  pub plan : t.plan ≡ s.plan
+  pub workers : length t.workers ≡ length s.workers
+  pub consistent : IsConsistent t
+
 -- where all workers are stopped, no cell is empty
 abbrev pub IsFilledWhenStopped : Machine → Type 0
 IsFilledWhenStopped s =

@@ -1,6 +1,6 @@
 ghost use Rattle.std.specs.Prelude.{◌≡◌, ◌≤◌, None, IfOk, OnOk, map, replicate};
 ghost use Rattle.table_fill.specs.FillMachine.{Steps, Runs, idle, opening as opening_of};
-ghost use Rattle.table_fill.specs.FillPromises.{IsConsistent};
+ghost use Rattle.table_fill.specs.FillPromises.{IsConsistent, Follows};
 ghost use Rattle.table_fill.specs.FillStates.{machine_of, worker_of};
 
 use crate::fill_core::event::FillEvent;
@@ -19,7 +19,8 @@ pub(crate) fn run<'a>(
     events: &[FillEvent],
 ) -> Result<World<'a>, OutOfMemory>
     requires { 1 ≤ workers }
-    ensures { IfOk result (λ world. Runs (opening_of plan.now workers) events.now (machine_of world)) }
+    ensures runs { IfOk result (λ world. Runs (opening_of plan.now workers) events.now (machine_of world)) }
+    ensures follows { IfOk result (λ world. Follows (opening_of plan.now workers) (machine_of world)) }
 {
     jobs_have_numbers();
     let mut world = opening(alloc, plan, workers)?;

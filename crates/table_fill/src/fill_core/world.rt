@@ -60,7 +60,6 @@ pub fn replay<'a>(
     ensures consistent { IfOk result (λ world. IsConsistent world) }
     ensures filled { IfOk result (λ world. IsFilledWhenStopped world) }
 {
-    jobs_have_numbers();
     let world = run(alloc, plan, workers, events)?;
     Ok(FillWorld { world })
 }

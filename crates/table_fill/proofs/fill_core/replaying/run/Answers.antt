@@ -19,3 +19,8 @@ loop-event-preserved c =
     let more = take_more c.args.events.now l.event-index _ c.loop-event-test.true in
     subst (λ (es : List FillEvent). Runs start es after) (sym more)
     (runs_more (take l.event-index c.args.events.now) _ start (machine_of l.world) after l.invariant c.in_ok-step.ensures)
+
+pub returns-clause-follows : goal.returns-clause-follows
+returns-clause-follows c =
+    let l = c.loop-event in
+    replay_follows (take l.event-index c.args.events.now) c.args.plan.now c.args.workers (machine_of l.world) c.jobs_have_numbers.ensures.at c.requires l.invariant
