@@ -6,6 +6,7 @@ use lang_check::Plan;
 use std::alloc::Global;
 use std::test::Fail;
 use std::thread;
+use std::thread::Threads;
 
 // Who made the block that a look finds, if it finds one.
 fn maker_at<'a>(memo: &Memo<'a>, pass: &mut Pass<'a>, level: u32, number: u32) -> Option<u32>
@@ -112,17 +113,24 @@ fn install_and_look(alloc: Global, memo: &Memo<'_>, maker: u32) -> Option<u32> {
     maker_at(memo, &mut pass, 0, 0)
 }
 
+// Who made the block that two threads see, each of which hands in one of its own.
+fn makers_of_two<R: Threads + Sync>(
+    rt: &R,
+    alloc: Global,
+    memo: &Memo<'_>,
+) -> (Option<u32>, Option<u32>) {
+    thread::join(
+        rt,
+        || install_and_look(alloc, memo, 1),
+        || install_and_look(alloc, memo, 2),
+    )
+}
+
 #[test]
 fn two_threads_see_one_block(rt: HostRuntime) -> Result<(), Fail> {
     let plan = plan_of(rt.alloc(), CV1)?;
     let memo = Memo::new(rt.alloc(), &plan).ok().ok_or("a memo")?;
-    let lent = &memo;
-    let alloc = rt.alloc();
-    let (one, two) = thread::join(
-        &rt,
-        || install_and_look(alloc, lent, 1),
-        || install_and_look(alloc, lent, 2),
-    );
+    let (one, two) = makers_of_two(&rt, rt.alloc(), &memo);
     assert!(rt; one == Some(1) || one == Some(2));
     assert_eq!(rt; one, two);
     Ok(())
