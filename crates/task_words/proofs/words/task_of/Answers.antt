@@ -1,4 +1,4 @@
-use Rattle.std.proofs.Common.{◌≡◌, map, string_bytes, refl, ap, ◌∙◌, rules}
+use Rattle.std.proofs.Common.{◌≡◌, map, string_bytes, ap, ◌∙◌, rules}
 use Rattle.task_words.specs.CommandWords.{plain_name, ring_name, plain_ends, ring_ends, command_words}
 use Rattle.task_words.specs.Decimal.{IsNumber, number_in}
 use Rattle.task_words.specs.Words.{plain_words, ring_words}
