@@ -77,6 +77,8 @@ fn faults_are_displayed(rt: HostRuntime) -> Result<(), Fail> {
         (EngineFault::Read.to_string(alloc)?, "read failed"),
         (EngineFault::Write.to_string(alloc)?, "write failed"),
         (EngineFault::Memory.to_string(alloc)?, "out of memory"),
+        (EngineFault::Thread.to_string(alloc)?, "no thread"),
+        (EngineFault::Stranger.to_string(alloc)?, "stranger"),
         (OutFault::Write.to_string(alloc)?, "write failed"),
         (OutFault::Memory.to_string(alloc)?, "out of memory"),
     ];
