@@ -1,0 +1,102 @@
+// A border between two neighbours.
+ghost use Rattle.std.specs.Prelude.{◌≡◌, ◌+◌, ◌^◌, ◌<◌, OnOk, OnErr, IfErr, IfOk, IfSome, length};
+ghost use Rattle.border_exchange.specs.InRounds.{AreInRounds};
+ghost use Rattle.border_exchange.specs.declared.Side.TheVariants.{Rightward, Leftward};
+ghost use Rattle.border_exchange.specs.declared.fault.PutFault.TheVariants.{OutOfMemory as NoRoom};
+
+use crate::lists::Lists;
+use crate::seat::Seat;
+use crate::{Dated, PutFault, Side, Totals};
+use node_lang::OutOfMemory;
+use std::alloc::Global;
+use std::sync::ledger::{Blank, Ledger};
+use std::sync::{Condvar, Mutex, Wait};
+
+/// The messages that two neighbours send to each other: for each side a list, to which its seat appends and of which
+/// anyone may take copies. `R` and `L` are the ledgers of the rightward and of the leftward side, each with one share.
+#[derive(Drop)]
+pub struct Border<M: Dated, R: Ledger, L: Ledger> {
+    lists: Mutex<Lists<M, R, L>>,
+    moved: Condvar,
+}
+
+impl<M: Dated + Copy, R: Ledger, L: Ledger> Border<M, R, L> {
+    /// A border without messages, its rightward seat and its leftward seat, with no puts. `OutOfMemory` where memory
+    /// for the lists was refused; the blanks are then used up.
+    pub fn new(
+        alloc: Global,
+        right: Blank,
+        left: Blank,
+    ) -> Result<(Border<M, R, L>, Seat<R, L>, Seat<R, L>), OutOfMemory>
+        requires right { (right.name ≡ R.name) × (right.parts ≡ R.parts) × (right.parts ≡ 1) }
+        requires left { (left.name ≡ L.name) × (left.parts ≡ L.parts) × (left.parts ≡ 1) }
+        ensures rightward { IfOk result (λ b. b.1 ≡ record { side = Rightward; puts = 0 }) }
+        ensures leftward { IfOk result (λ b. b.2 ≡ record { side = Leftward; puts = 0 }) }
+    {
+        let (right_book, right_share) = right.open::<R>();
+        let (left_book, left_share) = left.open::<L>();
+        let lists = Lists::new(alloc, right_book, left_book)?;
+        let border = Border {
+            lists: Mutex::new(lists),
+            moved: Condvar::new(),
+        };
+        Ok((
+            border,
+            Seat::rightward(right_share),
+            Seat::leftward(left_share),
+        ))
+    }
+
+    /// Appends a message to the list of the seat's side. `Closed` where the border was closed, else `Misplaced` where
+    /// the message's side is not the seat's or its round is not both the number of the seat's puts and the number of
+    /// messages on that side, else `OutOfMemory` where the list was refused memory to grow. After a refusal the border
+    /// and the seat are as before and the message comes back. The seat has fewer than `2^24` puts.
+    pub fn put<W: Wait>(
+        &self,
+        rt: &W,
+        seat: &mut Seat<R, L>,
+        message: M,
+    ) -> Result<(), (M, PutFault)>
+        requires { seat.old.puts < 2 ^ 24 }
+        ensures put { OnOk result (seat.new ≡ record seat.old { puts = seat.old.puts + 1 }) }
+        ensures placed { OnOk result ((M.side_of message ≡ seat.old.side) × (M.round_of message ≡ seat.old.puts)) }
+        ensures refused { IfErr result (λ e. e.0 ≡ message) }
+        ensures unchanged { OnErr result (seat.new ≡ seat.old) }
+        ensures no_room { IfErr result (λ e. e.1 ≡ NoRoom → (M.side_of message ≡ seat.old.side) × (M.round_of message ≡ seat.old.puts)) }
+    {
+        let outcome = self.lists.lock(rt).put(seat, message);
+        self.moved.notify_all();
+        outcome
+    }
+
+    /// A copy of the message of this side and round, which stays in its list. Where there is none it waits until
+    /// there is one or the border is closed. `None` where the border is closed and has no such message.
+    pub fn take<W: Wait>(&self, rt: &W, side: Side, round: u32) -> Option<M>
+        ensures { IfSome result (λ m. (M.side_of m ≡ side) × (M.round_of m ≡ round)) }
+    {
+        let lists = self
+            .moved
+            .wait_while(rt, self.lists.lock(rt), |lists| lists.lacks(side, round));
+        lists.get(side, round)
+    }
+
+    /// Closes the border: from then on it takes no more messages, and no taker waits. Closing twice is the same as
+    /// once.
+    pub fn close<W: Wait>(&self, rt: &W) {
+        self.lists.lock(rt).close();
+        self.moved.notify_all();
+    }
+
+    /// All messages, by the border's two seats: on each side as many as its seat has put, and message `k` is of that
+    /// side and of round `k`.
+    pub fn settle(self, right: Seat<R, L>, left: Seat<R, L>) -> Totals<M>
+        requires whole { (R.parts ≡ 1) × (L.parts ≡ 1) }
+        requires sides { (right.side ≡ Rightward) × (left.side ≡ Leftward) }
+        ensures counted { (length result.rightward.items ≡ right.puts) × (length result.leftward.items ≡ left.puts) }
+        ensures rightward { AreInRounds M.side_of M.round_of Rightward result.rightward.items }
+        ensures leftward { AreInRounds M.side_of M.round_of Leftward result.leftward.items }
+    {
+        let Border { lists, moved: _ } = self;
+        lists.into_inner().settle(right, left)
+    }
+}

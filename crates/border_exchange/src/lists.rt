@@ -1,0 +1,109 @@
+// What a border keeps under its lock.
+ghost use Rattle.std.specs.Prelude.{◌≡◌, ◌+◌, ◌^◌, ◌<◌, ◌∷◌, ◌++◌, [], OnOk, OnErr, IfErr, IfSome, length};
+ghost use Rattle.border_exchange.specs.InRounds.{AreInRounds};
+ghost use Rattle.border_exchange.specs.declared.Side.TheVariants.{Rightward, Leftward};
+ghost use Rattle.border_exchange.specs.declared.fault.PutFault.TheVariants.{OutOfMemory as NoRoom};
+
+use crate::seat::Seat;
+use crate::side_list::SideList;
+use crate::{Dated, PutFault, Side, Totals};
+use node_lang::OutOfMemory;
+use std::alloc::Global;
+use std::sync::ledger::{Book, Ledger};
+
+/// The lists of both sides, and whether the border was closed.
+#[derive(Drop)]
+pub(crate) struct Lists<M: Dated, R: Ledger, L: Ledger> {
+    rightward: SideList<M, R>,
+    leftward: SideList<M, L>,
+    closed: bool,
+    ghost to_the_right: { rightward.side ≡ Rightward },
+    ghost to_the_left: { leftward.side ≡ Leftward },
+}
+
+impl<M: Dated + Copy, R: Ledger, L: Ledger> Lists<M, R, L> {
+    pub(crate) fn new(
+        alloc: Global,
+        right: Book<R>,
+        left: Book<L>,
+    ) -> Result<Lists<M, R, L>, OutOfMemory>
+        requires { (right.total ≡ 0) × (left.total ≡ 0) }
+    {
+        Ok(Lists {
+            rightward: SideList::new(alloc, Side::Rightward, right)?,
+            leftward: SideList::new(alloc, Side::Leftward, left)?,
+            closed: false,
+        })
+    }
+
+    fn len(&self, side: Side) -> usize
+        ensures right { side ≡ Rightward → result ≡ length self.now.rightward.messages }
+        ensures left { side ≡ Leftward → result ≡ length self.now.leftward.messages }
+    {
+        match side {
+            Side::Rightward => self.rightward.len(),
+            Side::Leftward => self.leftward.len(),
+        }
+    }
+
+    /// Whether a taker of this side and round has to wait.
+    pub(crate) fn lacks(&self, side: Side, round: u32) -> bool {
+        !self.closed && self.len(side) <= round as usize
+    }
+
+    /// A copy of the message of this side and round, where there is one.
+    pub(crate) fn get(&self, side: Side, round: u32) -> Option<M>
+        ensures { IfSome result (λ m. (M.side_of m ≡ side) × (M.round_of m ≡ round)) }
+    {
+        match side {
+            Side::Rightward => self.rightward.get(round),
+            Side::Leftward => self.leftward.get(round),
+        }
+    }
+
+    pub(crate) fn close(&mut self) {
+        self.closed = true;
+    }
+
+    /// Appends to the list of the seat's side, as `Border::put` says.
+    pub(crate) fn put(&mut self, seat: &mut Seat<R, L>, message: M) -> Result<(), (M, PutFault)>
+        requires { seat.old.puts < 2 ^ 24 }
+        ensures put { OnOk result (seat.new ≡ record seat.old { puts = seat.old.puts + 1 }) }
+        ensures placed { OnOk result ((M.side_of message ≡ seat.old.side) × (M.round_of message ≡ seat.old.puts)) }
+        ensures refused { IfErr result (λ e. e.0 ≡ message) }
+        ensures unchanged { OnErr result (seat.new ≡ seat.old) }
+        ensures no_room { IfErr result (λ e. e.1 ≡ NoRoom → (M.side_of message ≡ seat.old.side) × (M.round_of message ≡ seat.old.puts)) }
+    {
+        if self.closed {
+            return Err((message, PutFault::Closed));
+        }
+        let side = message.side();
+        let round = message.round();
+        if side != seat.side() || round != seat.puts() || round as usize != self.len(side) {
+            return Err((message, PutFault::Misplaced));
+        }
+        match seat.append(&mut self.rightward, &mut self.leftward, message) {
+            Ok(()) => Ok(()),
+            Err(message) => Err((message, PutFault::OutOfMemory)),
+        }
+    }
+
+    /// The messages of both sides, on each as many as its seat has put.
+    pub(crate) fn settle(self, right: Seat<R, L>, left: Seat<R, L>) -> Totals<M>
+        requires whole { (R.parts ≡ 1) × (L.parts ≡ 1) }
+        requires sides { (right.side ≡ Rightward) × (left.side ≡ Leftward) }
+        ensures counted { (length result.rightward.items ≡ right.puts) × (length result.leftward.items ≡ left.puts) }
+        ensures rightward { AreInRounds M.side_of M.round_of Rightward result.rightward.items }
+        ensures leftward { AreInRounds M.side_of M.round_of Leftward result.leftward.items }
+    {
+        let Lists {
+            rightward,
+            leftward,
+            closed: _,
+        } = self;
+        Totals {
+            rightward: rightward.settle(right.into_right()),
+            leftward: leftward.settle(left.into_left()),
+        }
+    }
+}
