@@ -1,5 +1,5 @@
 -- The shares of the ledgers of both sides.
-use Rattle.std.specs.Prelude.{◌≡◌, ℕ}
+use Rattle.std.specs.Prelude.{ℕ}
 use Rattle.border_exchange.specs.declared.Side.{Side}
 use Rattle.border_exchange.specs.declared.Side.TheVariants.{Rightward as to_right, Leftward as to_left}
 use Rattle.border_exchange.specs.declared.seat.SideShare.{SideShare}

@@ -1,0 +1,46 @@
+//! Tests of what no clause says.
+
+mod row;
+mod threads;
+
+use crate::{Dated, Side};
+
+// A message with a value.
+#[derive(Clone, Copy, Debug, PartialEq, Eq, Drop)]
+struct Note {
+    side: Side,
+    round: u32,
+    value: u32,
+}
+
+impl Dated for Note {
+    ghost side_of = { λ note. note.side };
+
+    ghost round_of = { λ note. note.round };
+
+    fn side(&self) -> Side {
+        self.side
+    }
+
+    fn round(&self) -> u32 {
+        self.round
+    }
+}
+
+// A message to the right of this round.
+fn to_the_right(round: u32, value: u32) -> Note {
+    Note {
+        side: Side::Rightward,
+        round,
+        value,
+    }
+}
+
+// A message to the left of this round.
+fn to_the_left(round: u32, value: u32) -> Note {
+    Note {
+        side: Side::Leftward,
+        round,
+        value,
+    }
+}

@@ -1,0 +1,137 @@
+ghost use Rattle.std.specs.Prelude.{◌≡◌};
+
+use super::{Note, to_the_right};
+use crate::{Border, Seat, Side};
+use std::alloc::Global;
+use std::marker::Brand;
+use std::sync::Wait;
+use std::sync::atomic::AtomicU64;
+use std::sync::atomic::Ordering::SeqCst;
+use std::sync::ledger::{Blank, Ledger};
+use std::thread;
+use std::thread::Threads;
+
+// Looks at a counter, at most.
+const TURNS: u64 = 1_000_000_000;
+
+// The rounds of a test.
+const ROUNDS: u32 = 100;
+
+// Waits until the counter is this or more, and answers whether it was.
+fn comes_to(counter: &AtomicU64, least: u64) -> bool {
+    for _turn in 0..TURNS {
+        if counter.load(SeqCst) >= least {
+            return true;
+        }
+    }
+    false
+}
+
+// Puts a message in each round, once its taker is about to take it. Answers whether each was put.
+fn put_all<R: Ledger, L: Ledger, W: Wait>(
+    rt: &W,
+    border: &Border<Note, R, L>,
+    mut seat: Seat<R, L>,
+    about: &AtomicU64,
+) -> bool {
+    for round in 0..ROUNDS {
+        if !comes_to(about, u64::from(round) + 1) || seat.puts() >= ROUNDS {
+            return false;
+        }
+        if border
+            .put(rt, &mut seat, to_the_right(round, round + 5))
+            .is_err()
+        {
+            return false;
+        }
+    }
+    true
+}
+
+// Takes the message of each round, and answers whether each was the one put.
+fn take_all<R: Ledger, L: Ledger, W: Wait>(
+    rt: &W,
+    border: &Border<Note, R, L>,
+    about: &AtomicU64,
+) -> bool {
+    for round in 0..ROUNDS {
+        about.store(u64::from(round) + 1, SeqCst);
+        if border.take(rt, Side::Rightward, round) != Some(to_the_right(round, round + 5)) {
+            return false;
+        }
+    }
+    true
+}
+
+// One thread puts and another takes: whether each did all that it had to.
+fn put_and_take<R: Ledger + Send + Sync, L: Ledger + Send + Sync, W: Threads + Wait + Sync>(
+    rt: &W,
+    alloc: Global,
+    right: Blank,
+    left: Blank,
+) -> Option<(bool, bool)>
+    requires right { (right.name ≡ R.name) × (right.parts ≡ R.parts) × (right.parts ≡ 1) }
+    requires left { (left.name ≡ L.name) × (left.parts ≡ L.parts) × (left.parts ≡ 1) }
+{
+    let (border, seat, _other) = Border::<Note, R, L>::new(alloc, right, left).ok()?;
+    let counter = AtomicU64::new(0);
+    let (lent, about) = (&border, &counter);
+    Some(thread::join(
+        rt,
+        || put_all(rt, lent, seat, about),
+        || take_all(rt, lent, about),
+    ))
+}
+
+// Closes the border once a taker is about to take. Answers whether it came.
+fn close_late<R: Ledger, L: Ledger, W: Wait>(
+    rt: &W,
+    border: &Border<Note, R, L>,
+    about: &AtomicU64,
+) -> bool {
+    let came = comes_to(about, 1);
+    border.close(rt);
+    came
+}
+
+// Takes a message that is never put, and answers whether there was none.
+fn take_none<R: Ledger, L: Ledger, W: Wait>(
+    rt: &W,
+    border: &Border<Note, R, L>,
+    about: &AtomicU64,
+) -> bool {
+    about.store(1, SeqCst);
+    border.take(rt, Side::Leftward, 0).is_none()
+}
+
+// One thread closes and another takes: whether each did all that it had to.
+fn close_and_take<R: Ledger + Send + Sync, L: Ledger + Send + Sync, W: Threads + Wait + Sync>(
+    rt: &W,
+    alloc: Global,
+    right: Blank,
+    left: Blank,
+) -> Option<(bool, bool)>
+    requires right { (right.name ≡ R.name) × (right.parts ≡ R.parts) × (right.parts ≡ 1) }
+    requires left { (left.name ≡ L.name) × (left.parts ≡ L.parts) × (left.parts ≡ 1) }
+{
+    let (border, _seat, _other) = Border::<Note, R, L>::new(alloc, right, left).ok()?;
+    let counter = AtomicU64::new(0);
+    let (lent, about) = (&border, &counter);
+    Some(thread::join(
+        rt,
+        || close_late(rt, lent, about),
+        || take_none(rt, lent, about),
+    ))
+}
+
+#[test]
+fn a_taker_waits_for_a_put(rt: HostRuntime) {
+    let done = put_and_take::<Brand, Brand, _>(&rt, rt.alloc(), Blank::new(1), Blank::new(1));
+    assert_eq!(rt; done, Some((true, true)));
+}
+
+#[test]
+fn a_close_ends_the_waiting(rt: HostRuntime) {
+    let done = close_and_take::<Brand, Brand, _>(&rt, rt.alloc(), Blank::new(1), Blank::new(1));
+    assert_eq!(rt; done, Some((true, true)));
+}
