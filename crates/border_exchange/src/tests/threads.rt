@@ -28,7 +28,7 @@ fn comes_to(counter: &AtomicU64, least: u64) -> bool {
 }
 
 // Puts a message in each round, once its taker is about to take it. Answers whether each was put.
-fn put_all<R: Ledger, L: Ledger, W: Wait>(
+fn put_each<R: Ledger, L: Ledger, W: Wait>(
     rt: &W,
     border: &Border<Note, R, L>,
     mut seat: Seat<R, L>,
@@ -38,29 +38,51 @@ fn put_all<R: Ledger, L: Ledger, W: Wait>(
         if !comes_to(about, u64::from(round) + 1) || seat.puts() >= ROUNDS {
             return false;
         }
-        if border
-            .put(rt, &mut seat, to_the_right(round, round + 5))
-            .is_err()
-        {
+        let message = to_the_right(round, round + 5);
+        if border.put(rt, &mut seat, message).is_err() {
             return false;
         }
     }
     true
 }
 
+// Puts in each round, and then closes the border, so that no taker waits for what was not put.
+fn put_all<R: Ledger, L: Ledger, W: Wait>(
+    rt: &W,
+    border: &Border<Note, R, L>,
+    seat: Seat<R, L>,
+    about: &AtomicU64,
+) -> bool {
+    let done = put_each(rt, border, seat, about);
+    border.close(rt);
+    done
+}
+
 // Takes the message of each round, and answers whether each was the one put.
-fn take_all<R: Ledger, L: Ledger, W: Wait>(
+fn take_each<R: Ledger, L: Ledger, W: Wait>(
     rt: &W,
     border: &Border<Note, R, L>,
     about: &AtomicU64,
 ) -> bool {
     for round in 0..ROUNDS {
         about.store(u64::from(round) + 1, SeqCst);
-        if border.take(rt, Side::Rightward, round) != Some(to_the_right(round, round + 5)) {
+        let message = to_the_right(round, round + 5);
+        if border.take(rt, Side::Rightward, round) != Some(message) {
             return false;
         }
     }
     true
+}
+
+// Takes in each round, and then lets all puts go on, so that no put waits for what is not taken.
+fn take_all<R: Ledger, L: Ledger, W: Wait>(
+    rt: &W,
+    border: &Border<Note, R, L>,
+    about: &AtomicU64,
+) -> bool {
+    let done = take_each(rt, border, about);
+    about.store(u64::from(ROUNDS), SeqCst);
+    done
 }
 
 // One thread puts and another takes: whether each did all that it had to.
