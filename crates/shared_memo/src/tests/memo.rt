@@ -7,6 +7,27 @@ use std::alloc::Global;
 use std::test::Fail;
 use std::thread;
 use std::thread::Threads;
+use unroll::Block;
+
+// What became of a block that was handed in; where it came back, its maker.
+#[derive(Clone, Copy, Debug, PartialEq, Eq)]
+enum Became {
+    Fresh,
+    Stood(u32),
+    Refused(u32),
+}
+
+// Hands in a block.
+fn hand_in<'a>(memo: &Memo<'a>, pass: &mut Pass<'a>, block: Box<Block<'a>>) -> Became
+    requires { IsPassOf memo.now pass.old }
+    ensures { IsPassOf memo.now pass.new }
+{
+    match memo.install(pass, block) {
+        Ok(Installed::Fresh) => Became::Fresh,
+        Ok(Installed::Stood(back)) => Became::Stood(back.maker()),
+        Err(back) => Became::Refused(back.maker()),
+    }
+}
 
 // Who made the block that a look finds, if it finds one.
 fn maker_at<'a>(memo: &Memo<'a>, pass: &mut Pass<'a>, level: u32, number: u32) -> Option<u32>
@@ -22,50 +43,44 @@ fn maker_at<'a>(memo: &Memo<'a>, pass: &mut Pass<'a>, level: u32, number: u32) -
     }
 }
 
+// Two passes hand in the first block of level 0, made by 1 and by 2: what became of both, and who made the one that
+// they and a third pass find then.
+fn two_hand_in(alloc: Global, plan: &Plan) -> Option<([Became; 2], [Option<u32>; 3])> {
+    let memo = Memo::new(alloc, plan).ok()?;
+    let mut a = memo.pass(alloc).ok()?;
+    let mut b = memo.pass(alloc).ok()?;
+    let mut c = memo.pass(alloc).ok()?;
+    let by_a = hand_in(&memo, &mut a, block_of(alloc, plan, 0, 0, 1)?);
+    let by_b = hand_in(&memo, &mut b, block_of(alloc, plan, 0, 0, 2)?);
+    let makers = [
+        maker_at(&memo, &mut a, 0, 0),
+        maker_at(&memo, &mut b, 0, 0),
+        maker_at(&memo, &mut c, 0, 0),
+    ];
+    Some(([by_a, by_b], makers))
+}
+
 #[test]
 fn the_first_block_stands(rt: HostRuntime) -> Result<(), Fail> {
     let plan = plan_of(rt.alloc(), CV1)?;
-    let memo = Memo::new(rt.alloc(), &plan).ok().ok_or("a memo")?;
-    let mut a = memo.pass(rt.alloc()).ok().ok_or("a pass")?;
-    let mut b = memo.pass(rt.alloc()).ok().ok_or("a pass")?;
-    let mut c = memo.pass(rt.alloc()).ok().ok_or("a pass")?;
-    assert_eq!(rt; maker_at(&memo, &mut a, 0, 0), None);
-    let by_a = memo.install(
-        &mut a,
-        block_of(rt.alloc(), &plan, 0, 0, 1).ok_or("a block")?,
+    assert_eq!(rt;
+        two_hand_in(rt.alloc(), &plan),
+        Some(([Became::Fresh, Became::Stood(2)], [Some(1); 3]))
     );
-    assert!(rt; matches!(by_a, Ok(Installed::Fresh)));
-    let by_b = memo.install(
-        &mut b,
-        block_of(rt.alloc(), &plan, 0, 0, 2).ok_or("a block")?,
-    );
-    let Ok(Installed::Stood(back)) = by_b else {
-        return Err(Fail::new("the block of the second did not come back"));
-    };
-    assert_eq!(rt; back.maker(), 2);
-    // the third pass has looked at nothing so far
-    assert_eq!(rt; maker_at(&memo, &mut a, 0, 0), Some(1));
-    assert_eq!(rt; maker_at(&memo, &mut b, 0, 0), Some(1));
-    assert_eq!(rt; maker_at(&memo, &mut c, 0, 0), Some(1));
-    assert_eq!(rt; maker_at(&memo, &mut c, 1, 1), None);
     Ok(())
 }
 
-// Hands the memo of a plan a block of another plan: who made the block that comes back, and the one that stands then.
-fn makers_after<'a>(
+// Hands the memo of a plan a block of another plan, made by 3: what became of it, and who made the one that stands
+// then.
+fn after_another<'a>(
     alloc: Global,
     plan: &'a Plan,
     other: &'a Plan,
-) -> Option<(Option<u32>, Option<u32>)> {
+) -> Option<(Became, Option<u32>)> {
     let memo = Memo::new(alloc, plan).ok()?;
     let mut pass = memo.pass(alloc).ok()?;
-    let back = memo
-        .install(&mut pass, block_of(alloc, other, 0, 0, 3)?)
-        .err();
-    Some((
-        back.map(|block| block.maker()),
-        maker_at(&memo, &mut pass, 0, 0),
-    ))
+    let became = hand_in(&memo, &mut pass, block_of(alloc, other, 0, 0, 3)?);
+    Some((became, maker_at(&memo, &mut pass, 0, 0)))
 }
 
 #[test]
@@ -73,43 +88,51 @@ fn a_block_of_another_plan_comes_back(rt: HostRuntime) -> Result<(), Fail> {
     let plan = plan_of(rt.alloc(), CV1)?;
     let other = plan_of(rt.alloc(), RED)?;
     assert_eq!(rt;
-        makers_after(rt.alloc(), &plan, &other),
-        Some((Some(3), None))
+        after_another(rt.alloc(), &plan, &other),
+        Some((Became::Refused(3), None))
     );
     assert_eq!(rt;
-        makers_after(rt.alloc(), &plan, &plan),
-        Some((None, Some(3)))
+        after_another(rt.alloc(), &plan, &plan),
+        Some((Became::Fresh, Some(3)))
     );
     Ok(())
+}
+
+// Whether a pass knows the first block of level 0, and the second of level 1.
+fn knows_both(pass: &Pass<'_>) -> Option<(bool, bool)> {
+    if !has_block(pass.plan, 0, 0) || !has_block(pass.plan, 1, 1) {
+        return None;
+    }
+    Some((pass.knows(0, 0), pass.knows(1, 1)))
+}
+
+// A pass that knows the first block of level 0 learns from one that knows the second of level 1: what the first knew,
+// what it knows then, and what the other knows.
+fn learnt(alloc: Global, plan: &Plan) -> Option<[(bool, bool); 3]> {
+    let memo = Memo::new(alloc, plan).ok()?;
+    let mut a = memo.pass(alloc).ok()?;
+    let mut b = memo.pass(alloc).ok()?;
+    hand_in(&memo, &mut a, block_of(alloc, plan, 0, 0, 1)?);
+    hand_in(&memo, &mut b, block_of(alloc, plan, 1, 1, 2)?);
+    let before = knows_both(&a)?;
+    memo.learn(&mut a, &mut b);
+    Some([before, knows_both(&a)?, knows_both(&b)?])
 }
 
 #[test]
 fn a_pass_learns_from_another(rt: HostRuntime) -> Result<(), Fail> {
     let plan = plan_of(rt.alloc(), CV1)?;
-    let memo = Memo::new(rt.alloc(), &plan).ok().ok_or("a memo")?;
-    let mut a = memo.pass(rt.alloc()).ok().ok_or("a pass")?;
-    let mut b = memo.pass(rt.alloc()).ok().ok_or("a pass")?;
-    let _ = memo.install(
-        &mut a,
-        block_of(rt.alloc(), &plan, 0, 0, 1).ok_or("a block")?,
+    assert_eq!(rt;
+        learnt(rt.alloc(), &plan),
+        Some([(true, false), (true, true), (false, true)])
     );
-    let _ = memo.install(
-        &mut b,
-        block_of(rt.alloc(), &plan, 1, 1, 2).ok_or("a block")?,
-    );
-    assert!(rt; has_block(&plan, 0, 0) && has_block(&plan, 1, 1));
-    assert!(rt; a.knows(0, 0) && !a.knows(1, 1));
-    memo.learn(&mut a, &mut b);
-    assert!(rt; a.knows(0, 0) && a.knows(1, 1));
-    assert!(rt; !b.knows(0, 0) && b.knows(1, 1));
     Ok(())
 }
 
 // Hands in the first block of level 0, and answers who made the one that stands.
 fn install_and_look(alloc: Global, memo: &Memo<'_>, maker: u32) -> Option<u32> {
     let mut pass = memo.pass(alloc).ok()?;
-    let block = block_of(alloc, memo.plan(), 0, 0, maker)?;
-    let _ = memo.install(&mut pass, block);
+    hand_in(memo, &mut pass, block_of(alloc, memo.plan(), 0, 0, maker)?);
     maker_at(memo, &mut pass, 0, 0)
 }
 

@@ -1,5 +1,7 @@
 use super::plans::{CV1, block_of, has_block, plan_of};
 use crate::{Memo, Reader};
+use lang_check::Plan;
+use std::alloc::Global;
 use std::test::Fail;
 use unroll::Source;
 
@@ -14,57 +16,60 @@ fn maker_by(reader: &mut Reader<'_, '_, '_>, level: u32, number: u32) -> Option<
     }
 }
 
+// What a reader answers while a block of level 1 stands in the first cell, which is one of level 0: who made the block
+// there, the block that its pass knows, and the block that another pass knows; and whether a look met the stranger,
+// and the reader before and after.
+fn beside_a_stranger(alloc: Global, plan: &Plan) -> Option<([Option<u32>; 3], [bool; 3])> {
+    let memo = Memo::new(alloc, plan).ok()?;
+    let mut pass = memo.pass(alloc).ok()?;
+    let mut other = memo.pass(alloc).ok()?;
+    let _ = memo.install(&mut pass, block_of(alloc, plan, 1, 1, 1)?);
+    let _ = memo.install(&mut other, block_of(alloc, plan, 1, 0, 2)?);
+    let _ = memo.cells.first()?.set(block_of(alloc, plan, 1, 0, 3)?);
+    if !has_block(plan, 0, 0) {
+        return None;
+    }
+    let looked = memo.look(&mut pass, 0, 0).is_err();
+    let mut reader = Reader::new(&memo, &mut pass);
+    let before = reader.stranger();
+    let makers = [
+        maker_by(&mut reader, 0, 0),
+        maker_by(&mut reader, 1, 1),
+        maker_by(&mut reader, 1, 0),
+    ];
+    Some((makers, [looked, before, reader.stranger()]))
+}
+
 #[test]
 fn after_a_stranger_only_known_blocks_are_answered(rt: HostRuntime) -> Result<(), Fail> {
     let plan = plan_of(rt.alloc(), CV1)?;
-    let memo = Memo::new(rt.alloc(), &plan).ok().ok_or("a memo")?;
-    let mut pass = memo.pass(rt.alloc()).ok().ok_or("a pass")?;
-    let mut other = memo.pass(rt.alloc()).ok().ok_or("a pass")?;
-    let _ = memo.install(
-        &mut pass,
-        block_of(rt.alloc(), &plan, 1, 1, 1).ok_or("a block")?,
+    assert_eq!(rt;
+        beside_a_stranger(rt.alloc(), &plan),
+        Some(([None, Some(1), None], [true, false, true]))
     );
-    let _ = memo.install(
-        &mut other,
-        block_of(rt.alloc(), &plan, 1, 0, 2).ok_or("a block")?,
-    );
-    // the cell of the first block of level 0 gets one of level 1
-    let cell = memo.cells.first().ok_or("a cell")?;
-    assert!(rt;
-        cell.set(block_of(rt.alloc(), &plan, 1, 0, 3).ok_or("a block")?)
-            .is_ok()
-    );
-    assert!(rt; has_block(&plan, 0, 0));
-    assert!(rt; memo.look(&mut pass, 0, 0).is_err());
-    let mut reader = Reader::new(&memo, &mut pass);
-    assert!(rt; !reader.stranger());
-    assert_eq!(rt; maker_by(&mut reader, 0, 0), None);
-    assert!(rt; reader.stranger());
-    assert_eq!(rt; maker_by(&mut reader, 1, 1), Some(1));
-    assert_eq!(rt; maker_by(&mut reader, 1, 0), None);
-    assert!(rt; reader.stranger());
     Ok(())
+}
+
+// Whether a reader finds the first block of level 1, which another pass installed, the second before and after it is
+// installed, and whether it met a stranger.
+fn found(alloc: Global, plan: &Plan) -> Option<[bool; 4]> {
+    let memo = Memo::new(alloc, plan).ok()?;
+    let mut pass = memo.pass(alloc).ok()?;
+    let mut other = memo.pass(alloc).ok()?;
+    let _ = memo.install(&mut other, block_of(alloc, plan, 1, 0, 2)?);
+    let mut reader = Reader::new(&memo, &mut pass);
+    if !has_block(plan, 1, 0) || !has_block(plan, 1, 1) {
+        return None;
+    }
+    let first = reader.finds(1, 0);
+    let before = reader.finds(1, 1);
+    let _ = reader.install(block_of(alloc, plan, 1, 1, 1)?);
+    Some([first, before, reader.finds(1, 1), reader.stranger()])
 }
 
 #[test]
 fn a_reader_finds_and_installs(rt: HostRuntime) -> Result<(), Fail> {
     let plan = plan_of(rt.alloc(), CV1)?;
-    let memo = Memo::new(rt.alloc(), &plan).ok().ok_or("a memo")?;
-    let mut pass = memo.pass(rt.alloc()).ok().ok_or("a pass")?;
-    let mut other = memo.pass(rt.alloc()).ok().ok_or("a pass")?;
-    let _ = memo.install(
-        &mut other,
-        block_of(rt.alloc(), &plan, 1, 0, 2).ok_or("a block")?,
-    );
-    let mut reader = Reader::new(&memo, &mut pass);
-    assert!(rt; has_block(&plan, 1, 0) && has_block(&plan, 1, 1));
-    assert!(rt; reader.finds(1, 0));
-    assert!(rt; !reader.finds(1, 1));
-    assert!(rt;
-        reader
-            .install(block_of(rt.alloc(), &plan, 1, 1, 1).ok_or("a block")?)
-            .is_ok()
-    );
-    assert!(rt; reader.finds(1, 1) && !reader.stranger());
+    assert_eq!(rt; found(rt.alloc(), &plan), Some([true, false, true, false]));
     Ok(())
 }

@@ -1,10 +1,14 @@
 use super::{CV1, plan_of};
 use crate::compile;
+use lang_check::Plan;
 use round_eval::Gate;
 use shared_memo::Memo;
+use std::alloc::Global;
+use std::sync::Wait;
 use std::sync::atomic::AtomicU64;
 use std::sync::atomic::Ordering::SeqCst;
 use std::test::Fail;
+use std::thread::Threads;
 
 // Looks at the counter of entered workers, at most.
 const TURNS: u64 = 1_000_000_000;
@@ -28,6 +32,18 @@ impl Meeting {
             times: [AtomicU64::new(0), AtomicU64::new(0), AtomicU64::new(0)],
             makers: [AtomicU64::new(0), AtomicU64::new(0), AtomicU64::new(0)],
             late: AtomicU64::new(0),
+        }
+    }
+
+    // What it saw, with the makers of two blocks.
+    fn seen(&self, made: [u64; 2]) -> Seen {
+        let [zero, one, two] = &self.times;
+        let [_, of_one, of_two] = &self.makers;
+        Seen {
+            late: self.late.load(SeqCst) > 0 || self.entered.load(SeqCst) != 2,
+            times: [zero.load(SeqCst), one.load(SeqCst), two.load(SeqCst)],
+            entered: [of_one.load(SeqCst), of_two.load(SeqCst)],
+            made,
         }
     }
 
@@ -60,27 +76,40 @@ impl Gate for Meeting {
     }
 }
 
+// What a meeting of two workers saw.
+#[derive(Clone, Copy, Debug, PartialEq, Eq)]
+struct Seen {
+    // Whether a worker waited in vain for the other, or did not come.
+    late: bool,
+    // How often the gate was told of each job.
+    times: [u64; 3],
+    // Who entered with the jobs of the two blocks of level 1.
+    entered: [u64; 2],
+    // Who made these blocks.
+    made: [u64; 2],
+}
+
+// Compiles by two workers that meet, and looks at the two blocks of level 1.
+fn seen_by_two<R: Threads + Wait + Sync>(rt: &R, alloc: Global, plan: &Plan) -> Option<Seen> {
+    let shape = plan.shape();
+    if shape.rounds() != 1 || shape.blocks(1) != 2 {
+        return None;
+    }
+    let memo = Memo::new(alloc, plan).ok()?;
+    let mut pass = memo.pass(alloc).ok()?;
+    let gate = Meeting::new();
+    compile(rt, alloc, plan, &memo, &mut pass, 2, &gate).ok()?;
+    let first = memo.look(&mut pass, 1, 0).ok()??.maker();
+    let second = memo.look(&mut pass, 1, 1).ok()??.maker();
+    Some(gate.seen([u64::from(first), u64::from(second)]))
+}
+
 #[test]
 fn two_workers_run_at_once(rt: HostRuntime) -> Result<(), Fail> {
     let plan = plan_of(rt.alloc(), CV1, 8)?;
-    let shape = plan.shape();
-    assert!(rt; shape.rounds() == 1);
-    assert!(rt; shape.blocks(1) == 2);
-    let memo = Memo::new(rt.alloc(), &plan).ok().ok_or("a memo")?;
-    let mut pass = memo.pass(rt.alloc()).ok().ok_or("a pass")?;
-    let gate = Meeting::new();
-    let table = compile(&rt, rt.alloc(), &plan, &memo, &mut pass, 2, &gate);
-    assert!(rt; table.is_ok());
-    assert_eq!(rt; gate.late.load(SeqCst), 0);
-    for worker in &gate.workers {
-        assert!(rt; worker.load(SeqCst) > 0);
-    }
-    for times in &gate.times {
-        assert_eq!(rt; times.load(SeqCst), 1);
-    }
-    let first = memo.look(&mut pass, 1, 0).ok().flatten().ok_or("block 0")?;
-    assert_eq!(rt; u64::from(first.maker()), gate.makers[1].load(SeqCst));
-    let second = memo.look(&mut pass, 1, 1).ok().flatten().ok_or("block 1")?;
-    assert_eq!(rt; u64::from(second.maker()), gate.makers[2].load(SeqCst));
+    let seen = seen_by_two(&rt, rt.alloc(), &plan).ok_or("a table")?;
+    assert!(rt; !seen.late);
+    assert_eq!(rt; seen.times, [1, 1, 1]);
+    assert_eq!(rt; seen.made, seen.entered);
     Ok(())
 }

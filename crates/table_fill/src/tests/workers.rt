@@ -1,24 +1,37 @@
-use super::{CV1, plan_of, table_by};
+use super::{CV1, plan_of};
 use crate::crew::fill_by_workers;
 use crate::fault::WorkFault;
 use crate::worker::Fills;
 use crate::{FillFault, compile};
+use lang_check::Plan;
 use round_eval::{Gate, OpenGate};
 use shared_memo::{Desk, Memo, Ticket};
 use std::alloc::Global;
+use std::sync::Wait;
 use std::test::Fail;
+use std::thread::Threads;
+
+// What becomes of a table by so many workers: no fault, or this one.
+fn fault_of<R: Threads + Wait + Sync>(
+    rt: &R,
+    alloc: Global,
+    plan: &Plan,
+    workers: u32,
+) -> Option<Option<FillFault>> {
+    let memo = Memo::new(alloc, plan).ok()?;
+    let mut pass = memo.pass(alloc).ok()?;
+    Some(compile(rt, alloc, plan, &memo, &mut pass, workers, &OpenGate).err())
+}
 
 #[test]
 fn one_to_64_workers(rt: HostRuntime) -> Result<(), Fail> {
     let plan = plan_of(rt.alloc(), CV1, 8)?;
     for workers in [0, 65] {
-        let memo = Memo::new(rt.alloc(), &plan).ok().ok_or("a memo")?;
-        let mut pass = memo.pass(rt.alloc()).ok().ok_or("a pass")?;
-        let refused = compile(&rt, rt.alloc(), &plan, &memo, &mut pass, workers, &OpenGate);
-        assert_eq!(rt; refused.err(), Some(FillFault::WorkersOutOfRange));
+        let fault = fault_of(&rt, rt.alloc(), &plan, workers);
+        assert_eq!(rt; fault, Some(Some(FillFault::WorkersOutOfRange)));
     }
     for workers in [1, 64] {
-        table_by(&rt, rt.alloc(), &plan, workers)?;
+        assert_eq!(rt; fault_of(&rt, rt.alloc(), &plan, workers), Some(None));
     }
     Ok(())
 }
