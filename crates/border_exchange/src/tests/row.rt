@@ -22,8 +22,6 @@ fn puts_and_takes<R: Ledger, L: Ledger, W: Abort + Wait>(
     let (border, mut right, mut left) = Border::<_, R, L>::new(alloc, right, left)
         .ok()
         .ok_or("a border")?;
-    assert!(rt; right.side() == Side::Rightward && right.puts() == 0);
-    assert!(rt; left.side() == Side::Leftward && left.puts() == 0);
     let (one, two) = (to_the_right(0, 1), to_the_left(0, 2));
     assert_eq!(rt; border.put(rt, &mut right, one), Ok(()));
     assert!(rt; right.puts() == 1);
