@@ -1,0 +1,9 @@
+//! The parts of a ring that is run by messages: segments of its places, the messages that they exchange, and the
+//! machine of segments and borders in one thread.
+#![tactic(auto)]
+
+mod message;
+mod segment;
+
+pub use message::Msg;
+pub use segment::{Segment, Strange};

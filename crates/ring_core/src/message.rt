@@ -1,0 +1,105 @@
+// What a place sends in a round.
+ghost use Rattle.std.specs.Prelude.{◌≡◌, ◌↔◌, IsTrue};
+ghost use Rattle.ring_core.specs.Messages.{message_at};
+
+use border_exchange::{Dated, Side};
+use lang_check::Plan;
+use win_index::Ring;
+
+/// A message of a run of a plan on a ring: what its place sends to its side in its round. Rounds count from 0.
+#[derive(Clone, Copy)]
+pub struct Msg<'a> {
+    plan: &'a Plan,
+    ring: &'a Ring,
+    place: u32,
+    side: Side,
+    round: u32,
+    value: u32,
+    ghost sent: { value ≡ message_at plan.now.program ring.now.places round place side },
+}
+
+impl<'a> Dated for Msg<'a> {
+    ghost side_of = { λ m. m.side };
+
+    ghost round_of = { λ m. m.round };
+
+    fn side(&self) -> Side {
+        self.side
+    }
+
+    fn round(&self) -> u32 {
+        self.round
+    }
+}
+
+impl<'a> Msg<'a> {
+    ghost use Rattle.ring_core.specs.Messages.{heading_of, sent_under};
+
+    // The message of this value, which is what the place sends.
+    pub(crate) fn new(
+        plan: &'a Plan,
+        ring: &'a Ring,
+        place: u32,
+        side: Side,
+        round: u32,
+        value: u32,
+    ) -> Msg<'a>
+        requires { value ≡ message_at plan.now.program ring.now.places round place side }
+        ensures { heading_of result ≡ record { plan = plan.now; ring = ring.now; place = place; side = side; round = round } }
+    {
+        Msg {
+            plan,
+            ring,
+            place,
+            side,
+            round,
+            value,
+        }
+    }
+
+    /// The plan of its run.
+    pub fn plan(&self) -> &'a Plan
+        ensures { result.now ≡ (heading_of self.now).plan }
+    {
+        self.plan
+    }
+
+    /// The ring of its run.
+    pub fn ring(&self) -> &'a Ring
+        ensures { result.now ≡ (heading_of self.now).ring }
+    {
+        self.ring
+    }
+
+    /// The place that sends it.
+    pub fn place(&self) -> u32
+        ensures { result ≡ (heading_of self.now).place }
+    {
+        self.place
+    }
+
+    /// What is sent.
+    pub fn value(&self) -> u32
+        ensures { result ≡ sent_under (heading_of self.now) }
+    {
+        self.value
+    }
+
+    // Whether it is the message that the place sends to the side in the round, in a run of this plan on this ring.
+    pub(crate) fn is_from(
+        &self,
+        plan: &Plan,
+        ring: &Ring,
+        place: u32,
+        side: Side,
+        round: u32,
+    ) -> bool
+        ensures { IsTrue result ↔ (heading_of self.now ≡ record { plan = plan.now; ring = ring.now; place = place; side = side; round = round }) }
+    {
+        self.place == place
+            && self.side == side
+            && self.round == round
+            && self.plan.same(plan)
+            && self.ring.same(ring)
+    }
+}

@@ -1,0 +1,10 @@
+//! A ring run by messages: each segment of its places runs in a thread of its own, and neighbouring segments exchange
+//! messages at borders.
+#![tactic(auto)]
+
+mod limits;
+mod message_run;
+
+pub use limits::MAX_SEGMENTS;
+pub use message_run::{RunFault, run};
+pub use ring_core::{Msg, Segment, Strange};
