@@ -2,6 +2,7 @@
 -- their own rounds and the messages that they need.
 pub mod SegmentPlaces
 pub mod Messages
+pub mod Headings
 pub mod Segments
 pub mod Needs
 pub mod Codes

@@ -1,4 +1,4 @@
--- What is sent in global rounds, and which message a message is.
+-- What is sent in global rounds, and by whom.
 use Rattle.std.specs.Prelude.{ℕ, List}
 use Rattle.node_lang.specs.Term.{ProgramTree}
 use Rattle.node_lang.specs.Node.{to_left, to_right}
@@ -7,7 +7,6 @@ use Rattle.lang_check.specs.Plans.{ProgramForIds}
 use Rattle.win_index.specs.Ring.{OrientedRing}
 use Rattle.border_exchange.specs.declared.Side.{Side}
 use Rattle.border_exchange.specs.declared.Side.TheVariants.{Rightward, Leftward}
-use Rattle.ring_core.specs.declared.message.Msg.{Msg}
 
 -- what place i of the ring x sends to a side in round r
 abbrev pub message_at : ProgramTree → List ℕ → ℕ → ℕ → Side → ℕ
@@ -21,9 +20,6 @@ pub record Heading : Type 0 where
   pub place : ℕ
   pub side : Side
   pub round : ℕ
-
-abbrev pub heading_of : Msg → Heading
-heading_of m = record { plan = m.plan.now; ring = m.ring.now; place = m.place; side = m.side; round = m.round }
 
 -- what is sent under a heading
 abbrev pub sent_under : Heading → ℕ

@@ -33,7 +33,8 @@ impl<'a> Dated for Msg<'a> {
 }
 
 impl<'a> Msg<'a> {
-    ghost use Rattle.ring_core.specs.Messages.{heading_of, sent_under};
+    ghost use Rattle.ring_core.specs.Headings.{heading_of};
+    ghost use Rattle.ring_core.specs.Messages.{sent_under};
 
     // The message of this value, which is what the place sends.
     pub(crate) fn new(

@@ -50,7 +50,7 @@ impl<'a> Model for Segment<'a> {
 }
 
 impl<'a> Segment<'a> {
-    ghost use Rattle.ring_core.specs.Messages.{heading_of};
+    ghost use Rattle.ring_core.specs.Headings.{heading_of};
     ghost use Rattle.ring_core.specs.Needs.{from_left, from_right, to_the_left, to_the_right};
 
     /// The segment with this index, of as many as `segments`, before the first round. With `n` places segment `s` has
