@@ -133,8 +133,22 @@ impl<'a> Segment<'a> {
         let right = sent_to_right(self.plan, self.round, row_at(&self.states, width, last));
         let left = sent_to_left(self.plan, self.round, row_at(&self.states, width, 0));
         (
-            Msg::new(self.plan, self.ring, self.end - 1, Side::Rightward, self.round, right),
-            Msg::new(self.plan, self.ring, self.first, Side::Leftward, self.round, left),
+            Msg::new(
+                self.plan,
+                self.ring,
+                self.end - 1,
+                Side::Rightward,
+                self.round,
+                right,
+            ),
+            Msg::new(
+                self.plan,
+                self.ring,
+                self.first,
+                Side::Leftward,
+                self.round,
+                left,
+            ),
         )
     }
 

@@ -1,0 +1,20 @@
+use Rattle.std.proofs.Common.{◌-◌, ◌<◌, length, ◌∙◌, ap, arith}
+use Rattle.node_lang.specs.Node.{to_right}
+use Rattle.round_eval.specs.Rows.{rows}
+use Rattle.ring_core.proofs.Stretches.{row_of_stretch}
+use Rattle.ring_core.proofs.segment.Segment.outgoing.Goals as goal
+
+pub new-requires : goal.new-requires
+new-requires c =
+    let was = c.self.inside in
+    let p = was.plan.now.program in
+    let x = was.ring.now.places in
+    let kept = c.self.invariant in
+    let some = kept.some in
+    let count = was.end - was.first in
+    let last : was.end - was.first - 1 < count = omega arith in
+    let read = rw (c.width_of-width.ensures.value, c.deref.ensures.value) at c.row_at.ensures.value count last in
+    c.sent_to_right-right.ensures
+    ∙ ap (to_right p was.round)
+    (row_of_stretch p x was.round was.first count (was.end - was.first - 1) (was.end - 1)
+    (rows (length p.start) count was.states.items) c.row_at.result.now kept.rows_are last (omega arith) read)
