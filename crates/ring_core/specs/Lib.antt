@@ -6,3 +6,4 @@ pub mod Headings
 pub mod Segments
 pub mod Needs
 pub mod Codes
+pub mod Laws

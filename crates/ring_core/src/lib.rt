@@ -2,8 +2,10 @@
 //! machine of segments and borders in one thread.
 #![tactic(auto)]
 
+mod laws;
 mod message;
 mod segment;
 
+pub use laws::segments_cover_the_ring;
 pub use message::Msg;
 pub use segment::{Segment, Strange};
