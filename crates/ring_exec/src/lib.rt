@@ -2,8 +2,16 @@
 //! messages at borders.
 #![tactic(auto)]
 
+mod border_name;
+mod course;
+mod end;
+mod fault;
+mod gathering;
+mod joined;
 mod limits;
 mod message_run;
+mod relay;
+mod runner;
 
 pub use limits::MAX_SEGMENTS;
 pub use message_run::{RunFault, run};

@@ -3,10 +3,20 @@ ghost use Rattle.std.specs.Prelude.{◌≡◌, ◌↔◌, IfOk, OnOk, IfErr, len
 ghost use Rattle.node_lang.specs.GlobalRounds.{channels_of};
 ghost use Rattle.ring_exec.specs.SegmentCounts.{IsSegmentCount};
 
+use crate::border_name::{Blanks, BorderName};
+use crate::course::Course;
+use crate::end::new_border;
+use crate::fault::SegmentFault;
+use crate::gathering::gather;
+use crate::joined::Joined;
 use crate::limits::MAX_SEGMENTS;
+use crate::relay::run_all;
+use crate::runner::Shared;
 use lang_check::Plan;
-use round_eval::{Gate, plain_run};
+use ring_core::{Msg, Segment};
+use round_eval::Gate;
 use std::alloc::Global;
+use std::marker::Brand;
 use std::sync::Wait;
 use std::thread::Threads;
 use win_index::Ring;
@@ -48,5 +58,76 @@ pub fn run<'a, R: Threads + Wait + Sync, G: Gate + Sync>(
     if segments == 0 || segments > MAX_SEGMENTS || segments > ring.len() {
         return Err(RunFault::SegmentsOutOfRange);
     }
-    plain_run(alloc, plan, ring).map_err(|_| RunFault::OutOfMemory)
+    let shared = Shared { rt, alloc, gate };
+    match run_named::<R, G, Brand>(shared, plan, ring, segments, Blanks::new()) {
+        Ok(channels) => Ok(channels),
+        Err(fault) => Err(run_fault(fault)),
+    }
+}
+
+// The fault of a run that comes to a segment's fault.
+fn run_fault(fault: SegmentFault) -> RunFault
+    ensures { ¬ (result ≡ RunFault.SegmentsOutOfRange) }
+{
+    match fault {
+        SegmentFault::OutOfMemory => RunFault::OutOfMemory,
+        SegmentFault::Stranger => RunFault::Stranger,
+        SegmentFault::NoThread => RunFault::NoThread,
+    }
+}
+
+// The run whose last border has the name L. All that it takes itself it takes before the first thread starts.
+fn run_named<'a, R: Threads + Wait + Sync, G: Gate + Sync, L: BorderName + Send + Sync + 'a>(
+    shared: Shared<'a, R, G>,
+    plan: &'a Plan,
+    ring: &'a Ring,
+    segments: u32,
+    blanks: Blanks,
+) -> Result<Vec<u32>, SegmentFault>
+    requires ids { ring.now.ids ≡ plan.now.ids }
+    requires rounds { ring.now.rounds ≡ length plan.now.program.steps }
+    requires range { IsSegmentCount segments (length ring.now.places) }
+    requires right { (blanks.right.name ≡ L.rightward) × (blanks.right.parts ≡ 1) }
+    requires left { (blanks.left.name ≡ L.leftward) × (blanks.left.parts ≡ 1) }
+    ensures { IfOk result (λ channels. channels.items ≡ channels_of plan.now.program ring.now.places) }
+{
+    let alloc = shared.alloc;
+    let waiting = waiting_segments(alloc, plan, ring, segments)?;
+    let mut channels = vec![in alloc; 0; ring.len() as usize]?;
+    let joined = Joined::new(alloc, segments)?;
+    let threads = Vec::with_capacity(alloc, segments as usize)?;
+    let (last, before) = new_border::<Msg<'a>, L>(alloc, blanks)?;
+    let course = Course {
+        shared,
+        index: 0,
+        before: Some(before),
+        last,
+        waiting,
+        threads,
+        joined,
+    };
+    let found = run_all(course, segments).into_segments()?;
+    gather(plan, ring, segments, found, &mut channels)?;
+    Ok(channels)
+}
+
+// The segments of a run before their first round, the first one last.
+fn waiting_segments<'a>(
+    alloc: Global,
+    plan: &'a Plan,
+    ring: &'a Ring,
+    segments: u32,
+) -> Result<Vec<Segment<'a>>, SegmentFault>
+    requires ids { ring.now.ids ≡ plan.now.ids }
+    requires rounds { ring.now.rounds ≡ length plan.now.program.steps }
+    requires range { IsSegmentCount segments (length ring.now.places) }
+{
+    let mut waiting = Vec::with_capacity(alloc, segments as usize)?;
+    for started in 0..segments {
+        let segment = Segment::new(alloc, plan, ring, segments, segments - 1 - started)?;
+        if waiting.push(segment).is_err() {
+            return Err(SegmentFault::OutOfMemory);
+        }
+    }
+    Ok(waiting)
 }

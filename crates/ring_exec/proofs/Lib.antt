@@ -1,0 +1,3 @@
+-- What the proof of the recursion over the segments is made of.
+pub mod Steps
+pub mod FactRows

@@ -1,0 +1,13 @@
+use Rattle.std.proofs.Common.{◌≡◌, ℕ, ◌<◌, length, get_or}
+use Rattle.node_lang.specs.GlobalRounds.{channel_at}
+use Rattle.ring_core.specs.SegmentPlaces.{first_place}
+use Rattle.ring_exec.proofs.gathering.gather.Given as goal
+
+-- the channels of the segments so far stand
+abbrev pub invariant-loop-index : goal.invariant-loop-index
+invariant-loop-index l =
+    record {
+      first : l.first ≡ first_place (length l.ring.places) l.segments l.index;
+      size : length l.channels ≡ length l.ring.places;
+      each : (i : ℕ) → i < l.first → get_or l.channels i 0 ≡ channel_at l.plan.program l.ring.places i;
+    }

@@ -1,0 +1,5 @@
+use Rattle.ring_exec.proofs.relay.run_from.Given as goal
+
+-- the first new border has the names of its blanks
+abbrev pub ghosts-after : goal.ghosts-after
+ghosts-after g a = record { rightward = a.blanks.right.name; leftward = a.blanks.left.name }

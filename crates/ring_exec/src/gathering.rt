@@ -1,0 +1,58 @@
+// The channels of the segments that came back.
+ghost use Rattle.std.specs.Prelude.{◌≡◌, ℕ, ◌+◌, ◌<◌, ◌≤◌, OnOk, length, slice_index};
+ghost use Rattle.node_lang.specs.GlobalRounds.{channel_at, channels_of};
+ghost use Rattle.ring_core.specs.Segments.{first_of, places_of};
+ghost use Rattle.ring_exec.specs.SegmentCounts.{IsSegmentCount};
+
+use crate::fault::SegmentFault;
+use lang_check::Plan;
+use ring_core::Segment;
+use round_eval::{channel, row_at, width_of};
+use win_index::Ring;
+
+// Writes the channels of the segments, the first of which is last in the list, where they are those of this run, all
+// after the last round.
+pub(crate) fn gather(
+    plan: &Plan,
+    ring: &Ring,
+    segments: u32,
+    mut found: Vec<Segment<'_>>,
+    channels: &mut [u32],
+) -> Result<(), SegmentFault>
+    requires range { IsSegmentCount segments (length ring.now.places) }
+    requires room { length channels.old ≡ length ring.now.places }
+    ensures { OnOk result (channels.new ≡ channels_of plan.now.program ring.now.places) }
+{
+    let places = ring.len();
+    let mut first = 0;
+    for index in 0..segments {
+        let Some(segment) = found.pop() else {
+            return Err(SegmentFault::Stranger);
+        };
+        if !segment.is_of(plan, ring, segments, index) || segment.round() != segment.rounds() {
+            return Err(SegmentFault::Stranger);
+        }
+        let end = (index + 1) * places / segments;
+        write_part(plan, &segment, first as usize, end as usize, channels);
+        first = end;
+    }
+    Ok(())
+}
+
+// Writes the channels of the places of a segment after its last round, where those of the places before stand.
+#[tactic(auto, using(std::proofs::lemmas::Nat::row_fits))]
+fn write_part(plan: &Plan, segment: &Segment<'_>, first: usize, end: usize, channels: &mut [u32])
+    requires plan { segment.now.plan ≡ plan.now }
+    requires done { segment.now.round ≡ length plan.now.program.steps }
+    requires first { first ≡ first_of segment.now }
+    requires end { end ≡ first + places_of segment.now }
+    requires room { end ≤ length channels.old }
+    requires before { (i : ℕ) → i < first → slice_index channels.old i ≡ channel_at plan.now.program segment.now.ring.places i }
+    ensures { (i : ℕ) → i < end → slice_index channels.new i ≡ channel_at plan.now.program segment.now.ring.places i }
+{
+    let width = width_of(plan);
+    let states = segment.states();
+    for place in first..end {
+        channels[place] = channel(plan, row_at(states, width, place - first));
+    }
+}

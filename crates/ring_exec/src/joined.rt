@@ -1,0 +1,51 @@
+// What the segments of a run came to.
+use crate::fault::SegmentFault;
+use crate::runner::Outcome;
+use ring_core::Segment;
+use std::alloc::Global;
+
+// The segments that came back, from the last to the first, and the fault that counts.
+#[derive(Drop)]
+pub(crate) struct Joined<'a> {
+    segments: Vec<Segment<'a>>,
+    fault: Option<SegmentFault>,
+}
+
+impl<'a> Joined<'a> {
+    // Nothing so far, with room for so many segments.
+    pub(crate) fn new(alloc: Global, segments: u32) -> Result<Joined<'a>, SegmentFault> {
+        let segments = Vec::with_capacity(alloc, segments as usize)?;
+        Ok(Joined {
+            segments,
+            fault: None,
+        })
+    }
+
+    // Adds what a segment came to. All that were added before come after it on the ring.
+    pub(crate) fn add(mut self, outcome: Outcome<'a>) -> Joined<'a> {
+        match outcome {
+            Ok(segment) => {
+                if self.segments.push(segment).is_err() {
+                    self.blame(SegmentFault::OutOfMemory);
+                }
+            }
+            Err(fault) => self.blame(fault),
+        }
+        self
+    }
+
+    // The segments that came back, where none had a fault.
+    pub(crate) fn into_segments(self) -> Result<Vec<Segment<'a>>, SegmentFault> {
+        match self.fault {
+            None => Ok(self.segments),
+            Some(fault) => Err(fault),
+        }
+    }
+
+    // Takes the fault of a segment in place of one of a segment after it. A refused thread counts first.
+    pub(crate) fn blame(&mut self, fault: SegmentFault) {
+        if self.fault != Some(SegmentFault::NoThread) {
+            self.fault = Some(fault);
+        }
+    }
+}

@@ -1,0 +1,88 @@
+// A segment that runs between its two borders.
+ghost use Rattle.std.specs.Prelude.{◌≡◌, ◌+◌, ◌<◌, OnOk, length};
+
+use crate::border_name::BorderName;
+use crate::end::{End, Stop};
+use crate::fault::SegmentFault;
+use border_exchange::{Dated, Side};
+use ring_core::{Msg, Segment};
+use round_eval::Gate;
+use std::alloc::Global;
+use std::sync::Wait;
+
+// What the thread of a segment comes to: the segment, after the last round unless a border was closed before.
+pub(crate) type Outcome<'a> = Result<Segment<'a>, SegmentFault>;
+
+// What all segments of a run share.
+#[derive_where(Clone, Copy)]
+pub(crate) struct Shared<'s, R, G> {
+    pub(crate) rt: &'s R,
+    pub(crate) alloc: Global,
+    pub(crate) gate: &'s G,
+}
+
+// A segment with the ends of its two borders, ready to run. The types of segments and of messages are parameters, so
+// that it is shown once for all of them that a runner may go to another thread where they may.
+#[derive(Drop)]
+pub(crate) struct Runner<'s, S, M: Dated, R, G, A: BorderName, B: BorderName> {
+    pub(crate) shared: Shared<'s, R, G>,
+    pub(crate) index: u32,
+    pub(crate) segment: S,
+    pub(crate) left: End<M, A>,
+    pub(crate) right: End<M, B>,
+}
+
+impl<'s, 'a, R: Wait, G: Gate, A: BorderName, B: BorderName> Runner<
+    's,
+    Segment<'a>,
+    Msg<'a>,
+    R,
+    G,
+    A,
+    B,
+> {
+    // Runs the segment to its last round, or until it stops; both borders are then closed.
+    pub(crate) fn run(self) -> Outcome<'a> {
+        let Runner {
+            shared,
+            index,
+            mut segment,
+            mut left,
+            mut right,
+        } = self;
+        while segment.round() < segment.rounds() {
+            shared.gate.entered(index, segment.round());
+            if let Err(stop) = next_round(shared.rt, &mut segment, &mut left, &mut right) {
+                left.close(shared.rt);
+                right.close(shared.rt);
+                return match stop {
+                    Stop::BorderClosed => Ok(segment),
+                    Stop::Fault(fault) => Err(fault),
+                };
+            }
+        }
+        Ok(segment)
+    }
+}
+
+// Puts on both borders, takes from both and advances.
+fn next_round<'a, R: Wait, A: BorderName, B: BorderName>(
+    rt: &R,
+    segment: &mut Segment<'a>,
+    left: &mut End<Msg<'a>, A>,
+    right: &mut End<Msg<'a>, B>,
+) -> Result<(), Stop>
+    requires { segment.old.round < length segment.old.plan.program.steps }
+    ensures { OnOk result (segment.new ≡ record segment.old { round = segment.old.round + 1 }) }
+{
+    let round = segment.round();
+    let (rightward, leftward) = segment.outgoing();
+    right.put(rt, rightward)?;
+    left.put(rt, leftward)?;
+    let from_left = left.take(rt, Side::Rightward, round)?;
+    let from_right = right.take(rt, Side::Leftward, round)?;
+    match segment.advance(from_left, from_right) {
+        Ok(()) => Ok(()),
+        Err(_) => Err(Stop::Fault(SegmentFault::Stranger)),
+    }
+}
