@@ -1,3 +1,3 @@
 -- Lemmas that several proofs share.
-pub mod Places
+mod Places
 mod Stretches
