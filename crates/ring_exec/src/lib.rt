@@ -16,3 +16,6 @@ mod runner;
 pub use limits::MAX_SEGMENTS;
 pub use message_run::{RunFault, run};
 pub use ring_core::{Msg, Segment, Strange};
+
+#[cfg(test)]
+mod tests;

@@ -1,0 +1,31 @@
+use crate::fault::SegmentFault;
+use crate::joined::Joined;
+use std::alloc::Global;
+use std::test::Fail;
+
+// The fault of a run whose segments had these, from the last to the first.
+fn fault_after(alloc: Global, faults: &[SegmentFault]) -> Option<Option<SegmentFault>> {
+    let mut joined = Joined::new(alloc, 0).ok()?;
+    for fault in faults {
+        joined = joined.add(Err(*fault));
+    }
+    Some(joined.into_segments().err())
+}
+
+#[test]
+fn the_fault_of_the_lowest_segment_counts(rt: HostRuntime) -> Result<(), Fail> {
+    let memory = SegmentFault::OutOfMemory;
+    let stranger = SegmentFault::Stranger;
+    let thread = SegmentFault::NoThread;
+    let rows = [
+        ([memory, stranger], stranger),
+        ([stranger, memory], memory),
+        ([thread, memory], thread),
+        ([memory, thread], thread),
+    ];
+    assert!(rt; fault_after(rt.alloc(), &[]) == Some(None));
+    for (faults, fault) in rows {
+        assert!(rt; fault_after(rt.alloc(), &faults) == Some(Some(fault)));
+    }
+    Ok(())
+}
