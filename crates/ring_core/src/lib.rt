@@ -2,8 +2,10 @@
 //! machine of segments and borders in one thread.
 #![tactic(auto)]
 
+mod machine;
 mod message;
 mod segment;
 
+pub use machine::{RingEvent, World, one_run, replay};
 pub use message::Msg;
 pub use segment::{Segment, Strange};
