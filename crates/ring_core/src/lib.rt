@@ -9,3 +9,6 @@ mod segment;
 pub use machine::{RingEvent, World, one_run, replay};
 pub use message::Msg;
 pub use segment::{Segment, Strange};
+
+#[cfg(test)]
+mod tests;
