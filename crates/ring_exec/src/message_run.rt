@@ -76,7 +76,7 @@ fn run_fault(fault: SegmentFault) -> RunFault
     }
 }
 
-// The run whose last border has the name L. All that it takes itself it takes before the first thread starts.
+// The run whose last border has the name L.
 fn run_named<'a, R: Threads + Wait + Sync, G: Gate + Sync, L: BorderName + Send + Sync + 'a>(
     shared: Shared<'a, R, G>,
     plan: &'a Plan,
@@ -91,8 +91,31 @@ fn run_named<'a, R: Threads + Wait + Sync, G: Gate + Sync, L: BorderName + Send 
     requires left { (blanks.left.name ≡ L.leftward) × (blanks.left.parts ≡ 1) }
     ensures { IfOk result (λ channels. channels.items ≡ channels_of plan.now.program ring.now.places) }
 {
+    let waiting = waiting_segments(shared.alloc, plan, ring, segments)?;
+    run_segments::<R, G, L>(shared, plan, ring, segments, waiting, blanks)
+}
+
+// The run of these segments, the first one last. That they are those of the plan and the ring is found once they have
+// ended. What is taken here is taken before the first thread starts.
+pub(crate) fn run_segments<
+    'a,
+    R: Threads + Wait + Sync,
+    G: Gate + Sync,
+    L: BorderName + Send + Sync + 'a,
+>(
+    shared: Shared<'a, R, G>,
+    plan: &Plan,
+    ring: &Ring,
+    segments: u32,
+    waiting: Vec<Segment<'a>>,
+    blanks: Blanks,
+) -> Result<Vec<u32>, SegmentFault>
+    requires range { IsSegmentCount segments (length ring.now.places) }
+    requires right { (blanks.right.name ≡ L.rightward) × (blanks.right.parts ≡ 1) }
+    requires left { (blanks.left.name ≡ L.leftward) × (blanks.left.parts ≡ 1) }
+    ensures { IfOk result (λ channels. channels.items ≡ channels_of plan.now.program ring.now.places) }
+{
     let alloc = shared.alloc;
-    let waiting = waiting_segments(alloc, plan, ring, segments)?;
     let mut channels = vec![in alloc; 0; ring.len() as usize]?;
     let joined = Joined::new(alloc, segments)?;
     let threads = Vec::with_capacity(alloc, segments as usize)?;
