@@ -26,7 +26,7 @@ use win_index::Ring;
 pub enum RunFault {
     /// E1: not 1 to 64 segments, or more than the ring has places.
     SegmentsOutOfRange,
-    /// E2: memory was refused.
+    /// E2: memory for a segment, a border, a message or the channels was refused.
     OutOfMemory,
     /// E3: a message came that its segment did not need, or a segment ended too soon.
     Stranger,
@@ -35,8 +35,8 @@ pub enum RunFault {
 }
 
 /// The channels of a ring after all rounds of a plan, in the order of the places. The ring is cut into segments, each
-/// runs in a thread of its own, and neighbours exchange messages at borders. The gate is told of each round of each
-/// segment, before the segment sends. The ring has the plan's shape.
+/// runs in a thread of its own, the last one in the caller's, and neighbours exchange messages at borders. The gate is
+/// told of each round of each segment, before the segment sends. The ring has the plan's shape.
 ///
 /// `SegmentsOutOfRange` comes first, where the number of segments is not 1 to 64 or is above the number of places; then
 /// `NoThread`, where the start of a thread was refused; else the fault of the lowest segment that has one. All threads

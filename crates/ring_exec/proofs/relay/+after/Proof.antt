@@ -42,7 +42,7 @@ use mir.MapTy.{inst_fn}
 use prog.Model.{Model}
 use prog.Wired.{Wired}
 use prog.Wp.{WpFn}
-use base.Logic.{SProp, ent, via, emp}
+use base.Logic.{ent, via, emp}
 use contract.BorrowLft.{◌⊑◌, ⊑_static}
 use contract.Forks.{Anywhere₂}
 use contract.Lifetimes.{Lfts, Shares, AllOutlive, toks}
