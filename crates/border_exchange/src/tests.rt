@@ -1,5 +1,6 @@
 //! Tests of what no clause says.
 
+mod growth;
 mod row;
 mod threads;
 

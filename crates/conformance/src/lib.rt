@@ -6,4 +6,6 @@ pub mod programs;
 #[cfg(test)]
 mod reports;
 #[cfg(test)]
+mod segments;
+#[cfg(test)]
 mod texts;

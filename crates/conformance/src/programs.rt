@@ -46,6 +46,10 @@ pub const CV1_WITH_BLANKS: &[u8] =
 pub const TWO_REGISTERS: &[u8] =
     b"rounds 1\nchannels 64\nregisters 2\nstart\nr0 = id\nr1 = 0\nround\nsend left r1\nsend right r0\nr0 = r1\nr1 = add(r0, L)\nfinish r1\n";
 
+/// `TWO_REGISTERS` with two hundred channels.
+pub const TWO_REGISTERS_OF_200: &[u8] =
+    b"rounds 1\nchannels 200\nregisters 2\nstart\nr0 = id\nr1 = 0\nround\nsend left r1\nsend right r0\nr0 = r1\nr1 = add(r0, L)\nfinish r1\n";
+
 /// Eight registers in three rounds: each round moves them down by one and puts what came from the left last. So
 /// at the end register 0 is what register 3 was, and register 5 what the left neighbour's register 1 was.
 pub const EIGHT_REGISTERS: &[u8] =

@@ -17,7 +17,7 @@ use std::test::Fail;
 use std::thread::Threads;
 
 /// Does a task on a program text over memory and compares the report.
-fn reports<R: Abort + Threads + Wait + Sync>(
+pub(crate) fn reports<R: Abort + Threads + Wait + Sync>(
     rt: &R,
     alloc: Global,
     task: Task,
@@ -39,7 +39,7 @@ fn reports<R: Abort + Threads + Wait + Sync>(
 }
 
 /// The report of a task on a program text that is done.
-fn done<R: Abort + Threads + Wait + Sync>(
+pub(crate) fn done<R: Abort + Threads + Wait + Sync>(
     rt: &R,
     alloc: Global,
     task: Task,
@@ -64,7 +64,7 @@ fn line_of(text: &[u8], number: usize) -> Option<&[u8]> {
         .nth(number.saturating_sub(1))
 }
 
-/// Every task refuses a program text for `ids` identifiers with this line.
+/// Every task refuses a program text for `ids` identifiers with this line, whatever its ring and its segments are.
 fn all_refuse<R: Abort + Threads + Wait + Sync>(
     rt: &R,
     alloc: Global,
@@ -79,6 +79,7 @@ fn all_refuse<R: Abort + Threads + Wait + Sync>(
         Task::Run {
             ids,
             ring: [0, 1].to_vec(alloc)?,
+            segments: 3,
         },
         Task::Plan {
             ids,
@@ -227,12 +228,17 @@ fn ring_faults(rt: HostRuntime) -> Result<(), Fail> {
         let alloc = rt.alloc();
         let ring = ring.to_vec(alloc)?;
         let again = ring.to_vec(alloc)?;
+        let run = Task::Run {
+            ids,
+            ring,
+            segments: 64,
+        };
         let plan = Task::Plan {
             ids,
             ring: again,
             workers: 1,
         };
-        for task in [Task::Run { ids, ring }, plan] {
+        for task in [run, plan] {
             reports(&rt, alloc, task, CV1, line, Status::RingRefused)?;
         }
     }
@@ -259,14 +265,12 @@ fn runs(rt: HostRuntime) -> Result<(), Fail> {
     ];
     for (text, ids, ring, line) in rows {
         let ring = ring.to_vec(rt.alloc())?;
-        reports(
-            &rt,
-            rt.alloc(),
-            Task::Run { ids, ring },
-            text,
-            line,
-            Status::Done,
-        )?;
+        let task = Task::Run {
+            ids,
+            ring,
+            segments: 1,
+        };
+        reports(&rt, rt.alloc(), task, text, line, Status::Done)?;
     }
     Ok(())
 }

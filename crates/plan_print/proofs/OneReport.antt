@@ -11,9 +11,10 @@ use Rattle.nbhd_check.specs.Laws.{OneWitness, GoodTablesHaveNoWitness}
 use Rattle.task_words.specs.declared.task.Task.{Task}
 use Rattle.task_words.specs.declared.task.Task.TheVariants.{Check, Table, Judge, Run, Plan}
 use Rattle.plan_print.specs.declared.status.Status.{Status}
+use Rattle.plan_print.specs.declared.status.Status.TheVariants.{Done}
 use Rattle.task_words.specs.Task.{ids_of}
 use Rattle.plan_print.specs.Report as report
-use Rattle.plan_print.specs.Report.{Report, Says, IsJudgement, good, bad, IsAnswerOnRing, ring_fault, on_ring, IsAnswer, IsReport, text_fault, check_fault, answered}
+use Rattle.plan_print.specs.Report.{Report, Says, IsJudgement, good, bad, IsAnswerOnRing, ring_fault, on_ring, IsRunAnswer, out_of_range, ran, IsAnswer, IsReport, text_fault, check_fault, answered}
 use Rattle.plan_print.specs.Laws.{OneReport}
 
 -- two reports that say the same are one
@@ -28,20 +29,30 @@ one_judgement one no_witness t r s (bad ring i c witness says) (bad other j d wi
     let same = one t ring other i j c d witness witness' in
     said_once _ _ _ r s (λ k. report.bad_line (same.0 k) (same.1 k) (same.2 k)) says says'
 
-one_on_ring : OneRingFault → RingsHaveNoFault → (m t : ℕ) (x bytes : List ℕ) (r s : Report) → IsAnswerOnRing m t x bytes r → IsAnswerOnRing m t x bytes s → r ≡ s
-one_on_ring one no_fault m t x bytes r s (ring_fault f first says) (ring_fault g first' says') =
+-- one answer on a list of identifiers, where one thing is said of a ring
+one_on_ring : OneRingFault → RingsHaveNoFault → (m t : ℕ) (x : List ℕ) (said : Report → Type 0) → ((r s : Report) → said r → said s → r ≡ s)
+    → (r s : Report) → IsAnswerOnRing m t x said r → IsAnswerOnRing m t x said s → r ≡ s
+one_on_ring one no_fault m t x said once r s (ring_fault f first says) (ring_fault g first' says') =
     said_once _ _ _ r s (ap report.ring_fault_line (one m t x f g first first')) says says'
-one_on_ring one no_fault m t x bytes r s (ring_fault f first says) (on_ring ring says') = absurd (no_fault m t x f ring first)
-one_on_ring one no_fault m t x bytes r s (on_ring ring says) (ring_fault f first says') = absurd (no_fault m t x f ring first)
-one_on_ring one no_fault m t x bytes r s (on_ring ring says) (on_ring ring' says') = said_once _ _ _ r s refl says says'
+one_on_ring one no_fault m t x said once r s (ring_fault f first says) (on_ring ring says') = absurd (no_fault m t x f ring first)
+one_on_ring one no_fault m t x said once r s (on_ring ring says) (ring_fault f first says') = absurd (no_fault m t x f ring first)
+one_on_ring one no_fault m t x said once r s (on_ring ring says) (on_ring ring' says') = once r s says says'
+
+one_run : (p : ProgramTree) (x : List ℕ) (segments : ℕ) (r s : Report) → IsRunAnswer p x segments r → IsRunAnswer p x segments s → r ≡ s
+one_run p x segments r s (out_of_range out says) (out_of_range out' says') = said_once _ _ _ r s refl says says'
+one_run p x segments r s (out_of_range out says) (ran within says') = absurd (out within)
+one_run p x segments r s (ran within says) (out_of_range out says') = absurd (out within)
+one_run p x segments r s (ran within says) (ran within' says') = said_once _ _ _ r s refl says says'
 
 one_answer : OneRingFault → RingsHaveNoFault → OneWitness → GoodTablesHaveNoWitness
     → (task : Task) (p : ProgramTree) (r s : Report) → IsAnswer task p r → IsAnswer task p s → r ≡ s
 one_answer one_fault no_fault one_witness no_witness (Check ids) p r s = said_once _ _ _ r s refl
 one_answer one_fault no_fault one_witness no_witness (Table ids workers) p r s = said_once _ _ _ r s refl
 one_answer one_fault no_fault one_witness no_witness (Judge ids workers) p r s = one_judgement one_witness no_witness _ r s
-one_answer one_fault no_fault one_witness no_witness (Run ids ring) p r s = one_on_ring one_fault no_fault _ _ _ _ r s
-one_answer one_fault no_fault one_witness no_witness (Plan ids ring workers) p r s = one_on_ring one_fault no_fault _ _ _ _ r s
+one_answer one_fault no_fault one_witness no_witness (Run ids ring segments) p r s =
+    one_on_ring one_fault no_fault _ _ _ (IsRunAnswer p ring.items segments) (one_run p ring.items segments) r s
+one_answer one_fault no_fault one_witness no_witness (Plan ids ring workers) p r s =
+    one_on_ring one_fault no_fault _ _ _ (Says (report.place_lines p ring.items) Done) (λ r s. said_once _ _ _ r s refl) r s
 
 pub one_report : OneReading → OneTextFault → OneRefusal → AcceptedProgramsHaveNoRefusal → OneRingFault → RingsHaveNoFault → OneWitness → GoodTablesHaveNoWitness → OneReport
 one_report one_reading one_text_fault one_refusal no_refusal one_fault no_fault one_witness no_witness task input r s first second =

@@ -1,7 +1,7 @@
 -- A number of workers of a task is one that a table can be filled by.
 use Rattle.std.proofs.Common.{ℕ}
-use Rattle.task_words.specs.Workers as task
+use Rattle.task_words.specs.Counts.{IsCount}
 use Rattle.table_fill.specs.Workers.{IsWorkerCount}
 
-pub worker_count : (workers : ℕ) → task.IsWorkerCount workers → IsWorkerCount workers
+pub worker_count : (workers : ℕ) → IsCount workers → IsWorkerCount workers
 worker_count workers is = record { some = is.some; few = is.few }

@@ -5,7 +5,7 @@ pub mod Report
 pub mod Laws
 pub use Rattle.task_words.specs.Decimal
 pub use Rattle.task_words.specs.RingText
-pub use Rattle.task_words.specs.Workers
+pub use Rattle.task_words.specs.Counts
 pub use Rattle.task_words.specs.Task
 pub use Rattle.task_words.specs.Words
 pub use Rattle.task_words.specs.WordsFault
@@ -28,4 +28,5 @@ pub use Rattle.table_fill.specs.Tables
 pub use Rattle.table_fill.specs.ProgramTables
 pub use Rattle.nbhd_check.specs.Proper
 pub use Rattle.nbhd_check.specs.Verdicts
+pub use Rattle.ring_exec.specs.SegmentCounts
 pub mod Engine

@@ -22,8 +22,9 @@ use Rattle.table_fill.specs.ProgramTables.{table_of}
 use Rattle.table_fill.specs.Tables.{ChannelTable}
 use Rattle.nbhd_check.specs.Proper.{tuples, IsGoodEverywhere}
 use Rattle.nbhd_check.specs.Verdicts.{IsWitness}
+use Rattle.ring_exec.specs.SegmentCounts.{IsSegmentCount}
 use Rattle.plan_print.specs.declared.status.Status.{Status}
-use Rattle.plan_print.specs.declared.status.Status.TheVariants.{Done, No, Refused, RingRefused}
+use Rattle.plan_print.specs.declared.status.Status.TheVariants.{Done, No, Words, Refused, RingRefused}
 use Rattle.task_words.specs.declared.task.Task.{Task}
 use Rattle.task_words.specs.declared.task.Task.TheVariants.{Check, Table, Judge, Run, Plan}
 use Rattle.task_words.specs.Task.{ids_of}
@@ -68,6 +69,10 @@ ring_fault_line ring.TooLong = line (codes "ring fault G2" ∷ [])
 ring_fault_line (ring.IdTooLarge place) = line (codes "ring fault G3 place " ∷ decimal place ∷ [])
 ring_fault_line (ring.Repeated first second) = line (codes "ring fault G4 places " ∷ decimal first ∷ codes " " ∷ decimal second ∷ [])
 
+-- the line of a ring that can't be run in so many segments
+abbrev pub segments_fault_line : List ℕ
+segments_fault_line = line (codes "segments fault E1" ∷ [])
+
 -- the line of a program that is accepted for `ids` identifiers; its windows are those of `2t+1` identifiers for `t` rounds
 abbrev pub accepted_line : ℕ → ProgramTree → List ℕ
 accepted_line ids p =
@@ -99,18 +104,24 @@ pub data IsJudgement (t : ChannelTable) (r : Report) : Type 0 where
   good : IsGoodEverywhere t → Says (good_line (length (tuples t))) Done r → IsJudgement t r
   bad : (ring : List ℕ) (place channel : ℕ) → IsWitness t ring place channel → Says (bad_line ring place channel) No r → IsJudgement t r
 
--- The answer on a list of identifiers, for m identifiers and t rounds: what is wrong first with a list that is no ring, or on a ring these bytes.
-pub data IsAnswerOnRing (m t : ℕ) (places bytes : List ℕ) (r : Report) : Type 0 where
-  ring_fault : (f : RingFault) → IsFirstFault m t places f → Says (ring_fault_line f) RingRefused r → IsAnswerOnRing m t places bytes r
-  on_ring : IsRing m t places → Says bytes Done r → IsAnswerOnRing m t places bytes r
+-- The answer on a list of identifiers, for m identifiers and t rounds: what is wrong first with a list that is no ring, or what is said of a ring.
+pub data IsAnswerOnRing (m t : ℕ) (places : List ℕ) (said : Report → Type 0) (r : Report) : Type 0 where
+  ring_fault : (f : RingFault) → IsFirstFault m t places f → Says (ring_fault_line f) RingRefused r → IsAnswerOnRing m t places said r
+  on_ring : IsRing m t places → said r → IsAnswerOnRing m t places said r
 
--- the answer of a task on a program that is accepted; it is the same whatever the number of workers
+-- The answer of a run of a ring: the ring can't be run in so many segments, or these are the channels that global rounds give its places.
+pub data IsRunAnswer (p : ProgramTree) (places : List ℕ) (segments : ℕ) (r : Report) : Type 0 where
+  out_of_range : (¬ IsSegmentCount segments (length places)) → Says segments_fault_line Words r → IsRunAnswer p places segments r
+  ran : IsSegmentCount segments (length places) → Says (line (numbers_text (channels_of p places) ∷ [])) Done r → IsRunAnswer p places segments r
+
+-- the answer of a task on a program that is accepted; it is the same whatever the number of workers, and whatever the number of segments
+-- that a ring can be run in
 abbrev pub IsAnswer : Task → ProgramTree → Report → Type 0
 IsAnswer (Check ids) p r = Says (accepted_line ids p) Done r
 IsAnswer (Table ids workers) p r = Says (table_text (table_of p ids)) Done r
 IsAnswer (Judge ids workers) p r = IsJudgement (table_of p ids) r
-IsAnswer (Run ids places) p r = IsAnswerOnRing ids (length p.steps) places.items (line (numbers_text (channels_of p places.items) ∷ [])) r
-IsAnswer (Plan ids places workers) p r = IsAnswerOnRing ids (length p.steps) places.items (place_lines p places.items) r
+IsAnswer (Run ids places segments) p r = IsAnswerOnRing ids (length p.steps) places.items (IsRunAnswer p places.items segments) r
+IsAnswer (Plan ids places workers) p r = IsAnswerOnRing ids (length p.steps) places.items (Says (place_lines p places.items) Done) r
 
 -- The report of a task on an input: the fault of a text that reads as no program, or the first refusal of the program that it reads as, or the task's
 -- answer on that program.

@@ -1,21 +1,24 @@
 //! The answers of the tasks on a program that is accepted.
 
-ghost use Rattle.std.specs.Prelude.{◌≡◌, ℕ, List, IfOk, IfErr, string_bytes};
-ghost use Rattle.win_index.specs.RingFaults.{IsFirstFault};
+ghost use Rattle.std.specs.Prelude.{◌≡◌, length, IfOk, IfErr, string_bytes};
 ghost use Rattle.table_fill.specs.ProgramTables.{table_of};
-ghost use Rattle.task_words.specs.Workers.{IsWorkerCount};
+ghost use Rattle.task_words.specs.Counts.{IsCount};
 ghost use Rattle.task_words.specs.Task.{ids_of, IsRunnable};
 ghost use Rattle.plan_print.specs.Engine.{IsTaskFault};
-ghost use Rattle.plan_print.specs.Report.{IsAnswer, IsAnswerOnRing, IsJudgement};
+ghost use Rattle.plan_print.specs.Report as report;
+ghost use Rattle.plan_print.specs.Report.{Says, IsAnswer, IsRunAnswer, IsJudgement};
 
-use crate::lines::{accepted_line, bad_line, good_line, numbers_line, ring_fault_line};
+use crate::lines::{
+    accepted_line, bad_line, good_line, numbers_line, ring_fault_line, segments_fault_line,
+};
 use crate::places::places_text;
 use crate::status::Status;
 use crate::table_text::table_text;
 use devices::fault::EngineFault;
 use lang_check::Plan;
 use nbhd_check::{Verdict, judge};
-use round_eval::{OpenGate, plain_run};
+use ring_exec::{RunFault, run};
+use round_eval::OpenGate;
 use shared_memo::Memo;
 use std::alloc::Global;
 use std::sync::Wait;
@@ -43,11 +46,12 @@ pub(crate) fn answer_of<T: Threads + Wait + Sync>(
             Ok((table_text(alloc, &table)?, Status::Done))
         }
         Task::Judge { ids: _, workers } => judgement(alloc, &compiled(rt, alloc, plan, workers)?),
-        Task::Run { ids: _, ring } => match Ring::new(plan.shape(), ring) {
-            Ok(ring) => {
-                let channels = plain_run(alloc, plan, &ring)?;
-                Ok((numbers_line(alloc, &channels)?, Status::Done))
-            }
+        Task::Run {
+            ids: _,
+            ring,
+            segments,
+        } => match Ring::new(plan.shape(), ring) {
+            Ok(ring) => run_answer(rt, alloc, plan, &ring, segments),
             Err((_ids, fault)) => ring_refusal(alloc, fault),
         },
         Task::Plan {
@@ -66,11 +70,32 @@ pub(crate) fn answer_of<T: Threads + Wait + Sync>(
 
 // The answer on a list of identifiers that is no ring.
 fn ring_refusal(alloc: Global, fault: RingFault) -> Result<(String, Status), EngineFault>
-    ensures answer { IfOk result (λ r. (m t : ℕ) (places bytes : List ℕ) → IsFirstFault m t places fault
-        → IsAnswerOnRing m t places bytes (record { bytes = string_bytes r.0; status = r.1 })) }
+    ensures answer { IfOk result (λ r. Says (report.ring_fault_line fault) Status.RingRefused (record { bytes = string_bytes r.0; status = r.1 })) }
     ensures fault { IfErr result (λ fault. fault ≡ EngineFault.Memory) }
 {
     Ok((ring_fault_line(alloc, fault)?, Status::RingRefused))
+}
+
+// The answer of a run of a ring in segments.
+fn run_answer<T: Threads + Wait + Sync>(
+    rt: &T,
+    alloc: Global,
+    plan: &Plan,
+    ring: &Ring,
+    segments: u32,
+) -> Result<(String, Status), EngineFault>
+    requires ids { ring.now.ids ≡ plan.now.ids }
+    requires rounds { ring.now.rounds ≡ length plan.now.program.steps }
+    ensures answer { IfOk result (λ r. IsRunAnswer plan.now.program ring.now.places segments (record { bytes = string_bytes r.0; status = r.1 })) }
+    ensures fault { IfErr result IsTaskFault }
+{
+    match run(rt, alloc, plan, ring, segments, &OpenGate) {
+        Ok(channels) => Ok((numbers_line(alloc, &channels)?, Status::Done)),
+        Err(RunFault::SegmentsOutOfRange) => Ok((segments_fault_line(alloc)?, Status::Words)),
+        Err(RunFault::OutOfMemory) => Err(EngineFault::Memory),
+        Err(RunFault::NoThread) => Err(EngineFault::Thread),
+        Err(RunFault::Stranger) => Err(EngineFault::Stranger),
+    }
 }
 
 // The judge's answer on a table.
@@ -96,7 +121,7 @@ fn compiled<T: Threads + Wait + Sync>(
     plan: &Plan,
     workers: u32,
 ) -> Result<Table, EngineFault>
-    requires { IsWorkerCount workers }
+    requires { IsCount workers }
     ensures table { IfOk result (λ table. table ≡ table_of plan.now.program plan.now.ids) }
     ensures fault { IfErr result IsTaskFault }
 {

@@ -20,11 +20,12 @@ use std::thread::Threads;
 use task_words::task::Task;
 
 /// Reads the input of a task, all of it or one byte more than the task's limit of a longer one, and
-/// writes its report; the answer is the report's status. A number of workers that the task names is 1 to 64.
+/// writes its report; the answer is the report's status. A number of workers that the task names is 1 to 64;
+/// of a number of segments that its ring can't be run in, the report tells.
 ///
 /// `Read` comes exactly where a read failed, `Write` exactly where a write failed or took no byte, `Memory`
-/// where memory was refused, `Thread` where the start of a thread was, and `Stranger` where a worker had that
-/// fault. After `Write` a front of the report was written, after each other fault nothing.
+/// where memory was refused, `Thread` where the start of a thread was, and `Stranger` where a worker or a
+/// segment had that fault. After `Write` a front of the report was written, after each other fault nothing.
 pub fn engine<T: Threads + Wait + Sync, R: Read, W: Write>(
     rt: &T,
     alloc: Global,

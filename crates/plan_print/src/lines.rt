@@ -91,6 +91,13 @@ pub(crate) fn ring_fault_line(alloc: Global, fault: RingFault) -> Result<String,
     }
 }
 
+// The line of a ring that can't be run in so many segments.
+pub(crate) fn segments_fault_line(alloc: Global) -> Result<String, AllocError>
+    ensures { IfOk result (λ text. string_bytes text ≡ report.segments_fault_line) }
+{
+    format!(in alloc; "segments fault E1\n")
+}
+
 // The line of an accepted program.
 pub(crate) fn accepted_line(alloc: Global, plan: &Plan) -> Result<String, AllocError>
     ensures { IfOk result (λ text. string_bytes text ≡ report.accepted_line plan.now.ids plan.now.program) }

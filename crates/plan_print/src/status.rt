@@ -12,7 +12,7 @@ pub enum Status {
     Done,
     /// The answer is no.
     No,
-    /// The words ask for what cannot be had.
+    /// The ring can't be run in as many segments as the words ask for.
     Words,
     /// The program text or the program was refused.
     Refused,

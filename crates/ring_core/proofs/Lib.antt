@@ -1,3 +1,14 @@
 -- Lemmas that several proofs share.
-pub mod Places
+mod Places
 mod Stretches
+mod Neighbours
+mod Updates
+mod Fits
+mod OneRuns
+mod Views
+mod Enabled
+mod Moves
+mod Opening
+mod Events
+mod Readings
+mod Runs

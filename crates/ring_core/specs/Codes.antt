@@ -5,7 +5,7 @@ use Rattle.lang_check.specs.Plans.{ProgramForIds, plan_code}
 use Rattle.win_index.specs.Ring.{OrientedRing}
 use Rattle.ring_core.specs.Segments.{RingSegment}
 
-abbrev ring_code : Coded OrientedRing
+abbrev pub ring_code : Coded OrientedRing
 ring_code =
     code_by (ℕ × (ℕ × List ℕ)) (coded× coded_ℕ (coded× coded_ℕ (coded_list coded_ℕ)))
     (λ r. (r.ids, (r.rounds, r.places)))

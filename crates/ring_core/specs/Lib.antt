@@ -1,8 +1,14 @@
 -- The definitions that the contracts cite: which places a segment has, what is sent in global rounds, segments on
--- their own rounds and the messages that they need.
+-- their own rounds and the messages that they need, then the machine of segments and borders with its promises, and
+-- the laws.
 pub mod SegmentPlaces
 pub mod Messages
 pub mod Headings
 pub mod Segments
 pub mod Needs
 pub mod Codes
+pub mod Machine
+pub mod MachinePromises
+pub mod Parts
+pub mod MachineCodes
+pub mod Laws

@@ -2,8 +2,15 @@
 //! machine of segments and borders in one thread.
 #![tactic(auto)]
 
+mod laws;
+mod machine;
 mod message;
 mod segment;
 
+pub use laws::{one_run, segments_cover_the_ring};
+pub use machine::{RingEvent, World, replay};
 pub use message::Msg;
 pub use segment::{Segment, Strange};
+
+#[cfg(test)]
+mod tests;

@@ -97,9 +97,9 @@ impl<'a> Msg<'a> {
     ) -> bool
         ensures { IsTrue result ↔ (heading_of self.now ≡ record { plan = plan.now; ring = ring.now; place = place; side = side; round = round }) }
     {
-        self.place == place
-            && self.side == side
-            && self.round == round
+        place == self.place
+            && side == self.side
+            && round == self.round
             && self.plan.same(plan)
             && self.ring.same(ring)
     }

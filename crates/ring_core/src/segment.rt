@@ -128,27 +128,14 @@ impl<'a> Segment<'a> {
         ensures rightward { heading_of result.0 ≡ to_the_right self.now }
         ensures leftward { heading_of result.1 ≡ to_the_left self.now }
     {
-        let width = width_of(self.plan);
+        let (plan, ring, round) = (self.plan, self.ring, self.round);
+        let width = width_of(plan);
         let last = (self.end - self.first - 1) as usize;
-        let right = sent_to_right(self.plan, self.round, row_at(&self.states, width, last));
-        let left = sent_to_left(self.plan, self.round, row_at(&self.states, width, 0));
+        let right = sent_to_right(plan, round, row_at(&self.states, width, last));
+        let left = sent_to_left(plan, round, row_at(&self.states, width, 0));
         (
-            Msg::new(
-                self.plan,
-                self.ring,
-                self.end - 1,
-                Side::Rightward,
-                self.round,
-                right,
-            ),
-            Msg::new(
-                self.plan,
-                self.ring,
-                self.first,
-                Side::Leftward,
-                self.round,
-                left,
-            ),
+            Msg::new(plan, ring, self.end - 1, Side::Rightward, round, right),
+            Msg::new(plan, ring, self.first, Side::Leftward, round, left),
         )
     }
 
@@ -161,19 +148,20 @@ impl<'a> Segment<'a> {
         ensures unchanged { OnErr result (self.new ≡ self.old) }
     {
         stretches_are_rows();
-        let places = self.ring.len();
+        let (plan, ring, round) = (self.plan, self.ring, self.round);
+        let places = ring.len();
         let before = (self.first + places - 1) % places;
         let after = self.end % places;
-        if !left.is_from(self.plan, self.ring, before, Side::Rightward, self.round)
-            || !right.is_from(self.plan, self.ring, after, Side::Leftward, self.round)
+        if !left.is_from(plan, ring, before, Side::Rightward, round)
+            || !right.is_from(plan, ring, after, Side::Leftward, round)
         {
             return Err(Strange);
         }
         let count = (self.end - self.first) as usize;
         let (from_left, from_right) = (left.value(), right.value());
         round_of_row(
-            self.plan,
-            self.round,
+            plan,
+            round,
             count,
             from_left,
             &self.states,

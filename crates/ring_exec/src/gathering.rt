@@ -6,7 +6,7 @@ ghost use Rattle.ring_exec.specs.SegmentCounts.{IsSegmentCount};
 
 use crate::fault::SegmentFault;
 use lang_check::Plan;
-use ring_core::Segment;
+use ring_core::{Segment, segments_cover_the_ring};
 use round_eval::{channel, row_at, width_of};
 use win_index::Ring;
 
@@ -23,6 +23,7 @@ pub(crate) fn gather(
     requires room { length channels.old ≡ length ring.now.places }
     ensures { OnOk result (channels.new ≡ channels_of plan.now.program ring.now.places) }
 {
+    segments_cover_the_ring();
     let places = ring.len();
     let mut first = 0;
     for index in 0..segments {

@@ -2,7 +2,7 @@
 use Rattle.std.proofs.Common.{◌≡◌, ◌↔◌, Result, Ok, Err, IsOk, IsErrOf, ◌⊎◌, ℕ, ◌≤◌, List, [], length, get_or, drop, inl, inr, subst, sym, ap, ◌∙◌, arith, refl, codes}
 use Rattle.task_words.specs.Decimal.{IsNumber, number_in}
 use Rattle.task_words.specs.RingText.{IsRingText}
-use Rattle.task_words.specs.Workers.{SaysWorkers, unsaid}
+use Rattle.task_words.specs.Counts.{SaysWorkers, SaysSegments, unsaid}
 use Rattle.task_words.specs.WordsFault.{MemoryAside}
 use Rattle.task_words.specs.declared.words.WordsFault.{WordsFault}
 use Rattle.task_words.specs.declared.words.WordsFault.TheVariants.{Usage, BadRing, OutOfMemory}
@@ -42,20 +42,6 @@ apart words a m e b n r f plain ring three five =
     let fewer = ring_letters b ring in
     absurd (omega arith)
 
--- what ends a command that workers do
-end_said : (name : List ℕ) (end : List (List ℕ)) → IsEndOf name end → (workers : ℕ) × SaysWorkers end workers
-end_said name end (inl none) = (1, unsaid none refl)
-end_said name end (inr (takes, workers, says)) = (workers, says)
-
-plain_end : (name : PlainName) (end : List (List ℕ)) (workers : ℕ) → plain_ends name end workers → IsEndOf (plain_name name) end
-plain_end plain_variant.Check end workers none = inl none
-plain_end plain_variant.Table end workers says = inr (inl refl, workers, says)
-plain_end plain_variant.Judge end workers says = inr (inr (inl refl), workers, says)
-
-ring_end : (name : RingName) (end : List (List ℕ)) (workers : ℕ) → ring_ends name end workers → IsEndOf (ring_name name) end
-ring_end ring_variant.Run end workers none = inl none
-ring_end ring_variant.Plan end workers says = inr (inr (inr refl), workers, says)
-
 -- the name begins with none of t, j and p, as those that workers do begin
 no_workers : (name : List ℕ) (letter : ℕ) → get_or name 0 0 ≡ letter → (letter ≡ 99) ⊎ (letter ≡ 114) → TakesWorkers name → ⊥
 no_workers name letter first (inl c) (inl table) = let t : get_or name 0 0 ≡ 116 = ap (λ n. get_or n 0 0) table in absurd (omega arith)
@@ -65,16 +51,41 @@ no_workers name letter first (inr r) (inr (inl judge)) = let j : get_or name 0 0
 no_workers name letter first (inl c) (inr (inr plan)) = let p : get_or name 0 0 ≡ 112 = ap (λ n. get_or n 0 0) plan in absurd (omega arith)
 no_workers name letter first (inr r) (inr (inr plan)) = let p : get_or name 0 0 ≡ 112 = ap (λ n. get_or n 0 0) plan in absurd (omega arith)
 
+-- a name of five letters is no run
+no_run : (name : List ℕ) → length name ≡ 5 → name ≡ codes "run" → ⊥
+no_run name five run = let three : length name ≡ 3 = ap length run in absurd (omega arith)
+
+-- what ends a command that workers do
+end_said : (name : List ℕ) (end : List (List ℕ)) → TakesWorkers name → IsEndOf name end → (workers : ℕ) × SaysWorkers end workers
+end_said name end takes (inl none) = (1, unsaid none refl)
+end_said name end takes (inr (inl (takes', workers, says))) = (workers, says)
+end_said name end takes (inr (inr (run, segments, says))) = absurd (no_workers name 114 (ap (λ n. get_or n 0 0) run) (inr refl) takes)
+
+-- what ends a run
+run_said : (end : List (List ℕ)) → IsEndOf (codes "run") end → (segments : ℕ) × SaysSegments end segments
+run_said end (inl none) = (1, unsaid none refl)
+run_said end (inr (inl (takes, workers, says))) = absurd (no_workers (codes "run") 114 refl (inr refl) takes)
+run_said end (inr (inr (run, segments, says))) = (segments, says)
+
+plain_end : (name : PlainName) (end : List (List ℕ)) (workers : ℕ) → plain_ends name end workers → IsEndOf (plain_name name) end
+plain_end plain_variant.Check end workers none = inl none
+plain_end plain_variant.Table end workers says = inr (inl (inl refl, workers, says))
+plain_end plain_variant.Judge end workers says = inr (inl (inr (inl refl), workers, says))
+
+ring_end : (name : RingName) (end : List (List ℕ)) (count : ℕ) → ring_ends name end count → IsEndOf (ring_name name) end
+ring_end ring_variant.Run end segments says = inr (inr (refl, segments, says))
+ring_end ring_variant.Plan end workers says = inr (inl (inr (inr refl), workers, says))
+
 plain_ends_of : (name : PlainName) (end : List (List ℕ)) → IsEndOf (plain_name name) end → (workers : ℕ) × plain_ends name end workers
 plain_ends_of plain_variant.Check end (inl none) = (1, none)
-plain_ends_of plain_variant.Check end (inr (takes, workers, says)) = absurd (no_workers (codes "check") 99 refl (inl refl) takes)
-plain_ends_of plain_variant.Table end is = end_said _ end is
-plain_ends_of plain_variant.Judge end is = end_said _ end is
+plain_ends_of plain_variant.Check end (inr (inl (takes, workers, says))) = absurd (no_workers (codes "check") 99 refl (inl refl) takes)
+plain_ends_of plain_variant.Check end (inr (inr (run, segments, says))) = absurd (no_run (codes "check") refl run)
+plain_ends_of plain_variant.Table end is = end_said _ end (inl refl) is
+plain_ends_of plain_variant.Judge end is = end_said _ end (inr (inl refl)) is
 
-ring_ends_of : (name : RingName) (end : List (List ℕ)) → IsEndOf (ring_name name) end → (workers : ℕ) × ring_ends name end workers
-ring_ends_of ring_variant.Run end (inl none) = (1, none)
-ring_ends_of ring_variant.Run end (inr (takes, workers, says)) = absurd (no_workers (codes "run") 114 refl (inr refl) takes)
-ring_ends_of ring_variant.Plan end is = end_said _ end is
+ring_ends_of : (name : RingName) (end : List (List ℕ)) → IsEndOf (ring_name name) end → (count : ℕ) × ring_ends name end count
+ring_ends_of ring_variant.Run end is = run_said end is
+ring_ends_of ring_variant.Plan end is = end_said _ end (inr (inr refl)) is
 
 good_is_command : (words : List (List ℕ)) → IsGoodCommand words → IsCommand words
 good_is_command words (inl plain) = inl plain
@@ -142,7 +153,7 @@ module _ (words : List (List ℕ)) (name : RingName) (number ring : List ℕ) (e
             bad (subst IsNumber (ap (λ ws. get_or ws 2 []) (sym same ∙ are)) numeral)
       ])
 
-  pub no_end_on_ring : ((workers : ℕ) → ¬ ring_ends name end workers) → (¬ IsCommand words) × (¬ IsGoodCommand words) × (¬ HasBadRing words)
+  pub no_end_on_ring : ((count : ℕ) → ¬ ring_ends name end count) → (¬ IsCommand words) × (¬ IsGoodCommand words) × (¬ HasBadRing words)
   no_end_on_ring bad =
       refused words (λ command. elim command [
         | inl (other, ids, end', is, (digits, same, numeral, value), ends) ↦
@@ -162,9 +173,9 @@ bad_is_no_memory : {A : Type 0} → ◌≡◌ {A = Result A WordsFault} (Err Bad
 bad_is_no_memory same = cc
 
 -- words of a name with a ring whose third is a number, and that end as they may
-module _ (words : List (List ℕ)) (name : RingName) (number ring : List ℕ) (end : List (List ℕ)) (are : words ≡ ring_words (ring_name name) number ring end) (workers : ℕ) (numeral : IsNumber number) (ends : ring_ends name end workers) where
+module _ (words : List (List ℕ)) (name : RingName) (number ring : List ℕ) (end : List (List ℕ)) (are : words ≡ ring_words (ring_name name) number ring end) (count : ℕ) (numeral : IsNumber number) (ends : ring_ends name end count) where
   has_ring : HasRing words ring
-  has_ring = (ring_name name, number_in number, end, is_ring_name name, (number, are, numeral, refl), ring_end name end workers ends)
+  has_ring = (ring_name name, number_in number, end, is_ring_name name, (number, are, numeral, refl), ring_end name end count ends)
 
   -- their fifth is what stands after `--ring`
   same_ring : (text : List ℕ) → HasRing words text → text ≡ ring

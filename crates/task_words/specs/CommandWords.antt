@@ -7,7 +7,7 @@ use Rattle.task_words.specs.declared.words.RingName.TheVariants as ring_command
 use Rattle.task_words.specs.declared.words.Command.{Command}
 use Rattle.task_words.specs.declared.words.Command.TheVariants.{Plain, OnRing}
 use Rattle.task_words.specs.Words.{plain_words, ring_words}
-use Rattle.task_words.specs.Workers.{SaysWorkers}
+use Rattle.task_words.specs.Counts.{SaysWorkers, SaysSegments}
 
 abbrev pub plain_name : PlainName → List ℕ
 plain_name plain_command.Check = codes "check"
@@ -24,9 +24,10 @@ plain_ends plain_command.Check end workers = end ≡ []
 plain_ends plain_command.Table end workers = SaysWorkers end workers
 plain_ends plain_command.Judge end workers = SaysWorkers end workers
 
+-- the words may end the command, and say that it has so many segments or workers
 abbrev pub ring_ends : RingName → List (List ℕ) → ℕ → Type 0
-ring_ends ring_command.Run end workers = end ≡ []
-ring_ends ring_command.Plan end workers = SaysWorkers end workers
+ring_ends ring_command.Run end count = SaysSegments end count
+ring_ends ring_command.Plan end count = SaysWorkers end count
 
 abbrev pub command_words : Command → List (List ℕ)
 command_words (Plain name number end) = plain_words (plain_name name) number.now (map string_bytes end.now)

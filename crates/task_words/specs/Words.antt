@@ -2,7 +2,7 @@
 use Rattle.std.specs.Prelude.{◌≡◌, ◌⊎◌, ℕ, List, [], ◌∷◌, codes}
 use Rattle.task_words.specs.Decimal.{IsNumber, number_in}
 use Rattle.task_words.specs.RingText.{IsRingText, ring_in}
-use Rattle.task_words.specs.Workers.{SaysWorkers}
+use Rattle.task_words.specs.Counts.{SaysWorkers, SaysSegments}
 use Rattle.task_words.specs.declared.task.Task.{Task}
 use Rattle.task_words.specs.declared.task.Task.TheVariants.{Check, Table, Judge, Run, Plan}
 
@@ -18,9 +18,13 @@ IsRingName name = (name ≡ codes "run") ⊎ (name ≡ codes "plan")
 abbrev pub TakesWorkers : List ℕ → Type 0
 TakesWorkers name = (name ≡ codes "table") ⊎ ((name ≡ codes "judge") ⊎ (name ≡ codes "plan"))
 
--- the words may end the command of this name: there are none, or they say a number of workers and workers do it
+-- the words may end the command of this name: there are none, or they say a number of workers and workers do it, or they say a number of
+-- segments and it is a run
 abbrev pub IsEndOf : List ℕ → List (List ℕ) → Type 0
-IsEndOf name end = (end ≡ []) ⊎ (TakesWorkers name × (workers : ℕ) × SaysWorkers end workers)
+IsEndOf name end =
+    (end ≡ [])
+    ⊎ ((TakesWorkers name × (workers : ℕ) × SaysWorkers end workers)
+    ⊎ ((name ≡ codes "run") × (segments : ℕ) × SaysSegments end segments))
 
 -- the three words `NAME --ids NUMBER`, and the words that end them
 abbrev pub plain_words : List ℕ → List ℕ → List (List ℕ) → List (List ℕ)
@@ -74,6 +78,7 @@ abbrev pub IsTaskOf : List (List ℕ) → Task → Type 0
 IsTaskOf words (Check ids) = IsPlain (codes "check") words ids []
 IsTaskOf words (Table ids workers) = (end : List (List ℕ)) × IsPlain (codes "table") words ids end × SaysWorkers end workers
 IsTaskOf words (Judge ids workers) = (end : List (List ℕ)) × IsPlain (codes "judge") words ids end × SaysWorkers end workers
-IsTaskOf words (Run ids ring) = IsOnNumbers (codes "run") words ids ring.items []
+IsTaskOf words (Run ids ring segments) =
+    (end : List (List ℕ)) × IsOnNumbers (codes "run") words ids ring.items end × SaysSegments end segments
 IsTaskOf words (Plan ids ring workers) =
     (end : List (List ℕ)) × IsOnNumbers (codes "plan") words ids ring.items end × SaysWorkers end workers

@@ -1,9 +1,9 @@
 //! The tasks that the program can be asked to do.
 
 ghost use Rattle.std.specs.Prelude.{◌↔◌, IsTrue};
-ghost use Rattle.task_words.specs.Workers.{IsWorkerCount};
+ghost use Rattle.task_words.specs.Counts.{IsCount};
 
-use crate::limits::MAX_WORKERS;
+use crate::limits::MAX_COUNT;
 use node_lang::LONGEST_TEXT;
 
 /// What the words of a command ask for.
@@ -35,6 +35,9 @@ pub enum Task {
         ids: u32,
         /// The identifiers of the ring's places, from place 0 on.
         ring: Vec<u32>,
+        /// In how many segments the ring is run. The report tells where they are not 1 to 64, or more than
+        /// the ring has places.
+        segments: u32,
     },
     /// Looks up the channels of a ring's places in the table of the program text of the input, for
     /// identifiers below `ids`.
@@ -59,8 +62,12 @@ impl Task {
         match self {
             Task::Check { ids } => *ids,
             Task::Table { ids, workers: _ } | Task::Judge { ids, workers: _ } => *ids,
-            Task::Run { ids, ring: _ } => *ids,
-            Task::Plan {
+            Task::Run {
+                ids,
+                ring: _,
+                segments: _,
+            }
+            | Task::Plan {
                 ids,
                 ring: _,
                 workers: _,
@@ -73,15 +80,18 @@ impl Task {
         ensures { IsTrue result ↔ IsRunnable self.now }
     {
         match self {
-            Task::Check { ids: _ } | Task::Run { ids: _, ring: _ } => true,
-            Task::Table { ids: _, workers } | Task::Judge { ids: _, workers } => {
-                is_worker_count(*workers)
-            }
+            Task::Check { ids: _ }
+            | Task::Run {
+                ids: _,
+                ring: _,
+                segments: _,
+            } => true,
+            Task::Table { ids: _, workers } | Task::Judge { ids: _, workers } => is_count(*workers),
             Task::Plan {
                 ids: _,
                 ring: _,
                 workers,
-            } => is_worker_count(*workers),
+            } => is_count(*workers),
         }
     }
 
@@ -93,9 +103,9 @@ impl Task {
     }
 }
 
-// Whether a task may have so many workers.
-pub(crate) fn is_worker_count(workers: u32) -> bool
-    ensures { IsTrue result ↔ IsWorkerCount workers }
+// Whether words can ask for so many workers or segments.
+pub(crate) fn is_count(count: u32) -> bool
+    ensures { IsTrue result ↔ IsCount count }
 {
-    1 <= workers && workers <= MAX_WORKERS
+    1 <= count && count <= MAX_COUNT
 }

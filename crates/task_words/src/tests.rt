@@ -94,14 +94,33 @@ fn commands_without_a_ring_are_tasks(rt: HostRuntime) {
 }
 
 #[test]
-fn commands_on_a_ring_are_tasks(rt: HostRuntime) -> Result<(), Fail> {
-    let ring = [5, 1, 3, 7].to_vec(rt.alloc())?;
-    let task = Task::Run { ids: 8, ring };
-    assert_eq!(rt; asked(&rt, "run --ids 8 --ring 5,1,3,7")?, task);
-    let ring = [7].to_vec(rt.alloc())?;
-    let ids = 4_294_967_295;
-    let task = Task::Run { ids, ring };
+fn runs_are_tasks(rt: HostRuntime) -> Result<(), Fail> {
+    let rows = [
+        ("run --ids 8 --ring 5,1,3,7", 1),
+        ("run --ids 8 --ring 5,1,3,7 --segments 1", 1),
+        ("run --ids 0008 --ring 5,1,3,7 --segments 003", 3),
+        ("run --ids 8 --ring 5,1,3,7 --segments 64", 64),
+    ];
+    for (line, segments) in rows {
+        let ring = [5, 1, 3, 7].to_vec(rt.alloc())?;
+        let task = Task::Run {
+            ids: 8,
+            ring,
+            segments,
+        };
+        assert_eq!(rt; asked(&rt, line)?, task, "at {line}");
+    }
+    let task = Task::Run {
+        ids: 4_294_967_295,
+        ring: [7].to_vec(rt.alloc())?,
+        segments: 1,
+    };
     assert_eq!(rt; asked(&rt, "run --ids 0004294967295 --ring 7")?, task);
+    Ok(())
+}
+
+#[test]
+fn plans_are_tasks(rt: HostRuntime) -> Result<(), Fail> {
     let rows = [
         ("plan --ids 8 --ring 5,1,3,7", 1),
         ("plan --ids 8 --ring 5,1,3,7 --workers 1", 1),
@@ -114,7 +133,7 @@ fn commands_on_a_ring_are_tasks(rt: HostRuntime) -> Result<(), Fail> {
             ring,
             workers,
         };
-        assert_eq!(rt; asked(&rt, line)?, task);
+        assert_eq!(rt; asked(&rt, line)?, task, "at {line}");
     }
     Ok(())
 }
@@ -134,6 +153,18 @@ fn tasks_of_1_to_64_workers_can_be_done(rt: HostRuntime) {
         assert_eq!(rt; plan.is_runnable(), can, "{workers} workers");
     }
     assert!(rt; Task::Check { ids: 8 }.is_runnable());
+}
+
+#[test]
+fn runs_in_any_number_of_segments_can_be_done(rt: HostRuntime) {
+    for segments in [0, 1, 64, 65, 4_294_967_295] {
+        let run = Task::Run {
+            ids: 8,
+            ring: Vec::new(rt.alloc()),
+            segments,
+        };
+        assert!(rt; run.is_runnable(), "{segments} segments");
+    }
 }
 
 /// None of the lines, which are parted by bars, is a command.
@@ -163,10 +194,7 @@ fn words_near_a_run_are_refused(rt: HostRuntime) {
         &rt,
         "run --ids eight --ring 5,1,3,7|run --ids  --ring 5,1,3,7",
     );
-    are_no_commands(
-        &rt,
-        "run --ids 8 --ring 5,1,3,7 --segments 1|run --ids eight --ring 5,,1",
-    );
+    are_no_commands(&rt, "run --ids eight --ring 5,,1");
     are_no_commands(&rt, "nbhd run --ids 8 --ring 5,1,3,7");
 }
 
@@ -183,6 +211,39 @@ fn words_near_the_other_commands_are_refused(rt: HostRuntime) {
     );
     are_no_commands(&rt, "judge --ids|judge --ids eight|audit");
     are_no_commands(&rt, "plan --ids 8|plan --ring 5,1,3,7 --ids 8");
+}
+
+#[test]
+fn words_near_a_number_of_segments_are_refused(rt: HostRuntime) {
+    are_no_commands(
+        &rt,
+        "run --ids 8 --ring 5,1,3,7 --segments 0|run --ids 8 --ring 5,1,3,7 --segments 65",
+    );
+    are_no_commands(
+        &rt,
+        "run --ids 8 --ring 5,1,3,7 --segments|run --ids 8 --ring 5,1,3,7 --segments ",
+    );
+    are_no_commands(
+        &rt,
+        "run --ids 8 --ring 5,1,3,7 --segments x|run --ids 8 --ring 5,1,3,7 --segments +1",
+    );
+    are_no_commands(
+        &rt,
+        "run --ids 8 --ring 5,1,3,7 --segments 4294967297|run --ids 8 --ring 5,1,3,7 --segments=2",
+    );
+    are_no_commands(&rt, "run --ids 8 --ring 5,1,3,7 --segments 1 --segments 1");
+    are_no_commands(
+        &rt,
+        "run --ids 8 --segments 1 --ring 5,1,3,7|run --ids 8 --segments 1",
+    );
+    are_no_commands(
+        &rt,
+        "run --ids 8 --ring 5,,1 --segments 0|plan --ids 8 --ring 5,1,3,7 --segments 1",
+    );
+    are_no_commands(
+        &rt,
+        "table --ids 8 --segments 1|judge --ids 8 --segments 1|check --ids 8 --segments 1",
+    );
 }
 
 #[test]
@@ -216,10 +277,9 @@ fn words_near_a_number_of_workers_are_refused(rt: HostRuntime) {
 fn words_with_a_bad_ring_are_told(rt: HostRuntime) {
     let lines =
         "run --ids 8 --ring 5,,1|run --ids 8 --ring --ids|run --ids 8 --ring |plan --ids 8 --ring 5,,1";
-    for line in lines
-        .split('|')
-        .chain("plan --ids 8 --ring 5,,1 --workers 2".split('|'))
-    {
+    for line in lines.split('|').chain(
+        "plan --ids 8 --ring 5,,1 --workers 2|run --ids 8 --ring 5,,1 --segments 2".split('|'),
+    ) {
         assert_eq!(rt; asked(&rt, line), Err(WordsFault::BadRing), "at {line}");
     }
 }

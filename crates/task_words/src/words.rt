@@ -2,8 +2,8 @@
 
 ghost use Rattle.std.specs.Prelude.{◌≡◌, ◌↔◌, ℕ, [], ◌∷◌, List, map, codes, IsOk, IsErrOf, IfOk, IfSome, IfNone, string_bytes};
 ghost use Rattle.task_words.specs.Decimal.{IsNumber, number_in};
-ghost use Rattle.task_words.specs.Workers.{IsWorkerCount, SaysWorkers};
-ghost use Rattle.task_words.specs.Task.{IsRunnable};
+ghost use Rattle.task_words.specs.Counts.{IsCount, SaysCount};
+ghost use Rattle.task_words.specs.Task.{IsRunnable, segments_of};
 ghost use Rattle.task_words.specs.Words.{plain_words, ring_words, IsPlain, IsOnNumbers, IsCommand, IsRingCommand, IsGoodCommand, HasBadRing, IsTaskOf};
 ghost use Rattle.task_words.specs.CommandWords.{plain_name, ring_name, plain_ends, ring_ends, command_words};
 ghost use Rattle.task_words.specs.WordsFault.{MemoryAside};
@@ -11,14 +11,14 @@ ghost use Rattle.task_words.specs.declared.words.WordsFault.TheVariants.{OutOfMe
 
 use crate::decimal::number_of;
 use crate::ring_text::ring_of;
-use crate::task::{Task, is_worker_count};
+use crate::task::{Task, is_count};
 use std::alloc::{AllocError, AllocFailed, Global};
 use std::io;
 use std::io::ErrorKind;
 use thiserror::Error;
 
-/// How many workers a command has that workers do, where its words don't say it.
-const DEFAULT_WORKERS: u32 = 1;
+/// How many workers or segments a command has, where its words don't say it.
+const DEFAULT_COUNT: u32 = 1;
 
 /// Why words are refused.
 #[derive(Clone, Copy, Debug, PartialEq, Eq, Error)]
@@ -81,15 +81,16 @@ impl From<io::Error> for WordsFault {
 
 /// The task that the words ask for. They are the words after the program's name, and a command is
 /// `check --ids M`, `table --ids M`, `judge --ids M`, `run --ids M --ring A,B,..` or `plan --ids M --ring A,B,..`,
-/// in this order, where `--workers W` may end each of `table`, `judge` and `plan`: `M` is a decimal number
-/// up to 4294967295 and `W` one from 1 to 64, leading zeros allowed, and what stands after `--ring` is a
-/// ring text. There is one worker where the words don't say how many. `Usage` comes where the words are no
-/// command, `BadRing` where they are one but for the ring text. `OutOfMemory` comes where memory was
-/// refused, and only at a command with a ring.
+/// in this order, where `--workers W` may end each of `table`, `judge` and `plan`, and `--segments S` may end
+/// `run`: `M` is a decimal number up to 4294967295, `W` and `S` are such numbers from 1 to 64, leading zeros
+/// allowed, and what stands after `--ring` is a ring text. There is one worker, or one segment, where the words
+/// don't say how many. `Usage` comes where the words are no command, `BadRing` where they are one but for the
+/// ring text. `OutOfMemory` comes where memory was refused, and only at a command with a ring.
 #[tactic(auto, using(crate::proofs::Commands::no_number, crate::proofs::Commands::no_number_on_ring, crate::proofs::Commands::not_bad_on_ring, crate::proofs::Commands::not_good_on_ring))]
 pub fn task_of(alloc: Global, words: &[String]) -> Result<Task, WordsFault>
     ensures task { IfOk result (IsTaskOf (map string_bytes words.now)) }
     ensures runnable { IfOk result IsRunnable }
+    ensures segments { IfOk result (λ task. IsCount (segments_of task)) }
     ensures ok { MemoryAside result (IsOk result ↔ IsGoodCommand (map string_bytes words.now)) }
     ensures usage { IsErrOf result WordsFault.Usage ↔ (¬ (IsCommand (map string_bytes words.now))) }
     ensures bad_ring { MemoryAside result
@@ -113,11 +114,11 @@ pub fn task_of(alloc: Global, words: &[String]) -> Result<Task, WordsFault>
             },
         ) => {
             let ids = number_of(number).ok_or(WordsFault::Usage)?;
-            let Some(workers) = ring_workers(name, end) else {
+            let Some(count) = ring_count(name, end) else {
                 return Err(WordsFault::Usage);
             };
             let ring = ring_of(alloc, ring)?;
-            Ok(ring_task(name, ids, ring, workers))
+            Ok(ring_task(name, ids, ring, count))
         }
         None => Err(WordsFault::Usage),
     }
@@ -158,6 +159,7 @@ fn plain_task(name: PlainName, ids: u32, workers: u32) -> Task
     ensures task { (words end : List (List ℕ)) → IsPlain (plain_name name) words ids end
         → plain_ends name end workers → IsTaskOf words result }
     ensures runnable { (end : List (List ℕ)) → plain_ends name end workers → IsRunnable result }
+    ensures segments { IsCount (segments_of result) }
 {
     match name {
         PlainName::Check => Task::Check { ids },
@@ -166,15 +168,24 @@ fn plain_task(name: PlainName, ids: u32, workers: u32) -> Task
     }
 }
 
-// The task of a command that takes a ring.
-fn ring_task(name: RingName, ids: u32, ring: Vec<u32>, workers: u32) -> Task
+// The task of a command that takes a ring, with so many segments or workers.
+fn ring_task(name: RingName, ids: u32, ring: Vec<u32>, count: u32) -> Task
     ensures task { (words end : List (List ℕ)) → IsOnNumbers (ring_name name) words ids ring.items end
-        → ring_ends name end workers → IsTaskOf words result }
-    ensures runnable { (end : List (List ℕ)) → ring_ends name end workers → IsRunnable result }
+        → ring_ends name end count → IsTaskOf words result }
+    ensures runnable { (end : List (List ℕ)) → ring_ends name end count → IsRunnable result }
+    ensures segments { (end : List (List ℕ)) → ring_ends name end count → IsCount (segments_of result) }
 {
     match name {
-        RingName::Run => Task::Run { ids, ring },
-        RingName::Plan => Task::Plan { ids, ring, workers },
+        RingName::Run => Task::Run {
+            ids,
+            ring,
+            segments: count,
+        },
+        RingName::Plan => Task::Plan {
+            ids,
+            ring,
+            workers: count,
+        },
     }
 }
 
@@ -239,18 +250,18 @@ fn plain_workers(name: PlainName, end: &[String]) -> Option<u32>
 {
     match name {
         PlainName::Check => no_workers(end),
-        PlainName::Table | PlainName::Judge => workers_in(end),
+        PlainName::Table | PlainName::Judge => count_in("--workers", end),
     }
 }
 
-// How many workers a command with a ring has by the words that end it; None where they can't end it.
-fn ring_workers(name: RingName, end: &[String]) -> Option<u32>
+// How many segments or workers a command with a ring has by the words that end it; None where they can't end it.
+fn ring_count(name: RingName, end: &[String]) -> Option<u32>
     ensures some { IfSome result (ring_ends name (map string_bytes end.now)) }
-    ensures none { IfNone result ((workers : ℕ) → ¬ ring_ends name (map string_bytes end.now) workers) }
+    ensures none { IfNone result ((count : ℕ) → ¬ ring_ends name (map string_bytes end.now) count) }
 {
     match name {
-        RingName::Run => no_workers(end),
-        RingName::Plan => workers_in(end),
+        RingName::Run => count_in("--segments", end),
+        RingName::Plan => count_in("--workers", end),
     }
 }
 
@@ -260,33 +271,29 @@ fn no_workers(end: &[String]) -> Option<u32>
     ensures none { IfNone result (¬ map string_bytes end.now ≡ []) }
 {
     if end.is_empty() {
-        Some(DEFAULT_WORKERS)
+        Some(DEFAULT_COUNT)
     } else {
         None
     }
 }
 
-// How many workers the words say; None where they don't say it.
-fn workers_in(end: &[String]) -> Option<u32>
-    ensures some { IfSome result (SaysWorkers (map string_bytes end.now)) }
-    ensures none { IfNone result ((workers : ℕ) → ¬ SaysWorkers (map string_bytes end.now) workers) }
+// How many the words say there are, by this option; None where they don't say it.
+fn count_in(option: &str, end: &[String]) -> Option<u32>
+    ensures some { IfSome result (SaysCount option.now (map string_bytes end.now)) }
+    ensures none { IfNone result ((count : ℕ) → ¬ SaysCount option.now (map string_bytes end.now) count) }
 {
     match end {
-        [] => Some(DEFAULT_WORKERS),
-        [option, number] if option.as_str() == "--workers" => worker_count(number.as_str()),
+        [] => Some(DEFAULT_COUNT),
+        [name, number] if name.as_str() == option => count_of(number.as_str()),
         _ => None,
     }
 }
 
-// The number of workers that a text says.
-fn worker_count(text: &str) -> Option<u32>
-    ensures some { IfSome result (λ workers. IsNumber text.now × (workers ≡ number_in text.now) × IsWorkerCount workers) }
-    ensures none { IfNone result (IsNumber text.now → ¬ IsWorkerCount (number_in text.now)) }
+// The number of workers or segments that a text says.
+fn count_of(text: &str) -> Option<u32>
+    ensures some { IfSome result (λ count. IsNumber text.now × (count ≡ number_in text.now) × IsCount count) }
+    ensures none { IfNone result (IsNumber text.now → ¬ IsCount (number_in text.now)) }
 {
-    let workers = number_of(text)?;
-    if is_worker_count(workers) {
-        Some(workers)
-    } else {
-        None
-    }
+    let count = number_of(text)?;
+    if is_count(count) { Some(count) } else { None }
 }

@@ -3,13 +3,13 @@ use Rattle.std.proofs.lemmas.List.FromFn.{fill_by_all}
 use Rattle.node_lang.specs.GlobalRounds.{channel_at}
 use Rattle.ring_core.specs.SegmentPlaces.{first_place}
 use Rattle.ring_core.specs.Segments.{RingSegment, places_of}
-use Rattle.ring_core.proofs.Places.{first_place-grows, first_place-all, first_place-none}
 use Rattle.ring_exec.proofs.gathering.gather.Goals as goal
 
 pub loop-index-init : goal.loop-index-init
 loop-index-init c =
+    let cover = c.segments_cover_the_ring.ensures (length c.args.ring.now.places) c.args.segments c.requires.range.some c.requires.range.enough in
     record {
-      first = sym (first_place-none (length c.args.ring.now.places) c.args.segments);
+      first = sym cover.0;
       size = c.requires.room;
       each = λ i lt. absurd (omega arith);
     }
@@ -24,7 +24,7 @@ write_part-requires-clause-end c =
     let end : (k + 1) * c.len-places.result / g ≡ first_place n g (k + 1) = rw places refl in
     let count : places_of c.in-Some.segment ≡ first_place n g (k + 1) - first_place n g k =
     ap places_of (c.is_of.ensures.0 c.if-not-is_of.false) in
-    let grows = first_place-grows n g k (omega (arith, c.requires.range.some)) c.requires.range.enough in
+    let grows = (c.segments_cover_the_ring.ensures n g c.requires.range.some c.requires.range.enough).2 k in
     end ∙ (omega (arith, count, grows, c.loop-index.invariant.first))
 
 pub loop-index-preserved : goal.loop-index-preserved
@@ -44,6 +44,7 @@ returns c =
     let held = c.loop-index.invariant in
     let all : c.loop-index.index ≡ c.args.segments = omega arith in
     let end : c.loop-index.first ≡ n =
-    held.first ∙ ap (first_place n c.args.segments) all ∙ first_place-all n c.args.segments (omega (arith, c.requires.range.some)) in
+    held.first ∙ ap (first_place n c.args.segments) all
+    ∙ (c.segments_cover_the_ring.ensures n c.args.segments c.requires.range.some c.requires.range.enough).1 in
     fill_by_all (channel_at c.args.plan.now.program c.args.ring.now.places) c.loop-index.channels n 0 held.size
     (λ i lt. held.each i (omega arith))

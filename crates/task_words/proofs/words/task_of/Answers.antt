@@ -21,26 +21,26 @@ returns-in_default-clause-usage c =
     (usage_told _ (no_end _ plain.name plain.number.now _ are c.in_default.ensures.none)).1
 
 -- Words of a name with a ring that end in other words.
-pub returns-in_default-ring_workers-clause-ok : goal.returns-in_default-ring_workers-clause-ok
-returns-in_default-ring_workers-clause-ok c =
+pub returns-in_default-ring_count-clause-ok : goal.returns-in_default-ring_count-clause-ok
+returns-in_default-ring_count-clause-ok c =
     let run = c.in-Some-OnRing in
     let are : map string_bytes c.args.words.now ≡ ring_words (ring_name run.name) run.number.now run.ring.now (map string_bytes run.end.now) =
     run.ensures.command ∙ ap command_words run.field-0-is in
-    (usage_told _ (no_end_on_ring _ run.name run.number.now run.ring.now _ are c.in_default-ring_workers.ensures.none)).0
+    (usage_told _ (no_end_on_ring _ run.name run.number.now run.ring.now _ are c.in_default-ring_count.ensures.none)).0
 
-pub returns-in_default-ring_workers-clause-usage : goal.returns-in_default-ring_workers-clause-usage
-returns-in_default-ring_workers-clause-usage c =
+pub returns-in_default-ring_count-clause-usage : goal.returns-in_default-ring_count-clause-usage
+returns-in_default-ring_count-clause-usage c =
     let run = c.in-Some-OnRing in
     let are : map string_bytes c.args.words.now ≡ ring_words (ring_name run.name) run.number.now run.ring.now (map string_bytes run.end.now) =
     run.ensures.command ∙ ap command_words run.field-0-is in
-    (usage_told _ (no_end_on_ring _ run.name run.number.now run.ring.now _ are c.in_default-ring_workers.ensures.none)).1
+    (usage_told _ (no_end_on_ring _ run.name run.number.now run.ring.now _ are c.in_default-ring_count.ensures.none)).1
 
-pub returns-in_default-ring_workers-clause-bad_ring : goal.returns-in_default-ring_workers-clause-bad_ring
-returns-in_default-ring_workers-clause-bad_ring c =
+pub returns-in_default-ring_count-clause-bad_ring : goal.returns-in_default-ring_count-clause-bad_ring
+returns-in_default-ring_count-clause-bad_ring c =
     let run = c.in-Some-OnRing in
     let are : map string_bytes c.args.words.now ≡ ring_words (ring_name run.name) run.number.now run.ring.now (map string_bytes run.end.now) =
     run.ensures.command ∙ ap command_words run.field-0-is in
-    (usage_told _ (no_end_on_ring _ run.name run.number.now run.ring.now _ are c.in_default-ring_workers.ensures.none)).2
+    (usage_told _ (no_end_on_ring _ run.name run.number.now run.ring.now _ are c.in_default-ring_count.ensures.none)).2
 
 -- A task without a ring.
 pub returns-in-Some-clause-task : goal.returns-in-Some-clause-task
@@ -77,7 +77,7 @@ returns-in_ok-ring-in-Some-OnRing-clause-task c =
     let are : map string_bytes c.args.words.now ≡ ring_words (ring_name run.name) run.number.now run.ring.now (map string_bytes run.end.now) =
     run.ensures.command ∙ ap command_words run.field-0-is in
     let numeral : IsNumber run.number.now × (c.in_ok-ids-in-Some-OnRing.ids ≡ number_in run.number.now) = search rules in
-    let ends : ring_ends run.name (map string_bytes run.end.now) c.in-Some-ring_workers.workers = search rules in
+    let ends : ring_ends run.name (map string_bytes run.end.now) c.in-Some-ring_count.count = search rules in
     let ring = c.in_ok-ring-in-Some-OnRing.ensures.ring in
     c.ring_task.ensures.task _ _ (run.ring.now, (run.number.now, are, numeral.0, numeral.1), ring.0, ring.1) ends
 
@@ -87,7 +87,7 @@ returns-in_ok-ring-in-Some-OnRing-clause-ok c =
     let are : map string_bytes c.args.words.now ≡ ring_words (ring_name run.name) run.number.now run.ring.now (map string_bytes run.end.now) =
     run.ensures.command ∙ ap command_words run.field-0-is in
     let numeral : IsNumber run.number.now = search rules in
-    let ends : ring_ends run.name (map string_bytes run.end.now) c.in-Some-ring_workers.workers = search rules in
+    let ends : ring_ends run.name (map string_bytes run.end.now) c.in-Some-ring_count.count = search rules in
     (good_told _ _ (good_on_ring _ run.name run.number.now run.ring.now _ are _ numeral ends c.in_ok-ring-in-Some-OnRing.ensures.ring.0)).0
 
 pub returns-in_ok-ring-in-Some-OnRing-clause-usage : goal.returns-in_ok-ring-in-Some-OnRing-clause-usage
@@ -96,7 +96,7 @@ returns-in_ok-ring-in-Some-OnRing-clause-usage c =
     let are : map string_bytes c.args.words.now ≡ ring_words (ring_name run.name) run.number.now run.ring.now (map string_bytes run.end.now) =
     run.ensures.command ∙ ap command_words run.field-0-is in
     let numeral : IsNumber run.number.now = search rules in
-    let ends : ring_ends run.name (map string_bytes run.end.now) c.in-Some-ring_workers.workers = search rules in
+    let ends : ring_ends run.name (map string_bytes run.end.now) c.in-Some-ring_count.count = search rules in
     (good_told _ _ (good_on_ring _ run.name run.number.now run.ring.now _ are _ numeral ends c.in_ok-ring-in-Some-OnRing.ensures.ring.0)).1
 
 -- The text after `--ring` is refused.
@@ -106,7 +106,7 @@ returns-in_err-ring-in-Some-OnRing-clause-bad_ring c =
     let are : map string_bytes c.args.words.now ≡ ring_words (ring_name run.name) run.number.now run.ring.now (map string_bytes run.end.now) =
     run.ensures.command ∙ ap command_words run.field-0-is in
     let numeral : IsNumber run.number.now = search rules in
-    let ends : ring_ends run.name (map string_bytes run.end.now) c.in-Some-ring_workers.workers = search rules in
+    let ends : ring_ends run.name (map string_bytes run.end.now) c.in-Some-ring_count.count = search rules in
     refused_ring _ run.name run.number.now run.ring.now _ are _ numeral ends c.in_err-ring-in-Some-OnRing.field-0.0 c.ring_of.result
     c.from_residual-in_err-ring-in-Some-OnRing.result (search rules) (search rules) (search rules) c.ring_of.ensures.bad_ring
 
@@ -116,7 +116,7 @@ returns-in_err-ring-in-Some-OnRing-clause-usage c =
     let are : map string_bytes c.args.words.now ≡ ring_words (ring_name run.name) run.number.now run.ring.now (map string_bytes run.end.now) =
     run.ensures.command ∙ ap command_words run.field-0-is in
     let numeral : IsNumber run.number.now = search rules in
-    let ends : ring_ends run.name (map string_bytes run.end.now) c.in-Some-ring_workers.workers = search rules in
+    let ends : ring_ends run.name (map string_bytes run.end.now) c.in-Some-ring_count.count = search rules in
     no_usage_on_ring _ run.name run.number.now run.ring.now _ are _ numeral ends c.in_err-ring-in-Some-OnRing.field-0.0
     c.from_residual-in_err-ring-in-Some-OnRing.result (search rules) (search rules)
 
@@ -126,5 +126,5 @@ returns-in_err-ring-in-Some-OnRing-clause-memory c =
     let are : map string_bytes c.args.words.now ≡ ring_words (ring_name run.name) run.number.now run.ring.now (map string_bytes run.end.now) =
     run.ensures.command ∙ ap command_words run.field-0-is in
     let numeral : IsNumber run.number.now = search rules in
-    let ends : ring_ends run.name (map string_bytes run.end.now) c.in-Some-ring_workers.workers = search rules in
+    let ends : ring_ends run.name (map string_bytes run.end.now) c.in-Some-ring_count.count = search rules in
     λ memory. ring_command _ run.name run.number.now run.ring.now _ are _ numeral ends

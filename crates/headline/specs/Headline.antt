@@ -1,0 +1,37 @@
+-- The headline: the table, the run by messages and global rounds give each place one channel, and the judge tells
+-- whether neighbours' channels differ on every ring (Linial 1992).
+use Rattle.std.specs.Prelude.{◌≡◌, ◌≢◌, ◌↔◌, ℕ, ◌<◌, List, length, slice_get, Some}
+use Rattle.node_lang.specs.Term.{ProgramTree}
+use Rattle.node_lang.specs.GlobalRounds.{right_of, channel_at}
+use Rattle.win_index.specs.Ring.{IsRing}
+use Rattle.win_index.specs.Arcs.{window_around}
+use Rattle.table_fill.specs.Tables.{ChannelTable, channel_of}
+use Rattle.nbhd_check.specs.Verdicts.{IsVerdict}
+use Rattle.nbhd_check.specs.declared.verdict.Verdict.{Verdict}
+use Rattle.nbhd_check.specs.declared.verdict.Verdict.TheVariants.{Yes}
+
+-- on every ring of 2t+2 to m distinct identifiers below m, the table has at the window of each place the channel of
+-- that place after the t rounds of the program p
+abbrev pub TableAgrees : ProgramTree → ℕ → ChannelTable → Type 0
+TableAgrees p m table =
+    (ring : List ℕ) (place : ℕ) → IsRing m (length p.steps) ring → place < length ring
+    → channel_of table (window_around ring (length p.steps) place) ≡ Some (channel_at p ring place)
+
+-- the channels are those of all places of the ring after all rounds, and no more
+pub record RunAgrees (p : ProgramTree) (ring channels : List ℕ) : Type 0 where
+  pub size : length channels ≡ length ring
+  pub at : (place : ℕ) → place < length ring → slice_get channels place ≡ Some (channel_at p ring place)
+
+-- on every such ring the channels of neighbours differ
+abbrev pub NeighboursDiffer : ProgramTree → ℕ → Type 0
+NeighboursDiffer p m =
+    (ring : List ℕ) (place : ℕ) → IsRing m (length p.steps) ring → place < length ring
+    → channel_at p ring place ≢ channel_at p ring (right_of ring place)
+
+-- the table and the run agree with global rounds, and the judge says yes exactly where neighbours differ; its no is
+-- the least bad tuple
+pub record IsHeadline (p : ProgramTree) (m : ℕ) (ring channels : List ℕ) (table : ChannelTable) (verdict : Verdict) : Type 0 where
+  pub table_agrees : TableAgrees p m table
+  pub run_agrees : RunAgrees p ring channels
+  pub yes : (verdict ≡ Yes) ↔ NeighboursDiffer p m
+  pub verdict_is : IsVerdict table verdict

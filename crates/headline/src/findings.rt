@@ -1,0 +1,97 @@
+// Compiling, running and judging.
+ghost use Rattle.std.specs.Prelude.{◌≡◌, ◌↔◌, IfOk, IfErr, OnOk, length};
+ghost use Rattle.table_fill.specs.Workers.{IsWorkerCount};
+ghost use Rattle.ring_exec.specs.SegmentCounts.{IsSegmentCount};
+ghost use Rattle.headline.specs.Headline.{IsHeadline, TableAgrees};
+ghost use Rattle.ring_exec.specs.declared.message_run.RunFault.{RunFault};
+
+use crate::fault::FindingsFault;
+use lang_check::Plan;
+use nbhd_check::{Verdict, judge};
+use ring_exec::{RunFault, run};
+use round_eval::Gate;
+use shared_memo::Memo;
+use std::alloc::Global;
+use std::sync::Wait;
+use std::thread::Threads;
+use table_fill::{FillFault, Table, compile};
+use win_index::Ring;
+
+/// What compiling, running and judging a plan's program answered.
+#[derive(Drop)]
+pub struct Findings {
+    /// The table of the program: a channel for each window.
+    pub table: Table,
+    /// The channels of the ring's places, from place 0 on, as the run by messages gave them.
+    pub channels: Vec<u32>,
+    /// Whether neighbours' channels differ on every ring, by the table.
+    pub verdict: Verdict,
+}
+
+/// The headline. For every accepted program, every ring and every number of workers and of segments: where the program
+/// is compiled, run and judged, the table's channel at each window of every ring and the run's channel at each place are
+/// the channel of synchronous rounds (Linial 1992), and the judge says yes exactly where the channels of neighbours
+/// differ on every ring. The ring has the plan's shape.
+///
+/// `Table` comes where the table was not compiled, so with `WorkersOutOfRange` exactly where `workers` is not 1 to 64;
+/// else `Run` where the ring was not run, with `SegmentsOutOfRange` only where `segments` is not 1 to 64 or is above the
+/// number of places; `OutOfMemory` where memory for the memo or for the judge's ring was refused.
+pub fn compile_run_and_judge<'a, R: Threads + Wait + Sync, G: Gate + Sync>(
+    rt: &'a R,
+    alloc: Global,
+    plan: &'a Plan,
+    ring: &'a Ring,
+    workers: u32,
+    segments: u32,
+    gate: &'a G,
+) -> Result<Findings, FindingsFault>
+    requires ids { ring.now.ids ≡ plan.now.ids }
+    requires rounds { ring.now.rounds ≡ length plan.now.program.steps }
+    ensures headline { IfOk result (λ found. IsHeadline plan.now.program plan.now.ids ring.now.places found.channels.items found.table found.verdict) }
+    ensures in_range { OnOk result (IsWorkerCount workers × IsSegmentCount segments (length ring.now.places)) }
+    ensures workers { IfErr result (λ fault. fault ≡ FindingsFault.Table FillFault.WorkersOutOfRange → ¬ IsWorkerCount workers) }
+    ensures segments { IfErr result (λ fault. fault ≡ FindingsFault.Run RunFault.SegmentsOutOfRange
+        → ¬ IsSegmentCount segments (length ring.now.places)) }
+{
+    let table = compiled(rt, alloc, plan, workers, gate)?;
+    let channels = match run(rt, alloc, plan, ring, segments, gate) {
+        Ok(channels) => channels,
+        Err(fault) => return Err(FindingsFault::Run(fault)),
+    };
+    let Ok(verdict) = judge(alloc, &table) else {
+        return Err(FindingsFault::OutOfMemory);
+    };
+    Ok(Findings {
+        table,
+        channels,
+        verdict,
+    })
+}
+
+// The table of a plan's program, with a memo of its own.
+#[tactic(auto, unfolding(table_fill::specs::ProgramTables::table_of))]
+fn compiled<R: Threads + Wait + Sync, G: Gate + Sync>(
+    rt: &R,
+    alloc: Global,
+    plan: &Plan,
+    workers: u32,
+    gate: &G,
+) -> Result<Table, FindingsFault>
+    ensures agrees { IfOk result (TableAgrees plan.now.program plan.now.ids) }
+    ensures ids { IfOk result (λ table. table.ids ≡ plan.now.ids) }
+    ensures rounds { IfOk result (λ table. table.rounds ≡ length plan.now.program.steps) }
+    ensures in_range { OnOk result (IsWorkerCount workers) }
+    ensures workers { IfErr result (λ fault. fault ≡ FindingsFault.Table FillFault.WorkersOutOfRange → ¬ IsWorkerCount workers) }
+    ensures no_run { IfErr result (λ fault. (why : RunFault) → ¬ fault ≡ FindingsFault.Run why) }
+{
+    let Ok(memo) = Memo::new(alloc, plan) else {
+        return Err(FindingsFault::OutOfMemory);
+    };
+    let Ok(mut pass) = memo.pass(alloc) else {
+        return Err(FindingsFault::OutOfMemory);
+    };
+    match compile(rt, alloc, plan, &memo, &mut pass, workers, gate) {
+        Ok(table) => Ok(table),
+        Err(fault) => Err(FindingsFault::Table(fault)),
+    }
+}

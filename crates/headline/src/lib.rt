@@ -1,0 +1,11 @@
+//! The headline in one contract: what compiling, running and judging an accepted program answer together.
+#![tactic(auto)]
+
+mod fault;
+mod findings;
+
+pub use fault::FindingsFault;
+pub use findings::{Findings, compile_run_and_judge};
+
+#[cfg(test)]
+mod tests;

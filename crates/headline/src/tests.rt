@@ -1,0 +1,102 @@
+//! Tests of what no clause says.
+
+use crate::{FindingsFault, compile_run_and_judge};
+use lang_check::{Plan, accept};
+use nbhd_check::Verdict;
+use node_lang::parse;
+use ring_exec::RunFault;
+use round_eval::OpenGate;
+use std::alloc::Global;
+use std::sync::Wait;
+use std::test::Fail;
+use std::thread::Threads;
+use table_fill::FillFault;
+use win_index::Ring;
+
+// One round of Cole and Vishkin (1986).
+const CV1: &[u8] =
+    b"rounds 1\nchannels 6\nregisters 1\nstart\nr0 = id\nround\nsend left 0\nsend right r0\nr0 = add(shl(ldb(r0, L), 1), bit(r0, ldb(r0, L)))\nfinish r0\n";
+
+// The same without the bit.
+const LDB: &[u8] =
+    b"rounds 1\nchannels 3\nregisters 1\nstart\nr0 = id\nround\nsend left 0\nsend right r0\nr0 = ldb(r0, L)\nfinish r0\n";
+
+// What was found: the table's channel around 7 5 1, the channels of the ring, and the judge's answer.
+#[derive(Debug, PartialEq, Eq, Drop)]
+struct Found {
+    around: Option<u32>,
+    channels: Vec<u32>,
+    verdict: Verdict,
+}
+
+fn plan_of(alloc: Global, text: &[u8]) -> Option<Plan> {
+    accept(parse(alloc, text).ok()?, 8).ok()
+}
+
+// What is found of a program of one round for 8 identifiers, on the ring 5 1 3 7.
+fn findings_of<R: Threads + Wait + Sync>(
+    rt: &R,
+    alloc: Global,
+    text: &[u8],
+    workers: u32,
+    segments: u32,
+) -> Option<Result<Found, FindingsFault>> {
+    let plan = plan_of(alloc, text)?;
+    let ids = vec![in alloc; 5, 1, 3, 7].ok()?;
+    let ring = Ring::new(plan.shape(), ids).ok()?;
+    if plan.shape().rounds() != 1 || plan.shape().ids() != 8 {
+        return None;
+    }
+    Some(compile_run_and_judge(rt, alloc, &plan, &ring, workers, segments, &OpenGate).map(
+        |found| {
+            Found {
+                around: found.table.channel_at(&[7, 5, 1]),
+                channels: found.channels,
+                verdict: found.verdict,
+            }
+        },
+    ))
+}
+
+#[test]
+fn a_program_that_colours_every_ring(rt: HostRuntime) -> Result<(), Fail> {
+    let expected = Found {
+        around: Some(2),
+        channels: vec![in rt.alloc(); 2, 4, 3, 5].ok().ok_or("a list")?,
+        verdict: Verdict::Yes,
+    };
+    let found = findings_of(&rt, rt.alloc(), CV1, 2, 3);
+    assert_eq!(rt; found, Some(Ok(expected)));
+    Ok(())
+}
+
+#[test]
+fn a_program_that_does_not(rt: HostRuntime) -> Result<(), Fail> {
+    let ring = vec![in rt.alloc(); 0, 1, 2, 3].ok().ok_or("a list")?;
+    let expected = Found {
+        around: Some(1),
+        channels: vec![in rt.alloc(); 1, 2, 1, 2].ok().ok_or("a list")?,
+        verdict: Verdict::No {
+            ring,
+            place: 1,
+            channel: 0,
+        },
+    };
+    let found = findings_of(&rt, rt.alloc(), LDB, 1, 4);
+    assert_eq!(rt; found, Some(Ok(expected)));
+    Ok(())
+}
+
+#[test]
+fn numbers_out_of_range(rt: HostRuntime) {
+    let workers = FindingsFault::Table(FillFault::WorkersOutOfRange);
+    assert_eq!(rt;
+        findings_of(&rt, rt.alloc(), CV1, 65, 5),
+        Some(Err(workers))
+    );
+    let segments = FindingsFault::Run(RunFault::SegmentsOutOfRange);
+    assert_eq!(rt;
+        findings_of(&rt, rt.alloc(), CV1, 64, 5),
+        Some(Err(segments))
+    );
+}

@@ -1,0 +1,143 @@
+-- What stands in the machine that parts are: each segment, and each border.
+use Rattle.std.proofs.Common.{◌≡◌, ℕ, ◌+◌, ◌-◌, ◌<◌, ◌≤◌, [], length, get_or, arith, ◌∙◌, ap}
+use Rattle.std.proofs.lemmas.List.{get_or-map, length-map}
+use Rattle.std.proofs.lemmas.List.FromFn.{length-map-range_with_len, get_or-map-range_with_len}
+use Rattle.border_exchange.specs.declared.Side.TheVariants.{Rightward, Leftward}
+use Rattle.node_lang.specs.Node.{to_left, to_right}
+use Rattle.node_lang.specs.GlobalRounds.{left_of, right_of, state}
+use Rattle.ring_core.specs.Messages.{Heading, sent_under}
+use Rattle.ring_core.specs.SegmentPlaces.{first_place}
+use Rattle.ring_core.specs.Segments.{RingSegment, first_of, places_of, states_of}
+use Rattle.ring_core.specs.Needs.{from_left, from_right, to_the_left, to_the_right}
+use Rattle.ring_core.specs.Machine.{SegmentState, BorderState, no_places, no_messages, segment_at, border_at, left_border, right_border, border_before, segment_after, first_state, last_state}
+use Rattle.ring_core.specs.Parts.{Progress, Parts, FitTogether, no_part, part_at, round_at, rightward_headings, leftward_headings, segment_state, values_under, rightward_values, leftward_values, border_state, machine_of}
+use Rattle.ring_core.proofs.Places.{first_place-grows, first_place-inside}
+use Rattle.ring_core.proofs.Neighbours.{before_inside, after_inside, after_before, left_end, right_end}
+
+-- the values under so many headings
+pub values_size : (heading : ℕ → Heading) (count : ℕ) → length (values_under heading count) ≡ count
+values_size heading count = length-map-range_with_len (λ k. sent_under (heading k)) 0 count
+
+pub value_at :
+    (heading : ℕ → Heading) (count k : ℕ) → k < count → get_or (values_under heading count) k 0 ≡ sent_under (heading k)
+value_at heading count k lt = get_or-map-range_with_len (λ j. sent_under (heading j)) 0 count k k 0 lt (omega arith)
+
+-- what the ends of a segment send
+pub right_message :
+    (a : RingSegment) → 0 < places_of a
+    → to_right a.plan.program a.round (last_state (segment_state a)) ≡ sent_under (to_the_right a)
+right_message a some =
+    let n = places_of a in
+    let f = state a.plan.program a.ring.places a.round in
+    ap (to_right a.plan.program a.round)
+    (ap (λ k. get_or (states_of a) (k - 1) []) (length-map-range_with_len f (first_of a) n)
+    ∙ get_or-map-range_with_len f (first_of a) n (n - 1) (first_of a + n - 1) [] (omega arith) (omega arith))
+
+pub left_message :
+    (a : RingSegment) → 0 < places_of a
+    → to_left a.plan.program a.round (first_state (segment_state a)) ≡ sent_under (to_the_left a)
+left_message a some =
+    ap (to_left a.plan.program a.round)
+    (get_or-map-range_with_len (state a.plan.program a.ring.places a.round) (first_of a) (places_of a) 0 (first_of a) [] some (omega arith))
+
+module _ (v : Parts) (kept : FitTogether v) where
+  -- segment s of the ring, after r rounds
+  abbrev pub plain : ℕ → ℕ → RingSegment
+  plain s r = record { plan = v.plan; ring = v.ring; segments = length v.items; index = s; round = r }
+
+  pub some_places : (s r : ℕ) → 0 < places_of (plain s r)
+  some_places s r =
+      let up = first_place-grows (length v.ring.places) (length v.items) s kept.some kept.few in
+      omega arith
+
+  pub inside_ring : (s r : ℕ) → s < length v.items → first_of (plain s r) + places_of (plain s r) ≤ length v.ring.places
+  inside_ring s r lt =
+      let up = first_place-grows (length v.ring.places) (length v.items) s kept.some kept.few in
+      let end = first_place-inside (length v.ring.places) (length v.items) (s + 1) (omega arith) in
+      omega arith
+
+  -- what its neighbours send to a part is what it needs
+  pub left_needed : (s r : ℕ) → s < length v.items
+      → rightward_headings (part_at v (border_before (length v.items) s)).segment r ≡ from_left (plain s r)
+  left_needed s r lt =
+      let g = length v.items in
+      let b = border_before g s in
+      let up = first_place-grows (length v.ring.places) g b kept.some kept.few in
+      let place : first_of (plain b r) + places_of (plain b r) - 1 ≡ left_of v.ring.places (first_of (plain s r)) =
+      (let e : first_of (plain b r) + places_of (plain b r) - 1 ≡ first_place (length v.ring.places) g (b + 1) - 1 = omega arith in e)
+      ∙ left_end v.ring.places g s lt kept.few in
+      ap (λ (a : RingSegment). rightward_headings a r) (kept.segments_are b (before_inside g s kept.some))
+      ∙ ap (λ i. record { plan = v.plan; ring = v.ring; place = i; side = Rightward; round = r }) place
+
+  pub right_needed : (s r : ℕ) → s < length v.items
+      → leftward_headings (part_at v (segment_after (length v.items) s)).segment r ≡ from_right (plain s r)
+  right_needed s r lt =
+      let g = length v.items in
+      let b = segment_after g s in
+      let up = first_place-grows (length v.ring.places) g s kept.some kept.few in
+      let place : first_of (plain b r) ≡ right_of v.ring.places (first_of (plain s r) + places_of (plain s r) - 1) =
+      right_end v.ring.places g s lt kept.few
+      ∙ ap (right_of v.ring.places) (let e : first_place (length v.ring.places) g (s + 1) - 1 ≡ first_of (plain s r) + places_of (plain s r) - 1 = omega arith in e) in
+      ap (λ (a : RingSegment). leftward_headings a r) (kept.segments_are b (after_inside g s kept.some))
+      ∙ ap (λ i. record { plan = v.plan; ring = v.ring; place = i; side = Leftward; round = r }) place
+
+  -- segments and borders of the machine
+  pub count_is : length (machine_of v).segments ≡ length v.items
+  count_is = length-map v.items (λ p. segment_state p.segment)
+
+  pub segment_is : (s : ℕ) → s < length v.items → segment_at (machine_of v) s ≡ segment_state (part_at v s).segment
+  segment_is s lt = get_or-map (λ (p : Progress). segment_state p.segment) v.items s no_part no_places lt
+
+  pub plain_is : (s : ℕ) → s < length v.items → segment_at (machine_of v) s ≡ segment_state (plain s (round_at v s))
+  plain_is s lt = segment_is s lt ∙ ap segment_state (kept.segments_are s lt)
+
+  pub round_is : (s : ℕ) → s < length v.items → (segment_at (machine_of v) s).round ≡ round_at v s
+  round_is s lt = ap (λ (a : SegmentState). a.round) (segment_is s lt)
+
+  pub border_is : (b : ℕ) → b < length v.items → border_at (machine_of v) b ≡ border_state v b
+  border_is b lt = get_or-map-range_with_len (border_state v) 0 (length v.items) b b no_messages lt (omega arith)
+
+  pub before_is : border_before (length (machine_of v).segments) ≡ border_before (length v.items)
+  before_is = ap border_before count_is
+
+  pub left_border_is : (s : ℕ) → s < length v.items → left_border (machine_of v) s ≡ border_state v (border_before (length v.items) s)
+  left_border_is s lt =
+      ap (λ g. border_at (machine_of v) (border_before g s)) count_is
+      ∙ border_is (border_before (length v.items) s) (before_inside (length v.items) s kept.some)
+
+  -- the leftward list of the border before a part is what the part has sent
+  pub own_leftward : (s : ℕ) → s < length v.items → (left_border (machine_of v) s).leftward ≡ leftward_values (part_at v s)
+  own_leftward s lt =
+      ap (λ (b : BorderState). b.leftward) (left_border_is s lt)
+      ∙ ap (λ k. leftward_values (part_at v k)) (after_before (length v.items) s lt)
+
+  pub own_rightward : (s : ℕ) → s < length v.items → (right_border (machine_of v) s).rightward ≡ rightward_values (part_at v s)
+  own_rightward s lt = ap (λ (b : BorderState). b.rightward) (border_is s lt)
+
+  -- what has come to a part
+  pub came_rightward : (s : ℕ) → s < length v.items
+      → (left_border (machine_of v) s).rightward ≡ rightward_values (part_at v (border_before (length v.items) s))
+  came_rightward s lt = ap (λ (b : BorderState). b.rightward) (left_border_is s lt)
+
+  pub came_leftward : (s : ℕ) → s < length v.items
+      → (right_border (machine_of v) s).leftward ≡ leftward_values (part_at v (segment_after (length v.items) s))
+  came_leftward s lt = ap (λ (b : BorderState). b.leftward) (border_is s lt)
+
+  -- how many messages these are
+  pub own_right_size : (s : ℕ) → s < length v.items → length (right_border (machine_of v) s).rightward ≡ (part_at v s).rightward
+  own_right_size s lt = ap length (own_rightward s lt) ∙ values_size (rightward_headings (part_at v s).segment) (part_at v s).rightward
+
+  pub own_left_size : (s : ℕ) → s < length v.items → length (left_border (machine_of v) s).leftward ≡ (part_at v s).leftward
+  own_left_size s lt = ap length (own_leftward s lt) ∙ values_size (leftward_headings (part_at v s).segment) (part_at v s).leftward
+
+  pub came_right_size : (s : ℕ) → s < length v.items
+      → length (left_border (machine_of v) s).rightward ≡ (part_at v (border_before (length v.items) s)).rightward
+  came_right_size s lt =
+      let p = part_at v (border_before (length v.items) s) in
+      ap length (came_rightward s lt) ∙ values_size (rightward_headings p.segment) p.rightward
+
+  pub came_left_size : (s : ℕ) → s < length v.items
+      → length (right_border (machine_of v) s).leftward ≡ (part_at v (segment_after (length v.items) s)).leftward
+  came_left_size s lt =
+      let p = part_at v (segment_after (length v.items) s) in
+      ap length (came_leftward s lt) ∙ values_size (leftward_headings p.segment) p.leftward

@@ -1,0 +1,133 @@
+-- How far the parts of a machine are, by the numbers of rounds and of messages alone. All registers and all messages
+-- follow, from global rounds.
+use Rattle.std.specs.Prelude.{◌≡◌, ℕ, ◌+◌, ◌<◌, ◌≤◌, List, [], map, length, slice_get, slice_index_or, Some}
+use Rattle.std.specs.List.{range_with_len}
+use Rattle.node_lang.specs.Term.{Identifier}
+use Rattle.lang_check.specs.Plans.{ProgramForIds}
+use Rattle.win_index.specs.Ring.{OrientedRing}
+use Rattle.ring_core.specs.declared.message.Msg.{Msg}
+use Rattle.ring_core.specs.Messages.{Heading, sent_under}
+use Rattle.ring_core.specs.Headings.{heading_of}
+use Rattle.ring_core.specs.Segments.{RingSegment, states_of}
+use Rattle.ring_core.specs.Needs.{to_the_right, to_the_left}
+use Rattle.ring_core.specs.Machine.{SegmentState, BorderState, Machine, border_before, segment_after}
+
+-- a segment, and how many messages it has sent to the right and to the left
+pub record Progress : Type 0 where
+  pub segment : RingSegment
+  pub rightward : ℕ
+  pub leftward : ℕ
+
+-- the segment when it has done r rounds
+abbrev pub at_round : RingSegment → ℕ → RingSegment
+at_round a r = record a { round = r }
+
+-- message k of the list has the heading of round k
+abbrev pub AreInOrder : (ℕ → Heading) → List Msg → Type 0
+AreInOrder heading messages = (k : ℕ) (m : Msg) → slice_get messages k ≡ Some m → heading_of m ≡ heading k
+
+-- what a segment sends to the right in each round, and to the left
+abbrev pub rightward_headings : RingSegment → ℕ → Heading
+rightward_headings a r = to_the_right (at_round a r)
+
+abbrev pub leftward_headings : RingSegment → ℕ → Heading
+leftward_headings a r = to_the_left (at_round a r)
+
+-- what the type of a part keeps, for its messages
+pub record KeepsMessages (a : RingSegment) (rightward leftward : List Msg) : Type 0 where
+  pub rightward_are : AreInOrder (rightward_headings a) rightward
+  pub leftward_are : AreInOrder (leftward_headings a) leftward
+
+-- the parts of a ring that runs a plan, in the ring's order
+pub record Parts : Type 0 where
+  pub plan : ProgramForIds
+  pub ring : OrientedRing
+  pub items : List Progress
+
+-- part s. A part that is not there is of no ring, and has sent nothing
+abbrev pub no_part : Progress
+no_part =
+    record {
+      segment = record {
+        plan = record { program = record { channels = 0; start = []; steps = []; finish = Identifier }; ids = 0 };
+        ring = record { ids = 0; rounds = 0; places = [] };
+        segments = 0;
+        index = 0;
+        round = 0;
+      };
+      rightward = 0;
+      leftward = 0;
+    }
+
+abbrev pub part_at : Parts → ℕ → Progress
+part_at v s = slice_index_or v.items s no_part
+
+-- how many rounds part s has done
+abbrev pub round_at : Parts → ℕ → ℕ
+round_at v s = (part_at v s).segment.round
+
+-- a part has sent both ways in each round that it has done, and in no other but the next one that it has to do
+pub record IsInStep (p : Progress) : Type 0 where
+  pub right_low : p.segment.round ≤ p.rightward
+  pub right_high : p.rightward ≤ p.segment.round + 1
+  pub right_end : p.rightward ≤ length p.segment.plan.program.steps
+  pub left_low : p.segment.round ≤ p.leftward
+  pub left_high : p.leftward ≤ p.segment.round + 1
+  pub left_end : p.leftward ≤ length p.segment.plan.program.steps
+
+-- part s of g before the first round
+abbrev pub opening_part : ProgramForIds → OrientedRing → ℕ → ℕ → Progress
+opening_part plan ring g s =
+    record {
+      segment = record { plan = plan; ring = ring; segments = g; index = s; round = 0 };
+      rightward = 0;
+      leftward = 0;
+    }
+
+-- part s is segment s, and has done no round in which its neighbours had not sent
+pub record FitTogether (v : Parts) : Type 0 where
+  pub some : 0 < length v.items
+  pub few : length v.items ≤ length v.ring.places
+  pub segments_are : (s : ℕ) → s < length v.items
+      → (part_at v s).segment ≡ record { plan = v.plan; ring = v.ring; segments = length v.items; index = s; round = round_at v s }
+  pub in_step : (s : ℕ) → s < length v.items → IsInStep (part_at v s)
+  pub from_left : (s : ℕ) → s < length v.items → round_at v s ≤ (part_at v (border_before (length v.items) s)).rightward
+  pub from_right : (s : ℕ) → s < length v.items → round_at v s ≤ (part_at v (segment_after (length v.items) s)).leftward
+
+-- the machine that these parts are
+abbrev pub segment_state : RingSegment → SegmentState
+segment_state a = record { round = a.round; states = states_of a }
+
+abbrev pub values_under : (ℕ → Heading) → ℕ → List ℕ
+values_under heading count = map (λ k. sent_under (heading k)) (range_with_len 0 count)
+
+abbrev pub rightward_values : Progress → List ℕ
+rightward_values p = values_under (rightward_headings p.segment) p.rightward
+
+abbrev pub leftward_values : Progress → List ℕ
+leftward_values p = values_under (leftward_headings p.segment) p.leftward
+
+abbrev pub border_state : Parts → ℕ → BorderState
+border_state v b =
+    record {
+      rightward = rightward_values (part_at v b);
+      leftward = leftward_values (part_at v (segment_after (length v.items) b));
+    }
+
+abbrev pub machine_of : Parts → Machine
+machine_of v =
+    record {
+      plan = v.plan;
+      ring = v.ring;
+      segments = map (λ p. segment_state p.segment) v.items;
+      borders = map (border_state v) (range_with_len 0 (length v.items));
+    }
+
+-- what a part may do
+pub record MaySendRight (p : Progress) : Type 0 where
+  pub unfinished : p.segment.round < length p.segment.plan.program.steps
+  pub unsent : p.rightward ≤ p.segment.round
+
+pub record MaySendLeft (p : Progress) : Type 0 where
+  pub unfinished : p.segment.round < length p.segment.plan.program.steps
+  pub unsent : p.leftward ≤ p.segment.round

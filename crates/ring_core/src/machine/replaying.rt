@@ -1,0 +1,65 @@
+ghost use Rattle.std.specs.Prelude.{◌≡◌, ◌≤◌, IfOk, OnOk, length};
+ghost use Rattle.ring_core.specs.Machine.{Steps, Runs, opening};
+ghost use Rattle.ring_core.specs.MachinePromises.{HasGlobalStates, HasGlobalMessages, AreNear};
+
+use crate::machine::event::RingEvent;
+use crate::machine::world::World;
+use lang_check::Plan;
+use node_lang::OutOfMemory;
+use std::alloc::Global;
+use win_index::Ring;
+
+/// What a list of events leaves of the opening state of this plan, this ring and so many segments: at least one, and
+/// not more than places. The ring has the plan's shape. In the opening state each place has what it starts with, no
+/// segment has done a round, and nothing was sent. An event that is not enabled, or that names a segment out of
+/// range, changes nothing:
+/// - A segment may send to a side where it has a round to do and has not sent to this side in it. The message of the
+///   place at that end stands at the border there from then on.
+/// - A segment may advance where it has sent both ways in its round, and the messages of this round have come from
+///   both of its neighbours. All its places then do this round at once.
+///
+/// So each segment has the registers of global rounds, after as many rounds as it has done; message `k` of each
+/// border is the one that global rounds send there in round `k`; and a segment and the next one are at most one round
+/// apart. `OutOfMemory` comes where memory was refused.
+pub fn replay<'a>(
+    alloc: Global,
+    plan: &'a Plan,
+    ring: &'a Ring,
+    segments: u32,
+    events: &[RingEvent],
+) -> Result<World<'a>, OutOfMemory>
+    requires ids { ring.now.ids ≡ plan.now.ids }
+    requires rounds { ring.now.rounds ≡ length plan.now.program.steps }
+    requires some { 1 ≤ segments }
+    requires few { segments ≤ length ring.now.places }
+    ensures runs { IfOk result (λ world. Runs (opening plan.now ring.now segments) events.now world) }
+    ensures plan { IfOk result (λ world. world.plan ≡ plan.entry.now) }
+    ensures ring { IfOk result (λ world. world.ring ≡ ring.entry.now) }
+    ensures segments { IfOk result (λ world. length world.segments ≡ segments) }
+    ensures states { IfOk result (λ world. HasGlobalStates world) }
+    ensures messages { IfOk result (λ world. HasGlobalMessages world) }
+    ensures near { IfOk result (λ world. AreNear world) }
+{
+    let mut world = World::opening(alloc, plan, ring, segments)?;
+    for event in events {
+        world.step(*event)?;
+    }
+    world.promises();
+    Ok(world)
+}
+
+impl<'a> World<'a> {
+    // One event.
+    fn step(&mut self, event: RingEvent) -> Result<(), OutOfMemory>
+        ensures { OnOk result (Steps self.old event self.new) }
+    {
+        match event {
+            RingEvent::SendRight(segment) => self.send_right(segment),
+            RingEvent::SendLeft(segment) => self.send_left(segment),
+            RingEvent::Advance(segment) => {
+                self.advance(segment);
+                Ok(())
+            }
+        }
+    }
+}

@@ -1,0 +1,181 @@
+ghost use Rattle.std.specs.Prelude.{◌≡◌, ◌*◌, ◌<◌, ◌≤◌, ℕ, Some, IfOk, IfSome, IfNone, OnOk, length, slice_get, map};
+ghost use Rattle.std.specs.List.{range_with_len};
+ghost use Rattle.round_eval.specs.Rows.{rows};
+ghost use Rattle.ring_core.specs.Segments.{states_of};
+ghost use Rattle.ring_core.specs.Machine.{Steps, CanAdvance, segment_at, opening as opening_of};
+ghost use Rattle.ring_core.specs.MachinePromises.{HasGlobalStates, HasGlobalMessages, AreNear, segment_after_rounds, sent_at, heading_at};
+ghost use Rattle.ring_core.specs.Parts.{opening_part};
+
+use crate::machine::event::RingEvent;
+use crate::machine::part::Part;
+use crate::message::Msg;
+use border_exchange::Side;
+use lang_check::Plan;
+use node_lang::OutOfMemory;
+use round_eval::stretches_are_rows;
+use std::alloc::Global;
+use std::marker::Model;
+use win_index::Ring;
+
+/// The segments of a ring with their rounds and registers, and what was sent over each border, after a list of
+/// events. It is made by `replay` alone. Border `s` stands between segment `s` and the next one; the next one after
+/// the last is segment 0.
+#[derive(Drop)]
+pub struct World<'a> {
+    plan: &'a Plan,
+    ring: &'a Ring,
+    parts: Vec<Part<'a>>,
+}
+
+impl<'a> Model for World<'a> {
+    ghost use Rattle.ring_core.specs.Machine.{Machine};
+    ghost use Rattle.ring_core.specs.MachineCodes.{machine_code};
+    ghost use Rattle.ring_core.specs.Parts.{FitTogether, machine_of};
+
+    ghost Value = { Machine };
+
+    ghost coded = { machine_code };
+
+    ghost view = { λ w. machine_of record { plan = w.plan.now; ring = w.ring.now; items = w.parts.items } };
+
+    ghost invariant = { λ w. FitTogether record { plan = w.plan.now; ring = w.ring.now; items = w.parts.items } };
+}
+
+impl<'a> World<'a> {
+    ghost use Rattle.ring_core.specs.Headings.{heading_of};
+    ghost use Rattle.ring_core.specs.Needs.{from_left, from_right};
+    ghost use Rattle.ring_core.specs.Messages.{sent_under};
+
+    // Nothing has happened yet.
+    pub(crate) fn opening(
+        alloc: Global,
+        plan: &'a Plan,
+        ring: &'a Ring,
+        segments: u32,
+    ) -> Result<World<'a>, OutOfMemory>
+        requires ids { ring.now.ids ≡ plan.now.ids }
+        requires rounds { ring.now.rounds ≡ length plan.now.program.steps }
+        requires some { 1 ≤ segments }
+        requires few { segments ≤ length ring.now.places }
+        ensures { IfOk result (λ world. world ≡ opening_of plan.now ring.now segments) }
+    {
+        let parts = opening_parts(alloc, plan, ring, segments)?;
+        Ok(World { plan, ring, parts })
+    }
+
+    // A segment sends to the right.
+    pub(crate) fn send_right(&mut self, segment: u32) -> Result<(), OutOfMemory>
+        ensures { OnOk result (Steps self.old (RingEvent.SendRight segment) self.new) }
+    {
+        let index = segment as usize;
+        if index < self.parts.len() && self.parts[index].may_send_right() {
+            self.parts[index].send_right()?;
+        }
+        Ok(())
+    }
+
+    // A segment sends to the left.
+    pub(crate) fn send_left(&mut self, segment: u32) -> Result<(), OutOfMemory>
+        ensures { OnOk result (Steps self.old (RingEvent.SendLeft segment) self.new) }
+    {
+        let index = segment as usize;
+        if index < self.parts.len() && self.parts[index].may_send_left() {
+            self.parts[index].send_left()?;
+        }
+        Ok(())
+    }
+
+    // A segment advances.
+    pub(crate) fn advance(&mut self, segment: u32)
+        ensures { Steps self.old (RingEvent.Advance segment) self.new }
+    {
+        stretches_are_rows();
+        if let Some((left, right)) = self.needed(segment) {
+            self.parts[segment as usize].advance(left, right);
+        }
+    }
+
+    // The messages that a segment advances by, where it may advance.
+    fn needed(&self, segment: u32) -> Option<(Msg<'a>, Msg<'a>)>
+        ensures none { IfNone result (¬ CanAdvance self.now segment) }
+        ensures some { IfSome result (λ _. CanAdvance self.now segment) }
+        ensures left { IfSome result (λ needed. heading_of needed.0 ≡ from_left (segment_after_rounds self.now segment (segment_at self.now segment).round)) }
+        ensures right { IfSome result (λ needed. heading_of needed.1 ≡ from_right (segment_after_rounds self.now segment (segment_at self.now segment).round)) }
+    {
+        let index = segment as usize;
+        let count = self.parts.len();
+        if index >= count || !self.parts[index].has_sent() {
+            return None;
+        }
+        let round = self.parts[index].round();
+        let Some(left) = self.parts[(index + count - 1) % count].sent_right_in(round) else {
+            return None;
+        };
+        let Some(right) = self.parts[(index + 1) % count].sent_left_in(round) else {
+            return None;
+        };
+        Some((left, right))
+    }
+
+    // What holds after every list of events.
+    pub(crate) fn promises(&self)
+        ensures states { HasGlobalStates self.now }
+        ensures messages { HasGlobalMessages self.now }
+        ensures near { AreNear self.now }
+    {
+        let _parts = &self.parts;
+    }
+
+    /// How many rounds a segment has done.
+    pub fn round(&self, segment: u32) -> u32
+        requires { segment < length self.now.segments }
+        ensures { result ≡ (segment_at self.now segment).round }
+    {
+        self.parts[segment as usize].round()
+    }
+
+    /// The registers of a segment's places, row by row: those of global rounds, after as many as it has done.
+    pub fn states(&self, segment: u32) -> &[u32]
+        requires { segment < length self.now.segments }
+        ensures value { rows (length self.now.plan.program.start) (length (segment_at self.now segment).states) result.now ≡ (segment_at self.now segment).states }
+        ensures size { length result.now ≡ length (segment_at self.now segment).states * length self.now.plan.program.start }
+        ensures global { (segment_at self.now segment).states ≡ states_of (segment_after_rounds self.now segment (segment_at self.now segment).round) }
+    {
+        self.parts[segment as usize].states()
+    }
+
+    /// What was sent over a border to a side. Message `k` is the one that global rounds send there in round `k`.
+    pub fn sent(&self, border: u32, side: Side) -> &[Msg<'a>]
+        requires { border < length self.now.segments }
+        ensures value { map (λ m. sent_under (heading_of m)) result.now ≡ sent_at self.now border side }
+        ensures global { (k : ℕ) (m : Msg) → slice_get result.now k ≡ Some m → heading_of m ≡ heading_at self.now border side k }
+    {
+        let index = border as usize;
+        match side {
+            Side::Rightward => self.parts[index].rightward(),
+            Side::Leftward => self.parts[(index + 1) % self.parts.len()].leftward(),
+        }
+    }
+}
+
+// The segments before the first round.
+fn opening_parts<'a>(
+    alloc: Global,
+    plan: &'a Plan,
+    ring: &'a Ring,
+    segments: u32,
+) -> Result<Vec<Part<'a>>, OutOfMemory>
+    requires ids { ring.now.ids ≡ plan.now.ids }
+    requires rounds { ring.now.rounds ≡ length plan.now.program.steps }
+    requires few { segments ≤ length ring.now.places }
+    ensures { IfOk result (λ parts. parts.items ≡ map (opening_part plan.now ring.now segments) (range_with_len 0 segments)) }
+{
+    let mut parts = Vec::new(alloc);
+    for index in 0..segments {
+        let part = Part::new(alloc, plan, ring, segments, index)?;
+        let Ok(()) = parts.push(part) else {
+            return Err(OutOfMemory);
+        };
+    }
+    Ok(parts)
+}

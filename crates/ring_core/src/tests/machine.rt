@@ -1,0 +1,179 @@
+ghost use Rattle.std.specs.Prelude.{◌≡◌, ◌≤◌, IfOk, length};
+
+use super::{CV1, RED, plan_of, ring_of};
+use crate::machine::{RingEvent, World, replay};
+use border_exchange::Side;
+use lang_check::Plan;
+use std::alloc::Global;
+use std::test::Fail;
+use win_index::Ring;
+
+// CV1 on the ring 5 1 3 7 in two segments, 5 1 and 3 7. Segment 0 advances at the third try, and then segment 1.
+const EVENTS: [RingEvent; 8] = [
+    RingEvent::SendRight(0),
+    RingEvent::SendLeft(0),
+    RingEvent::Advance(0),
+    RingEvent::SendRight(1),
+    RingEvent::Advance(0),
+    RingEvent::SendLeft(1),
+    RingEvent::Advance(0),
+    RingEvent::Advance(1),
+];
+
+// Two segments after these events.
+fn after<'a>(
+    alloc: Global,
+    plan: &'a Plan,
+    ring: &'a Ring,
+    events: &[RingEvent],
+) -> Result<World<'a>, Fail>
+    requires ids { ring.now.ids ≡ plan.now.ids }
+    requires rounds { ring.now.rounds ≡ length plan.now.program.steps }
+    requires places { 2 ≤ length ring.now.places }
+    ensures { IfOk result (λ world. length world.segments ≡ 2) }
+{
+    let world = replay(alloc, plan, ring, 2, events).ok().ok_or("a world")?;
+    Ok(world)
+}
+
+// The rounds of two segments, and their registers.
+fn segments_of<'w>(world: &'w World<'_>) -> [(u32, &'w [u32]); 2]
+    requires { length world.now.segments ≡ 2 }
+{
+    [
+        (world.round(0), world.states(0)),
+        (world.round(1), world.states(1)),
+    ]
+}
+
+// How many messages stand at border 0 to the right and to the left, and at border 1.
+fn counts_of(world: &World<'_>) -> [usize; 4]
+    requires { length world.now.segments ≡ 2 }
+{
+    [
+        world.sent(0, Side::Rightward).len(),
+        world.sent(0, Side::Leftward).len(),
+        world.sent(1, Side::Rightward).len(),
+        world.sent(1, Side::Leftward).len(),
+    ]
+}
+
+// The place and the value of the first message that stands at a border on the way to a side.
+fn first_sent(world: &World<'_>, border: u32, side: Side) -> Option<(u32, u32)>
+    requires at { border ≤ 1 }
+    requires segments { length world.now.segments ≡ 2 }
+{
+    let message = world.sent(border, side).first()?;
+    Some((message.place(), message.value()))
+}
+
+#[test]
+fn a_segment_advances_once_both_neighbours_have_sent(rt: HostRuntime) -> Result<(), Fail> {
+    let alloc = rt.alloc();
+    let plan = plan_of(alloc, CV1)?;
+    let ring = ring_of(alloc, &plan, &[5, 1, 3, 7])?;
+    let opening = [(0, [5, 1].as_slice()), (0, [3, 7].as_slice())];
+    let before = after(alloc, &plan, &ring, &EVENTS[..6])?;
+    assert_eq!(rt; segments_of(&before), opening);
+    let one = after(alloc, &plan, &ring, &EVENTS[..7])?;
+    assert_eq!(rt;
+        segments_of(&one),
+        [(1, [2, 4].as_slice()), (0, [3, 7].as_slice())]
+    );
+    let both = after(alloc, &plan, &ring, &EVENTS)?;
+    assert_eq!(rt;
+        segments_of(&both),
+        [(1, [2, 4].as_slice()), (1, [3, 5].as_slice())]
+    );
+    Ok(())
+}
+
+#[test]
+fn what_was_sent_stays_at_the_borders(rt: HostRuntime) -> Result<(), Fail> {
+    let alloc = rt.alloc();
+    let plan = plan_of(alloc, CV1)?;
+    let ring = ring_of(alloc, &plan, &[5, 1, 3, 7])?;
+    let counts = [
+        [0, 0, 0, 0],
+        [1, 0, 0, 0],
+        [1, 0, 0, 1],
+        [1, 0, 0, 1],
+        [1, 0, 1, 1],
+        [1, 0, 1, 1],
+        [1, 1, 1, 1],
+        [1, 1, 1, 1],
+        [1, 1, 1, 1],
+    ];
+    for (done, sent) in counts.iter().enumerate() {
+        let world = after(alloc, &plan, &ring, &EVENTS[..done])?;
+        assert_eq!(rt; counts_of(&world), *sent, "{done}");
+    }
+    let world = after(alloc, &plan, &ring, &EVENTS)?;
+    assert_eq!(rt; first_sent(&world, 0, Side::Rightward), Some((1, 1)));
+    assert_eq!(rt; first_sent(&world, 0, Side::Leftward), Some((2, 0)));
+    assert_eq!(rt; first_sent(&world, 1, Side::Rightward), Some((3, 7)));
+    assert_eq!(rt; first_sent(&world, 1, Side::Leftward), Some((0, 0)));
+    Ok(())
+}
+
+#[test]
+fn events_that_are_not_enabled_change_nothing(rt: HostRuntime) -> Result<(), Fail> {
+    let alloc = rt.alloc();
+    let plan = plan_of(alloc, CV1)?;
+    let ring = ring_of(alloc, &plan, &[5, 1, 3, 7])?;
+    let events = [
+        // no such segment
+        RingEvent::SendRight(2),
+        RingEvent::SendLeft(2),
+        RingEvent::Advance(2),
+        RingEvent::Advance(u32::MAX),
+        // segment 0 has sent to the right in its round, and nothing has come to it
+        RingEvent::SendRight(0),
+        RingEvent::Advance(0),
+        // segment 1 has not sent
+        RingEvent::Advance(1),
+    ];
+    for event in events {
+        let world = after(alloc, &plan, &ring, &[RingEvent::SendRight(0), event])?;
+        let opening = [(0, [5, 1].as_slice()), (0, [3, 7].as_slice())];
+        assert_eq!(rt; segments_of(&world), opening, "{event:?}");
+        assert_eq!(rt; counts_of(&world), [1, 0, 0, 0], "{event:?}");
+    }
+    Ok(())
+}
+
+#[test]
+fn one_segment_is_its_own_neighbour(rt: HostRuntime) -> Result<(), Fail> {
+    let alloc = rt.alloc();
+    let plan = plan_of(alloc, RED)?;
+    let ring = ring_of(alloc, &plan, &[5, 1, 3, 7, 0, 2, 4, 6])?;
+    let round = [
+        RingEvent::SendRight(0),
+        RingEvent::SendLeft(0),
+        RingEvent::Advance(0),
+    ];
+    let states: [&[u32]; 4] = [
+        &[5, 1, 3, 7, 0, 2, 4, 6],
+        &[1, 4, 3, 5, 0, 3, 2, 3],
+        &[1, 4, 3, 1, 0, 3, 2, 3],
+        &[1, 0, 3, 1, 0, 3, 2, 3],
+    ];
+    let mut events = Vec::new(alloc);
+    for (done, registers) in states.iter().enumerate() {
+        let world = replay(alloc, &plan, &ring, 1, &events)
+            .ok()
+            .ok_or("a world")?;
+        assert!(rt; world.round(0) as usize == done);
+        assert_eq!(rt; world.states(0), *registers, "{done}");
+        assert!(rt; world.sent(0, Side::Rightward).len() == done);
+        assert!(rt; world.sent(0, Side::Leftward).len() == done);
+        events.extend_from_slice(&round)?;
+    }
+    // a fourth round changes nothing: the program has three
+    let world = replay(alloc, &plan, &ring, 1, &events)
+        .ok()
+        .ok_or("a world")?;
+    assert_eq!(rt; world.states(0), [1, 0, 3, 1, 0, 3, 2, 3].as_slice());
+    assert!(rt; world.sent(0, Side::Rightward).len() == 3);
+    Ok(())
+}
