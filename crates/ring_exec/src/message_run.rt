@@ -26,7 +26,7 @@ use win_index::Ring;
 pub enum RunFault {
     /// E1: not 1 to 64 segments, or more than the ring has places.
     SegmentsOutOfRange,
-    /// E2: memory was refused.
+    /// E2: memory for a segment, a border, a message or the channels was refused.
     OutOfMemory,
     /// E3: a message came that its segment did not need, or a segment ended too soon.
     Stranger,
@@ -35,8 +35,8 @@ pub enum RunFault {
 }
 
 /// The channels of a ring after all rounds of a plan, in the order of the places. The ring is cut into segments, each
-/// runs in a thread of its own, and neighbours exchange messages at borders. The gate is told of each round of each
-/// segment, before the segment sends. The ring has the plan's shape.
+/// runs in a thread of its own, the last one in the caller's, and neighbours exchange messages at borders. The gate is
+/// told of each round of each segment, before the segment sends. The ring has the plan's shape.
 ///
 /// `SegmentsOutOfRange` comes first, where the number of segments is not 1 to 64 or is above the number of places; then
 /// `NoThread`, where the start of a thread was refused; else the fault of the lowest segment that has one. All threads
@@ -76,7 +76,7 @@ fn run_fault(fault: SegmentFault) -> RunFault
     }
 }
 
-// The run whose last border has the name L. All that it takes itself it takes before the first thread starts.
+// The run whose last border has the name L.
 fn run_named<'a, R: Threads + Wait + Sync, G: Gate + Sync, L: BorderName + Send + Sync + 'a>(
     shared: Shared<'a, R, G>,
     plan: &'a Plan,
@@ -91,8 +91,31 @@ fn run_named<'a, R: Threads + Wait + Sync, G: Gate + Sync, L: BorderName + Send 
     requires left { (blanks.left.name ≡ L.leftward) × (blanks.left.parts ≡ 1) }
     ensures { IfOk result (λ channels. channels.items ≡ channels_of plan.now.program ring.now.places) }
 {
+    let waiting = waiting_segments(shared.alloc, plan, ring, segments)?;
+    run_segments::<R, G, L>(shared, plan, ring, segments, waiting, blanks)
+}
+
+// The run of these segments, the first one last. That they are those of the plan and the ring is found once they have
+// ended. What is taken here is taken before the first thread starts.
+pub(crate) fn run_segments<
+    'a,
+    R: Threads + Wait + Sync,
+    G: Gate + Sync,
+    L: BorderName + Send + Sync + 'a,
+>(
+    shared: Shared<'a, R, G>,
+    plan: &Plan,
+    ring: &Ring,
+    segments: u32,
+    waiting: Vec<Segment<'a>>,
+    blanks: Blanks,
+) -> Result<Vec<u32>, SegmentFault>
+    requires range { IsSegmentCount segments (length ring.now.places) }
+    requires right { (blanks.right.name ≡ L.rightward) × (blanks.right.parts ≡ 1) }
+    requires left { (blanks.left.name ≡ L.leftward) × (blanks.left.parts ≡ 1) }
+    ensures { IfOk result (λ channels. channels.items ≡ channels_of plan.now.program ring.now.places) }
+{
     let alloc = shared.alloc;
-    let waiting = waiting_segments(alloc, plan, ring, segments)?;
     let mut channels = vec![in alloc; 0; ring.len() as usize]?;
     let joined = Joined::new(alloc, segments)?;
     let threads = Vec::with_capacity(alloc, segments as usize)?;

@@ -1,4 +1,4 @@
-use super::{CV1, plan_of};
+use super::{CV1, RED, plan_of};
 use crate::{RunFault, run};
 use lang_check::Plan;
 use round_eval::OpenGate;
@@ -7,10 +7,6 @@ use std::sync::Wait;
 use std::test::Fail;
 use std::thread::Threads;
 use win_index::Ring;
-
-// One round of Cole and Vishkin (1986), and two that take its channels down to four.
-const RED: &[u8] =
-    b"rounds 3\nchannels 4\nregisters 1\nstart\nr0 = id\nround\nsend left 0\nsend right r0\nr0 = add(shl(ldb(r0, L), 1), bit(r0, ldb(r0, L)))\nround\nsend left r0\nsend right r0\nr0 = min(if(eq(r0, 5), if(and(ne(L, 0), ne(R, 0)), 0, if(and(ne(L, 1), ne(R, 1)), 1, 2)), r0), 4)\nround\nsend left r0\nsend right r0\nr0 = min(if(eq(r0, 4), if(and(ne(L, 0), ne(R, 0)), 0, if(and(ne(L, 1), ne(R, 1)), 1, 2)), r0), 3)\nfinish r0\n";
 
 // No round: the channel of a place is its identifier.
 const OWN: &[u8] = b"rounds 0\nchannels 1024\nregisters 1\nstart\nr0 = id\nfinish r0\n";
