@@ -1,7 +1,8 @@
 -- What the readers of a machine tell, and what holds of it.
-use Rattle.std.proofs.Common.{◌≡◌, ℕ, ◌+◌, ◌*◌, ◌<◌, suc, List, [], ◌∷◌, map, length, Some, slice_get, slice_index, arith, refl, subst, sym, ◌∙◌, ap}
+use Rattle.std.proofs.Common.{◌≡◌, ℕ, ◌+◌, ◌<◌, suc, List, [], ◌∷◌, map, length, Option, None, Some, IfNone, slice_get, slice_index, arith, refl, subst, sym, ◌∙◌, ap}
 use Rattle.std.specs.List.{range_with_len}
-use Rattle.std.proofs.lemmas.List.FromFn.{length-map-range_with_len}
+use Rattle.std.proofs.lemmas.List.FromFn.{length-map-range_with_len, fill_by_all}
+use Rattle.border_exchange.specs.declared.Side.{Side}
 use Rattle.border_exchange.specs.declared.Side.TheVariants.{Rightward, Leftward}
 use Rattle.node_lang.specs.GlobalRounds.{state}
 use Rattle.round_eval.specs.Rows.{rows}
@@ -10,11 +11,16 @@ use Rattle.ring_core.specs.Messages.{Heading, sent_under}
 use Rattle.ring_core.specs.Headings.{heading_of}
 use Rattle.ring_core.specs.Segments.{RingSegment, first_of, places_of, states_of}
 use Rattle.ring_core.specs.Needs.{from_left, from_right, to_the_left, to_the_right}
-use Rattle.ring_core.specs.Machine.{SegmentState, segment_at, border_before, segment_after}
+use Rattle.ring_core.specs.Machine.{SegmentState, Machine, segment_at, border_at, left_border, right_border, border_before, segment_after}
 use Rattle.ring_core.specs.MachinePromises.{HasGlobalStates, HasGlobalMessages, AreNear, segment_after_rounds, sent_at, heading_at}
-use Rattle.ring_core.specs.Parts.{Progress, Parts, FitTogether, AreInOrder, part_at, round_at, rightward_headings, leftward_headings, values_under, rightward_values, leftward_values, machine_of}
-use Rattle.ring_core.proofs.Neighbours.{after_inside, before_after}
+use Rattle.ring_core.specs.Parts.{Parts, FitTogether, AreInOrder, part_at, round_at, rightward_headings, leftward_headings, values_under, machine_of}
+use Rattle.ring_core.proofs.Neighbours.{before_inside, after_inside, before_after}
 use Rattle.ring_core.proofs.Views.{value_at, plain, count_is, plain_is, round_is, left_needed, right_needed, own_rightward, own_right_size, came_leftward, came_left_size}
+
+-- what holds where there is no message
+pub if_none : {T : Type 0} (o : Option T) (P Q : Type 0) → (P → Q) → IfNone o P → IfNone o Q
+if_none None P Q then p = then p
+if_none (Some x) P Q then p = tt
 
 -- messages in order have the values under their headings
 values_from :
@@ -31,6 +37,13 @@ pub in_order_values :
     (heading : ℕ → Heading) (messages : List Msg) → AreInOrder heading messages
     → map (λ m. sent_under (heading_of m)) messages ≡ values_under heading (length messages)
 in_order_values heading messages each = values_from heading 0 messages (λ k m is. each k m is ∙ ap heading (omega arith))
+
+-- a segment of a machine has as many places as registers for them
+pub places_are : (m : Machine) (s : ℕ) → HasGlobalStates m → s < length m.segments
+    → length (segment_at m s).states ≡ places_of (segment_after_rounds m s (segment_at m s).round)
+places_are m s global lt =
+    let a = segment_after_rounds m s (segment_at m s).round in
+    ap length (global s lt) ∙ length-map-range_with_len (state a.plan.program a.ring.places a.round) (first_of a) (places_of a)
 
 module _ (v : Parts) (kept : FitTogether v) where
   -- segment s of the machine is segment s of the ring
@@ -106,71 +119,47 @@ module _ (v : Parts) (kept : FitTogether v) where
             omega (arith, round_is v kept s lt, after_round s, came, ap (λ k. (part_at v k).rightward) (before_after g s lt), here.right_high);
       }
 
-  -- the registers that a part lends
-  part_is : (s : ℕ) (p : Progress) → s < length v.items → p ≡ part_at v s → p.segment ≡ plain v kept s (round_at v s)
-  part_is s p lt is = ap (λ (q : Progress). q.segment) is ∙ kept.segments_are s lt
+  -- what its neighbours send in a round is what a segment needs in it
+  pub left_beside : (s r : ℕ) → s < length v.items
+      → to_the_right (segment_after_rounds (machine_of v) (border_before (length (machine_of v).segments) s) r)
+      ≡ from_left (segment_after_rounds (machine_of v) s r)
+  left_beside s r lt =
+      let b = border_before (length v.items) s in
+      ap (λ g. to_the_right (segment_after_rounds (machine_of v) (border_before g s) r)) (count_is v kept)
+      ∙ ap to_the_right (named_is b r r refl)
+      ∙ sym (ap (λ (a : RingSegment). rightward_headings a r) (kept.segments_are b (before_inside (length v.items) s kept.some)))
+      ∙ left_needed v kept s r lt ∙ ap from_left (sym (named_is s r r refl))
 
-  places_are : (s : ℕ) → s < length v.items → length (segment_at (machine_of v) s).states ≡ places_of (plain v kept s (round_at v s))
-  places_are s lt =
-      let a = plain v kept s (round_at v s) in
-      ap length (states_are s lt)
-      ∙ length-map-range_with_len (state v.plan.program v.ring.places a.round) (first_of a) (places_of a)
+  pub right_beside : (s r : ℕ) → s < length v.items
+      → to_the_left (segment_after_rounds (machine_of v) (segment_after (length (machine_of v).segments) s) r)
+      ≡ from_right (segment_after_rounds (machine_of v) s r)
+  right_beside s r lt =
+      let b = segment_after (length v.items) s in
+      ap (λ g. to_the_left (segment_after_rounds (machine_of v) (segment_after g s) r)) (count_is v kept)
+      ∙ ap to_the_left (named_is b r r refl)
+      ∙ sym (ap (λ (a : RingSegment). leftward_headings a r) (kept.segments_are b (after_inside (length v.items) s kept.some)))
+      ∙ right_needed v kept s r lt ∙ ap from_right (sym (named_is s r r refl))
 
-  pub rows_are : (s : ℕ) (p : Progress) (cells : List ℕ) → s < length v.items → p ≡ part_at v s
-      → rows (length p.segment.plan.program.start) (places_of p.segment) cells ≡ states_of p.segment
-      → rows (length v.plan.program.start) (length (segment_at (machine_of v) s).states) cells ≡ (segment_at (machine_of v) s).states
-  rows_are s p cells lt is held =
-      ap (λ n. rows (length v.plan.program.start) n cells) (places_are s lt)
-      ∙ subst (λ (a : RingSegment). rows (length a.plan.program.start) (places_of a) cells ≡ states_of a) (part_is s p lt is) held
-      ∙ sym (states_are s lt)
+-- the left border of the next segment is the right border of a segment
+pub same_border : (m : Machine) (s : ℕ) → s < length m.segments → left_border m (segment_after (length m.segments) s) ≡ right_border m s
+same_border m s lt = ap (border_at m) (before_after (length m.segments) s lt)
 
-  pub size_is : (s : ℕ) (p : Progress) (cells : List ℕ) → s < length v.items → p ≡ part_at v s
-      → length cells ≡ places_of p.segment * length p.segment.plan.program.start
-      → length cells ≡ length (segment_at (machine_of v) s).states * length v.plan.program.start
-  size_is s p cells lt is size =
-      subst (λ (a : RingSegment). length cells ≡ places_of a * length a.plan.program.start) (part_is s p lt is) size
-      ∙ ap (λ n. n * length v.plan.program.start) (sym (places_are s lt))
+-- the registers that a segment lends, as the machine has them
+pub rows_are :
+    (m : Machine) (s : ℕ) (a : RingSegment) (cells : List ℕ) → HasGlobalStates m → s < length m.segments
+    → a ≡ segment_after_rounds m s (segment_at m s).round
+    → rows (length a.plan.program.start) (places_of a) cells ≡ states_of a
+    → rows (length m.plan.program.start) (length (segment_at m s).states) cells ≡ (segment_at m s).states
+rows_are m s a cells global lt is held =
+    ap (λ n. rows (length m.plan.program.start) n cells) (places_are m s global lt)
+    ∙ subst (λ (b : RingSegment). rows (length b.plan.program.start) (places_of b) cells ≡ states_of b) is held ∙ sym (global s lt)
 
-  -- the messages that a part lends
-  pub right_values : (b : ℕ) (p : Progress) (messages : List Msg) → b < length v.items → p ≡ part_at v b → length messages ≡ p.rightward
-      → AreInOrder (rightward_headings p.segment) messages
-      → map (λ m. sent_under (heading_of m)) messages ≡ sent_at (machine_of v) b Rightward
-  right_values b p messages lt is size each =
-      in_order_values (rightward_headings p.segment) messages each
-      ∙ ap (values_under (rightward_headings p.segment)) size
-      ∙ ap rightward_values is ∙ sym (own_rightward v kept b lt)
-
-  pub right_headings : (b : ℕ) (p : Progress) (messages : List Msg) → b < length v.items → p ≡ part_at v b
-      → AreInOrder (rightward_headings p.segment) messages → AreInOrder (heading_at (machine_of v) b Rightward) messages
-  right_headings b p messages lt is each =
-      λ k m at. each k m at ∙ ap (λ (q : Progress). rightward_headings q.segment k) is ∙ right_heading b k lt
-
-  pub left_values : (b : ℕ) (p : Progress) (messages : List Msg) → b < length v.items → p ≡ part_at v (segment_after (length v.items) b)
-      → length messages ≡ p.leftward → AreInOrder (leftward_headings p.segment) messages
-      → map (λ m. sent_under (heading_of m)) messages ≡ sent_at (machine_of v) b Leftward
-  left_values b p messages lt is size each =
-      in_order_values (leftward_headings p.segment) messages each
-      ∙ ap (values_under (leftward_headings p.segment)) size
-      ∙ ap leftward_values is ∙ sym (came_leftward v kept b lt)
-
-  pub left_headings : (b : ℕ) (p : Progress) (messages : List Msg) → b < length v.items → p ≡ part_at v (segment_after (length v.items) b)
-      → AreInOrder (leftward_headings p.segment) messages → AreInOrder (heading_at (machine_of v) b Leftward) messages
-  left_headings b p messages lt is each =
-      λ k m at. each k m at ∙ ap (λ (q : Progress). leftward_headings q.segment k) is ∙ left_heading b k lt
-
-  -- the messages that a part needs
-  pub left_is : (s r : ℕ) (p : Progress) (h : Heading) → s < length v.items → p ≡ part_at v (border_before (length v.items) s)
-      → r ≡ round_at v s → h ≡ rightward_headings p.segment r
-      → h ≡ from_left (segment_after_rounds (machine_of v) s (segment_at (machine_of v) s).round)
-  left_is s r p h lt is round sent =
-      sent ∙ ap (λ (q : Progress). rightward_headings q.segment r) is
-      ∙ left_needed v kept s r lt ∙ ap (λ k. from_left (plain v kept s k)) round
-      ∙ ap from_left (sym (now_is s lt))
-
-  pub right_is : (s r : ℕ) (p : Progress) (h : Heading) → s < length v.items → p ≡ part_at v (segment_after (length v.items) s)
-      → r ≡ round_at v s → h ≡ leftward_headings p.segment r
-      → h ≡ from_right (segment_after_rounds (machine_of v) s (segment_at (machine_of v) s).round)
-  right_is s r p h lt is round sent =
-      sent ∙ ap (λ (q : Progress). leftward_headings q.segment r) is
-      ∙ right_needed v kept s r lt ∙ ap (λ k. from_right (plain v kept s k)) round
-      ∙ ap from_right (sym (now_is s lt))
+-- messages in order have the values that stand at their border
+pub values_are :
+    (m : Machine) (b : ℕ) (side : Side) (messages : List Msg) → HasGlobalMessages m → b < length m.segments
+    → length messages ≡ length (sent_at m b side) → AreInOrder (heading_at m b side) messages
+    → map (λ m. sent_under (heading_of m)) messages ≡ sent_at m b side
+values_are m b side messages global lt size each =
+    in_order_values (heading_at m b side) messages each
+    ∙ sym (fill_by_all (λ k. sent_under (heading_at m b side k)) (sent_at m b side) (length messages) 0 (sym size)
+    (λ k below. global b k side lt (rw (← size) below)))

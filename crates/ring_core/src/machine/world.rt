@@ -1,8 +1,8 @@
-ghost use Rattle.std.specs.Prelude.{◌≡◌, ◌*◌, ◌<◌, ◌≤◌, ℕ, Some, IfOk, IfSome, IfNone, OnOk, length, slice_get, map};
+ghost use Rattle.std.specs.Prelude.{◌≡◌, ◌*◌, ◌^◌, ◌<◌, ◌≤◌, ℕ, Some, IfOk, IfSome, IfNone, OnOk, length, slice_get, map};
 ghost use Rattle.std.specs.List.{range_with_len};
 ghost use Rattle.round_eval.specs.Rows.{rows};
 ghost use Rattle.ring_core.specs.Segments.{states_of};
-ghost use Rattle.ring_core.specs.Machine.{Steps, CanAdvance, segment_at, opening as opening_of};
+ghost use Rattle.ring_core.specs.Machine.{Steps, CanAdvance, segment_at, left_border, right_border, border_before, segment_after, opening as opening_of};
 ghost use Rattle.ring_core.specs.MachinePromises.{HasGlobalStates, HasGlobalMessages, AreNear, segment_after_rounds, sent_at, heading_at};
 ghost use Rattle.ring_core.specs.Parts.{opening_part};
 
@@ -43,7 +43,7 @@ impl<'a> Model for World<'a> {
 
 impl<'a> World<'a> {
     ghost use Rattle.ring_core.specs.Headings.{heading_of};
-    ghost use Rattle.ring_core.specs.Needs.{from_left, from_right};
+    ghost use Rattle.ring_core.specs.Needs.{from_left, from_right, to_the_left, to_the_right};
     ghost use Rattle.ring_core.specs.Messages.{sent_under};
 
     // Nothing has happened yet.
@@ -103,18 +103,69 @@ impl<'a> World<'a> {
         ensures right { IfSome result (λ needed. heading_of needed.1 ≡ from_right (segment_after_rounds self.now segment (segment_at self.now segment).round)) }
     {
         let index = segment as usize;
-        let count = self.parts.len();
-        if index >= count || !self.parts[index].has_sent() {
+        if index >= self.count() || !self.part(index).has_sent() {
             return None;
         }
-        let round = self.parts[index].round();
-        let Some(left) = self.parts[(index + count - 1) % count].sent_right_in(round) else {
+        let round = self.part(index).round();
+        let Some(left) = self.from_left(index, round) else {
             return None;
         };
-        let Some(right) = self.parts[(index + 1) % count].sent_left_in(round) else {
+        let Some(right) = self.from_right(index, round) else {
             return None;
         };
         Some((left, right))
+    }
+
+    // What has come to a segment from its left in a round.
+    fn from_left(&self, index: usize, round: u32) -> Option<Msg<'a>>
+        requires { index < length self.now.segments }
+        ensures none { IfNone result (length (left_border self.now index).rightward ≤ round) }
+        ensures some { IfSome result (λ _. round < length (left_border self.now index).rightward) }
+        ensures needed { IfSome result (λ m. heading_of m ≡ from_left (segment_after_rounds self.now index round)) }
+    {
+        self.neighbours();
+        let count = self.count();
+        self.part((index + count - 1) % count).sent_right_in(round)
+    }
+
+    // What has come to a segment from its right in a round.
+    fn from_right(&self, index: usize, round: u32) -> Option<Msg<'a>>
+        requires { index < length self.now.segments }
+        ensures none { IfNone result (length (right_border self.now index).leftward ≤ round) }
+        ensures some { IfSome result (λ _. round < length (right_border self.now index).leftward) }
+        ensures needed { IfSome result (λ m. heading_of m ≡ from_right (segment_after_rounds self.now index round)) }
+    {
+        self.neighbours();
+        let count = self.count();
+        self.part((index + 1) % count).sent_left_in(round)
+    }
+
+    // What the neighbours of a segment send in a round is what it needs in that round.
+    fn neighbours(&self)
+        ensures left { (s r : ℕ) → s < length self.now.segments
+            → to_the_right (segment_after_rounds self.now (border_before (length self.now.segments) s) r) ≡ from_left (segment_after_rounds self.now s r) }
+        ensures right { (s r : ℕ) → s < length self.now.segments
+            → to_the_left (segment_after_rounds self.now (segment_after (length self.now.segments) s) r) ≡ from_right (segment_after_rounds self.now s r) }
+    {
+        let _parts = &self.parts;
+    }
+
+    // How many segments there are.
+    fn count(&self) -> usize
+        ensures value { result ≡ length self.now.segments }
+        ensures few { result < 2 ^ 63 }
+    {
+        self.parts.len()
+    }
+
+    // A segment, with what it has sent.
+    fn part(&self, index: usize) -> &Part<'a>
+        requires { index < length self.now.segments }
+        ensures segment { result.now.segment ≡ segment_after_rounds self.now index (segment_at self.now index).round }
+        ensures rightward { result.now.rightward ≡ length (right_border self.now index).rightward }
+        ensures leftward { result.now.leftward ≡ length (left_border self.now index).leftward }
+    {
+        &self.parts[index]
     }
 
     // What holds after every list of events.
@@ -131,7 +182,7 @@ impl<'a> World<'a> {
         requires { segment < length self.now.segments }
         ensures { result ≡ (segment_at self.now segment).round }
     {
-        self.parts[segment as usize].round()
+        self.part(segment as usize).round()
     }
 
     /// The registers of a segment's places, row by row: those of global rounds, after as many as it has done.
@@ -141,7 +192,8 @@ impl<'a> World<'a> {
         ensures size { length result.now ≡ length (segment_at self.now segment).states * length self.now.plan.program.start }
         ensures global { (segment_at self.now segment).states ≡ states_of (segment_after_rounds self.now segment (segment_at self.now segment).round) }
     {
-        self.parts[segment as usize].states()
+        self.promises();
+        self.part(segment as usize).states()
     }
 
     /// What was sent over a border to a side. Message `k` is the one that global rounds send there in round `k`.
@@ -150,10 +202,11 @@ impl<'a> World<'a> {
         ensures value { map (λ m. sent_under (heading_of m)) result.now ≡ sent_at self.now border side }
         ensures global { (k : ℕ) (m : Msg) → slice_get result.now k ≡ Some m → heading_of m ≡ heading_at self.now border side k }
     {
+        self.promises();
         let index = border as usize;
         match side {
-            Side::Rightward => self.parts[index].rightward(),
-            Side::Leftward => self.parts[(index + 1) % self.parts.len()].leftward(),
+            Side::Rightward => self.part(index).rightward(),
+            Side::Leftward => self.part((index + 1) % self.count()).leftward(),
         }
     }
 }
