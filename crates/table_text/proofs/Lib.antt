@@ -1,3 +1,5 @@
 -- Lemmas that several proofs share.
 pub mod NumberTexts
 pub mod IdTexts
+pub mod Headers
+pub mod TableLines

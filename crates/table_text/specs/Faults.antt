@@ -1,45 +1,11 @@
 -- What is wrong first with a text that is not the text of a table.
-use Rattle.std.specs.Prelude.{◌≡◌, ◌≢◌, ◌⊎◌, ℕ, ◌+◌, ◌*◌, ◌^◌, ◌<◌, ◌≤◌, List, [], ◌∷◌, ◌++◌, All, Some, length, slice_get}
-use Rattle.node_lang.specs.declared.limits.TheConstants.{MAX_CHANNELS}
-use Rattle.win_index.specs.declared.limits.TheConstants.{MAX_ROUNDS}
-use Rattle.win_index.specs.ShapeRange.{IsShape}
+use Rattle.std.specs.Prelude.{◌≡◌, ◌≢◌, ◌⊎◌, ℕ, ◌+◌, ◌*◌, ◌<◌, ◌≤◌, List, [], Some, length, slice_get}
 use Rattle.table_fill.specs.Tables.{ChannelTable, IsBegun, IsTable, windows_of}
-use Rattle.table_text.specs.TableText.{title_then, sizes_then, entry_then, end_then, lines_then}
+use Rattle.table_text.specs.TableText.{title_then, end_then, lines_then}
+use Rattle.table_text.specs.LineForms.{HasTitle, HasSizes, IsEntry, HasEntry, HasEnd}
 use Rattle.table_text.specs.declared.limits.TheConstants.{LONGEST_TABLE_TEXT}
 use Rattle.table_text.specs.declared.fault.TableFault.{TableFault}
 use Rattle.table_text.specs.declared.fault.TableFault.TheVariants.{Syntax, WrongWindow, ChannelTooLarge, OutOfMemory}
-
--- the numbers of rounds, of identifiers and of channels of a table
-pub record AreSizes (rounds ids channels : ℕ) : Type 0 where
-  pub few_rounds : rounds ≤ MAX_ROUNDS
-  pub shape : IsShape ids rounds
-  pub some_channels : 1 ≤ channels
-  pub few_channels : channels ≤ MAX_CHANNELS
-
--- the text begins with the first line
-abbrev pub HasTitle : List ℕ → Type 0
-HasTitle text = (rest : List ℕ) × (text ≡ title_then rest)
-
--- the text begins with a line of sizes
-abbrev pub HasSizes : List ℕ → Type 0
-HasSizes text =
-    (rounds : ℕ) × (ids : ℕ) × (channels : ℕ) × (rest : List ℕ) × AreSizes rounds ids channels
-    × (text ≡ sizes_then rounds ids channels rest)
-
--- the text begins with the line of as many identifiers as width and of a channel, each a number below 2^32, and
--- the rest follows that line
-pub record IsEntry (width : ℕ) (text ids : List ℕ) (channel : ℕ) (rest : List ℕ) : Type 0 where
-  pub size : length ids ≡ width
-  pub ids_fit : All (λ id. id < 2 ^ 32) ids
-  pub channel_fits : channel < 2 ^ 32
-  pub spelled : text ≡ entry_then ids channel rest
-
-abbrev pub HasEntry : ℕ → List ℕ → Type 0
-HasEntry width text = (ids : List ℕ) × (channel : ℕ) × (rest : List ℕ) × IsEntry width text ids channel rest
-
--- the text begins with the last line
-abbrev pub HasEnd : List ℕ → Type 0
-HasEnd text = (rest : List ℕ) × (text ≡ end_then rest)
 
 -- the text begins with the lines of a begun table that wants an entry more, and the rest follows them
 pub record IsWithin (text : List ℕ) (t : ChannelTable) (rest : List ℕ) : Type 0 where
@@ -49,10 +15,10 @@ pub record IsWithin (text : List ℕ) (t : ChannelTable) (rest : List ℕ) : Typ
 
 -- the first line of the text that does not have its form begins with the rest
 pub data IsMalformed (text rest : List ℕ) : Type 0 where
-  no_title : rest ≡ text → (HasTitle rest → ⊥) → IsMalformed text rest
-  no_sizes : text ≡ title_then rest → (HasSizes rest → ⊥) → IsMalformed text rest
-  no_entry : (t : ChannelTable) → IsWithin text t rest → (HasEntry (2 * t.rounds + 1) rest → ⊥) → IsMalformed text rest
-  no_end : (t : ChannelTable) → IsTable t → text ≡ lines_then t rest → (HasEnd rest → ⊥) → IsMalformed text rest
+  no_title : rest ≡ text → (¬ HasTitle rest) → IsMalformed text rest
+  no_sizes : text ≡ title_then rest → (¬ HasSizes rest) → IsMalformed text rest
+  no_entry : (t : ChannelTable) → IsWithin text t rest → (¬ HasEntry (2 * t.rounds + 1) rest) → IsMalformed text rest
+  no_end : (t : ChannelTable) → IsTable t → text ≡ lines_then t rest → (¬ HasEnd rest) → IsMalformed text rest
   bytes_after : (t : ChannelTable) → IsTable t → text ≡ lines_then t (end_then rest) → rest ≢ [] → IsMalformed text rest
 
 -- after the lines of the begun table t comes a line of these identifiers and this channel
@@ -69,12 +35,13 @@ IsNextWindow t ids = slice_get (windows_of t) (length t.entries) ≡ Some ids
 abbrev pub IsFault : List ℕ → TableFault → Type 0
 IsFault text (Syntax offset) =
     ((LONGEST_TABLE_TEXT < length text) × (offset ≡ LONGEST_TABLE_TEXT))
-    ⊎ ((length text ≤ LONGEST_TABLE_TEXT) × ((rest : List ℕ) × IsMalformed text rest × (offset + length rest ≡ length text)))
+    ⊎ ((length text ≤ LONGEST_TABLE_TEXT) × (rest : List ℕ) × IsMalformed text rest × (offset + length rest ≡ length text))
 IsFault text (WrongWindow line) =
     (length text ≤ LONGEST_TABLE_TEXT)
-    × ((t : ChannelTable) × (ids : List ℕ) × (channel : ℕ) × HasNext text t ids channel × (¬ IsNextWindow t ids) × (line ≡ length t.entries + 3))
+    × (t : ChannelTable) × (ids : List ℕ) × (channel : ℕ) × HasNext text t ids channel × (¬ IsNextWindow t ids)
+    × (line ≡ length t.entries + 3)
 IsFault text (ChannelTooLarge line) =
     (length text ≤ LONGEST_TABLE_TEXT)
-    × ((t : ChannelTable) × (ids : List ℕ) × (channel : ℕ) × HasNext text t ids channel × IsNextWindow t ids × (t.channels ≤ channel)
-    × (line ≡ length t.entries + 3))
+    × (t : ChannelTable) × (ids : List ℕ) × (channel : ℕ) × HasNext text t ids channel × IsNextWindow t ids
+    × (t.channels ≤ channel) × (line ≡ length t.entries + 3)
 IsFault text OutOfMemory = length text ≤ LONGEST_TABLE_TEXT

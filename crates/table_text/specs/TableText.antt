@@ -24,8 +24,8 @@ entry_then window channel rest = ids_then window (codes ": " ++ (decimal channel
 
 -- a line for each channel, with the windows in order: fewer channels than windows leave out the last windows
 abbrev pub entries_then : List (List ℕ) → List ℕ → List ℕ → List ℕ
-entries_then [] channels rest = rest
-entries_then (window ∷ windows) [] rest = rest
+entries_then windows [] rest = rest
+entries_then [] (channel ∷ channels) rest = rest
 entries_then (window ∷ windows) (channel ∷ channels) rest = entry_then window channel (entries_then windows channels rest)
 
 -- the last line

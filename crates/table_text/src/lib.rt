@@ -5,6 +5,8 @@ mod fault;
 mod limits;
 mod lines;
 mod numbers;
+mod reading;
 
 pub use fault::TableFault;
 pub use limits::LONGEST_TABLE_TEXT;
+pub use reading::read_table;

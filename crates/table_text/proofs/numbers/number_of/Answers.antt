@@ -22,4 +22,4 @@ returns-clause-number c =
     let digits = c.in-Ok.ensures.cases.0 in
     let read = rw digits at c.in-Ok-parse.ensures.value.0 in
     parsed_word c.args.word.now c.in-Ok-parse.number (sym c.is_signed.ensures ∙ c.if-is_signed.false)
-        (sym c.is_padded.ensures ∙ c.if-is_padded.false) read.0 read.1
+    (sym c.is_padded.ensures ∙ c.if-is_padded.false) read.0 read.1
