@@ -10,3 +10,6 @@ mod reading;
 pub use fault::TableFault;
 pub use limits::LONGEST_TABLE_TEXT;
 pub use reading::read_table;
+
+#[cfg(test)]
+mod tests;
