@@ -3,3 +3,6 @@ pub mod NumberTexts
 pub mod IdTexts
 pub mod Headers
 pub mod TableLines
+pub mod TablesOnce
+pub mod TextsApart
+pub mod FaultsOnce
