@@ -1,10 +1,12 @@
 -- A text has at most one fault, want of memory aside, and the text of a table has none.
 use Rattle.std.proofs.Common.{◌≡◌, ◌≢◌, ◌⊎◌, inl, inr, ℕ, ◌+◌, ◌*◌, ◌<◌, ◌≤◌, List, [], ◌∷◌, ◌++◌, Some, length, slice_get, drop, refl, sym, ap, subst, ◌∙◌, arith}
+use Rattle.std.proofs.lemmas.Bool.{cases_order}
 use Rattle.win_index.specs.Laws.{NumberOfWindow, WindowsHaveNumbers}
 use Rattle.table_fill.specs.Tables.{ChannelTable, IsBegun, IsTable, windows_of}
-use Rattle.table_text.specs.TableText.{title_then, end_then, lines_then}
+use Rattle.table_text.specs.TableText.{title_then, end_then, lines_then, table_text}
 use Rattle.table_text.specs.LineForms.{HasTitle, HasSizes, IsEntry, HasEntry, HasEnd}
 use Rattle.table_text.specs.Faults.{IsWithin, IsMalformed, no_title, no_sizes, no_entry, no_end, bytes_after, IsNextWindow, IsFault}
+use Rattle.table_text.specs.Laws.{OneTableFault, TableTextsAreShort, TableTextsAreRead}
 use Rattle.table_text.specs.declared.limits.TheConstants.{LONGEST_TABLE_TEXT}
 use Rattle.table_text.specs.declared.fault.TableFault.{TableFault}
 use Rattle.table_text.specs.declared.fault.TableFault.TheVariants.{Syntax, WrongWindow, ChannelTooLarge, OutOfMemory}
@@ -92,3 +94,126 @@ lines_sizes : (text second : List ℕ) (t : ChannelTable) (rest : List ℕ) → 
 unfolding lines_then
 lines_sizes text second t rest begun title same =
     (t.rounds, t.ids, t.channels, _, sizes_of t begun, title_once second _ (sym title ∙ same))
+
+-- a line without its form
+malformed_stops : (text rest : List ℕ) (f : TableFault) → IsMalformed text rest → IsAt text rest f → Stops text f
+malformed_stops text rest f (no_title same none) at = at_title (subst (λ l. ¬ HasTitle l) same none) (subst (λ l. IsAt text l f) same at)
+malformed_stops text rest f (no_sizes title none) at = at_sizes rest title none at
+malformed_stops text rest f (no_entry t within none) at = at_entry t rest within (no_form none at)
+malformed_stops text rest f (no_end t table same none) at = at_end t rest table same (no_last_line none at)
+malformed_stops text rest f (bytes_after t table same some) at = at_end t (end_then rest) table same (more_bytes rest refl some at)
+
+-- a text within the limit stops where its fault is
+fault_stops : (text : List ℕ) (f : TableFault) → f ≢ OutOfMemory → length text ≤ LONGEST_TABLE_TEXT → IsFault text f → Stops text f
+fault_stops text (Syntax offset) some short (inl long) = absurd (omega (arith, short, long.0))
+fault_stops text (Syntax offset) some short (inr fault) = malformed_stops text fault.1 (Syntax offset) fault.2 fault.3
+fault_stops text (WrongWindow line) some short fault =
+    let next = fault.4 in
+    at_entry fault.1 next.0 next.2 (other_window fault.2 fault.3 next.1 next.3 fault.5 (ap WrongWindow fault.6))
+fault_stops text (ChannelTooLarge line) some short fault =
+    let next = fault.4 in
+    at_entry fault.1 next.0 next.2 (large_channel fault.2 fault.3 next.1 next.3 fault.5 fault.6 (ap ChannelTooLarge fault.7))
+fault_stops text OutOfMemory some short fault = absurd (some refl)
+
+-- a text stops at one place where the lines of two begun tables begin it
+entries_stop : NumberOfWindow → WindowsHaveNumbers → (text : List ℕ) (t u : ChannelTable) (x y : List ℕ) (f g : TableFault) → IsWithin text t x
+    → IsWithin text u y → IsBadNext text t x f → IsBadNext text u y g → (length t.entries ≡ length u.entries) ⊎ ((length t.entries < length u.entries) ⊎ (length u.entries < length t.entries))
+    → f ≡ g
+entries_stop number have text t u x y f g p q bad bad' (inl size) =
+    let one = lines_once t u x y p.begun q.begun (sym p.before ∙ q.before) size in
+    let moved = subst (λ l. IsBadNext text t l g) (sym one.1) (subst (λ v. IsBadNext text v y g) (sym one.0) bad') in
+    bad_next_once text t x f g bad moved
+entries_stop number have text t u x y f g p q bad bad' (inr (inl less)) =
+    absurd (no_bad_next number have text t x f p.begun (lines_next t u x y p.begun q.begun (sym p.before ∙ q.before) less) bad)
+entries_stop number have text t u x y f g p q bad bad' (inr (inr more)) =
+    absurd (no_bad_next number have text u y g q.begun (lines_next u t y x q.begun p.begun (sym q.before ∙ p.before) more) bad')
+
+-- a text does not stop within the lines of a table
+within_table : NumberOfWindow → WindowsHaveNumbers → (text : List ℕ) (t u : ChannelTable) (x y : List ℕ) (f : TableFault) → IsWithin text t x
+    → IsBadNext text t x f → IsTable u → text ≡ lines_then u y → ⊥
+within_table number have text t u x y f p bad table same =
+    no_bad_next number have text t x f p.begun (table_next t u x y p.begun table (sym p.before ∙ same) p.more) bad
+
+ends_once : (text : List ℕ) (t u : ChannelTable) (x y : List ℕ) (f g : TableFault) → IsTable t → IsTable u → text ≡ lines_then t x → text ≡ lines_then u y
+    → IsBadEnd text x f → IsBadEnd text y g → f ≡ g
+ends_once text t u x y f g p q same same' bad bad' =
+    let one = tables_once t u x y p q (sym same ∙ same') in
+    bad_end_once text x f g bad (subst (λ l. IsBadEnd text l g) (sym one.1) bad')
+
+stops_once : NumberOfWindow → WindowsHaveNumbers → (text : List ℕ) (f g : TableFault) → Stops text f → Stops text g → f ≡ g
+stops_once number have text f g (at_title none at) (at_title none' at') = at_once text text f g at at'
+stops_once number have text f g (at_title none at) (at_sizes rest title none' at') = absurd (none (rest, title))
+stops_once number have text f g (at_title none at) (at_entry t rest within bad) = absurd (none (lines_title text t rest within.before))
+stops_once number have text f g (at_title none at) (at_end t rest table same bad) = absurd (none (lines_title text t rest same))
+stops_once number have text f g (at_sizes rest title none at) (at_title none' at') = absurd (none' (rest, title))
+stops_once number have text f g (at_sizes rest title none at) (at_sizes rest' title' none' at') =
+    at_once text rest f g at (subst (λ l. IsAt text l g) (title_once rest' rest (sym title' ∙ title)) at')
+stops_once number have text f g (at_sizes second title none at) (at_entry t rest within bad) =
+    absurd (none (lines_sizes text second t rest within.begun title within.before))
+stops_once number have text f g (at_sizes second title none at) (at_end t rest table same bad) =
+    absurd (none (lines_sizes text second t rest table.begun title same))
+stops_once number have text f g (at_entry t rest within bad) (at_title none at) = absurd (none (lines_title text t rest within.before))
+stops_once number have text f g (at_entry t rest within bad) (at_sizes second title none at) =
+    absurd (none (lines_sizes text second t rest within.begun title within.before))
+stops_once number have text f g (at_entry t x within bad) (at_entry u y within' bad') =
+    entries_stop number have text t u x y f g within within' bad bad' (cases_order (length t.entries) (length u.entries))
+stops_once number have text f g (at_entry t x within bad) (at_end u y table same bad') =
+    absurd (within_table number have text t u x y f within bad table same)
+stops_once number have text f g (at_end t rest table same bad) (at_title none at) = absurd (none (lines_title text t rest same))
+stops_once number have text f g (at_end t rest table same bad) (at_sizes second title none at) =
+    absurd (none (lines_sizes text second t rest table.begun title same))
+stops_once number have text f g (at_end u y table same bad') (at_entry t x within bad) =
+    absurd (within_table number have text t u x y g within bad table same)
+stops_once number have text f g (at_end t x table same bad) (at_end u y table' same' bad') = ends_once text t u x y f g table table' same same' bad bad'
+
+-- the last line of a table is not wrong
+good_end : (text rest : List ℕ) (f : TableFault) → rest ≡ end_then [] → IsBadEnd text rest f → ⊥
+good_end text rest f is (no_last_line none at) = none ([], is)
+good_end text rest f is (more_bytes more is' some at) = some (ap (drop 4) (sym is' ∙ is))
+
+-- the text of a table does not stop
+never_stops : NumberOfWindow → WindowsHaveNumbers → (text : List ℕ) (u : ChannelTable) (f : TableFault) → IsTable u → text ≡ lines_then u (end_then [])
+    → Stops text f → ⊥
+never_stops number have text u f table same (at_title none at) = none (lines_title text u (end_then []) same)
+never_stops number have text u f table same (at_sizes second title none at) = none (lines_sizes text second u (end_then []) table.begun title same)
+never_stops number have text u f table same (at_entry t x within bad) = within_table number have text t u x (end_then []) f within bad table same
+never_stops number have text u f table same (at_end t x table' same' bad) =
+    good_end text x f (tables_once t u x (end_then []) table' table (sym same' ∙ same)).1 bad
+
+-- the fault of the length, or one within it
+fault_cases : (text : List ℕ) (f : TableFault) → IsFault text f
+    → ((LONGEST_TABLE_TEXT < length text) × (f ≡ Syntax LONGEST_TABLE_TEXT)) ⊎ (length text ≤ LONGEST_TABLE_TEXT)
+fault_cases text (Syntax offset) (inl long) = inl (long.0, ap Syntax long.1)
+fault_cases text (Syntax offset) (inr fault) = inr fault.0
+fault_cases text (WrongWindow line) fault = inr fault.0
+fault_cases text (ChannelTooLarge line) fault = inr fault.0
+fault_cases text OutOfMemory fault = inr fault
+
+one_of : NumberOfWindow → WindowsHaveNumbers → (text : List ℕ) (f g : TableFault) → f ≢ OutOfMemory → g ≢ OutOfMemory → IsFault text f → IsFault text g
+    → ((LONGEST_TABLE_TEXT < length text) × (f ≡ Syntax LONGEST_TABLE_TEXT)) ⊎ (length text ≤ LONGEST_TABLE_TEXT)
+    → ((LONGEST_TABLE_TEXT < length text) × (g ≡ Syntax LONGEST_TABLE_TEXT)) ⊎ (length text ≤ LONGEST_TABLE_TEXT) → f ≡ g
+one_of number have text f g some some' fault fault' (inl long) (inl long') = long.1 ∙ sym long'.1
+one_of number have text f g some some' fault fault' (inl long) (inr short) = absurd (omega (arith, long.0, short))
+one_of number have text f g some some' fault fault' (inr short) (inl long) = absurd (omega (arith, long.0, short))
+one_of number have text f g some some' fault fault' (inr short) (inr short') =
+    stops_once number have text f g (fault_stops text f some short fault) (fault_stops text g some' short fault')
+
+pub one_fault : NumberOfWindow → WindowsHaveNumbers → OneTableFault
+one_fault number have text f g some some' fault fault' =
+    one_of number have text f g some some' fault fault' (fault_cases text f fault) (fault_cases text g fault')
+
+-- a fault is want of memory, or another one
+memory_or_not : (f : TableFault) → (f ≡ OutOfMemory) ⊎ (f ≢ OutOfMemory)
+memory_or_not (Syntax offset) = inr (λ same. cc)
+memory_or_not (WrongWindow line) = inr (λ same. cc)
+memory_or_not (ChannelTooLarge line) = inr (λ same. cc)
+memory_or_not OutOfMemory = inl refl
+
+pub texts_read : NumberOfWindow → WindowsHaveNumbers → TableTextsAreShort → TableTextsAreRead
+unfolding table_text
+texts_read number have short t f table fault =
+    elim (memory_or_not f) [
+      | inl same ↦ same
+      | inr some ↦
+          absurd (never_stops number have (table_text t) t f table refl (fault_stops (table_text t) f some (short t table) fault))
+    ]

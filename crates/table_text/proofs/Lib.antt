@@ -6,3 +6,4 @@ pub mod TableLines
 pub mod TablesOnce
 pub mod TextsApart
 pub mod FaultsOnce
+pub mod TextLimit

@@ -12,6 +12,7 @@ pub fn one_table_fault()
     ensures one { law.OneTableFault }
     ensures none { law.TableTextsAreRead }
 {
+    table_texts_are_short();
     number_of_window();
     windows_have_numbers();
 }
