@@ -1,9 +1,8 @@
 -- Numbers after their names, and the first two lines of a table text.
-use Rattle.std.proofs.Common.{◌≡◌, ℕ, ◌+◌, ◌*◌, ◌^◌, ◌<◌, ◌≤◌, List, [], ◌∷◌, ◌++◌, drop, refl, sym, ap, ◌∙◌, arith}
+use Rattle.std.proofs.Common.{◌≡◌, ℕ, ◌^◌, ◌<◌, List, [], ◌∷◌, ◌++◌, sym, ◌∙◌, arith}
 use Rattle.std.specs.Prelude.{codes}
 use Rattle.std.specs.Fmt.{decimal}
 use Rattle.std.proofs.lemmas.List.{append_cancel_left}
-use Rattle.win_index.specs.ShapeRange.{IsShape, HasIds}
 use Rattle.table_text.specs.TableText.{title_then, sizes_then}
 use Rattle.table_text.specs.LineForms.{AreSizes, HasSizes}
 use Rattle.table_text.proofs.NumberTexts.{number_once}

@@ -1,5 +1,5 @@
 -- The lines of a text are those of one table.
-use Rattle.std.proofs.Common.{◌≡◌, ℕ, zero, suc, ◌+◌, ◌*◌, ◌^◌, ◌<◌, ◌≤◌, List, [], ◌∷◌, ◌++◌, Some, length, slice_get, drop, refl, sym, ap, subst, ◌∙◌, arith}
+use Rattle.std.proofs.Common.{◌≡◌, ℕ, ◌+◌, ◌*◌, ◌^◌, ◌<◌, ◌≤◌, List, [], ◌∷◌, ◌++◌, Some, length, slice_get, drop, refl, sym, ap, subst, ◌∙◌, arith}
 use Rattle.std.specs.Prelude.{codes, All, is_some}
 use Rattle.std.specs.Fmt.{decimal}
 use Rattle.std.proofs.lemmas.List.{append_cancel_left}
@@ -21,14 +21,14 @@ line_once : (window : List ℕ) (c d : ℕ) (x y : List ℕ) → c < 2 ^ 32 → 
     → (c ≡ d) × (x ≡ y)
 line_once window c d x y p q same =
     field_once (codes ": ") 10 c d x y (omega arith) p q
-        (ids_same window (codes ": " ++ (decimal c ++ 10 ∷ x)) (codes ": " ++ (decimal d ++ 10 ∷ y)) same)
+    (ids_same window (codes ": " ++ (decimal c ++ 10 ∷ x)) (codes ": " ++ (decimal d ++ 10 ∷ y)) same)
 
 -- lines that have the form of an entry have the same identifiers and the same channel
 pub entry_once : (k : ℕ) (text ids others : List ℕ) (c d : ℕ) (x y : List ℕ) → IsEntry k text ids c x → IsEntry k text others d y
     → (ids ≡ others) × (c ≡ d) × (x ≡ y)
 entry_once k text ids others c d x y p q =
     let one = ids_once ids others (codes ": " ++ (decimal c ++ 10 ∷ x)) (codes ": " ++ (decimal d ++ 10 ∷ y)) p.ids_fit q.ids_fit
-        (p.size ∙ sym q.size) (sym p.spelled ∙ q.spelled) in
+    (p.size ∙ sym q.size) (sym p.spelled ∙ q.spelled) in
     let more = field_once (codes ": ") 10 c d x y (omega arith) p.channel_fits q.channel_fits one.1 in
     (one.0, more.0, more.1)
 
@@ -69,9 +69,9 @@ entries_next (w ∷ ws) [] (d ∷ ds) x y bound fits p q less room same =
     }
 entries_next (w ∷ ws) (c ∷ cs) (d ∷ ds) x y bound fits p q less room same =
     let one = line_once w c d (entries_then ws cs x) (entries_then ws ds y) (omega (arith, fits, All-head (λ n. n < bound) c cs p))
-        (omega (arith, fits, All-head (λ n. n < bound) d ds q)) same in
+    (omega (arith, fits, All-head (λ n. n < bound) d ds q)) same in
     let more = entries_next ws cs ds x y bound fits (All-tail (λ n. n < bound) c cs p) (All-tail (λ n. n < bound) d ds q)
-        (omega (arith, less)) (omega (arith, room)) one.1 in
+    (omega (arith, less)) (omega (arith, room)) one.1 in
     record {
       window = more.window;
       channel = more.channel;
@@ -98,7 +98,7 @@ header_once : (t u : ChannelTable) (x y : List ℕ) → IsBegun t → IsBegun u 
 unfolding lines_then
 header_once t u x y p q same =
     sizes_once t.rounds t.ids t.channels u.rounds u.ids u.channels _ _ (sizes_fit t.rounds t.ids t.channels (sizes_of t p))
-        (sizes_fit u.rounds u.ids u.channels (sizes_of u q)) (title_once _ _ same)
+    (sizes_fit u.rounds u.ids u.channels (sizes_of u q)) (title_once _ _ same)
 
 entries_fit : (t : ChannelTable) → IsBegun t → All Fits32 t.entries
 entries_fit t begun = λ i d within. omega (arith, begun.below i d within, begun.few_channels)
@@ -110,7 +110,7 @@ lines_once t u x y p q same size =
     let header = header_once t u x y p q same in
     let ws : windows_of t ≡ windows_of u = λ i. windows (2 * header.0 i + 1) (header.1 i) in
     let entries = entries_once (windows_of t) t.entries u.entries x y (entries_fit t p) (entries_fit u q) size p.size
-        (header.3 ∙ ap (λ w. entries_then w u.entries y) (sym ws)) in
+    (header.3 ∙ ap (λ w. entries_then w u.entries y) (sym ws)) in
     (λ i. record { ids = header.1 i; rounds = header.0 i; channels = header.2 i; entries = entries.0 i }, entries.1)
 
 -- where the second has more entries, the next line follows the lines of the first
@@ -121,7 +121,7 @@ lines_next t u x y p q same less =
     let ws : windows_of t ≡ windows_of u = λ i. windows (2 * header.0 i + 1) (header.1 i) in
     let below = subst (λ n. All (λ c. c < n) u.entries) (sym header.2) q.below in
     entries_next (windows_of t) t.entries u.entries x y t.channels (omega (arith, p.few_channels)) p.below below less
-        (omega (arith, q.size, ap length ws)) (header.3 ∙ ap (λ w. entries_then w u.entries y) (sym ws))
+    (omega (arith, q.size, ap length ws)) (header.3 ∙ ap (λ w. entries_then w u.entries y) (sym ws))
 
 -- two begun tables whose lines begin one text have the same windows
 pub same_windows : (t u : ChannelTable) (x y : List ℕ) → IsBegun t → IsBegun u → lines_then t x ≡ lines_then u y → windows_of t ≡ windows_of u

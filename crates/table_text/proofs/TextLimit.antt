@@ -1,6 +1,6 @@
 -- The text of a table is within the limit.
-use Rattle.std.proofs.Common.{◌≡◌, ℕ, zero, suc, ◌+◌, ◌-◌, ◌*◌, ◌^◌, ◌<◌, ◌≤◌, List, [], ◌∷◌, ◌++◌, length, get_or, inl, inr, refl, sym, ap, ◌∙◌, arith, length-append}
-use Rattle.std.specs.Prelude.{codes, All, ◌⊎◌}
+use Rattle.std.proofs.Common.{ℕ, zero, suc, ◌+◌, ◌*◌, ◌^◌, ◌<◌, ◌≤◌, List, [], ◌∷◌, ◌++◌, length, get_or, inl, inr, arith, length-append}
+use Rattle.std.specs.Prelude.{codes, All}
 use Rattle.std.specs.Fmt.{decimal}
 use Rattle.std.proofs.Math.Nat.{mul-le-mul}
 use Rattle.std.proofs.lemmas.Bool.{cases_lt}
@@ -8,9 +8,9 @@ use Rattle.std.proofs.lemmas.Fmt.{length-decimal-le}
 use Rattle.std.proofs.lemmas.List.Elements.{All-head, All-tail}
 use Rattle.std.proofs.lemmas.Option.{slice_get-get_or}
 use Rattle.win_index.specs.Falling.{falling}
-use Rattle.win_index.specs.Windows.{windows, IsWindow}
+use Rattle.win_index.specs.Windows.{IsWindow}
 use Rattle.win_index.specs.Laws.{CountOfWindows, NumberOfWindow, WindowsHaveNumbers}
-use Rattle.table_fill.specs.Tables.{ChannelTable, IsBegun, IsTable, windows_of}
+use Rattle.table_fill.specs.Tables.{ChannelTable, IsBegun, windows_of}
 use Rattle.table_text.specs.TableText.{title_then, sizes_then, ids_then, entry_then, entries_then, end_then, lines_then, table_text}
 use Rattle.table_text.specs.LineForms.{AreSizes}
 use Rattle.table_text.specs.Laws.{TableTextsAreShort}
@@ -23,9 +23,9 @@ falling_le (suc k) m n less = mul-le-mul (falling_le k m n less) (omega (arith, 
 -- a shape of two rounds or three has at most 100 identifiers, since 101 have more than 2^20 lists of five or seven
 at_most_100 : (k m : ℕ) → falling m k ≤ 2 ^ 20 → 2 ^ 20 < falling 101 k → m ≤ 100
 at_most_100 k m few many = elim (cases_lt 100 m) [
-    | inl more ↦ absurd (omega (arith, falling_le k 101 m (omega (arith, more)), few, many))
-    | inr less ↦ less
-  ]
+  | inl more ↦ absurd (omega (arith, falling_le k 101 m (omega (arith, more)), few, many))
+  | inr less ↦ less
+]
 
 -- each identifier with its blank takes at most five bytes
 ids_of_four : (ids rest : List ℕ) → All (λ id. id < 10 ^ 4) ids → length (ids_then ids rest) ≤ 5 * length ids + length rest
@@ -78,7 +78,7 @@ short_windows count number have t begun = λ i d within.
     let window = get_or (windows_of t) i d in
     let is = window_at number have k t.ids i window (slice_get-get_or (windows_of t) i d within) in
     short_window t.rounds t.ids window (omega (arith, begun.few_rounds)) (omega (arith, begun.shape.ids.few))
-        (omega (arith, begun.shape.few_windows, count k t.ids)) is
+    (omega (arith, begun.shape.few_windows, count k t.ids)) is
 
 entries_short : (ws : List (List ℕ)) (cs rest : List ℕ) → All IsShort ws → All (λ c. c < 10 ^ 4) cs
     → length (entries_then ws cs rest) ≤ 31 * length cs + length rest
@@ -104,8 +104,11 @@ lines_short : CountOfWindows → NumberOfWindow → WindowsHaveNumbers → (t : 
 unfolding lines_then
 lines_short count number have t rest begun =
     let small = ids_below t.channels (10 ^ 4) t.entries (omega (arith, begun.few_channels)) begun.below in
-    omega (arith, header_short t.rounds t.ids t.channels (entries_then (windows_of t) t.entries rest) (sizes_of t begun),
-        entries_short (windows_of t) t.entries rest (short_windows count number have t begun) small)
+    omega (
+      arith,
+      header_short t.rounds t.ids t.channels (entries_then (windows_of t) t.entries rest) (sizes_of t begun),
+      entries_short (windows_of t) t.entries rest (short_windows count number have t begun) small,
+    )
 
 pub texts_short : CountOfWindows → NumberOfWindow → WindowsHaveNumbers → TableTextsAreShort
 unfolding table_text

@@ -2,7 +2,7 @@
 use Rattle.std.proofs.Common.{◌≡◌, ℕ, List, [], ◌∷◌, ◌++◌, drop, refl, sym, ap, ◌∙◌, append_assoc}
 use Rattle.std.specs.Prelude.{codes}
 use Rattle.std.specs.Fmt.{decimal}
-use Rattle.table_fill.specs.Tables.{ChannelTable, IsTable, windows_of}
+use Rattle.table_fill.specs.Tables.{ChannelTable, windows_of}
 use Rattle.table_text.specs.TableText.{title_then, sizes_then, ids_then, entry_then, entries_then, end_then, lines_then, table_text}
 use Rattle.table_text.specs.Laws.{TableTextsAreApart}
 use Rattle.table_text.proofs.TablesOnce.{tables_once}

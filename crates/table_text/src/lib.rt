@@ -9,7 +9,9 @@ mod numbers;
 mod reading;
 
 pub use fault::TableFault;
-pub use laws::{one_table_fault, table_texts_are_apart, table_texts_are_short};
+pub use laws::{
+    one_table_fault, table_texts_are_apart, table_texts_are_read, table_texts_are_short,
+};
 pub use limits::LONGEST_TABLE_TEXT;
 pub use reading::read_table;
 

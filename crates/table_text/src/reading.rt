@@ -1,22 +1,41 @@
 //! Reading a table text, line by line.
 
-ghost use Rattle.std.specs.Prelude.{◌≡◌, ◌≤◌, length, IfOk, OnOk, IfErr};
-ghost use Rattle.table_fill.specs.Tables.{IsTable};
+ghost use Rattle.std.specs.Prelude.{◌≡◌, ◌≤◌, length, MatchResult, IfOk, OnOk, IfErr};
+ghost use Rattle.table_fill.specs.Tables.{ChannelTable, IsTable};
 ghost use Rattle.table_text.specs.TableText.{title_then, sizes_then, lines_then, table_text};
 ghost use Rattle.table_text.specs.LineForms.{AreSizes};
 ghost use Rattle.table_text.specs.Faults.{IsMalformed, IsFault};
 
 use crate::fault::TableFault;
+use crate::laws::{table_texts_are_apart, table_texts_are_read};
 use crate::limits::LONGEST_TABLE_TEXT;
 use crate::lines::{Line, after_end, after_title, line_of, sizes};
 use std::alloc::Global;
 use table_fill::{Table, TableMaker};
 use win_index::{MAX_WINDOW_LEN, Shape};
 
-/// The table of which this is the text.
+/// The table of which this is the text. The text of a table of `t` rounds, `m` identifiers and `C` channels is the
+/// line `nbhd-table 1`, the line `rounds t ids m channels C`, then a line for each window of `2t+1` identifiers, in
+/// the windows' order, which has the identifiers, a colon and the window's channel, and the line `end`. A line ends
+/// with a line feed, single blanks part its words, and numbers have no leading zeros.
+///
+/// Another text has a fault. `Syntax` comes first for a text of more than 33,554,432 bytes; then the lines are judged
+/// in order, and the first that has a fault is named: `Syntax`, else `WrongWindow`, else `ChannelTooLarge`.
+/// `OutOfMemory` comes where memory was refused; it may come in place of any fault but that of the length.
 pub fn read_table(alloc: Global, text: &[u8]) -> Result<Table, TableFault>
-    ensures table { IfOk result (λ table. IsTable table) }
-    ensures text { IfOk result (λ table. text.now ≡ table_text table) }
+    ensures table { IfOk result (λ table. IsTable table × (text.now ≡ table_text table)) }
+    ensures fault { IfErr result (IsFault text.now) }
+    ensures read { (t : ChannelTable) → IsTable t → text.now ≡ table_text t
+        → MatchResult result (λ table. table ≡ t) (λ fault. fault ≡ TableFault.OutOfMemory) }
+{
+    table_texts_are_apart();
+    table_texts_are_read();
+    table_of(alloc, text)
+}
+
+// The table of a text, or a fault of the text.
+fn table_of(alloc: Global, text: &[u8]) -> Result<Table, TableFault>
+    ensures table { IfOk result (λ table. IsTable table × (text.now ≡ table_text table)) }
     ensures fault { IfErr result (IsFault text.now) }
 {
     if text.len() > LONGEST_TABLE_TEXT {

@@ -16,14 +16,35 @@ fn a_text_that_stops_early(rt: HostRuntime) {
 #[test]
 fn a_line_without_its_form(rt: HostRuntime) {
     let rows: [(&[u8], u32); 8] = [
-        (b"nbhd-table 2\nrounds 0 ids 2 channels 2\n0 : 0\n1 : 1\nend\n", 0),
+        (
+            b"nbhd-table 2\nrounds 0 ids 2 channels 2\n0 : 0\n1 : 1\nend\n",
+            0,
+        ),
         (b"nbhd-table 1\nrounds 0 ids 1 channels 2\n0 : 0\nend\n", 13),
-        (b"nbhd-table 1\nrounds 0 ids 2 channels 0\n0 : 0\n1 : 1\nend\n", 13),
-        (b"nbhd-table 1\nrounds 4 ids 2 channels 2\n0 : 0\n1 : 1\nend\n", 13),
-        (b"nbhd-table 1\nrounds 0 ids 2 channels 2\n00 : 0\n1 : 1\nend\n", 39),
-        (b"nbhd-table 1\nrounds 0 ids 2 channels 2\n0 : 4294967296\n1 : 1\nend\n", 39),
-        (b"nbhd-table 1\nrounds 0 ids 2 channels 2\n0 : 0\n1 :  1\nend\n", 45),
-        (b"nbhd-table 1\nrounds 0 ids 2 channels 2\n0 : 0\n1 : 1\nend\n\n", 55),
+        (
+            b"nbhd-table 1\nrounds 0 ids 2 channels 0\n0 : 0\n1 : 1\nend\n",
+            13,
+        ),
+        (
+            b"nbhd-table 1\nrounds 4 ids 2 channels 2\n0 : 0\n1 : 1\nend\n",
+            13,
+        ),
+        (
+            b"nbhd-table 1\nrounds 0 ids 2 channels 2\n00 : 0\n1 : 1\nend\n",
+            39,
+        ),
+        (
+            b"nbhd-table 1\nrounds 0 ids 2 channels 2\n0 : 4294967296\n1 : 1\nend\n",
+            39,
+        ),
+        (
+            b"nbhd-table 1\nrounds 0 ids 2 channels 2\n0 : 0\n1 :  1\nend\n",
+            45,
+        ),
+        (
+            b"nbhd-table 1\nrounds 0 ids 2 channels 2\n0 : 0\n1 : 1\nend\n\n",
+            55,
+        ),
     ];
     for (text, offset) in rows {
         let fault = fault_of(rt.alloc(), text);
@@ -34,10 +55,22 @@ fn a_line_without_its_form(rt: HostRuntime) {
 #[test]
 fn a_line_of_another_window_or_of_a_channel_too_large(rt: HostRuntime) {
     let rows: [(&[u8], _); 4] = [
-        (b"nbhd-table 1\nrounds 0 ids 2 channels 2\n1 : 1\n0 : 0\nend\n", WrongWindow(3)),
-        (b"nbhd-table 1\nrounds 0 ids 2 channels 2\n2 : 9\n1 : 1\nend\n", WrongWindow(3)),
-        (b"nbhd-table 1\nrounds 0 ids 2 channels 2\n0 : 2\n1 : 1\nend\n", ChannelTooLarge(3)),
-        (b"nbhd-table 1\nrounds 0 ids 2 channels 2\n0 : 0\n1 : 2\nend\n", ChannelTooLarge(4)),
+        (
+            b"nbhd-table 1\nrounds 0 ids 2 channels 2\n1 : 1\n0 : 0\nend\n",
+            WrongWindow(3),
+        ),
+        (
+            b"nbhd-table 1\nrounds 0 ids 2 channels 2\n2 : 9\n1 : 1\nend\n",
+            WrongWindow(3),
+        ),
+        (
+            b"nbhd-table 1\nrounds 0 ids 2 channels 2\n0 : 2\n1 : 1\nend\n",
+            ChannelTooLarge(3),
+        ),
+        (
+            b"nbhd-table 1\nrounds 0 ids 2 channels 2\n0 : 0\n1 : 2\nend\n",
+            ChannelTooLarge(4),
+        ),
     ];
     for (text, fault) in rows {
         assert_eq!(rt; fault_of(rt.alloc(), text), Some(fault));

@@ -1,4 +1,4 @@
-use Rattle.std.proofs.Common.{◌≡◌, sym, ◌∙◌}
+use Rattle.std.proofs.Common.{sym, ◌∙◌}
 use Rattle.table_text.proofs.IdTexts.{ids_once}
 use Rattle.table_text.proofs.lines.entry.Goals as goal
 

@@ -1,5 +1,4 @@
-use Rattle.std.proofs.Common.{◌≡◌, arith, rules}
-use Rattle.std.specs.Prelude.{IsOk}
+use Rattle.std.proofs.Common.{arith}
 use Rattle.std.proofs.lemmas.Bool.{false≢true}
 use Rattle.table_text.proofs.Headers.{sizes_are}
 use Rattle.table_text.proofs.lines.sizes.Goals as goal

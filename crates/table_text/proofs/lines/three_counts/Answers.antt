@@ -1,4 +1,4 @@
-use Rattle.std.proofs.Common.{◌≡◌, sym, ◌∙◌}
+use Rattle.std.proofs.Common.{sym, ◌∙◌}
 use Rattle.table_text.proofs.Headers.{after_rounds, after_ids}
 use Rattle.table_text.proofs.lines.three_counts.Goals as goal
 

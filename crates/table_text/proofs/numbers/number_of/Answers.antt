@@ -1,4 +1,4 @@
-use Rattle.std.proofs.Common.{◌≡◌, sym, ap, subst, ◌∙◌, arith}
+use Rattle.std.proofs.Common.{sym, subst, ◌∙◌}
 use Rattle.std.specs.Str.{IsUtf8}
 use Rattle.table_text.proofs.NumberTexts.{signed_word, padded_word, utf8_digits, digits_parse, parsed_word}
 use Rattle.table_text.proofs.numbers.number_of.Goals as goal

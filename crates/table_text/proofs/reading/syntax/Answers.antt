@@ -1,4 +1,4 @@
-use Rattle.std.proofs.Common.{◌≡◌, ◌≤◌, ◌-◌, length, inr, arith}
+use Rattle.std.proofs.Common.{inr, arith}
 use Rattle.table_text.proofs.TableLines.{rest_within}
 use Rattle.table_text.proofs.reading.syntax.Goals as goal
 
