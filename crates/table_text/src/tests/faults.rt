@@ -1,7 +1,7 @@
 use super::{IDENTIFIERS, fault_of};
 use crate::fault::TableFault;
 use crate::fault::TableFault::{ChannelTooLarge, Syntax, WrongWindow};
-use std::alloc::Global;
+use std::alloc::{AllocError, Global};
 use std::test::Fail;
 
 #[test]
@@ -13,72 +13,70 @@ fn a_text_that_stops_early(rt: HostRuntime) {
     }
 }
 
-#[test]
-fn a_line_without_its_form(rt: HostRuntime) {
-    let rows: [(&[u8], u32); 8] = [
-        (
-            b"nbhd-table 2\nrounds 0 ids 2 channels 2\n0 : 0\n1 : 1\nend\n",
-            0,
-        ),
-        (b"nbhd-table 1\nrounds 0 ids 1 channels 2\n0 : 0\nend\n", 13),
-        (
-            b"nbhd-table 1\nrounds 0 ids 2 channels 0\n0 : 0\n1 : 1\nend\n",
-            13,
-        ),
-        (
-            b"nbhd-table 1\nrounds 4 ids 2 channels 2\n0 : 0\n1 : 1\nend\n",
-            13,
-        ),
-        (
-            b"nbhd-table 1\nrounds 0 ids 2 channels 2\n00 : 0\n1 : 1\nend\n",
-            39,
-        ),
-        (
-            b"nbhd-table 1\nrounds 0 ids 2 channels 2\n0 : 4294967296\n1 : 1\nend\n",
-            39,
-        ),
-        (
-            b"nbhd-table 1\nrounds 0 ids 2 channels 2\n0 : 0\n1 :  1\nend\n",
-            45,
-        ),
-        (
-            b"nbhd-table 1\nrounds 0 ids 2 channels 2\n0 : 0\n1 : 1\nend\n\n",
-            55,
-        ),
-    ];
-    for (text, offset) in rows {
-        let fault = fault_of(rt.alloc(), text);
-        assert_eq!(rt; fault, Some(Syntax(offset)), "{offset}");
-    }
+// The fault of a text of five lines, the second to the fourth of which are these.
+fn fault_with(alloc: Global, lines: [&str; 3]) -> Result<Option<TableFault>, AllocError> {
+    let [second, third, fourth] = lines;
+    let text = format!(in alloc; "nbhd-table 1\n{second}\n{third}\n{fourth}\nend\n")?;
+    Ok(fault_of(alloc, text.as_bytes()))
 }
 
 #[test]
-fn a_line_of_another_window_or_of_a_channel_too_large(rt: HostRuntime) {
-    let rows: [(&[u8], _); 4] = [
-        (
-            b"nbhd-table 1\nrounds 0 ids 2 channels 2\n1 : 1\n0 : 0\nend\n",
-            WrongWindow(3),
-        ),
-        (
-            b"nbhd-table 1\nrounds 0 ids 2 channels 2\n2 : 9\n1 : 1\nend\n",
-            WrongWindow(3),
-        ),
-        (
-            b"nbhd-table 1\nrounds 0 ids 2 channels 2\n0 : 2\n1 : 1\nend\n",
-            ChannelTooLarge(3),
-        ),
-        (
-            b"nbhd-table 1\nrounds 0 ids 2 channels 2\n0 : 0\n1 : 2\nend\n",
-            ChannelTooLarge(4),
-        ),
+fn a_second_line_without_its_form(rt: HostRuntime) -> Result<(), Fail> {
+    let rows = [
+        "rounds 0 ids 1 channels 2",
+        "rounds 0 ids 1025 channels 2",
+        "rounds 1 ids 103 channels 2",
+        "rounds 4 ids 10 channels 2",
+        "rounds 0 ids 2 channels 0",
+        "rounds 0 ids 2 channels 4097",
+        "rounds 0 ids 2 channels 02",
+        "rounds 0 ids 2  channels 2",
     ];
-    for (text, fault) in rows {
-        assert_eq!(rt; fault_of(rt.alloc(), text), Some(fault));
+    for second in rows {
+        let fault = fault_with(rt.alloc(), [second, "0 : 0", "1 : 1"])?;
+        assert_eq!(rt; fault, Some(Syntax(13)), "{second}");
     }
+    Ok(())
+}
+
+#[test]
+fn a_line_of_a_window_with_a_fault(rt: HostRuntime) -> Result<(), Fail> {
+    let rows = [
+        ("00 : 0", "1 : 1", Syntax(39)),
+        ("0 : 4294967296", "1 : 1", Syntax(39)),
+        ("0 1 : 0", "1 : 1", Syntax(39)),
+        ("0 : 0", "1 :  1", Syntax(45)),
+        ("1 : 1", "0 : 0", WrongWindow(3)),
+        ("2 : 9", "1 : 1", WrongWindow(3)),
+        ("0 : 0", "0 : 1", WrongWindow(4)),
+        ("0 : 2", "1 : 1", ChannelTooLarge(3)),
+        ("0 : 0", "1 : 2", ChannelTooLarge(4)),
+    ];
+    for (third, fourth, fault) in rows {
+        let lines = ["rounds 0 ids 2 channels 2", third, fourth];
+        assert_eq!(rt; fault_with(rt.alloc(), lines)?, Some(fault), "{third}");
+    }
+    Ok(())
+}
+
+// The fault of the text of the identifiers with these bytes after it.
+fn fault_before(alloc: Global, more: &[u8]) -> Result<Option<TableFault>, AllocError> {
+    let mut text = Vec::from_slice(alloc, IDENTIFIERS)?;
+    text.extend_from_slice(more)?;
+    Ok(fault_of(alloc, &text))
+}
+
+#[test]
+fn bytes_after_the_end(rt: HostRuntime) -> Result<(), Fail> {
+    for more in ["\n", "e", "end\n"] {
+        let fault = fault_before(rt.alloc(), more.as_bytes())?;
+        assert_eq!(rt; fault, Some(Syntax(55)));
+    }
+    Ok(())
 }
 
 // The fault of a text of so many blanks.
-fn fault_of_blanks(alloc: Global, count: usize) -> Result<Option<TableFault>, Fail> {
+fn fault_of_blanks(alloc: Global, count: usize) -> Result<Option<TableFault>, AllocError> {
     let blanks = Vec::from_elem(alloc, b' ', count)?;
     Ok(fault_of(alloc, &blanks))
 }
