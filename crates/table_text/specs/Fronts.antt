@@ -3,7 +3,7 @@ use Rattle.std.specs.Prelude.{◌≢◌, ℕ, List, length}
 use Rattle.std.specs.List.{AllByRecursion}
 use Rattle.table_text.specs.LineForms.{IsEntry, HasEntry}
 use Rattle.table_text.specs.declared.lines.Line.{Line}
-use Rattle.table_text.specs.declared.lines.Line.TheVariants.{Malformed, Strange, Entry}
+use Rattle.table_text.specs.declared.lines.Line.TheVariants.{Malformed, OtherWindow, Entry}
 
 -- the byte does not stand in the text
 abbrev pub Lacks : ℕ → List ℕ → Type 0
@@ -12,6 +12,6 @@ Lacks byte text = AllByRecursion (λ b. b ≢ byte) text
 -- what the first line of the text is, where the line of this window is wanted
 abbrev pub IsLine : List ℕ → List ℕ → Line → Type 0
 IsLine window text Malformed = ¬ HasEntry (length window) text
-IsLine window text Strange =
+IsLine window text OtherWindow =
     (ids : List ℕ) × (channel : ℕ) × (rest : List ℕ) × IsEntry (length window) text ids channel rest × (ids ≢ window)
 IsLine window text (Entry channel rest) = IsEntry (length window) text window channel rest.now

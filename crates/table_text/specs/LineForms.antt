@@ -30,6 +30,7 @@ pub record IsEntry (width : ℕ) (text ids : List ℕ) (channel : ℕ) (rest : L
   pub channel_fits : channel < 2 ^ 32
   pub spelled : text ≡ entry_then ids channel rest
 
+-- the text begins with such a line
 abbrev pub HasEntry : ℕ → List ℕ → Type 0
 HasEntry width text = (ids : List ℕ) × (channel : ℕ) × (rest : List ℕ) × IsEntry width text ids channel rest
 

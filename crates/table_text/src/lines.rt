@@ -23,7 +23,7 @@ pub(crate) enum Line<'a> {
     // It has no form of such a line.
     Malformed,
     // Its identifiers are another list.
-    Strange,
+    OtherWindow,
     // Its identifiers are the window: its channel, and what follows the line.
     Entry(u32, &'a [u8]),
 }
@@ -141,7 +141,7 @@ fn line_in<'a>(window: &[u32], text: &'a [u8], ids: &mut [u32]) -> Line<'a>
             if &*ids == window {
                 Line::Entry(channel, rest)
             } else {
-                Line::Strange
+                Line::OtherWindow
             }
         }
     }

@@ -99,7 +99,7 @@ fn entries<'a>(
     'lines: for number in 0..count {
         match line_of(window, rest) {
             Line::Malformed => return Err(syntax(text, rest)),
-            Line::Strange => return Err(TableFault::WrongWindow(number + 3)),
+            Line::OtherWindow => return Err(TableFault::WrongWindow(number + 3)),
             Line::Entry(channel, after) => {
                 if channel >= channels {
                     return Err(TableFault::ChannelTooLarge(number + 3));
