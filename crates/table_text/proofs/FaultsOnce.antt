@@ -1,0 +1,219 @@
+-- A text has at most one fault, want of memory aside, and the text of a table has none.
+use Rattle.std.proofs.Common.{◌≡◌, ◌≢◌, ◌⊎◌, inl, inr, ℕ, ◌+◌, ◌*◌, ◌<◌, ◌≤◌, List, [], length, drop, refl, sym, ap, subst, ◌∙◌, arith}
+use Rattle.std.proofs.lemmas.Bool.{cases_order}
+use Rattle.win_index.specs.Laws.{NumberOfWindow, WindowsHaveNumbers}
+use Rattle.table_fill.specs.Tables.{ChannelTable, IsBegun, IsTable, windows_of}
+use Rattle.table_text.specs.TableText.{title_then, end_then, lines_then, table_text}
+use Rattle.table_text.specs.LineForms.{HasTitle, HasSizes, IsEntry, HasEntry, HasEnd}
+use Rattle.table_text.specs.Faults.{IsWithin, IsMalformed, no_title, no_sizes, no_entry, no_end, bytes_after, IsNextWindow, IsFault}
+use Rattle.table_text.specs.Laws.{OneTableFault, TableTextsAreShort, TableTextsAreRead}
+use Rattle.table_text.specs.declared.limits.TheConstants.{LONGEST_TABLE_TEXT}
+use Rattle.table_text.specs.declared.fault.TableFault.{TableFault}
+use Rattle.table_text.specs.declared.fault.TableFault.TheVariants.{Syntax, WrongWindow, ChannelTooLarge, OutOfMemory}
+use Rattle.table_text.proofs.Headers.{title_once}
+use Rattle.table_text.proofs.TablesOnce.{HasLine, entry_once, sizes_of, lines_once, lines_next, tables_once, table_next, line_entry}
+
+-- the fault is one of form, at the offset of the rest
+abbrev IsAt : List ℕ → List ℕ → TableFault → Type 0
+IsAt text rest (Syntax offset) = offset + length rest ≡ length text
+IsAt text rest (WrongWindow line) = ⊥
+IsAt text rest (ChannelTooLarge line) = ⊥
+IsAt text rest OutOfMemory = ⊥
+
+-- what is wrong where the next line of a begun table is wanted
+data IsBadNext (text : List ℕ) (t : ChannelTable) (rest : List ℕ) (f : TableFault) : Type 0 where
+  no_form : (¬ HasEntry (2 * t.rounds + 1) rest) → IsAt text rest f → IsBadNext text t rest f
+  other_window : (ids : List ℕ) (channel : ℕ) (after : List ℕ) → IsEntry (2 * t.rounds + 1) rest ids channel after → (¬ IsNextWindow t ids)
+      → f ≡ WrongWindow (length t.entries + 3) → IsBadNext text t rest f
+  large_channel : (ids : List ℕ) (channel : ℕ) (after : List ℕ) → IsEntry (2 * t.rounds + 1) rest ids channel after → IsNextWindow t ids
+      → t.channels ≤ channel → f ≡ ChannelTooLarge (length t.entries + 3) → IsBadNext text t rest f
+
+-- what is wrong where the last line is wanted
+data IsBadEnd (text rest : List ℕ) (f : TableFault) : Type 0 where
+  no_last_line : (¬ HasEnd rest) → IsAt text rest f → IsBadEnd text rest f
+  more_bytes : (more : List ℕ) → rest ≡ end_then more → more ≢ [] → IsAt text more f → IsBadEnd text rest f
+
+-- where a text that is not too long stops to be the text of a table
+data Stops (text : List ℕ) (f : TableFault) : Type 0 where
+  at_title : (¬ HasTitle text) → IsAt text text f → Stops text f
+  at_sizes : (rest : List ℕ) → text ≡ title_then rest → (¬ HasSizes rest) → IsAt text rest f → Stops text f
+  at_entry : (t : ChannelTable) (rest : List ℕ) → IsWithin text t rest → IsBadNext text t rest f → Stops text f
+  at_end : (t : ChannelTable) (rest : List ℕ) → IsTable t → text ≡ lines_then t rest → IsBadEnd text rest f → Stops text f
+
+at_once : (text rest : List ℕ) (f g : TableFault) → IsAt text rest f → IsAt text rest g → f ≡ g
+at_once text rest (Syntax m) (Syntax n) p q = ap Syntax (omega (arith, p, q))
+at_once text rest (Syntax m) (WrongWindow n) p q = absurd q
+at_once text rest (Syntax m) (ChannelTooLarge n) p q = absurd q
+at_once text rest (Syntax m) OutOfMemory p q = absurd q
+at_once text rest (WrongWindow m) g p q = absurd p
+at_once text rest (ChannelTooLarge m) g p q = absurd p
+at_once text rest OutOfMemory g p q = absurd p
+
+bad_next_once : (text : List ℕ) (t : ChannelTable) (rest : List ℕ) (f g : TableFault) → IsBadNext text t rest f → IsBadNext text t rest g → f ≡ g
+bad_next_once text t rest f g (no_form none at) (no_form none' at') = at_once text rest f g at at'
+bad_next_once text t rest f g (no_form none at) (other_window ids channel after entry other is) = absurd (none (ids, channel, after, entry))
+bad_next_once text t rest f g (no_form none at) (large_channel ids channel after entry next large is) = absurd (none (ids, channel, after, entry))
+bad_next_once text t rest f g (other_window ids channel after entry other is) (no_form none at) = absurd (none (ids, channel, after, entry))
+bad_next_once text t rest f g (other_window ids channel after entry other is) (other_window ids' channel' after' entry' other' is') = is ∙ sym is'
+bad_next_once text t rest f g (other_window ids channel after entry other is) (large_channel ids' channel' after' entry' next large is') =
+    let one = entry_once (2 * t.rounds + 1) rest ids ids' channel channel' after after' entry entry' in
+    absurd (other (subst (IsNextWindow t) (sym one.0) next))
+bad_next_once text t rest f g (large_channel ids channel after entry next large is) (no_form none at) = absurd (none (ids, channel, after, entry))
+bad_next_once text t rest f g (large_channel ids channel after entry next large is) (other_window ids' channel' after' entry' other is') =
+    let one = entry_once (2 * t.rounds + 1) rest ids ids' channel channel' after after' entry entry' in
+    absurd (other (subst (IsNextWindow t) one.0 next))
+bad_next_once text t rest f g (large_channel ids channel after entry next large is) (large_channel ids' channel' after' entry' next' large' is') = is ∙ sym is'
+
+-- a good line is not wrong
+no_bad_next : NumberOfWindow → WindowsHaveNumbers → (text : List ℕ) (t : ChannelTable) (rest : List ℕ) (f : TableFault) → IsBegun t
+    → HasLine (windows_of t) (length t.entries) t.channels rest → IsBadNext text t rest f → ⊥
+no_bad_next number have text t rest f begun line (no_form none at) =
+    none (line.window, line.channel, line.rest, line_entry number have t (length t.entries) rest begun line)
+no_bad_next number have text t rest f begun line (other_window ids channel after entry other is) =
+    let good = line_entry number have t (length t.entries) rest begun line in
+    let one = entry_once (2 * t.rounds + 1) rest ids line.window channel line.channel after line.rest entry good in
+    other (subst (IsNextWindow t) (sym one.0) line.at)
+no_bad_next number have text t rest f begun line (large_channel ids channel after entry next large is) =
+    let good = line_entry number have t (length t.entries) rest begun line in
+    let one = entry_once (2 * t.rounds + 1) rest ids line.window channel line.channel after line.rest entry good in
+    omega (arith, large, one.1, line.below)
+
+bad_end_once : (text rest : List ℕ) (f g : TableFault) → IsBadEnd text rest f → IsBadEnd text rest g → f ≡ g
+bad_end_once text rest f g (no_last_line none at) (no_last_line none' at') = at_once text rest f g at at'
+bad_end_once text rest f g (no_last_line none at) (more_bytes more is some at') = absurd (none (more, is))
+bad_end_once text rest f g (more_bytes more is some at) (no_last_line none at') = absurd (none (more, is))
+bad_end_once text rest f g (more_bytes more is some at) (more_bytes more' is' some' at') =
+    at_once text more f g at (subst (λ l. IsAt text l g) (ap (drop 4) (sym is' ∙ is)) at')
+
+-- the lines of a begun table begin with both of the first lines
+lines_title : (text : List ℕ) (t : ChannelTable) (rest : List ℕ) → text ≡ lines_then t rest → HasTitle text
+unfolding lines_then
+lines_title text t rest same = (_, same)
+
+lines_sizes : (text second : List ℕ) (t : ChannelTable) (rest : List ℕ) → IsBegun t → text ≡ title_then second → text ≡ lines_then t rest → HasSizes second
+unfolding lines_then
+lines_sizes text second t rest begun title same =
+    (t.rounds, t.ids, t.channels, _, sizes_of t begun, title_once second _ (sym title ∙ same))
+
+-- a line without its form
+malformed_stops : (text rest : List ℕ) (f : TableFault) → IsMalformed text rest → IsAt text rest f → Stops text f
+malformed_stops text rest f (no_title same none) at = at_title (subst (λ l. ¬ HasTitle l) same none) (subst (λ l. IsAt text l f) same at)
+malformed_stops text rest f (no_sizes title none) at = at_sizes rest title none at
+malformed_stops text rest f (no_entry t within none) at = at_entry t rest within (no_form none at)
+malformed_stops text rest f (no_end t table same none) at = at_end t rest table same (no_last_line none at)
+malformed_stops text rest f (bytes_after t table same some) at = at_end t (end_then rest) table same (more_bytes rest refl some at)
+
+-- a text within the limit stops where its fault is
+fault_stops : (text : List ℕ) (f : TableFault) → f ≢ OutOfMemory → length text ≤ LONGEST_TABLE_TEXT → IsFault text f → Stops text f
+fault_stops text (Syntax offset) some short (inl long) = absurd (omega (arith, short, long.0))
+fault_stops text (Syntax offset) some short (inr fault) = malformed_stops text fault.1 (Syntax offset) fault.2 fault.3
+fault_stops text (WrongWindow line) some short fault =
+    let next = fault.4 in
+    at_entry fault.1 next.0 next.2 (other_window fault.2 fault.3 next.1 next.3 fault.5 (ap WrongWindow fault.6))
+fault_stops text (ChannelTooLarge line) some short fault =
+    let next = fault.4 in
+    at_entry fault.1 next.0 next.2 (large_channel fault.2 fault.3 next.1 next.3 fault.5 fault.6 (ap ChannelTooLarge fault.7))
+fault_stops text OutOfMemory some short fault = absurd (some refl)
+
+-- a text stops at one place where the lines of two begun tables begin it
+entries_stop : NumberOfWindow → WindowsHaveNumbers → (text : List ℕ) (t u : ChannelTable) (x y : List ℕ) (f g : TableFault) → IsWithin text t x
+    → IsWithin text u y → IsBadNext text t x f → IsBadNext text u y g → (length t.entries ≡ length u.entries) ⊎ ((length t.entries < length u.entries) ⊎ (length u.entries < length t.entries))
+    → f ≡ g
+entries_stop number have text t u x y f g p q bad bad' (inl size) =
+    let one = lines_once t u x y p.begun q.begun (sym p.before ∙ q.before) size in
+    let moved = subst (λ l. IsBadNext text t l g) (sym one.1) (subst (λ v. IsBadNext text v y g) (sym one.0) bad') in
+    bad_next_once text t x f g bad moved
+entries_stop number have text t u x y f g p q bad bad' (inr (inl less)) =
+    absurd (no_bad_next number have text t x f p.begun (lines_next t u x y p.begun q.begun (sym p.before ∙ q.before) less) bad)
+entries_stop number have text t u x y f g p q bad bad' (inr (inr more)) =
+    absurd (no_bad_next number have text u y g q.begun (lines_next u t y x q.begun p.begun (sym q.before ∙ p.before) more) bad')
+
+-- a text does not stop within the lines of a table
+within_table : NumberOfWindow → WindowsHaveNumbers → (text : List ℕ) (t u : ChannelTable) (x y : List ℕ) (f : TableFault) → IsWithin text t x
+    → IsBadNext text t x f → IsTable u → text ≡ lines_then u y → ⊥
+within_table number have text t u x y f p bad table same =
+    no_bad_next number have text t x f p.begun (table_next t u x y p.begun table (sym p.before ∙ same) p.more) bad
+
+ends_once : (text : List ℕ) (t u : ChannelTable) (x y : List ℕ) (f g : TableFault) → IsTable t → IsTable u → text ≡ lines_then t x → text ≡ lines_then u y
+    → IsBadEnd text x f → IsBadEnd text y g → f ≡ g
+ends_once text t u x y f g p q same same' bad bad' =
+    let one = tables_once t u x y p q (sym same ∙ same') in
+    bad_end_once text x f g bad (subst (λ l. IsBadEnd text l g) (sym one.1) bad')
+
+stops_once : NumberOfWindow → WindowsHaveNumbers → (text : List ℕ) (f g : TableFault) → Stops text f → Stops text g → f ≡ g
+stops_once number have text f g (at_title none at) (at_title none' at') = at_once text text f g at at'
+stops_once number have text f g (at_title none at) (at_sizes rest title none' at') = absurd (none (rest, title))
+stops_once number have text f g (at_title none at) (at_entry t rest within bad) = absurd (none (lines_title text t rest within.before))
+stops_once number have text f g (at_title none at) (at_end t rest table same bad) = absurd (none (lines_title text t rest same))
+stops_once number have text f g (at_sizes rest title none at) (at_title none' at') = absurd (none' (rest, title))
+stops_once number have text f g (at_sizes rest title none at) (at_sizes rest' title' none' at') =
+    at_once text rest f g at (subst (λ l. IsAt text l g) (title_once rest' rest (sym title' ∙ title)) at')
+stops_once number have text f g (at_sizes second title none at) (at_entry t rest within bad) =
+    absurd (none (lines_sizes text second t rest within.begun title within.before))
+stops_once number have text f g (at_sizes second title none at) (at_end t rest table same bad) =
+    absurd (none (lines_sizes text second t rest table.begun title same))
+stops_once number have text f g (at_entry t rest within bad) (at_title none at) = absurd (none (lines_title text t rest within.before))
+stops_once number have text f g (at_entry t rest within bad) (at_sizes second title none at) =
+    absurd (none (lines_sizes text second t rest within.begun title within.before))
+stops_once number have text f g (at_entry t x within bad) (at_entry u y within' bad') =
+    entries_stop number have text t u x y f g within within' bad bad' (cases_order (length t.entries) (length u.entries))
+stops_once number have text f g (at_entry t x within bad) (at_end u y table same bad') =
+    absurd (within_table number have text t u x y f within bad table same)
+stops_once number have text f g (at_end t rest table same bad) (at_title none at) = absurd (none (lines_title text t rest same))
+stops_once number have text f g (at_end t rest table same bad) (at_sizes second title none at) =
+    absurd (none (lines_sizes text second t rest table.begun title same))
+stops_once number have text f g (at_end u y table same bad') (at_entry t x within bad) =
+    absurd (within_table number have text t u x y g within bad table same)
+stops_once number have text f g (at_end t x table same bad) (at_end u y table' same' bad') = ends_once text t u x y f g table table' same same' bad bad'
+
+-- the last line of a table is not wrong
+good_end : (text rest : List ℕ) (f : TableFault) → rest ≡ end_then [] → IsBadEnd text rest f → ⊥
+good_end text rest f is (no_last_line none at) = none ([], is)
+good_end text rest f is (more_bytes more is' some at) = some (ap (drop 4) (sym is' ∙ is))
+
+-- the text of a table does not stop
+never_stops : NumberOfWindow → WindowsHaveNumbers → (text : List ℕ) (u : ChannelTable) (f : TableFault) → IsTable u → text ≡ lines_then u (end_then [])
+    → Stops text f → ⊥
+never_stops number have text u f table same (at_title none at) = none (lines_title text u (end_then []) same)
+never_stops number have text u f table same (at_sizes second title none at) = none (lines_sizes text second u (end_then []) table.begun title same)
+never_stops number have text u f table same (at_entry t x within bad) = within_table number have text t u x (end_then []) f within bad table same
+never_stops number have text u f table same (at_end t x table' same' bad) =
+    good_end text x f (tables_once t u x (end_then []) table' table (sym same' ∙ same)).1 bad
+
+-- the fault of the length, or one within it
+fault_cases : (text : List ℕ) (f : TableFault) → IsFault text f
+    → ((LONGEST_TABLE_TEXT < length text) × (f ≡ Syntax LONGEST_TABLE_TEXT)) ⊎ (length text ≤ LONGEST_TABLE_TEXT)
+fault_cases text (Syntax offset) (inl long) = inl (long.0, ap Syntax long.1)
+fault_cases text (Syntax offset) (inr fault) = inr fault.0
+fault_cases text (WrongWindow line) fault = inr fault.0
+fault_cases text (ChannelTooLarge line) fault = inr fault.0
+fault_cases text OutOfMemory fault = inr fault
+
+one_of : NumberOfWindow → WindowsHaveNumbers → (text : List ℕ) (f g : TableFault) → f ≢ OutOfMemory → g ≢ OutOfMemory → IsFault text f → IsFault text g
+    → ((LONGEST_TABLE_TEXT < length text) × (f ≡ Syntax LONGEST_TABLE_TEXT)) ⊎ (length text ≤ LONGEST_TABLE_TEXT)
+    → ((LONGEST_TABLE_TEXT < length text) × (g ≡ Syntax LONGEST_TABLE_TEXT)) ⊎ (length text ≤ LONGEST_TABLE_TEXT) → f ≡ g
+one_of number have text f g some some' fault fault' (inl long) (inl long') = long.1 ∙ sym long'.1
+one_of number have text f g some some' fault fault' (inl long) (inr short) = absurd (omega (arith, long.0, short))
+one_of number have text f g some some' fault fault' (inr short) (inl long) = absurd (omega (arith, long.0, short))
+one_of number have text f g some some' fault fault' (inr short) (inr short') =
+    stops_once number have text f g (fault_stops text f some short fault) (fault_stops text g some' short fault')
+
+pub one_fault : NumberOfWindow → WindowsHaveNumbers → OneTableFault
+one_fault number have text f g some some' fault fault' =
+    one_of number have text f g some some' fault fault' (fault_cases text f fault) (fault_cases text g fault')
+
+-- a fault is want of memory, or another one
+memory_or_not : (f : TableFault) → (f ≡ OutOfMemory) ⊎ (f ≢ OutOfMemory)
+memory_or_not (Syntax offset) = inr (λ same. cc)
+memory_or_not (WrongWindow line) = inr (λ same. cc)
+memory_or_not (ChannelTooLarge line) = inr (λ same. cc)
+memory_or_not OutOfMemory = inl refl
+
+pub texts_read : NumberOfWindow → WindowsHaveNumbers → TableTextsAreShort → TableTextsAreRead
+unfolding table_text
+texts_read number have short t f table fault =
+    elim (memory_or_not f) [
+      | inl same ↦ same
+      | inr some ↦
+          absurd (never_stops number have (table_text t) t f table refl (fault_stops (table_text t) f some (short t table) fault))
+    ]

@@ -1,0 +1,9 @@
+-- Lemmas that several proofs share.
+pub mod NumberTexts
+pub mod IdTexts
+pub mod Headers
+pub mod TableLines
+pub mod TablesOnce
+pub mod TextsApart
+pub mod FaultsOnce
+pub mod TextLimit

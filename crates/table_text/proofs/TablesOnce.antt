@@ -1,0 +1,161 @@
+-- The lines of a text are those of one table.
+use Rattle.std.proofs.Common.{◌≡◌, ℕ, ◌+◌, ◌*◌, ◌^◌, ◌<◌, ◌≤◌, List, [], ◌∷◌, ◌++◌, Some, length, slice_get, drop, refl, sym, ap, subst, ◌∙◌, arith}
+use Rattle.std.specs.Prelude.{codes, All, is_some}
+use Rattle.std.specs.Fmt.{decimal}
+use Rattle.std.proofs.lemmas.List.{append_cancel_left}
+use Rattle.std.proofs.lemmas.List.Elements.{All-head, All-tail}
+use Rattle.win_index.specs.Windows.{windows, IsWindow}
+use Rattle.win_index.specs.Laws.{NumberOfWindow, WindowsHaveNumbers}
+use Rattle.table_fill.specs.Tables.{ChannelTable, IsBegun, IsTable, windows_of}
+use Rattle.table_text.specs.TableText.{ids_then, entry_then, entries_then, lines_then}
+use Rattle.table_text.specs.LineForms.{AreSizes, IsEntry}
+use Rattle.table_text.proofs.IdTexts.{Fits32, ids_once}
+use Rattle.table_text.proofs.Headers.{field_once, sizes_fit, sizes_once, title_once}
+
+ids_same : (ids x y : List ℕ) → ids_then ids x ≡ ids_then ids y → x ≡ y
+ids_same [] x y same = same
+ids_same (id ∷ ids) x y same = ids_same ids x y (ap (drop 1) (append_cancel_left (decimal id) (32 ∷ ids_then ids x) (32 ∷ ids_then ids y) same))
+
+-- lines of one window have one channel
+line_once : (window : List ℕ) (c d : ℕ) (x y : List ℕ) → c < 2 ^ 32 → d < 2 ^ 32 → entry_then window c x ≡ entry_then window d y
+    → (c ≡ d) × (x ≡ y)
+line_once window c d x y p q same =
+    field_once (codes ": ") 10 c d x y (omega arith) p q
+    (ids_same window (codes ": " ++ (decimal c ++ 10 ∷ x)) (codes ": " ++ (decimal d ++ 10 ∷ y)) same)
+
+-- lines that have the form of an entry have the same identifiers and the same channel
+pub entry_once : (k : ℕ) (text ids others : List ℕ) (c d : ℕ) (x y : List ℕ) → IsEntry k text ids c x → IsEntry k text others d y
+    → (ids ≡ others) × (c ≡ d) × (x ≡ y)
+entry_once k text ids others c d x y p q =
+    let one = ids_once ids others (codes ": " ++ (decimal c ++ 10 ∷ x)) (codes ": " ++ (decimal d ++ 10 ∷ y)) p.ids_fit q.ids_fit
+    (p.size ∙ sym q.size) (sym p.spelled ∙ q.spelled) in
+    let more = field_once (codes ": ") 10 c d x y (omega arith) p.channel_fits q.channel_fits one.1 in
+    (one.0, more.0, more.1)
+
+-- as many lines of the same windows have the same channels
+entries_once : (ws : List (List ℕ)) (cs ds x y : List ℕ) → All Fits32 cs → All Fits32 ds → length cs ≡ length ds → length cs ≤ length ws
+    → entries_then ws cs x ≡ entries_then ws ds y → (cs ≡ ds) × (x ≡ y)
+entries_once ws [] [] x y p q size room same = (refl, same)
+entries_once ws [] (d ∷ ds) x y p q size room same = absurd (omega (arith, size))
+entries_once [] (c ∷ cs) ds x y p q size room same = absurd (omega (arith, room))
+entries_once (w ∷ ws) (c ∷ cs) [] x y p q size room same = absurd (omega (arith, size))
+entries_once (w ∷ ws) (c ∷ cs) (d ∷ ds) x y p q size room same =
+    let one = line_once w c d (entries_then ws cs x) (entries_then ws ds y) (All-head Fits32 c cs p) (All-head Fits32 d ds q) same in
+    let more = entries_once ws cs ds x y (All-tail Fits32 c cs p) (All-tail Fits32 d ds q) (omega (arith, size)) (omega (arith, room)) one.1 in
+    (cc, more.1)
+
+-- the text begins with the line of the window at a place, with a channel below a bound
+pub record HasLine (ws : List (List ℕ)) (place bound : ℕ) (text : List ℕ) : Type 0 where
+  pub window : List ℕ
+  pub channel : ℕ
+  pub rest : List ℕ
+  pub at : slice_get ws place ≡ Some window
+  pub line : text ≡ entry_then window channel rest
+  pub below : channel < bound
+
+-- where more lines of the same windows stand, the next of them follows the front
+entries_next : (ws : List (List ℕ)) (cs ds x y : List ℕ) (bound : ℕ) → bound ≤ 2 ^ 32 → All (λ c. c < bound) cs → All (λ c. c < bound) ds
+    → length cs < length ds → length ds ≤ length ws → entries_then ws cs x ≡ entries_then ws ds y → HasLine ws (length cs) bound x
+entries_next ws cs [] x y bound fits p q less room same = absurd (omega (arith, less))
+entries_next [] cs (d ∷ ds) x y bound fits p q less room same = absurd (omega (arith, room))
+entries_next (w ∷ ws) [] (d ∷ ds) x y bound fits p q less room same =
+    record {
+      window = w;
+      channel = d;
+      rest = entries_then ws ds y;
+      at = refl;
+      line = same;
+      below = All-head (λ c. c < bound) d ds q;
+    }
+entries_next (w ∷ ws) (c ∷ cs) (d ∷ ds) x y bound fits p q less room same =
+    let one = line_once w c d (entries_then ws cs x) (entries_then ws ds y) (omega (arith, fits, All-head (λ n. n < bound) c cs p))
+    (omega (arith, fits, All-head (λ n. n < bound) d ds q)) same in
+    let more = entries_next ws cs ds x y bound fits (All-tail (λ n. n < bound) c cs p) (All-tail (λ n. n < bound) d ds q)
+    (omega (arith, less)) (omega (arith, room)) one.1 in
+    record {
+      window = more.window;
+      channel = more.channel;
+      rest = more.rest;
+      at = more.at;
+      line = more.line;
+      below = more.below;
+    }
+
+-- the numbers of a begun table
+pub sizes_of : (t : ChannelTable) → IsBegun t → AreSizes t.rounds t.ids t.channels
+sizes_of t begun =
+    record {
+      few_rounds = begun.few_rounds;
+      shape = begun.shape;
+      some_channels = begun.some_channels;
+      few_channels = begun.few_channels;
+    }
+
+-- two begun tables whose lines begin one text have the same numbers
+header_once : (t u : ChannelTable) (x y : List ℕ) → IsBegun t → IsBegun u → lines_then t x ≡ lines_then u y
+    → (t.rounds ≡ u.rounds) × (t.ids ≡ u.ids) × (t.channels ≡ u.channels)
+    × (entries_then (windows_of t) t.entries x ≡ entries_then (windows_of u) u.entries y)
+unfolding lines_then
+header_once t u x y p q same =
+    sizes_once t.rounds t.ids t.channels u.rounds u.ids u.channels _ _ (sizes_fit t.rounds t.ids t.channels (sizes_of t p))
+    (sizes_fit u.rounds u.ids u.channels (sizes_of u q)) (title_once _ _ same)
+
+entries_fit : (t : ChannelTable) → IsBegun t → All Fits32 t.entries
+entries_fit t begun = λ i d within. omega (arith, begun.below i d within, begun.few_channels)
+
+-- with as many entries they are one table
+pub lines_once : (t u : ChannelTable) (x y : List ℕ) → IsBegun t → IsBegun u → lines_then t x ≡ lines_then u y
+    → length t.entries ≡ length u.entries → (t ≡ u) × (x ≡ y)
+lines_once t u x y p q same size =
+    let header = header_once t u x y p q same in
+    let ws : windows_of t ≡ windows_of u = λ i. windows (2 * header.0 i + 1) (header.1 i) in
+    let entries = entries_once (windows_of t) t.entries u.entries x y (entries_fit t p) (entries_fit u q) size p.size
+    (header.3 ∙ ap (λ w. entries_then w u.entries y) (sym ws)) in
+    (λ i. record { ids = header.1 i; rounds = header.0 i; channels = header.2 i; entries = entries.0 i }, entries.1)
+
+-- where the second has more entries, the next line follows the lines of the first
+pub lines_next : (t u : ChannelTable) (x y : List ℕ) → IsBegun t → IsBegun u → lines_then t x ≡ lines_then u y
+    → length t.entries < length u.entries → HasLine (windows_of t) (length t.entries) t.channels x
+lines_next t u x y p q same less =
+    let header = header_once t u x y p q same in
+    let ws : windows_of t ≡ windows_of u = λ i. windows (2 * header.0 i + 1) (header.1 i) in
+    let below = subst (λ n. All (λ c. c < n) u.entries) (sym header.2) q.below in
+    entries_next (windows_of t) t.entries u.entries x y t.channels (omega (arith, p.few_channels)) p.below below less
+    (omega (arith, q.size, ap length ws)) (header.3 ∙ ap (λ w. entries_then w u.entries y) (sym ws))
+
+-- two begun tables whose lines begin one text have the same windows
+pub same_windows : (t u : ChannelTable) (x y : List ℕ) → IsBegun t → IsBegun u → lines_then t x ≡ lines_then u y → windows_of t ≡ windows_of u
+same_windows t u x y p q same =
+    let header = header_once t u x y p q same in
+    λ i. windows (2 * header.0 i + 1) (header.1 i)
+
+-- two tables whose lines begin one text are one
+pub tables_once : (t u : ChannelTable) (x y : List ℕ) → IsTable t → IsTable u → lines_then t x ≡ lines_then u y → (t ≡ u) × (x ≡ y)
+tables_once t u x y p q same =
+    let count = ap length (same_windows t u x y p.begun q.begun same) in
+    lines_once t u x y p.begun q.begun same (p.size ∙ count ∙ sym q.size)
+
+-- where the lines of a table begin a text, the next line follows those of a begun table that wants an entry more
+pub table_next : (t u : ChannelTable) (x y : List ℕ) → IsBegun t → IsTable u → lines_then t x ≡ lines_then u y
+    → length t.entries < length (windows_of t) → HasLine (windows_of t) (length t.entries) t.channels x
+table_next t u x y p q same more =
+    let count = ap length (same_windows t u x y p q.begun same) in
+    lines_next t u x y p q.begun same (omega (arith, more, count, q.size))
+
+-- the list at a place among the windows is a window
+pub window_at : NumberOfWindow → WindowsHaveNumbers → (k m n : ℕ) (window : List ℕ) → slice_get (windows k m) n ≡ Some window
+    → IsWindow k m window
+window_at number_of_window windows_have_numbers k m n window at =
+    (windows_have_numbers k m window).0 (ap is_some (number_of_window k m n window at))
+
+-- the line of a window has the form of an entry
+pub line_entry : NumberOfWindow → WindowsHaveNumbers → (t : ChannelTable) (place : ℕ) (text : List ℕ) → IsBegun t
+    → (h : HasLine (windows_of t) place t.channels text) → IsEntry (2 * t.rounds + 1) text h.window h.channel h.rest
+line_entry number_of_window windows_have_numbers t place text begun h =
+    let is = window_at number_of_window windows_have_numbers (2 * t.rounds + 1) t.ids place h.window h.at in
+    record {
+      size = is.size;
+      ids_fit = λ i d within. omega (arith, is.below i d within, begun.shape.ids.few);
+      channel_fits = omega (arith, h.below, begun.few_channels);
+      spelled = h.line;
+    }

@@ -1,0 +1,34 @@
+ghost use Rattle.table_text.specs.Laws as law;
+
+use win_index::{count_of_windows, number_of_window, windows_have_numbers};
+
+/// Different tables have different texts, and no table's text begins that of another.
+pub fn table_texts_are_apart()
+    ensures { law.TableTextsAreApart }
+{}
+
+/// The text of a table is within the limit.
+pub fn table_texts_are_short()
+    ensures { law.TableTextsAreShort }
+{
+    count_of_windows();
+    number_of_window();
+    windows_have_numbers();
+}
+
+/// The text of a table has no fault but want of memory.
+pub fn table_texts_are_read()
+    ensures { law.TableTextsAreRead }
+{
+    table_texts_are_short();
+    number_of_window();
+    windows_have_numbers();
+}
+
+/// A text has at most one fault, want of memory aside.
+pub fn one_table_fault()
+    ensures { law.OneTableFault }
+{
+    number_of_window();
+    windows_have_numbers();
+}

@@ -1,0 +1,16 @@
+//! Table texts that are read, and the faults of others.
+
+mod faults;
+mod tables;
+
+use crate::fault::TableFault;
+use crate::reading::read_table;
+use std::alloc::Global;
+
+/// The text of two identifiers and no rounds whose channels are the identifiers.
+const IDENTIFIERS: &[u8] = b"nbhd-table 1\nrounds 0 ids 2 channels 2\n0 : 0\n1 : 1\nend\n";
+
+// The fault of a text, or none where it is read.
+fn fault_of(alloc: Global, text: &[u8]) -> Option<TableFault> {
+    read_table(alloc, text).err()
+}

@@ -1,0 +1,43 @@
+use super::IDENTIFIERS;
+use crate::reading::read_table;
+use std::alloc::Global;
+use std::test::Fail;
+
+/// The text of four identifiers and one round, with one channel.
+const ONE_CHANNEL: &[u8] = b"nbhd-table 1\nrounds 1 ids 4 channels 1\n\
+0 1 2 : 0\n0 1 3 : 0\n0 2 1 : 0\n0 2 3 : 0\n0 3 1 : 0\n0 3 2 : 0\n\
+1 0 2 : 0\n1 0 3 : 0\n1 2 0 : 0\n1 2 3 : 0\n1 3 0 : 0\n1 3 2 : 0\n\
+2 0 1 : 0\n2 0 3 : 0\n2 1 0 : 0\n2 1 3 : 0\n2 3 0 : 0\n2 3 1 : 0\n\
+3 0 1 : 0\n3 0 2 : 0\n3 1 0 : 0\n3 1 2 : 0\n3 2 0 : 0\n3 2 1 : 0\n\
+end\n";
+
+// The numbers of rounds, identifiers and channels of the table of a text, and its entries.
+fn numbers_of(alloc: Global, text: &[u8]) -> Result<Vec<u32>, Fail> {
+    let table = read_table(alloc, text).ok().ok_or("a table")?;
+    let shape = table.shape();
+    let mut numbers = Vec::new(alloc);
+    numbers.push(shape.rounds())?;
+    numbers.push(shape.ids())?;
+    numbers.push(table.channels())?;
+    for number in 0..shape.count(shape.rounds()) {
+        numbers.push(table.entry(number))?;
+    }
+    Ok(numbers)
+}
+
+#[test]
+fn a_table_of_identifiers(rt: HostRuntime) -> Result<(), Fail> {
+    let numbers = numbers_of(rt.alloc(), IDENTIFIERS)?;
+    assert_eq!(rt; IDENTIFIERS.len(), 55);
+    assert_eq!(rt; numbers.as_slice(), [0, 2, 2, 0, 1].as_slice());
+    Ok(())
+}
+
+#[test]
+fn a_table_of_one_channel(rt: HostRuntime) -> Result<(), Fail> {
+    let numbers = numbers_of(rt.alloc(), ONE_CHANNEL)?;
+    assert_eq!(rt; numbers.len(), 27);
+    assert_eq!(rt; &numbers[..3], [1, 4, 1].as_slice());
+    assert!(rt; numbers[3..].iter().all(|channel| *channel == 0));
+    Ok(())
+}
