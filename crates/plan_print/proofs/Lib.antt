@@ -1,5 +1,4 @@
 mod Joined
-mod Entries
 pub mod Aligned
 pub mod Workers
 mod OneReport

@@ -1,6 +1,6 @@
 pub mod ExitCodes
 pub mod Lines
-pub mod TableText
+pub use Rattle.table_text.specs.TableText
 pub mod Report
 pub mod Laws
 pub use Rattle.task_words.specs.Decimal

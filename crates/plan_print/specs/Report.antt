@@ -29,7 +29,7 @@ use Rattle.task_words.specs.declared.task.Task.{Task}
 use Rattle.task_words.specs.declared.task.Task.TheVariants.{Check, Table, Judge, Run, Plan}
 use Rattle.task_words.specs.Task.{ids_of}
 use Rattle.plan_print.specs.Lines.{line, numbers_text, right_aligned}
-use Rattle.plan_print.specs.TableText.{table_text}
+use Rattle.table_text.specs.TableText.{table_text}
 
 pub record Report : Type 0 where
   pub bytes : List ℕ

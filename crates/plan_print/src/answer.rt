@@ -13,7 +13,6 @@ use crate::lines::{
 };
 use crate::places::places_text;
 use crate::status::Status;
-use crate::table_text::table_text;
 use devices::fault::EngineFault;
 use lang_check::Plan;
 use nbhd_check::{Verdict, judge};
@@ -24,6 +23,7 @@ use std::alloc::Global;
 use std::sync::Wait;
 use std::thread::Threads;
 use table_fill::{FillFault, Table, compile};
+use table_text::text_of_table;
 use task_words::task::Task;
 use win_index::{Ring, RingFault};
 
@@ -43,7 +43,7 @@ pub(crate) fn answer_of<T: Threads + Wait + Sync>(
         Task::Check { ids: _ } => Ok((accepted_line(alloc, plan)?, Status::Done)),
         Task::Table { ids: _, workers } => {
             let table = compiled(rt, alloc, plan, workers)?;
-            Ok((table_text(alloc, &table)?, Status::Done))
+            Ok((text_of_table(alloc, &table)?, Status::Done))
         }
         Task::Judge { ids: _, workers } => judgement(alloc, &compiled(rt, alloc, plan, workers)?),
         Task::Run {

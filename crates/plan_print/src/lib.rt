@@ -9,9 +9,9 @@ mod places;
 pub mod process;
 mod report;
 pub mod status;
-pub mod table_text;
 #[cfg(test)]
 mod tests;
 
 pub use devices::{fault, input, output, watched};
+pub use table_text::{TableFault, read_table, write_table};
 pub use task_words::{ring_text, task, words};

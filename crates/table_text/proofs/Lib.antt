@@ -5,5 +5,6 @@ pub mod Headers
 pub mod TableLines
 pub mod TablesOnce
 pub mod TextsApart
+pub mod WrittenLines
 pub mod FaultsOnce
 pub mod TextLimit

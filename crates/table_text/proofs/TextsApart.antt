@@ -11,7 +11,7 @@ use Rattle.table_text.proofs.TablesOnce.{tables_once}
 field_append : (number end : ℕ) (rest more : List ℕ) → (decimal number ++ end ∷ rest) ++ more ≡ decimal number ++ end ∷ (rest ++ more)
 field_append number end rest more = append_assoc (decimal number) (end ∷ rest) more
 
-ids_append : (ids rest more : List ℕ) → ids_then ids rest ++ more ≡ ids_then ids (rest ++ more)
+pub ids_append : (ids rest more : List ℕ) → ids_then ids rest ++ more ≡ ids_then ids (rest ++ more)
 ids_append [] rest more = refl
 ids_append (id ∷ ids) rest more = field_append id 32 (ids_then ids rest) more ∙ ap (λ l. decimal id ++ 32 ∷ l) (ids_append ids rest more)
 

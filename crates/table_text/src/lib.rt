@@ -1,4 +1,4 @@
-//! Reading the text of a table.
+//! The text of a table: reading and writing it.
 #![tactic(auto)]
 
 mod fault;
@@ -7,6 +7,7 @@ mod limits;
 mod lines;
 mod numbers;
 mod reading;
+mod writing;
 
 pub use fault::TableFault;
 pub use laws::{
@@ -14,6 +15,7 @@ pub use laws::{
 };
 pub use limits::LONGEST_TABLE_TEXT;
 pub use reading::read_table;
+pub use writing::{text_of_table, write_table};
 
 #[cfg(test)]
 mod tests;

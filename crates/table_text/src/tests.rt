@@ -1,4 +1,4 @@
-//! Table texts that are read, and the faults of others.
+//! Table texts that are read and written, and the faults of others.
 
 mod faults;
 mod tables;

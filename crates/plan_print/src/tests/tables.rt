@@ -1,7 +1,7 @@
 //! The text of a table, over memory and over a device that fails.
 
-use crate::table_text::write_table;
 use crate::tests::trickle::Trickle;
+use crate::write_table;
 use devices::fault::OutFault;
 use devices::watched::Watched;
 use std::alloc::Global;

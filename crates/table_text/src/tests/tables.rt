@@ -1,5 +1,6 @@
 use super::IDENTIFIERS;
 use crate::reading::read_table;
+use crate::writing::text_of_table;
 use std::alloc::Global;
 use std::test::Fail;
 
@@ -39,5 +40,20 @@ fn a_table_of_one_channel(rt: HostRuntime) -> Result<(), Fail> {
     assert_eq!(rt; numbers.len(), 27);
     assert_eq!(rt; &numbers[..3], [1, 4, 1].as_slice());
     assert!(rt; numbers[3..].iter().all(|channel| *channel == 0));
+    Ok(())
+}
+
+// The table of a text, written again.
+fn written_again(alloc: Global, text: &[u8]) -> Result<String, Fail> {
+    let table = read_table(alloc, text).ok().ok_or("a table")?;
+    Ok(text_of_table(alloc, &table)?)
+}
+
+#[test]
+fn a_table_that_was_read_is_written_again(rt: HostRuntime) -> Result<(), Fail> {
+    for text in [IDENTIFIERS, ONE_CHANNEL] {
+        let written = written_again(rt.alloc(), text)?;
+        assert_eq!(rt; written.as_bytes(), text);
+    }
     Ok(())
 }

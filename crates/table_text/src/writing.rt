@@ -1,14 +1,11 @@
-//! The text of a table.
+//! Writing the text of a table.
 
-ghost use Rattle.std.specs.Prelude.{◌≡◌, ◌↔◌, ◌+◌, ◌*◌, ◌≤◌, ◌++◌, false, IsTrue, IfOk, OnOk, IsErrOf, Some, length, slice_get, string_bytes};
-ghost use Rattle.std.specs.List.{flat_map};
+ghost use Rattle.std.specs.Prelude.{◌≡◌, ◌↔◌, ◌++◌, [], false, IsTrue, IfOk, OnOk, IsErrOf, string_bytes};
 ghost use Rattle.std.specs.Io.KnownBytes.{Appends, Keeps};
-ghost use Rattle.win_index.specs.Windows.{windows, IsWindow};
 ghost use Rattle.devices.specs.Output.{AppendsFront};
 ghost use Rattle.devices.specs.Watched.{device_of, has_failed};
-ghost use Rattle.plan_print.specs.TableText as written;
+ghost use Rattle.table_text.specs.TableText.{title_then, sizes_then, entry_then, lines_then, table_text};
 
-use crate::lines::write_numbers;
 use devices::fault::OutFault;
 use devices::output::send;
 use devices::watched::Watched;
@@ -30,33 +27,32 @@ pub fn write_table<W: Write>(
 ) -> Result<(), OutFault>
     requires { has_failed writer.old ≡ false }
     ensures ok { OnOk result (Appends (W.contents (device_of writer.old))
-        (W.contents (device_of writer.new)) (written.table_text table.now)) }
+        (W.contents (device_of writer.new)) (table_text table.now)) }
     ensures front { IsErrOf result OutFault.Write → AppendsFront (W.contents (device_of writer.old))
-        (W.contents (device_of writer.new)) (written.table_text table.now) }
+        (W.contents (device_of writer.new)) (table_text table.now) }
     ensures no_memory { IsErrOf result OutFault.Memory → Keeps (W.contents (device_of writer.old)) (W.contents (device_of writer.new)) }
     ensures failed { IsErrOf result OutFault.Write ↔ IsTrue (has_failed writer.new) }
 {
-    let text = table_text(alloc, table)?;
+    let text = text_of_table(alloc, table)?;
     match send(writer, text.as_bytes()) {
         Ok(()) => Ok(()),
         Err(_) => Err(OutFault::Write),
     }
 }
 
-// The text of a table.
-#[tactic(auto, unfolding(crate::specs::TableText::table_text))]
-pub(crate) fn table_text(alloc: Global, table: &Table) -> Result<String, AllocError>
-    ensures { IfOk result (λ text. string_bytes text ≡ written.table_text table.now) }
+/// The text of a table. The error comes where memory was refused.
+pub fn text_of_table(alloc: Global, table: &Table) -> Result<String, AllocError>
+    ensures { IfOk result (λ text. string_bytes text ≡ table_text table.now) }
 {
-    let mut text = head_lines(alloc, table)?;
+    let mut text = first_lines(alloc, table)?;
     write_entries(&mut text, table)?;
     text.push_str("end\n")?;
     Ok(text)
 }
 
 // The lines above those of the windows.
-fn head_lines(alloc: Global, table: &Table) -> Result<String, AllocError>
-    ensures { IfOk result (λ text. string_bytes text ≡ written.head_lines table.now) }
+fn first_lines(alloc: Global, table: &Table) -> Result<String, AllocError>
+    ensures { IfOk result (λ text. string_bytes text ≡ title_then (sizes_then table.now.rounds table.now.ids table.now.channels [])) }
 {
     let shape = table.shape();
     let rounds = shape.rounds();
@@ -65,10 +61,10 @@ fn head_lines(alloc: Global, table: &Table) -> Result<String, AllocError>
     format!(in alloc; "nbhd-table 1\nrounds {rounds} ids {ids} channels {channels}\n")
 }
 
-// Writes the lines of all windows, from the first one on.
+// Writes the lines of all windows behind the first two lines, from the first window on.
 fn write_entries(text: &mut String, table: &Table) -> Result<(), AllocError>
-    ensures { OnOk result (string_bytes text.new
-        ≡ string_bytes text.old ++ flat_map written.entry_line (written.entries_of table.now)) }
+    requires { string_bytes text.old ≡ title_then (sizes_then table.now.rounds table.now.ids table.now.channels []) }
+    ensures { OnOk result (string_bytes text.new ≡ lines_then table.now []) }
 {
     let shape = table.shape();
     let level = shape.rounds();
@@ -85,8 +81,10 @@ fn write_entries(text: &mut String, table: &Table) -> Result<(), AllocError>
 
 // Writes the line of a window.
 fn write_entry(text: &mut String, window: &[u32], channel: u32) -> Result<(), AllocError>
-    ensures { OnOk result (string_bytes text.new ≡ string_bytes text.old ++ written.entry_line (window.now, channel)) }
+    ensures { OnOk result (string_bytes text.new ≡ string_bytes text.old ++ entry_then window.now channel []) }
 {
-    write_numbers(text, window)?;
-    write!(text, " : {channel}\n")
+    for id in window {
+        write!(text, "{id} ")?;
+    }
+    write!(text, ": {channel}\n")
 }

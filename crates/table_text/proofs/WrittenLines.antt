@@ -1,0 +1,32 @@
+-- The lines of a table, written one behind another.
+use Rattle.std.proofs.Common.{◌≡◌, ℕ, ◌+◌, ◌<◌, List, [], ◌∷◌, ◌++◌, Some, length, take, get_or, slice_get, refl, sym, ap, ◌∙◌, arith, append_assoc}
+use Rattle.std.specs.Fmt.{decimal}
+use Rattle.std.proofs.lemmas.List.{take_more, length-take-le}
+use Rattle.table_fill.specs.Tables.{ChannelTable, windows_of}
+use Rattle.table_text.specs.TableText.{ids_then, entry_then, lines_then}
+use Rattle.table_text.proofs.TableLines.{lines_more}
+use Rattle.table_text.proofs.TextsApart.{lines_append}
+
+-- one identifier more
+pub ids_more : (ids : List ℕ) (id : ℕ) (rest : List ℕ) → ids_then (ids ++ id ∷ []) rest ≡ ids_then ids [] ++ (decimal id ++ 32 ∷ rest)
+ids_more [] id rest = refl
+ids_more (x ∷ ids) id rest = ap (λ l. decimal x ++ 32 ∷ l) (ids_more ids id rest) ∙ sym (append_assoc (decimal x) (32 ∷ ids_then ids []) (decimal id ++ 32 ∷ rest))
+
+-- the table with its first entries alone
+abbrev pub front_of : ChannelTable → ℕ → ChannelTable
+front_of t n = record t { entries = take n t.entries }
+
+-- one line more
+pub front_more :
+    (t : ChannelTable) (n channel : ℕ) (window text line : List ℕ) → n < length t.entries → slice_get (windows_of t) n ≡ Some window
+    → text ≡ lines_then (front_of t n) [] → channel ≡ get_or t.entries n 0 → line ≡ entry_then window channel []
+    → text ++ line ≡ lines_then (front_of t (n + 1)) []
+front_more t n channel window text line lt next written is wrote =
+    let size : length (take n t.entries) ≡ n = length-take-le n t.entries (omega arith) in
+    let more = lines_more (front_of t n) (lines_then (front_of t n) (entry_then window channel [])) (entry_then window channel []) window channel []
+    refl (ap (slice_get (windows_of t)) size ∙ next) refl in
+    (λ i. written i ++ wrote i)
+    ∙ lines_append (front_of t n) [] (entry_then window channel [])
+    ∙ more
+    ∙ ap (λ entries. lines_then (record t { entries = entries }) [])
+    (ap (λ c. take n t.entries ++ c ∷ []) is ∙ sym (take_more t.entries n 0 lt))
