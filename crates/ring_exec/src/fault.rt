@@ -1,4 +1,7 @@
 // Why a segment gives no channels.
+ghost use Rattle.std.specs.Prelude.{◌≡◌};
+ghost use Rattle.ring_exec.specs.declared.fault.SegmentFault.TheVariants.{OutOfMemory as NoMemory};
+
 use node_lang::OutOfMemory;
 use std::alloc::AllocError;
 
@@ -14,12 +17,16 @@ pub(crate) enum SegmentFault {
 }
 
 impl From<OutOfMemory> for SegmentFault {
+    ghost from_gives = { λ _ fault. fault ≡ NoMemory };
+
     fn from(_refused: OutOfMemory) -> SegmentFault {
         SegmentFault::OutOfMemory
     }
 }
 
 impl From<AllocError> for SegmentFault {
+    ghost from_gives = { λ _ fault. fault ≡ NoMemory };
+
     fn from(_refused: AllocError) -> SegmentFault {
         SegmentFault::OutOfMemory
     }
