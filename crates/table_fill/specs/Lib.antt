@@ -5,6 +5,7 @@ pub mod Tables
 pub mod ProgramTables
 pub mod Workers
 pub mod Filled
+pub mod ChannelRoom
 pub mod FillMachine
 pub mod FillPromises
 pub mod Laws

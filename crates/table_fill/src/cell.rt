@@ -3,10 +3,11 @@ ghost use Rattle.lang_check.specs.Plans.{ProgramForIds};
 ghost use Rattle.shared_memo.specs.PlanJobs.{IsKey};
 ghost use Rattle.table_fill.specs.MissingBlocks.{IsMissingBlock};
 
+use crate::cell_maker::CellMaker;
 use crate::fault::WorkFault;
-use shared_memo::{Installed, Reader};
+use shared_memo::Installed;
 use std::alloc::Global;
-use unroll::{MakeFault, make_block};
+use unroll::MakeFault;
 use win_index::{MAX_BLOCKS, window_of_number};
 
 // What became of a block that was made.
@@ -45,11 +46,11 @@ pub(crate) trait Cells {
     fn stranger(&self) -> bool;
 }
 
-impl<'s, 'p, 'a> Cells for Reader<'s, 'p, 'a> {
-    ghost plan = { λ r. r.pass.now.plan.now };
+impl<'s, 'p, 'a> Cells for CellMaker<'s, 'p, 'a> {
+    ghost plan = { λ c. c.reader.pass.now.plan.now };
 
     fn finds(&mut self, level: u32, number: u32) -> bool {
-        Reader::finds(self, level, number)
+        self.reader.finds(level, number)
     }
 
     fn make(
@@ -60,15 +61,15 @@ impl<'s, 'p, 'a> Cells for Reader<'s, 'p, 'a> {
         number: u32,
     ) -> Result<Made, MakeFault> {
         window_of_number();
-        let plan = self.plan();
-        let block = match make_block(alloc, plan, self, level, number, maker) {
+        let CellMaker { reader, blocks } = self;
+        let block = match blocks.make(alloc, reader, level, number, maker) {
             Ok(block) => block,
             Err(fault) => return Err(fault),
         };
         let Ok(block) = Box::new(alloc, block) else {
             return Err(MakeFault::OutOfMemory);
         };
-        match self.install(block) {
+        match reader.install(block) {
             Ok(Installed::Fresh) => Ok(Made::Fresh),
             Ok(Installed::Stood(_)) => Ok(Made::Stood),
             Err(_) => Ok(Made::Refused),
@@ -76,7 +77,7 @@ impl<'s, 'p, 'a> Cells for Reader<'s, 'p, 'a> {
     }
 
     fn stranger(&self) -> bool {
-        Reader::stranger(self)
+        self.reader.stranger()
     }
 }
 

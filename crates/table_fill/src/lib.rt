@@ -1,8 +1,11 @@
 //! Tables of channels, one for each window, and the table of a program.
 #![tactic(auto)]
 
+mod block_channels;
 mod cell;
+mod cell_maker;
 mod crew;
+mod entry_columns;
 mod fault;
 pub mod fill_core;
 mod filling;

@@ -3,10 +3,12 @@ ghost use Rattle.shared_memo.specs.PlanJobs.{job_count};
 ghost use Rattle.shared_memo.specs.Tickets.{told, IsTicketOf};
 
 use crate::cell::fill_cell;
+use crate::cell_maker::CellMaker;
 use crate::fault::WorkFault;
 use round_eval::Gate;
 use shared_memo::{Desk, Memo, Reader, Ticket};
 use std::alloc::Global;
+use unroll::BlockMaker;
 
 // What workers fill, job by job.
 pub(crate) trait Fills {
@@ -48,12 +50,18 @@ impl<'a> Fills for Memo<'a> {
         let Ok(mut pass) = self.pass(alloc) else {
             return Err(WorkFault::OutOfMemory);
         };
+        let Ok(blocks) = BlockMaker::new(alloc, self.plan()) else {
+            return Err(WorkFault::OutOfMemory);
+        };
         let shape = self.plan().shape();
-        let mut reader = Reader::new(self, &mut pass);
+        let mut cells = CellMaker {
+            reader: Reader::new(self, &mut pass),
+            blocks,
+        };
         while let Some(job) = desk.draw(&mut ticket) {
             gate.entered(number, job);
             let (level, block) = shape.job(job);
-            fill_cell(alloc, &mut reader, number, level, block)?;
+            fill_cell(alloc, &mut cells, number, level, block)?;
         }
         Ok(())
     }

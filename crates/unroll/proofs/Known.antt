@@ -9,7 +9,7 @@ use Rattle.unroll.specs.Below.{part, IsBelow}
 use Rattle.unroll.specs.BlockStates.{MadeBlock, window_numbered, block_len}
 use Rattle.unroll.specs.Entries.{Entries, Grows}
 use Rattle.unroll.specs.MakeFaults.{IsMakeFault}
-use Rattle.unroll.specs.Parts.{KnowsParts, KnowsBelow, IsMissingPart}
+use Rattle.unroll.specs.Parts.{KnowsPart, KnowsParts, KnowsBelow, IsMissingPart}
 use Rattle.unroll.specs.declared.fault.MakeFault.{MakeFault}
 use Rattle.unroll.specs.declared.fault.MakeFault.TheVariants.{Missing, OutOfMemory}
 
@@ -23,17 +23,13 @@ still_known old new r c grows some = some_kept (old r c) (new r c) (grows.kept r
 
 -- the three parts of a window, each with its block known
 module _ (entries : Entries) (m low : ℕ) (w : List ℕ) where
-  -- the block that holds the part from place d on is known
-  abbrev pub KnowsPart : ℕ → Type 0
-  KnowsPart d = (n : ℕ) → number_of (2 * low + 1) m (part w low d) ≡ Some n → IsSome (entries low (n / 256))
-
-  one_of_three : (d : ℕ) → d ≤ 2 → KnowsPart 0 → KnowsPart 1 → KnowsPart 2 → KnowsPart d
+  one_of_three : (d : ℕ) → d ≤ 2 → KnowsPart entries m low w 0 → KnowsPart entries m low w 1 → KnowsPart entries m low w 2 → KnowsPart entries m low w d
   one_of_three zero le first middle last = first
   one_of_three (suc zero) le first middle last = middle
   one_of_three (suc (suc zero)) le first middle last = last
   one_of_three (suc (suc (suc d))) le first middle last = absurd (omega arith)
 
-  pub knows_three : KnowsPart 0 → KnowsPart 1 → KnowsPart 2 → KnowsParts entries m low w
+  pub knows_three : KnowsPart entries m low w 0 → KnowsPart entries m low w 1 → KnowsPart entries m low w 2 → KnowsParts entries m low w
   knows_three first middle last = λ n is. one_of_three is.offset is.three first middle last n is.number_is
 
 -- the window at a place of a block

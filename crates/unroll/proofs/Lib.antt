@@ -3,3 +3,5 @@ pub mod Lines
 pub mod Within
 pub mod AroundPlaces
 pub mod Known
+pub mod SameRun
+pub mod ColumnStates

@@ -9,3 +9,4 @@ pub mod MakeFaults
 pub mod Laws
 pub mod HeldStates
 pub mod Parts
+pub mod WideColumns

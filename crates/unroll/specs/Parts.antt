@@ -1,8 +1,13 @@
 -- What the functions that make a block say of the source, one window at a time.
-use Rattle.std.specs.Prelude.{◌≡◌, ℕ, ◌+◌, ◌*◌, ◌/◌, ◌<◌, List, None, IsSome}
-use Rattle.unroll.specs.Below.{IsPartNumber}
+use Rattle.std.specs.Prelude.{◌≡◌, ℕ, ◌+◌, ◌*◌, ◌/◌, ◌<◌, List, take, drop, length, Some, None, IsSome}
+use Rattle.lang_check.specs.Plans.{ProgramForIds}
+use Rattle.win_index.specs.Runs.{IsRunStart}
+use Rattle.win_index.specs.Windows.{number_of}
+use Rattle.unroll.specs.Line.{middle_state}
+use Rattle.unroll.specs.Below.{part, IsPartNumber}
 use Rattle.unroll.specs.BlockStates.{window_numbered}
 use Rattle.unroll.specs.Entries.{Entries}
+use Rattle.unroll.specs.declared.run.Run.{Run}
 use Rattle.unroll.specs.declared.fault.MakeFault.{MakeFault}
 use Rattle.unroll.specs.declared.fault.MakeFault.TheVariants.{Missing, OutOfMemory}
 
@@ -10,7 +15,22 @@ use Rattle.unroll.specs.declared.fault.MakeFault.TheVariants.{Missing, OutOfMemo
 abbrev pub KnowsParts : Entries → ℕ → ℕ → List ℕ → Type 0
 KnowsParts entries m low w = (n : ℕ) → IsPartNumber m low w n → IsSome (entries low (n / 256))
 
--- the same for the first windows of block b of level r, as many as count
+-- the block of the level low that holds the part of the window w from place d on is known
+abbrev pub KnowsPart : Entries → ℕ → ℕ → List ℕ → ℕ → Type 0
+KnowsPart entries m low w d = (n : ℕ) → number_of (2 * low + 1) m (part w low d) ≡ Some n → IsSome (entries low (n / 256))
+
+-- What the windows one level above low share that begin as w does, with all identifiers but the last: the number of the first window that
+-- begins as their last parts do, and the states of their first and of their middle part. The blocks of these two are known.
+pub record IsRun (plan : ProgramForIds) (entries : Entries) (low : ℕ) (w : List ℕ) (run : Run) : Type 0 where
+  pub start_is : IsRunStart (2 * low) plan.ids (take (2 * low) (drop 2 w)) run.start
+  pub left_is : run.left.now ≡ middle_state plan.program low (part w low 0)
+  pub own_is : run.own.now ≡ middle_state plan.program low (part w low 1)
+  pub left_cells : length run.left.now ≡ length plan.program.start
+  pub own_cells : length run.own.now ≡ length plan.program.start
+  pub left_known : KnowsPart entries plan.ids low w 0
+  pub own_known : KnowsPart entries plan.ids low w 1
+
+-- the parts of the first windows of block b of level r are known, as many windows as count
 abbrev pub KnowsBelow : Entries → ℕ → ℕ → ℕ → ℕ → Type 0
 KnowsBelow entries m r b count =
     (low place : ℕ) → r ≡ low + 1 → place < count → KnowsParts entries m low (window_numbered m r (256 * b + place))

@@ -8,6 +8,7 @@ pub mod Successors
 pub mod Sizes
 pub mod Writing
 pub mod Levels
+pub mod RunStarts
 pub mod Arcs
 pub mod Tuples
 pub mod Order

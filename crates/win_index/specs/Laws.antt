@@ -1,5 +1,5 @@
 -- The statements of the laws of this crate, one definition each.
-use Rattle.std.specs.Prelude.{◌≡◌, ℕ, ◌+◌, ◌-◌, ◌*◌, ◌%◌, ◌<◌, ◌≤◌, ◌↔◌, List, length, slice_get, slice_index, slice_index_or, Some, IsSome}
+use Rattle.std.specs.Prelude.{◌≡◌, ℕ, ◌+◌, ◌-◌, ◌*◌, ◌%◌, ◌<◌, ◌≤◌, ◌↔◌, List, length, take, slice_get, slice_index, slice_index_or, Some, IsSome}
 use Rattle.win_index.specs.declared.limits.TheConstants.{MAX_BLOCKS}
 use Rattle.win_index.specs.declared.ring.RingFault.{RingFault}
 use Rattle.win_index.specs.Arcs.{arc, window_around, part_at}
@@ -10,7 +10,7 @@ use Rattle.win_index.specs.Lexicographic.{StandsBefore}
 use Rattle.win_index.specs.Ring.{IsRing}
 use Rattle.win_index.specs.RingFaults.{IsFirstFault}
 use Rattle.win_index.specs.ShapeRange.{IsShape}
-use Rattle.win_index.specs.Windows.{windows, number_of, IsWindow}
+use Rattle.win_index.specs.Windows.{unused, windows, number_of, IsWindow}
 
 -- the number of the window at a number is that number
 abbrev pub NumberOfWindow : Type 0
@@ -32,6 +32,14 @@ WindowsAreInOrder =
 -- the windows of length k below m are as many as the product of the k numbers from m down
 abbrev pub CountOfWindows : Type 0
 CountOfWindows = (k m : ℕ) → length (windows k m) ≡ falling m k
+
+-- the windows of k+1 identifiers that begin with the window at number n stand from number n (m-k) on, each at the place of
+-- its last identifier among the m-k identifiers that this window lacks
+abbrev pub LongerWindowsHaveNumbers : Type 0
+LongerWindowsHaveNumbers =
+    (k m n : ℕ) (longer : List ℕ) → IsWindow (k + 1) m longer → slice_get (windows k m) n ≡ Some (take k longer)
+    → let place = length (unused (slice_index longer k) (take k longer)) in
+    (place < m - k) × (slice_get (windows (k + 1) m) (n * (m - k) + place) ≡ Some longer)
 
 -- the windows of a level of a shape fill few blocks
 abbrev pub BlocksAreFew : Type 0

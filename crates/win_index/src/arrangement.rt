@@ -4,6 +4,7 @@ ghost use Rattle.std.specs.Bool.{OnTrue, OnFalse};
 ghost use Rattle.std.specs.List.{range_with_len};
 ghost use Rattle.win_index.specs.Windows.{is_used, unused, windows, number_of, IsWindow};
 ghost use Rattle.win_index.specs.Falling.{falling};
+ghost use Rattle.win_index.specs.Runs.{IsRunStart};
 ghost use Rattle.win_index.specs.Successor.{IsNext, IsLast};
 
 // The lists of one length, in order. Their number has at most 64 bits.
@@ -78,6 +79,17 @@ impl Lists {
     {
         write_next(self.ids, list, self.len)
     }
+
+    // The number of the first list with one number more that begins with this one.
+    pub(crate) fn run_start(self, front: &[u32]) -> u64
+        requires front { IsWindow self.len self.ids front.now }
+        requires longer { self.len < self.ids }
+        requires few { length (windows (self.len + 1) self.ids) < 2 ^ 64 }
+        ensures { IsRunStart self.len self.ids front.now result }
+    {
+        let Lists { ids, len } = self;
+        self.number(front) * (u64::from(ids) - len as u64)
+    }
 }
 
 // Whether at most `most` lists of this length are there.
@@ -116,7 +128,7 @@ fn smaller_before(before: &[u32], x: u32) -> usize
 }
 
 // How many numbers below x are not among the distinct ones before.
-fn unused_below(before: &[u32], x: u32) -> u64
+pub(crate) fn unused_below(before: &[u32], x: u32) -> u64
     requires { AllPairs (λ a b. a ≢ b) before.now }
     ensures { result ≡ length (unused x before.now) }
 {

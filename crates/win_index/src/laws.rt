@@ -27,6 +27,12 @@ pub fn count_of_windows()
     ensures { law.CountOfWindows }
 {}
 
+/// The windows of `k+1` identifiers that begin with one window of `k` stand together, in the order of their last
+/// identifiers.
+pub fn longer_windows_have_numbers()
+    ensures { law.LongerWindowsHaveNumbers }
+{}
+
 /// What stands around a place of a ring is a window.
 pub fn rings_have_windows()
     ensures { law.RingsHaveWindows }

@@ -9,15 +9,15 @@ mod ring;
 mod shape;
 
 pub use laws::{
-    blocks_are_few, count_of_windows, jobs_have_numbers, number_of_window, one_ring_fault,
-    places_of_arcs, rings_have_tuples, rings_have_windows, tuples_are_rings, window_of_number,
-    windows_are_in_order, windows_have_numbers,
+    blocks_are_few, count_of_windows, jobs_have_numbers, longer_windows_have_numbers,
+    number_of_window, one_ring_fault, places_of_arcs, rings_have_tuples, rings_have_windows,
+    tuples_are_rings, window_of_number, windows_are_in_order, windows_have_numbers,
 };
 pub use limits::{
     BLOCK_WINDOWS, MAX_BLOCKS, MAX_IDS, MAX_ROUNDS, MAX_TUPLE_LEN, MAX_WINDOW_LEN, MAX_WINDOWS,
 };
 pub use ring::{Ring, RingFault};
-pub use shape::{Shape, ShapeFault};
+pub use shape::{Shape, ShapeFault, place_among_unused};
 
 #[cfg(test)]
 mod tests;

@@ -1,8 +1,9 @@
-ghost use Rattle.std.specs.Prelude.{◌≤◌};
+ghost use Rattle.std.specs.Prelude.{◌≡◌, ◌≢◌, ◌≤◌, length, AllPairs};
 ghost use Rattle.win_index.specs.declared.limits.TheConstants.{MAX_ROUNDS};
 ghost use Rattle.win_index.specs.ShapeRange.{HasIds, HasFewWindows};
+ghost use Rattle.win_index.specs.Windows.{unused};
 
-use crate::arrangement::{Lists, are_few};
+use crate::arrangement::{Lists, are_few, unused_below};
 use crate::limits::{MAX_IDS, MAX_ROUNDS, MAX_WINDOWS};
 
 /// Why there is no shape.
@@ -28,9 +29,10 @@ pub struct Shape {
 }
 
 impl Shape {
-    ghost use Rattle.std.specs.Prelude.{◌≡◌, ◌+◌, ◌*◌, ◌<◌, ◌↔◌, IfOk, IfErr, IfSome, IsOk, Some, length, slice_get};
+    ghost use Rattle.std.specs.Prelude.{◌≡◌, ◌+◌, ◌*◌, ◌<◌, ◌↔◌, IfOk, IfErr, IfSome, IsOk, Some, length, take, slice_get};
     ghost use Rattle.std.specs.Bool.{OnTrue, OnFalse};
     ghost use Rattle.win_index.specs.Windows.{windows, number_of, IsWindow};
+    ghost use Rattle.win_index.specs.Runs.{IsRunStart};
     ghost use Rattle.win_index.specs.Successor.{IsNext, IsLast};
     ghost use Rattle.win_index.specs.ShapeRange.{IsShape};
     ghost use Rattle.win_index.specs.ShapeFaults.{IsFirstShapeFault};
@@ -103,6 +105,29 @@ impl Shape {
         self.windows(level).number(window) as u32
     }
 
+    /// The number of the first window of this level that begins with these `2r` identifiers. The windows that begin with
+    /// them follow one another, in the order of their last identifiers.
+    pub fn run_start(&self, level: u32, front: &[u32]) -> u32
+        requires level { level ≤ self.now.rounds }
+        requires front { IsWindow (2 * level) self.now.ids front.now }
+        ensures { IsRunStart (2 * level) self.now.ids front.now result }
+    {
+        self.fronts(level).run_start(front) as u32
+    }
+
+    /// The number of a window of this level, where the run of windows that begin with all its identifiers but the last
+    /// starts at this number.
+    pub fn number_in_run(&self, level: u32, start: u32, window: &[u32]) -> u32
+        requires level { level ≤ self.now.rounds }
+        requires window { IsWindow (2 * level + 1) self.now.ids window.now }
+        requires start { IsRunStart (2 * level) self.now.ids (take (2 * level) window.now) start }
+        ensures number { number_of (2 * level + 1) self.now.ids window.now ≡ Some result }
+        ensures item { slice_get (windows (2 * level + 1) self.now.ids) result ≡ Some window.now }
+    {
+        let last = 2 * level as usize;
+        start + place_among_unused(&window[..last], window[last])
+    }
+
     /// Writes the window of this level with this number into the `2r+1` cells of `out`.
     pub fn window(&self, level: u32, number: u32, out: &mut [u32])
         requires level { level ≤ self.now.rounds }
@@ -169,6 +194,20 @@ impl Shape {
         }
     }
 
+    // The lists of all identifiers but the last of the windows of this level.
+    fn fronts(&self, level: u32) -> Lists
+        requires { level ≤ self.now.rounds }
+        ensures ids { result.ids ≡ self.now.ids }
+        ensures len { result.len ≡ 2 * level }
+        ensures longer { result.len < result.ids }
+        ensures few { length (windows (result.len + 1) result.ids) ≤ MAX_WINDOWS }
+    {
+        Lists {
+            ids: self.ids,
+            len: 2 * level as usize,
+        }
+    }
+
     // The tuples.
     fn all_tuples(&self) -> Lists
         ensures ids { result.ids ≡ self.now.ids }
@@ -179,4 +218,13 @@ impl Shape {
             len: 2 * self.rounds as usize + 2,
         }
     }
+}
+
+/// How many identifiers below this one a list of distinct ones lacks: its place among the identifiers that the list
+/// lacks, where it is one of them.
+pub fn place_among_unused(list: &[u32], id: u32) -> u32
+    requires { AllPairs (λ a b. a ≢ b) list.now }
+    ensures { result ≡ length (unused id list.now) }
+{
+    unused_below(list, id) as u32
 }

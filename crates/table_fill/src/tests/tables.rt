@@ -10,6 +10,8 @@ fn cv1_has_a_channel_at_each_window(rt: HostRuntime) -> Result<(), Fail> {
     let shape = table.shape();
     let count = shape.count(shape.rounds());
     assert!(rt; count == 336);
+    assert_eq!(rt; table.entries().len(), 336);
+    assert!(rt; table.entries()[256] == 2);
     assert_eq!(rt; table.channels(), 6);
     let rows = [
         (0, [0, 1, 2], 1),

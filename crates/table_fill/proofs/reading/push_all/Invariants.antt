@@ -12,5 +12,6 @@ invariant-loop-number l =
       pass : IsPassOf l.memo l.pass;
       kept : Grows (known l.fn.pass) (known l.pass);
       known : KnowsAll l.plan (known l.pass);
+      entries : l.entries ≡ l.plan;
       maker : l.maker ≡ begun l.plan.program l.plan.ids (256 * l.number);
     }

@@ -6,7 +6,7 @@ abbrev pub invariant-loop-job : goal.invariant-loop-job
 invariant-loop-job g l = record {
   ticket : IsTicketOf l.desk l.ticket;
   untold : told l.ticket ≡ 0;
-  reader : l.reader.pass.now.plan.now ≡ l.self.plan.now;
+  reader : l.cells.reader.pass.now.plan.now ≡ l.self.plan.now;
 }
 
 abbrev pub decreases-loop-job : goal.decreases-loop-job

@@ -1,9 +1,0 @@
-use Rattle.shared_memo.specs.Passes.{known}
-use Rattle.table_fill.proofs.BelowBlocks.{missing_is_block}
-use Rattle.table_fill.proofs.cell.ReaderCells.make.Goals as goal
-
-pub returns-in-Err-clause-missing : goal.returns-in-Err-clause-missing
-returns-in-Err-clause-missing c =
-    let fault = rw c.plan-plan.ensures at c.in-Err.ensures.fault in
-    missing_is_block c.window_of_number.ensures c.args.self.now.pass.now.plan.now (known c.make_block.new.source.pass.now) c.args.level
-    c.args.number c.in-Err.fault c.requires.0 fault

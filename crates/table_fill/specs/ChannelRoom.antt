@@ -1,0 +1,27 @@
+-- Room in which the channels of a block's windows are read. No public contract cites this file.
+use Rattle.std.specs.Prelude.{◌≡◌, ℕ, ◌+◌, ◌*◌, ◌<◌, ◌≤◌, List, length, slice_index}
+use Rattle.node_lang.specs.Term.{terms}
+use Rattle.win_index.specs.declared.limits.TheConstants.{BLOCK_WINDOWS}
+use Rattle.lang_check.specs.Plans.{ProgramForIds}
+use Rattle.round_columns.specs.States.{NodeStates}
+use Rattle.round_columns.specs.Room.{Room}
+use Rattle.round_columns.specs.StackNeed.{most_columns}
+use Rattle.unroll.specs.BlockStates.{block_len, window_numbered}
+use Rattle.table_fill.specs.ProgramTables.{window_channel}
+
+-- columns for the registers of the plan at 256 windows
+abbrev pub IsStatesRoom : ProgramForIds → NodeStates → Type 0
+IsStatesRoom plan states = (states.registers ≡ length plan.program.start) × (length states.states ≡ BLOCK_WINDOWS)
+
+-- room for the states of a block of the plan and for their channels
+pub record IsChannelRoom (plan : ProgramForIds) (work : Room) (states : NodeStates) (channels : List ℕ) : Type 0 where
+  pub room : most_columns (terms plan.program) ≤ work.columns
+  pub width : work.width ≡ BLOCK_WINDOWS
+  pub states_wide : IsStatesRoom plan states
+  pub channels_wide : length channels ≡ BLOCK_WINDOWS
+
+-- the channels of the windows of block b of the last level, each below the number of channels
+abbrev pub AreChannels : ProgramForIds → ℕ → List ℕ → Type 0
+AreChannels plan b channels = (i : ℕ) → i < block_len plan.ids (length plan.program.steps) b
+    → (slice_index channels i ≡ window_channel plan.program (window_numbered plan.ids (length plan.program.steps) (256 * b + i)))
+    × (slice_index channels i < plan.program.channels)

@@ -1,0 +1,64 @@
+// The channels of a block of the last level: its states in columns, their channels, the entries of the table.
+ghost use Rattle.std.specs.Prelude.{◌≡◌, ℕ, ◌+◌, ◌*◌, ◌<◌, ◌≤◌, [], length, slice_index, slice_index_or};
+ghost use Rattle.node_lang.specs.Term.{terms};
+ghost use Rattle.lang_check.specs.Plans.{ProgramForIds};
+ghost use Rattle.win_index.specs.declared.limits.TheConstants.{BLOCK_WINDOWS};
+ghost use Rattle.round_columns.specs.StackNeed.{most_columns};
+ghost use Rattle.unroll.specs.BlockStates.{block_len, block_state};
+ghost use Rattle.shared_memo.specs.PlanJobs.{IsKeyedBlock};
+ghost use Rattle.table_fill.specs.ChannelRoom.{IsStatesRoom, AreChannels};
+ghost use Rattle.table_fill.specs.ProgramTables.{begun};
+
+use crate::maker::TableMaker;
+use round_columns::{Code, Columns, Work, channel_columns};
+use unroll::{Block, windows_are_within};
+use win_index::{number_of_window, windows_have_numbers};
+
+// Writes the states of a block into columns.
+pub(crate) fn put_block(block: &Block<'_>, states: &mut Columns)
+    requires room { IsStatesRoom block.now.plan states.old }
+    ensures room { IsStatesRoom block.now.plan states.new }
+    ensures states { (i : ℕ) → i < block_len block.now.plan.ids block.now.level block.now.number
+        → slice_index_or states.new.states i [] ≡ block_state block.now.plan block.now.level block.now.number i }
+{
+    for i in 0..block.len() {
+        states.put_state(i as usize, block.state(i));
+    }
+}
+
+// Writes the channels of a block of the last level, whose states stand in columns.
+pub(crate) fn write_channels(
+    code: &Code,
+    block: &Block<'_>,
+    states: &Columns,
+    work: &mut Work,
+    channels: &mut [u32],
+)
+    requires code { code.now ≡ block.now.plan }
+    requires last { block.now.level ≡ length block.now.plan.program.steps }
+    requires room { (most_columns (terms block.now.plan.program) ≤ work.old.columns) × (work.old.width ≡ BLOCK_WINDOWS) }
+    requires wide { IsStatesRoom block.now.plan states.now × (length channels.old ≡ BLOCK_WINDOWS) }
+    requires states { (i : ℕ) → i < block_len block.now.plan.ids block.now.level block.now.number
+        → slice_index_or states.now.states i [] ≡ block_state block.now.plan block.now.level block.now.number i }
+    ensures work { work.new ≡ work.old }
+    ensures wide { length channels.new ≡ BLOCK_WINDOWS }
+    ensures channels { AreChannels block.now.plan block.now.number channels.new }
+{
+    windows_are_within();
+    number_of_window();
+    windows_have_numbers();
+    channel_columns(code, states, work, channels);
+}
+
+// Gives the windows of a block of the last level their channels.
+pub(crate) fn push_channels(channels: &[u32], block: &Block<'_>, maker: &mut TableMaker)
+    requires wide { length channels.now ≡ BLOCK_WINDOWS }
+    requires channels { AreChannels block.now.plan block.now.number channels.now }
+    requires last { block.now.level ≡ length block.now.plan.program.steps }
+    requires maker { maker.old ≡ begun block.now.plan.program block.now.plan.ids (256 * block.now.number) }
+    ensures { maker.new ≡ begun block.now.plan.program block.now.plan.ids (256 * (block.now.number + 1)) }
+{
+    for i in 0..block.len() {
+        maker.push(channels[i as usize]);
+    }
+}

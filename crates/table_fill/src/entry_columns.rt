@@ -1,0 +1,73 @@
+use crate::block_channels::{push_channels, put_block, write_channels};
+use crate::maker::TableMaker;
+use lang_check::Plan;
+use node_lang::OutOfMemory;
+use round_columns::{Code, Columns, Work};
+use round_eval::width_of;
+use std::alloc::Global;
+use std::marker::Model;
+use unroll::Block;
+use win_index::BLOCK_WINDOWS;
+
+// What reads the channels of a plan's blocks of the last level, block by block. It is seen as the plan.
+#[derive(Drop)]
+pub(crate) struct EntryColumns {
+    pub(crate) code: Code,
+    pub(crate) work: Work,
+    pub(crate) states: Columns,
+    pub(crate) channels: Vec<u32>,
+}
+
+impl Model for EntryColumns {
+    ghost use Rattle.lang_check.specs.Plans.{ProgramForIds, plan_code};
+    ghost use Rattle.table_fill.specs.ChannelRoom.{IsChannelRoom};
+
+    ghost Value = { ProgramForIds };
+
+    ghost coded = { plan_code };
+
+    ghost view = { λ e. e.code };
+
+    ghost invariant = { λ e. IsChannelRoom e.code e.work e.states e.channels.items };
+}
+
+impl EntryColumns {
+    ghost use Rattle.std.specs.Prelude.{◌≡◌, ◌+◌, ◌*◌, length, IfOk};
+    ghost use Rattle.shared_memo.specs.PlanJobs.{IsKeyedBlock};
+    ghost use Rattle.table_fill.specs.ProgramTables.{begun};
+
+    // Room for the blocks of a plan. The error comes where memory was refused.
+    pub(crate) fn new(alloc: Global, plan: &Plan) -> Result<EntryColumns, OutOfMemory>
+        ensures { IfOk result (λ entries. entries ≡ plan.now) }
+    {
+        let width = BLOCK_WINDOWS as usize;
+        let code = Code::new(alloc, plan)?;
+        let work = Work::new(alloc, &code, width)?;
+        let states = Columns::new(alloc, width_of(plan), width)?;
+        let channels = vec![in alloc; 0; width].map_err(|_| OutOfMemory)?;
+        Ok(EntryColumns {
+            code,
+            work,
+            states,
+            channels,
+        })
+    }
+
+    // Gives the windows of a block of the last level their channels.
+    pub(crate) fn push_block(&mut self, block: &Block<'_>, maker: &mut TableMaker)
+        requires block { IsKeyedBlock self.old (length self.old.program.steps) block.now.number block.now }
+        requires maker { maker.old ≡ begun self.old.program self.old.ids (256 * block.now.number) }
+        ensures same { self.new ≡ self.old }
+        ensures maker { maker.new ≡ begun self.old.program self.old.ids (256 * (block.now.number + 1)) }
+    {
+        put_block(block, &mut self.states);
+        write_channels(
+            &self.code,
+            block,
+            &self.states,
+            &mut self.work,
+            &mut self.channels,
+        );
+        push_channels(&self.channels, block, maker)
+    }
+}

@@ -1,0 +1,72 @@
+-- Windows that begin with the same identifiers share what a run says.
+use Rattle.std.proofs.Common.{◌≡◌, ℕ, ◌+◌, ◌-◌, ◌*◌, ◌/◌, ◌<◌, ◌≤◌, List, length, take, drop, IsSome, sym, ap, ◌∙◌, arith, subst}
+use Rattle.std.proofs.lemmas.List.{drop-take, take-take, length-take-le, get_or-take, get_or-drop, length-drop}
+use Rattle.win_index.specs.Windows.{IsWindow}
+use Rattle.lang_check.specs.Plans.{ProgramForIds}
+use Rattle.unroll.specs.Below.{part}
+use Rattle.unroll.specs.Entries.{Entries, Grows}
+use Rattle.unroll.specs.Parts.{KnowsPart, IsRun}
+use Rattle.unroll.specs.declared.run.Run.{Run}
+use Rattle.unroll.proofs.Known.{still_known}
+
+-- identifiers that stand before the last one of a front
+inside_front : (w : List ℕ) (n d len : ℕ) → d + len ≤ n → take len (drop d w) ≡ take len (drop d (take n w))
+inside_front w n d len fits =
+    let whole : d + (n - d) ≡ n = omega arith in
+    sym (ap (take len) (subst (λ k. drop d (take k w) ≡ take (n - d) (drop d w)) whole (drop-take d (n - d) w)) ∙ take-take len (n - d) (drop d w) (omega arith))
+
+same_inside : (w v : List ℕ) (n d len : ℕ) → d + len ≤ n → take n w ≡ take n v → take len (drop d w) ≡ take len (drop d v)
+same_inside w v n d len fits same =
+    inside_front w n d len fits ∙ ap (λ front. take len (drop d front)) same ∙ sym (inside_front v n d len fits)
+
+pub same_run :
+    (plan : ProgramForIds) (entries : Entries) (low : ℕ) (w v : List ℕ) (run : Run)
+    → take (2 * low + 2) w ≡ take (2 * low + 2) v → IsRun plan entries low w run → IsRun plan entries low v run
+same_run plan entries low w v run same is =
+    let left : part w low 0 ≡ part v low 0 = same_inside w v (2 * low + 2) 0 (2 * low + 1) (omega arith) same in
+    let middle : part w low 1 ≡ part v low 1 = same_inside w v (2 * low + 2) 1 (2 * low + 1) (omega arith) same in
+    let rest : take (2 * low) (drop 2 w) ≡ take (2 * low) (drop 2 v) = same_inside w v (2 * low + 2) 2 (2 * low) (omega arith) same in
+    record {
+      start_is = rw rest at is.start_is;
+      left_is = rw left at is.left_is;
+      own_is = rw middle at is.own_is;
+      left_cells = is.left_cells;
+      own_cells = is.own_cells;
+      left_known = rw left at is.left_known;
+      own_known = rw middle at is.own_known;
+    }
+
+-- a run stays one where the source comes to know more
+pub run_grows :
+    (plan : ProgramForIds) (old new : Entries) (low : ℕ) (w : List ℕ) (run : Run) → Grows old new → IsRun plan old low w run → IsRun plan new low w run
+run_grows plan old new low w run grows is =
+    record {
+      start_is = is.start_is;
+      left_is = is.left_is;
+      own_is = is.own_is;
+      left_cells = is.left_cells;
+      own_cells = is.own_cells;
+      left_known = λ n number. still_known old new low (n / 256) grows (is.left_known n number);
+      own_known = λ n number. still_known old new low (n / 256) grows (is.own_known n number);
+    }
+
+-- identifiers of a window that follow one another are a window
+pub slice_window : (m n d len : ℕ) (w : List ℕ) → IsWindow n m w → d + len ≤ n → IsWindow len m (take len (drop d w))
+slice_window m n d len w is fits =
+    let size = is.size in
+    let many = length-drop d w in
+    let long : length (take len (drop d w)) ≡ len = length-take-le len (drop d w) (omega arith) in
+    record {
+      size = long;
+      below = λ i e lt.
+          let short : i < len = omega arith in
+          rw (get_or-take len (drop d w) i e short, get_or-drop d w i e) (is.below (d + i) e (omega arith));
+      distinct = λ i j e lt within.
+          let short : j < len = omega arith in
+          let before : i < len = omega arith in
+          rw (get_or-take len (drop d w) i e before, get_or-take len (drop d w) j e short, get_or-drop d w i e, get_or-drop d w j e) (is.distinct (d + i) (d + j) e (omega arith) (omega arith));
+    }
+
+-- the last part of a window, without its last identifier
+pub last_front : (low : ℕ) (w : List ℕ) → take (2 * low) (part w low 2) ≡ take (2 * low) (drop 2 w)
+last_front low w = take-take (2 * low) (2 * low + 1) (drop 2 w) (omega arith)

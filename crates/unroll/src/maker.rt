@@ -1,0 +1,121 @@
+use crate::block::Block;
+use crate::fault::MakeFault;
+use crate::gathering::{gather, len_of, scatter, start_states, step_parts};
+use crate::part_columns::{PartColumns, wide_columns};
+use crate::source::Source;
+use lang_check::Plan;
+use node_lang::OutOfMemory;
+use round_columns::{Code, Columns, Work};
+use round_eval::width_of;
+use std::alloc::Global;
+use std::marker::Model;
+use win_index::{BLOCK_WINDOWS, MAX_WINDOW_LEN};
+
+/// Makes blocks of a plan, one after another, in columns that it keeps from one block to the next. It is seen as the
+/// plan.
+#[derive(Drop)]
+pub struct BlockMaker<'p> {
+    pub(crate) plan: &'p Plan,
+    pub(crate) code: Code,
+    pub(crate) work: Work,
+    pub(crate) parts: PartColumns,
+    pub(crate) made: Columns,
+}
+
+impl<'p> Model for BlockMaker<'p> {
+    ghost use Rattle.lang_check.specs.Plans.{ProgramForIds, plan_code};
+    ghost use Rattle.unroll.specs.WideColumns.{IsReady};
+
+    ghost Value = { ProgramForIds };
+
+    ghost coded = { plan_code };
+
+    ghost view = { λ m. m.plan.now };
+
+    ghost invariant = { λ m. IsReady m.plan.now m.code m.work m.parts m.made };
+}
+
+impl<'p> BlockMaker<'p> {
+    ghost use Rattle.std.specs.Prelude.{◌≡◌, ℕ, ◌+◌, ◌*◌, ◌<◌, ◌≤◌, length, IsSome, IfOk, IfErr, OnOk, IsErrOf};
+    ghost use Rattle.unroll.specs.Below.{IsBelow};
+    ghost use Rattle.unroll.specs.Entries.{Grows};
+    ghost use Rattle.unroll.specs.MakeFaults.{IsMakeFault};
+    ghost use Rattle.win_index.specs.Blocks.{block_count};
+
+    /// A maker of the blocks of a plan. The error comes where memory was refused.
+    pub fn new(alloc: Global, plan: &'p Plan) -> Result<BlockMaker<'p>, OutOfMemory>
+        ensures { IfOk result (λ maker. maker ≡ plan.now) }
+    {
+        let code = Code::new(alloc, plan)?;
+        let work = Work::new(alloc, &code, BLOCK_WINDOWS as usize)?;
+        let parts = PartColumns {
+            left: wide_columns(alloc, plan)?,
+            own: wide_columns(alloc, plan)?,
+            right: wide_columns(alloc, plan)?,
+        };
+        let made = wide_columns(alloc, plan)?;
+        Ok(BlockMaker {
+            plan,
+            code,
+            work,
+            parts,
+            made,
+        })
+    }
+
+    /// The block of the plan with this level, number and maker, as `make_block` makes it; memory is taken for its states
+    /// alone.
+    pub fn make<'s, S: Source<'s>>(
+        &mut self,
+        alloc: Global,
+        source: &mut S,
+        level: u32,
+        number: u32,
+        maker: u32,
+    ) -> Result<Block<'p>, MakeFault>
+        requires plan { S.plan source.old ≡ self.old }
+        requires level { level ≤ length self.old.program.steps }
+        requires number { number < block_count self.old.ids level }
+        ensures same { self.new ≡ self.old }
+        ensures same_plan { S.plan source.new ≡ S.plan source.old }
+        ensures same_fixed { S.fixed source.new ≡ S.fixed source.old }
+        ensures grows { Grows (S.entries source.old) (S.entries source.new) }
+        ensures not_asked { level ≡ 0 → source.new ≡ source.old }
+        ensures block { IfOk result (λ b. (b.plan ≡ self.old) × (b.level ≡ level) × (b.number ≡ number) × (b.maker ≡ maker)) }
+        ensures known { OnOk result ((low c : ℕ) → IsBelow self.old.ids level number low c
+            → IsSome (S.entries source.new low c)) }
+        ensures fault { IfErr result (IsMakeFault (S.entries source.new) self.old.ids level number) }
+        ensures no_memory { IsErrOf result MakeFault.OutOfMemory → source.new ≡ source.old }
+    {
+        let plan = self.plan;
+        let shape = plan.shape();
+        let len = len_of(shape, level, number);
+        let cells = len as usize * width_of(plan);
+        let mut states = vec![in alloc; 0; cells].map_err(|_| MakeFault::OutOfMemory)?;
+        let mut ids = [0; MAX_WINDOW_LEN];
+        let window = &mut ids[..2 * level as usize + 1];
+        shape.window(level, BLOCK_WINDOWS * number, window);
+        if level == 0 {
+            start_states(plan, number, window, &mut states);
+        } else {
+            gather(plan, source, level - 1, number, window, &mut self.parts)?;
+            step_parts(
+                plan,
+                &self.code,
+                level - 1,
+                &self.parts,
+                &mut self.work,
+                &mut self.made,
+            );
+            scatter(&self.made, len as usize, &mut states);
+        }
+        Ok(Block {
+            plan,
+            level,
+            number,
+            maker,
+            len,
+            states,
+        })
+    }
+}

@@ -1,0 +1,44 @@
+// The states of the three parts of windows, in columns.
+ghost use Rattle.std.specs.Prelude.{◌≡◌, ◌<◌, length, set, IfOk};
+ghost use Rattle.unroll.specs.WideColumns.{IsWide};
+
+use lang_check::Plan;
+use node_lang::OutOfMemory;
+use round_columns::Columns;
+use round_eval::width_of;
+use std::alloc::Global;
+use win_index::BLOCK_WINDOWS;
+
+// The states of the first, of the middle and of the last parts of up to 256 windows.
+#[derive(Drop)]
+pub(crate) struct PartColumns {
+    pub(crate) left: Columns,
+    pub(crate) own: Columns,
+    pub(crate) right: Columns,
+}
+
+impl PartColumns {
+    // Writes the states of the parts of a window.
+    pub(crate) fn put(&mut self, place: usize, left: &[u32], own: &[u32], right: &[u32])
+        requires place { place < length self.old.left.states }
+        requires own_place { place < length self.old.own.states }
+        requires right_place { place < length self.old.right.states }
+        requires left { length left.now ≡ self.old.left.registers }
+        requires own { length own.now ≡ self.old.own.registers }
+        requires right { length right.now ≡ self.old.right.registers }
+        ensures left { self.new.left ≡ record self.old.left { states = set self.old.left.states place left.now } }
+        ensures own { self.new.own ≡ record self.old.own { states = set self.old.own.states place own.now } }
+        ensures right { self.new.right ≡ record self.old.right { states = set self.old.right.states place right.now } }
+    {
+        self.left.put_state(place, left);
+        self.own.put_state(place, own);
+        self.right.put_state(place, right);
+    }
+}
+
+// Columns for the states of 256 windows.
+pub(crate) fn wide_columns(alloc: Global, plan: &Plan) -> Result<Columns, OutOfMemory>
+    ensures { IfOk result (IsWide plan.now) }
+{
+    Columns::new(alloc, width_of(plan), BLOCK_WINDOWS as usize)
+}
