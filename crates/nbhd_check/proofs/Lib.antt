@@ -1,1 +1,4 @@
+pub mod Fronts
+pub mod GapPlaces
+pub mod Runs
 pub mod Tuples

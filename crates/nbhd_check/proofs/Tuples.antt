@@ -1,6 +1,5 @@
 -- Tuples suffice: the windows of neighbours are the first and the last window of a tuple.
-use Rattle.std.proofs.Common.{◌≡◌, ℕ, ◌+◌, ◌-◌, ◌*◌, ◌<◌, ◌≤◌, Option, List, length, get_or, slice_get, Some, None, IsSome, subst, sym, ap, ◌∙◌, arith, refl}
-use Rattle.std.proofs.lemmas.Bool.{false≢true}
+use Rattle.std.proofs.Common.{◌≡◌, ℕ, ◌+◌, ◌-◌, ◌*◌, ◌<◌, ◌≤◌, List, length, get_or, slice_get, Some, IsSome, subst, sym, ap, ◌∙◌, arith, refl}
 use Rattle.std.proofs.lemmas.Option.{slice_get-get_or, slice_get_within, get_or_from_slice_get, same_Some}
 use Rattle.win_index.specs.Arcs.{arc, window_around, part_at}
 use Rattle.win_index.specs.Laws.{NumberOfWindow, WindowOfNumber, WindowsHaveNumbers, TuplesAreRings, RingsHaveTuples}
@@ -9,11 +8,7 @@ use Rattle.table_fill.specs.Tables.{ChannelTable, channel_of}
 use Rattle.nbhd_check.specs.Laws.{TuplesSuffice, BadTuplesAreRings, OneWitness, GoodTablesHaveNoWitness}
 use Rattle.nbhd_check.specs.Proper.{tuples, IsBad, NoneIsBad, IsLeastBad, IsProper, IsGoodEverywhere}
 use Rattle.nbhd_check.specs.Verdicts.{IsWitness}
-
--- a list that has a number stands at it
-some_number : (o : Option ℕ) → IsSome o → (n : ℕ) × (o ≡ Some n)
-some_number (Some n) is = (n, refl)
-some_number None is = absurd (false≢true is)
+use Rattle.nbhd_check.proofs.Fronts.{some_number}
 
 module _ (has_number : WindowsHaveNumbers) (item_of : WindowOfNumber) (number_at : NumberOfWindow) (is_ring : TuplesAreRings)
     (has_tuple : RingsHaveTuples) where

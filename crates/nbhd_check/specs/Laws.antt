@@ -1,5 +1,6 @@
 -- The statements of the laws of this crate, one definition each.
 use Rattle.std.specs.Prelude.{◌≡◌, ◌↔◌, ℕ, ◌+◌, ◌*◌, List}
+use Rattle.win_index.specs.Laws.{NumberOfWindow, WindowOfNumber, WindowsHaveNumbers, LongerWindowsHaveNumbers}
 use Rattle.win_index.specs.Ring.{IsRing}
 use Rattle.win_index.specs.Arcs.{window_around}
 use Rattle.win_index.specs.Windows.{IsWindow}
@@ -27,3 +28,10 @@ OneWitness =
 -- a table that is good everywhere has none
 abbrev pub GoodTablesHaveNoWitness : Type 0
 GoodTablesHaveNoWitness = (t : ChannelTable) (ring : List ℕ) (place c : ℕ) → IsGoodEverywhere t → IsWitness t ring place c → ⊥
+
+-- windows and their numbers determine each other, and the windows that begin with one window stand together
+pub record WindowsAreNumbered : Type 0 where
+  pub number_at : NumberOfWindow
+  pub item_of : WindowOfNumber
+  pub has_number : WindowsHaveNumbers
+  pub longer_number : LongerWindowsHaveNumbers

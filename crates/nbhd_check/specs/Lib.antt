@@ -1,4 +1,5 @@
--- The definitions that the contracts cite: proper tables, good tables, the judge's verdict, and the laws.
+-- The definitions that the contracts cite: proper tables, good tables, runs of tuples, the judge's verdict, and the laws.
 pub mod Proper
+pub mod Runs
 pub mod Verdicts
 pub mod Laws

@@ -1,7 +1,8 @@
 ghost use Rattle.nbhd_check.specs.Laws as law;
 
 use win_index::{
-    number_of_window, rings_have_tuples, tuples_are_rings, window_of_number, windows_have_numbers,
+    longer_windows_have_numbers, number_of_window, rings_have_tuples, tuples_are_rings,
+    window_of_number, windows_have_numbers,
 };
 
 /// Tuples suffice: a table is proper exactly where it is good everywhere, and a bad tuple, taken as a
@@ -24,4 +25,14 @@ pub fn one_witness()
     ensures none { law.GoodTablesHaveNoWitness }
 {
     tuples_suffice();
+}
+
+// What windows and their numbers have in common.
+pub(crate) fn numbers_of_windows()
+    ensures { law.WindowsAreNumbered }
+{
+    number_of_window();
+    window_of_number();
+    windows_have_numbers();
+    longer_windows_have_numbers();
 }

@@ -1,8 +1,11 @@
 //! The judge: whether neighbours' channels differ on every ring.
 #![tactic(auto)]
 
+mod gaps;
 mod laws;
 mod part;
+mod run;
+mod tuple;
 mod verdict;
 
 pub use laws::{one_witness, tuples_suffice};

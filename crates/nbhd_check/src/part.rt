@@ -1,11 +1,15 @@
-ghost use Rattle.std.specs.Prelude.{◌≡◌, ℕ, List, ◌+◌, ◌*◌, ◌<◌, ◌≤◌, ◌↔◌, IsTrue, MatchOption, Some, length, slice_get};
+ghost use Rattle.std.specs.Prelude.{◌≡◌, ℕ, List, ◌+◌, ◌-◌, ◌*◌, ◌/◌, ◌<◌, ◌≤◌, MatchOption, Some, length, slice_get, max, min};
+ghost use Rattle.win_index.specs.declared.limits.TheConstants.{MAX_IDS};
 ghost use Rattle.win_index.specs.Windows.{IsWindow};
-ghost use Rattle.win_index.specs.Arcs.{part_at};
-ghost use Rattle.table_fill.specs.Tables.{channel_of};
-ghost use Rattle.nbhd_check.specs.Proper.{tuples, IsBad, NoneIsBad, IsLeastBad};
+ghost use Rattle.table_fill.specs.Tables.{windows_of};
+ghost use Rattle.nbhd_check.specs.Proper.{tuples, NoneIsBad, IsLeastBad};
+ghost use Rattle.nbhd_check.specs.Runs.{run_len};
 
+use crate::laws::numbers_of_windows;
+use crate::run::begins_a_bad_tuple;
+use crate::tuple::least_bad_tuple;
 use table_fill::Table;
-use win_index::{MAX_TUPLE_LEN, rings_have_windows, tuples_are_rings};
+use win_index::{MAX_WINDOW_LEN, count_of_windows};
 
 /// The least number from `low` on and below `high` of a bad tuple, which is a tuple whose first and last
 /// window have one channel, or `None` where none is bad.
@@ -18,89 +22,65 @@ pub fn judge_part(table: &Table, low: u64, high: u64) -> Option<u64>
     if low == high {
         return None;
     }
-    let mut cells = [0; MAX_TUPLE_LEN];
-    let tuple = &mut cells[..tuple_len(table)];
-    write_tuple(table, low, tuple);
-    scan(table, tuple, low, high)
+    let shape = table.shape();
+    let level = shape.rounds();
+    let first = (low / run_len(table)) as u32;
+    let mut cells = [0; MAX_WINDOW_LEN];
+    let window = &mut cells[..2 * level as usize + 1];
+    shape.window(level, first, window);
+    scan_runs(table, window, first, low, high)
 }
 
-// How many tuples there are.
-pub(crate) fn tuple_count(table: &Table) -> u64
-    ensures { result ≡ length (tuples table.now) }
+// How many tuples begin with one window.
+fn run_len(table: &Table) -> u64
+    ensures value { result ≡ run_len table.now }
+    ensures some { 0 < result }
+    ensures few { result ≤ MAX_IDS }
+    ensures all { length (tuples table.now) ≡ length (windows_of table.now) * result }
 {
-    table.shape().tuples()
+    count_of_windows();
+    let shape = table.shape();
+    u64::from(shape.ids()) - (2 * u64::from(shape.rounds()) + 1)
 }
 
-// How many identifiers a tuple has.
-pub(crate) fn tuple_len(table: &Table) -> usize
-    ensures length { result ≡ 2 * table.now.rounds + 2 }
-    ensures few { result ≤ MAX_TUPLE_LEN }
-{
-    2 * table.shape().rounds() as usize + 2
-}
-
-// Writes the tuple with this number.
-pub(crate) fn write_tuple(table: &Table, number: u64, out: &mut [u32])
-    requires below { number < length (tuples table.now) }
-    requires room { length out.old ≡ 2 * table.now.rounds + 2 }
-    ensures item { slice_get (tuples table.now) number ≡ Some out.new }
-    ensures tuple { IsWindow (2 * table.now.rounds + 2) table.now.ids out.new }
-{
-    table.shape().tuple(number, out);
-}
-
-// The least number of a bad tuple, from the tuple with the number `low` on.
-fn scan(table: &Table, tuple: &mut [u32], low: u64, high: u64) -> Option<u64>
-    requires first { slice_get (tuples table.now) low ≡ Some tuple.old }
-    requires tuple { IsWindow (2 * table.now.rounds + 2) table.now.ids tuple.old }
+// The least number of a bad tuple, where the tuple with the number `low` begins with this window, whose number is `first`.
+fn scan_runs(table: &Table, window: &mut [u32], first: u32, low: u64, high: u64) -> Option<u64>
+    requires order { low < high }
     requires within { high ≤ length (tuples table.now) }
+    requires window { IsWindow (2 * table.now.rounds + 1) table.now.ids window.old }
+    requires item { slice_get (windows_of table.now) first ≡ Some window.old }
+    requires first { first ≡ low / run_len table.now }
     ensures { MatchOption result (NoneIsBad table.now low high)
         (λ n. (n < high) × ((tuple : List ℕ) × IsLeastBad table.now low n tuple)) }
 {
     let shape = table.shape();
-    for number in low..high {
-        if is_bad(table, tuple) {
-            return Some(number);
+    let last = ((high - 1) / run_len(table)) as u32;
+    for number in first..last + 1 {
+        if let Some(found) = least_in_run(table, window, number, low, high) {
+            return Some(found);
         }
-        shape.after(tuple);
+        shape.next_window(shape.rounds(), window);
     }
     None
 }
 
-// Whether the first and the last window of a tuple have one channel.
-fn is_bad(table: &Table, tuple: &[u32]) -> bool
-    requires { IsWindow (2 * table.now.rounds + 2) table.now.ids tuple.now }
-    ensures { IsTrue result ↔ IsBad table.now tuple.now }
+// The least number of a bad tuple that begins with this window.
+fn least_in_run(table: &Table, window: &[u32], number: u32, low: u64, high: u64) -> Option<u64>
+    requires window { IsWindow (2 * table.now.rounds + 1) table.now.ids window.now }
+    requires item { slice_get (windows_of table.now) number ≡ Some window.now }
+    requires within { high ≤ length (tuples table.now) }
+    requires begins { number * run_len table.now < high }
+    requires ends { low < number * run_len table.now + run_len table.now }
+    requires order { low < high }
+    ensures { let start = number * run_len table.now in
+        MatchOption result (NoneIsBad table.now (max low start) (min high (start + run_len table.now)))
+        (λ n. (n < high) × ((tuple : List ℕ) × IsLeastBad table.now (max low start) n tuple)) }
 {
-    first_channel(table, tuple) == last_channel(table, tuple)
-}
-
-// The channel of the first window of a tuple.
-pub(crate) fn first_channel(table: &Table, tuple: &[u32]) -> u32
-    requires { IsWindow (2 * table.now.rounds + 2) table.now.ids tuple.now }
-    ensures { channel_of table.now (part_at table.now.rounds 0 tuple.now) ≡ Some result }
-{
-    tuples_are_rings();
-    rings_have_windows();
-    let last = tuple.len() - 1;
-    channel_of_window(table, &tuple[..last])
-}
-
-// The channel of the last window of a tuple.
-fn last_channel(table: &Table, tuple: &[u32]) -> u32
-    requires { IsWindow (2 * table.now.rounds + 2) table.now.ids tuple.now }
-    ensures { channel_of table.now (part_at table.now.rounds 1 tuple.now) ≡ Some result }
-{
-    tuples_are_rings();
-    rings_have_windows();
-    channel_of_window(table, &tuple[1..])
-}
-
-// The channel of a window.
-fn channel_of_window(table: &Table, window: &[u32]) -> u32
-    requires { IsWindow (2 * table.now.rounds + 1) table.now.ids window.now }
-    ensures { channel_of table.now window.now ≡ Some result }
-{
-    let shape = table.shape();
-    table.entry(shape.window_number(shape.rounds(), window))
+    numbers_of_windows();
+    if !begins_a_bad_tuple(table, window, number) {
+        return None;
+    }
+    let free = run_len(table);
+    let start = u64::from(number) * free;
+    least_bad_tuple(table, low.max(start), high.min(start + free))
 }

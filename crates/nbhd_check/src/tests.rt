@@ -5,10 +5,8 @@ use std::test::Fail;
 use table_fill::{Table, TableMaker};
 use win_index::Shape;
 
-// The table of no rounds that gives each identifier its channel, of 128.
-fn table_of(rt: &impl Abort, alloc: Global, channels: &[u32]) -> Result<Table, Fail> {
-    assert!(rt; channels.len() <= 1024);
-    let shape = Shape::new(channels.len() as u32, 0).expect(rt, "a shape");
+// The table that gives each window its channel, of 128.
+fn table_of(rt: &impl Abort, alloc: Global, shape: Shape, channels: &[u32]) -> Result<Table, Fail> {
     assert!(rt; channels.len() == shape.count(shape.rounds()) as usize);
     let mut maker = TableMaker::new(alloc, shape, 128).map_err(|_| AllocError)?;
     for channel in channels {
@@ -16,6 +14,32 @@ fn table_of(rt: &impl Abort, alloc: Global, channels: &[u32]) -> Result<Table, F
         maker.push(*channel);
     }
     Ok(maker.done())
+}
+
+// The table of no rounds that gives each identifier its channel.
+fn table_of_identifiers(rt: &impl Abort, alloc: Global, channels: &[u32]) -> Result<Table, Fail> {
+    assert!(rt; channels.len() <= 1024);
+    let shape = Shape::new(channels.len() as u32, 0).expect(rt, "a shape");
+    table_of(rt, alloc, shape, channels)
+}
+
+// The table of one round and five identifiers that gives each window its middle, but one window another channel.
+fn table_of_middles(
+    rt: &impl Abort,
+    alloc: Global,
+    changed: usize,
+    channel: u32,
+) -> Result<Table, Fail> {
+    let shape = Shape::new(5, 1).expect(rt, "a shape");
+    let mut channels = Vec::new(alloc);
+    for number in 0..shape.count(1) {
+        let mut window = [0; 3];
+        shape.window(1, number, &mut window);
+        channels.push(window[1])?;
+    }
+    assert!(rt; changed < channels.len());
+    channels[changed] = channel;
+    table_of(rt, alloc, shape, &channels)
 }
 
 // The channels 0 to 126, and 32 once more.
@@ -37,7 +61,7 @@ fn the_least_bad_tuple_of_many(rt: HostRuntime) -> Result<(), Fail> {
         (&many, Some((&[32, 127], 0, 32))),
     ];
     for (channels, want) in rows {
-        let table = table_of(&rt, rt.alloc(), channels)?;
+        let table = table_of_identifiers(&rt, rt.alloc(), channels)?;
         let verdict = judge(rt.alloc(), &table).map_err(|_| AllocError)?;
         let found = match &verdict {
             Verdict::Yes => None,
@@ -54,12 +78,53 @@ fn the_least_bad_tuple_of_many(rt: HostRuntime) -> Result<(), Fail> {
 
 #[test]
 fn the_least_bad_tuple_of_a_part(rt: HostRuntime) -> Result<(), Fail> {
-    let table = table_of(&rt, rt.alloc(), &repeated_once(rt.alloc())?)?;
+    let table = table_of_identifiers(&rt, rt.alloc(), &repeated_once(rt.alloc())?)?;
     assert!(rt; table.shape().tuples() == 16_256);
     let rows = [
         (0, 4190, None),
         (4190, 16_256, Some(4190)),
         (4191, 16_256, Some(16_161)),
+        (4191, 16_161, None),
+        (16_161, 16_162, Some(16_161)),
+        (16_162, 16_256, None),
+    ];
+    for (low, high, want) in rows {
+        assert_eq!(rt; judge_part(&table, low, high), want, "{low} to {high}");
+    }
+    Ok(())
+}
+
+// The identifiers 1 and 2 share a channel: each stands beside the other's gap.
+#[test]
+fn bad_tuples_beside_the_gap(rt: HostRuntime) -> Result<(), Fail> {
+    let table = table_of_identifiers(&rt, rt.alloc(), &[0, 1, 1, 3])?;
+    assert!(rt; table.shape().tuples() == 12);
+    let rows = [
+        (0, 12, Some(4)),
+        (0, 4, None),
+        (4, 5, Some(4)),
+        (5, 12, Some(7)),
+        (5, 7, None),
+        (8, 12, None),
+        (12, 12, None),
+    ];
+    for (low, high, want) in rows {
+        assert_eq!(rt; judge_part(&table, low, high), want, "{low} to {high}");
+    }
+    Ok(())
+}
+
+// The window of 1, 2 and 3 has the channel 1: the bad tuples are 0, 1, 2, 3 and 4, 1, 2, 3.
+#[test]
+fn bad_tuples_of_one_round(rt: HostRuntime) -> Result<(), Fail> {
+    let table = table_of_middles(&rt, rt.alloc(), 16, 1)?;
+    assert!(rt; table.shape().tuples() == 120);
+    let rows = [
+        (0, 120, Some(0)),
+        (1, 120, Some(105)),
+        (1, 105, None),
+        (104, 106, Some(105)),
+        (106, 120, None),
     ];
     for (low, high, want) in rows {
         assert_eq!(rt; judge_part(&table, low, high), want, "{low} to {high}");

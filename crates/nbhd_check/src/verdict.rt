@@ -1,5 +1,6 @@
 use crate::laws::tuples_suffice;
-use crate::part::{first_channel, judge_part, tuple_count, tuple_len, write_tuple};
+use crate::part::judge_part;
+use crate::tuple::{first_channel, tuple_count, tuple_len, write_tuple};
 use node_lang::OutOfMemory;
 use std::alloc::Global;
 use table_fill::Table;

@@ -1,7 +1,7 @@
 use Rattle.std.proofs.Common.{◌≡◌, ◌+◌, ◌*◌, ◌<◌, Some, slice_get}
 use Rattle.win_index.specs.Windows.{IsWindow}
 use Rattle.nbhd_check.specs.Proper.{tuples, NoneIsBad}
-use Rattle.nbhd_check.proofs.part.scan.Given as goal
+use Rattle.nbhd_check.proofs.tuple.scan.Given as goal
 
 -- the tuple is the next one to be looked at, and none before it is bad
 abbrev pub invariant-loop-number : goal.invariant-loop-number

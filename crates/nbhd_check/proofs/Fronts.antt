@@ -1,0 +1,121 @@
+-- Windows by the windows that they begin with.
+use Rattle.std.proofs.Common.{◌≡◌, ◌≢◌, ℕ, suc, ◌+◌, ◌-◌, ◌*◌, ◌<◌, ◌≤◌, Option, List, [], ◌∷◌, ◌++◌, get_or, take, drop, slice_get, Some, None, IsSome, subst, sym, ap, ◌∙◌, arith, refl, ⊎_elim, length-drop}
+use Rattle.std.proofs.Math.Nat.{suc-mul, mul-le-mul_right}
+use Rattle.std.proofs.lemmas.Bool.{cases_lt, false≢true}
+use Rattle.std.proofs.lemmas.List.{get_or-take, get_or-drop, length-take-le, length_push, get_or_default}
+use Rattle.std.proofs.lemmas.List.Elements.{All-take, All-drop, All-push}
+use Rattle.std.proofs.lemmas.List.Quantifiers.{all_pairs_push}
+use Rattle.std.proofs.lemmas.Option.{same_Some}
+use Rattle.win_index.specs.Windows.{windows, number_of, IsWindow}
+use Rattle.nbhd_check.specs.Laws.{WindowsAreNumbered}
+use Rattle.nbhd_check.specs.Runs.{place_of_last}
+
+-- a list that has a number stands at it
+pub some_number : (o : Option ℕ) → IsSome o → (n : ℕ) × (o ≡ Some n)
+some_number (Some n) is = (n, refl)
+some_number None is = absurd (false≢true is)
+
+-- the first identifiers of a window are a window
+pub window_take : (k m j : ℕ) (list : List ℕ) → j ≤ k → IsWindow k m list → IsWindow j m (take j list)
+window_take k m j list le is =
+    let size = is.size in
+    let short = length-take-le j list (omega arith) in
+    record {
+      size = short;
+      below = All-take (λ x. x < m) j list is.below;
+      distinct = λ a b d lt within same.
+          is.distinct a b d lt (omega arith)
+          (sym (get_or-take j list a d (omega arith)) ∙ same ∙ get_or-take j list b d (omega arith));
+    }
+
+-- and so are the last ones
+pub window_drop : (k m j : ℕ) (list : List ℕ) → IsWindow (j + k) m list → IsWindow k m (drop j list)
+window_drop k m j list is =
+    let long = length-drop j list in
+    let size = is.size in
+    record {
+      size = omega arith;
+      below = All-drop (λ x. x < m) j list is.below;
+      distinct = λ a b d lt within same.
+          is.distinct (j + a) (j + b) d (omega arith) (omega arith)
+          (sym (get_or-drop j list a d) ∙ same ∙ get_or-drop j list b d);
+    }
+
+-- a window without its first identifier, which comes last instead
+pub window_turned :
+    (k m : ℕ) (window : List ℕ) → IsWindow (k + 1) m window → IsWindow (k + 1) m (drop 1 window ++ get_or window 0 0 ∷ [])
+window_turned k m window is =
+    let swapped : k + 1 ≡ 1 + k = omega arith in
+    let rest = window_drop k m 1 window (subst (λ n. IsWindow n m window) swapped is) in
+    let first : ℕ = get_or window 0 0 in
+    let size = rest.size in
+    let whole = is.size in
+    let long = length_push (drop 1 window) first in
+    record {
+      size = omega arith;
+      below = All-push (λ x. x < m) (drop 1 window) first rest.below (is.below 0 0 (omega arith));
+      distinct = all_pairs_push (λ a b. a ≢ b) (drop 1 window) first rest.distinct (λ i d within same.
+          is.distinct 0 (1 + i) 0 (omega arith) (omega arith)
+          (sym same ∙ get_or-drop 1 window i d ∙ get_or_default window (1 + i) d 0 (omega arith)));
+    }
+
+-- a number is at one place of one run
+pub one_run : (c place rest number n : ℕ) → rest < c → n ≡ place * c + rest → number * c ≤ n → n < number * c + c → place ≡ number
+one_run c place rest number n short is from to =
+    ⊎_elim
+    (λ (lt : place < number).
+    let le : suc place ≤ number = omega arith in
+    absurd (omega (arith, mul-le-mul_right c le, suc-mul place c)))
+    (λ (ge : number ≤ place). ⊎_elim
+    (λ (lt : number < place).
+    let le : suc number ≤ place = omega arith in
+    absurd (omega (arith, mul-le-mul_right c le, suc-mul number c)))
+    (λ (le : place ≤ number). omega arith)
+    (cases_lt number place))
+    (cases_lt place number)
+
+-- window n of k+1 identifiers, with the number of the window that it begins with
+pub record InRun (k m n : ℕ) (longer : List ℕ) : Type 0 where
+  pub is : IsWindow (k + 1) m longer
+  pub number : ℕ
+  pub front_at : slice_get (windows k m) number ≡ Some (take k longer)
+  pub inside : place_of_last k longer < m - k
+  pub number_is : n ≡ number * (m - k) + place_of_last k longer
+
+module _ (laws : WindowsAreNumbered) where
+  -- each window has a number
+  pub number_of_window : (k m : ℕ) (window : List ℕ) → IsWindow k m window → (n : ℕ) × (slice_get (windows k m) n ≡ Some window)
+  number_of_window k m window is =
+      let numbered = some_number (number_of k m window) ((laws.has_number k m window).1 is) in
+      (numbered.0, laws.item_of k m numbered.0 window numbered.1)
+
+  -- and stands at it alone
+  pub one_number :
+      (k m i j : ℕ) (window : List ℕ) → slice_get (windows k m) i ≡ Some window → slice_get (windows k m) j ≡ Some window → i ≡ j
+  one_number k m i j window at_i at_j = same_Some i j (sym (laws.number_at k m i window at_i) ∙ laws.number_at k m j window at_j)
+
+  pub window_at : (k m n : ℕ) (window : List ℕ) → slice_get (windows k m) n ≡ Some window → IsWindow k m window
+  window_at k m n window at' = (laws.has_number k m window).0 (subst IsSome (sym (laws.number_at k m n window at')) refl)
+
+  pub in_run : (k m n : ℕ) (longer : List ℕ) → slice_get (windows (k + 1) m) n ≡ Some longer → InRun k m n longer
+  in_run k m n longer at' =
+      let own = window_at (k + 1) m n longer at' in
+      let front = number_of_window k m (take k longer) (window_take (k + 1) m k longer (omega arith) own) in
+      let numbered = laws.longer_number k m front.0 longer own front.1 in
+      record {
+        is = own;
+        number = front.0;
+        front_at = front.1;
+        inside = numbered.0;
+        number_is = one_number (k + 1) m n (front.0 * (m - k) + place_of_last k longer) longer at' numbered.1;
+      }
+
+  -- windows that begin with one window and whose last identifiers have one place are the same
+  pub same_from_place :
+      (k m : ℕ) (a b : List ℕ) → IsWindow (k + 1) m a → IsWindow (k + 1) m b → take k a ≡ take k b
+      → place_of_last k a ≡ place_of_last k b → a ≡ b
+  same_from_place k m a b is_a is_b fronts places =
+      let front = number_of_window k m (take k a) (window_take (k + 1) m k a (omega arith) is_a) in
+      let first = laws.longer_number k m front.0 a is_a front.1 in
+      let second = laws.longer_number k m front.0 b is_b (front.1 ∙ ap Some fronts) in
+      same_Some a b (sym first.1 ∙ ap (λ p. slice_get (windows (k + 1) m) (front.0 * (m - k) + p)) places ∙ second.1)

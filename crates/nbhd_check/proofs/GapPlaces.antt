@@ -1,0 +1,123 @@
+-- Where a channel stands in a list, but for some places.
+use Rattle.std.proofs.Common.{◌≡◌, ◌≢◌, ℕ, ◌+◌, ◌-◌, ◌<◌, ◌≤◌, List, length, get_or, take, drop, All, AllPairs, Contains, sym, ap, ◌∙◌, arith, ⊎_elim, length-drop}
+use Rattle.std.proofs.lemmas.Bool.{cases_lt}
+use Rattle.std.proofs.lemmas.List.{get_or-take, get_or-drop, get_or_default, length-take-le}
+use Rattle.nbhd_check.specs.Runs.{StandsOutside}
+
+-- the first gaps are before a place, and the others are not
+pub record ArePassed (gaps : List ℕ) (count from : ℕ) : Type 0 where
+  pub before : (i : ℕ) → i < count → get_or gaps i 0 < from
+  pub after : (i : ℕ) → count ≤ i → i < length gaps → from ≤ get_or gaps i 0
+
+-- before a place the channel stands at gaps alone
+pub record NoneBefore (list gaps : List ℕ) (channel from : ℕ) : Type 0 where
+  pub none : (place : ℕ) → place < from → ¬ Contains gaps place → get_or list place 0 ≢ channel
+
+pub none_passed : (gaps : List ℕ) → ArePassed gaps 0 0
+none_passed gaps = record { before = λ i lt. absurd (omega arith); after = λ i le lt. omega arith }
+
+pub none_at_first : (list gaps : List ℕ) (channel : ℕ) → NoneBefore list gaps channel 0
+none_at_first list gaps channel = record { none = λ place lt. absurd (omega arith) }
+
+-- one gap more
+pub passed_more :
+    (gaps : List ℕ) (count from : ℕ) → AllPairs (λ a b. a < b) gaps → count < length gaps → ArePassed gaps count from
+    → ArePassed gaps (count + 1) (get_or gaps count 0 + 1)
+passed_more gaps count from rising within passed =
+    record {
+      before = λ i lt. ⊎_elim
+          (λ (earlier : i < count). let less = rising i count 0 earlier within in omega arith)
+          (λ (same : count ≤ i). let equal : i ≡ count = omega arith in omega (arith, ap (λ j. get_or gaps j 0) equal))
+          (cases_lt i count);
+      after = λ i le lt. let more = rising count i 0 (omega arith) lt in omega arith;
+    }
+
+-- the part of the list from one place on and before another one
+pub found_between :
+    (list gaps : List ℕ) (channel count from to : ℕ) → to ≤ length list → from ≤ to → ArePassed gaps count from
+    → ((i : ℕ) → count ≤ i → i < length gaps → to ≤ get_or gaps i 0)
+    → Contains (take (to - from) (drop from list)) channel → StandsOutside list gaps channel
+found_between list gaps channel count from to within order passed later found =
+    let long : length (take (to - from) (drop from list)) ≡ to - from =
+    length-take-le (to - from) (drop from list) (omega (arith, length-drop from list)) in
+    let k = found.0 in
+    let short : k < to - from = omega (arith, found.1) in
+    let read : get_or (take (to - from) (drop from list)) k channel ≡ get_or list (from + k) 0 =
+    get_or-take (to - from) (drop from list) k channel short ∙ get_or-drop from list k channel ∙ get_or_default list (from + k) channel 0 (omega arith) in (
+      from + k,
+      omega arith,
+      (λ at'.
+          let i = at'.0 in
+          let gap : get_or gaps i 0 ≡ from + k = get_or_default gaps i 0 (from + k) at'.1 ∙ at'.2 in
+          ⊎_elim
+          (λ (earlier : i < count). let less = passed.before i earlier in absurd (omega arith))
+          (λ (rest : count ≤ i). let more = later i rest at'.1 in absurd (omega arith))
+          (cases_lt i count)),
+      sym read ∙ found.2,
+    )
+
+-- the part before the next gap
+pub found_before_gap :
+    (list gaps : List ℕ) (channel count from : ℕ) → AllPairs (λ a b. a < b) gaps → All (λ gap. gap < length list) gaps → count < length gaps
+    → ArePassed gaps count from → Contains (take (get_or gaps count 0 - from) (drop from list)) channel → StandsOutside list gaps channel
+found_before_gap list gaps channel count from rising inside within passed found =
+    let gap = inside count 0 within in
+    found_between list gaps channel count from (get_or gaps count 0) (omega arith) (passed.after count (omega arith) within) passed
+    (λ i le lt. ⊎_elim
+    (λ (later : count < i). let more = rising count i 0 later lt in omega arith)
+    (λ (le_own : i ≤ count). let same : i ≡ count = omega arith in omega (arith, ap (λ j. get_or gaps j 0) same))
+    (cases_lt count i)) found
+
+pub none_between :
+    (list gaps : List ℕ) (channel from to : ℕ) → to ≤ length list → from ≤ to → NoneBefore list gaps channel from
+    → ¬ Contains (take (to - from) (drop from list)) channel → NoneBefore list gaps channel to
+none_between list gaps channel from to within order earlier none =
+    let long : length (take (to - from) (drop from list)) ≡ to - from =
+    length-take-le (to - from) (drop from list) (omega (arith, length-drop from list)) in
+    record {
+      none = λ place lt outside same. ⊎_elim
+          (λ (before : place < from). earlier.none place before outside same)
+          (λ (here : from ≤ place).
+          let back : from + (place - from) ≡ place = omega arith in
+          none (
+            place - from,
+            omega arith,
+            get_or-take (to - from) (drop from list) (place - from) channel (omega arith) ∙ get_or-drop from list (place - from) channel
+                ∙ ap (λ i. get_or list i channel) back ∙ get_or_default list place channel 0 (omega arith) ∙ same,
+          ))
+          (cases_lt place from);
+    }
+
+-- and the gap itself
+pub none_at_gap :
+    (list gaps : List ℕ) (channel count : ℕ) → count < length gaps → NoneBefore list gaps channel (get_or gaps count 0)
+    → NoneBefore list gaps channel (get_or gaps count 0 + 1)
+none_at_gap list gaps channel count within earlier =
+    record {
+      none = λ place lt outside same. ⊎_elim
+          (λ (before : place < get_or gaps count 0). earlier.none place before outside same)
+          (λ (here : get_or gaps count 0 ≤ place).
+          let equal : get_or gaps count 0 ≡ place = omega arith in
+          outside (count, within, get_or_default gaps count place 0 within ∙ equal))
+          (cases_lt place (get_or gaps count 0));
+    }
+
+-- a channel that is not before a place stands after it
+pub found_after :
+    (list gaps : List ℕ) (channel from : ℕ) → NoneBefore list gaps channel from → StandsOutside list gaps channel
+    → Contains (take (length list - from) (drop from list)) channel
+found_after list gaps channel from none found =
+    let place = found.0 in
+    ⊎_elim
+    (λ (before : place < from). absurd (none.none place before found.2 found.3))
+    (λ (here : from ≤ place).
+    let within : place < length list = found.1 in
+    let long : length (take (length list - from) (drop from list)) ≡ length list - from =
+    length-take-le (length list - from) (drop from list) (omega (arith, length-drop from list)) in
+    let back : from + (place - from) ≡ place = omega arith in (
+      place - from,
+      omega arith,
+      get_or-take (length list - from) (drop from list) (place - from) channel (omega arith) ∙ get_or-drop from list (place - from) channel
+          ∙ ap (λ i. get_or list i channel) back ∙ get_or_default list place channel 0 within ∙ found.3,
+    ))
+    (cases_lt place from)

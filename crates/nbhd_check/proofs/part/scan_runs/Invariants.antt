@@ -1,0 +1,13 @@
+use Rattle.std.proofs.Common.{◌≡◌, ◌+◌, ◌*◌, ◌<◌, Some, min, slice_get}
+use Rattle.win_index.specs.Windows.{IsWindow}
+use Rattle.table_fill.specs.Tables.{windows_of}
+use Rattle.nbhd_check.specs.Proper.{NoneIsBad}
+use Rattle.nbhd_check.specs.Runs.{run_len}
+use Rattle.nbhd_check.proofs.part.scan_runs.Given as goal
+
+-- the window is the next one to be looked at, and no tuple that begins with one before it is bad
+abbrev pub invariant-loop-number : goal.invariant-loop-number
+invariant-loop-number l =
+    (l.number < l.last + 1 → slice_get (windows_of l.table) l.number ≡ Some l.window)
+    × IsWindow (2 * l.table.rounds + 1) l.table.ids l.window
+    × NoneIsBad l.table l.low (min l.high (l.number * run_len l.table))
