@@ -2,6 +2,8 @@
 //! public calls.
 #![tactic(auto)]
 
+#[cfg(test)]
+mod audits;
 pub mod programs;
 #[cfg(test)]
 mod reports;

@@ -16,25 +16,32 @@ use std::sync::Wait;
 use std::test::Fail;
 use std::thread::Threads;
 
-/// Does a task on a program text over memory and compares the report.
+/// Does a task on an input over memory: the report and its status.
+pub(crate) fn report_of<R: Abort + Threads + Wait + Sync>(
+    rt: &R,
+    alloc: Global,
+    task: Task,
+    input: &[u8],
+) -> Result<(Vec<u8>, Status), Fail> {
+    assert!(rt; task.is_runnable());
+    let mut reader = Watched::new(input);
+    let mut writer = Watched::new(Vec::new(alloc));
+    let status = engine(rt, alloc, task, &mut reader, &mut writer)?;
+    Ok((writer.into_device(), status))
+}
+
+/// Does a task on an input over memory and compares the report.
 pub(crate) fn reports<R: Abort + Threads + Wait + Sync>(
     rt: &R,
     alloc: Global,
     task: Task,
-    text: &[u8],
+    input: &[u8],
     line: &str,
     status: Status,
 ) -> Result<(), Fail> {
-    assert!(rt; task.is_runnable());
-    let mut reader = Watched::new(text);
-    let mut writer = Watched::new(Vec::new(alloc));
-    let ended = engine(rt, alloc, task, &mut reader, &mut writer)?;
+    let (report, ended) = report_of(rt, alloc, task, input)?;
     assert_eq!(rt; ended, status, "the status of {line}");
-    assert_eq!(rt;
-        writer.into_device().as_slice(),
-        line.as_bytes(),
-        "the report {line}"
-    );
+    assert_eq!(rt; report.as_slice(), line.as_bytes(), "the report {line}");
     Ok(())
 }
 
@@ -45,12 +52,9 @@ pub(crate) fn done<R: Abort + Threads + Wait + Sync>(
     task: Task,
     text: &[u8],
 ) -> Result<Vec<u8>, Fail> {
-    assert!(rt; task.is_runnable());
-    let mut reader = Watched::new(text);
-    let mut writer = Watched::new(Vec::new(alloc));
-    let ended = engine(rt, alloc, task, &mut reader, &mut writer)?;
+    let (report, ended) = report_of(rt, alloc, task, text)?;
     assert_eq!(rt; ended, Status::Done);
-    Ok(writer.into_device())
+    Ok(report)
 }
 
 /// How many lines a text has.

@@ -1,20 +1,23 @@
 -- A task and an input have at most one report: nothing that a report tells has two values.
-use Rattle.std.proofs.Common.{◌≡◌, ℕ, List, ap, subst, sym, ◌∙◌, refl}
+use Rattle.std.proofs.Common.{◌≡◌, ℕ, List, [], ◌++◌, Option, Some, None, ap, subst, sym, ◌∙◌, refl, append-nil}
 use Rattle.node_lang.specs.Term.{ProgramTree}
 use Rattle.node_lang.specs.Laws.{OneReading, OneTextFault}
 use Rattle.win_index.specs.Laws.{OneRingFault, RingsHaveNoFault}
 use Rattle.lang_check.specs.Acceptance.{IsAccepted}
 use Rattle.lang_check.specs.Refusals.{IsFirstRefusal}
-use Rattle.table_fill.specs.Tables.{ChannelTable}
+use Rattle.table_fill.specs.Tables.{ChannelTable, IsTable}
+use Rattle.table_text.specs.TableText.{table_text}
+use Rattle.table_text.specs.Faults.{IsFault}
+use Rattle.table_text.specs.Laws.{OneTableFault, TableTextsAreApart, TableTextsAreRead}
 use Rattle.lang_check.specs.Laws.{OneRefusal, AcceptedProgramsHaveNoRefusal}
 use Rattle.nbhd_check.specs.Laws.{OneWitness, GoodTablesHaveNoWitness}
 use Rattle.task_words.specs.declared.task.Task.{Task}
-use Rattle.task_words.specs.declared.task.Task.TheVariants.{Check, Table, Judge, Run, Plan}
+use Rattle.task_words.specs.declared.task.Task.TheVariants.{Check, Table, Judge, Run, Plan, Audit}
 use Rattle.plan_print.specs.declared.status.Status.{Status}
 use Rattle.plan_print.specs.declared.status.Status.TheVariants.{Done}
 use Rattle.task_words.specs.Task.{ids_of}
 use Rattle.plan_print.specs.Report as report
-use Rattle.plan_print.specs.Report.{Report, Says, IsJudgement, good, bad, IsAnswerOnRing, ring_fault, on_ring, IsRunAnswer, out_of_range, ran, IsAnswer, IsReport, text_fault, check_fault, answered}
+use Rattle.plan_print.specs.Report.{Report, Says, IsJudgement, good, bad, IsAnswerOnRing, ring_fault, on_ring, IsRunAnswer, out_of_range, ran, IsAnswer, IsProgramReport, text_fault, check_fault, answered, IsAudit, table_fault, judged, IsReportFor}
 use Rattle.plan_print.specs.Laws.{OneReport}
 
 -- two reports that say the same are one
@@ -53,10 +56,11 @@ one_answer one_fault no_fault one_witness no_witness (Run ids ring segments) p r
     one_on_ring one_fault no_fault _ _ _ (IsRunAnswer p ring.items segments) (one_run p ring.items segments) r s
 one_answer one_fault no_fault one_witness no_witness (Plan ids ring workers) p r s =
     one_on_ring one_fault no_fault _ _ _ (Says (report.place_lines p ring.items) Done) (λ r s. said_once _ _ _ r s refl) r s
+one_answer one_fault no_fault one_witness no_witness Audit p r s = λ answer other. absurd answer
 
-pub one_report : OneReading → OneTextFault → OneRefusal → AcceptedProgramsHaveNoRefusal → OneRingFault → RingsHaveNoFault → OneWitness → GoodTablesHaveNoWitness → OneReport
-one_report one_reading one_text_fault one_refusal no_refusal one_fault no_fault one_witness no_witness task input r s first second =
-    let m = ids_of task in
+one_program_report : OneReading → OneTextFault → OneRefusal → AcceptedProgramsHaveNoRefusal → OneRingFault → RingsHaveNoFault → OneWitness → GoodTablesHaveNoWitness
+    → (task : Task) (m : ℕ) (input : List ℕ) (r s : Report) → IsProgramReport task m input r → IsProgramReport task m input s → r ≡ s
+one_program_report one_reading one_text_fault one_refusal no_refusal one_fault no_fault one_witness no_witness task m input r s first second =
     elim first [
       | text_fault k i none faults says ↦ elim second [
         | text_fault l j none' faults' says' ↦
@@ -79,3 +83,31 @@ one_report one_reading one_text_fault one_refusal no_refusal one_fault no_fault 
             one_answer one_fault no_fault one_witness no_witness task p r s answer (subst (λ h. IsAnswer task h s) (one_reading input q p reads' reads) answer')
       ]
     ]
+
+-- a text is the text of one table
+one_table : TableTextsAreApart → (t u : ChannelTable) (input : List ℕ) → IsTable t → IsTable u → input ≡ table_text t → input ≡ table_text u → t ≡ u
+one_table apart t u input is is' text text' = (apart t u [] is is' (sym text' ∙ text ∙ sym (append-nil (table_text t)))).0
+
+one_audit : OneTableFault → TableTextsAreApart → TableTextsAreRead → OneWitness → GoodTablesHaveNoWitness
+    → (input : List ℕ) (r s : Report) → IsAudit input r → IsAudit input s → r ≡ s
+one_audit one_fault apart read one_witness no_witness input r s (table_fault f known fault says) (table_fault g known' fault' says') =
+    said_once _ _ _ r s (ap report.table_fault_line (one_fault input f g known known' fault fault')) says says'
+one_audit one_fault apart read one_witness no_witness input r s (table_fault f known fault says) (judged t is text answer) =
+    absurd (known (read t f is (subst (λ x. IsFault x f) text fault)))
+one_audit one_fault apart read one_witness no_witness input r s (judged t is text answer) (table_fault f known fault says) =
+    absurd (known (read t f is (subst (λ x. IsFault x f) text fault)))
+one_audit one_fault apart read one_witness no_witness input r s (judged t is text answer) (judged u is' text' answer') =
+    let same = one_table apart u t input is' is text' text in
+    one_judgement one_witness no_witness t r s answer (subst (λ x. IsJudgement x s) same answer')
+
+one_for : ((m : ℕ) (task : Task) (input : List ℕ) (r s : Report) → IsProgramReport task m input r → IsProgramReport task m input s → r ≡ s)
+    → ((input : List ℕ) (r s : Report) → IsAudit input r → IsAudit input s → r ≡ s)
+    → (ids : Option ℕ) (task : Task) (input : List ℕ) (r s : Report) → IsReportFor ids task input r → IsReportFor ids task input s → r ≡ s
+one_for program audit None task input r s = audit input r s
+one_for program audit (Some m) task input r s = program m task input r s
+
+pub one_report : OneReading → OneTextFault → OneRefusal → AcceptedProgramsHaveNoRefusal → OneRingFault → RingsHaveNoFault → OneWitness → GoodTablesHaveNoWitness
+    → OneTableFault → TableTextsAreApart → TableTextsAreRead → OneReport
+one_report one_reading one_text_fault one_refusal no_refusal one_fault no_fault one_witness no_witness one_table_fault apart read task =
+    one_for (λ m t. one_program_report one_reading one_text_fault one_refusal no_refusal one_fault no_fault one_witness no_witness t m)
+    (one_audit one_table_fault apart read one_witness no_witness) (ids_of task) task

@@ -7,6 +7,7 @@ pub use Rattle.task_words.specs.Decimal
 pub use Rattle.task_words.specs.RingText
 pub use Rattle.task_words.specs.Counts
 pub use Rattle.task_words.specs.Task
+pub use Rattle.task_words.specs.CommandLine
 pub use Rattle.task_words.specs.Words
 pub use Rattle.task_words.specs.WordsFault
 pub use Rattle.devices.specs.Watched
@@ -30,3 +31,4 @@ pub use Rattle.nbhd_check.specs.Proper
 pub use Rattle.nbhd_check.specs.Verdicts
 pub use Rattle.ring_exec.specs.SegmentCounts
 pub mod Engine
+pub mod Answers

@@ -1,5 +1,5 @@
 -- The report: the bytes and the status for a task and an input.
-use Rattle.std.specs.Prelude.{◌≡◌, ℕ, ◌+◌, ◌*◌, List, [], ◌∷◌, length, slice_index, codes}
+use Rattle.std.specs.Prelude.{◌≡◌, ◌≢◌, ℕ, ◌+◌, ◌*◌, List, [], ◌∷◌, Option, Some, None, length, slice_index, codes}
 use Rattle.std.specs.List.{flat_map, range_with_len}
 use Rattle.std.specs.Fmt.{decimal}
 use Rattle.node_lang.specs.declared.fault.FaultKind.{FaultKind}
@@ -19,17 +19,20 @@ use Rattle.lang_check.specs.Refusals.{IsFirstRefusal}
 use Rattle.win_index.specs.RingFaults.{IsFirstFault}
 use Rattle.win_index.specs.Windows.{windows}
 use Rattle.table_fill.specs.ProgramTables.{table_of}
-use Rattle.table_fill.specs.Tables.{ChannelTable}
+use Rattle.table_fill.specs.Tables.{ChannelTable, IsTable}
 use Rattle.nbhd_check.specs.Proper.{tuples, IsGoodEverywhere}
 use Rattle.nbhd_check.specs.Verdicts.{IsWitness}
 use Rattle.ring_exec.specs.SegmentCounts.{IsSegmentCount}
 use Rattle.plan_print.specs.declared.status.Status.{Status}
 use Rattle.plan_print.specs.declared.status.Status.TheVariants.{Done, No, Words, Refused, RingRefused}
 use Rattle.task_words.specs.declared.task.Task.{Task}
-use Rattle.task_words.specs.declared.task.Task.TheVariants.{Check, Table, Judge, Run, Plan}
+use Rattle.task_words.specs.declared.task.Task.TheVariants.{Check, Table, Judge, Run, Plan, Audit}
 use Rattle.task_words.specs.Task.{ids_of}
 use Rattle.plan_print.specs.Lines.{line, numbers_text, right_aligned}
+use Rattle.table_text.specs.declared.fault.TableFault.{TableFault}
+use Rattle.table_text.specs.declared.fault.TableFault.TheVariants as table
 use Rattle.table_text.specs.TableText.{table_text}
+use Rattle.table_text.specs.Faults.{IsFault}
 
 pub record Report : Type 0 where
   pub bytes : List ℕ
@@ -73,6 +76,13 @@ ring_fault_line (ring.Repeated first second) = line (codes "ring fault G4 places
 abbrev pub segments_fault_line : List ℕ
 segments_fault_line = line (codes "segments fault E1" ∷ [])
 
+-- the line of a text that is not the text of a table; want of memory has none
+abbrev pub table_fault_line : TableFault → List ℕ
+table_fault_line (table.Syntax offset) = line (codes "table fault A1 at " ∷ decimal offset ∷ [])
+table_fault_line (table.WrongWindow number) = line (codes "table fault A2 line " ∷ decimal number ∷ [])
+table_fault_line (table.ChannelTooLarge number) = line (codes "table fault A3 line " ∷ decimal number ∷ [])
+table_fault_line table.OutOfMemory = []
+
 -- the line of a program that is accepted for `ids` identifiers; its windows are those of `2t+1` identifiers for `t` rounds
 abbrev pub accepted_line : ℕ → ProgramTree → List ℕ
 accepted_line ids p =
@@ -115,19 +125,34 @@ pub data IsRunAnswer (p : ProgramTree) (places : List ℕ) (segments : ℕ) (r :
   ran : IsSegmentCount segments (length places) → Says (line (numbers_text (channels_of p places) ∷ [])) Done r → IsRunAnswer p places segments r
 
 -- the answer of a task on a program that is accepted; it is the same whatever the number of workers, and whatever the number of segments
--- that a ring can be run in
+-- that a ring can be run in; an audit is of no program
 abbrev pub IsAnswer : Task → ProgramTree → Report → Type 0
 IsAnswer (Check ids) p r = Says (accepted_line ids p) Done r
 IsAnswer (Table ids workers) p r = Says (table_text (table_of p ids)) Done r
 IsAnswer (Judge ids workers) p r = IsJudgement (table_of p ids) r
 IsAnswer (Run ids places segments) p r = IsAnswerOnRing ids (length p.steps) places.items (IsRunAnswer p places.items segments) r
 IsAnswer (Plan ids places workers) p r = IsAnswerOnRing ids (length p.steps) places.items (Says (place_lines p places.items) Done) r
+IsAnswer Audit p r = ⊥
 
--- The report of a task on an input: the fault of a text that reads as no program, or the first refusal of the program that it reads as, or the task's
--- answer on that program.
-pub data IsReport (task : Task) (input : List ℕ) (r : Report) : Type 0 where
+-- The report of a task for m identifiers on a program text: the fault of a text that reads as no program, or the first refusal of the program
+-- that it reads as, or the task's answer on that program.
+pub data IsProgramReport (task : Task) (m : ℕ) (input : List ℕ) (r : Report) : Type 0 where
   text_fault : (k : FaultKind) (offset : ℕ) → ((p : ProgramTree) → ¬ Reads input p) → FaultsAt input k offset →
-      Says (text_fault_line k offset) Refused r → IsReport task input r
-  check_fault : (p : ProgramTree) (f : CheckFault) → Reads input p → IsFirstRefusal (ids_of task) p f →
-      Says (check_fault_line f) Refused r → IsReport task input r
-  answered : (p : ProgramTree) → Reads input p → IsAccepted (ids_of task) p → IsAnswer task p r → IsReport task input r
+      Says (text_fault_line k offset) Refused r → IsProgramReport task m input r
+  check_fault : (p : ProgramTree) (f : CheckFault) → Reads input p → IsFirstRefusal m p f →
+      Says (check_fault_line f) Refused r → IsProgramReport task m input r
+  answered : (p : ProgramTree) → Reads input p → IsAccepted m p → IsAnswer task p r → IsProgramReport task m input r
+
+-- The report of an audit on a table text: what is wrong first with a text that is not the text of a table, or the judge's answer on its table.
+pub data IsAudit (input : List ℕ) (r : Report) : Type 0 where
+  table_fault : (f : TableFault) → f ≢ table.OutOfMemory → IsFault input f → Says (table_fault_line f) Refused r → IsAudit input r
+  judged : (t : ChannelTable) → IsTable t → input ≡ table_text t → IsJudgement t r → IsAudit input r
+
+-- the report of a task, for so many identifiers or for those of a table, on an input
+abbrev pub IsReportFor : Option ℕ → Task → List ℕ → Report → Type 0
+IsReportFor None task input r = IsAudit input r
+IsReportFor (Some m) task input r = IsProgramReport task m input r
+
+-- the report of a task on an input
+abbrev pub IsReport : Task → List ℕ → Report → Type 0
+IsReport task input r = IsReportFor (ids_of task) task input r

@@ -1,21 +1,20 @@
 //! The answers of the tasks on a program that is accepted.
 
-ghost use Rattle.std.specs.Prelude.{◌≡◌, length, IfOk, IfErr, string_bytes};
+ghost use Rattle.std.specs.Prelude.{◌≡◌, Some, length, IfOk, IfErr};
 ghost use Rattle.table_fill.specs.ProgramTables.{table_of};
 ghost use Rattle.task_words.specs.Counts.{IsCount};
 ghost use Rattle.task_words.specs.Task.{ids_of, IsRunnable};
 ghost use Rattle.plan_print.specs.Engine.{IsTaskFault};
+ghost use Rattle.plan_print.specs.Answers.{report_in};
 ghost use Rattle.plan_print.specs.Report as report;
-ghost use Rattle.plan_print.specs.Report.{Says, IsAnswer, IsRunAnswer, IsJudgement};
+ghost use Rattle.plan_print.specs.Report.{Says, IsAnswer, IsRunAnswer};
 
-use crate::lines::{
-    accepted_line, bad_line, good_line, numbers_line, ring_fault_line, segments_fault_line,
-};
+use crate::judgement::judgement;
+use crate::lines::{accepted_line, numbers_line, ring_fault_line, segments_fault_line};
 use crate::places::places_text;
 use crate::status::Status;
 use devices::fault::EngineFault;
 use lang_check::Plan;
-use nbhd_check::{Verdict, judge};
 use ring_exec::{RunFault, run};
 use round_eval::OpenGate;
 use shared_memo::Memo;
@@ -23,27 +22,32 @@ use std::alloc::Global;
 use std::sync::Wait;
 use std::thread::Threads;
 use table_fill::{FillFault, Table, compile};
-use table_text::text_of_table;
 use task_words::task::Task;
 use win_index::{Ring, RingFault};
 
-// The text of a task's answer on the program of a plan, and its status.
+// A report before it is written: its text and its status, or the table whose text it is.
+#[derive(Drop)]
+pub(crate) enum Answer {
+    Text(String, Status),
+    Table(Table),
+}
+
+// A task's answer on the program of a plan.
 pub(crate) fn answer_of<T: Threads + Wait + Sync>(
     rt: &T,
     alloc: Global,
     task: Task,
     plan: &Plan,
-) -> Result<(String, Status), EngineFault>
-    requires ids { plan.now.ids ≡ ids_of task }
+) -> Result<Answer, EngineFault>
+    requires ids { ids_of task ≡ Some plan.now.ids }
     requires runnable { IsRunnable task }
-    ensures answer { IfOk result (λ r. IsAnswer task plan.now.program (record { bytes = string_bytes r.0; status = r.1 })) }
+    ensures answer { IfOk result (λ r. IsAnswer task plan.now.program (report_in r)) }
     ensures fault { IfErr result IsTaskFault }
 {
     match task {
-        Task::Check { ids: _ } => Ok((accepted_line(alloc, plan)?, Status::Done)),
+        Task::Check { ids: _ } => Ok(Answer::Text(accepted_line(alloc, plan)?, Status::Done)),
         Task::Table { ids: _, workers } => {
-            let table = compiled(rt, alloc, plan, workers)?;
-            Ok((text_of_table(alloc, &table)?, Status::Done))
+            Ok(Answer::Table(compiled(rt, alloc, plan, workers)?))
         }
         Task::Judge { ids: _, workers } => judgement(alloc, &compiled(rt, alloc, plan, workers)?),
         Task::Run {
@@ -61,19 +65,20 @@ pub(crate) fn answer_of<T: Threads + Wait + Sync>(
         } => match Ring::new(plan.shape(), ring) {
             Ok(ring) => {
                 let table = compiled(rt, alloc, plan, workers)?;
-                Ok((places_text(alloc, plan, &table, &ring)?, Status::Done))
+                Ok(Answer::Text(places_text(alloc, plan, &table, &ring)?, Status::Done))
             }
             Err((_ids, fault)) => ring_refusal(alloc, fault),
         },
+        Task::Audit => unreachable!(),
     }
 }
 
 // The answer on a list of identifiers that is no ring.
-fn ring_refusal(alloc: Global, fault: RingFault) -> Result<(String, Status), EngineFault>
-    ensures answer { IfOk result (λ r. Says (report.ring_fault_line fault) Status.RingRefused (record { bytes = string_bytes r.0; status = r.1 })) }
+fn ring_refusal(alloc: Global, fault: RingFault) -> Result<Answer, EngineFault>
+    ensures answer { IfOk result (λ r. Says (report.ring_fault_line fault) Status.RingRefused (report_in r)) }
     ensures fault { IfErr result (λ fault. fault ≡ EngineFault.Memory) }
 {
-    Ok((ring_fault_line(alloc, fault)?, Status::RingRefused))
+    Ok(Answer::Text(ring_fault_line(alloc, fault)?, Status::RingRefused))
 }
 
 // The answer of a run of a ring in segments.
@@ -83,33 +88,21 @@ fn run_answer<T: Threads + Wait + Sync>(
     plan: &Plan,
     ring: &Ring,
     segments: u32,
-) -> Result<(String, Status), EngineFault>
+) -> Result<Answer, EngineFault>
     requires ids { ring.now.ids ≡ plan.now.ids }
     requires rounds { ring.now.rounds ≡ length plan.now.program.steps }
-    ensures answer { IfOk result (λ r. IsRunAnswer plan.now.program ring.now.places segments (record { bytes = string_bytes r.0; status = r.1 })) }
+    ensures answer { IfOk result (λ r. IsRunAnswer plan.now.program ring.now.places segments (report_in r)) }
     ensures fault { IfErr result IsTaskFault }
 {
     match run(rt, alloc, plan, ring, segments, &OpenGate) {
-        Ok(channels) => Ok((numbers_line(alloc, &channels)?, Status::Done)),
-        Err(RunFault::SegmentsOutOfRange) => Ok((segments_fault_line(alloc)?, Status::Words)),
+        Ok(channels) => Ok(Answer::Text(numbers_line(alloc, &channels)?, Status::Done)),
+        Err(RunFault::SegmentsOutOfRange) => Ok(Answer::Text(
+            segments_fault_line(alloc)?,
+            Status::Words,
+        )),
         Err(RunFault::OutOfMemory) => Err(EngineFault::Memory),
         Err(RunFault::NoThread) => Err(EngineFault::Thread),
         Err(RunFault::Stranger) => Err(EngineFault::Stranger),
-    }
-}
-
-// The judge's answer on a table.
-fn judgement(alloc: Global, table: &Table) -> Result<(String, Status), EngineFault>
-    ensures answer { IfOk result (λ r. IsJudgement table.now (record { bytes = string_bytes r.0; status = r.1 })) }
-    ensures fault { IfErr result (λ fault. fault ≡ EngineFault.Memory) }
-{
-    match judge(alloc, table)? {
-        Verdict::Yes => Ok((good_line(alloc, table.shape().tuples())?, Status::Done)),
-        Verdict::No {
-            ring,
-            place,
-            channel,
-        } => Ok((bad_line(alloc, &ring, place, channel)?, Status::No)),
     }
 }
 

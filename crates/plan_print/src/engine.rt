@@ -1,22 +1,27 @@
 //! Doing a task: the input is read whole, then its report is written.
 
 ghost use Rattle.std.specs.Prelude.{◌≡◌, ◌≢◌, ◌↔◌, ℕ, List, false, IsTrue, IfOk, IfErr, OnErr, IsErrOf};
-ghost use Rattle.std.specs.Io.KnownBytes.{Keeps};
-ghost use Rattle.task_words.specs.Task.{limit_of, IsRunnable};
+ghost use Rattle.std.specs.Io.KnownBytes.{Appends, Keeps};
+ghost use Rattle.task_words.specs.Task.{IsRunnable};
 ghost use Rattle.devices.specs.Input.{TakesFront};
+ghost use Rattle.devices.specs.Output.{AppendsFront};
 ghost use Rattle.devices.specs.Watched.{device_of, has_failed};
-ghost use Rattle.plan_print.specs.Engine.{WritesReport, WritesFront};
+ghost use Rattle.plan_print.specs.Answers.{report_in};
+ghost use Rattle.plan_print.specs.Engine.{limit_of, WritesReport, WritesFront};
 
+use crate::answer::Answer;
 use crate::report::report_of;
 use crate::status::Status;
-use devices::fault::EngineFault;
+use devices::fault::{EngineFault, OutFault};
 use devices::input::read_input;
 use devices::output::send;
 use devices::watched::Watched;
+use node_lang::LONGEST_TEXT;
 use std::alloc::Global;
 use std::io::{Read, Write};
 use std::sync::Wait;
 use std::thread::Threads;
+use table_text::{LONGEST_TABLE_TEXT, write_table};
 use task_words::task::Task;
 
 /// Reads the input of a task, all of it or one byte more than the task's limit of a longer one, and
@@ -48,8 +53,45 @@ pub fn engine<T: Threads + Wait + Sync, R: Read, W: Write>(
     ensures reader_failed { IsErrOf result EngineFault.Read ↔ IsTrue (has_failed reader.new) }
     ensures writer_failed { IsErrOf result EngineFault.Write ↔ IsTrue (has_failed writer.new) }
 {
-    let input = read_input(alloc, reader, task.limit())?;
-    let (text, status) = report_of(rt, alloc, task, &input)?;
-    send(writer, text.as_bytes())?;
-    Ok(status)
+    let input = read_input(alloc, reader, limit(&task))?;
+    let answer = report_of(rt, alloc, task, &input)?;
+    write_answer(alloc, answer, writer)
+}
+
+// Writes a report; the answer is its status.
+fn write_answer<W: Write>(
+    alloc: Global,
+    answer: Answer,
+    writer: &mut Watched<W>,
+) -> Result<Status, EngineFault>
+    requires { has_failed writer.old ≡ false }
+    ensures report { IfOk result (λ status. Appends (W.contents (device_of writer.old)) (W.contents (device_of writer.new)) (report_in answer).bytes
+        × (status ≡ (report_in answer).status)) }
+    ensures front { IsErrOf result EngineFault.Write → AppendsFront (W.contents (device_of writer.old)) (W.contents (device_of writer.new)) (report_in answer).bytes }
+    ensures unwritten { IfErr result (λ fault. fault ≢ EngineFault.Write
+        → Keeps (W.contents (device_of writer.old)) (W.contents (device_of writer.new))) }
+    ensures fault { IfErr result (λ fault. fault ≢ EngineFault.Read) }
+    ensures failed { IsErrOf result EngineFault.Write ↔ IsTrue (has_failed writer.new) }
+{
+    match answer {
+        Answer::Text(text, status) => {
+            send(writer, text.as_bytes())?;
+            Ok(status)
+        }
+        Answer::Table(table) => match write_table(alloc, &table, writer) {
+            Ok(()) => Ok(Status::Done),
+            Err(OutFault::Write) => Err(EngineFault::Write),
+            Err(OutFault::Memory) => Err(EngineFault::Memory),
+        },
+    }
+}
+
+// The most bytes that the input of a task may have.
+fn limit(task: &Task) -> usize
+    ensures { result ≡ limit_of task.now }
+{
+    match task {
+        Task::Audit => LONGEST_TABLE_TEXT,
+        _ => LONGEST_TEXT,
+    }
 }

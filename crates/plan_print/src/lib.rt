@@ -3,6 +3,7 @@
 
 mod answer;
 pub mod engine;
+mod judgement;
 pub mod laws;
 pub mod lines;
 mod places;

@@ -8,6 +8,7 @@ use lang_check::{CheckFault, Plan};
 use node_lang::{FaultKind, TextFault};
 use std::alloc::{AllocError, Global};
 use std::fmt::Write;
+use table_text::TableFault;
 use win_index::RingFault;
 
 // Writes numbers in decimal, parted by single blanks.
@@ -96,6 +97,18 @@ pub(crate) fn segments_fault_line(alloc: Global) -> Result<String, AllocError>
     ensures { IfOk result (λ text. string_bytes text ≡ report.segments_fault_line) }
 {
     format!(in alloc; "segments fault E1\n")
+}
+
+// The line of a text that is not the text of a table; nothing for want of memory.
+pub(crate) fn table_fault_line(alloc: Global, fault: TableFault) -> Result<String, AllocError>
+    ensures { IfOk result (λ text. string_bytes text ≡ report.table_fault_line fault) }
+{
+    match fault {
+        TableFault::Syntax(offset) => format!(in alloc; "table fault A1 at {offset}\n"),
+        TableFault::WrongWindow(line) => format!(in alloc; "table fault A2 line {line}\n"),
+        TableFault::ChannelTooLarge(line) => format!(in alloc; "table fault A3 line {line}\n"),
+        TableFault::OutOfMemory => Ok(String::new(alloc)),
+    }
 }
 
 // The line of an accepted program.

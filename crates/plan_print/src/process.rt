@@ -1,39 +1,33 @@
 //! The program `nbhd` as a process: its words, its standard input and its standard output are handed to the engine.
 
-ghost use Rattle.std.specs.Prelude.{IfOk};
-ghost use Rattle.plan_print.specs.ExitCodes.{IsExitStatus};
+ghost use Rattle.std.specs.Prelude.{◌≡◌, IfOk};
+ghost use Rattle.plan_print.specs.ExitCodes.{answer_code, IsExitStatus};
 ghost use Rattle.task_words.specs.Task.{IsRunnable};
+ghost use Rattle.task_words.specs.WordsFault.{words_fault_code};
 
 use crate::engine::engine;
 use crate::status::{Status, code_of};
 use devices::fault::EngineFault;
+use devices::output::send;
 use devices::watched::Watched;
 use std::rt::Env;
 use std::sync::Wait;
 use std::thread::Threads;
 use std::{env, io};
 use task_words::task::Task;
-use task_words::words::{WordsFault, task_of};
+use task_words::words::{WordsFault, task_of, words_fault};
 
-/// Does what the words after the program's name ask for, and answers the exit status. A fault is told on
-/// the standard error.
+/// Does what the words after the program's name ask for, and answers the exit status. Help goes to the standard
+/// output, and what is wrong with words, or with the input or output, to the standard error.
 pub fn exit_status<T: AllocGlobal + Env + Input + Print + Eprint + Threads + Wait + Sync>(
     rt: &T,
 ) -> u8
     ensures { IsExitStatus result }
 {
     match asked(rt) {
-        Ok(task) => {
-            let answer = done(rt, task);
-            if let Err(fault) = answer {
-                let _ = eprintln!(rt; "{fault}");
-            }
-            code_of(answer)
-        }
-        Err(fault) => {
-            let _ = eprintln!(rt; "{fault}");
-            fault.code()
-        }
+        Ok(task) => ended(rt, done(rt, task)),
+        Err(WordsFault::Help(text)) => ended(rt, shown(rt, &text)),
+        Err(fault) => refused(rt, &fault),
     }
 }
 
@@ -41,10 +35,42 @@ pub fn exit_status<T: AllocGlobal + Env + Input + Print + Eprint + Threads + Wai
 fn asked<T: AllocGlobal + Env>(rt: &T) -> Result<Task, WordsFault>
     ensures { IfOk result IsRunnable }
 {
-    let mut args = env::args(rt)?;
+    let alloc = rt.alloc();
+    let mut args = match env::args(rt) {
+        Ok(args) => args,
+        Err(error) => return Err(words_fault(alloc, error)),
+    };
     let _name = args.next();
-    let words = args.collect::<Vec<_>>(rt.alloc())?;
-    task_of(rt.alloc(), &words)
+    let words = args.collect::<Vec<_>>(alloc)?;
+    task_of(alloc, &words)
+}
+
+// Tells on the standard error what is wrong with the words; the answer is the exit status.
+fn refused<T: Eprint>(rt: &T, fault: &WordsFault) -> u8
+    ensures { result ≡ words_fault_code fault.now }
+{
+    let _ = match fault {
+        WordsFault::Usage(text) | WordsFault::Help(text) => eprint!(rt; "{text}"),
+        WordsFault::BadRing | WordsFault::OutOfMemory => eprintln!(rt; "{fault}"),
+    };
+    fault.code()
+}
+
+// Tells a fault on the standard error; the answer is the exit status.
+fn ended<T: Eprint>(rt: &T, answer: Result<Status, EngineFault>) -> u8
+    ensures { result ≡ answer_code answer }
+{
+    if let Err(fault) = answer {
+        let _ = eprintln!(rt; "{fault}");
+    }
+    code_of(answer)
+}
+
+// Writes a text to the standard output.
+fn shown<T: Print>(rt: &T, text: &str) -> Result<Status, EngineFault> {
+    let mut writer = Watched::new(io::writer(rt));
+    send(&mut writer, text.as_bytes())?;
+    Ok(Status::Done)
 }
 
 // The engine's answer to a task on the standard input and output.

@@ -14,7 +14,7 @@ pub enum Status {
     No,
     /// The ring can't be run in as many segments as the words ask for.
     Words,
-    /// The program text or the program was refused.
+    /// The program text, the program or the table text was refused.
     Refused,
     /// The ring was refused.
     RingRefused,

@@ -89,7 +89,7 @@ entries_short (w ∷ ws) (c ∷ cs) rest short small =
     omega (arith, line, entries_short ws cs rest (All-tail IsShort w ws short) (All-tail (λ n. n < 10 ^ 4) c cs small))
 
 -- the first two lines have at most 45 bytes
-header_short : (rounds ids channels : ℕ) (rest : List ℕ) → AreSizes rounds ids channels
+pub header_short : (rounds ids channels : ℕ) (rest : List ℕ) → AreSizes rounds ids channels
     → length (title_then (sizes_then rounds ids channels rest)) ≤ 45 + length rest
 header_short rounds ids channels rest are =
     let third = codes "channels " ++ (decimal channels ++ 10 ∷ rest) in

@@ -1,9 +1,9 @@
 -- The lines of a table, written one behind another.
-use Rattle.std.proofs.Common.{◌≡◌, ℕ, ◌+◌, ◌<◌, List, [], ◌∷◌, ◌++◌, Some, length, take, get_or, slice_get, refl, sym, ap, ◌∙◌, arith, append_assoc}
+use Rattle.std.proofs.Common.{◌≡◌, ℕ, zero, suc, ◌+◌, ◌<◌, ◌≤◌, drop, List, [], ◌∷◌, ◌++◌, Some, length, take, get_or, slice_get, refl, sym, ap, ◌∙◌, arith, append_assoc}
 use Rattle.std.specs.Fmt.{decimal}
 use Rattle.std.proofs.lemmas.List.{take_more, length-take-le}
 use Rattle.table_fill.specs.Tables.{ChannelTable, windows_of}
-use Rattle.table_text.specs.TableText.{ids_then, entry_then, lines_then}
+use Rattle.table_text.specs.TableText.{title_then, sizes_then, ids_then, entry_then, entries_then, end_then, lines_then, table_text}
 use Rattle.table_text.proofs.TableLines.{lines_more}
 use Rattle.table_text.proofs.TextsApart.{lines_append}
 
@@ -30,3 +30,22 @@ front_more t n channel window text line lt next written is wrote =
     ∙ more
     ∙ ap (λ entries. lines_then (record t { entries = entries }) [])
     (ap (λ c. take n t.entries ++ c ∷ []) is ∙ sym (take_more t.entries n 0 lt))
+
+-- the lines of the first entries, and then those of the others
+entries_split :
+    (n : ℕ) (ws : List (List ℕ)) (cs rest : List ℕ) → length cs ≤ length ws
+    → entries_then ws cs rest ≡ entries_then ws (take n cs) (entries_then (drop n ws) (drop n cs) rest)
+entries_split zero ws cs rest enough = refl
+entries_split (suc n) ws [] rest enough = refl
+entries_split (suc n) [] (c ∷ cs) rest enough = absurd (omega arith)
+entries_split (suc n) (w ∷ ws) (c ∷ cs) rest enough = ap (entry_then w c) (entries_split n ws cs rest (omega arith))
+
+-- the text of a table begins with the lines of its first entries
+pub lines_front : (t : ChannelTable) (n : ℕ) → length t.entries ≤ length (windows_of t) → (more : List ℕ) × (lines_then (front_of t n) [] ++ more ≡ table_text t)
+unfolding table_text lines_then
+lines_front t n enough =
+    let more = entries_then (drop n (windows_of t)) (drop n t.entries) (end_then []) in (
+      more,
+      lines_append (front_of t n) [] more
+          ∙ ap (λ lines. title_then (sizes_then t.rounds t.ids t.channels lines)) (sym (entries_split n (windows_of t) t.entries (end_then []) enough)),
+    )

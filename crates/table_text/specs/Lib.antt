@@ -5,3 +5,4 @@ pub mod LineForms
 pub mod Faults
 pub mod Laws
 pub mod Fronts
+pub mod Pieces

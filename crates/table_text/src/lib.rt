@@ -1,12 +1,16 @@
 //! The text of a table: reading and writing it.
 #![tactic(auto)]
 
+mod chunk;
 mod fault;
 mod laws;
 mod limits;
 mod lines;
 mod numbers;
+mod piece;
+mod pieces;
 mod reading;
+mod storing;
 mod writing;
 
 pub use fault::TableFault;
@@ -15,7 +19,7 @@ pub use laws::{
 };
 pub use limits::LONGEST_TABLE_TEXT;
 pub use reading::read_table;
-pub use writing::{text_of_table, write_table};
+pub use writing::write_table;
 
 #[cfg(test)]
 mod tests;

@@ -1,3 +1,4 @@
 mod Parts
-mod Ends
-pub mod Commands
+mod GivenOptions
+mod Refusals
+mod Calls

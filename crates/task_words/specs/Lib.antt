@@ -1,8 +1,10 @@
--- The definitions that the contracts cite: numbers and ring texts, numbers of workers and segments, tasks, commands, and refusals of words.
+-- The definitions that the contracts cite: numbers and ring texts, numbers of workers and segments, tasks, the command line, what words
+-- ask for, and refusals of words.
 pub mod Decimal
 pub mod RingText
 pub mod Counts
 pub mod Task
+pub mod CommandLine
 pub mod Words
-pub mod CommandWords
+pub mod Options
 pub mod WordsFault

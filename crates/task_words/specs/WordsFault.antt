@@ -1,21 +1,32 @@
 -- When a refusal of words comes, and the exit status after it.
-use Rattle.std.specs.Prelude.{◌≡◌, ℕ, Result, Err}
+use Rattle.std.specs.Prelude.{◌≡◌, ◌≢◌, ◌⊎◌, ℕ, Result, Err, String, codes, string_bytes}
+use Rattle.std.specs.declared.alloc.Global.{Global}
 use Rattle.std.specs.declared.io.ErrorKind.{ErrorKind}
 use Rattle.std.specs.declared.io.ErrorKind.TheVariants as kind
 use Rattle.task_words.specs.declared.words.WordsFault.{WordsFault}
-use Rattle.task_words.specs.declared.words.WordsFault.TheVariants.{Usage, BadRing, OutOfMemory}
+use Rattle.task_words.specs.declared.words.WordsFault.TheVariants.{Usage, BadRing, OutOfMemory, Help}
 
 -- a fact that holds unless memory was refused
 abbrev pub MemoryAside : {T : Type 0} → Result T WordsFault → Type 0 → Type 0
 MemoryAside result fact = ¬ (result ≡ Err OutOfMemory) → fact
 
--- the refusal where the words could not be had: memory was refused, or else a word is not UTF-8
-abbrev pub refusal_of : ErrorKind → WordsFault
-refusal_of kind.OutOfMemory = OutOfMemory
-refusal_of _ = Usage
+-- the answer is a refusal with a text of `clap`
+abbrev pub IsUsage : {T : Type 0} → Result T WordsFault → Type 0
+IsUsage result = (text : String Global) × (result ≡ Err (Usage text))
 
--- the exit status after words that are refused
+-- the answer is a text of help
+abbrev pub IsHelp : {T : Type 0} → Result T WordsFault → Type 0
+IsHelp result = (text : String Global) × (result ≡ Err (Help text))
+
+-- the answer where the words could not be had, by the kind of the error: memory was refused, for the words or for the text of the
+-- refusal; or else a word is not UTF-8
+abbrev pub IsRefusalAt : ErrorKind → WordsFault → Type 0
+IsRefusalAt error fault = (fault ≡ OutOfMemory)
+    ⊎ ((error ≢ kind.OutOfMemory) × (text : String Global) × (fault ≡ Usage text) × (string_bytes text ≡ codes "nbhd: words are not UTF-8\n"))
+
+-- the exit status after words that are refused, or that ask for help
 abbrev pub words_fault_code : WordsFault → ℕ
-words_fault_code Usage = 2
+words_fault_code (Usage text) = 2
 words_fault_code BadRing = 2
 words_fault_code OutOfMemory = 6
+words_fault_code (Help text) = 0

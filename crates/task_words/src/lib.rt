@@ -1,8 +1,12 @@
 //! The words of the command line, and the tasks that they ask for.
 #![tactic(auto)]
 
+mod command_line;
 mod decimal;
+mod help;
 pub mod limits;
+mod options;
+mod parsing;
 pub mod ring_text;
 pub mod task;
 #[cfg(test)]

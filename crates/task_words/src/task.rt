@@ -4,7 +4,6 @@ ghost use Rattle.std.specs.Prelude.{◌↔◌, IsTrue};
 ghost use Rattle.task_words.specs.Counts.{IsCount};
 
 use crate::limits::MAX_COUNT;
-use node_lang::LONGEST_TEXT;
 
 /// What the words of a command ask for.
 #[derive(Debug, PartialEq, Eq, Drop)]
@@ -49,19 +48,21 @@ pub enum Task {
         /// How many workers do it, 1 to 64.
         workers: u32,
     },
+    /// Tells whether the channels of neighbours differ on every ring, by the table text of the input.
+    Audit,
 }
 
 impl Task {
     ghost use Rattle.std.specs.Prelude.{◌≡◌, ◌↔◌, IsTrue};
-    ghost use Rattle.task_words.specs.Task.{ids_of, limit_of, IsRunnable};
+    ghost use Rattle.task_words.specs.Task.{ids_of, IsRunnable};
 
-    /// How many identifiers there are.
-    pub fn ids(&self) -> u32
+    /// How many identifiers there are; none of an audit, whose table says it.
+    pub fn ids(&self) -> Option<u32>
         ensures { result ≡ ids_of self.now }
     {
         match self {
-            Task::Check { ids } => *ids,
-            Task::Table { ids, workers: _ } | Task::Judge { ids, workers: _ } => *ids,
+            Task::Check { ids } => Some(*ids),
+            Task::Table { ids, workers: _ } | Task::Judge { ids, workers: _ } => Some(*ids),
             Task::Run {
                 ids,
                 ring: _,
@@ -71,7 +72,8 @@ impl Task {
                 ids,
                 ring: _,
                 workers: _,
-            } => *ids,
+            } => Some(*ids),
+            Task::Audit => None,
         }
     }
 
@@ -85,7 +87,8 @@ impl Task {
                 ids: _,
                 ring: _,
                 segments: _,
-            } => true,
+            }
+            | Task::Audit => true,
             Task::Table { ids: _, workers } | Task::Judge { ids: _, workers } => is_count(*workers),
             Task::Plan {
                 ids: _,
@@ -94,17 +97,10 @@ impl Task {
             } => is_count(*workers),
         }
     }
-
-    /// The most bytes that the input may have.
-    pub fn limit(&self) -> usize
-        ensures { result ≡ limit_of self.now }
-    {
-        LONGEST_TEXT
-    }
 }
 
 // Whether words can ask for so many workers or segments.
-pub(crate) fn is_count(count: u32) -> bool
+fn is_count(count: u32) -> bool
     ensures { IsTrue result ↔ IsCount count }
 {
     1 <= count && count <= MAX_COUNT

@@ -1,6 +1,7 @@
 use super::IDENTIFIERS;
 use crate::reading::read_table;
-use crate::writing::text_of_table;
+use crate::writing::write_table;
+use devices::watched::Watched;
 use std::alloc::Global;
 use std::test::Fail;
 
@@ -44,16 +45,18 @@ fn a_table_of_one_channel(rt: HostRuntime) -> Result<(), Fail> {
 }
 
 // The table of a text, written again.
-fn written_again(alloc: Global, text: &[u8]) -> Result<String, Fail> {
+fn written_again(alloc: Global, text: &[u8]) -> Result<Vec<u8>, Fail> {
     let table = read_table(alloc, text).ok().ok_or("a table")?;
-    Ok(text_of_table(alloc, &table)?)
+    let mut writer = Watched::new(Vec::new(alloc));
+    write_table(alloc, &table, &mut writer)?;
+    Ok(writer.into_device())
 }
 
 #[test]
 fn a_table_that_was_read_is_written_again(rt: HostRuntime) -> Result<(), Fail> {
     for text in [IDENTIFIERS, ONE_CHANNEL] {
         let written = written_again(rt.alloc(), text)?;
-        assert_eq!(rt; written.as_bytes(), text);
+        assert_eq!(rt; written.as_slice(), text);
     }
     Ok(())
 }

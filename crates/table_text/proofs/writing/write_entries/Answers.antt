@@ -1,39 +1,52 @@
-use Rattle.std.proofs.Common.{◌<◌, ◌≤◌, [], length, refl, ap, ◌∙◌, arith, rules}
+use Rattle.std.proofs.Common.{◌≡◌, ◌+◌, ◌*◌, ◌<◌, ◌≤◌, [], ◌++◌, length, take, refl, sym, ap, ◌∙◌, subst, arith, rules}
 use Rattle.std.proofs.lemmas.List.{take_all}
+use Rattle.std.proofs.lemmas.Result.{on_err_weaker}
+use Rattle.std.proofs.KnownBytes.{Appends-nil}
+use Rattle.devices.specs.Watched.{device_of}
 use Rattle.table_fill.specs.Tables.{windows_of}
-use Rattle.table_text.specs.TableText.{lines_then}
-use Rattle.table_text.proofs.WrittenLines.{front_more}
+use Rattle.table_text.specs.TableText.{lines_then, entry_then}
+use Rattle.table_text.specs.Pieces.{held, Tells}
+use Rattle.table_text.proofs.WrittenLines.{front_of, front_more, lines_front}
+use Rattle.table_text.proofs.WrittenChunks.{tells_more, tells_front, on_err}
 use Rattle.table_text.proofs.writing.write_entries.Goals as goal
 
 pub loop-number-init : goal.loop-number-init
 unfolding lines_then
-loop-number-init c =
+loop-number-init g c =
     record {
       next = search rules;
       window = search rules;
-      written = c.requires;
+      working = c.requires.working;
+      told = ([], Appends-nil _, c.requires.first);
     }
 
--- One line more was written.
+-- One line more is held.
 pub loop-number-preserved : goal.loop-number-preserved
-loop-number-preserved c =
+loop-number-preserved g c =
     let t = c.args.table.now in
     let n = c.loop-number.number in
     let size = c.entry.ensures.table.size in
     let within : n < length (windows_of t) = search rules in
+    let window = c.loop-number.window in
+    let line = entry_then window c.entry.result [] in
+    let before = c.in_ok-make_room.ensures.ok _ _ c.loop-number.invariant.told in
+    let more = tells_more _ _ _ (held c.store_line.new.chunk) line _ before c.store_line.ensures in
+    let lines = front_more t n c.entry.result window _ line (omega (arith, size, within)) (c.loop-number.invariant.next within) refl c.entry.ensures.value refl in
     record {
       next = search rules;
       window = search rules;
-      written =
-          c.in_ok-write_entry.ensures
-          ∙ front_more t n c.entry.result c.loop-number.window _ _ (omega (arith, size, within)) (c.loop-number.invariant.next within)
-          c.loop-number.invariant.written c.entry.ensures.value refl;
+      working = search rules;
+      told = subst (Tells _ _ (held c.store_line.new.chunk)) lines more;
     }
 
--- All lines were written.
-pub returns : goal.returns
-returns c =
+pub returns-in_err-make_room-clause-err : goal.returns-in_err-make_room-clause-err
+returns-in_err-make_room-clause-err g c =
     let t = c.args.table.now in
-    let within : length (windows_of t) ≤ c.loop-number.number = search rules in
-    let all = take_all c.loop-number.number t.entries (omega (arith, within, c.shape-shape.ensures.table.size)) in
-    c.loop-number.invariant.written ∙ ap (λ entries. lines_then (record t { entries = entries }) []) all
+    let front = lines_front t c.loop-number.number (search rules) in
+    on_err c.from_residual.result (tells_front _ _ _ _ _ _ front.0 c.loop-number.invariant.told c.in_err-make_room.ensures.err front.1)
+
+pub returns-clause-err : goal.returns-clause-err
+returns-clause-err g c =
+    let t = c.args.table.now in
+    let front = lines_front t c.loop-number.number (search rules) in
+    on_err_weaker c.make_room-2.result (λ failed. tells_front _ _ _ _ _ _ front.0 c.loop-number.invariant.told failed front.1) c.make_room-2.ensures.err

@@ -1,9 +1,0 @@
-use Rattle.std.proofs.Common.{rules}
-use Rattle.nbhd_check.specs.Verdicts.{IsWitness}
-use Rattle.plan_print.specs.Report.{bad}
-use Rattle.plan_print.proofs.answer.judgement.Goals as goal
-
-pub returns-in_ok-bad_line-in-No-clause-answer : goal.returns-in_ok-bad_line-in-No-clause-answer
-returns-in_ok-bad_line-in-No-clause-answer c =
-    let witness : IsWitness c.args.table.now c.in-No.ring.items c.in-No.place c.in-No.channel = search rules in
-    bad _ _ _ witness (search rules)

@@ -1,0 +1,31 @@
+-- Short texts of which the lines of windows are made. No public contract cites this file.
+use Rattle.std.specs.Prelude.{◌≡◌, ℕ, List, [], ◌∷◌, ◌++◌, take, map, length, codes, Option}
+use Rattle.std.specs.Io.KnownBytes.{Appends}
+use Rattle.std.specs.List.{range_with_len}
+use Rattle.std.specs.Fmt.{decimal}
+use Rattle.table_text.specs.declared.piece.Piece.{Piece}
+use Rattle.table_text.specs.declared.chunk.Chunk.{Chunk}
+
+-- the text of a piece
+abbrev pub piece_text : Piece → List ℕ
+piece_text piece = take piece.len piece.bytes
+
+-- an identifier and a blank
+abbrev pub id_text : ℕ → List ℕ
+id_text id = decimal id ++ 32 ∷ []
+
+-- what follows the identifiers of a line with this channel
+abbrev pub channel_text : ℕ → List ℕ
+channel_text channel = codes ": " ++ (decimal channel ++ 10 ∷ [])
+
+-- each piece has the text of its place
+abbrev pub AreTexts : (ℕ → List ℕ) → List Piece → Type 0
+AreTexts text pieces = map piece_text pieces ≡ map text (range_with_len 0 (length pieces))
+
+-- the bytes that a chunk holds
+abbrev pub held : Chunk → List ℕ
+held chunk = take chunk.filled chunk.bytes.items
+
+-- what a writer was given since, and after it what is held, is the text
+abbrev pub Tells : Option (List ℕ) → Option (List ℕ) → List ℕ → List ℕ → Type 0
+Tells before now waiting text = (sent : List ℕ) × Appends before now sent × (sent ++ waiting ≡ text)

@@ -1,0 +1,10 @@
+// Short texts, each in as many cells as the others, so that one is stored by one move.
+ghost use Rattle.std.specs.Prelude.{◌≤◌};
+
+// At most 8 bytes of text.
+#[derive(Clone, Copy)]
+pub(crate) struct Piece {
+    pub(crate) bytes: [u8; 8],
+    pub(crate) len: usize,
+    pub(crate) ghost short: { len ≤ 8 },
+}

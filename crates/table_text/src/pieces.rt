@@ -1,0 +1,65 @@
+// The pieces of which the lines of windows are made.
+ghost use Rattle.std.specs.Prelude.{◌≡◌, ◌<◌, ◌≤◌, length, IfOk};
+ghost use Rattle.node_lang.specs.declared.limits.TheConstants.{MAX_CHANNELS};
+ghost use Rattle.win_index.specs.declared.limits.TheConstants.{MAX_IDS};
+ghost use Rattle.table_text.specs.Pieces.{piece_text, id_text, channel_text, AreTexts};
+
+use crate::piece::Piece;
+use std::alloc::{AllocError, Global};
+
+// An identifier and a blank, for each identifier below this number.
+pub(crate) fn id_pieces(alloc: Global, ids: u32) -> Result<Vec<Piece>, AllocError>
+    requires { ids ≤ MAX_IDS }
+    ensures texts { IfOk result (λ pieces. AreTexts id_text pieces.items) }
+    ensures count { IfOk result (λ pieces. length pieces.items ≡ ids) }
+{
+    let mut pieces = Vec::with_capacity(alloc, ids as usize)?;
+    for id in 0..ids {
+        pieces.push(id_piece(alloc, id)?)?;
+    }
+    Ok(pieces)
+}
+
+// What follows the identifiers of a line, for each channel below this number.
+pub(crate) fn channel_pieces(alloc: Global, channels: u32) -> Result<Vec<Piece>, AllocError>
+    requires { channels ≤ MAX_CHANNELS }
+    ensures texts { IfOk result (λ pieces. AreTexts channel_text pieces.items) }
+    ensures count { IfOk result (λ pieces. length pieces.items ≡ channels) }
+{
+    let mut pieces = Vec::with_capacity(alloc, channels as usize)?;
+    for channel in 0..channels {
+        pieces.push(channel_piece(alloc, channel)?)?;
+    }
+    Ok(pieces)
+}
+
+// An identifier and a blank.
+fn id_piece(alloc: Global, id: u32) -> Result<Piece, AllocError>
+    requires { id < MAX_IDS }
+    ensures { IfOk result (λ piece. piece_text piece ≡ id_text id) }
+{
+    let text = format!(in alloc; "{id} ")?;
+    Ok(piece_of(text.as_bytes()))
+}
+
+// What follows the identifiers of a line with this channel.
+fn channel_piece(alloc: Global, channel: u32) -> Result<Piece, AllocError>
+    requires { channel < MAX_CHANNELS }
+    ensures { IfOk result (λ piece. piece_text piece ≡ channel_text channel) }
+{
+    let text = format!(in alloc; ": {channel}\n")?;
+    Ok(piece_of(text.as_bytes()))
+}
+
+// A text of at most 8 bytes as a piece.
+pub(crate) fn piece_of(text: &[u8]) -> Piece
+    requires { length text.now ≤ 8 }
+    ensures { piece_text result ≡ text.now }
+{
+    let mut bytes = [0; 8];
+    bytes[..text.len()].copy_from_slice(text);
+    Piece {
+        bytes,
+        len: text.len(),
+    }
+}

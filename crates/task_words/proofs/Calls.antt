@@ -1,0 +1,67 @@
+-- The command that was met, and its answer.
+use Rattle.std.proofs.Common.{◌≡◌, ◌⊎◌, List, Option, Some, None, Result, Ok, Err, Bor, inl, inr, refl, sym, ◌∙◌, ap, ap₂, subst, true, false, Global}
+use Rattle.std.specs.Prelude.{◌↔◌, Box, IfOk, IfErr, IsOk, option_map}
+use Rattle.clap.specs.Words.{Row, Text, found_of, rows_of, subcommand_name_of, subcommand_of, subcommand_rows, subcommand_rows_of}
+use Rattle.clap.specs.declared.parser.matches.ArgMatches.{ArgMatches}
+use Rattle.clap.specs.declared.parser.matches.ArgMatches.TheViews.{out-ArgMatches, out-SubCommand}
+use Rattle.clap.specs.declared.parser.matches.SubCommand.{SubCommand}
+use Rattle.std.specs.Box.{box_value}
+use Rattle.task_words.specs.CommandLine.{command_line}
+use Rattle.task_words.specs.Words.{HasBadRing, IsCallOf, IsCommand, IsRingBad, IsRingName}
+use Rattle.task_words.specs.WordsFault.{MemoryAside}
+use Rattle.task_words.specs.declared.words.WordsFault.{WordsFault}
+use Rattle.task_words.specs.declared.words.WordsFault.TheVariants.{BadRing, OutOfMemory}
+
+-- the name and the values of the options of the command that was met
+abbrev pub met_of : Option (Bor Text × Bor ArgMatches) → Option (Text × List Row)
+met_of = option_map (λ p. (p.0.now, rows_of (found_of p.1.now)))
+
+abbrev pair : Text → List Row → Option (Text × List Row)
+pair name values = Some (name, values)
+
+both_same : (a b : Text) (v w : List Row) → Some a ≡ Some b → Some v ≡ Some w → pair a v ≡ pair b w
+both_same a b v w names values =
+    let name : a ≡ b = cc in
+    let value : v ≡ w = cc in
+    ap₂ pair name value
+
+met : (o : Option (Bor Text × Bor ArgMatches)) (s : Option (Box SubCommand Global))
+    → option_map (λ p. p.0.now) o ≡ option_map (λ b. (out-SubCommand (box_value b)).name.now) s
+    → option_map (λ p. rows_of (found_of p.1.now)) o ≡ option_map (λ p. p.1) (subcommand_rows s) → met_of o ≡ subcommand_rows s
+met None None name rows = refl
+met None (Some b) name rows = absurd (no_name _ name)
+  where
+    no_name : (a : Text) → None ≡ Some a → ⊥
+    no_name a is = cc
+met (Some p) None name rows = absurd (no_name _ name)
+  where
+    no_name : (a : Text) → Some a ≡ None → ⊥
+    no_name a is = cc
+met (Some p) (Some b) name rows = both_same _ _ _ _ name rows
+
+pub call_is : (words : List Text) (m : ArgMatches) (o : Option (Bor Text × Bor ArgMatches)) → option_map (λ p. p.0.now) o ≡ subcommand_name_of m
+    → option_map (λ p. rows_of (found_of p.1.now)) o ≡ option_map (λ p. p.1) (subcommand_rows_of m)
+    → subcommand_rows_of m ≡ subcommand_of command_line words → subcommand_of command_line words ≡ met_of o
+call_is words m o name rows is = sym (met o (out-ArgMatches m).subcommand name rows ∙ is)
+
+-- a bad ring of the command that was met
+IsBadMet : Option (Text × List Row) → Type 0
+IsBadMet None = ⊥
+IsBadMet (Some p) = IsRingName p.0 × IsRingBad p.1
+
+bad_met : (words : List Text) (name : Text) (values : List Row) → IsCallOf words name values → HasBadRing words → IsRingName name × IsRingBad values
+unfolding IsBadMet
+bad_met words name values call bad = subst IsBadMet (sym bad.3 ∙ call) (bad.4, bad.5)
+
+not_ok : false ≡ true → ⊥
+not_ok bad = cc
+
+pub is_ok : {T : Type 0} (r : Result T WordsFault) (words : List Text) (name : Text) (values : List Row) → IsCommand words → IsCallOf words name values
+    → IfOk r (λ _. IsRingName name → ¬ IsRingBad values)
+    → IfErr r (λ fault. (fault ≡ OutOfMemory) ⊎ ((fault ≡ BadRing) × IsRingName name × IsRingBad values))
+    → MemoryAside r (IsOk r ↔ (IsCommand words × ¬ HasBadRing words))
+is_ok (Ok task) words name values clean call good refused aside =
+    ((λ _. (clean, λ bad. let met = bad_met words name values call bad in good met.0 met.1)), λ _. refl)
+is_ok (Err fault) words name values clean call good (inl memory) aside = absurd (aside (ap Err memory))
+is_ok (Err fault) words name values clean call good (inr bad) aside =
+    ((λ ok. absurd (not_ok ok)), λ fine. absurd (fine.1 (clean, name, values, call, bad.1, bad.2)))

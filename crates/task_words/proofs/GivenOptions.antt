@@ -1,0 +1,124 @@
+-- What the options of each command give, where `clap` takes the words.
+use Rattle.std.proofs.Common.{◌≡◌, ℕ, Bool, true, false, List, [], Option, Some, None, Result, inl, inr, refl, sym, ◌∙◌, ap, subst, arith, codes, ◌<◌, ◌≤◌, ◌^◌}
+use Rattle.std.specs.Prelude.{◌||◌}
+use Rattle.std.specs.Option.{IsSomeAnd}
+use Rattle.std.specs.Str.{bytes_eq}
+use Rattle.std.specs.Str.Parse.{ParsesUnsigned, ExplainsUnsignedError, HasUnsignedDigitsIfOk}
+use Rattle.std.specs.declared.num.ParseIntError.{ParseIntError}
+use Rattle.clap.specs.declared.parser.matches.Found.{Found}
+use Rattle.clap.specs.Words.{ReadsOne, Row, Text, fault_of, one_text, rows_of, subcommand_of, without_minus}
+use Rattle.clap.proofs.CallerReads.{signed_reads}
+use Rattle.clap.proofs.WalkLemmas.{one_text-rows}
+use Rattle.option_values.specs.OptionLines.{HasValue, IsOneOf, is_option_line}
+use Rattle.option_values.specs.Laws.{OptionsHaveValues}
+use Rattle.task_words.specs.CommandLine.{command_line, ids_rule, ring_rule, workers_rule, segments_rule}
+use Rattle.task_words.specs.Options.{IsNumberGiven, IsTextGiven}
+use Rattle.task_words.specs.Words.{HasNumber}
+
+-- ---- the options of each command
+
+abbrev pub is_named : Text → Text → Bool
+is_named other name = bytes_eq name other
+
+abbrev pub takes_workers : Text → Bool
+takes_workers name = is_named (codes "table") name || (is_named (codes "judge") name || is_named (codes "plan") name)
+
+abbrev pub takes_ring : Text → Bool
+takes_ring name = is_named (codes "run") name || is_named (codes "plan") name
+
+abbrev pub takes_ids : Text → Bool
+takes_ids name = is_named (codes "check") name || (is_named (codes "table") name || (is_named (codes "judge") name || takes_ring name))
+
+-- a name that passes a test is no other name that fails it
+other_name : (test : Text → Bool) (name other : Text) → test other ≡ false → test name ≡ true → name ≡ other → ⊥
+other_name test name other fails passes is =
+    let bad : true ≡ false = sym passes ∙ (ap test is ∙ fails) in
+    cc
+
+ids_of_value : (values : List Row) → HasValue ids_rule values → IsNumberGiven values (codes "ids") 0 4294967295
+ids_of_value values value = (value.0, value.2, value.3)
+
+workers_of_value : (values : List Row) → HasValue workers_rule values → IsNumberGiven values (codes "workers") 1 64
+workers_of_value values value = (value.0, value.2, value.3)
+
+segments_of_value : (values : List Row) → HasValue segments_rule values → IsNumberGiven values (codes "segments") 1 64
+segments_of_value values value = (value.0, value.2, value.3)
+
+ring_of_value : (values : List Row) → HasValue ring_rule values → IsTextGiven values (codes "ring")
+ring_of_value values value = (value.0, value.1)
+
+pub ids_given : (name : Text) (values : List Row) → IsOneOf command_line.subs name values → takes_ids name ≡ true → IsNumberGiven values (codes "ids") 0 4294967295
+ids_given name values (inl (is, (ids, rest))) takes = ids_of_value values (ids refl)
+ids_given name values (inr (inl (is, (ids, rest)))) takes = ids_of_value values (ids refl)
+ids_given name values (inr (inr (inl (is, (ids, rest))))) takes = ids_of_value values (ids refl)
+ids_given name values (inr (inr (inr (inl (is, (ids, rest)))))) takes = ids_of_value values (ids refl)
+ids_given name values (inr (inr (inr (inr (inl (is, (ids, rest))))))) takes = ids_of_value values (ids refl)
+ids_given name values (inr (inr (inr (inr (inr (inl (is, rest))))))) takes = absurd (other_name takes_ids name _ refl takes is)
+ids_given name values (inr (inr (inr (inr (inr (inr none)))))) takes = absurd none
+
+pub workers_given : (name : Text) (values : List Row) → IsOneOf command_line.subs name values → takes_workers name ≡ true → IsNumberGiven values (codes "workers") 1 64
+workers_given name values (inl (is, rest)) takes = absurd (other_name takes_workers name _ refl takes is)
+workers_given name values (inr (inl (is, (ids, (workers, rest))))) takes = workers_of_value values (workers refl)
+workers_given name values (inr (inr (inl (is, (ids, (workers, rest)))))) takes = workers_of_value values (workers refl)
+workers_given name values (inr (inr (inr (inl (is, rest))))) takes = absurd (other_name takes_workers name _ refl takes is)
+workers_given name values (inr (inr (inr (inr (inl (is, (ids, (ring, (workers, rest))))))))) takes = workers_of_value values (workers refl)
+workers_given name values (inr (inr (inr (inr (inr (inl (is, rest))))))) takes = absurd (other_name takes_workers name _ refl takes is)
+workers_given name values (inr (inr (inr (inr (inr (inr none)))))) takes = absurd none
+
+pub segments_given : (name : Text) (values : List Row) → IsOneOf command_line.subs name values → is_named (codes "run") name ≡ true
+    → IsNumberGiven values (codes "segments") 1 64
+segments_given name values (inl (is, rest)) takes = absurd (other_name (is_named (codes "run")) name _ refl takes is)
+segments_given name values (inr (inl (is, rest))) takes = absurd (other_name (is_named (codes "run")) name _ refl takes is)
+segments_given name values (inr (inr (inl (is, rest)))) takes = absurd (other_name (is_named (codes "run")) name _ refl takes is)
+segments_given name values (inr (inr (inr (inl (is, (ids, (ring, (segments, rest)))))))) takes = segments_of_value values (segments refl)
+segments_given name values (inr (inr (inr (inr (inl (is, rest)))))) takes = absurd (other_name (is_named (codes "run")) name _ refl takes is)
+segments_given name values (inr (inr (inr (inr (inr (inl (is, rest))))))) takes = absurd (other_name (is_named (codes "run")) name _ refl takes is)
+segments_given name values (inr (inr (inr (inr (inr (inr none)))))) takes = absurd none
+
+pub ring_given : (name : Text) (values : List Row) → IsOneOf command_line.subs name values → takes_ring name ≡ true → IsTextGiven values (codes "ring")
+ring_given name values (inl (is, rest)) takes = absurd (other_name takes_ring name _ refl takes is)
+ring_given name values (inr (inl (is, rest))) takes = absurd (other_name takes_ring name _ refl takes is)
+ring_given name values (inr (inr (inl (is, rest)))) takes = absurd (other_name takes_ring name _ refl takes is)
+ring_given name values (inr (inr (inr (inl (is, (ids, (ring, rest))))))) takes = ring_of_value values (ring refl)
+ring_given name values (inr (inr (inr (inr (inl (is, (ids, (ring, rest)))))))) takes = ring_of_value values (ring refl)
+ring_given name values (inr (inr (inr (inr (inr (inl (is, rest))))))) takes = absurd (other_name takes_ring name _ refl takes is)
+ring_given name values (inr (inr (inr (inr (inr (inr none)))))) takes = absurd none
+
+-- ---- the number that a value is
+
+-- what `u32` reads from a text
+abbrev Reads32 : List ℕ → Result ℕ ParseIntError → Type 0
+Reads32 text r = ParsesUnsigned 32 10 text r × ExplainsUnsignedError 10 text r × HasUnsignedDigitsIfOk text r
+
+-- an option whose value is a number in a range of 32 bits reads as this number
+pub number_read : (f : Found) (option : Text) (r : Option ℕ) (low high : ℕ) → high < 2 ^ 32
+    → ((text : Text) → one_text f option ≡ Some text → ReadsOne Reads32 text r) → IsNumberGiven (rows_of f) option low high
+    → (n : ℕ) × (r ≡ Some n) × HasNumber (rows_of f) option n × (low ≤ n) × (n ≤ high)
+number_read f option r low high fits reads given =
+    let read = reads (without_minus given.0) (one_text-rows f option ∙ given.1) in
+    let number = signed_reads ParseIntError Reads32 32 low high given.0 r read (λ u x g. g.0) fits given.2 in
+    (number.0, number.1, go r number.0 number.1 read, number.2, number.3)
+  where
+    go : (o : Option ℕ) (n : ℕ) → o ≡ Some n → ReadsOne Reads32 (without_minus given.0) o → HasNumber (rows_of f) option n
+    go (Some m) n is read =
+        let same : n ≡ m = grind arith in
+        (without_minus given.0, given.1, read.0.0, same ∙ read.0.1)
+    go None n is read = absurd (grind arith)
+
+-- ---- the law at this command line
+
+is_line : is_option_line command_line ≡ true
+is_line = refl
+
+-- where `clap` takes the words, they name one of the commands, whose options have their values
+taken : OptionsHaveValues → (words : List Text) → fault_of command_line words ≡ [] → IsSomeAnd (subcommand_of command_line words) (λ met. IsOneOf command_line.subs met.0 met.1)
+taken law words clean = law command_line words is_line clean
+
+pub command_given : OptionsHaveValues → (words : List Text) (name : Text) (values : List Row) → fault_of command_line words ≡ []
+    → subcommand_of command_line words ≡ Some (name, values) → IsOneOf command_line.subs name values
+command_given law words name values clean met =
+    subst (λ o. IsSomeAnd o (λ (p : Text × List Row). IsOneOf command_line.subs p.0 p.1)) met (taken law words clean)
+
+pub some_command : OptionsHaveValues → (words : List Text) → fault_of command_line words ≡ [] → subcommand_of command_line words ≡ None → ⊥
+some_command law words clean met =
+    subst (λ o. IsSomeAnd o (λ (p : Text × List Row). IsOneOf command_line.subs p.0 p.1)) met (taken law words clean)

@@ -1,0 +1,21 @@
+use Rattle.std.proofs.Common.{ap₂, ◌≡◌, ◌∙◌}
+use Rattle.std.proofs.lemmas.Result.{IfOk-weaker}
+use Rattle.clap.specs.Words.{App, AddsSubcommand, Shape, app_of, with_subcommand}
+use Rattle.clap.specs.declared.builder.command.Command.{Command}
+use Rattle.task_words.specs.CommandLine.{IsCommandOf, check_command, table_command, judge_command, run_command, plan_command, audit_command}
+use Rattle.task_words.proofs.command_line.command_line.Goals as goal
+
+-- what the command was and what was added to it
+added : (old sub new : Command) (line : App) (shape : Shape) → app_of old ≡ line → IsCommandOf shape sub → AddsSubcommand old sub new
+    → app_of new ≡ with_subcommand line shape
+added old sub new line shape was is adds = adds.shape is.1 ∙ ap₂ with_subcommand was is.0
+
+-- Each command stands behind those before it.
+pub returns : goal.returns
+returns c =
+    let first = added _ _ _ _ check_command c.in_ok-program.ensures c.in_ok-check.ensures c.in_ok-subcommand.ensures in
+    let second = added _ _ _ _ table_command first c.in_ok-table.ensures c.in_ok-subcommand-2.ensures in
+    let third = added _ _ _ _ judge_command second c.in_ok-judge.ensures c.in_ok-subcommand-3.ensures in
+    let fourth = added _ _ _ _ run_command third c.in_ok-run.ensures c.in_ok-subcommand-4.ensures in
+    let fifth = added _ _ _ _ plan_command fourth c.in_ok-plan.ensures c.in_ok-subcommand-5.ensures in
+    IfOk-weaker c.subcommand-6.result _ _ (λ line adds. added _ _ line _ audit_command fifth c.audit.ensures adds) c.subcommand-6.ensures

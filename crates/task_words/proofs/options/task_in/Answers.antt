@@ -1,0 +1,19 @@
+use Rattle.std.proofs.Common.{ap}
+use Rattle.clap.specs.Words.{found_of, rows_of}
+use Rattle.task_words.proofs.GivenOptions.{takes_ids, ids_given}
+use Rattle.task_words.proofs.options.task_in.Goals as goal
+
+pub ids_of-requires : goal.ids_of-requires
+ids_of-requires c = ids_given _ (rows_of (found_of c.args.options.now)) c.requires (ap takes_ids c.in-check.is)
+
+pub ids_of-requires-in-table : goal.ids_of-requires-in-table
+ids_of-requires-in-table c = ids_given _ (rows_of (found_of c.args.options.now)) c.requires (ap takes_ids c.in-table.is)
+
+pub ids_of-requires-in-judge : goal.ids_of-requires-in-judge
+ids_of-requires-in-judge c = ids_given _ (rows_of (found_of c.args.options.now)) c.requires (ap takes_ids c.in-judge.is)
+
+pub ids_of-requires-in-run : goal.ids_of-requires-in-run
+ids_of-requires-in-run c = ids_given _ (rows_of (found_of c.args.options.now)) c.requires (ap takes_ids c.in-run.is)
+
+pub ids_of-requires-in-plan : goal.ids_of-requires-in-plan
+ids_of-requires-in-plan c = ids_given _ (rows_of (found_of c.args.options.now)) c.requires (ap takes_ids c.in-plan.is)

@@ -1,0 +1,9 @@
+use Rattle.task_words.proofs.Refusals.{is_simple_line, words_taken, words_refused}
+use Rattle.task_words.proofs.parsing.parsed.Goals as goal
+
+pub returns-in-Ok-clause-taken : goal.returns-in-Ok-clause-taken
+returns-in-Ok-clause-taken c = words_taken _ _ c.in_ok-command_line.ensures c.in-Ok.ensures.kinds
+
+pub returns-in_ok-refusal-in-Err-clause-refused : goal.returns-in_ok-refusal-in-Err-clause-refused
+returns-in_ok-refusal-in-Err-clause-refused c =
+    words_refused _ _ _ _ c.in_ok-command_line.ensures (c.in-Err.ensures.kinds (is_simple_line _ c.in_ok-command_line.ensures)) c.in_ok-refusal-in-Err.ensures

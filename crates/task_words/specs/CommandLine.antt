@@ -1,0 +1,88 @@
+-- The command line of the program, as `clap` reads it: one of six commands, then its options in any order, each with one value.
+use Rattle.std.specs.Prelude.{◌≡◌, ℕ, List, [], ◌∷◌, Some, true, false, codes, pos}
+use Rattle.clap.specs.Words.{App, Rule, Shape, new_app, new_rule, shape_of}
+use Rattle.clap.specs.declared.builder.command.Command.{Command}
+use Rattle.clap.specs.declared.builder.command.Command.TheViews.{out-Command}
+use Rattle.clap.specs.declared.builder.action.ArgAction.TheVariants.{Set}
+use Rattle.clap.specs.declared.builder.value_parser.ValueParser.{ValueParser}
+use Rattle.clap.specs.declared.builder.value_parser.ValueParser.TheVariants.{String, Signed}
+use Rattle.task_words.specs.declared.limits.TheConstants.{MAX_COUNT}
+
+-- the option `--NAME`, given at most once, with one value, which has one name in help and is accepted by this parser
+abbrev pub option_rule : List ℕ → ValueParser → Rule
+option_rule name parser = record (new_rule name) {
+  long = Some name;
+  action = Some Set;
+  value_names = 1;
+  parser = Some parser;
+}
+
+-- an option that has to be given
+abbrev pub required_rule : List ℕ → ValueParser → Rule
+required_rule name parser = record (option_rule name parser) { required = true }
+
+-- an option whose value is a number from 1 to 64, and 1 where the words leave it out
+abbrev pub count_rule : List ℕ → Rule
+count_rule name = record (option_rule name (Signed (pos 1) (pos MAX_COUNT))) { defaults = codes "1" ∷ [] }
+
+-- `--ids M`: a number from 0 to 4294967295
+abbrev pub ids_rule : Rule
+ids_rule = required_rule (codes "ids") (Signed (pos 0) (pos 4294967295))
+
+-- `--ring A,B,..`: any text
+abbrev pub ring_rule : Rule
+ring_rule = required_rule (codes "ring") String
+
+-- `--workers W`
+abbrev pub workers_rule : Rule
+workers_rule = count_rule (codes "workers")
+
+-- `--segments S`
+abbrev pub segments_rule : Rule
+segments_rule = count_rule (codes "segments")
+
+-- a command of this name with these options
+abbrev pub command_of : List ℕ → List Rule → Shape
+command_of name options = record (new_app name).top { rules = options }
+
+-- `clap`'s command has this shape, and no option that the commands below it share
+abbrev pub IsCommandOf : Shape → Command → Type 0
+IsCommandOf shape command = (shape_of command ≡ shape) × ((out-Command command).has_globals ≡ false)
+
+-- `check --ids M`
+abbrev pub check_command : Shape
+check_command = command_of (codes "check") (ids_rule ∷ [])
+
+-- `table --ids M [--workers W]`
+abbrev pub table_command : Shape
+table_command = command_of (codes "table") (ids_rule ∷ workers_rule ∷ [])
+
+-- `judge --ids M [--workers W]`
+abbrev pub judge_command : Shape
+judge_command = command_of (codes "judge") (ids_rule ∷ workers_rule ∷ [])
+
+-- `run --ids M --ring A,B,.. [--segments S]`
+abbrev pub run_command : Shape
+run_command = command_of (codes "run") (ids_rule ∷ ring_rule ∷ segments_rule ∷ [])
+
+-- `plan --ids M --ring A,B,.. [--workers W]`
+abbrev pub plan_command : Shape
+plan_command = command_of (codes "plan") (ids_rule ∷ ring_rule ∷ workers_rule ∷ [])
+
+-- `audit`
+abbrev pub audit_command : Shape
+audit_command = command_of (codes "audit") []
+
+-- the program, before its commands: the words are those after its name, and one command is wanted
+abbrev pub program : App
+program = record {
+  top = record (new_app (codes "nbhd")).top { no_binary_name = true; subcommand_required = true };
+  subs = [];
+}
+
+-- the words after the program's name: the name of one of the six commands, and its options
+abbrev pub command_line : App
+command_line = record {
+  top = record program.top { is_leaf = false };
+  subs = check_command ∷ table_command ∷ judge_command ∷ run_command ∷ plan_command ∷ audit_command ∷ [];
+}

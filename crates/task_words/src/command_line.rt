@@ -1,0 +1,160 @@
+//! The command line of the program: its commands and their options, with the texts of help.
+
+ghost use Rattle.std.specs.Prelude.{◌≡◌, IfOk, false};
+ghost use Rattle.clap.specs.Words.{app_of, rule_of};
+ghost use Rattle.task_words.specs.CommandLine.{IsCommandOf, program, option_rule, count_rule, ids_rule, ring_rule, workers_rule, segments_rule};
+ghost use Rattle.task_words.specs.CommandLine.{check_command, table_command, judge_command, run_command, plan_command};
+ghost use Rattle.task_words.specs.CommandLine.{audit_command, command_line};
+
+use crate::help;
+use crate::limits::MAX_COUNT;
+use clap::builder::ValueParser;
+use clap::{Arg, ArgAction, Command, value_parser};
+use std::alloc::{AllocError, Global};
+
+// The words after the program's name: one of the six commands, and its options.
+pub(crate) fn command_line<'a>(alloc: Global) -> Result<Command<'a>, AllocError>
+    ensures { IfOk result (λ line. app_of line ≡ command_line) }
+{
+    program(alloc)?
+        .subcommand(check(alloc)?)?
+        .subcommand(table(alloc)?)?
+        .subcommand(judge(alloc)?)?
+        .subcommand(run(alloc)?)?
+        .subcommand(plan(alloc)?)?
+        .subcommand(audit(alloc))
+}
+
+// The program before its commands.
+fn program<'a>(alloc: Global) -> Result<Command<'a>, AllocError>
+    ensures { IfOk result (λ line. app_of line ≡ program) }
+{
+    Command::new(alloc, "nbhd")
+        .no_binary_name(true)
+        .subcommand_required(true)
+        .about(help::PROGRAM)
+        .after_help(help::EXAMPLE)
+        .bin_name("nbhd")
+}
+
+// `check --ids M`.
+fn check<'a>(alloc: Global) -> Result<Command<'a>, AllocError>
+    ensures { IfOk result (IsCommandOf check_command) }
+{
+    Command::new(alloc, "check")
+        .about(help::CHECK)
+        .after_help(help::CHECK_DETAILS)
+        .arg(ids(alloc))
+}
+
+// `table --ids M [--workers W]`.
+fn table<'a>(alloc: Global) -> Result<Command<'a>, AllocError>
+    ensures { IfOk result (IsCommandOf table_command) }
+{
+    Command::new(alloc, "table")
+        .about(help::TABLE)
+        .after_help(help::TABLE_DETAILS)
+        .arg(ids(alloc))?
+        .arg(workers(alloc))
+}
+
+// `judge --ids M [--workers W]`.
+fn judge<'a>(alloc: Global) -> Result<Command<'a>, AllocError>
+    ensures { IfOk result (IsCommandOf judge_command) }
+{
+    Command::new(alloc, "judge")
+        .about(help::JUDGE)
+        .after_help(help::JUDGE_DETAILS)
+        .arg(ids(alloc))?
+        .arg(workers(alloc))
+}
+
+// `run --ids M --ring A,B,.. [--segments S]`.
+fn run<'a>(alloc: Global) -> Result<Command<'a>, AllocError>
+    ensures { IfOk result (IsCommandOf run_command) }
+{
+    Command::new(alloc, "run")
+        .about(help::RUN)
+        .after_help(help::RUN_DETAILS)
+        .arg(ids(alloc))?
+        .arg(ring(alloc))?
+        .arg(segments(alloc))
+}
+
+// `plan --ids M --ring A,B,.. [--workers W]`.
+fn plan<'a>(alloc: Global) -> Result<Command<'a>, AllocError>
+    ensures { IfOk result (IsCommandOf plan_command) }
+{
+    Command::new(alloc, "plan")
+        .about(help::PLAN)
+        .after_help(help::PLAN_DETAILS)
+        .arg(ids(alloc))?
+        .arg(ring(alloc))?
+        .arg(workers(alloc))
+}
+
+// `audit`.
+fn audit<'a>(alloc: Global) -> Command<'a>
+    ensures { IsCommandOf audit_command result }
+{
+    Command::new(alloc, "audit")
+        .about(help::AUDIT)
+        .after_help(help::AUDIT_DETAILS)
+}
+
+// `--ids M`.
+fn ids<'a>(alloc: Global) -> Arg<'a>
+    ensures rule { rule_of result ≡ ids_rule }
+    ensures local { result.global ≡ false }
+{
+    option(alloc, "ids", "M", value_parser!(u32))
+        .required(true)
+        .help(help::IDS)
+}
+
+// `--ring A,B,..`.
+fn ring<'a>(alloc: Global) -> Arg<'a>
+    ensures rule { rule_of result ≡ ring_rule }
+    ensures local { result.global ≡ false }
+{
+    option(alloc, "ring", "A,B,..", ValueParser::String)
+        .required(true)
+        .help(help::RING)
+}
+
+// `--workers W`.
+fn workers<'a>(alloc: Global) -> Arg<'a>
+    ensures rule { rule_of result ≡ workers_rule }
+    ensures local { result.global ≡ false }
+{
+    count(alloc, "workers", "W").help(help::WORKERS)
+}
+
+// `--segments S`.
+fn segments<'a>(alloc: Global) -> Arg<'a>
+    ensures rule { rule_of result ≡ segments_rule }
+    ensures local { result.global ≡ false }
+{
+    count(alloc, "segments", "S").help(help::SEGMENTS)
+}
+
+// An option whose value is a number from 1 to 64, and 1 where the words leave it out.
+fn count<'a>(alloc: Global, name: &'a str, value_name: &'a str) -> Arg<'a>
+    ensures rule { rule_of result ≡ count_rule name.entry.now }
+    ensures local { result.global ≡ false }
+{
+    let parser = value_parser!(u32).range(1..=i64::from(MAX_COUNT));
+    option(alloc, name, value_name, parser).default_value("1")
+}
+
+// The option `--NAME`, which has one value that this parser accepts.
+fn option<'a>(alloc: Global, name: &'a str, value_name: &'a str, parser: ValueParser<'a>) -> Arg<'a>
+    ensures rule { rule_of result ≡ option_rule name.entry.now parser.entry }
+    ensures local { result.global ≡ false }
+{
+    Arg::new(alloc, name)
+        .long(name)
+        .action(ArgAction::Set)
+        .value_parser(parser)
+        .value_name(value_name)
+}

@@ -1,0 +1,123 @@
+//! The texts of help, beside those that `clap` writes by itself.
+
+/// What the program is.
+pub(crate) const PROGRAM: &str =
+    "Compiles a node program of synchronous rounds to a table with one channel per window of identifiers,
+and judges whether neighbours' channels differ on every oriented ring.";
+
+/// A whole call of the program.
+pub(crate) const EXAMPLE: &str =
+    "Each command reads a text from standard input and prints its answer to standard output. Example:
+
+  nbhd run --ids 8 --ring 5,1,3,7 < programs/cv1.txt
+
+runs the program of that file on the ring of the nodes 5, 1, 3 and 7, where identifiers are 0 to 7,
+and prints the channels of these four nodes: 2 4 3 5";
+
+pub(crate) const CHECK: &str = "Tells whether a program is accepted for M identifiers";
+
+pub(crate) const TABLE: &str = "Prints the table of a program, one channel per window";
+
+pub(crate) const JUDGE: &str =
+    "Tells whether neighbours' channels differ on every ring, by a program's table";
+
+pub(crate) const RUN: &str = "Runs a program by messages on a ring, and prints the channels";
+
+pub(crate) const PLAN: &str = "Prints the channels of a ring's places, looked up in the table";
+
+pub(crate) const AUDIT: &str =
+    "Tells whether neighbours' channels differ on every ring, by a table text";
+
+pub(crate) const IDS: &str = "How many identifiers there are; they are 0 to M-1";
+
+pub(crate) const RING: &str = "The ring's identifiers, each followed by its right neighbour's";
+
+pub(crate) const WORKERS: &str = "How many threads fill the table, 1 to 64";
+
+pub(crate) const SEGMENTS: &str = "How many segments the ring is cut into, each a thread, 1 to 64";
+
+/// What `check` reads and prints.
+pub(crate) const CHECK_DETAILS: &str = "Standard input:  a program text
+Standard output: one line: the program is accepted, or what is refused
+
+M is 2 to 1024 for 0 rounds, 4 to 102 for 1 round, 6 to 18 for 2 rounds, 8 to 10 for 3 rounds.
+
+Exit status:
+  0  the program is accepted
+  2  the words are refused
+  3  the program is refused
+  5  reading or writing failed
+  6  memory was refused";
+
+/// What `table` reads and prints.
+pub(crate) const TABLE_DETAILS: &str = "Standard input:  a program text
+Standard output: the table text, or one line: what is refused
+
+M is 2 to 1024 for 0 rounds, 4 to 102 for 1 round, 6 to 18 for 2 rounds, 8 to 10 for 3 rounds.
+
+Exit status:
+  0  the table is printed
+  2  the words are refused
+  3  the program is refused
+  5  reading or writing failed
+  6  memory or a thread was refused";
+
+/// What `judge` reads and prints.
+pub(crate) const JUDGE_DETAILS: &str = "Standard input:  a program text
+Standard output: one line: yes, or no with a ring where two neighbours have one channel,
+                 or what is refused
+
+M is 2 to 1024 for 0 rounds, 4 to 102 for 1 round, 6 to 18 for 2 rounds, 8 to 10 for 3 rounds.
+
+Exit status:
+  0  yes
+  1  no
+  2  the words are refused
+  3  the program is refused
+  5  reading or writing failed
+  6  memory or a thread was refused";
+
+/// What `run` reads and prints.
+pub(crate) const RUN_DETAILS: &str = "Standard input:  a program text
+Standard output: one line: the channels in the order of the ring, or what is refused
+
+M is 2 to 1024 for 0 rounds, 4 to 102 for 1 round, 6 to 18 for 2 rounds, 8 to 10 for 3 rounds.
+The ring has at least 2, 4, 6 or 8 identifiers for 0, 1, 2 or 3 rounds, below M, no two the same.
+It is cut into at most as many segments as it has identifiers.
+
+Exit status:
+  0  the channels are printed
+  2  the words are refused, or there are more segments than identifiers in the ring
+  3  the program is refused
+  4  the ring is refused
+  5  reading or writing failed
+  6  memory or a thread was refused";
+
+/// What `plan` reads and prints.
+pub(crate) const PLAN_DETAILS: &str = "Standard input:  a program text
+Standard output: one line for each place of the ring: the place, its identifier and its channel;
+                 or one line: what is refused
+
+M is 2 to 1024 for 0 rounds, 4 to 102 for 1 round, 6 to 18 for 2 rounds, 8 to 10 for 3 rounds.
+The ring has at least 2, 4, 6 or 8 identifiers for 0, 1, 2 or 3 rounds, below M, no two the same.
+
+Exit status:
+  0  the channels are printed
+  2  the words are refused
+  3  the program is refused
+  4  the ring is refused
+  5  reading or writing failed
+  6  memory or a thread was refused";
+
+/// What `audit` reads and prints.
+pub(crate) const AUDIT_DETAILS: &str = "Standard input:  a table text, as `nbhd table` prints it
+Standard output: one line: yes, or no with a ring where two neighbours have one channel,
+                 or what is refused
+
+Exit status:
+  0  yes
+  1  no
+  2  the words are refused
+  3  the table text is refused
+  5  reading or writing failed
+  6  memory or a thread was refused";

@@ -1,0 +1,96 @@
+//! The task of a command whose options have their values.
+
+ghost use Rattle.std.specs.Prelude.{◌≡◌, ◌⊎◌, codes, IfOk, IfErr};
+ghost use Rattle.clap.specs.Words.{found_of, rows_of};
+ghost use Rattle.option_values.specs.OptionLines.{IsOneOf};
+ghost use Rattle.task_words.specs.CommandLine.{command_line};
+ghost use Rattle.task_words.specs.Counts.{IsCount};
+ghost use Rattle.task_words.specs.Options.{IsNumberGiven, IsTextGiven};
+ghost use Rattle.task_words.specs.Task.{IsRunnable, segments_of};
+ghost use Rattle.task_words.specs.Words.{HasNumber, HasRing, IsRingBad, IsRingName, IsTaskFor};
+ghost use Rattle.task_words.specs.declared.limits.TheConstants.{MAX_COUNT};
+ghost use Rattle.task_words.specs.declared.words.WordsFault.TheVariants.{BadRing, OutOfMemory};
+
+use crate::ring_text::ring_of;
+use crate::task::Task;
+use crate::words::WordsFault;
+use clap::ArgMatches;
+use std::alloc::Global;
+
+// The task of the command of this name, with these values of its options.
+pub(crate) fn task_in(
+    alloc: Global,
+    name: &str,
+    options: &ArgMatches<'_>,
+) -> Result<Task, WordsFault>
+    requires { IsOneOf command_line.subs name.now (rows_of (found_of options.now)) }
+    ensures task { IfOk result (IsTaskFor name.now (rows_of (found_of options.now))) }
+    ensures runnable { IfOk result IsRunnable }
+    ensures segments { IfOk result (λ task. IsCount (segments_of task)) }
+    ensures good { IfOk result (λ _. IsRingName name.now → ¬ IsRingBad (rows_of (found_of options.now))) }
+    ensures refused { IfErr result (λ fault. (fault ≡ OutOfMemory)
+        ⊎ ((fault ≡ BadRing) × IsRingName name.now × IsRingBad (rows_of (found_of options.now)))) }
+{
+    match name {
+        "check" => Ok(Task::Check {
+            ids: ids_of(options),
+        }),
+        "table" => Ok(Task::Table {
+            ids: ids_of(options),
+            workers: count_of(options, "workers"),
+        }),
+        "judge" => Ok(Task::Judge {
+            ids: ids_of(options),
+            workers: count_of(options, "workers"),
+        }),
+        "run" => Ok(Task::Run {
+            ids: ids_of(options),
+            ring: ring_in(alloc, options)?,
+            segments: count_of(options, "segments"),
+        }),
+        "plan" => Ok(Task::Plan {
+            ids: ids_of(options),
+            ring: ring_in(alloc, options)?,
+            workers: count_of(options, "workers"),
+        }),
+        "audit" => Ok(Task::Audit),
+        _ => unreachable!(),
+    }
+}
+
+// How many identifiers there are.
+fn ids_of(options: &ArgMatches<'_>) -> u32
+    requires { IsNumberGiven (rows_of (found_of options.now)) (codes "ids") 0 4294967295 }
+    ensures { HasNumber (rows_of (found_of options.now)) (codes "ids") result }
+{
+    let Some(ids) = options.get_one::<u32>("ids") else {
+        unreachable!()
+    };
+    ids
+}
+
+// How many workers or segments there are, by this option.
+fn count_of(options: &ArgMatches<'_>, option: &str) -> u32
+    requires { IsNumberGiven (rows_of (found_of options.now)) option.now 1 MAX_COUNT }
+    ensures number { HasNumber (rows_of (found_of options.now)) option.now result }
+    ensures range { IsCount result }
+{
+    let Some(count) = options.get_one::<u32>(option) else {
+        unreachable!()
+    };
+    count
+}
+
+// The identifiers of the ring's places; `BadRing` where the text is no ring text.
+fn ring_in(alloc: Global, options: &ArgMatches<'_>) -> Result<Vec<u32>, WordsFault>
+    requires { IsTextGiven (rows_of (found_of options.now)) (codes "ring") }
+    ensures ring { IfOk result (λ ring. HasRing (rows_of (found_of options.now)) ring.items) }
+    ensures good { IfOk result (λ _. ¬ IsRingBad (rows_of (found_of options.now))) }
+    ensures refused { IfErr result (λ fault. (fault ≡ OutOfMemory)
+        ⊎ ((fault ≡ BadRing) × IsRingBad (rows_of (found_of options.now)))) }
+{
+    let Some(text) = options.get_str("ring") else {
+        unreachable!()
+    };
+    ring_of(alloc, text)
+}

@@ -1,0 +1,38 @@
+//! What `clap` makes of the words.
+
+ghost use Rattle.std.specs.Prelude.{◌≡◌, map, IfOk, IfErr, string_bytes};
+ghost use Rattle.clap.specs.Words.{kind_of, subcommand_of, subcommand_rows_of};
+ghost use Rattle.task_words.specs.CommandLine.{command_line};
+ghost use Rattle.task_words.specs.Options.{IsRefusalOf, IsRefusalIn};
+ghost use Rattle.task_words.specs.Words.{IsCommand};
+
+use crate::command_line::command_line;
+use crate::words::WordsFault;
+use clap::error::ErrorKind;
+use clap::{ArgMatches, Error};
+use std::alloc::{AllocError, Global};
+
+// The matches of the words, where `clap` takes them.
+pub(crate) fn parsed<'a>(alloc: Global, words: &'a [String]) -> Result<ArgMatches<'a>, WordsFault>
+    ensures taken { IfOk result (λ _. IsCommand (map string_bytes words.entry.now)) }
+    ensures rows { IfOk result (λ matches.
+        subcommand_rows_of matches ≡ subcommand_of command_line (map string_bytes words.entry.now)) }
+    ensures refused { IfErr result (IsRefusalIn (map string_bytes words.entry.now)) }
+{
+    match command_line(alloc)?.try_get_matches_from(words) {
+        Ok(matches) => Ok(matches),
+        Err(error) => Err(refusal(alloc, &error)?),
+    }
+}
+
+// The refusal that says what an error says.
+fn refusal(alloc: Global, error: &Error) -> Result<WordsFault, AllocError>
+    ensures { IfOk result (IsRefusalOf (kind_of error.now)) }
+{
+    let text = error.to_string(alloc)?;
+    Ok(match error.kind() {
+        ErrorKind::OutOfMemory => WordsFault::OutOfMemory,
+        ErrorKind::DisplayHelp => WordsFault::Help(text),
+        _ => WordsFault::Usage(text),
+    })
+}

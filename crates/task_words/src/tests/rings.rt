@@ -1,0 +1,25 @@
+use crate::ring_text::ring_of;
+use crate::words::WordsFault;
+use std::test::Fail;
+
+#[test]
+fn ring_texts_are_read(rt: HostRuntime) -> Result<(), Fail> {
+    let rings = [
+        ("5,1,3,7", [5, 1, 3, 7].as_slice()),
+        ("007,1", [7, 1].as_slice()),
+        ("4294967295", [4_294_967_295].as_slice()),
+        ("3,3", [3, 3].as_slice()),
+    ];
+    for (text, ring) in rings {
+        assert_eq!(rt; ring_of(rt.alloc(), text)?.as_slice(), ring, "at {text}");
+    }
+    Ok(())
+}
+
+#[test]
+fn other_texts_are_bad_rings(rt: HostRuntime) {
+    for text in "|5,,1|4294967296|,|5,|,5|5, 1|+5|-5|0x5|5,a|5;1".split('|') {
+        let ring = ring_of(rt.alloc(), text);
+        assert_eq!(rt; ring, Err(WordsFault::BadRing), "at {text}");
+    }
+}

@@ -1,0 +1,143 @@
+use super::{Answer, answer_to, asked};
+use crate::task::Task;
+use std::test::Fail;
+
+const LARGEST: u32 = 4_294_967_295;
+
+#[test]
+fn checks_are_tasks(rt: HostRuntime) {
+    let rows = [
+        ("check --ids 64", 64),
+        ("check --ids=64", 64),
+        ("check --ids 0", 0),
+        ("check --ids +64", 64),
+        ("check --ids=-0", 0),
+        ("check --ids 4294967295", LARGEST),
+        ("check --ids 0004294967295", LARGEST),
+    ];
+    for (line, ids) in rows {
+        assert_eq!(rt;
+            asked(rt.alloc(), line),
+            Ok(Task::Check { ids }),
+            "at {line}"
+        );
+    }
+}
+
+#[test]
+fn tables_are_tasks(rt: HostRuntime) {
+    let rows = [
+        ("table --ids 8", 1),
+        ("table --ids 8 --workers 1", 1),
+        ("table --workers 64 --ids 8", 64),
+        ("table --workers=02 --ids 08", 2),
+        ("table --ids +8 --workers +3", 3),
+    ];
+    for (line, workers) in rows {
+        assert_eq!(rt;
+            asked(rt.alloc(), line),
+            Ok(Task::Table { ids: 8, workers }),
+            "at {line}"
+        );
+    }
+}
+
+#[test]
+fn judges_are_tasks(rt: HostRuntime) {
+    let rows = [
+        ("judge --ids 8", 1),
+        ("judge --ids 8 --workers 64", 64),
+        ("judge --workers 02 --ids 008", 2),
+    ];
+    for (line, workers) in rows {
+        assert_eq!(rt;
+            asked(rt.alloc(), line),
+            Ok(Task::Judge { ids: 8, workers }),
+            "at {line}"
+        );
+    }
+}
+
+#[test]
+fn runs_are_tasks(rt: HostRuntime) -> Result<(), Fail> {
+    let rows = [
+        ("run --ids 8 --ring 5,1,3,7", 1),
+        ("run --ring 5,1,3,7 --ids 8", 1),
+        ("run --ring=5,1,3,7 --segments=1 --ids=8", 1),
+        ("run --segments 003 --ids 0008 --ring 05,01,3,7", 3),
+        ("run --ids 8 --segments 64 --ring 5,1,3,7", 64),
+    ];
+    for (line, segments) in rows {
+        let ring = [5, 1, 3, 7].to_vec(rt.alloc())?;
+        let task = Task::Run {
+            ids: 8,
+            ring,
+            segments,
+        };
+        assert_eq!(rt; asked(rt.alloc(), line)?, task, "at {line}");
+    }
+    Ok(())
+}
+
+#[test]
+fn plans_are_tasks(rt: HostRuntime) -> Result<(), Fail> {
+    let rows = [
+        ("plan --ids 8 --ring 5,1,3,7", 1),
+        ("plan --ring 5,1,3,7 --ids 8", 1),
+        ("plan --workers 64 --ring 5,1,3,7 --ids 8", 64),
+    ];
+    for (line, workers) in rows {
+        let ring = [5, 1, 3, 7].to_vec(rt.alloc())?;
+        let task = Task::Plan {
+            ids: 8,
+            ring,
+            workers,
+        };
+        assert_eq!(rt; asked(rt.alloc(), line)?, task, "at {line}");
+    }
+    Ok(())
+}
+
+#[test]
+fn an_audit_is_a_task(rt: HostRuntime) {
+    assert_eq!(rt; asked(rt.alloc(), "audit"), Ok(Task::Audit));
+}
+
+#[test]
+fn help_is_asked_for(rt: HostRuntime) {
+    let lines =
+        "--help|-h|help|help run|help audit|run --help|run -h|audit --help|run --ids 8 --help|check --ids 8 -h";
+    for line in lines.split('|') {
+        assert_eq!(rt; answer_to(rt.alloc(), line), Answer::Help, "at {line}");
+    }
+}
+
+#[test]
+fn tasks_of_1_to_64_workers_can_be_done(rt: HostRuntime) {
+    for (workers, can) in [(0, false), (1, true), (64, true), (65, false)] {
+        let table = Task::Table { ids: 8, workers };
+        assert_eq!(rt; table.is_runnable(), can, "{workers} workers");
+        let judge = Task::Judge { ids: 8, workers };
+        assert_eq!(rt; judge.is_runnable(), can, "{workers} workers");
+        let plan = Task::Plan {
+            ids: 8,
+            ring: Vec::new(rt.alloc()),
+            workers,
+        };
+        assert_eq!(rt; plan.is_runnable(), can, "{workers} workers");
+    }
+    assert!(rt; Task::Check { ids: 8 }.is_runnable());
+    assert!(rt; Task::Audit.is_runnable());
+}
+
+#[test]
+fn runs_in_any_number_of_segments_can_be_done(rt: HostRuntime) {
+    for segments in [0, 1, 64, 65, LARGEST] {
+        let run = Task::Run {
+            ids: 8,
+            ring: Vec::new(rt.alloc()),
+            segments,
+        };
+        assert!(rt; run.is_runnable(), "{segments} segments");
+    }
+}

@@ -1,0 +1,162 @@
+use super::asked;
+use crate::words::WordsFault;
+use std::alloc::Global;
+use std::test::Fail;
+
+/// The text that the words of a line are answered with.
+fn text_of(alloc: Global, line: &str) -> Result<String, Fail> {
+    match asked(alloc, line) {
+        Err(WordsFault::Usage(text)) | Err(WordsFault::Help(text)) => Ok(text),
+        _ => Err(Fail::from("there is no text")),
+    }
+}
+
+#[test]
+fn help_of_the_program(rt: HostRuntime) -> Result<(), Fail> {
+    let expected =
+        "Compiles a node program of synchronous rounds to a table with one channel per window of identifiers,
+and judges whether neighbours' channels differ on every oriented ring.
+
+Usage: nbhd <COMMAND>
+
+Commands:
+  check  Tells whether a program is accepted for M identifiers
+  table  Prints the table of a program, one channel per window
+  judge  Tells whether neighbours' channels differ on every ring, by a program's table
+  run    Runs a program by messages on a ring, and prints the channels
+  plan   Prints the channels of a ring's places, looked up in the table
+  audit  Tells whether neighbours' channels differ on every ring, by a table text
+  help   Print this message or the help of the given subcommand(s)
+
+Options:
+  -h, --help  Print help
+
+Each command reads a text from standard input and prints its answer to standard output. Example:
+
+  nbhd run --ids 8 --ring 5,1,3,7 < programs/cv1.txt
+
+runs the program of that file on the ring of the nodes 5, 1, 3 and 7, where identifiers are 0 to 7,
+and prints the channels of these four nodes: 2 4 3 5
+";
+    assert_eq!(rt; text_of(rt.alloc(), "--help")?.as_str(), expected);
+    Ok(())
+}
+
+#[test]
+fn help_of_a_run(rt: HostRuntime) -> Result<(), Fail> {
+    let expected = "Runs a program by messages on a ring, and prints the channels
+
+Usage: nbhd run [OPTIONS] --ids <M> --ring <A,B,..>
+
+Options:
+      --ids <M>        How many identifiers there are; they are 0 to M-1
+      --ring <A,B,..>  The ring's identifiers, each followed by its right neighbour's
+      --segments <S>   How many segments the ring is cut into, each a thread, 1 to 64 [default: 1]
+  -h, --help           Print help
+
+Standard input:  a program text
+Standard output: one line: the channels in the order of the ring, or what is refused
+
+M is 2 to 1024 for 0 rounds, 4 to 102 for 1 round, 6 to 18 for 2 rounds, 8 to 10 for 3 rounds.
+The ring has at least 2, 4, 6 or 8 identifiers for 0, 1, 2 or 3 rounds, below M, no two the same.
+It is cut into at most as many segments as it has identifiers.
+
+Exit status:
+  0  the channels are printed
+  2  the words are refused, or there are more segments than identifiers in the ring
+  3  the program is refused
+  4  the ring is refused
+  5  reading or writing failed
+  6  memory or a thread was refused
+";
+    assert_eq!(rt; text_of(rt.alloc(), "run --help")?.as_str(), expected);
+    Ok(())
+}
+
+#[test]
+fn help_of_an_audit(rt: HostRuntime) -> Result<(), Fail> {
+    let expected = "Tells whether neighbours' channels differ on every ring, by a table text
+
+Usage: nbhd audit
+
+Options:
+  -h, --help  Print help
+
+Standard input:  a table text, as `nbhd table` prints it
+Standard output: one line: yes, or no with a ring where two neighbours have one channel,
+                 or what is refused
+
+Exit status:
+  0  yes
+  1  no
+  2  the words are refused
+  3  the table text is refused
+  5  reading or writing failed
+  6  memory or a thread was refused
+";
+    assert_eq!(rt; text_of(rt.alloc(), "audit --help")?.as_str(), expected);
+    Ok(())
+}
+
+/// Words that are refused, and what is told of them.
+const REFUSED: [(&str, &str); 4] = [
+    (
+        "",
+        "error: 'nbhd' requires a subcommand but one was not provided
+  [subcommands: check, table, judge, run, plan, audit, help]
+
+Usage: nbhd <COMMAND>
+
+For more information, try '--help'.
+",
+    ),
+    (
+        "chek --ids 8",
+        "error: unrecognized subcommand 'chek'
+
+  tip: a similar subcommand exists: 'check'
+
+Usage: nbhd <COMMAND>
+
+For more information, try '--help'.
+",
+    ),
+    (
+        "run --ids 8",
+        "error: the following required arguments were not provided:
+  --ring <A,B,..>
+
+Usage: nbhd run --ids <M> --ring <A,B,..>
+
+For more information, try '--help'.
+",
+    ),
+    (
+        "table --ids 8 --workers 65",
+        "error: invalid value '65' for '--workers <W>': 65 is not in 1..=64
+
+For more information, try '--help'.
+",
+    ),
+];
+
+#[test]
+fn words_are_refused_with_the_way_to_call_it(rt: HostRuntime) -> Result<(), Fail> {
+    for (line, expected) in REFUSED {
+        assert_eq!(rt; text_of(rt.alloc(), line)?.as_str(), expected, "at {line}");
+    }
+    Ok(())
+}
+
+#[test]
+fn both_ways_to_ask_for_help_give_one_text(rt: HostRuntime) -> Result<(), Fail> {
+    for name in ["check", "table", "judge", "run", "plan", "audit"] {
+        let word = format!(in rt.alloc(); "help {name}")?;
+        let long = format!(in rt.alloc(); "{name} --help")?;
+        let short = format!(in rt.alloc(); "{name} -h")?;
+        let text = text_of(rt.alloc(), word.as_str())?;
+        assert_eq!(rt; text_of(rt.alloc(), long.as_str())?, text, "at {name}");
+        assert_eq!(rt; text_of(rt.alloc(), short.as_str())?, text, "at {name}");
+    }
+    Ok(())
+}
