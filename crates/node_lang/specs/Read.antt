@@ -1,0 +1,199 @@
+-- How a text is read from the left: each reading answers a tree, or the fault at which it stops.
+use Rattle.std.specs.Prelude.{◌≡◌, ◌≢◌, ◌&&◌, ◌++◌, ℕ, zero, suc, ◌+◌, ◌-◌, ◌≤◌, ◌==◌, nat_le, List, [], ◌∷◌, Option, Some, None, Result, Ok, Err, length, if◌then◌else◌}
+use Rattle.node_lang.specs.declared.limits.TheConstants.{MAX_CHANNELS, MAX_DEPTH, MAX_NODES, MAX_REGISTERS, MAX_ROUNDS}
+use Rattle.node_lang.specs.declared.fault.FaultKind.{FaultKind}
+use Rattle.node_lang.specs.declared.fault.TextFault.{TextFault}
+use Rattle.node_lang.specs.declared.fault.FaultKind.TheVariants as kind
+use Rattle.node_lang.specs.declared.token.Token.{Token}
+use Rattle.node_lang.specs.declared.token.Token.TheVariants as token
+use Rattle.node_lang.specs.Term.{Term, Literal, Identifier, LeftMessage, RightMessage, RegisterValue, Unary, Binary, Conditional, Step, ProgramTree}
+use Rattle.node_lang.specs.Lexemes.{Lexeme}
+use Rattle.node_lang.specs.Reading.{same_token, fault_of}
+use Rattle.node_lang.specs.Parsing.{lexemes_left}
+
+-- What was read, the expression nodes so far and the lexemes that are left; or a fault, with the number of bytes from it to the text's end.
+pub data Read (A : Type 0) : Type 0 where
+  Got : A → ℕ → List Lexeme → Read A
+  Fault : FaultKind → ℕ → Read A
+
+-- reading goes on with what was read
+abbrev pub go_on : {A B : Type 0} → Read A → (A → ℕ → List Lexeme → Read B) → Read B
+go_on (Got a nodes left) next = next a nodes left
+go_on (Fault k from) next = Fault k from
+
+-- a way of reading, by the nodes so far and the lexemes that are left
+abbrev pub Reader : Type 0 → Type 0
+Reader A = ℕ → List Lexeme → Read A
+
+infixl 10 ◌>>=◌
+abbrev pub ◌>>=◌ : {A B : Type 0} → (ℕ → List Lexeme → Read A) → (A → ℕ → List Lexeme → Read B) → ℕ → List Lexeme → Read B
+(first >>= next) nodes left = go_on (first nodes left) next
+
+infixl 10 ◌>>◌
+abbrev pub ◌>>◌ : {A B : Type 0} → (ℕ → List Lexeme → Read A) → (ℕ → List Lexeme → Read B) → ℕ → List Lexeme → Read B
+(first >> second) nodes left = go_on (first nodes left) (λ _. second)
+
+abbrev pub done : {A : Type 0} → A → ℕ → List Lexeme → Read A
+done a nodes left = Got a nodes left
+
+abbrev pub refuse : {A : Type 0} → FaultKind → Lexeme → ℕ → List Lexeme → Read A
+refuse k l nodes left = Fault k l.from
+
+-- a token, where it is one of the language
+abbrev pub lawful : Token → Lexeme → Reader Lexeme
+lawful token.LargeNumber l = refuse kind.NumberTooLarge l
+lawful token.Unknown l = refuse kind.BadWord l
+lawful _ l = done l
+
+-- the next token
+abbrev pub next : Reader Lexeme
+next nodes [] = Fault kind.EndOfText 0
+next nodes (l ∷ ls) = lawful l.token l nodes ls
+
+-- this token
+abbrev pub exactly : Token → Reader (Unit {0})
+exactly t = do
+  l ← next
+  if same_token l.token t then done tt else refuse kind.Unexpected l
+
+-- an expression node with this many levels left
+abbrev pub node : ℕ → ℕ → Reader (Unit {0})
+node levels from nodes left = if levels == 0 then Fault kind.TooDeep from
+    else if nat_le MAX_NODES nodes then Fault kind.TooManyNodes from else Got tt (nodes + 1) left
+
+-- operands in parentheses, each read so
+unfoldable pub one_of : Reader Term → Reader Term
+one_of operand = do
+  exactly token.Open
+  a ← operand
+  exactly token.Close
+  done a
+
+unfoldable pub two_of : Reader Term → Reader (Term × Term)
+two_of operand = do
+  exactly token.Open
+  a ← operand
+  exactly token.Comma
+  b ← operand
+  exactly token.Close
+  done (a, b)
+
+unfoldable pub three_of : Reader Term → Reader (Term × Term × Term)
+three_of operand = do
+  exactly token.Open
+  c ← operand
+  exactly token.Comma
+  a ← operand
+  exactly token.Comma
+  b ← operand
+  exactly token.Close
+  done (c, a, b)
+
+-- what follows this token in an expression, or none where it begins none
+abbrev pub after : Reader Term → Token → Option (Reader Term)
+after operand (token.Number n) = Some (done (Literal n))
+after operand token.Id = Some (done Identifier)
+after operand token.FromLeft = Some (done LeftMessage)
+after operand token.FromRight = Some (done RightMessage)
+after operand (token.Register j) = Some (done (RegisterValue j))
+after operand (token.Unary o) = Some (one_of operand >>= λ a. done (Unary o a))
+after operand (token.Binary o) = Some (two_of operand >>= λ p. done (Binary o p.0 p.1))
+after operand token.If = Some (three_of operand >>= λ p. done (Conditional p.0 p.1 p.2))
+after operand _ = None
+
+-- the token is judged first, then the depth, then the number of nodes
+abbrev pub begun : ℕ → Lexeme → Option (Reader Term) → Reader Term
+begun levels l None = refuse kind.Unexpected l
+begun levels l (Some more) = node levels l.from >> more
+
+-- an expression with this many levels left, whose operands are read so
+abbrev pub level : ℕ → Reader Term → Reader Term
+level levels operand = do
+  l ← next
+  begun levels l (after operand l.token)
+
+-- an operand of an expression with this many levels left
+abbrev pub operand : ℕ → Reader Term
+operand zero nodes left = Fault kind.TooDeep 0
+operand (suc n) nodes left = level n (operand n) nodes left
+
+-- an expression of at most this many levels
+unfoldable pub expression : ℕ → Reader Term
+expression levels = level levels (operand levels)
+
+-- a number of the header, from low to high
+abbrev pub in_range : ℕ → ℕ → Lexeme → Token → Reader ℕ
+in_range low high l (token.Number n) = if nat_le low n && nat_le n high then done n else refuse kind.HeaderRange l
+in_range low high l _ = refuse kind.Unexpected l
+
+abbrev pub number : ℕ → ℕ → Reader ℕ
+number low high = do
+  l ← next
+  in_range low high l l.token
+
+-- the numbers of the header
+pub record Counts : Type 0 where
+  pub rounds : ℕ
+  pub channels : ℕ
+  pub registers : ℕ
+
+unfoldable pub header : Reader Counts
+header = do
+  exactly token.Rounds
+  rounds ← number 0 MAX_ROUNDS
+  exactly token.Channels
+  channels ← number 1 MAX_CHANNELS
+  exactly token.Registers
+  registers ← number 1 MAX_REGISTERS
+  exactly token.Start
+  done (record { rounds = rounds; channels = channels; registers = registers })
+
+-- the end of the text
+abbrev pub end : Reader (Unit {0})
+end nodes [] = Got tt nodes []
+end nodes (l ∷ ls) = Fault (fault_of l.token) l.from
+
+-- so many parts from the j-th on, after those that were read
+abbrev pub each : {A : Type 0} → (ℕ → ℕ → List Lexeme → Read A) → ℕ → ℕ → List A → ℕ → List Lexeme → Read (List A)
+each part zero j parts nodes left = Got parts nodes left
+each part (suc count) j parts nodes left = go_on (part j nodes left) (λ a n l. each part count (j + 1) (parts ++ (a ∷ [])) n l)
+
+-- the assignment to register j
+unfoldable pub assign : ℕ → Reader Term
+assign j = do
+  exactly (token.Register j)
+  exactly token.Equals
+  expression MAX_DEPTH
+
+unfoldable pub assigns : ℕ → Reader (List Term)
+assigns registers = each assign registers 0 []
+
+unfoldable pub round : ℕ → Reader Step
+round registers = do
+  exactly token.Round
+  exactly token.Send
+  exactly token.Left
+  left ← expression MAX_DEPTH
+  exactly token.Send
+  exactly token.Right
+  right ← expression MAX_DEPTH
+  next ← assigns registers
+  done (record { left = left; right = right; next = next })
+
+unfoldable pub rounds : ℕ → ℕ → Reader (List Step)
+rounds count registers = each (λ _. round registers) count 0 []
+
+unfoldable pub program : Reader ProgramTree
+program = do
+  counts ← header
+  start ← assigns counts.registers
+  steps ← rounds counts.rounds counts.registers
+  exactly token.Finish
+  finish ← expression MAX_DEPTH
+  end
+  done (record { channels = counts.channels; start = start; steps = steps; finish = finish })
+
+-- What a method of the parser answers where its text is read so: the tree, and the parser at the nodes and lexemes after it; or that fault.
+abbrev pub Gives : {T A : Type 0} → (T → A) → Result T TextFault → List ℕ → List ℕ → ℕ → ℕ → Read A → Type 0
+Gives tree (Ok v) old new at nodes read = (new ≡ old) × (read ≡ Got (tree v) nodes (lexemes_left old at))
+Gives tree (Err f) old new at nodes read = f.kind ≢ kind.OutOfMemory → (f.offset ≤ length old) × (read ≡ Fault f.kind (length old - f.offset))
