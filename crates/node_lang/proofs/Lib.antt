@@ -14,3 +14,7 @@ pub mod ReadBack
 pub mod PrintedLength
 pub mod Faulting
 pub mod Assigned
+pub mod Continuing
+pub mod Programs
+pub mod Places
+pub mod Standing
