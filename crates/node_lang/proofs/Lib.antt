@@ -18,3 +18,4 @@ pub mod Continuing
 pub mod Programs
 pub mod Places
 pub mod Standing
+pub mod Judging
