@@ -119,3 +119,116 @@ exactly_judged t before nodes more ls itself known inside p =
       })
     (λ other. faulty before l left kind.Unexpected (unexpected_alone before nodes l.token (Next (plain t) more) p lawful (inside l.token)
       (λ m ms h e. both_ways (same_token l.token t) other (ap (λ s. same_token s t) (sym e ∙ next_token (plain t) more m ms h) ∙ itself)))))
+
+-- only a number can be out of its range
+only_numbers : (before : List Token) (t : Token) → IsOutOfRange before t → (n : ℕ) × (t ≡ token.Number n)
+only_numbers before t (rounds n h) = (n, refl)
+only_numbers before t (no_channel i) = (0, refl)
+only_numbers before t (channels i n h) = (n, refl)
+only_numbers before t (no_register i c) = (0, refl)
+only_numbers before t (registers i c n h) = (n, refl)
+
+-- Where a number of the header is wanted, those out of its range are faults.
+pub record Ranges (before : List Token) (low high : ℕ) : Type 0 where
+  pub inside : (n : ℕ) → low ≤ n → n ≤ high → IsOutOfRange before (token.Number n) → ⊥
+  pub outside : (n : ℕ) → (low ≤ n → n ≤ high → ⊥) → IsOutOfRange before (token.Number n)
+
+number_token : (more : ℕ → Language) (x : Mark) (ms : List Mark) → ANumber more (x ∷ ms) → (n : ℕ) × (x.token ≡ token.Number n)
+number_token more x ms h =
+    let is : x ∷ ms ≡ plain (token.Number h.number) ∷ h.rest = h.is in
+    let same : x ≡ plain (token.Number h.number) = cc in
+    (h.number, ap (λ (y : Mark). y.token) same)
+
+number_some : (more : ℕ → Language) → ANumber more [] → ⊥
+number_some more h =
+    let is : [] ≡ plain (token.Number h.number) ∷ h.rest = h.is in
+    absurd (cc)
+
+-- a token that is no number
+not_a_number : (before : List Token) (nodes : ℕ) (more : ℕ → Language) (l : Lexeme) (left : List Lexeme) → Place before nodes (ANumber more) →
+    fault_of l.token ≡ kind.Unexpected → ((n : ℕ) → l.token ≡ token.Number n → ⊥) → Faulty before (l ∷ left) kind.Unexpected l.from
+not_a_number before nodes more l left p lawful never =
+    faulty before l left kind.Unexpected (unexpected_alone before nodes l.token (ANumber more) p lawful
+    (λ range. let n = only_numbers before l.token range in never n.0 n.1)
+    (λ m ms h e. let n = number_token more m ms h in never n.0 (sym e ∙ n.1)))
+
+range_judged : (t : Token) (low high : ℕ) (before : List Token) (nodes : ℕ) (more : ℕ → Language) (l : Lexeme) (left : List Lexeme) → l.token ≡ t →
+    fault_of l.token ≡ kind.Unexpected → Ranges before low high → ((n : ℕ) → CanFollow (more n)) → Place before nodes (ANumber more) →
+    Judges before (l ∷ left) (At (λ n. before ++ token.Number n ∷ []) more) (in_range low high l t nodes left)
+range_judged (token.Number n) low high before nodes more l left e lawful ranges some p =
+    let opens : Opens (ANumber more) l.token 0 (more n) = subst (λ s. Opens (ANumber more) s 0 (more n)) (sym e) (number_opens n more) in
+    cond_both (nat_le low n && nat_le n high) (done n) (refuse kind.HeaderRange l)
+    (λ (r : ℕ → List Lexeme → Read ℕ). Judges before (l ∷ left) (At (λ k. before ++ token.Number k ∷ []) more) (r nodes left))
+    (λ both.
+      let above : low ≤ n = grind (arith, nat_tests) in
+      let below : n ≤ high = grind (arith, nat_tests) in
+      record {
+        now = before ++ l.token ∷ [];
+        holds = (ap (λ s. before ++ s ∷ []) e, plain_place before nodes l.token (ANumber more) (more n) p opens (some n));
+        passes = accepted before nodes l 0 (ANumber more) (more n) p opens (some n) lawful (λ range. ranges.inside n above below (subst (IsOutOfRange before) e range)) (no_node nodes) left;
+      })
+    (λ neither.
+      let range : IsOutOfRange before (token.Number n) =
+          ranges.outside n (λ above below. both_ways (nat_le low n && nat_le n high) neither (and_from (nat_le low n) (nat_le n high) (le-leb low n above) (le-leb n high below))) in
+      faulty before l left kind.HeaderRange (range_alone before nodes l.token (ANumber more) (more n) p opens (subst (IsOutOfRange before) (sym e) range)))
+range_judged t low high before nodes more l left e lawful ranges some p = not_a_number before nodes more l left p lawful (λ n is. cc)
+
+pub number_judged : (low high : ℕ) (before : List Token) (nodes : ℕ) (more : ℕ → Language) (ls : List Lexeme) → Ranges before low high → ((n : ℕ) → CanFollow (more n)) →
+    Place before nodes (ANumber more) → Judges before ls (At (λ n. before ++ token.Number n ∷ []) more) (number low high nodes ls)
+number_judged low high before nodes more ls ranges some p =
+    next_judged before nodes (ANumber more) (At (λ n. before ++ token.Number n ∷ []) more) _ ls p (number_some more)
+    (λ m ms h. ap fault_of (number_token more m ms h).1) (λ l left lawful. range_judged l.token low high before nodes more l left refl lawful ranges some p)
+
+-- the end
+ends_judged : (t : Token) (before : List Token) (nodes : ℕ) (l : Lexeme) (ls : List Lexeme) → l.token ≡ t → ((s : Token) → IsOutOfRange before s → ⊥) → Place before nodes an_end →
+    Faulty before (l ∷ ls) (fault_of t) l.from
+ends_judged t before nodes l ls e inside p =
+    faulty before l ls (fault_of t) (subst (λ s. StandsAlone before l.token (fault_of s)) e (alone l.token (inside l.token))) where
+  alone : (s : Token) → (IsOutOfRange before s → ⊥) → StandsAlone before s (fault_of s)
+  alone token.Unknown outside = unlawful before nodes token.Unknown an_end p (λ m ms h. absurd (cc)) (λ h. cc)
+  alone token.LargeNumber outside = unlawful before nodes token.LargeNumber an_end p (λ m ms h. absurd (cc)) (λ h. cc)
+  alone s outside = unexpected_alone before nodes s an_end p refl outside (λ m ms h e. absurd (cc))
+
+pub end_judged : (before : List Token) (nodes : ℕ) (ls : List Lexeme) → ((s : Token) → IsOutOfRange before s → ⊥) → Place before nodes an_end →
+    Judges before ls (λ (_ : Unit {0}) _ now left. (left ≡ []) × IsWhole now) (end nodes ls)
+end_judged before nodes [] inside p = record { now = before; holds = (refl, whole_place before nodes an_end p refl); passes = passes_none before [] }
+end_judged before nodes (l ∷ ls) inside p = ends_judged l.token before nodes l ls refl inside p
+
+-- the token that a node begins with
+one_some : (d : ℕ) → 0 < d → one_at d ≡ 1
+one_some zero h = absurd (omega (arith, h))
+one_some (suc d) h = refl
+
+pub node_judged : {B : Type 0} (levels d : ℕ) (before : List Token) (nodes : ℕ) (more after : Language) (Q : B → ℕ → List Token → List Lexeme → Type 0)
+    (f : Unit {0} → ℕ → List Lexeme → Read B) (l : Lexeme) (left : List Lexeme) → 0 < d → levels + d ≡ suc MAX_DEPTH → Place before nodes more →
+    Opens more l.token d after → CanFollow after → fault_of l.token ≡ kind.Unexpected → (IsOutOfRange before l.token → ⊥) →
+    (0 < levels → Place (before ++ l.token ∷ []) (nodes + 1) after → Judges (before ++ l.token ∷ []) left Q (f tt (nodes + 1) left)) →
+    Judges before (l ∷ left) Q (go_on (node levels l.from nodes left) f)
+node_judged levels d before nodes more after Q f l left some_depth depth p o some lawful inside g =
+    let begins = begins_place before nodes l.token d more after p o some some_depth in
+    let faults : (k : FaultKind) → Stands before l.token k → NodeFault k d nodes = node_fault before nodes l.token d more after p o some lawful inside in
+    let one : one_at d ≡ 1 = one_some d some_depth in
+    cond_both (levels == 0) _ _ (λ (r : Read (Unit {0})). Judges before (l ∷ left) Q (go_on r f))
+    (λ none.
+      let deep : MAX_DEPTH < d = grind (arith, nat_tests) in
+      faulty before l left kind.TooDeep (record {
+        is = too_deep d nodes deep begins;
+        only = λ k s. elim (faults k s).fault [ inl here ↦ here.0 | inr there ↦ absurd (omega (arith, there.1, deep)) ];
+      }))
+    (λ levels_left.
+      let shallow : d ≤ MAX_DEPTH = grind (arith, nat_tests) in
+      let deeper : 0 < levels = grind (arith, nat_tests) in
+      cond_both (nat_le MAX_NODES nodes) _ _ (λ (r : Read (Unit {0})). Judges before (l ∷ left) Q (go_on r f))
+      (λ full.
+        let many : MAX_NODES ≤ nodes = grind (arith, nat_tests) in
+        faulty before l left kind.TooManyNodes (record {
+          is = too_many d nodes shallow many begins;
+          only = λ k s. elim (faults k s).fault [ inl here ↦ absurd (omega (arith, here.1, shallow)) | inr there ↦ there.0 ];
+        }))
+      (λ room.
+        let few : nodes < MAX_NODES = grind (arith, nat_tests) in
+        let place = subst (λ n. Place (before ++ l.token ∷ []) (nodes + n) after) one (next_place before nodes l.token d more after p o some) in
+        judged_later (f tt (nodes + 1) left) before (before ++ l.token ∷ []) (l ∷ left) left Q
+          (accepted before nodes l d more after p o some lawful inside
+            (λ k fault. elim fault.fault [ inl here ↦ omega (arith, here.1, shallow) | inr there ↦ omega (arith, there.2, few) ]) left)
+          (g deeper place)))
