@@ -6,11 +6,11 @@ use Rattle.node_lang.specs.declared.fault.FaultKind.{FaultKind}
 use Rattle.node_lang.specs.declared.fault.FaultKind.TheVariants as kind
 use Rattle.node_lang.specs.declared.token.Token.{Token}
 use Rattle.node_lang.specs.declared.token.Token.TheVariants as token
-use Rattle.node_lang.specs.Term.{Term, Step, ProgramTree}
+use Rattle.node_lang.specs.Term.{Term, Literal, Identifier, LeftMessage, RightMessage, RegisterValue, Unary, Binary, Conditional, Step, ProgramTree}
 use Rattle.node_lang.specs.Lexemes.{Lexeme}
 use Rattle.node_lang.specs.Reading.{same_token, fault_of}
-use Rattle.node_lang.specs.Read.{Read, Got, Fault, Counts, go_on, done, refuse, exactly, node, one_of, two_of, three_of, after, begun, level, operand, expression, number, header, end, each, assign, assigns, round, rounds, program}
-use Rattle.node_lang.specs.Viable.{IsWhole, Mark, plain, IsOutOfRange, FirstFault}
+use Rattle.node_lang.specs.Read.{Read, Got, Fault, Counts, go_on, ◌>>=◌, done, refuse, exactly, node, one_of, two_of, three_of, after, begun, level, operand, expression, number, header, end, each, assign, assigns, round, rounds, program}
+use Rattle.node_lang.specs.Viable.{IsWhole, Mark, plain, marked, IsOutOfRange, FirstFault}
 use Rattle.node_lang.specs.Viable as viable
 use Rattle.node_lang.proofs.Continuing.{Language, Next, AnExpression, ANumber, an_end, assignments, a_round, some_rounds, a_body, a_program, CanFollow, can_next, can_expression, can_number, can_body, following, expression_opens, begins_lawful}
 use Rattle.node_lang.proofs.Places.{Place, first_place}
@@ -86,3 +86,120 @@ three_judged d inner h before nodes more ls b =
 -- what follows the first token of an expression
 abbrev Rest : ℕ → (ℕ → List Lexeme → Read Term) → Token → Type 1
 Rest d f t = (before : List Token) (nodes : ℕ) (more : Language) (ls : List Lexeme) → Behind before nodes (following d more t) → Judges before ls (Then more) (f nodes ls)
+
+after_expression : (d : ℕ) (more : Language) → CanFollow (AnExpression d more) → CanFollow more
+after_expression d more c = record { marks = c.follows.rest; follows = c.follows.follows }
+
+-- an expression that begins with this token, which may begin one
+with_node : (t : Token) (f : ℕ → List Lexeme → Read Term) (from levels d : ℕ) (before : List Token) (nodes : ℕ) (more : Language) (left : List Lexeme) →
+    fault_of t ≡ kind.Unexpected → 0 < d → levels + d ≡ suc MAX_DEPTH → Behind before nodes (AnExpression d more) → CanFollow (following d more t) →
+    (0 < levels → Rest d f t) → Judges before (record { from = from; token = t } ∷ left) (Then more) (go_on (node levels from nodes left) (λ _. f))
+with_node t f from levels d before nodes more left lawful some_depth depth b some g =
+    node_judged levels d before nodes (AnExpression d more) (following d more t) (Then more) (λ _. f) (record { from = from; token = t }) left some_depth depth b.place
+    (expression_opens d more t) some lawful (behind_header before t b.header)
+    (λ deeper place. g deeper (before ++ t ∷ []) (nodes + 1) more left (record { header = longer before t b.header; place = place }))
+
+-- a leaf
+leaf_judged : (e : Term) (before : List Token) (nodes : ℕ) (more : Language) (ls : List Lexeme) → Behind before nodes more → Judges before ls (Then more) (done e nodes ls)
+leaf_judged e before nodes more ls b = record { now = before; holds = b; passes = passes_none before ls }
+
+begun_judged : (t : Token) (from levels d : ℕ) (inner : ℕ → List Lexeme → Read Term) (before : List Token) (nodes : ℕ) (more : Language) (left : List Lexeme) →
+    fault_of t ≡ kind.Unexpected → 0 < d → levels + d ≡ suc MAX_DEPTH → (0 < levels → Judged (d + 1) inner) → Behind before nodes (AnExpression d more) →
+    Judges before (record { from = from; token = t } ∷ left) (Then more) (begun levels (record { from = from; token = t }) (after inner t) nodes left)
+begun_judged (token.Number n) from levels d inner before nodes more left lawful some_depth depth h b =
+    with_node (token.Number n) (done (Literal n)) from levels d before nodes more left lawful some_depth depth b (after_expression d more b.place.some) (λ _. leaf_judged (Literal n))
+begun_judged token.Id from levels d inner before nodes more left lawful some_depth depth h b =
+    with_node token.Id (done Identifier) from levels d before nodes more left lawful some_depth depth b (after_expression d more b.place.some) (λ _. leaf_judged Identifier)
+begun_judged token.FromLeft from levels d inner before nodes more left lawful some_depth depth h b =
+    with_node token.FromLeft (done LeftMessage) from levels d before nodes more left lawful some_depth depth b (after_expression d more b.place.some) (λ _. leaf_judged LeftMessage)
+begun_judged token.FromRight from levels d inner before nodes more left lawful some_depth depth h b =
+    with_node token.FromRight (done RightMessage) from levels d before nodes more left lawful some_depth depth b (after_expression d more b.place.some) (λ _. leaf_judged RightMessage)
+begun_judged (token.Register j) from levels d inner before nodes more left lawful some_depth depth h b =
+    with_node (token.Register j) (done (RegisterValue j)) from levels d before nodes more left lawful some_depth depth b (after_expression d more b.place.some) (λ _. leaf_judged (RegisterValue j))
+begun_judged (token.Unary o) from levels d inner before nodes more left lawful some_depth depth h b =
+    let some = after_expression d more b.place.some in
+    with_node (token.Unary o) (one_of inner >>= λ a. done (Unary o a)) from levels d before nodes more left lawful some_depth depth b
+    (can_next _ _ (can_expression (d + 1) _ (can_next _ _ some)))
+    (λ deeper now n rest ls b2. judges_on (one_of inner n ls) _ now ls (Then rest) (Then rest) (one_judged (d + 1) inner (h deeper) now n rest ls b2) (λ a n3 t3 l3 b3. leaf_judged (Unary o a) t3 n3 rest l3 b3))
+begun_judged (token.Binary o) from levels d inner before nodes more left lawful some_depth depth h b =
+    let some = after_expression d more b.place.some in
+    with_node (token.Binary o) (two_of inner >>= λ p. done (Binary o p.0 p.1)) from levels d before nodes more left lawful some_depth depth b
+    (can_next _ _ (can_expression (d + 1) _ (can_next _ _ (can_expression (d + 1) _ (can_next _ _ some)))))
+    (λ deeper now n rest ls b2. judges_on (two_of inner n ls) _ now ls (Then rest) (Then rest) (two_judged (d + 1) inner (h deeper) now n rest ls b2) (λ p n3 t3 l3 b3. leaf_judged (Binary o p.0 p.1) t3 n3 rest l3 b3))
+begun_judged token.If from levels d inner before nodes more left lawful some_depth depth h b =
+    let some = after_expression d more b.place.some in
+    with_node token.If (three_of inner >>= λ p. done (Conditional p.0 p.1 p.2)) from levels d before nodes more left lawful some_depth depth b
+    (can_next _ _ (can_expression (d + 1) _ (can_next _ _ (can_expression (d + 1) _ (can_next _ _ (can_expression (d + 1) _ (can_next _ _ some)))))))
+    (λ deeper now n rest ls b2. judges_on (three_of inner n ls) _ now ls (Then rest) (Then rest) (three_judged (d + 1) inner (h deeper) now n rest ls b2) (λ p n3 t3 l3 b3. leaf_judged (Conditional p.0 p.1 p.2) t3 n3 rest l3 b3))
+begun_judged t from levels d inner before nodes more left lawful some_depth depth h b =
+    faulty before (record { from = from; token = t }) left kind.Unexpected (unexpected_alone before nodes t (AnExpression d more) b.place lawful (behind_header before t b.header)
+    (λ m ms e is. ((expression_opens d more t).out m ms e is).1))
+
+expression_some : (d : ℕ) (e : Term) (rest : List Mark) → [] ≡ marked e d rest → ⊥
+expression_some d (Literal n) rest e = cc
+expression_some d e rest h = cc
+
+level_judged : (levels d : ℕ) (inner : ℕ → List Lexeme → Read Term) → 0 < d → levels + d ≡ suc MAX_DEPTH → (0 < levels → Judged (d + 1) inner) → Judged d (level levels inner)
+level_judged levels d inner some_depth depth h before nodes more ls b =
+    next_judged before nodes (AnExpression d more) (Then more) _ ls b.place (λ e. expression_some d e.term e.rest e.is)
+    (λ m ms e. begins_lawful d more m.token ms ((expression_opens d more m.token).out m ms e refl).1)
+    (λ l left lawful. begun_judged l.token l.from levels d inner before nodes more left lawful some_depth depth h b)
+
+operand_judged : (levels d : ℕ) → 0 < levels → 0 < d → levels + d ≡ suc (suc MAX_DEPTH) → Judged d (operand levels)
+operand_judged zero d some some_depth depth = absurd (omega (arith, some))
+operand_judged (suc n) d some some_depth depth =
+    level_judged n d (operand n) some_depth (omega (arith, depth)) (λ deeper. operand_judged n (d + 1) deeper (omega arith) (omega (arith, depth)))
+
+expression_judged : Judged 1 (expression MAX_DEPTH)
+unfolding expression
+expression_judged =
+    level_judged MAX_DEPTH 1 (operand MAX_DEPTH) (omega arith) (omega arith) (λ deeper. operand_judged MAX_DEPTH (1 + 1) deeper (omega arith) (omega arith))
+
+same_register : (j : ℕ) → same_token (token.Register j) (token.Register j) ≡ true
+same_register j = eq-eqb j j refl
+
+assign_judged : (j : ℕ) (before : List Token) (nodes : ℕ) (more : Language) (ls : List Lexeme) →
+    Behind before nodes (Next (plain (token.Register j)) (Next (plain token.Equals) (AnExpression 1 more))) → Judges before ls (Then more) (assign j nodes ls)
+unfolding assign
+assign_judged j before nodes more ls b =
+    judges_on (exactly (token.Register j) nodes ls) _ before ls _ _ (token_read (token.Register j) before nodes _ ls (same_register j) refl b) (λ _ n1 t1 l1 b1.
+    judges_on (exactly token.Equals n1 l1) _ t1 l1 _ _ (token_read token.Equals t1 n1 _ l1 refl refl b1) (λ _ n2 t2 l2 b2.
+    expression_judged t2 n2 more l2 b2))
+
+each_assigned : (count j : ℕ) (parts : List Term) (before : List Token) (nodes : ℕ) (more : Language) (ls : List Lexeme) →
+    Behind before nodes (assignments j count more) → Judges before ls (Then more) (each assign count j parts nodes ls)
+each_assigned zero j parts before nodes more ls b = record { now = before; holds = b; passes = passes_none before ls }
+each_assigned (suc count) j parts before nodes more ls b =
+    judges_on (assign j nodes ls) _ before ls _ _ (assign_judged j before nodes (assignments (j + 1) count more) ls b) (λ e n1 t1 l1 b1.
+    each_assigned count (j + 1) (parts ++ (e ∷ [])) t1 n1 more l1 b1)
+
+assigns_judged : (registers : ℕ) (before : List Token) (nodes : ℕ) (more : Language) (ls : List Lexeme) →
+    Behind before nodes (assignments 0 registers more) → Judges before ls (Then more) (assigns registers nodes ls)
+unfolding assigns
+assigns_judged registers before nodes more ls b = each_assigned registers 0 [] before nodes more ls b
+
+round_judged : (registers : ℕ) (before : List Token) (nodes : ℕ) (more : Language) (ls : List Lexeme) →
+    Behind before nodes (a_round registers more) → Judges before ls (Then more) (round registers nodes ls)
+unfolding round
+round_judged registers before nodes more ls b =
+    judges_on (exactly token.Round nodes ls) _ before ls _ _ (token_read token.Round before nodes _ ls refl refl b) (λ _ n1 t1 l1 b1.
+    judges_on (exactly token.Send n1 l1) _ t1 l1 _ _ (token_read token.Send t1 n1 _ l1 refl refl b1) (λ _ n2 t2 l2 b2.
+    judges_on (exactly token.Left n2 l2) _ t2 l2 _ _ (token_read token.Left t2 n2 _ l2 refl refl b2) (λ _ n3 t3 l3 b3.
+    judges_on (expression MAX_DEPTH n3 l3) _ t3 l3 _ _ (expression_judged t3 n3 _ l3 b3) (λ a n4 t4 l4 b4.
+    judges_on (exactly token.Send n4 l4) _ t4 l4 _ _ (token_read token.Send t4 n4 _ l4 refl refl b4) (λ _ n5 t5 l5 b5.
+    judges_on (exactly token.Right n5 l5) _ t5 l5 _ _ (token_read token.Right t5 n5 _ l5 refl refl b5) (λ _ n6 t6 l6 b6.
+    judges_on (expression MAX_DEPTH n6 l6) _ t6 l6 _ _ (expression_judged t6 n6 _ l6 b6) (λ c n7 t7 l7 b7.
+    judges_on (assigns registers n7 l7) _ t7 l7 _ _ (assigns_judged registers t7 n7 more l7 b7) (λ es n8 t8 l8 b8.
+    record { now = t8; holds = b8; passes = passes_none t8 l8 }))))))))
+
+each_round : (registers count j : ℕ) (parts : List Step) (before : List Token) (nodes : ℕ) (more : Language) (ls : List Lexeme) →
+    Behind before nodes (some_rounds count registers more) → Judges before ls (Then more) (each (λ _. round registers) count j parts nodes ls)
+each_round registers zero j parts before nodes more ls b = record { now = before; holds = b; passes = passes_none before ls }
+each_round registers (suc count) j parts before nodes more ls b =
+    judges_on (round registers nodes ls) _ before ls _ _ (round_judged registers before nodes (some_rounds count registers more) ls b) (λ s n1 t1 l1 b1.
+    each_round registers count (j + 1) (parts ++ (s ∷ [])) t1 n1 more l1 b1)
+
+rounds_judged : (count registers : ℕ) (before : List Token) (nodes : ℕ) (more : Language) (ls : List Lexeme) →
+    Behind before nodes (some_rounds count registers more) → Judges before ls (Then more) (rounds count registers nodes ls)
+unfolding rounds
+rounds_judged count registers before nodes more ls b = each_round registers count 0 [] before nodes more ls b
