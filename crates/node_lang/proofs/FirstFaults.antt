@@ -1,6 +1,6 @@
 -- The fault at which reading a program stops is the first fault of its lexemes.
-use Rattle.std.proofs.Common.{◌≡◌, ℕ, zero, suc, ◌+◌, ◌<◌, ◌≤◌, ◌==◌, true, List, [], ◌∷◌, ◌++◌, length, refl, sym, subst, ap, ◌∙◌, arith, length-append}
-use Rattle.std.proofs.lemmas.Bool.{eq-eqb}
+use Rattle.std.proofs.Common.{◌≡◌, ℕ, zero, suc, ◌+◌, ◌<◌, ◌≤◌, ◌==◌, true, List, [], ◌∷◌, ◌++◌, length, refl, sym, subst, ap, ◌∙◌, arith, inl, inr, length-append}
+use Rattle.std.proofs.lemmas.Bool.{eq-eqb, cases_order}
 use Rattle.node_lang.specs.declared.limits.TheConstants.{MAX_CHANNELS, MAX_DEPTH, MAX_NODES, MAX_REGISTERS, MAX_ROUNDS}
 use Rattle.node_lang.specs.declared.fault.FaultKind.{FaultKind}
 use Rattle.node_lang.specs.declared.fault.FaultKind.TheVariants as kind
@@ -203,3 +203,105 @@ rounds_judged : (count registers : ℕ) (before : List Token) (nodes : ℕ) (mor
     Behind before nodes (some_rounds count registers more) → Judges before ls (Then more) (rounds count registers nodes ls)
 unfolding rounds
 rounds_judged count registers before nodes more ls b = each_round registers count 0 [] before nodes more ls b
+
+-- the numbers of the header
+no_range_first : (t : Token) → IsOutOfRange [] t → ⊥
+no_range_first t h = elim h [ ]
+
+no_range_channels : (n : ℕ) (t : Token) → IsOutOfRange (token.Rounds ∷ token.Number n ∷ []) t → ⊥
+no_range_channels n t h = elim h [ ]
+
+no_range_registers : (n c : ℕ) (t : Token) → IsOutOfRange (token.Rounds ∷ token.Number n ∷ token.Channels ∷ token.Number c ∷ []) t → ⊥
+no_range_registers n c t h = elim h [ ]
+
+no_range_start : (n c r : ℕ) (t : Token) → IsOutOfRange (token.Rounds ∷ token.Number n ∷ token.Channels ∷ token.Number c ∷ token.Registers ∷ token.Number r ∷ []) t → ⊥
+no_range_start n c r t h = elim h [ ]
+
+rounds_within : (n : ℕ) → n ≤ MAX_ROUNDS → IsOutOfRange (token.Rounds ∷ []) (token.Number n) → ⊥
+rounds_within n few (viable.rounds m h) = omega (arith, few, h)
+
+channels_within : (i n : ℕ) → 1 ≤ n → n ≤ MAX_CHANNELS → IsOutOfRange (token.Rounds ∷ token.Number i ∷ token.Channels ∷ []) (token.Number n) → ⊥
+channels_within i n some few (viable.no_channel _) = omega (arith, some)
+channels_within i n some few (viable.channels _ m h) = omega (arith, few, h)
+
+registers_within : (i c n : ℕ) → 1 ≤ n → n ≤ MAX_REGISTERS →
+    IsOutOfRange (token.Rounds ∷ token.Number i ∷ token.Channels ∷ token.Number c ∷ token.Registers ∷ []) (token.Number n) → ⊥
+registers_within i c n some few (viable.no_register _ _) = omega (arith, some)
+registers_within i c n some few (viable.registers _ _ m h) = omega (arith, few, h)
+
+channels_beyond : (i n : ℕ) → (1 ≤ n → n ≤ MAX_CHANNELS → ⊥) → IsOutOfRange (token.Rounds ∷ token.Number i ∷ token.Channels ∷ []) (token.Number n)
+channels_beyond i zero h = viable.no_channel i
+channels_beyond i (suc n) h = viable.channels i (suc n) (elim (cases_order (suc n) (suc MAX_CHANNELS)) [ inl e ↦ omega (arith, e) | inr (inl less) ↦ absurd (h (omega arith) (omega (arith, less))) | inr (inr more) ↦ omega (arith, more) ])
+
+registers_beyond : (i c n : ℕ) → (1 ≤ n → n ≤ MAX_REGISTERS → ⊥) →
+    IsOutOfRange (token.Rounds ∷ token.Number i ∷ token.Channels ∷ token.Number c ∷ token.Registers ∷ []) (token.Number n)
+registers_beyond i c zero h = viable.no_register i c
+registers_beyond i c (suc n) h = viable.registers i c (suc n) (elim (cases_order (suc n) (suc MAX_REGISTERS)) [ inl e ↦ omega (arith, e) | inr (inl less) ↦ absurd (h (omega arith) (omega (arith, less))) | inr (inr more) ↦ omega (arith, more) ])
+
+rounds_beyond : (n : ℕ) → (0 ≤ n → n ≤ MAX_ROUNDS → ⊥) → IsOutOfRange (token.Rounds ∷ []) (token.Number n)
+rounds_beyond n h = viable.rounds n (elim (cases_order n (suc MAX_ROUNDS)) [ inl e ↦ omega (arith, e) | inr (inl less) ↦ absurd (h (omega arith) (omega (arith, less))) | inr (inr more) ↦ omega (arith, more) ])
+
+-- one after the other, where the tokens up to the place between are known
+judges_at : {A B : Type 0} (r : Read A) (f : A → ℕ → List Lexeme → Read B) (before : List Token) (ls : List Lexeme) (tokens : A → List Token) (more : A → Language)
+    (Q : B → ℕ → List Token → List Lexeme → Type 0) → Judges before ls (At tokens more) r →
+    ((a : A) (n : ℕ) (left : List Lexeme) → Place (tokens a) n (more a) → Judges (tokens a) left Q (f a n left)) → Judges before ls Q (go_on r f)
+judges_at r f before ls tokens more Q h g =
+    judges_on r f before ls (At tokens more) Q h (λ a n now left at.
+    subst (λ ts. Judges ts left Q (f a n left)) (sym at.0) (g a n left (subst (λ ts. Place ts n (more a)) at.0 at.1)))
+
+header_judged : (ls : List Lexeme) → Place [] 0 a_program → Judges [] ls (λ c n now left. Behind now n (a_body c.rounds c.registers)) (header 0 ls)
+unfolding header
+header_judged ls p =
+    judges_at (exactly token.Rounds 0 ls) _ [] ls _ _ _ (exactly_judged token.Rounds [] 0 _ ls refl refl no_range_first p) (λ _ n1 l1 p1.
+    judges_at (number 0 MAX_ROUNDS n1 l1) _ _ l1 _ _ _ (number_judged 0 MAX_ROUNDS _ n1 _ l1
+      (record { inside = λ n _ few. rounds_within n few; outside = rounds_beyond }) (λ i. after_rounds i) p1) (λ i n2 l2 p2.
+    judges_at (exactly token.Channels n2 l2) _ _ l2 _ _ _ (exactly_judged token.Channels _ n2 _ l2 refl refl (no_range_channels i) p2) (λ _ n3 l3 p3.
+    judges_at (number 1 MAX_CHANNELS n3 l3) _ _ l3 _ _ _ (number_judged 1 MAX_CHANNELS _ n3 _ l3
+      (record { inside = channels_within i; outside = channels_beyond i }) (λ c. after_channels i) p3) (λ c n4 l4 p4.
+    judges_at (exactly token.Registers n4 l4) _ _ l4 _ _ _ (exactly_judged token.Registers _ n4 _ l4 refl refl (no_range_registers i c) p4) (λ _ n5 l5 p5.
+    judges_at (number 1 MAX_REGISTERS n5 l5) _ _ l5 _ _ _ (number_judged 1 MAX_REGISTERS _ n5 _ l5
+      (record { inside = registers_within i c; outside = registers_beyond i c }) (λ r. after_registers i r) p5) (λ r n6 l6 p6.
+    judges_at (exactly token.Start n6 l6) _ _ l6 _ _ _ (exactly_judged token.Start _ n6 _ l6 refl refl (no_range_start i c r) p6) (λ _ n7 l7 p7.
+    record { now = _; holds = record { header = omega arith; place = p7 }; passes = passes_none _ l7 }))))))) where
+  after_registers : (i r : ℕ) → CanFollow (Next (plain token.Start) (a_body i r))
+  after_registers i r = can_next _ _ (can_body i r)
+  after_channels : (i : ℕ) → CanFollow (Next (plain token.Registers) (ANumber (λ r. Next (plain token.Start) (a_body i r))))
+  after_channels i = can_next _ _ (can_number _ (can_next _ _ (can_body i 0)))
+  after_rounds : (i : ℕ) → CanFollow (Next (plain token.Channels) (ANumber (λ _. Next (plain token.Registers) (ANumber (λ r. Next (plain token.Start) (a_body i r))))))
+  after_rounds i = can_next _ _ (can_number _ (can_next _ _ (can_number _ (can_next _ _ (can_body i 0)))))
+
+program_can : CanFollow a_program
+program_can = can_next _ _ (can_number _ (can_next _ _ (can_number _ (can_next _ _ (can_number _ (can_next _ _ (can_body 0 0)))))))
+
+abbrev Ended : {A : Type 0} → A → ℕ → List Token → List Lexeme → Type 0
+Ended _ nodes now left = (left ≡ []) × IsWhole now
+
+program_judged : (ls : List Lexeme) → Judges [] ls (λ (_ : ProgramTree) n now left. (left ≡ []) × IsWhole now) (program 0 ls)
+unfolding program
+program_judged ls =
+    judges_on (header 0 ls) _ [] ls _ _ (header_judged ls (first_place program_can)) (λ c n1 t1 l1 b1.
+    judges_on (assigns c.registers n1 l1) _ t1 l1 _ _ (assigns_judged c.registers t1 n1 _ l1 b1) (λ start n2 t2 l2 b2.
+    judges_on (rounds c.rounds c.registers n2 l2) _ t2 l2 _ _ (rounds_judged c.rounds c.registers t2 n2 _ l2 b2) (λ steps n3 t3 l3 b3.
+    judges_on (exactly token.Finish n3 l3) _ t3 l3 _ _ (token_read token.Finish t3 n3 _ l3 refl refl b3) (λ _ n4 t4 l4 b4.
+    judges_on (expression MAX_DEPTH n4 l4) _ t4 l4 _ _ (expression_judged t4 n4 an_end l4 b4) (λ e n5 t5 l5 b5.
+    judges_on (end n5 l5) _ t5 l5 _ _ (end_judged t5 n5 l5 (λ s. behind_header t5 s b5.header) b5.place) (λ _ n6 t6 l6 ended.
+    record { now = t6; holds = ended; passes = passes_none t6 l6 }))))))
+
+-- the fault at which reading stops is the first fault
+pub first_fault_of : (ls : List Lexeme) (k : FaultKind) (from : ℕ) → program 0 ls ≡ Fault k from → FirstFault [] ls k from
+first_fault_of ls k from e =
+    let faulty : Faulty [] ls k from = subst (Judges [] ls (λ (_ : ProgramTree) n now left. (left ≡ []) × IsWhole now)) e (program_judged ls) in
+    faulty.is
+
+-- no faults are where reading does not stop
+stops : {A : Type 0} (r : Read A) (ls : List Lexeme) (k : FaultKind) (from : ℕ) → Judges [] ls (λ (_ : A) n now left. (left ≡ []) × IsWhole now) r →
+    FirstFault [] ls k from → r ≡ Fault k from
+stops (Got a n left) ls k from h f = absurd ((subst (λ l. FirstFault h.now l k from) h.holds.0 (h.passes.forth k from f)).2 h.holds.1)
+stops (Fault j place) ls k from h f =
+    let only = h.only k from f in
+    let kinds : k ≡ j = only.0 in
+    let places : from ≡ place = only.1 in
+    cc
+
+pub stops_at_first_fault : (ls : List Lexeme) (k : FaultKind) (from : ℕ) → FirstFault [] ls k from → program 0 ls ≡ Fault k from
+stops_at_first_fault ls k from f = stops (program 0 ls) ls k from (program_judged ls) f
