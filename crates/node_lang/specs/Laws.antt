@@ -1,5 +1,5 @@
 -- The statements of the laws of this crate, one definition each.
-use Rattle.std.specs.Prelude.{◌≡◌, ℕ, ◌<◌, List, length}
+use Rattle.std.specs.Prelude.{◌≡◌, ℕ, ◌<◌, List, [], length}
 use Rattle.node_lang.specs.declared.limits.TheConstants.{LONGEST_TEXT}
 use Rattle.node_lang.specs.declared.fault.FaultKind.{FaultKind}
 use Rattle.node_lang.specs.Term.{ProgramTree}
@@ -7,6 +7,9 @@ use Rattle.node_lang.specs.Limits.{IsWithinLimits}
 use Rattle.node_lang.specs.Grammar.{Reads}
 use Rattle.node_lang.specs.Printed.{printed}
 use Rattle.node_lang.specs.Faults.{FaultsAt}
+use Rattle.node_lang.specs.Lexemes.{Lexeme}
+use Rattle.node_lang.specs.Read.{Fault, program}
+use Rattle.node_lang.specs.Viable.{FirstFault}
 
 -- a text reads as at most one program
 abbrev pub OneReading : Type 0
@@ -28,3 +31,13 @@ OneTextFault =
 -- a text that reads as a program has none
 abbrev pub ReadableTextsHaveNoFault : Type 0
 ReadableTextsHaveNoFault = (text : List ℕ) (p : ProgramTree) (k : FaultKind) (offset : ℕ) → Reads text p → FaultsAt text k offset → ⊥
+
+-- where reading stops, it stops at the first fault of the lexemes
+abbrev pub StopsAtTheFirstFault : Type 0
+StopsAtTheFirstFault =
+    (lexemes : List Lexeme) (k : FaultKind) (from : ℕ) → program 0 lexemes ≡ Fault k from → FirstFault [] lexemes k from
+
+-- and it stops where they have one
+abbrev pub StopsAtAFirstFault : Type 0
+StopsAtAFirstFault =
+    (lexemes : List Lexeme) (k : FaultKind) (from : ℕ) → FirstFault [] lexemes k from → program 0 lexemes ≡ Fault k from
