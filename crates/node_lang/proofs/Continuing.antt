@@ -64,52 +64,56 @@ pub record CanFollow (more : List Mark → Type 0) : Type 0 where
   pub marks : List Mark
   pub follows : more marks
 
-pub can_next : (m : Mark) (more : Language) → CanFollow more → CanFollow (Next m more)
-can_next m more c = record { marks = m ∷ c.marks; follows = record { rest = c.marks; is = refl; follows = c.follows } }
+pub can_next : {more : Language} (m : Mark) → CanFollow more → CanFollow (Next m more)
+can_next m c = record { marks = m ∷ c.marks; follows = record { rest = c.marks; is = refl; follows = c.follows } }
 
-pub can_expression : (d : ℕ) (more : Language) → CanFollow more → CanFollow (AnExpression d more)
-can_expression d more c =
+pub can_expression : {more : Language} (d : ℕ) → CanFollow more → CanFollow (AnExpression d more)
+can_expression d c =
     record { marks = node (token.Number 0) d ∷ c.marks; follows = record { term = Literal 0; rest = c.marks; is = refl; follows = c.follows } }
 
-pub can_number : (more : ℕ → Language) → CanFollow (more 0) → CanFollow (ANumber more)
-can_number more c =
+pub can_number : {more : ℕ → Language} → CanFollow (more 0) → CanFollow (ANumber more)
+can_number c =
     record { marks = plain (token.Number 0) ∷ c.marks; follows = record { number = 0; rest = c.marks; is = refl; follows = c.follows } }
 
-pub can_assignments : (j count : ℕ) (more : Language) → CanFollow more → CanFollow (assignments j count more)
-can_assignments j zero more c = c
-can_assignments j (suc count) more c =
-    can_next _ _ (can_next _ _ (can_expression 1 _ (can_assignments (j + 1) count more c)))
+can_assignments : {more : Language} (j count : ℕ) → CanFollow more → CanFollow (assignments j count more)
+can_assignments j zero c = c
+can_assignments j (suc count) c = can_next _ (can_next _ (can_expression 1 (can_assignments (j + 1) count c)))
 
-can_rounds : (count registers : ℕ) (more : Language) → CanFollow more → CanFollow (some_rounds count registers more)
-can_rounds zero registers more c = c
-can_rounds (suc count) registers more c =
-    can_next _ _ (can_next _ _ (can_next _ _ (can_expression 1 _ (can_next _ _ (can_next _ _ (can_expression 1 _
-    (can_assignments 0 registers _ (can_rounds count registers more c))))))))
+can_rounds : {more : Language} (count registers : ℕ) → CanFollow more → CanFollow (some_rounds count registers more)
+can_rounds zero registers c = c
+can_rounds (suc count) registers c =
+    can_next _ (can_next _ (can_next _ (can_expression 1 (can_next _ (can_next _ (can_expression 1
+    (can_assignments 0 registers (can_rounds count registers c))))))))
 
 pub can_body : (rounds registers : ℕ) → CanFollow (a_body rounds registers)
 can_body rounds registers =
-    can_assignments 0 registers _ (can_rounds rounds registers _ (can_next _ _ (can_expression 1 an_end (record { marks = []; follows = refl }))))
+    can_assignments 0 registers (can_rounds rounds registers (can_next _ (can_expression 1 (record { marks = []; follows = refl }))))
 
-pub after_next : (m : Mark) (more : Language) → CanFollow (Next m more) → CanFollow more
-after_next m more c = record { marks = c.follows.rest; follows = c.follows.follows }
+pub after_next : {m : Mark} {more : Language} → CanFollow (Next m more) → CanFollow more
+after_next c = record { marks = c.follows.rest; follows = c.follows.follows }
 
--- A token with this depth may come next, and then the lists of the second language follow.
+pub after_expression : {d : ℕ} {more : Language} → CanFollow (AnExpression d more) → CanFollow more
+after_expression c = record { marks = c.follows.rest; follows = c.follows.follows }
+
+-- The first language has lists that begin with this token at this depth, and the second has what may follow in them.
 pub record Opens (first : List Mark → Type 0) (t : Token) (d : ℕ) (after : List Mark → Type 0) : Type 0 where
   pub into : (ms : List Mark) → after ms → first (node t d ∷ ms)
   pub out : (m : Mark) (ms : List Mark) → first (m ∷ ms) → m.token ≡ t → (m.depth ≡ d) × after ms
+  pub some : CanFollow after
 
-pub next_opens : (m : Mark) (more : Language) → Opens (Next m more) m.token m.depth more
-next_opens m more = record {
+pub next_opens : {m : Mark} {more : Language} → CanFollow more → Opens (Next m more) m.token m.depth more
+next_opens {m} {more} some = record {
   into = λ ms h. record { rest = ms; is = refl; follows = h };
   out = λ x ms h e.
       let is : x ∷ ms ≡ m ∷ h.rest = h.is in
       let same : x ≡ m = cc in
       let left : h.rest ≡ ms = cc in
       (ap (λ (y : Mark). y.depth) same, subst more left h.follows);
+  some = some;
 }
 
-pub number_opens : (n : ℕ) (more : ℕ → Language) → Opens (ANumber more) (token.Number n) 0 (more n)
-number_opens n more = record {
+pub number_opens : {more : ℕ → Language} (n : ℕ) → CanFollow (more n) → Opens (ANumber more) (token.Number n) 0 (more n)
+number_opens {more} n some = record {
   into = λ ms h. record { number = n; rest = ms; is = refl; follows = h };
   out = λ x ms h e.
       let is : x ∷ ms ≡ plain (token.Number h.number) ∷ h.rest = h.is in
@@ -118,6 +122,7 @@ number_opens n more = record {
       let number : h.number ≡ n = cc in
       let left : h.rest ≡ ms = cc in
       (ap (λ (y : Mark). y.depth) same, subst (λ k. more k ms) number (subst (more h.number) left h.follows));
+  some = some;
 }
 
 -- what may follow this token where it begins an expression of this depth
@@ -197,12 +202,14 @@ first_of d more (Conditional c a b) x ms rest e h = same_first d more x (node to
     follows = record { term = a; rest = _; is = refl; follows = record { rest = _; is = refl;
     follows = record { term = b; rest = _; is = refl; follows = record { rest = rest; is = refl; follows = h } } } } } } })
 
-pub expression_opens : (d : ℕ) (more : Language) (t : Token) → Opens (AnExpression d more) t d (following d more t)
-expression_opens d more t = record {
+pub after_first : {d : ℕ} {more : Language} {m : Mark} {ms : List Mark} → AnExpression d more (m ∷ ms) → (m.depth ≡ d) × following d more m.token ms
+after_first {d} {more} {m} {ms} e = first_of d more e.term m ms e.rest e.is e.follows
+
+pub expression_opens : {d : ℕ} {more : Language} (t : Token) → CanFollow (following d more t) → Opens (AnExpression d more) t d (following d more t)
+expression_opens {d} {more} t some = record {
   into = begins_expression d more t;
-  out = λ x ms h e.
-      let first = first_of d more h.term x ms h.rest h.is h.follows in
-      (first.0, subst (λ s. following d more s ms) e first.1);
+  out = λ x ms h e. let first = after_first h in (first.0, subst (λ s. following d more s ms) e first.1);
+  some = some;
 }
 
 -- what begins an expression is a token of the language

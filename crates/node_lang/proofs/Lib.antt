@@ -19,4 +19,3 @@ pub mod Programs
 pub mod Places
 pub mod Standing
 pub mod Judging
-pub mod FirstFaults

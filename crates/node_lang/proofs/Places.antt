@@ -31,23 +31,23 @@ pub record Place (before : List Token) (nodes : ℕ) (more : List Mark → Type 
   pub some : CanFollow more
 
 -- after one more token
-first_opens : (before xs : List Mark) (t : Token) (ts : List Token) (d : ℕ) (more after : Language) → Opens more t d after → (rest : List Mark) →
+opened : {xs : List Mark} {t : Token} {ts : List Token} {d : ℕ} {more after : Language} (before : List Mark) → Opens more t d after → (rest : List Mark) →
     xs ≡ before ++ rest → unmarked rest ≡ t ∷ ts → more rest → GoesOn (before ++ node t d ∷ []) xs ts after
-first_opens before xs t ts d more after o [] is e h = absurd (cc)
-first_opens before xs t ts d more after o (m ∷ ms) is e h =
+opened before o [] is e h = absurd (cc)
+opened {t = t} {d = d} before o (m ∷ ms) is e h =
     let same : m.token ≡ t = cc in
-    let opened = o.out m ms h same in
-    let mark : m ≡ node t d = λ i. record { token = same i; depth = opened.0 i } in
+    let first = o.out m ms h same in
+    let mark : m ≡ node t d = λ i. record { token = same i; depth = first.0 i } in
     record {
       rest = ms;
       is = is ∙ ap (λ x. before ++ x ∷ ms) mark ∙ sym (append_assoc before (node t d ∷ []) ms);
       tokens = cc;
-      follows = opened.1;
+      follows = first.1;
     }
 
-pub next_place : (before : List Token) (nodes : ℕ) (t : Token) (d : ℕ) (more after : Language) → Place before nodes more → Opens more t d after →
-    CanFollow after → Place (before ++ t ∷ []) (nodes + one_at d) after
-next_place before nodes t d more after p o some = record {
+pub next_place : {before : List Token} {nodes d : ℕ} {t : Token} {more after : Language} → Place before nodes more → Opens more t d after →
+    Place (before ++ t ∷ []) (nodes + one_at d) after
+next_place {before} {nodes} {d} {t} p o = record {
   marks = p.marks ++ node t d ∷ [];
   tokens = map-append (λ (m : Mark). m.token) p.marks (node t d ∷ []) ∙ ap (λ ts. ts ++ t ∷ []) p.tokens;
   nodes_are = sum_by-append (λ (m : Mark). one_at m.depth) p.marks (node t d ∷ [])
@@ -55,9 +55,15 @@ next_place before nodes t d more after p o some = record {
   into = λ ms h. subst a_program (sym (append_assoc p.marks (node t d ∷ []) ms)) (p.into (node t d ∷ ms) (o.into ms h));
   out = λ xs ts w e.
       let g = p.out xs (t ∷ ts) w (e ∙ append_assoc before (t ∷ []) ts) in
-      first_opens p.marks xs t ts d more after o g.rest g.is g.tokens g.follows;
-  some = some;
+      opened p.marks o g.rest g.is g.tokens g.follows;
+  some = o.some;
 }
+
+-- a token that begins no node
+pub plain_place : {before : List Token} {nodes : ℕ} {t : Token} {more after : Language} → Place before nodes more → Opens more t 0 after →
+    Place (before ++ t ∷ []) nodes after
+plain_place {before} {nodes} {t} {more} {after} p o =
+    subst (λ n. Place (before ++ t ∷ []) n after) (let e : nodes + 0 ≡ nodes = omega arith in e) (next_place p o)
 
 -- the place before all tokens
 pub first_place : CanFollow a_program → Place [] 0 a_program
@@ -89,11 +95,11 @@ unmarked_next : (xs : List Mark) (before : List Token) (m : Mark) (ms : List Mar
 unmarked_next xs before m ms e = map-append (λ (x : Mark). x.token) xs (m ∷ ms) ∙ ap (λ ts. ts ++ m.token ∷ unmarked ms) e
 
 -- a node that begins in some program has the depth of the language, and so many nodes are before it
-pub begun : (before : List Token) (nodes : ℕ) (t : Token) (depth count : ℕ) (more : Language) → Place before nodes more → (b : BeginsNode before t depth count) →
+pub begun : {before : List Token} {nodes depth count : ℕ} {t : Token} {more : Language} → Place before nodes more → (b : BeginsNode before t depth count) →
     (count ≡ nodes) × more (node t depth ∷ b.marks_after)
-begun before nodes t depth count more p b =
+begun {before} {depth = depth} {t = t} {more = more} p b =
     let m : Mark = node t depth in
-    let e : unmarked (marks b.program) ≡ before ++ t ∷ unmarked b.marks_after = ap unmarked b.are ∙ unmarked_next b.marks_before before m b.marks_after b.tokens_before in
+    let e = ap unmarked b.are ∙ unmarked_next b.marks_before before m b.marks_after b.tokens_before in
     let g = p.out (marks b.program) (t ∷ unmarked b.marks_after) (in_program b.program b.each_register) e in
     let lengths : length p.marks ≡ length b.marks_before = sym (length_unmarked p.marks) ∙ ap length (p.tokens ∙ sym b.tokens_before) ∙ length_unmarked b.marks_before in
     let same = same_front p.marks b.marks_before g.rest (m ∷ b.marks_after) lengths (sym g.is ∙ b.are) in
@@ -106,27 +112,28 @@ pub record Met (t : Token) (more : List Mark → Type 0) : Type 0 where
   pub token : mark.token ≡ t
   pub follows : more (mark ∷ rest)
 
-met : (t : Token) (ts : List Token) (more : Language) (ms : List Mark) → unmarked ms ≡ t ∷ ts → more ms → Met t more
-met t ts more [] e h = absurd (cc)
-met t ts more (m ∷ ms) e h = record { mark = m; rest = ms; token = cc; follows = h }
+met : {t : Token} {ts : List Token} {more : Language} (ms : List Mark) → unmarked ms ≡ t ∷ ts → more ms → Met t more
+met [] e h = absurd (cc)
+met (m ∷ ms) e h = record { mark = m; rest = ms; token = cc; follows = h }
 
-pub viable_met : (before : List Token) (nodes : ℕ) (t : Token) (more : Language) → Place before nodes more → IsViable (before ++ t ∷ []) → Met t more
-viable_met before nodes t more p v =
+pub viable_met : {before : List Token} {nodes : ℕ} {t : Token} {more : Language} → Place before nodes more → IsViable (before ++ t ∷ []) → Met t more
+viable_met {before} {t = t} p v =
     let g = p.out (marks v.program) (t ∷ v.more) (in_program v.program v.each_register)
         (unmarked_program v.program ∙ sym v.spells ∙ append_assoc before (t ∷ []) v.more) in
-    met t v.more more g.rest g.tokens g.follows
+    met g.rest g.tokens g.follows
 
 no_tokens : (ms : List Mark) → unmarked ms ≡ [] → ms ≡ []
 no_tokens [] e = refl
 no_tokens (m ∷ ms) e = absurd (cc)
 
-pub whole_met : (before : List Token) (nodes : ℕ) (more : Language) → Place before nodes more → IsWhole before → more []
-whole_met before nodes more p v =
+pub whole_met : {before : List Token} {nodes : ℕ} {more : Language} → Place before nodes more → IsWhole before → more []
+whole_met {before} {more = more} p v =
     let g = p.out (marks v.program) [] (in_program v.program v.each_register) (unmarked_program v.program ∙ sym v.spells ∙ sym (append-nil before)) in
     subst more (no_tokens g.rest g.tokens) g.follows
 
-pub whole_place : (before : List Token) (nodes : ℕ) (more : Language) → Place before nodes more → more [] → IsWhole before
-whole_place before nodes more p h =
+-- the tree of a program that goes on so
+pub whole_place : {before : List Token} {nodes : ℕ} {more : Language} → Place before nodes more → more [] → IsWhole before
+whole_place p h =
     let s = program_is (p.marks ++ []) (p.into [] h) in
     record {
       program = s.program;
@@ -134,27 +141,30 @@ whole_place before nodes more p h =
       spells = sym p.tokens ∙ ap unmarked (sym (append-nil p.marks) ∙ sym s.is) ∙ unmarked_program s.program;
     }
 
--- a token that the language has next
-pub viable_place : (before : List Token) (nodes : ℕ) (t : Token) (d : ℕ) (more after : Language) → Place before nodes more → Opens more t d after →
-    CanFollow after → IsViable (before ++ t ∷ [])
-viable_place before nodes t d more after p o some =
-    let s = program_is (p.marks ++ node t d ∷ some.marks) (p.into (node t d ∷ some.marks) (o.into some.marks some.follows)) in
+some_program : {before : List Token} {nodes d : ℕ} {t : Token} {more after : Language} (p : Place before nodes more) (o : Opens more t d after) →
+    Spelt (p.marks ++ node t d ∷ o.some.marks)
+some_program {d = d} {t = t} p o = program_is (p.marks ++ node t d ∷ o.some.marks) (p.into (node t d ∷ o.some.marks) (o.into o.some.marks o.some.follows))
+
+pub viable_place : {before : List Token} {nodes d : ℕ} {t : Token} {more after : Language} → Place before nodes more → Opens more t d after →
+    IsViable (before ++ t ∷ [])
+viable_place {before} {d = d} {t = t} p o =
+    let s = some_program p o in
     record {
       program = s.program;
-      more = unmarked some.marks;
+      more = unmarked o.some.marks;
       each_register = s.each_register;
-      spells = append_assoc before (t ∷ []) (unmarked some.marks) ∙ sym (unmarked_next p.marks before (node t d) some.marks p.tokens)
+      spells = append_assoc before (t ∷ []) (unmarked o.some.marks) ∙ sym (unmarked_next p.marks before (node t d) o.some.marks p.tokens)
           ∙ ap unmarked (sym s.is) ∙ unmarked_program s.program;
     }
 
-pub begins_place : (before : List Token) (nodes : ℕ) (t : Token) (d : ℕ) (more after : Language) → Place before nodes more → Opens more t d after →
-    CanFollow after → 0 < d → BeginsNode before t d nodes
-begins_place before nodes t d more after p o some some_depth =
-    let s = program_is (p.marks ++ node t d ∷ some.marks) (p.into (node t d ∷ some.marks) (o.into some.marks some.follows)) in
+pub begins_place : {before : List Token} {nodes d : ℕ} {t : Token} {more after : Language} → Place before nodes more → Opens more t d after → 0 < d →
+    BeginsNode before t d nodes
+begins_place p o some_depth =
+    let s = some_program p o in
     record {
       program = s.program;
       marks_before = p.marks;
-      marks_after = some.marks;
+      marks_after = o.some.marks;
       each_register = s.each_register;
       are = s.is;
       tokens_before = p.tokens;
