@@ -142,3 +142,94 @@ exactly_reads {at} {then_at} {more} t itself within later = next_reads some_toke
       })
     (λ other. stops_here (unexpected_alone p (record { known = known; within = within before l.token h })
       (λ m ms n e. both_ways (same_token l.token t) other (ap (λ s. same_token s t) (sym e ∙ next_token n) ∙ itself)))))
+
+-- After these tokens a number of the header is wanted, which is a fault where it is out of this range.
+pub record HasRange (before : List Token) (low high : ℕ) : Type 0 where
+  pub inside : (n : ℕ) → low ≤ n → n ≤ high → IsOutOfRange before (token.Number n) → ⊥
+  pub outside : (n : ℕ) → (low ≤ n → high < n) → IsOutOfRange before (token.Number n)
+
+next_number : {more : ℕ → Language} {x : Mark} {ms : List Mark} → ANumber more (x ∷ ms) → (n : ℕ) × (x.token ≡ token.Number n)
+next_number {x = x} {ms = ms} h =
+    let is : x ∷ ms ≡ plain (token.Number h.number) ∷ h.rest = h.is in
+    let same : x ≡ plain (token.Number h.number) = cc in
+    (h.number, ap (λ (y : Mark). y.token) same)
+
+some_number : {more : ℕ → Language} → ANumber more [] → ⊥
+some_number h =
+    let is : [] ≡ plain (token.Number h.number) ∷ h.rest = h.is in
+    absurd (cc)
+
+-- a token that is no number
+no_number : {before : List Token} {nodes : ℕ} {more : ℕ → Language} {l : Lexeme} {left : List Lexeme} → Place before nodes (ANumber more) →
+    fault_of l.token ≡ kind.Unexpected → ((n : ℕ) → l.token ≡ token.Number n → ⊥) → IsOnly before (l ∷ left) kind.Unexpected l.from
+no_number p known never =
+    stops_here (unexpected_alone p (record { known = known; within = λ range. let n = only_numbers range in never n.0 n.1 })
+    (λ m ms h e. let n = next_number h in never n.0 (sym e ∙ n.1)))
+
+range_judged : {before : List Token} {nodes low high : ℕ} {more : ℕ → Language} (then_at : ℕ → List Token → Type 0) (t : Token) (l : Lexeme) (left : List Lexeme) →
+    l.token ≡ t → fault_of l.token ≡ kind.Unexpected → HasRange before low high → ((n : ℕ) → CanFollow (more n)) → ((n : ℕ) → then_at n (before ++ token.Number n ∷ [])) →
+    Place before nodes (ANumber more) → Judges before (l ∷ left) (Then then_at more) (in_range low high l t nodes left)
+range_judged {before} {nodes} {low} {high} {more} then_at (token.Number n) l left e known range some later p =
+    let opens : Opens (ANumber more) l.token 0 (more n) = subst (λ s. Opens (ANumber more) s 0 (more n)) (sym e) (number_opens n (some n)) in
+    cond_both (nat_le low n && nat_le n high) (done n) (refuse kind.HeaderRange l) (λ (r : ℕ → List Lexeme → Read ℕ). Judges before (l ∷ left) (Then then_at more) (r nodes left))
+    (λ both.
+      let above : low ≤ n = grind (arith, nat_tests) in
+      let below : n ≤ high = grind (arith, nat_tests) in
+      let ordinary : IsOrdinary before l.token = record { known = known; within = λ out. range.inside n above below (subst (IsOutOfRange before) e out) } in
+      record {
+        now = before ++ l.token ∷ [];
+        holds = record { holds = subst (λ s. then_at n (before ++ s ∷ [])) (sym e) (later n); place = plain_place p opens };
+        leaves = leaves_next (no_fault p opens ordinary (omega arith) (λ none. omega (arith, none)));
+      })
+    (λ neither. stops_here (range_alone p opens (subst (IsOutOfRange before) (sym e) (range.outside n (λ above. grind (arith, nat_tests))))))
+range_judged then_at t l left e known range some later p = no_number p known (λ n is. cc)
+
+pub number_reads : {at : List Token → Type 0} {then_at : ℕ → List Token → Type 0} {more : ℕ → Language} (low high : ℕ) → ((before : List Token) → at before → HasRange before low high) →
+    ((n : ℕ) → CanFollow (more n)) → ((before : List Token) (n : ℕ) → at before → then_at n (before ++ token.Number n ∷ [])) →
+    Reads at (ANumber more) (Then then_at more) (number low high)
+number_reads {then_at = then_at} low high range some later =
+    next_reads some_number (λ m ms h. ap fault_of (next_number h).1) (λ before nodes l left h p known.
+    range_judged then_at l.token l left refl known (range before h) some (λ n. later before n h) p)
+
+-- the first token of a node, and what is read after it
+one_some : (d : ℕ) → 0 < d → one_at d ≡ 1
+one_some zero h = absurd (omega (arith, h))
+one_some (suc d) h = refl
+
+pub node_judged : {B : Type 0} {at : List Token → Type 0} {more after : Language} {P : B → ℕ → List Token → List Lexeme → Type 0} {f : ℕ → List Lexeme → Read B}
+    {before : List Token} {nodes : ℕ} (levels d : ℕ) (l : Lexeme) (left : List Lexeme) → 0 < d → levels + d ≡ suc MAX_DEPTH → Place before nodes more →
+    Opens more l.token d after → IsOrdinary before l.token → at (before ++ l.token ∷ []) → (0 < levels → Reads at after P f) →
+    Judges before (l ∷ left) P (go_on (node levels l.from nodes left) (λ _. f))
+node_judged {B} {after = after} {P = P} {f = f} {before = before} {nodes = nodes} levels d l left some_depth depth p o ordinary h reads =
+    cond_both (levels == 0) _ _ (λ (r : Read (Unit {0})). Judges before (l ∷ left) P (go_on r (λ _. f)))
+    (λ none. let deep : MAX_DEPTH < d = grind (arith, nat_tests) in stops_here (too_deep_alone p o ordinary deep))
+    (λ levels_left.
+      let shallow : d ≤ MAX_DEPTH = grind (arith, nat_tests) in
+      let deeper : 0 < levels = grind (arith, nat_tests) in
+      cond_both (nat_le MAX_NODES nodes) _ _ (λ (r : Read (Unit {0})). Judges before (l ∷ left) P (go_on r (λ _. f)))
+      (λ full. let many : MAX_NODES ≤ nodes = grind (arith, nat_tests) in stops_here (too_many_alone p o ordinary some_depth shallow many))
+      (λ room.
+        let few : nodes < MAX_NODES = grind (arith, nat_tests) in
+        let place = subst (λ n. Place (before ++ l.token ∷ []) (nodes + n) after) (one_some d some_depth) (next_place p o) in
+        judged_later P (f (nodes + 1) left) (leaves_next (no_fault p o ordinary shallow (λ _. few)))
+          ((reads deeper).judges (before ++ l.token ∷ []) (nodes + 1) left h place)))
+
+-- the end
+pub record Ended {A : Type 0} (a : A) (nodes : ℕ) (now : List Token) (left : List Lexeme) : Type 0 where
+  pub none_left : left ≡ []
+  pub whole : IsWhole now
+
+end_alone : {before : List Token} {nodes : ℕ} (t : Token) → (IsOutOfRange before t → ⊥) → Place before nodes an_end → StandsAlone before t (fault_of t)
+end_alone token.Unknown within p = unlawful_alone p (λ m ms h. absurd (cc)) (λ h. cc)
+end_alone token.LargeNumber within p = unlawful_alone p (λ m ms h. absurd (cc)) (λ h. cc)
+end_alone t within p = unexpected_alone p (record { known = refl; within = within }) (λ m ms h e. absurd (cc))
+
+pub end_reads : {at : List Token → Type 0} → ((before : List Token) (t : Token) → at before → IsOutOfRange before t → ⊥) → Reads at an_end (Ended {A = Unit {0}}) end
+end_reads {at} within = record { judges = judges } where
+  judges : (before : List Token) (nodes : ℕ) (ls : List Lexeme) → at before → Place before nodes an_end → Judges before ls (Ended {A = Unit {0}}) (end nodes ls)
+  judges before nodes [] h p = record {
+    now = before;
+    holds = record { none_left = refl; whole = whole_place p refl };
+    leaves = record { back = λ k from f. f; forth = λ k from f. f };
+  }
+  judges before nodes (l ∷ ls) h p = stops_here (end_alone l.token (within before l.token h) p)

@@ -19,3 +19,4 @@ pub mod Programs
 pub mod Places
 pub mod Standing
 pub mod Judging
+pub mod FirstFaults

@@ -1,0 +1,146 @@
+-- The fault at which reading a program stops is the first fault of its lexemes.
+use Rattle.std.proofs.Common.{◌≡◌, ℕ, zero, suc, ◌+◌, ◌<◌, ◌≤◌, true, List, [], ◌∷◌, ◌++◌, length, Option, Some, None, refl, sym, subst, ap, ◌∙◌, arith, length-append}
+use Rattle.std.proofs.lemmas.Bool.{eq-eqb}
+use Rattle.node_lang.specs.declared.limits.TheConstants.{MAX_CHANNELS, MAX_DEPTH, MAX_REGISTERS, MAX_ROUNDS}
+use Rattle.node_lang.specs.declared.fault.FaultKind.{FaultKind}
+use Rattle.node_lang.specs.declared.fault.FaultKind.TheVariants as kind
+use Rattle.node_lang.specs.declared.token.Token.{Token}
+use Rattle.node_lang.specs.declared.token.Token.TheVariants as token
+use Rattle.node_lang.specs.Term.{Term, Literal, Identifier, LeftMessage, RightMessage, RegisterValue, Unary, Binary, Conditional, Step, ProgramTree}
+use Rattle.node_lang.specs.Lexemes.{Lexeme}
+use Rattle.node_lang.specs.Reading.{same_token, fault_of}
+use Rattle.node_lang.specs.Read.{Read, Got, Fault, Counts, go_on, ◌>>=◌, done, exactly, one_of, two_of, three_of, after, begun, level, operand, expression, number, header, end, each, assign, assigns, round, rounds, program}
+use Rattle.node_lang.specs.Viable.{Mark, plain, marked, IsOutOfRange, no_channel, no_register, FirstFault}
+use Rattle.node_lang.specs.Viable as viable
+use Rattle.node_lang.proofs.Continuing.{Language, Next, AnExpression, ANumber, an_end, assignments, a_round, some_rounds, a_body, a_program, CanFollow, can_next, can_expression, can_number, can_body, after_expression, following, after_first, expression_opens, begins_lawful}
+use Rattle.node_lang.proofs.Places.{Place, first_place}
+use Rattle.node_lang.proofs.Standing.{IsOrdinary, unexpected_alone}
+use Rattle.node_lang.proofs.Judging.{Judges, IsOnly, stops_here, Reads, Then, done_reads, both, next_reads, exactly_reads, HasRange, number_reads, node_judged, Ended, end_reads}
+
+-- these tokens go on behind the header, where no number is one of the header
+abbrev IsBehind : List Token → Type 0
+IsBehind before = 7 ≤ length before
+
+behind_header : (before : List Token) (t : Token) → IsBehind before → IsOutOfRange before t → ⊥
+behind_header before t long (viable.rounds n h) = omega (arith, long)
+behind_header before t long (viable.no_channel i) = omega (arith, long)
+behind_header before t long (viable.channels i n h) = omega (arith, long)
+behind_header before t long (viable.no_register i c) = omega (arith, long)
+behind_header before t long (viable.registers i c n h) = omega (arith, long)
+
+farther : (t : Token) (before : List Token) → IsBehind before → IsBehind (before ++ t ∷ [])
+farther t before long = omega (arith, length-append before (t ∷ []), long)
+
+-- behind the header this is read, and then the rest
+abbrev ReadsBehind : {A : Type 0} → Language → Language → (ℕ → List Lexeme → Read A) → Type 0
+ReadsBehind first rest r = Reads IsBehind first (Then (λ _. IsBehind) (λ _. rest)) r
+
+a_token : {more : Language} (t : Token) → same_token t t ≡ true → ReadsBehind (Next (plain t) more) more (exactly t)
+a_token t itself = exactly_reads t itself behind_header (farther t)
+
+-- an expression whose root has this depth is read so
+abbrev ReadsOperand : ℕ → (ℕ → List Lexeme → Read Term) → Type 1
+ReadsOperand d inner = (more : Language) → ReadsBehind (AnExpression d more) more inner
+
+one_reads : (d : ℕ) (inner : ℕ → List Lexeme → Read Term) (more : Language) → ReadsOperand d inner →
+    ReadsBehind (Next (plain token.Open) (AnExpression d (Next (plain token.Close) more))) more (one_of inner)
+unfolding one_of
+one_reads d inner more h =
+    both (a_token token.Open refl) (λ _. both (h _) (λ a. both (a_token token.Close refl) (λ _. done_reads a)))
+
+two_reads : (d : ℕ) (inner : ℕ → List Lexeme → Read Term) (more : Language) → ReadsOperand d inner →
+    ReadsBehind (Next (plain token.Open) (AnExpression d (Next (plain token.Comma) (AnExpression d (Next (plain token.Close) more))))) more (two_of inner)
+unfolding two_of
+two_reads d inner more h =
+    both (a_token token.Open refl) (λ _. both (h _) (λ a. both (a_token token.Comma refl) (λ _. both (h _) (λ b.
+    both (a_token token.Close refl) (λ _. done_reads (a, b))))))
+
+three_reads : (d : ℕ) (inner : ℕ → List Lexeme → Read Term) (more : Language) → ReadsOperand d inner →
+    ReadsBehind (Next (plain token.Open) (AnExpression d (Next (plain token.Comma) (AnExpression d (Next (plain token.Comma) (AnExpression d (Next (plain token.Close) more)))))))
+    more (three_of inner)
+unfolding three_of
+three_reads d inner more h =
+    both (a_token token.Open refl) (λ _. both (h _) (λ c. both (a_token token.Comma refl) (λ _. both (h _) (λ a.
+    both (a_token token.Comma refl) (λ _. both (h _) (λ b. both (a_token token.Close refl) (λ _. done_reads (c, a, b))))))))
+
+-- what is read after the first token of an expression
+abbrev ReadsAfter : ℕ → ℕ → Language → Token → Option (ℕ → List Lexeme → Read Term) → Type 0
+ReadsAfter levels d more t None = (ms : List Mark) → following d more t ms → ⊥
+ReadsAfter levels d more t (Some f) = CanFollow (following d more t) × (0 < levels → ReadsBehind (following d more t) more f)
+
+reads_after : (levels d : ℕ) (inner : ℕ → List Lexeme → Read Term) (more : Language) → (0 < levels → ReadsOperand (d + 1) inner) → CanFollow more → (t : Token) →
+    ReadsAfter levels d more t (after inner t)
+reads_after levels d inner more h some (token.Number n) = (some, λ _. done_reads (Literal n))
+reads_after levels d inner more h some token.Id = (some, λ _. done_reads Identifier)
+reads_after levels d inner more h some token.FromLeft = (some, λ _. done_reads LeftMessage)
+reads_after levels d inner more h some token.FromRight = (some, λ _. done_reads RightMessage)
+reads_after levels d inner more h some (token.Register j) = (some, λ _. done_reads (RegisterValue j))
+reads_after levels d inner more h some (token.Unary o) =
+    (can_next _ (can_expression (d + 1) (can_next _ some)), λ deeper. both (one_reads (d + 1) inner more (h deeper)) (λ a. done_reads (Unary o a)))
+reads_after levels d inner more h some (token.Binary o) =
+    (can_next _ (can_expression (d + 1) (can_next _ (can_expression (d + 1) (can_next _ some)))),
+    λ deeper. both (two_reads (d + 1) inner more (h deeper)) (λ p. done_reads (Binary o p.0 p.1)))
+reads_after levels d inner more h some token.If =
+    (can_next _ (can_expression (d + 1) (can_next _ (can_expression (d + 1) (can_next _ (can_expression (d + 1) (can_next _ some)))))),
+    λ deeper. both (three_reads (d + 1) inner more (h deeper)) (λ p. done_reads (Conditional p.0 p.1 p.2)))
+reads_after levels d inner more h some t = λ ms f. f
+
+begun_judged : (levels d : ℕ) (before : List Token) (nodes : ℕ) (more : Language) (l : Lexeme) (left : List Lexeme) → 0 < d → levels + d ≡ suc MAX_DEPTH →
+    IsBehind before → Place before nodes (AnExpression d more) → fault_of l.token ≡ kind.Unexpected → (o : Option (ℕ → List Lexeme → Read Term)) →
+    ReadsAfter levels d more l.token o → Judges before (l ∷ left) (Then (λ _. IsBehind) (λ _. more)) (begun levels l o nodes left)
+begun_judged levels d before nodes more l left some_depth depth long p known None never =
+    stops_here (unexpected_alone p (record { known = known; within = behind_header before l.token long })
+    (λ m ms h e. never ms (subst (λ t. following d more t ms) e (after_first h).1)))
+begun_judged levels d before nodes more l left some_depth depth long p known (Some f) reads =
+    node_judged levels d l left some_depth depth p (expression_opens l.token reads.0) (record { known = known; within = behind_header before l.token long })
+    (farther l.token before long) reads.1
+
+expression_some : (d : ℕ) (e : Term) (rest : List Mark) → [] ≡ marked e d rest → ⊥
+expression_some d (Literal n) rest h = cc
+expression_some d e rest h = cc
+
+level_reads : (levels d : ℕ) (inner : ℕ → List Lexeme → Read Term) → 0 < d → levels + d ≡ suc MAX_DEPTH → (0 < levels → ReadsOperand (d + 1) inner) →
+    ReadsOperand d (level levels inner)
+level_reads levels d inner some_depth depth h more =
+    next_reads (λ e. expression_some d e.term e.rest e.is) (λ m ms e. begins_lawful d more m.token ms (after_first e).1) (λ before nodes l left long p known.
+    begun_judged levels d before nodes more l left some_depth depth long p known (after inner l.token) (reads_after levels d inner more h (after_expression p.some) l.token))
+
+operand_reads : (levels d : ℕ) → 0 < levels → 0 < d → levels + d ≡ suc (suc MAX_DEPTH) → ReadsOperand d (operand levels)
+operand_reads zero d some some_depth depth = absurd (omega (arith, some))
+operand_reads (suc n) d some some_depth depth =
+    level_reads n d (operand n) some_depth (omega (arith, depth)) (λ deeper. operand_reads n (d + 1) deeper (omega arith) (omega (arith, depth)))
+
+expression_reads : ReadsOperand 1 (expression MAX_DEPTH)
+unfolding expression
+expression_reads =
+    level_reads MAX_DEPTH 1 (operand MAX_DEPTH) (omega arith) (omega arith) (λ deeper. operand_reads MAX_DEPTH (1 + 1) deeper (omega arith) (omega arith))
+
+assign_reads : (j : ℕ) (more : Language) → ReadsBehind (Next (plain (token.Register j)) (Next (plain token.Equals) (AnExpression 1 more))) more (assign j)
+unfolding assign
+assign_reads j more = both (a_token (token.Register j) (eq-eqb j j refl)) (λ _. both (a_token token.Equals refl) (λ _. expression_reads more))
+
+each_assign_reads : (count j : ℕ) (parts : List Term) (more : Language) → ReadsBehind (assignments j count more) more (each assign count j parts)
+each_assign_reads zero j parts more = done_reads parts
+each_assign_reads (suc count) j parts more =
+    both (assign_reads j (assignments (j + 1) count more)) (λ e. each_assign_reads count (j + 1) (parts ++ (e ∷ [])) more)
+
+assigns_reads : (registers : ℕ) (more : Language) → ReadsBehind (assignments 0 registers more) more (assigns registers)
+unfolding assigns
+assigns_reads registers more = each_assign_reads registers 0 [] more
+
+round_reads : (registers : ℕ) (more : Language) → ReadsBehind (a_round registers more) more (round registers)
+unfolding round
+round_reads registers more =
+    both (a_token token.Round refl) (λ _. both (a_token token.Send refl) (λ _. both (a_token token.Left refl) (λ _. both (expression_reads _) (λ left.
+    both (a_token token.Send refl) (λ _. both (a_token token.Right refl) (λ _. both (expression_reads _) (λ right.
+    both (assigns_reads registers more) (λ next. done_reads (record { left = left; right = right; next = next })))))))))
+
+each_round_reads : (registers count j : ℕ) (parts : List Step) (more : Language) →
+    ReadsBehind (some_rounds count registers more) more (each (λ _. round registers) count j parts)
+each_round_reads registers zero j parts more = done_reads parts
+each_round_reads registers (suc count) j parts more =
+    both (round_reads registers (some_rounds count registers more)) (λ s. each_round_reads registers count (j + 1) (parts ++ (s ∷ [])) more)
+
+rounds_reads : (count registers : ℕ) (more : Language) → ReadsBehind (some_rounds count registers more) more (rounds count registers)
+unfolding rounds
+rounds_reads count registers more = each_round_reads registers count 0 [] more
