@@ -15,7 +15,7 @@ use Rattle.node_lang.specs.Viable as viable
 use Rattle.node_lang.proofs.Continuing.{Language, Next, AnExpression, ANumber, an_end, assignments, a_round, some_rounds, a_body, a_program, CanFollow, can_next, can_expression, can_number, can_body, after_expression, following, after_first, expression_opens, begins_lawful}
 use Rattle.node_lang.proofs.Places.{Place, first_place}
 use Rattle.node_lang.proofs.Standing.{IsOrdinary, unexpected_alone}
-use Rattle.node_lang.proofs.Judging.{Judges, IsOnly, stops_here, Reads, Then, done_reads, both, next_reads, exactly_reads, HasRange, number_reads, node_judged, Ended, end_reads}
+use Rattle.node_lang.proofs.Judging.{Judges, IsOnly, stops_here, Reads, Then, done_reads, both, next_reads, done_later, exactly_reads, HasRange, number_reads, node_judged, Ended, end_reads}
 
 -- these tokens go on behind the header, where no number is one of the header
 abbrev IsBehind : List Token → Type 0
@@ -144,3 +144,86 @@ each_round_reads registers (suc count) j parts more =
 rounds_reads : (count registers : ℕ) (more : Language) → ReadsBehind (some_rounds count registers more) more (rounds count registers)
 unfolding rounds
 rounds_reads count registers more = each_round_reads registers count 0 [] more
+
+-- the numbers of the header, where the tokens before are these
+just_token : {more : Language} (tokens : List Token) (t : Token) → same_token t t ≡ true → ((s : Token) → IsOutOfRange tokens s → ⊥) →
+    Reads (λ before. before ≡ tokens) (Next (plain t) more) (Then (λ (_ : Unit {0}) now. now ≡ tokens ++ t ∷ []) (λ _. more)) (exactly t)
+just_token tokens t itself within =
+    exactly_reads t itself (λ before s e range. within s (subst (λ ts. IsOutOfRange ts s) e range)) (λ before e. ap (λ ts. ts ++ t ∷ []) e)
+
+just_number : {more : ℕ → Language} (tokens : List Token) (low high : ℕ) → HasRange tokens low high → ((n : ℕ) → CanFollow (more n)) →
+    Reads (λ before. before ≡ tokens) (ANumber more) (Then (λ n now. now ≡ tokens ++ token.Number n ∷ []) more) (number low high)
+just_number tokens low high range some =
+    number_reads low high (λ before e. subst (λ ts. HasRange ts low high) (sym e) range) some (λ before n e. ap (λ ts. ts ++ token.Number n ∷ []) e)
+
+rounds_within : (n : ℕ) → n ≤ MAX_ROUNDS → IsOutOfRange (token.Rounds ∷ []) (token.Number n) → ⊥
+rounds_within n few (viable.rounds m h) = omega (arith, few, h)
+
+channels_within : (i n : ℕ) → 1 ≤ n → n ≤ MAX_CHANNELS → IsOutOfRange (token.Rounds ∷ token.Number i ∷ token.Channels ∷ []) (token.Number n) → ⊥
+channels_within i n some few (viable.no_channel _) = omega (arith, some)
+channels_within i n some few (viable.channels _ m h) = omega (arith, few, h)
+
+registers_within : (i c n : ℕ) → 1 ≤ n → n ≤ MAX_REGISTERS →
+    IsOutOfRange (token.Rounds ∷ token.Number i ∷ token.Channels ∷ token.Number c ∷ token.Registers ∷ []) (token.Number n) → ⊥
+registers_within i c n some few (viable.no_register _ _) = omega (arith, some)
+registers_within i c n some few (viable.registers _ _ m h) = omega (arith, few, h)
+
+channels_beyond : (i n : ℕ) → (1 ≤ n → MAX_CHANNELS < n) → IsOutOfRange (token.Rounds ∷ token.Number i ∷ token.Channels ∷ []) (token.Number n)
+channels_beyond i zero h = no_channel i
+channels_beyond i (suc n) h = viable.channels i (suc n) (h (omega arith))
+
+registers_beyond : (i c n : ℕ) → (1 ≤ n → MAX_REGISTERS < n) →
+    IsOutOfRange (token.Rounds ∷ token.Number i ∷ token.Channels ∷ token.Number c ∷ token.Registers ∷ []) (token.Number n)
+registers_beyond i c zero h = no_register i c
+registers_beyond i c (suc n) h = viable.registers i c (suc n) (h (omega arith))
+
+can_start : (i r : ℕ) → CanFollow (Next (plain token.Start) (a_body i r))
+can_start i r = can_next _ (can_body i r)
+
+can_registers : (i : ℕ) → CanFollow (Next (plain token.Registers) (ANumber (λ r. Next (plain token.Start) (a_body i r))))
+can_registers i = can_next _ (can_number (can_start i 0))
+
+can_channels : (i : ℕ) → CanFollow (Next (plain token.Channels) (ANumber (λ _. Next (plain token.Registers) (ANumber (λ r. Next (plain token.Start) (a_body i r))))))
+can_channels i = can_next _ (can_number (can_registers i))
+
+header_reads : Reads (λ before. before ≡ []) a_program (Then (λ _. IsBehind) (λ (c : Counts). a_body c.rounds c.registers)) header
+unfolding header
+header_reads =
+    both (just_token _ token.Rounds refl (λ s r. elim r [ ])) (λ _.
+    both (just_number _ 0 MAX_ROUNDS (record { inside = λ n _ few. rounds_within n few; outside = λ n h. viable.rounds n (h (omega arith)) }) can_channels) (λ i.
+    both (just_token _ token.Channels refl (λ s r. elim r [ ])) (λ _.
+    both (just_number _ 1 MAX_CHANNELS (record { inside = channels_within i; outside = channels_beyond i }) (λ _. can_registers i)) (λ c.
+    both (just_token _ token.Registers refl (λ s r. elim r [ ])) (λ _.
+    both (just_number _ 1 MAX_REGISTERS (record { inside = registers_within i c; outside = registers_beyond i c }) (can_start i)) (λ r.
+    both (just_token _ token.Start refl (λ s r. elim r [ ])) (λ _.
+    done_later (λ _. IsBehind) (λ (c : Counts). a_body c.rounds c.registers) (record { rounds = i; channels = c; registers = r })
+    (λ before e. subst IsBehind (sym e) (omega arith)))))))))
+
+program_reads : Reads (λ before. before ≡ []) a_program Ended program
+unfolding program
+program_reads =
+    both header_reads (λ c. both (assigns_reads c.registers _) (λ start. both (rounds_reads c.rounds c.registers _) (λ steps.
+    both (a_token token.Finish refl) (λ _. both (expression_reads an_end) (λ finish.
+    end_reads (record { channels = c.channels; start = start; steps = steps; finish = finish }) behind_header)))))
+
+program_judged : (ls : List Lexeme) → Judges [] ls Ended (program 0 ls)
+program_judged ls = program_reads.judges [] 0 ls refl (first_place (can_next _ (can_number (can_channels 0))))
+
+-- the fault at which reading stops is the first fault
+pub first_fault_of : (ls : List Lexeme) (k : FaultKind) (from : ℕ) → program 0 ls ≡ Fault k from → FirstFault [] ls k from
+first_fault_of ls k from e =
+    let only : IsOnly [] ls k from = subst (Judges [] ls Ended) e (program_judged ls) in
+    only.is
+
+-- and reading stops at a first fault
+stops_at : (r : Read ProgramTree) (ls : List Lexeme) (k : FaultKind) (from : ℕ) → Judges [] ls Ended r → FirstFault [] ls k from → r ≡ Fault k from
+stops_at (Got a n left) ls k from h f =
+    absurd ((subst (λ l. FirstFault h.now l k from) h.holds.none_left (h.leaves.forth k from f)).2 h.holds.whole)
+stops_at (Fault j place) ls k from h f =
+    let only = h.only k from f in
+    let kinds : k ≡ j = only.0 in
+    let places : from ≡ place = only.1 in
+    cc
+
+pub stops_at_first_fault : (ls : List Lexeme) (k : FaultKind) (from : ℕ) → FirstFault [] ls k from → program 0 ls ≡ Fault k from
+stops_at_first_fault ls k from f = stops_at (program 0 ls) ls k from (program_judged ls) f

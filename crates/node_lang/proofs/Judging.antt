@@ -70,22 +70,31 @@ pub record Then {A : Type 0} (at : A → List Token → Type 0) (more : A → Li
   pub place : Place now nodes (more a)
 
 -- nothing more is read
+leaves_all : {before : List Token} {ls : List Lexeme} → Leaves before before ls ls
+leaves_all = record { back = λ k from f. f; forth = λ k from f. f }
+
+pub done_later : {A : Type 0} {at : List Token → Type 0} (then_at : A → List Token → Type 0) (more : A → Language) (a : A) → ((before : List Token) → at before → then_at a before) →
+    Reads at (more a) (Then then_at more) (done a)
+done_later then_at more a later =
+    record { judges = λ before nodes ls h p. record { now = before; holds = record { holds = later before h; place = p }; leaves = leaves_all } }
+
 pub done_reads : {A : Type 0} {at : List Token → Type 0} {more : Language} (a : A) → Reads at more (Then (λ _. at) (λ _. more)) (done a)
-done_reads a = record {
-  judges = λ before nodes ls h p. record { now = before; holds = record { holds = h; place = p }; leaves = record { back = λ k from f. f; forth = λ k from f. f } };
-}
+done_reads {at = at} {more = more} a = done_later (λ _. at) (λ _. more) a (λ before h. h)
 
 -- one after the other
-judges_on : {A B : Type 0} (before : List Token) (ls : List Lexeme) (at : A → List Token → Type 0) (more : A → Language) (P : B → ℕ → List Token → List Lexeme → Type 0)
-    (r : Read A) (f : A → ℕ → List Lexeme → Read B) → Judges before ls (Then at more) r → ((a : A) → Reads (at a) (more a) P (f a)) → Judges before ls P (go_on r f)
-judges_on before ls at more P (Got a n left) f h g = judged_later P (f a n left) h.leaves ((g a).judges h.now n left h.holds.holds h.holds.place)
-judges_on before ls at more P (Fault k from) f h g = h
+judges_on : {A B : Type 0} (before : List Token) (ls : List Lexeme) (P : A → ℕ → List Token → List Lexeme → Type 0) (Q : B → ℕ → List Token → List Lexeme → Type 0)
+    (r : Read A) (f : A → ℕ → List Lexeme → Read B) → Judges before ls P r →
+    ((a : A) (n : ℕ) (now : List Token) (left : List Lexeme) → P a n now left → Judges now left Q (f a n left)) → Judges before ls Q (go_on r f)
+judges_on before ls P Q (Got a n left) f h g = judged_later Q (f a n left) h.leaves (g a n h.now left h.holds)
+judges_on before ls P Q (Fault k from) f h g = h
 
 pub both : {A B : Type 0} {at : List Token → Type 0} {more : Language} {then_at : A → List Token → Type 0} {then_more : A → Language} {P : B → ℕ → List Token → List Lexeme → Type 0}
     {r : ℕ → List Lexeme → Read A} {f : A → ℕ → List Lexeme → Read B} → Reads at more (Then then_at then_more) r → ((a : A) → Reads (then_at a) (then_more a) P (f a)) →
     Reads at more P (r >>= f)
-both {then_at = then_at} {then_more = then_more} {P = P} {r = r} {f = f} first second =
-    record { judges = λ before nodes ls h p. judges_on before ls then_at then_more P (r nodes ls) f (first.judges before nodes ls h p) second }
+both {then_at = then_at} {then_more = then_more} {P = P} {r = r} {f = f} first second = record {
+  judges = λ before nodes ls h p. judges_on before ls (Then then_at then_more) P (r nodes ls) f (first.judges before nodes ls h p)
+      (λ a n now left t. (second a).judges now n left t.holds t.place);
+}
 
 -- the next token, where the text cannot end and only tokens of the language come next
 lawful_judged : {B : Type 0} {more : Language} {before : List Token} {nodes : ℕ} (P : B → ℕ → List Token → List Lexeme → Type 0) (f : Lexeme → ℕ → List Lexeme → Read B)
@@ -224,12 +233,10 @@ end_alone token.Unknown within p = unlawful_alone p (λ m ms h. absurd (cc)) (λ
 end_alone token.LargeNumber within p = unlawful_alone p (λ m ms h. absurd (cc)) (λ h. cc)
 end_alone t within p = unexpected_alone p (record { known = refl; within = within }) (λ m ms h e. absurd (cc))
 
-pub end_reads : {at : List Token → Type 0} → ((before : List Token) (t : Token) → at before → IsOutOfRange before t → ⊥) → Reads at an_end (Ended {A = Unit {0}}) end
-end_reads {at} within = record { judges = judges } where
-  judges : (before : List Token) (nodes : ℕ) (ls : List Lexeme) → at before → Place before nodes an_end → Judges before ls (Ended {A = Unit {0}}) (end nodes ls)
-  judges before nodes [] h p = record {
-    now = before;
-    holds = record { none_left = refl; whole = whole_place p refl };
-    leaves = record { back = λ k from f. f; forth = λ k from f. f };
-  }
+-- the end, after which a tree is answered
+pub end_reads : {A : Type 0} {at : List Token → Type 0} (a : A) → ((before : List Token) (t : Token) → at before → IsOutOfRange before t → ⊥) →
+    Reads at an_end Ended (end >>= λ _. done a)
+end_reads {at = at} a within = record { judges = judges } where
+  judges : (before : List Token) (nodes : ℕ) (ls : List Lexeme) → at before → Place before nodes an_end → Judges before ls Ended (go_on (end nodes ls) (λ _. done a))
+  judges before nodes [] h p = record { now = before; holds = record { none_left = refl; whole = whole_place p refl }; leaves = leaves_all }
   judges before nodes (l ∷ ls) h p = stops_here (end_alone l.token (within before l.token h) p)
