@@ -10,53 +10,52 @@ use Rattle.node_lang.specs.Term.{Term, Literal, Identifier, LeftMessage, RightMe
 use Rattle.node_lang.specs.Lexemes.{Lexeme}
 use Rattle.node_lang.specs.Reading.{same_token, fault_of}
 use Rattle.node_lang.specs.Read.{Read, Got, Fault, Counts, go_on, ◌>>=◌, done, exactly, one_of, two_of, three_of, after, begun, level, operand, expression, number, header, end, each, assign, assigns, round, rounds, program}
-use Rattle.node_lang.specs.Viable.{Mark, plain, marked, IsOutOfRange, no_channel, no_register, FirstFault}
+use Rattle.node_lang.specs.Viable.{Mark, plain, marked, IsOutOfRange, IsOutside, FirstFault}
 use Rattle.node_lang.specs.Viable as viable
 use Rattle.node_lang.proofs.Continuing.{Language, Next, AnExpression, ANumber, an_end, assignments, a_round, some_rounds, a_body, a_program, CanFollow, can_next, can_expression, can_number, can_body, after_expression, following, after_first, expression_opens, begins_lawful}
 use Rattle.node_lang.proofs.Places.{Place, first_place}
 use Rattle.node_lang.proofs.Standing.{IsOrdinary, unexpected_alone}
-use Rattle.node_lang.proofs.Judging.{Judges, IsOnly, stops_here, Reads, Then, done_reads, both, next_reads, done_later, exactly_reads, HasRange, number_reads, node_judged, Ended, end_reads}
+use Rattle.node_lang.proofs.Judging.{Judges, IsOnly, stops_here, IsExact, Then, done_later, done_reads, both}
+use Rattle.node_lang.proofs.Steps.{next_reads, exactly_reads, HasRange, number_reads, node_judged, Ended, end_reads}
 
 -- these tokens go on behind the header, where no number is one of the header
 abbrev IsBehind : List Token → Type 0
 IsBehind before = 7 ≤ length before
 
 behind_header : (before : List Token) (t : Token) → IsBehind before → IsOutOfRange before t → ⊥
-behind_header before t long (viable.rounds n h) = omega (arith, long)
-behind_header before t long (viable.no_channel i) = omega (arith, long)
-behind_header before t long (viable.channels i n h) = omega (arith, long)
-behind_header before t long (viable.no_register i c) = omega (arith, long)
-behind_header before t long (viable.registers i c n h) = omega (arith, long)
+behind_header before t long (viable.rounds i h) = omega (arith, long)
+behind_header before t long (viable.channels i c h) = omega (arith, long)
+behind_header before t long (viable.registers i c r h) = omega (arith, long)
 
 farther : (t : Token) (before : List Token) → IsBehind before → IsBehind (before ++ t ∷ [])
 farther t before long = omega (arith, length-append before (t ∷ []), long)
 
 -- behind the header this is read, and then the rest
-abbrev ReadsBehind : {A : Type 0} → Language → Language → (ℕ → List Lexeme → Read A) → Type 0
-ReadsBehind first rest r = Reads IsBehind first (Then (λ _. IsBehind) (λ _. rest)) r
+abbrev Behind : {A : Type 0} → Language → Language → (ℕ → List Lexeme → Read A) → Type 0
+Behind first rest r = IsExact IsBehind first (Then (λ _. IsBehind) (λ _. rest)) r
 
-a_token : {more : Language} (t : Token) → same_token t t ≡ true → ReadsBehind (Next (plain t) more) more (exactly t)
+a_token : {more : Language} (t : Token) → same_token t t ≡ true → Behind (Next (plain t) more) more (exactly t)
 a_token t itself = exactly_reads t itself behind_header (farther t)
 
 -- an expression whose root has this depth is read so
-abbrev ReadsOperand : ℕ → (ℕ → List Lexeme → Read Term) → Type 1
-ReadsOperand d inner = (more : Language) → ReadsBehind (AnExpression d more) more inner
+abbrev Operand : ℕ → (ℕ → List Lexeme → Read Term) → Type 1
+Operand d inner = (more : Language) → Behind (AnExpression d more) more inner
 
-one_reads : (d : ℕ) (inner : ℕ → List Lexeme → Read Term) (more : Language) → ReadsOperand d inner →
-    ReadsBehind (Next (plain token.Open) (AnExpression d (Next (plain token.Close) more))) more (one_of inner)
+one_reads : (d : ℕ) (inner : ℕ → List Lexeme → Read Term) (more : Language) → Operand d inner →
+    Behind (Next (plain token.Open) (AnExpression d (Next (plain token.Close) more))) more (one_of inner)
 unfolding one_of
 one_reads d inner more h =
     both (a_token token.Open refl) (λ _. both (h _) (λ a. both (a_token token.Close refl) (λ _. done_reads a)))
 
-two_reads : (d : ℕ) (inner : ℕ → List Lexeme → Read Term) (more : Language) → ReadsOperand d inner →
-    ReadsBehind (Next (plain token.Open) (AnExpression d (Next (plain token.Comma) (AnExpression d (Next (plain token.Close) more))))) more (two_of inner)
+two_reads : (d : ℕ) (inner : ℕ → List Lexeme → Read Term) (more : Language) → Operand d inner →
+    Behind (Next (plain token.Open) (AnExpression d (Next (plain token.Comma) (AnExpression d (Next (plain token.Close) more))))) more (two_of inner)
 unfolding two_of
 two_reads d inner more h =
     both (a_token token.Open refl) (λ _. both (h _) (λ a. both (a_token token.Comma refl) (λ _. both (h _) (λ b.
     both (a_token token.Close refl) (λ _. done_reads (a, b))))))
 
-three_reads : (d : ℕ) (inner : ℕ → List Lexeme → Read Term) (more : Language) → ReadsOperand d inner →
-    ReadsBehind (Next (plain token.Open) (AnExpression d (Next (plain token.Comma) (AnExpression d (Next (plain token.Comma) (AnExpression d (Next (plain token.Close) more)))))))
+three_reads : (d : ℕ) (inner : ℕ → List Lexeme → Read Term) (more : Language) → Operand d inner →
+    Behind (Next (plain token.Open) (AnExpression d (Next (plain token.Comma) (AnExpression d (Next (plain token.Comma) (AnExpression d (Next (plain token.Close) more)))))))
     more (three_of inner)
 unfolding three_of
 three_reads d inner more h =
@@ -64,12 +63,12 @@ three_reads d inner more h =
     both (a_token token.Comma refl) (λ _. both (h _) (λ b. both (a_token token.Close refl) (λ _. done_reads (c, a, b))))))))
 
 -- what is read after the first token of an expression
-abbrev ReadsAfter : ℕ → ℕ → Language → Token → Option (ℕ → List Lexeme → Read Term) → Type 0
-ReadsAfter levels d more t None = (ms : List Mark) → following d more t ms → ⊥
-ReadsAfter levels d more t (Some f) = CanFollow (following d more t) × (0 < levels → ReadsBehind (following d more t) more f)
+abbrev After : ℕ → ℕ → Language → Token → Option (ℕ → List Lexeme → Read Term) → Type 0
+After levels d more t None = (ms : List Mark) → following d more t ms → ⊥
+After levels d more t (Some f) = CanFollow (following d more t) × (0 < levels → Behind (following d more t) more f)
 
-reads_after : (levels d : ℕ) (inner : ℕ → List Lexeme → Read Term) (more : Language) → (0 < levels → ReadsOperand (d + 1) inner) → CanFollow more → (t : Token) →
-    ReadsAfter levels d more t (after inner t)
+reads_after : (levels d : ℕ) (inner : ℕ → List Lexeme → Read Term) (more : Language) → (0 < levels → Operand (d + 1) inner) → CanFollow more → (t : Token) →
+    After levels d more t (after inner t)
 reads_after levels d inner more h some (token.Number n) = (some, λ _. done_reads (Literal n))
 reads_after levels d inner more h some token.Id = (some, λ _. done_reads Identifier)
 reads_after levels d inner more h some token.FromLeft = (some, λ _. done_reads LeftMessage)
@@ -87,7 +86,7 @@ reads_after levels d inner more h some t = λ ms f. f
 
 begun_judged : (levels d : ℕ) (before : List Token) (nodes : ℕ) (more : Language) (l : Lexeme) (left : List Lexeme) → 0 < d → levels + d ≡ suc MAX_DEPTH →
     IsBehind before → Place before nodes (AnExpression d more) → fault_of l.token ≡ kind.Unexpected → (o : Option (ℕ → List Lexeme → Read Term)) →
-    ReadsAfter levels d more l.token o → Judges before (l ∷ left) (Then (λ _. IsBehind) (λ _. more)) (begun levels l o nodes left)
+    After levels d more l.token o → Judges before (l ∷ left) (Then (λ _. IsBehind) (λ _. more)) (begun levels l o nodes left)
 begun_judged levels d before nodes more l left some_depth depth long p known None never =
     stops_here (unexpected_alone p (record { known = known; within = behind_header before l.token long })
     (λ m ms h e. never ms (subst (λ t. following d more t ms) e (after_first h).1)))
@@ -99,36 +98,36 @@ expression_some : (d : ℕ) (e : Term) (rest : List Mark) → [] ≡ marked e d 
 expression_some d (Literal n) rest h = cc
 expression_some d e rest h = cc
 
-level_reads : (levels d : ℕ) (inner : ℕ → List Lexeme → Read Term) → 0 < d → levels + d ≡ suc MAX_DEPTH → (0 < levels → ReadsOperand (d + 1) inner) →
-    ReadsOperand d (level levels inner)
+level_reads : (levels d : ℕ) (inner : ℕ → List Lexeme → Read Term) → 0 < d → levels + d ≡ suc MAX_DEPTH → (0 < levels → Operand (d + 1) inner) →
+    Operand d (level levels inner)
 level_reads levels d inner some_depth depth h more =
     next_reads (λ e. expression_some d e.term e.rest e.is) (λ m ms e. begins_lawful d more m.token ms (after_first e).1) (λ before nodes l left long p known.
     begun_judged levels d before nodes more l left some_depth depth long p known (after inner l.token) (reads_after levels d inner more h (after_expression p.some) l.token))
 
-operand_reads : (levels d : ℕ) → 0 < levels → 0 < d → levels + d ≡ suc (suc MAX_DEPTH) → ReadsOperand d (operand levels)
+operand_reads : (levels d : ℕ) → 0 < levels → 0 < d → levels + d ≡ suc (suc MAX_DEPTH) → Operand d (operand levels)
 operand_reads zero d some some_depth depth = absurd (omega (arith, some))
 operand_reads (suc n) d some some_depth depth =
     level_reads n d (operand n) some_depth (omega (arith, depth)) (λ deeper. operand_reads n (d + 1) deeper (omega arith) (omega (arith, depth)))
 
-expression_reads : ReadsOperand 1 (expression MAX_DEPTH)
+expression_reads : Operand 1 (expression MAX_DEPTH)
 unfolding expression
 expression_reads =
     level_reads MAX_DEPTH 1 (operand MAX_DEPTH) (omega arith) (omega arith) (λ deeper. operand_reads MAX_DEPTH (1 + 1) deeper (omega arith) (omega arith))
 
-assign_reads : (j : ℕ) (more : Language) → ReadsBehind (Next (plain (token.Register j)) (Next (plain token.Equals) (AnExpression 1 more))) more (assign j)
+assign_reads : (j : ℕ) (more : Language) → Behind (Next (plain (token.Register j)) (Next (plain token.Equals) (AnExpression 1 more))) more (assign j)
 unfolding assign
 assign_reads j more = both (a_token (token.Register j) (eq-eqb j j refl)) (λ _. both (a_token token.Equals refl) (λ _. expression_reads more))
 
-each_assign_reads : (count j : ℕ) (parts : List Term) (more : Language) → ReadsBehind (assignments j count more) more (each assign count j parts)
+each_assign_reads : (count j : ℕ) (parts : List Term) (more : Language) → Behind (assignments j count more) more (each assign count j parts)
 each_assign_reads zero j parts more = done_reads parts
 each_assign_reads (suc count) j parts more =
     both (assign_reads j (assignments (j + 1) count more)) (λ e. each_assign_reads count (j + 1) (parts ++ (e ∷ [])) more)
 
-assigns_reads : (registers : ℕ) (more : Language) → ReadsBehind (assignments 0 registers more) more (assigns registers)
+assigns_reads : (registers : ℕ) (more : Language) → Behind (assignments 0 registers more) more (assigns registers)
 unfolding assigns
 assigns_reads registers more = each_assign_reads registers 0 [] more
 
-round_reads : (registers : ℕ) (more : Language) → ReadsBehind (a_round registers more) more (round registers)
+round_reads : (registers : ℕ) (more : Language) → Behind (a_round registers more) more (round registers)
 unfolding round
 round_reads registers more =
     both (a_token token.Round refl) (λ _. both (a_token token.Send refl) (λ _. both (a_token token.Left refl) (λ _. both (expression_reads _) (λ left.
@@ -136,46 +135,35 @@ round_reads registers more =
     both (assigns_reads registers more) (λ next. done_reads (record { left = left; right = right; next = next })))))))))
 
 each_round_reads : (registers count j : ℕ) (parts : List Step) (more : Language) →
-    ReadsBehind (some_rounds count registers more) more (each (λ _. round registers) count j parts)
+    Behind (some_rounds count registers more) more (each (λ _. round registers) count j parts)
 each_round_reads registers zero j parts more = done_reads parts
 each_round_reads registers (suc count) j parts more =
     both (round_reads registers (some_rounds count registers more)) (λ s. each_round_reads registers count (j + 1) (parts ++ (s ∷ [])) more)
 
-rounds_reads : (count registers : ℕ) (more : Language) → ReadsBehind (some_rounds count registers more) more (rounds count registers)
+rounds_reads : (count registers : ℕ) (more : Language) → Behind (some_rounds count registers more) more (rounds count registers)
 unfolding rounds
 rounds_reads count registers more = each_round_reads registers count 0 [] more
 
 -- the numbers of the header, where the tokens before are these
 just_token : {more : Language} (tokens : List Token) (t : Token) → same_token t t ≡ true → ((s : Token) → IsOutOfRange tokens s → ⊥) →
-    Reads (λ before. before ≡ tokens) (Next (plain t) more) (Then (λ (_ : Unit {0}) now. now ≡ tokens ++ t ∷ []) (λ _. more)) (exactly t)
+    IsExact (λ before. before ≡ tokens) (Next (plain t) more) (Then (λ (_ : Unit {0}) now. now ≡ tokens ++ t ∷ []) (λ _. more)) (exactly t)
 just_token tokens t itself within =
     exactly_reads t itself (λ before s e range. within s (subst (λ ts. IsOutOfRange ts s) e range)) (λ before e. ap (λ ts. ts ++ t ∷ []) e)
 
 just_number : {more : ℕ → Language} (tokens : List Token) (low high : ℕ) → HasRange tokens low high → ((n : ℕ) → CanFollow (more n)) →
-    Reads (λ before. before ≡ tokens) (ANumber more) (Then (λ n now. now ≡ tokens ++ token.Number n ∷ []) more) (number low high)
+    IsExact (λ before. before ≡ tokens) (ANumber more) (Then (λ n now. now ≡ tokens ++ token.Number n ∷ []) more) (number low high)
 just_number tokens low high range some =
     number_reads low high (λ before e. subst (λ ts. HasRange ts low high) (sym e) range) some (λ before n e. ap (λ ts. ts ++ token.Number n ∷ []) e)
 
-rounds_within : (n : ℕ) → n ≤ MAX_ROUNDS → IsOutOfRange (token.Rounds ∷ []) (token.Number n) → ⊥
-rounds_within n few (viable.rounds m h) = omega (arith, few, h)
+only_rounds : (n : ℕ) → IsOutOfRange (token.Rounds ∷ []) (token.Number n) → IsOutside 0 MAX_ROUNDS n
+only_rounds n (viable.rounds _ h) = h
 
-channels_within : (i n : ℕ) → 1 ≤ n → n ≤ MAX_CHANNELS → IsOutOfRange (token.Rounds ∷ token.Number i ∷ token.Channels ∷ []) (token.Number n) → ⊥
-channels_within i n some few (viable.no_channel _) = omega (arith, some)
-channels_within i n some few (viable.channels _ m h) = omega (arith, few, h)
+only_channels : (i n : ℕ) → IsOutOfRange (token.Rounds ∷ token.Number i ∷ token.Channels ∷ []) (token.Number n) → IsOutside 1 MAX_CHANNELS n
+only_channels i n (viable.channels _ _ h) = h
 
-registers_within : (i c n : ℕ) → 1 ≤ n → n ≤ MAX_REGISTERS →
-    IsOutOfRange (token.Rounds ∷ token.Number i ∷ token.Channels ∷ token.Number c ∷ token.Registers ∷ []) (token.Number n) → ⊥
-registers_within i c n some few (viable.no_register _ _) = omega (arith, some)
-registers_within i c n some few (viable.registers _ _ m h) = omega (arith, few, h)
-
-channels_beyond : (i n : ℕ) → (1 ≤ n → MAX_CHANNELS < n) → IsOutOfRange (token.Rounds ∷ token.Number i ∷ token.Channels ∷ []) (token.Number n)
-channels_beyond i zero h = no_channel i
-channels_beyond i (suc n) h = viable.channels i (suc n) (h (omega arith))
-
-registers_beyond : (i c n : ℕ) → (1 ≤ n → MAX_REGISTERS < n) →
-    IsOutOfRange (token.Rounds ∷ token.Number i ∷ token.Channels ∷ token.Number c ∷ token.Registers ∷ []) (token.Number n)
-registers_beyond i c zero h = no_register i c
-registers_beyond i c (suc n) h = viable.registers i c (suc n) (h (omega arith))
+only_registers : (i c n : ℕ) → IsOutOfRange (token.Rounds ∷ token.Number i ∷ token.Channels ∷ token.Number c ∷ token.Registers ∷ []) (token.Number n) →
+    IsOutside 1 MAX_REGISTERS n
+only_registers i c n (viable.registers _ _ _ h) = h
 
 can_start : (i r : ℕ) → CanFollow (Next (plain token.Start) (a_body i r))
 can_start i r = can_next _ (can_body i r)
@@ -186,20 +174,20 @@ can_registers i = can_next _ (can_number (can_start i 0))
 can_channels : (i : ℕ) → CanFollow (Next (plain token.Channels) (ANumber (λ _. Next (plain token.Registers) (ANumber (λ r. Next (plain token.Start) (a_body i r))))))
 can_channels i = can_next _ (can_number (can_registers i))
 
-header_reads : Reads (λ before. before ≡ []) a_program (Then (λ _. IsBehind) (λ (c : Counts). a_body c.rounds c.registers)) header
+header_reads : IsExact (λ before. before ≡ []) a_program (Then (λ _. IsBehind) (λ (c : Counts). a_body c.rounds c.registers)) header
 unfolding header
 header_reads =
     both (just_token _ token.Rounds refl (λ s r. elim r [ ])) (λ _.
-    both (just_number _ 0 MAX_ROUNDS (record { inside = λ n _ few. rounds_within n few; outside = λ n h. viable.rounds n (h (omega arith)) }) can_channels) (λ i.
+    both (just_number _ 0 MAX_ROUNDS (record { out = viable.rounds; only = only_rounds }) can_channels) (λ i.
     both (just_token _ token.Channels refl (λ s r. elim r [ ])) (λ _.
-    both (just_number _ 1 MAX_CHANNELS (record { inside = channels_within i; outside = channels_beyond i }) (λ _. can_registers i)) (λ c.
+    both (just_number _ 1 MAX_CHANNELS (record { out = viable.channels i; only = only_channels i }) (λ _. can_registers i)) (λ c.
     both (just_token _ token.Registers refl (λ s r. elim r [ ])) (λ _.
-    both (just_number _ 1 MAX_REGISTERS (record { inside = registers_within i c; outside = registers_beyond i c }) (can_start i)) (λ r.
+    both (just_number _ 1 MAX_REGISTERS (record { out = viable.registers i c; only = only_registers i c }) (can_start i)) (λ r.
     both (just_token _ token.Start refl (λ s r. elim r [ ])) (λ _.
     done_later (λ _. IsBehind) (λ (c : Counts). a_body c.rounds c.registers) (record { rounds = i; channels = c; registers = r })
     (λ before e. subst IsBehind (sym e) (omega arith)))))))))
 
-program_reads : Reads (λ before. before ≡ []) a_program Ended program
+program_reads : IsExact (λ before. before ≡ []) a_program Ended program
 unfolding program
 program_reads =
     both header_reads (λ c. both (assigns_reads c.registers _) (λ start. both (rounds_reads c.rounds c.registers _) (λ steps.

@@ -19,4 +19,5 @@ pub mod Programs
 pub mod Places
 pub mod Standing
 pub mod Judging
+pub mod Steps
 pub mod FirstFaults

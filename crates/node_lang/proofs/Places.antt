@@ -10,7 +10,7 @@ use Rattle.node_lang.specs.declared.token.Token.{Token}
 use Rattle.node_lang.specs.declared.token.Token.TheVariants as token
 use Rattle.node_lang.specs.Lexemes.{Lexeme}
 use Rattle.node_lang.specs.Reading.{fault_of}
-use Rattle.node_lang.specs.Viable.{IsProgram, IsViable, IsWhole, Mark, node, marks, unmarked, one_at, nodes_at, BeginsNode, IsOutOfRange, rounds, no_channel, channels, no_register, registers, Stands, unknown, large, out_of_range, unexpected, too_deep, too_many, FirstFault}
+use Rattle.node_lang.specs.Viable.{IsProgram, IsViable, IsWhole, Mark, node, marks, unmarked, one_at, nodes_at, BeginsNode, IsOutOfRange, Stands, unknown, large, out_of_range, unexpected, too_deep, too_many, FirstFault}
 use Rattle.node_lang.proofs.Continuing.{Language, a_program, CanFollow, Opens}
 use Rattle.node_lang.proofs.Programs.{Spelt, program_is, in_program, unmarked_program}
 

@@ -6,7 +6,7 @@ use Rattle.node_lang.specs.declared.fault.FaultKind.TheVariants as kind
 use Rattle.node_lang.specs.declared.token.Token.{Token}
 use Rattle.node_lang.specs.declared.token.Token.TheVariants as token
 use Rattle.node_lang.specs.Reading.{fault_of}
-use Rattle.node_lang.specs.Viable.{Mark, node, BeginsNode, IsOutOfRange, rounds, no_channel, channels, no_register, registers, Stands, unknown, large, out_of_range, unexpected, too_deep, too_many}
+use Rattle.node_lang.specs.Viable.{Mark, node, BeginsNode, IsOutOfRange, rounds, channels, registers, Stands, unknown, large, out_of_range, unexpected, too_deep, too_many}
 use Rattle.node_lang.proofs.Continuing.{Language, Opens}
 use Rattle.node_lang.proofs.Places.{Place, begun, viable_met, viable_place, begins_place}
 
@@ -22,11 +22,9 @@ pub record IsOrdinary (before : List Token) (t : Token) : Type 0 where
 
 -- only a number can be out of its range
 pub only_numbers : {before : List Token} {t : Token} → IsOutOfRange before t → (n : ℕ) × (t ≡ token.Number n)
-only_numbers (rounds n h) = (n, refl)
-only_numbers (no_channel i) = (0, refl)
-only_numbers (channels i n h) = (n, refl)
-only_numbers (no_register i c) = (0, refl)
-only_numbers (registers i c n h) = (n, refl)
+only_numbers (rounds t h) = (t, refl)
+only_numbers (channels t c h) = (c, refl)
+only_numbers (registers t c k h) = (k, refl)
 
 range_known : {before : List Token} {t : Token} → IsOutOfRange before t → fault_of t ≡ kind.Unexpected
 range_known r = ap fault_of (only_numbers r).1

@@ -94,15 +94,16 @@ pub record BeginsNode (before : List Token) (met : Token) (depth nodes : ℕ) : 
   pub is_node : 0 < depth
   pub nodes_are : nodes_at marks_before ≡ nodes
 
+-- a number that is not from low to high
+abbrev pub IsOutside : ℕ → ℕ → ℕ → Type 0
+IsOutside low high n = (n < low) ⊎ (high < n)
+
 -- a number of the header out of its range: rounds up to 3, channels 1 to 4,096, registers 1 to 8
 pub data IsOutOfRange : List Token → Token → Type 0 where
-  rounds : (n : ℕ) → MAX_ROUNDS < n → IsOutOfRange (token.Rounds ∷ []) (token.Number n)
-  no_channel : (t : ℕ) → IsOutOfRange (token.Rounds ∷ token.Number t ∷ token.Channels ∷ []) (token.Number 0)
-  channels : (t n : ℕ) → MAX_CHANNELS < n → IsOutOfRange (token.Rounds ∷ token.Number t ∷ token.Channels ∷ []) (token.Number n)
-  no_register : (t c : ℕ) →
-      IsOutOfRange (token.Rounds ∷ token.Number t ∷ token.Channels ∷ token.Number c ∷ token.Registers ∷ []) (token.Number 0)
-  registers : (t c n : ℕ) → MAX_REGISTERS < n →
-      IsOutOfRange (token.Rounds ∷ token.Number t ∷ token.Channels ∷ token.Number c ∷ token.Registers ∷ []) (token.Number n)
+  rounds : (t : ℕ) → IsOutside 0 MAX_ROUNDS t → IsOutOfRange (token.Rounds ∷ []) (token.Number t)
+  channels : (t c : ℕ) → IsOutside 1 MAX_CHANNELS c → IsOutOfRange (token.Rounds ∷ token.Number t ∷ token.Channels ∷ []) (token.Number c)
+  registers : (t c k : ℕ) → IsOutside 1 MAX_REGISTERS k →
+      IsOutOfRange (token.Rounds ∷ token.Number t ∷ token.Channels ∷ token.Number c ∷ token.Registers ∷ []) (token.Number k)
 
 -- A fault of this kind stands at the token after these. Where two kinds could, the order is that of the rules.
 pub data Stands (before : List Token) (met : Token) : FaultKind → Type 0 where
