@@ -1,6 +1,5 @@
 -- What may follow some tokens in a program, as a language: a set of lists of tokens with their depths.
-use Rattle.std.proofs.Common.{◌≡◌, ℕ, zero, suc, ◌+◌, List, [], ◌∷◌, ◌++◌, length, refl, sym, subst, ap, ◌∙◌, arith}
-use Rattle.std.specs.Prelude.{All}
+use Rattle.std.proofs.Common.{◌≡◌, ℕ, zero, suc, ◌+◌, List, [], ◌∷◌, refl, sym, subst, ap, ◌∙◌}
 use Rattle.node_lang.specs.declared.fault.FaultKind.TheVariants as kind
 use Rattle.node_lang.specs.declared.token.Token.{Token}
 use Rattle.node_lang.specs.declared.token.Token.TheVariants as token
@@ -195,12 +194,44 @@ first_of d more (RegisterValue j) x ms rest e h = same_first d more x (node (tok
 first_of d more (Unary o a) x ms rest e h = same_first d more x (node (token.Unary o) d) ms _ e refl
     (record { rest = _; is = refl; follows = record { term = a; rest = _; is = refl; follows = record { rest = rest; is = refl; follows = h } } })
 first_of d more (Binary o a b) x ms rest e h = same_first d more x (node (token.Binary o) d) ms _ e refl
-    (record { rest = _; is = refl; follows = record { term = a; rest = _; is = refl; follows = record { rest = _; is = refl;
-    follows = record { term = b; rest = _; is = refl; follows = record { rest = rest; is = refl; follows = h } } } } })
+    (record {
+      rest = _;
+      is = refl;
+      follows = record {
+        term = a;
+        rest = _;
+        is = refl;
+        follows = record {
+          rest = _;
+          is = refl;
+          follows = record { term = b; rest = _; is = refl; follows = record { rest = rest; is = refl; follows = h } };
+        };
+      };
+    })
 first_of d more (Conditional c a b) x ms rest e h = same_first d more x (node token.If d) ms _ e refl
-    (record { rest = _; is = refl; follows = record { term = c; rest = _; is = refl; follows = record { rest = _; is = refl;
-    follows = record { term = a; rest = _; is = refl; follows = record { rest = _; is = refl;
-    follows = record { term = b; rest = _; is = refl; follows = record { rest = rest; is = refl; follows = h } } } } } } })
+    (record {
+      rest = _;
+      is = refl;
+      follows = record {
+        term = c;
+        rest = _;
+        is = refl;
+        follows = record {
+          rest = _;
+          is = refl;
+          follows = record {
+            term = a;
+            rest = _;
+            is = refl;
+            follows = record {
+              rest = _;
+              is = refl;
+              follows = record { term = b; rest = _; is = refl; follows = record { rest = rest; is = refl; follows = h } };
+            };
+          };
+        };
+      };
+    })
 
 pub after_first : {d : ℕ} {more : Language} {m : Mark} {ms : List Mark} → AnExpression d more (m ∷ ms) → (m.depth ≡ d) × following d more m.token ms
 after_first {d} {more} {m} {ms} e = first_of d more e.term m ms e.rest e.is e.follows

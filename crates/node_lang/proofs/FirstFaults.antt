@@ -1,5 +1,5 @@
 -- The fault at which reading a program stops is the first fault of its lexemes.
-use Rattle.std.proofs.Common.{◌≡◌, ℕ, zero, suc, ◌+◌, ◌<◌, ◌≤◌, true, List, [], ◌∷◌, ◌++◌, length, Option, Some, None, refl, sym, subst, ap, ◌∙◌, arith, length-append}
+use Rattle.std.proofs.Common.{◌≡◌, ℕ, zero, suc, ◌+◌, ◌<◌, ◌≤◌, true, List, [], ◌∷◌, ◌++◌, length, Option, Some, None, refl, sym, subst, ap, arith, length-append}
 use Rattle.std.proofs.lemmas.Bool.{eq-eqb}
 use Rattle.node_lang.specs.declared.limits.TheConstants.{MAX_CHANNELS, MAX_DEPTH, MAX_REGISTERS, MAX_ROUNDS}
 use Rattle.node_lang.specs.declared.fault.FaultKind.{FaultKind}
@@ -9,12 +9,12 @@ use Rattle.node_lang.specs.declared.token.Token.TheVariants as token
 use Rattle.node_lang.specs.Term.{Term, Literal, Identifier, LeftMessage, RightMessage, RegisterValue, Unary, Binary, Conditional, Step, ProgramTree}
 use Rattle.node_lang.specs.Lexemes.{Lexeme}
 use Rattle.node_lang.specs.Reading.{same_token, fault_of}
-use Rattle.node_lang.specs.Read.{Read, Got, Fault, Counts, go_on, ◌>>=◌, done, exactly, one_of, two_of, three_of, after, begun, level, operand, expression, number, header, end, each, assign, assigns, round, rounds, program}
+use Rattle.node_lang.specs.Read.{Read, Got, Fault, Counts, exactly, one_of, two_of, three_of, after, begun, level, operand, expression, number, header, each, assign, assigns, round, rounds, program}
 use Rattle.node_lang.specs.Viable.{Mark, plain, marked, IsOutOfRange, IsOutside, FirstFault}
 use Rattle.node_lang.specs.Viable as viable
 use Rattle.node_lang.proofs.Continuing.{Language, Next, AnExpression, ANumber, an_end, assignments, a_round, some_rounds, a_body, a_program, CanFollow, can_next, can_expression, can_number, can_body, after_expression, following, after_first, expression_opens, begins_lawful}
 use Rattle.node_lang.proofs.Places.{Place, first_place}
-use Rattle.node_lang.proofs.Standing.{IsOrdinary, unexpected_alone}
+use Rattle.node_lang.proofs.Standing.{unexpected_alone}
 use Rattle.node_lang.proofs.Judging.{Judges, IsOnly, stops_here, IsExact, Then, done_later, done_reads, both}
 use Rattle.node_lang.proofs.Steps.{next_reads, exactly_reads, HasRange, number_reads, node_judged, Ended, end_reads}
 
@@ -76,12 +76,14 @@ reads_after levels d inner more h some token.FromRight = (some, λ _. done_reads
 reads_after levels d inner more h some (token.Register j) = (some, λ _. done_reads (RegisterValue j))
 reads_after levels d inner more h some (token.Unary o) =
     (can_next _ (can_expression (d + 1) (can_next _ some)), λ deeper. both (one_reads (d + 1) inner more (h deeper)) (λ a. done_reads (Unary o a)))
-reads_after levels d inner more h some (token.Binary o) =
-    (can_next _ (can_expression (d + 1) (can_next _ (can_expression (d + 1) (can_next _ some)))),
-    λ deeper. both (two_reads (d + 1) inner more (h deeper)) (λ p. done_reads (Binary o p.0 p.1)))
-reads_after levels d inner more h some token.If =
-    (can_next _ (can_expression (d + 1) (can_next _ (can_expression (d + 1) (can_next _ (can_expression (d + 1) (can_next _ some)))))),
-    λ deeper. both (three_reads (d + 1) inner more (h deeper)) (λ p. done_reads (Conditional p.0 p.1 p.2)))
+reads_after levels d inner more h some (token.Binary o) = (
+  can_next _ (can_expression (d + 1) (can_next _ (can_expression (d + 1) (can_next _ some)))),
+  λ deeper. both (two_reads (d + 1) inner more (h deeper)) (λ p. done_reads (Binary o p.0 p.1)),
+)
+reads_after levels d inner more h some token.If = (
+  can_next _ (can_expression (d + 1) (can_next _ (can_expression (d + 1) (can_next _ (can_expression (d + 1) (can_next _ some)))))),
+  λ deeper. both (three_reads (d + 1) inner more (h deeper)) (λ p. done_reads (Conditional p.0 p.1 p.2)),
+)
 reads_after levels d inner more h some t = λ ms f. f
 
 begun_judged : (levels d : ℕ) (before : List Token) (nodes : ℕ) (more : Language) (l : Lexeme) (left : List Lexeme) → 0 < d → levels + d ≡ suc MAX_DEPTH →

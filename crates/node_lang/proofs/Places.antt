@@ -1,16 +1,9 @@
 -- A place in a program's text: the tokens before it, with what may follow them, and the faults that can stand at the next token.
-use Rattle.std.proofs.Common.{◌≡◌, ◌≢◌, ℕ, zero, suc, ◌+◌, ◌<◌, ◌≤◌, List, [], ◌∷◌, ◌++◌, length, append_assoc, append-nil, refl, sym, subst, ap, ◌∙◌, arith, inl, inr}
-use Rattle.std.specs.Prelude.{All, sum_by, map}
+use Rattle.std.proofs.Common.{◌≡◌, ℕ, ◌+◌, ◌<◌, List, [], ◌∷◌, ◌++◌, length, append_assoc, append-nil, refl, sym, subst, ap, ◌∙◌, arith}
 use Rattle.std.proofs.lemmas.List.{map-append, length-map}
-use Rattle.std.proofs.lemmas.List.Sums.{sum_by-append, sum_by-cons}
-use Rattle.node_lang.specs.declared.limits.TheConstants.{MAX_CHANNELS, MAX_DEPTH, MAX_NODES, MAX_REGISTERS, MAX_ROUNDS}
-use Rattle.node_lang.specs.declared.fault.FaultKind.{FaultKind}
-use Rattle.node_lang.specs.declared.fault.FaultKind.TheVariants as kind
+use Rattle.std.proofs.lemmas.List.Sums.{sum_by-append}
 use Rattle.node_lang.specs.declared.token.Token.{Token}
-use Rattle.node_lang.specs.declared.token.Token.TheVariants as token
-use Rattle.node_lang.specs.Lexemes.{Lexeme}
-use Rattle.node_lang.specs.Reading.{fault_of}
-use Rattle.node_lang.specs.Viable.{IsProgram, IsViable, IsWhole, Mark, node, marks, unmarked, one_at, nodes_at, BeginsNode, IsOutOfRange, Stands, unknown, large, out_of_range, unexpected, too_deep, too_many, FirstFault}
+use Rattle.node_lang.specs.Viable.{IsViable, IsWhole, Mark, node, marks, unmarked, one_at, nodes_at, BeginsNode}
 use Rattle.node_lang.proofs.Continuing.{Language, a_program, CanFollow, Opens}
 use Rattle.node_lang.proofs.Programs.{Spelt, program_is, in_program, unmarked_program}
 
@@ -119,7 +112,7 @@ met (m ∷ ms) e h = record { mark = m; rest = ms; token = cc; follows = h }
 pub viable_met : {before : List Token} {nodes : ℕ} {t : Token} {more : Language} → Place before nodes more → IsViable (before ++ t ∷ []) → Met t more
 viable_met {before} {t = t} p v =
     let g = p.out (marks v.program) (t ∷ v.more) (in_program v.program v.each_register)
-        (unmarked_program v.program ∙ sym v.spells ∙ append_assoc before (t ∷ []) v.more) in
+    (unmarked_program v.program ∙ sym v.spells ∙ append_assoc before (t ∷ []) v.more) in
     met g.rest g.tokens g.follows
 
 no_tokens : (ms : List Mark) → unmarked ms ≡ [] → ms ≡ []

@@ -4,9 +4,9 @@ use Rattle.std.specs.Prelude.{All}
 use Rattle.std.proofs.lemmas.List.Elements.{All-cons, All-nil}
 use Rattle.node_lang.specs.declared.token.Token.TheVariants as token
 use Rattle.node_lang.specs.Term.{Term, Literal, Identifier, LeftMessage, RightMessage, RegisterValue, Unary, Binary, Conditional, Step, ProgramTree}
-use Rattle.node_lang.specs.Grammar.{spelled, assigned, block, blocks, spelling}
-use Rattle.node_lang.specs.Viable.{IsProgram, Mark, node, plain, marked, marked_assignments, marked_blocks, marks, unmarked}
-use Rattle.node_lang.proofs.Continuing.{Language, Next, AnExpression, ANumber, an_end, assignments, a_round, some_rounds, a_body, a_program}
+use Rattle.node_lang.specs.Grammar.{spelled, assigned, blocks, spelling}
+use Rattle.node_lang.specs.Viable.{IsProgram, Mark, plain, marked, marked_assignments, marked_blocks, marks, unmarked}
+use Rattle.node_lang.proofs.Continuing.{Language, Next, AnExpression, an_end, assignments, some_rounds, a_body, a_program}
 
 -- without their depths the tokens are the spelling
 unmarked_expression : (e : Term) (d : ℕ) (more : List Mark) → unmarked (marked e d more) ≡ spelled e (unmarked more)
@@ -41,8 +41,15 @@ unmarked_program p = ap (λ ts. token.Rounds ∷ token.Number (length p.steps) �
 -- the tokens of each tree are in the language
 in_assignments : (j : ℕ) (es : List Term) (more : Language) (rest : List Mark) → more rest → assignments j (length es) more (marked_assignments j es rest)
 in_assignments j [] more rest h = h
-in_assignments j (e ∷ es) more rest h = record { rest = _; is = refl; follows = record { rest = _; is = refl;
-    follows = record { term = e; rest = _; is = refl; follows = in_assignments (j + 1) es more rest h } } }
+in_assignments j (e ∷ es) more rest h = record {
+  rest = _;
+  is = refl;
+  follows = record {
+    rest = _;
+    is = refl;
+    follows = record { term = e; rest = _; is = refl; follows = in_assignments (j + 1) es more rest h };
+  };
+}
 
 in_rounds : (registers : ℕ) (ss : List Step) (more : Language) (rest : List Mark) → All (λ s. length s.next ≡ registers) ss → more rest →
     some_rounds (length ss) registers more (marked_blocks ss rest)
@@ -50,21 +57,72 @@ in_rounds registers [] more rest each h = h
 in_rounds registers (s ∷ ss) more rest each h =
     let others = in_rounds registers ss more rest (λ i t b. each (suc i) t (omega (arith, b))) h in
     let next = in_assignments 0 s.next (some_rounds (length ss) registers more) (marked_blocks ss rest) others in
-    record { rest = _; is = refl; follows = record { rest = _; is = refl; follows = record { rest = _; is = refl;
-    follows = record { term = s.left; rest = _; is = refl; follows = record { rest = _; is = refl; follows = record { rest = _; is = refl;
-    follows = record { term = s.right; rest = _; is = refl;
-    follows = subst (λ n. assignments 0 n (some_rounds (length ss) registers more) (marked_assignments 0 s.next (marked_blocks ss rest))) (each 0 s (omega arith)) next } } } } } } }
+    record {
+      rest = _;
+      is = refl;
+      follows = record {
+        rest = _;
+        is = refl;
+        follows = record {
+          rest = _;
+          is = refl;
+          follows = record {
+            term = s.left;
+            rest = _;
+            is = refl;
+            follows = record {
+              rest = _;
+              is = refl;
+              follows = record {
+                rest = _;
+                is = refl;
+                follows = record {
+                  term = s.right;
+                  rest = _;
+                  is = refl;
+                  follows = subst (λ n. assignments 0 n (some_rounds (length ss) registers more) (marked_assignments 0 s.next (marked_blocks ss rest))) (each 0 s (omega arith)) next;
+                };
+              };
+            };
+          };
+        };
+      };
+    }
 
 pub in_program : (p : ProgramTree) → IsProgram p → a_program (marks p)
 in_program p each =
     let finish : Next (plain token.Finish) (AnExpression 1 an_end) (plain token.Finish ∷ marked p.finish 1 []) =
-        record { rest = _; is = refl; follows = record { term = p.finish; rest = []; is = refl; follows = refl } } in
+    record { rest = _; is = refl; follows = record { term = p.finish; rest = []; is = refl; follows = refl } } in
     let body : a_body (length p.steps) (length p.start) (marked_assignments 0 p.start (marked_blocks p.steps (plain token.Finish ∷ marked p.finish 1 []))) =
-        in_assignments 0 p.start _ _ (in_rounds (length p.start) p.steps _ _ each finish) in
-    record { rest = _; is = refl; follows = record { number = length p.steps; rest = _; is = refl;
-    follows = record { rest = _; is = refl; follows = record { number = p.channels; rest = _; is = refl;
-    follows = record { rest = _; is = refl; follows = record { number = length p.start; rest = _; is = refl;
-    follows = record { rest = _; is = refl; follows = body } } } } } } }
+    in_assignments 0 p.start _ _ (in_rounds (length p.start) p.steps _ _ each finish) in
+    record {
+      rest = _;
+      is = refl;
+      follows = record {
+        number = length p.steps;
+        rest = _;
+        is = refl;
+        follows = record {
+          rest = _;
+          is = refl;
+          follows = record {
+            number = p.channels;
+            rest = _;
+            is = refl;
+            follows = record {
+              rest = _;
+              is = refl;
+              follows = record {
+                number = length p.start;
+                rest = _;
+                is = refl;
+                follows = record { rest = _; is = refl; follows = body };
+              };
+            };
+          };
+        };
+      };
+    }
 
 -- each list of the language is that of a tree
 record Assigns (j count : ℕ) (more : List Mark → Type 0) (ms : List Mark) : Type 0 where

@@ -1,6 +1,6 @@
 -- Which faults stand at a token after a place.
-use Rattle.std.proofs.Common.{◌≡◌, ◌≢◌, ◌⊎◌, ℕ, zero, suc, ◌+◌, ◌<◌, ◌≤◌, List, [], ◌∷◌, ◌++◌, refl, sym, subst, ap, ◌∙◌, arith, inl, inr}
-use Rattle.node_lang.specs.declared.limits.TheConstants.{MAX_CHANNELS, MAX_DEPTH, MAX_NODES, MAX_REGISTERS, MAX_ROUNDS}
+use Rattle.std.proofs.Common.{◌≡◌, ◌≢◌, ◌⊎◌, ℕ, ◌<◌, ◌≤◌, List, ◌∷◌, refl, sym, ap, ◌∙◌, arith, inl, inr}
+use Rattle.node_lang.specs.declared.limits.TheConstants.{MAX_DEPTH, MAX_NODES}
 use Rattle.node_lang.specs.declared.fault.FaultKind.{FaultKind}
 use Rattle.node_lang.specs.declared.fault.FaultKind.TheVariants as kind
 use Rattle.node_lang.specs.declared.token.Token.{Token}
@@ -40,7 +40,7 @@ pub unlawful_alone : {before : List Token} {nodes : ℕ} {t : Token} {more : Lan
 unlawful_alone {before} {t = t} p lawful bad = record {
   is = unlawful_stands before t bad;
   only = λ j s. elim s as (λ i _. i ≡ fault_of t) [
-      unknown e ↦ sym (ap fault_of e)
+    | unknown e ↦ sym (ap fault_of e)
     | large e ↦ sym (ap fault_of e)
     | out_of_range r ↦ absurd (bad (range_known r))
     | unexpected e _ _ ↦ absurd (bad e)
@@ -65,7 +65,7 @@ pub unexpected_alone : {before : List Token} {nodes : ℕ} {t : Token} {more : L
 unexpected_alone {t = t} p ordinary never = record {
   is = unexpected ordinary.known ordinary.within (λ v. let m = viable_met p v in never m.mark m.rest m.follows m.token);
   only = λ j s. elim s as (λ i _. i ≡ kind.Unexpected) [
-      unknown e ↦ absurd (not_unknown t ordinary.known e)
+    | unknown e ↦ absurd (not_unknown t ordinary.known e)
     | large e ↦ absurd (not_large t ordinary.known e)
     | out_of_range r ↦ absurd (ordinary.within r)
     | unexpected _ _ _ ↦ refl
@@ -86,7 +86,7 @@ pub range_alone : {before : List Token} {nodes : ℕ} {t : Token} {more after : 
 range_alone {t = t} p o range = record {
   is = out_of_range range;
   only = λ j s. elim s as (λ i _. i ≡ kind.HeaderRange) [
-      unknown e ↦ absurd (not_unknown t (range_known range) e)
+    | unknown e ↦ absurd (not_unknown t (range_known range) e)
     | large e ↦ absurd (not_large t (range_known range) e)
     | out_of_range _ ↦ refl
     | unexpected _ within _ ↦ absurd (within range)

@@ -1,9 +1,8 @@
 -- Each step of reading stops at the first fault, or comes to a later place.
-use Rattle.std.proofs.Common.{◌≡◌, ◌≢◌, ℕ, zero, suc, ◌+◌, ◌<◌, ◌≤◌, ◌==◌, nat_le, ◌&&◌, true, false, Bool, cond, List, [], ◌∷◌, ◌++◌, refl, sym, subst, ap, ◌∙◌, arith, inl, inr}
+use Rattle.std.proofs.Common.{◌≡◌, ◌≢◌, ℕ, zero, suc, ◌+◌, ◌<◌, ◌≤◌, ◌==◌, nat_le, ◌&&◌, true, false, List, [], ◌∷◌, ◌++◌, refl, sym, subst, ap, ◌∙◌, arith, inl, inr}
 use Rattle.std.proofs.lemmas.Bool.{cases_order, cond_both, both_ways}
 use Rattle.std.proofs.lemmas.Bool.Decides.{nat_tests}
 use Rattle.node_lang.specs.declared.limits.TheConstants.{MAX_DEPTH, MAX_NODES}
-use Rattle.node_lang.specs.declared.fault.FaultKind.{FaultKind}
 use Rattle.node_lang.specs.declared.fault.FaultKind.TheVariants as kind
 use Rattle.node_lang.specs.declared.token.Token.{Token}
 use Rattle.node_lang.specs.declared.token.Token.TheVariants as token
@@ -62,16 +61,16 @@ exactly_reads {at} {then_at} {more} t itself within later = next_reads some_toke
     cond_both (same_token l.token t) (done tt) (refuse kind.Unexpected l)
     (λ (r : ℕ → List Lexeme → Read (Unit {0})). Judges before (l ∷ left) (Then (λ (_ : Unit {0}). then_at) (λ _. more)) (r nodes left))
     (λ same.
-      let is : l.token ≡ t = same_token_is l.token t same in
-      let opens : Opens (Next (plain t) more) l.token 0 more = subst (λ s. Opens (Next (plain t) more) s 0 more) (sym is) (next_opens (after_next p.some)) in
-      let ordinary : IsOrdinary before l.token = record { known = known; within = within before l.token h } in
-      record {
-        now = before ++ l.token ∷ [];
-        holds = record { holds = subst (λ s. then_at (before ++ s ∷ [])) (sym is) (later before h); place = plain_place p opens };
-        leaves = leaves_next (no_fault p opens ordinary (omega arith) (λ none. omega (arith, none)));
-      })
+    let is : l.token ≡ t = same_token_is l.token t same in
+    let opens : Opens (Next (plain t) more) l.token 0 more = subst (λ s. Opens (Next (plain t) more) s 0 more) (sym is) (next_opens (after_next p.some)) in
+    let ordinary : IsOrdinary before l.token = record { known = known; within = within before l.token h } in
+    record {
+      now = before ++ l.token ∷ [];
+      holds = record { holds = subst (λ s. then_at (before ++ s ∷ [])) (sym is) (later before h); place = plain_place p opens };
+      leaves = leaves_next (no_fault p opens ordinary (omega arith) (λ none. omega (arith, none)));
+    })
     (λ other. stops_here (unexpected_alone p (record { known = known; within = within before l.token h })
-      (λ m ms n e. both_ways (same_token l.token t) other (ap (λ s. same_token s t) (sym e ∙ next_token n) ∙ itself)))))
+    (λ m ms n e. both_ways (same_token l.token t) other (ap (λ s. same_token s t) (sym e ∙ next_token n) ∙ itself)))))
 
 -- After these tokens a number of the header is wanted, with this range.
 pub record HasRange (before : List Token) (low high : ℕ) : Type 0 where
@@ -109,13 +108,13 @@ range_judged {before} {nodes} {low} {high} {more} then_at (token.Number n) l lef
     let opens : Opens (ANumber more) l.token 0 (more n) = subst (λ s. Opens (ANumber more) s 0 (more n)) (sym e) (number_opens n (some n)) in
     cond_both (nat_le low n && nat_le n high) (done n) (refuse kind.HeaderRange l) (λ (r : ℕ → List Lexeme → Read ℕ). Judges before (l ∷ left) (Then then_at more) (r nodes left))
     (λ both.
-      let within : IsOutOfRange before l.token → ⊥ = λ out. not_outside low high n both (range.only n (subst (IsOutOfRange before) e out)) in
-      let ordinary : IsOrdinary before l.token = record { known = known; within = within } in
-      record {
-        now = before ++ l.token ∷ [];
-        holds = record { holds = subst (λ s. then_at n (before ++ s ∷ [])) (sym e) (later n); place = plain_place p opens };
-        leaves = leaves_next (no_fault p opens ordinary (omega arith) (λ none. omega (arith, none)));
-      })
+    let within : IsOutOfRange before l.token → ⊥ = λ out. not_outside low high n both (range.only n (subst (IsOutOfRange before) e out)) in
+    let ordinary : IsOrdinary before l.token = record { known = known; within = within } in
+    record {
+      now = before ++ l.token ∷ [];
+      holds = record { holds = subst (λ s. then_at n (before ++ s ∷ [])) (sym e) (later n); place = plain_place p opens };
+      leaves = leaves_next (no_fault p opens ordinary (omega arith) (λ none. omega (arith, none)));
+    })
     (λ neither. stops_here (range_alone p opens (subst (IsOutOfRange before) (sym e) (range.out n (outside low high n neither)))))
 range_judged then_at t l left e known range some later p = no_number p known (λ n is. cc)
 
@@ -139,15 +138,15 @@ node_judged {B} {after = after} {P = P} {f = f} {before = before} {nodes = nodes
     cond_both (levels == 0) _ _ (λ (r : Read (Unit {0})). Judges before (l ∷ left) P (go_on r (λ _. f)))
     (λ none. let deep : MAX_DEPTH < d = grind (arith, nat_tests) in stops_here (too_deep_alone p o ordinary deep))
     (λ levels_left.
-      let shallow : d ≤ MAX_DEPTH = grind (arith, nat_tests) in
-      let deeper : 0 < levels = grind (arith, nat_tests) in
-      cond_both (nat_le MAX_NODES nodes) _ _ (λ (r : Read (Unit {0})). Judges before (l ∷ left) P (go_on r (λ _. f)))
-      (λ full. let many : MAX_NODES ≤ nodes = grind (arith, nat_tests) in stops_here (too_many_alone p o ordinary some_depth shallow many))
-      (λ room.
-        let few : nodes < MAX_NODES = grind (arith, nat_tests) in
-        let place = subst (λ n. Place (before ++ l.token ∷ []) (nodes + n) after) (one_some d some_depth) (next_place p o) in
-        judged_later P (f (nodes + 1) left) (leaves_next (no_fault p o ordinary shallow (λ _. few)))
-          ((reads deeper).judges (before ++ l.token ∷ []) (nodes + 1) left h place)))
+    let shallow : d ≤ MAX_DEPTH = grind (arith, nat_tests) in
+    let deeper : 0 < levels = grind (arith, nat_tests) in
+    cond_both (nat_le MAX_NODES nodes) _ _ (λ (r : Read (Unit {0})). Judges before (l ∷ left) P (go_on r (λ _. f)))
+    (λ full. let many : MAX_NODES ≤ nodes = grind (arith, nat_tests) in stops_here (too_many_alone p o ordinary some_depth shallow many))
+    (λ room.
+    let few : nodes < MAX_NODES = grind (arith, nat_tests) in
+    let place = subst (λ n. Place (before ++ l.token ∷ []) (nodes + n) after) (one_some d some_depth) (next_place p o) in
+    judged_later P (f (nodes + 1) left) (leaves_next (no_fault p o ordinary shallow (λ _. few)))
+    ((reads deeper).judges (before ++ l.token ∷ []) (nodes + 1) left h place)))
 
 -- the end
 pub record Ended {A : Type 0} (a : A) (nodes : ℕ) (now : List Token) (left : List Lexeme) : Type 0 where
