@@ -58,21 +58,39 @@ abbrev pub a_program : Language
 a_program = Next (plain token.Rounds) (ANumber (λ rounds. Next (plain token.Channels) (ANumber (λ channels.
     Next (plain token.Registers) (ANumber (λ registers. Next (plain token.Start) (a_body rounds registers)))))))
 
+-- a list of each
+pub token_first : {m : Mark} {more : Language} {ms : List Mark} → more ms → Next m more (m ∷ ms)
+token_first {ms = ms} h = record { rest = ms; is = refl; follows = h }
+
+pub expression_first : {d : ℕ} {more : Language} (e : Term) (ms : List Mark) → more ms → AnExpression d more (marked e d ms)
+expression_first e ms h = record { term = e; rest = ms; is = refl; follows = h }
+
+pub number_first : {more : ℕ → Language} {ms : List Mark} (n : ℕ) → more n ms → ANumber more (plain (token.Number n) ∷ ms)
+number_first {ms = ms} n h = record { number = n; rest = ms; is = refl; follows = h }
+
+-- and how each list of them begins
+pub token_is : {m : Mark} {more : Language} {ms xs : List Mark} (h : Next m more ms) → h.rest ≡ xs → ms ≡ m ∷ xs
+token_is {m} h e = h.is ∙ ap (λ x. m ∷ x) e
+
+pub expression_is : {d : ℕ} {more : Language} {ms xs : List Mark} (h : AnExpression d more ms) → h.rest ≡ xs → ms ≡ marked h.term d xs
+expression_is {d} h e = h.is ∙ ap (marked h.term d) e
+
+pub number_is : {more : ℕ → Language} {n : ℕ} {ms xs : List Mark} (h : ANumber more ms) → h.number ≡ n → h.rest ≡ xs → ms ≡ plain (token.Number n) ∷ xs
+number_is h same e = h.is ∙ (λ i. plain (token.Number (same i)) ∷ e i)
+
 -- some list is in the language
 pub record CanFollow (more : List Mark → Type 0) : Type 0 where
   pub marks : List Mark
   pub follows : more marks
 
 pub can_next : {more : Language} (m : Mark) → CanFollow more → CanFollow (Next m more)
-can_next m c = record { marks = m ∷ c.marks; follows = record { rest = c.marks; is = refl; follows = c.follows } }
+can_next m c = record { marks = m ∷ c.marks; follows = token_first c.follows }
 
 pub can_expression : {more : Language} (d : ℕ) → CanFollow more → CanFollow (AnExpression d more)
-can_expression d c =
-    record { marks = node (token.Number 0) d ∷ c.marks; follows = record { term = Literal 0; rest = c.marks; is = refl; follows = c.follows } }
+can_expression d c = record { marks = node (token.Number 0) d ∷ c.marks; follows = expression_first (Literal 0) c.marks c.follows }
 
 pub can_number : {more : ℕ → Language} → CanFollow (more 0) → CanFollow (ANumber more)
-can_number c =
-    record { marks = plain (token.Number 0) ∷ c.marks; follows = record { number = 0; rest = c.marks; is = refl; follows = c.follows } }
+can_number c = record { marks = plain (token.Number 0) ∷ c.marks; follows = number_first 0 c.follows }
 
 can_assignments : {more : Language} (j count : ℕ) → CanFollow more → CanFollow (assignments j count more)
 can_assignments j zero c = c
@@ -102,7 +120,7 @@ pub record Opens (first : List Mark → Type 0) (t : Token) (d : ℕ) (after : L
 
 pub next_opens : {m : Mark} {more : Language} → CanFollow more → Opens (Next m more) m.token m.depth more
 next_opens {m} {more} some = record {
-  into = λ ms h. record { rest = ms; is = refl; follows = h };
+  into = λ ms h. token_first h;
   out = λ x ms h e.
       let is : x ∷ ms ≡ m ∷ h.rest = h.is in
       let same : x ≡ m = cc in
@@ -113,7 +131,7 @@ next_opens {m} {more} some = record {
 
 pub number_opens : {more : ℕ → Language} (n : ℕ) → CanFollow (more n) → Opens (ANumber more) (token.Number n) 0 (more n)
 number_opens {more} n some = record {
-  into = λ ms h. record { number = n; rest = ms; is = refl; follows = h };
+  into = λ ms h. number_first n h;
   out = λ x ms h e.
       let is : x ∷ ms ≡ plain (token.Number h.number) ∷ h.rest = h.is in
       let same : x ≡ plain (token.Number h.number) = cc in
@@ -139,17 +157,17 @@ following d more token.If = Next (plain token.Open) (AnExpression (d + 1) (Next 
 following d more _ = λ _. ⊥
 
 begins_expression : (d : ℕ) (more : Language) (t : Token) (ms : List Mark) → following d more t ms → AnExpression d more (node t d ∷ ms)
-begins_expression d more (token.Number n) ms h = record { term = Literal n; rest = ms; is = refl; follows = h }
-begins_expression d more token.Id ms h = record { term = Identifier; rest = ms; is = refl; follows = h }
-begins_expression d more token.FromLeft ms h = record { term = LeftMessage; rest = ms; is = refl; follows = h }
-begins_expression d more token.FromRight ms h = record { term = RightMessage; rest = ms; is = refl; follows = h }
-begins_expression d more (token.Register j) ms h = record { term = RegisterValue j; rest = ms; is = refl; follows = h }
+begins_expression d more (token.Number n) ms h = expression_first (Literal n) ms h
+begins_expression d more token.Id ms h = expression_first Identifier ms h
+begins_expression d more token.FromLeft ms h = expression_first LeftMessage ms h
+begins_expression d more token.FromRight ms h = expression_first RightMessage ms h
+begins_expression d more (token.Register j) ms h = expression_first (RegisterValue j) ms h
 begins_expression d more (token.Unary o) ms h =
     let a = h.follows in
     record {
       term = Unary o a.term;
       rest = a.follows.rest;
-      is = ap (λ x. node (token.Unary o) d ∷ x) (h.is ∙ ap (λ x. plain token.Open ∷ x) (a.is ∙ ap (marked a.term (d + 1)) a.follows.is));
+      is = ap (λ x. node (token.Unary o) d ∷ x) (token_is h (expression_is a a.follows.is));
       follows = a.follows.follows;
     }
 begins_expression d more (token.Binary o) ms h =
@@ -158,8 +176,7 @@ begins_expression d more (token.Binary o) ms h =
     record {
       term = Binary o a.term b.term;
       rest = b.follows.rest;
-      is = ap (λ x. node (token.Binary o) d ∷ x) (h.is ∙ ap (λ x. plain token.Open ∷ x) (a.is ∙ ap (marked a.term (d + 1))
-          (a.follows.is ∙ ap (λ x. plain token.Comma ∷ x) (b.is ∙ ap (marked b.term (d + 1)) b.follows.is))));
+      is = ap (λ x. node (token.Binary o) d ∷ x) (token_is h (expression_is a (token_is a.follows (expression_is b b.follows.is))));
       follows = b.follows.follows;
     }
 begins_expression d more token.If ms h =
@@ -169,9 +186,8 @@ begins_expression d more token.If ms h =
     record {
       term = Conditional c.term a.term b.term;
       rest = b.follows.rest;
-      is = ap (λ x. node token.If d ∷ x) (h.is ∙ ap (λ x. plain token.Open ∷ x) (c.is ∙ ap (marked c.term (d + 1))
-          (c.follows.is ∙ ap (λ x. plain token.Comma ∷ x) (a.is ∙ ap (marked a.term (d + 1))
-          (a.follows.is ∙ ap (λ x. plain token.Comma ∷ x) (b.is ∙ ap (marked b.term (d + 1)) b.follows.is))))));
+      is = ap (λ x. node token.If d ∷ x)
+          (token_is h (expression_is c (token_is c.follows (expression_is a (token_is a.follows (expression_is b b.follows.is))))));
       follows = b.follows.follows;
     }
 begins_expression d more t ms h = absurd h
@@ -191,47 +207,11 @@ first_of d more Identifier x ms rest e h = same_first d more x (node token.Id d)
 first_of d more LeftMessage x ms rest e h = same_first d more x (node token.FromLeft d) ms rest e refl h
 first_of d more RightMessage x ms rest e h = same_first d more x (node token.FromRight d) ms rest e refl h
 first_of d more (RegisterValue j) x ms rest e h = same_first d more x (node (token.Register j) d) ms rest e refl h
-first_of d more (Unary o a) x ms rest e h = same_first d more x (node (token.Unary o) d) ms _ e refl
-    (record { rest = _; is = refl; follows = record { term = a; rest = _; is = refl; follows = record { rest = rest; is = refl; follows = h } } })
-first_of d more (Binary o a b) x ms rest e h = same_first d more x (node (token.Binary o) d) ms _ e refl
-    (record {
-      rest = _;
-      is = refl;
-      follows = record {
-        term = a;
-        rest = _;
-        is = refl;
-        follows = record {
-          rest = _;
-          is = refl;
-          follows = record { term = b; rest = _; is = refl; follows = record { rest = rest; is = refl; follows = h } };
-        };
-      };
-    })
+first_of d more (Unary o a) x ms rest e h = same_first d more x (node (token.Unary o) d) ms _ e refl (token_first (expression_first a _ (token_first h)))
+first_of d more (Binary o a b) x ms rest e h =
+    same_first d more x (node (token.Binary o) d) ms _ e refl (token_first (expression_first a _ (token_first (expression_first b _ (token_first h)))))
 first_of d more (Conditional c a b) x ms rest e h = same_first d more x (node token.If d) ms _ e refl
-    (record {
-      rest = _;
-      is = refl;
-      follows = record {
-        term = c;
-        rest = _;
-        is = refl;
-        follows = record {
-          rest = _;
-          is = refl;
-          follows = record {
-            term = a;
-            rest = _;
-            is = refl;
-            follows = record {
-              rest = _;
-              is = refl;
-              follows = record { term = b; rest = _; is = refl; follows = record { rest = rest; is = refl; follows = h } };
-            };
-          };
-        };
-      };
-    })
+    (token_first (expression_first c _ (token_first (expression_first a _ (token_first (expression_first b _ (token_first h)))))))
 
 pub after_first : {d : ℕ} {more : Language} {m : Mark} {ms : List Mark} → AnExpression d more (m ∷ ms) → (m.depth ≡ d) × following d more m.token ms
 after_first {d} {more} {m} {ms} e = first_of d more e.term m ms e.rest e.is e.follows

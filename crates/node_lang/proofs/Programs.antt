@@ -6,7 +6,7 @@ use Rattle.node_lang.specs.declared.token.Token.TheVariants as token
 use Rattle.node_lang.specs.Term.{Term, Literal, Identifier, LeftMessage, RightMessage, RegisterValue, Unary, Binary, Conditional, Step, ProgramTree}
 use Rattle.node_lang.specs.Grammar.{spelled, assigned, blocks, spelling}
 use Rattle.node_lang.specs.Viable.{IsProgram, Mark, plain, marked, marked_assignments, marked_blocks, marks, unmarked}
-use Rattle.node_lang.proofs.Continuing.{Language, Next, AnExpression, an_end, assignments, some_rounds, a_body, a_program}
+use Rattle.node_lang.proofs.Continuing.{Language, an_end, assignments, some_rounds, a_program, token_first, expression_first, number_first, token_is, expression_is, number_is}
 
 -- without their depths the tokens are the spelling
 unmarked_expression : (e : Term) (d : ℕ) (more : List Mark) → unmarked (marked e d more) ≡ spelled e (unmarked more)
@@ -41,15 +41,7 @@ unmarked_program p = ap (λ ts. token.Rounds ∷ token.Number (length p.steps) �
 -- the tokens of each tree are in the language
 in_assignments : (j : ℕ) (es : List Term) (more : Language) (rest : List Mark) → more rest → assignments j (length es) more (marked_assignments j es rest)
 in_assignments j [] more rest h = h
-in_assignments j (e ∷ es) more rest h = record {
-  rest = _;
-  is = refl;
-  follows = record {
-    rest = _;
-    is = refl;
-    follows = record { term = e; rest = _; is = refl; follows = in_assignments (j + 1) es more rest h };
-  };
-}
+in_assignments j (e ∷ es) more rest h = token_first (token_first (expression_first e _ (in_assignments (j + 1) es more rest h)))
 
 in_rounds : (registers : ℕ) (ss : List Step) (more : Language) (rest : List Mark) → All (λ s. length s.next ≡ registers) ss → more rest →
     some_rounds (length ss) registers more (marked_blocks ss rest)
@@ -57,72 +49,14 @@ in_rounds registers [] more rest each h = h
 in_rounds registers (s ∷ ss) more rest each h =
     let others = in_rounds registers ss more rest (λ i t b. each (suc i) t (omega (arith, b))) h in
     let next = in_assignments 0 s.next (some_rounds (length ss) registers more) (marked_blocks ss rest) others in
-    record {
-      rest = _;
-      is = refl;
-      follows = record {
-        rest = _;
-        is = refl;
-        follows = record {
-          rest = _;
-          is = refl;
-          follows = record {
-            term = s.left;
-            rest = _;
-            is = refl;
-            follows = record {
-              rest = _;
-              is = refl;
-              follows = record {
-                rest = _;
-                is = refl;
-                follows = record {
-                  term = s.right;
-                  rest = _;
-                  is = refl;
-                  follows = subst (λ n. assignments 0 n (some_rounds (length ss) registers more) (marked_assignments 0 s.next (marked_blocks ss rest))) (each 0 s (omega arith)) next;
-                };
-              };
-            };
-          };
-        };
-      };
-    }
+    token_first (token_first (token_first (expression_first s.left _ (token_first (token_first (expression_first s.right _
+    (subst (λ n. assignments 0 n (some_rounds (length ss) registers more) (marked_assignments 0 s.next (marked_blocks ss rest))) (each 0 s (omega arith)) next)))))))
 
 pub in_program : (p : ProgramTree) → IsProgram p → a_program (marks p)
 in_program p each =
-    let finish : Next (plain token.Finish) (AnExpression 1 an_end) (plain token.Finish ∷ marked p.finish 1 []) =
-    record { rest = _; is = refl; follows = record { term = p.finish; rest = []; is = refl; follows = refl } } in
-    let body : a_body (length p.steps) (length p.start) (marked_assignments 0 p.start (marked_blocks p.steps (plain token.Finish ∷ marked p.finish 1 []))) =
-    in_assignments 0 p.start _ _ (in_rounds (length p.start) p.steps _ _ each finish) in
-    record {
-      rest = _;
-      is = refl;
-      follows = record {
-        number = length p.steps;
-        rest = _;
-        is = refl;
-        follows = record {
-          rest = _;
-          is = refl;
-          follows = record {
-            number = p.channels;
-            rest = _;
-            is = refl;
-            follows = record {
-              rest = _;
-              is = refl;
-              follows = record {
-                number = length p.start;
-                rest = _;
-                is = refl;
-                follows = record { rest = _; is = refl; follows = body };
-              };
-            };
-          };
-        };
-      };
-    }
+    let finish = token_first {m = plain token.Finish} (expression_first {d = 1} {more = an_end} p.finish [] refl) in
+    let steps = in_rounds (length p.start) p.steps _ _ each finish in
+    token_first (number_first _ (token_first (number_first _ (token_first (number_first _ (token_first (in_assignments 0 p.start _ _ steps)))))))
 
 -- each list of the language is that of a tree
 record Assigns (j count : ℕ) (more : List Mark → Type 0) (ms : List Mark) : Type 0 where
@@ -141,7 +75,7 @@ assignments_are j (suc count) more ms h =
       terms = e.term ∷ others.terms;
       rest = others.rest;
       many = ap suc others.many;
-      is = h.is ∙ ap (λ x. plain (token.Register j) ∷ x) (h.follows.is ∙ ap (λ x. plain token.Equals ∷ x) (e.is ∙ ap (marked e.term 1) others.is));
+      is = token_is h (token_is h.follows (expression_is e others.is));
       follows = others.follows;
     }
 
@@ -167,9 +101,8 @@ rounds_are (suc count) registers more ms h =
       rest = others.rest;
       many = ap suc others.many;
       each = All-cons (λ (t : Step). length t.next ≡ registers) s others.steps next.many others.each;
-      is = h.is ∙ ap (λ x. plain token.Round ∷ x) (h.follows.is ∙ ap (λ x. plain token.Send ∷ x) (h.follows.follows.is ∙ ap (λ x. plain token.Left ∷ x)
-          (left.is ∙ ap (marked left.term 1) (left.follows.is ∙ ap (λ x. plain token.Send ∷ x) (left.follows.follows.is ∙ ap (λ x. plain token.Right ∷ x)
-          (right.is ∙ ap (marked right.term 1) (next.is ∙ ap (marked_assignments 0 next.terms) others.is)))))));
+      is = token_is h (token_is h.follows (token_is h.follows.follows (expression_is left (token_is left.follows (token_is left.follows.follows
+          (expression_is right (next.is ∙ ap (marked_assignments 0 next.terms) others.is)))))));
       follows = others.follows;
     }
 
@@ -192,11 +125,7 @@ program_is ms h =
     record {
       program = p;
       each_register = subst (λ n. All (λ (s : Step). length s.next ≡ n) steps.steps) (sym start.many) steps.each;
-      is = sym (h.is ∙ ap (λ x. plain token.Rounds ∷ x) (count.is ∙ ap (λ n. plain (token.Number n) ∷ count.rest) (sym steps.many)
-          ∙ ap (λ x. plain (token.Number (length steps.steps)) ∷ x) (count.follows.is ∙ ap (λ x. plain token.Channels ∷ x)
-          (channels.is ∙ ap (λ x. plain (token.Number channels.number) ∷ x) (channels.follows.is ∙ ap (λ x. plain token.Registers ∷ x)
-          (registers.is ∙ ap (λ n. plain (token.Number n) ∷ registers.rest) (sym start.many)
-          ∙ ap (λ x. plain (token.Number (length start.terms)) ∷ x) (body.is ∙ ap (λ x. plain token.Start ∷ x)
-          (start.is ∙ ap (marked_assignments 0 start.terms) (steps.is ∙ ap (marked_blocks steps.steps)
-          (steps.follows.is ∙ ap (λ x. plain token.Finish ∷ x) (finish.is ∙ ap (marked finish.term 1) finish.follows)))))))))));
+      is = sym (token_is h (number_is count (sym steps.many) (token_is count.follows (number_is channels refl (token_is channels.follows
+          (number_is registers (sym start.many) (token_is registers.follows
+          (start.is ∙ ap (marked_assignments 0 start.terms) (steps.is ∙ ap (marked_blocks steps.steps) (token_is steps.follows (expression_is finish finish.follows)))))))))));
     }
