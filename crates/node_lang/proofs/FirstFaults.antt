@@ -9,7 +9,7 @@ use Rattle.node_lang.specs.declared.token.Token.TheVariants as token
 use Rattle.node_lang.specs.Term.{Term, Literal, Identifier, LeftMessage, RightMessage, RegisterValue, Unary, Binary, Conditional, Step, ProgramTree}
 use Rattle.node_lang.specs.Lexemes.{Lexeme}
 use Rattle.node_lang.specs.Reading.{same_token, fault_of}
-use Rattle.node_lang.specs.Read.{Read, Got, Fault, Counts, exactly, one_of, two_of, three_of, after, begun, level, operand, expression, number, header, each, assign, assigns, round, rounds, program}
+use Rattle.node_lang.specs.Read.{Read, Reader, Got, Fault, Counts, exactly, one_of, two_of, three_of, after, begun, level, operand, expression, number, header, each, assign, assigns, round, rounds, program}
 use Rattle.node_lang.specs.Viable.{Mark, plain, marked, IsOutOfRange, IsOutside, FirstFault}
 use Rattle.node_lang.specs.Viable as viable
 use Rattle.node_lang.proofs.Continuing.{Language, Next, AnExpression, ANumber, an_end, assignments, a_round, some_rounds, a_body, a_program, CanFollow, can_next, can_expression, can_number, can_body, after_expression, following, after_first, expression_opens, begins_lawful}
@@ -31,30 +31,30 @@ farther : (t : Token) (before : List Token) → IsBehind before → IsBehind (be
 farther t before long = omega (arith, length-append before (t ∷ []), long)
 
 -- behind the header this is read, and then the rest
-abbrev Behind : {A : Type 0} → Language → Language → (ℕ → List Lexeme → Read A) → Type 0
+abbrev Behind : {A : Type 0} → Language → Language → Reader A → Type 0
 Behind first rest r = IsExact IsBehind first (Then (λ _. IsBehind) (λ _. rest)) r
 
 a_token : {more : Language} (t : Token) → same_token t t ≡ true → Behind (Next (plain t) more) more (exactly t)
 a_token t itself = exactly_reads t itself behind_header (farther t)
 
 -- an expression whose root has this depth is read so
-abbrev Operand : ℕ → (ℕ → List Lexeme → Read Term) → Type 1
+abbrev Operand : ℕ → Reader Term → Type 1
 Operand d inner = (more : Language) → Behind (AnExpression d more) more inner
 
-one_reads : (d : ℕ) (inner : ℕ → List Lexeme → Read Term) (more : Language) → Operand d inner →
+one_reads : (d : ℕ) (inner : Reader Term) (more : Language) → Operand d inner →
     Behind (Next (plain token.Open) (AnExpression d (Next (plain token.Close) more))) more (one_of inner)
 unfolding one_of
 one_reads d inner more h =
     both (a_token token.Open refl) (λ _. both (h _) (λ a. both (a_token token.Close refl) (λ _. done_reads a)))
 
-two_reads : (d : ℕ) (inner : ℕ → List Lexeme → Read Term) (more : Language) → Operand d inner →
+two_reads : (d : ℕ) (inner : Reader Term) (more : Language) → Operand d inner →
     Behind (Next (plain token.Open) (AnExpression d (Next (plain token.Comma) (AnExpression d (Next (plain token.Close) more))))) more (two_of inner)
 unfolding two_of
 two_reads d inner more h =
     both (a_token token.Open refl) (λ _. both (h _) (λ a. both (a_token token.Comma refl) (λ _. both (h _) (λ b.
     both (a_token token.Close refl) (λ _. done_reads (a, b))))))
 
-three_reads : (d : ℕ) (inner : ℕ → List Lexeme → Read Term) (more : Language) → Operand d inner →
+three_reads : (d : ℕ) (inner : Reader Term) (more : Language) → Operand d inner →
     Behind (Next (plain token.Open) (AnExpression d (Next (plain token.Comma) (AnExpression d (Next (plain token.Comma) (AnExpression d (Next (plain token.Close) more)))))))
     more (three_of inner)
 unfolding three_of
@@ -63,11 +63,11 @@ three_reads d inner more h =
     both (a_token token.Comma refl) (λ _. both (h _) (λ b. both (a_token token.Close refl) (λ _. done_reads (c, a, b))))))))
 
 -- what is read after the first token of an expression
-abbrev After : ℕ → ℕ → Language → Token → Option (ℕ → List Lexeme → Read Term) → Type 0
+abbrev After : ℕ → ℕ → Language → Token → Option (Reader Term) → Type 0
 After levels d more t None = (ms : List Mark) → following d more t ms → ⊥
 After levels d more t (Some f) = CanFollow (following d more t) × (0 < levels → Behind (following d more t) more f)
 
-reads_after : (levels d : ℕ) (inner : ℕ → List Lexeme → Read Term) (more : Language) → (0 < levels → Operand (d + 1) inner) → CanFollow more → (t : Token) →
+reads_after : (levels d : ℕ) (inner : Reader Term) (more : Language) → (0 < levels → Operand (d + 1) inner) → CanFollow more → (t : Token) →
     After levels d more t (after inner t)
 reads_after levels d inner more h some (token.Number n) = (some, λ _. done_reads (Literal n))
 reads_after levels d inner more h some token.Id = (some, λ _. done_reads Identifier)
@@ -87,7 +87,7 @@ reads_after levels d inner more h some token.If = (
 reads_after levels d inner more h some t = λ ms f. f
 
 begun_judged : (levels d : ℕ) (before : List Token) (nodes : ℕ) (more : Language) (l : Lexeme) (left : List Lexeme) → 0 < d → levels + d ≡ suc MAX_DEPTH →
-    IsBehind before → Place before nodes (AnExpression d more) → fault_of l.token ≡ kind.Unexpected → (o : Option (ℕ → List Lexeme → Read Term)) →
+    IsBehind before → Place before nodes (AnExpression d more) → fault_of l.token ≡ kind.Unexpected → (o : Option (Reader Term)) →
     After levels d more l.token o → Judges before (l ∷ left) (Then (λ _. IsBehind) (λ _. more)) (begun levels l o nodes left)
 begun_judged levels d before nodes more l left some_depth depth long p known None never =
     stops_here (unexpected_alone p (record { known = known; within = behind_header before l.token long })
@@ -100,7 +100,7 @@ expression_some : (d : ℕ) (e : Term) (rest : List Mark) → [] ≡ marked e d 
 expression_some d (Literal n) rest h = cc
 expression_some d e rest h = cc
 
-level_reads : (levels d : ℕ) (inner : ℕ → List Lexeme → Read Term) → 0 < d → levels + d ≡ suc MAX_DEPTH → (0 < levels → Operand (d + 1) inner) →
+level_reads : (levels d : ℕ) (inner : Reader Term) → 0 < d → levels + d ≡ suc MAX_DEPTH → (0 < levels → Operand (d + 1) inner) →
     Operand d (level levels inner)
 level_reads levels d inner some_depth depth h more =
     next_reads (λ e. expression_some d e.term e.rest e.is) (λ m ms e. begins_lawful d more m.token ms (after_first e).1) (λ before nodes l left long p known.

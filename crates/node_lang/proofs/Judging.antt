@@ -3,7 +3,7 @@ use Rattle.std.proofs.Common.{◌≡◌, ℕ, List, [], ◌∷◌, ◌++◌, ref
 use Rattle.node_lang.specs.declared.fault.FaultKind.{FaultKind}
 use Rattle.node_lang.specs.declared.token.Token.{Token}
 use Rattle.node_lang.specs.Lexemes.{Lexeme}
-use Rattle.node_lang.specs.Read.{Read, Got, Fault, go_on, done, ◌>>=◌}
+use Rattle.node_lang.specs.Read.{Read, Reader, Got, Fault, go_on, done, ◌>>=◌}
 use Rattle.node_lang.specs.Viable.{Mark, Stands, FirstFault}
 use Rattle.node_lang.proofs.Continuing.{Language}
 use Rattle.node_lang.proofs.Places.{Place}
@@ -32,19 +32,23 @@ leaves_next clean = record {
   forth = λ k from f. elim f [ inl here ↦ absurd (clean k here.0) | inr there ↦ there.1 ];
 }
 
+-- what may hold of a tree that was read: with the nodes so far, the tokens up to there and the lexemes that are left
+abbrev pub Post : Type 0 → Type 1
+Post A = A → ℕ → List Token → List Lexeme → Type 0
+
 -- what was read, and the tokens before the place at which it ended
-pub record Reached {A : Type 0} (before : List Token) (ls : List Lexeme) (P : A → ℕ → List Token → List Lexeme → Type 0) (a : A) (nodes : ℕ) (left : List Lexeme) : Type 0 where
+pub record Reached {A : Type 0} (before : List Token) (ls : List Lexeme) (P : Post A) (a : A) (nodes : ℕ) (left : List Lexeme) : Type 0 where
   pub now : List Token
   pub holds : P a nodes now left
   pub leaves : Leaves before now ls left
 
 -- this holds where reading ended, or it stopped at the first fault
-abbrev pub Judges : {A : Type 0} → List Token → List Lexeme → (A → ℕ → List Token → List Lexeme → Type 0) → Read A → Type 0
+abbrev pub Judges : {A : Type 0} → List Token → List Lexeme → Post A → Read A → Type 0
 Judges before ls P (Got a nodes left) = Reached before ls P a nodes left
 Judges before ls P (Fault k from) = IsOnly before ls k from
 
 -- from a later place
-pub judged_later : {A : Type 0} {before now : List Token} {ls left : List Lexeme} (P : A → ℕ → List Token → List Lexeme → Type 0) (r : Read A) →
+pub judged_later : {A : Type 0} {before now : List Token} {ls left : List Lexeme} (P : Post A) (r : Read A) →
     Leaves before now ls left → Judges now left P r → Judges before ls P r
 judged_later P (Got a n rest) p h = record {
   now = h.now;
@@ -54,7 +58,7 @@ judged_later P (Got a n rest) p h = record {
 judged_later P (Fault k from) p h = record { is = p.back k from h.is; only = λ j place f. h.only j place (p.forth j place f) }
 
 -- From each place before which this holds and where the language goes on, a way of reading comes to where that holds, or stops at the first fault.
-pub record IsExact {A : Type 0} (at : List Token → Type 0) (more : List Mark → Type 0) (P : A → ℕ → List Token → List Lexeme → Type 0) (r : ℕ → List Lexeme → Read A) : Type 0 where
+pub record IsExact {A : Type 0} (at : List Token → Type 0) (more : List Mark → Type 0) (P : Post A) (r : Reader A) : Type 0 where
   pub judges : (before : List Token) (nodes : ℕ) (ls : List Lexeme) → at before → Place before nodes more → Judges before ls P (r nodes ls)
 
 -- a place before which this holds and where the language goes on
@@ -75,14 +79,14 @@ pub done_reads : {A : Type 0} {at : List Token → Type 0} {more : Language} (a 
 done_reads {at = at} {more = more} a = done_later (λ _. at) (λ _. more) a (λ before h. h)
 
 -- one after the other
-judges_on : {A B : Type 0} (before : List Token) (ls : List Lexeme) (P : A → ℕ → List Token → List Lexeme → Type 0) (Q : B → ℕ → List Token → List Lexeme → Type 0)
-    (r : Read A) (f : A → ℕ → List Lexeme → Read B) → Judges before ls P r →
+judges_on : {A B : Type 0} (before : List Token) (ls : List Lexeme) (P : Post A) (Q : Post B)
+    (r : Read A) (f : A → Reader B) → Judges before ls P r →
     ((a : A) (n : ℕ) (now : List Token) (left : List Lexeme) → P a n now left → Judges now left Q (f a n left)) → Judges before ls Q (go_on r f)
 judges_on before ls P Q (Got a n left) f h g = judged_later Q (f a n left) h.leaves (g a n h.now left h.holds)
 judges_on before ls P Q (Fault k from) f h g = h
 
-pub both : {A B : Type 0} {at : List Token → Type 0} {more : Language} {then_at : A → List Token → Type 0} {then_more : A → Language} {P : B → ℕ → List Token → List Lexeme → Type 0}
-    {r : ℕ → List Lexeme → Read A} {f : A → ℕ → List Lexeme → Read B} → IsExact at more (Then then_at then_more) r → ((a : A) → IsExact (then_at a) (then_more a) P (f a)) →
+pub both : {A B : Type 0} {at : List Token → Type 0} {more : Language} {then_at : A → List Token → Type 0} {then_more : A → Language} {P : Post B}
+    {r : Reader A} {f : A → Reader B} → IsExact at more (Then then_at then_more) r → ((a : A) → IsExact (then_at a) (then_more a) P (f a)) →
     IsExact at more P (r >>= f)
 both {then_at = then_at} {then_more = then_more} {P = P} {r = r} {f = f} first second = record {
   judges = λ before nodes ls h p. judges_on before ls (Then then_at then_more) P (r nodes ls) f (first.judges before nodes ls h p)

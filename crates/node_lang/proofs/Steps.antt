@@ -8,16 +8,16 @@ use Rattle.node_lang.specs.declared.token.Token.{Token}
 use Rattle.node_lang.specs.declared.token.Token.TheVariants as token
 use Rattle.node_lang.specs.Lexemes.{Lexeme}
 use Rattle.node_lang.specs.Reading.{same_token, fault_of}
-use Rattle.node_lang.specs.Read.{Read, go_on, done, ◌>>=◌, refuse, lawful, next, exactly, node, in_range, number, end}
+use Rattle.node_lang.specs.Read.{Read, Reader, go_on, done, ◌>>=◌, refuse, lawful, next, exactly, node, in_range, number, end}
 use Rattle.node_lang.specs.Viable.{IsWhole, Mark, plain, one_at, IsOutOfRange, IsOutside}
 use Rattle.node_lang.proofs.Tokens.{same_token_is}
 use Rattle.node_lang.proofs.Continuing.{Language, Next, ANumber, an_end, CanFollow, Opens, after_next, next_opens, number_opens}
 use Rattle.node_lang.proofs.Places.{Place, next_place, plain_place, whole_met, whole_place}
 use Rattle.node_lang.proofs.Standing.{StandsAlone, IsOrdinary, only_numbers, unlawful_alone, unexpected_alone, range_alone, too_deep_alone, too_many_alone, no_fault}
-use Rattle.node_lang.proofs.Judging.{IsOnly, stops_here, leaves_next, leaves_all, Judges, judged_later, IsExact, Then}
+use Rattle.node_lang.proofs.Judging.{IsOnly, stops_here, leaves_next, leaves_all, Post, Reached, Judges, judged_later, IsExact, Then}
 
 -- the next token, where the text cannot end and only tokens of the language come next
-lawful_judged : {B : Type 0} {more : Language} {before : List Token} {nodes : ℕ} (P : B → ℕ → List Token → List Lexeme → Type 0) (f : Lexeme → ℕ → List Lexeme → Read B)
+lawful_judged : {B : Type 0} {more : Language} {before : List Token} {nodes : ℕ} (P : Post B) (f : Lexeme → Reader B)
     (t : Token) (l : Lexeme) (ls : List Lexeme) → l.token ≡ t → Place before nodes more → ((m : Mark) (ms : List Mark) → more (m ∷ ms) → fault_of m.token ≡ kind.Unexpected) →
     (fault_of l.token ≡ kind.Unexpected → Judges before (l ∷ ls) P (f l nodes ls)) → Judges before (l ∷ ls) P (go_on (lawful t l nodes ls) f)
 lawful_judged {before = before} P f token.LargeNumber l ls e p allowed g =
@@ -28,7 +28,7 @@ lawful_judged {before = before} P f token.Unknown l ls e p allowed g =
     stops_here (subst (StandsAlone before l.token) (ap fault_of e) (unlawful_alone p allowed bad))
 lawful_judged P f t l ls e p allowed g = g (ap fault_of e)
 
-pub next_reads : {B : Type 0} {at : List Token → Type 0} {more : Language} {P : B → ℕ → List Token → List Lexeme → Type 0} {f : Lexeme → ℕ → List Lexeme → Read B} →
+pub next_reads : {B : Type 0} {at : List Token → Type 0} {more : Language} {P : Post B} {f : Lexeme → Reader B} →
     (more [] → ⊥) → ((m : Mark) (ms : List Mark) → more (m ∷ ms) → fault_of m.token ≡ kind.Unexpected) →
     ((before : List Token) (nodes : ℕ) (l : Lexeme) (left : List Lexeme) → at before → Place before nodes more → fault_of l.token ≡ kind.Unexpected → Judges before (l ∷ left) P (f l nodes left)) →
     IsExact at more P (next >>= f)
@@ -36,6 +36,16 @@ next_reads {at = at} {more = more} {P = P} {f = f} never allowed g = record { ju
   first : (before : List Token) (nodes : ℕ) (ls : List Lexeme) → at before → Place before nodes more → Judges before ls P (go_on (next nodes ls) f)
   first before nodes [] h p = record { is = (refl, refl, λ w. never (whole_met p w)); only = λ j place f. (f.0, f.1) }
   first before nodes (l ∷ ls) h p = lawful_judged P f l.token l ls refl p allowed (g before nodes l ls h p)
+
+-- a token that begins no node
+plain_reached : {A : Type 0} {at : A → List Token → Type 0} {before : List Token} {nodes : ℕ} {l : Lexeme} {left : List Lexeme} {more : Language} {after : A → Language} {a : A} →
+    Place before nodes more → Opens more l.token 0 (after a) → IsOrdinary before l.token → at a (before ++ l.token ∷ []) →
+    Reached before (l ∷ left) (Then at after) a nodes left
+plain_reached {before = before} {l = l} p o ordinary h = record {
+  now = before ++ l.token ∷ [];
+  holds = record { holds = h; place = plain_place p o };
+  leaves = leaves_next (no_fault p o ordinary (omega arith) (λ none. omega (arith, none)));
+}
 
 -- this token, where no number out of its range can stand
 known_token : (t : Token) → same_token t t ≡ true → fault_of t ≡ kind.Unexpected
@@ -59,16 +69,11 @@ pub exactly_reads : {at then_at : List Token → Type 0} {more : Language} (t : 
     IsExact at (Next (plain t) more) (Then (λ (_ : Unit {0}). then_at) (λ _. more)) (exactly t)
 exactly_reads {at} {then_at} {more} t itself within later = next_reads some_token (λ m ms h. ap fault_of (next_token h) ∙ known_token t itself) (λ before nodes l left h p known.
     cond_both (same_token l.token t) (done tt) (refuse kind.Unexpected l)
-    (λ (r : ℕ → List Lexeme → Read (Unit {0})). Judges before (l ∷ left) (Then (λ (_ : Unit {0}). then_at) (λ _. more)) (r nodes left))
+    (λ (r : Reader (Unit {0})). Judges before (l ∷ left) (Then (λ (_ : Unit {0}). then_at) (λ _. more)) (r nodes left))
     (λ same.
     let is : l.token ≡ t = same_token_is l.token t same in
     let opens : Opens (Next (plain t) more) l.token 0 more = subst (λ s. Opens (Next (plain t) more) s 0 more) (sym is) (next_opens (after_next p.some)) in
-    let ordinary : IsOrdinary before l.token = record { known = known; within = within before l.token h } in
-    record {
-      now = before ++ l.token ∷ [];
-      holds = record { holds = subst (λ s. then_at (before ++ s ∷ [])) (sym is) (later before h); place = plain_place p opens };
-      leaves = leaves_next (no_fault p opens ordinary (omega arith) (λ none. omega (arith, none)));
-    })
+    plain_reached p opens (record { known = known; within = within before l.token h }) (subst (λ s. then_at (before ++ s ∷ [])) (sym is) (later before h)))
     (λ other. stops_here (unexpected_alone p (record { known = known; within = within before l.token h })
     (λ m ms n e. both_ways (same_token l.token t) other (ap (λ s. same_token s t) (sym e ∙ next_token n) ∙ itself)))))
 
@@ -106,15 +111,10 @@ range_judged : {before : List Token} {nodes low high : ℕ} {more : ℕ → Lang
     Place before nodes (ANumber more) → Judges before (l ∷ left) (Then then_at more) (in_range low high l t nodes left)
 range_judged {before} {nodes} {low} {high} {more} then_at (token.Number n) l left e known range some later p =
     let opens : Opens (ANumber more) l.token 0 (more n) = subst (λ s. Opens (ANumber more) s 0 (more n)) (sym e) (number_opens n (some n)) in
-    cond_both (nat_le low n && nat_le n high) (done n) (refuse kind.HeaderRange l) (λ (r : ℕ → List Lexeme → Read ℕ). Judges before (l ∷ left) (Then then_at more) (r nodes left))
+    cond_both (nat_le low n && nat_le n high) (done n) (refuse kind.HeaderRange l) (λ (r : Reader ℕ). Judges before (l ∷ left) (Then then_at more) (r nodes left))
     (λ both.
     let within : IsOutOfRange before l.token → ⊥ = λ out. not_outside low high n both (range.only n (subst (IsOutOfRange before) e out)) in
-    let ordinary : IsOrdinary before l.token = record { known = known; within = within } in
-    record {
-      now = before ++ l.token ∷ [];
-      holds = record { holds = subst (λ s. then_at n (before ++ s ∷ [])) (sym e) (later n); place = plain_place p opens };
-      leaves = leaves_next (no_fault p opens ordinary (omega arith) (λ none. omega (arith, none)));
-    })
+    plain_reached p opens (record { known = known; within = within }) (subst (λ s. then_at n (before ++ s ∷ [])) (sym e) (later n)))
     (λ neither. stops_here (range_alone p opens (subst (IsOutOfRange before) (sym e) (range.out n (outside low high n neither)))))
 range_judged then_at t l left e known range some later p = no_number p known (λ n is. cc)
 
@@ -130,7 +130,7 @@ one_some : (d : ℕ) → 0 < d → one_at d ≡ 1
 one_some zero h = absurd (omega (arith, h))
 one_some (suc d) h = refl
 
-pub node_judged : {B : Type 0} {at : List Token → Type 0} {more after : Language} {P : B → ℕ → List Token → List Lexeme → Type 0} {f : ℕ → List Lexeme → Read B}
+pub node_judged : {B : Type 0} {at : List Token → Type 0} {more after : Language} {P : Post B} {f : Reader B}
     {before : List Token} {nodes : ℕ} (levels d : ℕ) (l : Lexeme) (left : List Lexeme) → 0 < d → levels + d ≡ suc MAX_DEPTH → Place before nodes more →
     Opens more l.token d after → IsOrdinary before l.token → at (before ++ l.token ∷ []) → (0 < levels → IsExact at after P f) →
     Judges before (l ∷ left) P (go_on (node levels l.from nodes left) (λ _. f))
