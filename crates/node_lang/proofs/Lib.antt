@@ -3,14 +3,9 @@ pub mod Placing
 pub mod Writing
 pub mod Registers
 pub mod Tokens
-pub mod Counts
-pub mod Assigning
-pub mod Blocks
-pub mod Wholes
-pub mod Passing
+pub mod Levels
 pub mod OneReading
 pub mod Lexing
 pub mod ReadBack
 pub mod PrintedLength
-pub mod Faulting
 pub mod Assigned

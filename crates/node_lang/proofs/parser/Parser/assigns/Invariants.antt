@@ -1,13 +1,16 @@
-use Rattle.std.proofs.Common.{◌≡◌, ℕ, List}
-use Rattle.node_lang.specs.declared.tree.Expr.{Expr}
+use Rattle.std.proofs.Common.{◌≡◌, ℕ, ◌-◌, List, map}
+use Rattle.node_lang.specs.Term.{Term, term_of}
 use Rattle.node_lang.specs.Parsing.{lexemes_left}
-use Rattle.node_lang.proofs.Assigning.{HasAssigned}
+use Rattle.node_lang.specs.Reading.{Read, each, assign, assigns}
 use Rattle.node_lang.proofs.parser.Parser.assigns.Given as goal
 
-pub record HasRead (registers j nodes count at before : ℕ) (text old : List ℕ) (es : List Expr) : Type 0 where
+-- what is read so far, and then the rest
+pub record Reads (whole rest : Read (List Term)) (text old : List ℕ) : Type 0 where
   pub text_is : text ≡ old
-  pub assigned : HasAssigned registers j nodes count (lexemes_left old before) (lexemes_left text at) es
+  pub reads : whole ≡ rest
 
 abbrev pub invariant-registers : goal.invariant-registers
 invariant-registers l =
-    HasRead l.registers l.register l.initial.self.nodes l.self.nodes l.self.at l.initial.self.at l.self.text.now l.initial.self.text.now l.expressions.items
+    Reads (assigns l.registers l.initial.self.nodes (lexemes_left l.initial.self.text.now l.initial.self.at))
+    (each assign (l.registers - l.register) l.register (map term_of l.expressions.items) l.self.nodes (lexemes_left l.initial.self.text.now l.self.at))
+    l.self.text.now l.initial.self.text.now

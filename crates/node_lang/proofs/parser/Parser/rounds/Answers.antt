@@ -1,26 +1,30 @@
-use Rattle.std.proofs.Common.{◌-◌, ◌∙◌, ap, length}
+use Rattle.std.proofs.Common.{◌∷◌, [], ◌∙◌, refl}
 use Rattle.std.proofs.lemmas.Result.{err_from_is_err_and}
-use Rattle.node_lang.specs.Reading.{Fault}
-use Rattle.node_lang.proofs.Blocks.{next_round, stop_round, all_rounds}
+use Rattle.std.proofs.lemmas.List.{map-append}
+use Rattle.node_lang.specs.Term.{step_of}
+use Rattle.node_lang.specs.Reading.{rounds}
+use Rattle.node_lang.proofs.Levels.{each_start, each_on, each_stops}
 use Rattle.node_lang.proofs.parser.Parser.rounds.Goals as goal
 
-pub returns-in_err-step-clause-err : goal.returns-in_err-step-clause-err
-returns-in_err-step-clause-err c =
+pub rounds-init : goal.rounds-init
+unfolding rounds
+rounds-init c = record {
+  text_is = λ i. c.args.self.now.text.now;
+  reads = each_start _ c.args.count _ _ _ (rw c.new-steps.ensures.items);
+}
+
+pub returns-in_err-step : goal.returns-in_err-step
+returns-in_err-step c =
     let p = err_from_is_err_and c.from_residual.result c.from_residual.ensures.1 in
-    rw (p.1, p.2) (λ m more.
-    let stopped = c.in_err-step.ensures.err m in
-    stop_round c.args.count c.args.registers c.rounds.index _ _ _ _ _ _ c.rounds.steps.items more c.rounds-test.true c.rounds.invariant.rounds stopped
-    ∙ ap (λ t. Fault c.in_err-step.field-0.0.kind (length t - c.in_err-step.field-0.0.offset)) c.rounds.invariant.text_is)
+    rw (p.1, p.2) (c.in_err-step.ensures.0, λ m.
+    let stopped = rw c.rounds.invariant.text_is at (c.in_err-step.ensures.1 m) in
+    (stopped.0, each_stops _ c.rounds.index c.args.count _ _ _ _ _ _ c.rounds-test.true c.rounds.invariant.reads stopped.1))
 
 pub rounds-preserved : goal.rounds-preserved
 rounds-preserved c =
     let read = c.in_ok-step.ensures in
     record {
-      text_is = read.text ∙ c.rounds.invariant.text_is;
-      rounds = rw c.in_ok-push.ensures.items
-          (next_round c.args.count c.args.registers c.rounds.index _ _ _ _ _ _ c.rounds.steps.items c.in_ok-step.step c.rounds-test.true c.rounds.invariant.rounds
-          (record { read = read.ok; tokens = read.tokens; count = read.count; small_left = read.left; small_right = read.right; small_next = read.next; size_is = read.size }));
+      text_is = read.0 ∙ c.rounds.invariant.text_is;
+      reads = rw (c.in_ok-push.ensures.items, map-append step_of c.rounds.steps.items (c.in_ok-step.step ∷ []))
+          (each_on _ c.rounds.index c.args.count _ _ _ _ _ _ _ c.rounds-test.true c.rounds.invariant.reads (rw c.rounds.invariant.text_is at read.1));
     }
-
-pub returns-clause-ok : goal.returns-clause-ok
-returns-clause-ok c more = all_rounds c.args.count c.args.registers c.rounds.index _ _ _ _ c.rounds.steps.items more c.rounds-test.false c.rounds.invariant.rounds

@@ -1,13 +1,16 @@
-use Rattle.std.proofs.Common.{◌≡◌, ℕ, List}
-use Rattle.node_lang.specs.declared.tree.Round.{Round}
+use Rattle.std.proofs.Common.{◌≡◌, ℕ, ◌-◌, List, map}
+use Rattle.node_lang.specs.Term.{Step, step_of}
 use Rattle.node_lang.specs.Parsing.{lexemes_left}
-use Rattle.node_lang.proofs.Blocks.{HasRounds}
+use Rattle.node_lang.specs.Reading.{Read, each, round, rounds}
 use Rattle.node_lang.proofs.parser.Parser.rounds.Given as goal
 
-pub record HasRead (count registers j nodes nodes2 at before : ℕ) (text old : List ℕ) (rs : List Round) : Type 0 where
+-- what is read so far, and then the rest
+pub record Reads (whole rest : Read (List Step)) (text old : List ℕ) : Type 0 where
   pub text_is : text ≡ old
-  pub rounds : HasRounds count registers j nodes nodes2 (lexemes_left old before) (lexemes_left text at) rs
+  pub reads : whole ≡ rest
 
 abbrev pub invariant-rounds : goal.invariant-rounds
 invariant-rounds l =
-    HasRead l.count l.registers l.index l.initial.self.nodes l.self.nodes l.self.at l.initial.self.at l.self.text.now l.initial.self.text.now l.steps.items
+    Reads (rounds l.count l.registers l.initial.self.nodes (lexemes_left l.initial.self.text.now l.initial.self.at))
+    (each (λ _. round l.registers) (l.count - l.index) l.index (map step_of l.steps.items) l.self.nodes (lexemes_left l.initial.self.text.now l.self.at))
+    l.self.text.now l.initial.self.text.now
