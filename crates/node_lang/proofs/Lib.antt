@@ -1,9 +1,11 @@
 pub mod Numbers
 pub mod Placing
 pub mod Writing
-pub mod Registers
+pub mod Sizes
+pub mod SmallTokens
 pub mod Tokens
 pub mod Levels
+pub mod Sound
 pub mod OneReading
 pub mod Lexing
 pub mod ReadBack

@@ -1,16 +1,23 @@
 -- The statements of the laws of this crate, one definition each.
-use Rattle.std.specs.Prelude.{◌≡◌, ℕ, ◌<◌, List, length}
+use Rattle.std.specs.Prelude.{◌≡◌, ◌↔◌, ℕ, ◌<◌, ◌≤◌, List, [], length, All, sum_by}
 use Rattle.node_lang.specs.declared.limits.TheConstants.{LONGEST_TEXT}
 use Rattle.node_lang.specs.declared.fault.FaultKind.{FaultKind}
-use Rattle.node_lang.specs.Term.{ProgramTree}
+use Rattle.node_lang.specs.Term.{ProgramTree, size, terms}
 use Rattle.node_lang.specs.Limits.{IsWithinLimits}
+use Rattle.node_lang.specs.Lexemes.{lexemes_of}
 use Rattle.node_lang.specs.Grammar.{Reads}
+use Rattle.node_lang.specs.Reading.{Got, program}
 use Rattle.node_lang.specs.Printed.{printed}
 use Rattle.node_lang.specs.Faults.{FaultsAt}
 
 -- a text reads as at most one program
 abbrev pub OneReading : Type 0
 OneReading = (text : List ℕ) (p q : ProgramTree) → Reads text p → Reads text q → p ≡ q
+
+-- a short ASCII text reads as a program exactly where reading it from the left answers that program, with its nodes and nothing left
+abbrev pub ReadingIsExact : Type 0
+ReadingIsExact = (text : List ℕ) (p : ProgramTree) → length text ≤ LONGEST_TEXT → All (λ b. b < 128) text →
+    Reads text p ↔ (program 0 (lexemes_of text) ≡ Got p (sum_by size (terms p)) [])
 
 -- the printed form of a program reads as that program
 abbrev pub PrintedIsRead : Type 0

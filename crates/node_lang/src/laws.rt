@@ -6,6 +6,12 @@ pub fn one_reading()
     ensures { law.OneReading }
 {}
 
+/// A short ASCII text reads as a program exactly where reading it from the left answers that program.
+#[tactic(auto, using(crate::proofs::Sound::program_spelt))]
+pub fn reading_is_exact()
+    ensures { law.ReadingIsExact }
+{}
+
 /// The printed form of a program reads as that program, and is shorter than 65,536 bytes.
 #[tactic(auto, using(crate::proofs::PrintedLength::printed_reads, crate::proofs::PrintedLength::printed_length))]
 pub fn printed_is_read_back()
