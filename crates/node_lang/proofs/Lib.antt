@@ -9,5 +9,6 @@ pub mod Sound
 pub mod OneReading
 pub mod Lexing
 pub mod ReadBack
+pub mod Complete
 pub mod PrintedLength
 pub mod Assigned

@@ -7,7 +7,6 @@ pub fn one_reading()
 {}
 
 /// A short ASCII text reads as a program exactly where reading it from the left answers that program.
-#[tactic(auto, using(crate::proofs::Sound::program_spelt))]
 pub fn reading_is_exact()
     ensures { law.ReadingIsExact }
 {}
