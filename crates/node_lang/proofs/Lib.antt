@@ -11,4 +11,5 @@ pub mod Lexing
 pub mod ReadBack
 pub mod Complete
 pub mod PrintedLength
+pub mod Faulting
 pub mod Assigned

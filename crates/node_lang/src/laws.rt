@@ -19,6 +19,7 @@ pub fn printed_is_read_back()
 {}
 
 /// A text has at most one fault, and a text that reads as a program has none.
+#[tactic(auto, using(crate::proofs::Faulting::one_fault, crate::proofs::Faulting::no_fault))]
 pub fn one_text_fault()
     ensures one { law.OneTextFault }
     ensures none { law.ReadableTextsHaveNoFault }
