@@ -3,8 +3,7 @@ pub mod Placing
 pub mod Writing
 pub mod Sizes
 pub mod SmallTokens
-pub mod Tokens
-pub mod Levels
+pub mod Parsing
 pub mod Sound
 pub mod OneReading
 pub mod Lexing

@@ -15,7 +15,7 @@ use Rattle.node_lang.specs.Limits.{IsSmall, IsWithinLimits}
 use Rattle.node_lang.specs.Lexemes.{Lexeme, tokens_in}
 use Rattle.node_lang.specs.Grammar.{spelled, assigned, block, blocks, spelling}
 use Rattle.node_lang.specs.Reading.{Read, Got, Fault, go_on, done, refuse, lawful, next, same_token, exactly, node, one_of, two_of, three_of, after, begun, level, operand, expression, each, assign, assigns, round, rounds, in_range, number, Counts, header, end, program}
-use Rattle.node_lang.proofs.Tokens.{same_token_is}
+use Rattle.node_lang.proofs.Parsing.{same_token_is}
 use Rattle.node_lang.proofs.Sizes.{size-step, size-terms}
 use Rattle.node_lang.proofs.SmallTokens.{is_small, HasSmallNumbers, fitting_terms}
 

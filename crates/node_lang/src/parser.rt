@@ -63,7 +63,7 @@ impl<'a> Parser<'a> {
     }
 
     // Takes this token.
-    #[tactic(auto, using(crate::proofs::Tokens::same_token_is))]
+    #[tactic(auto, using(crate::proofs::Parsing::same_token_is))]
     fn expect(&mut self, token: Token) -> Result<(), TextFault>
         requires { same_token token token ≡ true }
         ensures { Gives (λ _. tt) self.old self.new result (exactly token) }
@@ -79,7 +79,7 @@ impl<'a> Parser<'a> {
     }
 
     // Counts an expression node with this many levels left, at this place; the answer is how many are left for an operand.
-    #[tactic(auto, using(crate::proofs::Levels::operand_is))]
+    #[tactic(auto, using(crate::proofs::Parsing::operand_is))]
     fn count_node(&mut self, levels: u32, offset: usize) -> Result<u32, TextFault>
         requires { offset ≤ length self.old.text.now }
         ensures reads { Gives (λ _. tt) self.old self.new result (node levels (length self.old.text.now - offset)) }
@@ -255,6 +255,7 @@ impl<'a> Parser<'a> {
     }
 
     // An assignment to each register.
+    #[tactic(auto, unfolding(crate::specs::Reading::assigns))]
     fn assigns(&mut self, registers: u32) -> Result<Vec<Expr>, TextFault>
         ensures { Gives (λ v. map term_of v.items) self.old self.new result (assigns registers) }
     {
@@ -283,6 +284,7 @@ impl<'a> Parser<'a> {
     }
 
     // The rounds.
+    #[tactic(auto, unfolding(crate::specs::Reading::rounds))]
     fn rounds(&mut self, count: u32, registers: u32) -> Result<Vec<Round>, TextFault>
         ensures { Gives (λ v. map step_of v.items) self.old self.new result (rounds count registers) }
     {
