@@ -13,7 +13,7 @@ use Rattle.node_lang.specs.Grammar.{Reads}
 use Rattle.node_lang.specs.Reading.{Got, Fault, program}
 use Rattle.node_lang.specs.Parsing.{Gives, lexemes_left}
 use Rattle.node_lang.specs.Faults.{FaultsAt, IsFirstHighByte, too_long, not_ascii, stopped}
-use Rattle.node_lang.specs.Laws.{OneTextFault, ReadableTextsHaveNoFault}
+use Rattle.node_lang.specs.Laws.{OneTextFault, ReadableTextsAreRead, ReadableTextsHaveNoFault, ReadTextsAreReadable}
 use Rattle.node_lang.proofs.SmallTokens.{small_tokens}
 use Rattle.node_lang.proofs.Sound.{read_is_spelt}
 use Rattle.node_lang.proofs.Complete.{program_completes}
@@ -50,21 +50,29 @@ one_fault text k l m n (stopped j i from short ascii at place) (stopped h o sinc
     let rest : from ≡ since = cc in
     (cc, omega arith)
 
--- a text that reads as a program has no fault
+-- a text that reads as a program is read as that program
+pub readable_is_read : ReadableTextsAreRead
+readable_is_read text p reads = program_completes p (lexemes_of text) reads.limits reads.tokens
+
+-- and has no fault
 pub no_fault : ReadableTextsHaveNoFault
 no_fault text p k m reads (too_long long) = omega (arith, reads.short, long)
 no_fault text p k m reads (not_ascii n short first) = has_no_high_byte text n reads.ascii first
 no_fault text p k m reads (stopped j n from short ascii at place) =
-    let whole = program_completes p (lexemes_of text) reads.limits reads.tokens in
+    let whole = readable_is_read text p reads in
     cc
 
--- a text that the parser reads to its end reads as that program
+-- a text that is read from the left reads as that program
+pub read_is_readable : ReadTextsAreReadable
+read_is_readable text p n left short ascii e =
+    let spelt = read_is_spelt p 0 n (lexemes_of text) left (small_tokens text) e in
+    record { short = short; ascii = ascii; tokens = spelt.tokens; limits = spelt.limits }
+
+-- so does one that the parser reads to its end
 pub reads_program : (old new : Parser) (r : Result ProgramTree TextFault) → old.at ≡ 0 → old.nodes ≡ 0 → length old.text.now ≤ LONGEST_TEXT → All (λ b. b < 128) old.text.now →
     Gives (λ p. p) old new r program → IfOk r (Reads old.text.now)
 reads_program old new (Ok p) at nodes short ascii h =
-    let e : program 0 (lexemes_of old.text.now) ≡ Got p new.nodes (lexemes_left old.text.now new.at) = rw (at, nodes) at h.1 in
-    let spelt = read_is_spelt p 0 _ (lexemes_of old.text.now) _ (small_tokens old.text.now) e in
-    record { short = short; ascii = ascii; tokens = spelt.tokens; limits = spelt.limits }
+    read_is_readable old.text.now p new.nodes (lexemes_left old.text.now new.at) short ascii (rw (at, nodes) at h.1)
 reads_program old new (Err f) at nodes short ascii h = tt
 
 -- and one at which it stops has this fault

@@ -29,12 +29,10 @@ found test (t ∷ ts) h =
     cond_both (test t) (Some t) (find test ts) (λ o. small_if o ≡ true) (λ _. parts.0) (λ _. found test ts parts.1)
 
 small_register : (w : List ℕ) → small_if (register_named w) ≡ true
-small_register [] = refl
-small_register (r ∷ []) = refl
 small_register (r ∷ d ∷ []) =
     cond_both ((r == 114) && is_digit d) (Some (token.Register (d - 48))) None (λ o. small_if o ≡ true)
     (λ h. let digit = (and_parts (r == 114) (is_digit d) h).1 in grind (arith, nat_tests)) (λ _. refl)
-small_register (r ∷ d ∷ b ∷ bs) = refl
+small_register w = refl
 
 first_small : (a b c : Option Token) → small_if a ≡ true → small_if b ≡ true → small_if c ≡ true → is_small (or_unknown a b c) ≡ true
 first_small (Some t) b c p q r = p

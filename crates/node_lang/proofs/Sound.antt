@@ -33,6 +33,10 @@ weaker : {A : Type 0} (r : Read A) (P Q : A → ℕ → List Lexeme → Type 0) 
 weaker (Got a n ls) P Q h g = g a n ls h
 weaker (Fault k from) P Q h g = tt
 
+mapped : {A B : Type 0} (r : Read A) (f : A → B) (Q : B → ℕ → List Lexeme → Type 0) → Holds r (λ a n ls. Q (f a) n ls) → Holds (go_on r (λ a. done (f a))) Q
+mapped (Got a n ls) f Q h = h
+mapped (Fault k from) f Q h = tt
+
 judged : {B : Type 0} (t : Token) (l : Lexeme) (nodes : ℕ) (ls : List Lexeme) (f : Lexeme → ℕ → List Lexeme → Read B) (Q : B → ℕ → List Lexeme → Type 0) →
     Holds (f l nodes ls) Q → Holds (go_on (lawful t l nodes ls) f) Q
 judged token.LargeNumber l nodes ls f Q h = tt
@@ -73,20 +77,13 @@ pub record Spelt (e : Term) (levels nodes count : ℕ) (ls left : List Lexeme) :
 abbrev Spells : ℕ → (ℕ → List Lexeme → Read Term) → Type 0
 Spells levels operand = (nodes : ℕ) (ls : List Lexeme) → Holds (operand nodes ls) (λ e count left. Spelt e levels nodes count ls left)
 
--- what begins with this token
-record Began (t : Token) (e : Term) (levels nodes count : ℕ) (ls left : List Lexeme) : Type 0 where
-  pub tokens : t ∷ tokens_in ls ≡ spelled e (tokens_in left)
-  pub depth : depth e < suc levels
-  pub nodes_are : count ≡ nodes + size e
-  pub few : count ≤ MAX_NODES
-
 leaf : (t : Token) (e : Term) (levels from nodes : ℕ) (ls : List Lexeme) → ((ts : List Token) → t ∷ ts ≡ spelled e ts) → depth e ≡ 1 → size e ≡ 1 →
-    Holds (go_on (node levels from nodes ls) (λ _. done e)) (λ f count left. Began t f levels nodes count ls left)
+    Holds (go_on (node levels from nodes ls) (λ _. done e)) (λ f count left. Spelt f (suc levels) nodes count (record { from = from; token = t } ∷ ls) left)
 leaf t e levels from nodes ls s d z =
     one_node levels from nodes ls _ _ (λ some few. record { tokens = s (tokens_in ls); depth = omega arith; nodes_are = omega arith; few = omega arith })
 
 began : (t : Token) (l : Lexeme) (levels : ℕ) (inner : ℕ → List Lexeme → Read Term) → Spells levels inner → (nodes : ℕ) (ls : List Lexeme) →
-    Holds (begun levels l (after inner t) nodes ls) (λ e count left. Began t e levels nodes count ls left)
+    Holds (begun levels l (after inner t) nodes ls) (λ e count left. Spelt e (suc levels) nodes count (record { from = l.from; token = t } ∷ ls) left)
 unfolding one_of two_of three_of
 began (token.Number n) l levels inner h nodes ls = leaf (token.Number n) (Literal n) levels l.from nodes ls (λ _. refl) refl refl
 began token.Id l levels inner h nodes ls = leaf token.Id Identifier levels l.from nodes ls (λ _. refl) refl refl
@@ -95,34 +92,31 @@ began token.FromRight l levels inner h nodes ls = leaf token.FromRight RightMess
 began (token.Register j) l levels inner h nodes ls = leaf (token.Register j) (RegisterValue j) levels l.from nodes ls (λ _. refl) refl refl
 began (token.Unary o) l levels inner h nodes ls =
     one_node levels l.from nodes ls _ _ (λ some few.
-    holds_on (one_of inner (nodes + 1) ls) _ (λ a count left. Began (token.Unary o) (Unary o a) levels nodes count ls left) _
-    (one_token token.Open (nodes + 1) ls _ _ (λ l1 t1.
+    mapped (one_of inner (nodes + 1) ls) _ _ (
+    one_token token.Open (nodes + 1) ls _ _ (λ l1 t1.
     holds_on (inner (nodes + 1) l1) _ _ _ (h (nodes + 1) l1) (λ a n2 l2 t2.
     one_token token.Close n2 l2 _ _ (λ l3 t3.
-    record { tokens = cc; depth = omega arith; nodes_are = omega arith; few = t2.few }))))
-    (λ a n left b. b))
+    record { tokens = cc; depth = omega arith; nodes_are = omega arith; few = t2.few })))))
 began (token.Binary o) l levels inner h nodes ls =
     one_node levels l.from nodes ls _ _ (λ some few.
-    holds_on (two_of inner (nodes + 1) ls) _ (λ p count left. Began (token.Binary o) (Binary o p.0 p.1) levels nodes count ls left) _
-    (one_token token.Open (nodes + 1) ls _ _ (λ l1 t1.
+    mapped (two_of inner (nodes + 1) ls) _ _ (
+    one_token token.Open (nodes + 1) ls _ _ (λ l1 t1.
     holds_on (inner (nodes + 1) l1) _ _ _ (h (nodes + 1) l1) (λ a n2 l2 t2.
     one_token token.Comma n2 l2 _ _ (λ l3 t3.
     holds_on (inner n2 l3) _ _ _ (h n2 l3) (λ b n4 l4 t4.
     one_token token.Close n4 l4 _ _ (λ l5 t5.
-    record { tokens = cc; depth = omega arith; nodes_are = omega arith; few = t4.few }))))))
-    (λ p n left b. b))
+    record { tokens = cc; depth = omega arith; nodes_are = omega arith; few = t4.few })))))))
 began token.If l levels inner h nodes ls =
     one_node levels l.from nodes ls _ _ (λ some few.
-    holds_on (three_of inner (nodes + 1) ls) _ (λ p count left. Began token.If (Conditional p.0 p.1 p.2) levels nodes count ls left) _
-    (one_token token.Open (nodes + 1) ls _ _ (λ l1 t1.
+    mapped (three_of inner (nodes + 1) ls) _ _ (
+    one_token token.Open (nodes + 1) ls _ _ (λ l1 t1.
     holds_on (inner (nodes + 1) l1) _ _ _ (h (nodes + 1) l1) (λ c n2 l2 t2.
     one_token token.Comma n2 l2 _ _ (λ l3 t3.
     holds_on (inner n2 l3) _ _ _ (h n2 l3) (λ a n4 l4 t4.
     one_token token.Comma n4 l4 _ _ (λ l5 t5.
     holds_on (inner n4 l5) _ _ _ (h n4 l5) (λ b n6 l6 t6.
     one_token token.Close n6 l6 _ _ (λ l7 t7.
-    record { tokens = cc; depth = omega arith; nodes_are = omega arith; few = t6.few }))))))))
-    (λ p n left b. b))
+    record { tokens = cc; depth = omega arith; nodes_are = omega arith; few = t6.few })))))))))
 began t l levels inner h nodes ls = tt
 
 level_spells : (levels : ℕ) (inner : ℕ → List Lexeme → Read Term) → Spells levels inner → Spells (suc levels) (level levels inner)

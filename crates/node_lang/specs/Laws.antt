@@ -1,10 +1,10 @@
 -- The statements of the laws of this crate, one definition each.
-use Rattle.std.specs.Prelude.{◌≡◌, ◌↔◌, ℕ, ◌<◌, ◌≤◌, List, [], length, All, sum_by}
+use Rattle.std.specs.Prelude.{◌≡◌, ℕ, ◌<◌, ◌≤◌, List, [], length, All, sum_by}
 use Rattle.node_lang.specs.declared.limits.TheConstants.{LONGEST_TEXT}
 use Rattle.node_lang.specs.declared.fault.FaultKind.{FaultKind}
 use Rattle.node_lang.specs.Term.{ProgramTree, size, terms}
 use Rattle.node_lang.specs.Limits.{IsWithinLimits}
-use Rattle.node_lang.specs.Lexemes.{lexemes_of}
+use Rattle.node_lang.specs.Lexemes.{Lexeme, lexemes_of}
 use Rattle.node_lang.specs.Grammar.{Reads}
 use Rattle.node_lang.specs.Reading.{Got, program}
 use Rattle.node_lang.specs.Printed.{printed}
@@ -14,10 +14,14 @@ use Rattle.node_lang.specs.Faults.{FaultsAt}
 abbrev pub OneReading : Type 0
 OneReading = (text : List ℕ) (p q : ProgramTree) → Reads text p → Reads text q → p ≡ q
 
--- a short ASCII text reads as a program exactly where reading it from the left answers that program, with its nodes and nothing left
-abbrev pub ReadingIsExact : Type 0
-ReadingIsExact = (text : List ℕ) (p : ProgramTree) → length text ≤ LONGEST_TEXT → All (λ b. b < 128) text →
-    Reads text p ↔ (program 0 (lexemes_of text) ≡ Got p (sum_by size (terms p)) [])
+-- reading a text from the left answers the program that it reads as, with the number of its nodes and nothing left
+abbrev pub ReadableTextsAreRead : Type 0
+ReadableTextsAreRead = (text : List ℕ) (p : ProgramTree) → Reads text p → program 0 (lexemes_of text) ≡ Got p (sum_by size (terms p)) []
+
+-- and a short ASCII text reads as the program that is answered
+abbrev pub ReadTextsAreReadable : Type 0
+ReadTextsAreReadable = (text : List ℕ) (p : ProgramTree) (nodes : ℕ) (left : List Lexeme) → length text ≤ LONGEST_TEXT → All (λ b. b < 128) text →
+    program 0 (lexemes_of text) ≡ Got p nodes left → Reads text p
 
 -- the printed form of a program reads as that program
 abbrev pub PrintedIsRead : Type 0

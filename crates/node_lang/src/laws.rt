@@ -7,8 +7,10 @@ pub fn one_reading()
 {}
 
 /// A short ASCII text reads as a program exactly where reading it from the left answers that program.
+#[tactic(auto, using(crate::proofs::Faulting::readable_is_read, crate::proofs::Faulting::read_is_readable))]
 pub fn reading_is_exact()
-    ensures { law.ReadingIsExact }
+    ensures complete { law.ReadableTextsAreRead }
+    ensures sound { law.ReadTextsAreReadable }
 {}
 
 /// The printed form of a program reads as that program, and is shorter than 65,536 bytes.
