@@ -8,8 +8,7 @@ use Rattle.node_lang.specs.declared.token.Token.{Token}
 use Rattle.node_lang.specs.declared.token.Token.TheVariants as token
 use Rattle.node_lang.specs.Term.{Term, Literal, Identifier, LeftMessage, RightMessage, RegisterValue, Unary, Binary, Conditional, Step, ProgramTree}
 use Rattle.node_lang.specs.Lexemes.{Lexeme}
-use Rattle.node_lang.specs.Reading.{same_token, fault_of}
-use Rattle.node_lang.specs.Read.{Read, Reader, Got, Fault, Counts, exactly, one_of, two_of, three_of, after, begun, level, operand, expression, number, header, each, assign, assigns, round, rounds, program}
+use Rattle.node_lang.specs.Reading.{same_token, fault_of, Read, Reader, Got, Fault, Counts, exactly, one_of, two_of, three_of, after, begun, level, operand, expression, number, header, each, assign, assigns, round, rounds, program}
 use Rattle.node_lang.specs.Viable.{Mark, plain, marked, IsOutOfRange, IsOutside, FirstFault}
 use Rattle.node_lang.specs.Viable as viable
 use Rattle.node_lang.proofs.Continuing.{Language, Next, AnExpression, ANumber, an_end, assignments, a_round, some_rounds, a_body, a_program, CanFollow, can_next, can_expression, can_number, can_body, after_expression, following, after_first, expression_opens, begins_lawful}

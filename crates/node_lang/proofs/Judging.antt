@@ -3,7 +3,7 @@ use Rattle.std.proofs.Common.{◌≡◌, ℕ, List, [], ◌∷◌, ◌++◌, ref
 use Rattle.node_lang.specs.declared.fault.FaultKind.{FaultKind}
 use Rattle.node_lang.specs.declared.token.Token.{Token}
 use Rattle.node_lang.specs.Lexemes.{Lexeme}
-use Rattle.node_lang.specs.Read.{Read, Reader, Got, Fault, go_on, done, ◌>>=◌}
+use Rattle.node_lang.specs.Reading.{Read, Reader, Got, Fault, go_on, done, ◌>>=◌}
 use Rattle.node_lang.specs.Viable.{Mark, Stands, FirstFault}
 use Rattle.node_lang.proofs.Continuing.{Language}
 use Rattle.node_lang.proofs.Places.{Place}

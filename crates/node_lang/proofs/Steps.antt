@@ -7,10 +7,9 @@ use Rattle.node_lang.specs.declared.fault.FaultKind.TheVariants as kind
 use Rattle.node_lang.specs.declared.token.Token.{Token}
 use Rattle.node_lang.specs.declared.token.Token.TheVariants as token
 use Rattle.node_lang.specs.Lexemes.{Lexeme}
-use Rattle.node_lang.specs.Reading.{same_token, fault_of}
-use Rattle.node_lang.specs.Read.{Read, Reader, go_on, done, ◌>>=◌, refuse, lawful, next, exactly, node, in_range, number, end}
+use Rattle.node_lang.specs.Reading.{same_token, fault_of, Read, Reader, go_on, done, ◌>>=◌, refuse, lawful, next, exactly, node, in_range, number, end}
 use Rattle.node_lang.specs.Viable.{IsWhole, Mark, plain, one_at, IsOutOfRange, IsOutside}
-use Rattle.node_lang.proofs.Tokens.{same_token_is}
+use Rattle.node_lang.proofs.Parsing.{same_token_is}
 use Rattle.node_lang.proofs.Continuing.{Language, Next, ANumber, an_end, CanFollow, Opens, after_next, next_opens, number_opens}
 use Rattle.node_lang.proofs.Places.{Place, next_place, plain_place, whole_met, whole_place}
 use Rattle.node_lang.proofs.Standing.{StandsAlone, IsOrdinary, only_numbers, unlawful_alone, unexpected_alone, range_alone, too_deep_alone, too_many_alone, no_fault}

@@ -17,5 +17,4 @@ pub mod Faults
 pub mod Viable
 pub mod Code
 pub mod Parsing
-pub mod Read
 pub mod Laws

@@ -6,6 +6,13 @@ pub fn one_reading()
     ensures { law.OneReading }
 {}
 
+/// A short ASCII text reads as a program exactly where reading it from the left answers that program.
+#[tactic(auto, using(crate::proofs::Faulting::readable_is_read, crate::proofs::Faulting::read_is_readable))]
+pub fn reading_is_exact()
+    ensures complete { law.ReadableTextsAreRead }
+    ensures sound { law.ReadTextsAreReadable }
+{}
+
 /// The printed form of a program reads as that program, and is shorter than 65,536 bytes.
 #[tactic(auto, using(crate::proofs::PrintedLength::printed_reads, crate::proofs::PrintedLength::printed_length))]
 pub fn printed_is_read_back()
