@@ -187,13 +187,15 @@ rounds_spelt count registers nodes ls =
     holds_on (assigns registers n7 l7) _ _ _ (assigns_spelt registers n7 l7) (λ es n8 l8 t8 ss m more rest.
     let s : Step = record { left = a; right = b; next = es } in
     let t9 = t8.1 in
-    let t10 = rest.1 in
-    (All-cons (λ (s : Step). length s.next ≡ registers) s ss t8.0 rest.0, record {
-      tokens = cc;
-      shallow = All-append (λ e. depth e ≤ MAX_DEPTH) (terms_of_step s) (step_terms ss)
-          (All-cons (λ e. depth e ≤ MAX_DEPTH) a (b ∷ es) (omega arith) (All-cons (λ e. depth e ≤ MAX_DEPTH) b es (omega arith) t9.shallow)) t10.shallow;
-      nodes_are = rw (sum_by-append size (terms_of_step s) (step_terms ss)) (omega (arith, size-step s, t9.nodes_are, t10.nodes_are));
-    }))))))))))
+    let t10 = rest.1 in (
+      All-cons (λ (s : Step). length s.next ≡ registers) s ss t8.0 rest.0,
+      record {
+        tokens = cc;
+        shallow = All-append (λ e. depth e ≤ MAX_DEPTH) (terms_of_step s) (step_terms ss)
+            (All-cons (λ e. depth e ≤ MAX_DEPTH) a (b ∷ es) (omega arith) (All-cons (λ e. depth e ≤ MAX_DEPTH) b es (omega arith) t9.shallow)) t10.shallow;
+        nodes_are = rw (sum_by-append size (terms_of_step s) (step_terms ss)) (omega (arith, size-step s, t9.nodes_are, t10.nodes_are));
+      },
+    ))))))))))
     count 0 nodes [] ls)
     (λ ss n left f. subst (λ ts. (length ts ≡ count) × (All (λ s. length s.next ≡ registers) ts) × (Spelt_so (blocks ts) (step_terms ts) nodes n ls left)) (sym f.are) (f.many, f.reads.0, f.reads.1))
 

@@ -29,7 +29,23 @@ only_numbers (registers t c k h) = (k, refl)
 range_known : {before : List Token} {t : Token} → IsOutOfRange before t → fault_of t ≡ kind.Unexpected
 range_known r = ap fault_of (only_numbers r).1
 
--- what is no token of the language
+-- a token of the language
+known_token : (t : Token) → t ≢ token.Unknown → t ≢ token.LargeNumber → fault_of t ≡ kind.Unexpected
+known_token token.Unknown u l = absurd (u refl)
+known_token token.LargeNumber u l = absurd (l refl)
+known_token t u l = refl
+
+not_unknown : (t : Token) → fault_of t ≡ kind.Unexpected → t ≢ token.Unknown
+not_unknown t known e =
+    let bad : kind.BadWord ≡ kind.Unexpected = sym (ap fault_of e) ∙ known in
+    cc
+
+not_large : (t : Token) → fault_of t ≡ kind.Unexpected → t ≢ token.LargeNumber
+not_large t known e =
+    let bad : kind.NumberTooLarge ≡ kind.Unexpected = sym (ap fault_of e) ∙ known in
+    cc
+
+-- what is none
 unlawful_stands : (before : List Token) (t : Token) → fault_of t ≢ kind.Unexpected → Stands before t (fault_of t)
 unlawful_stands before token.Unknown h = unknown refl
 unlawful_stands before token.LargeNumber h = large refl
@@ -43,32 +59,22 @@ unlawful_alone {before} {t = t} p lawful bad = record {
     | unknown e ↦ sym (ap fault_of e)
     | large e ↦ sym (ap fault_of e)
     | out_of_range r ↦ absurd (bad (range_known r))
-    | unexpected e _ _ ↦ absurd (bad e)
+    | unexpected u l _ _ ↦ absurd (bad (known_token t u l))
     | too_deep depth _ _ b ↦ absurd (bad (lawful (node t depth) _ (begun p b).1))
     | too_many depth _ _ _ b ↦ absurd (bad (lawful (node t depth) _ (begun p b).1))
   ];
 }
 
-not_unknown : (t : Token) → fault_of t ≡ kind.Unexpected → t ≡ token.Unknown → ⊥
-not_unknown t known e =
-    let bad : kind.BadWord ≡ kind.Unexpected = sym (ap fault_of e) ∙ known in
-    cc
-
-not_large : (t : Token) → fault_of t ≡ kind.Unexpected → t ≡ token.LargeNumber → ⊥
-not_large t known e =
-    let bad : kind.NumberTooLarge ≡ kind.Unexpected = sym (ap fault_of e) ∙ known in
-    cc
-
 -- a token that cannot come next
 pub unexpected_alone : {before : List Token} {nodes : ℕ} {t : Token} {more : Language} → Place before nodes more → IsOrdinary before t →
     ((m : Mark) (ms : List Mark) → more (m ∷ ms) → m.token ≡ t → ⊥) → StandsAlone before t kind.Unexpected
 unexpected_alone {t = t} p ordinary never = record {
-  is = unexpected ordinary.known ordinary.within (λ v. let m = viable_met p v in never m.mark m.rest m.follows m.token);
+  is = unexpected (not_unknown t ordinary.known) (not_large t ordinary.known) ordinary.within (λ v. let m = viable_met p v in never m.mark m.rest m.follows m.token);
   only = λ j s. elim s as (λ i _. i ≡ kind.Unexpected) [
     | unknown e ↦ absurd (not_unknown t ordinary.known e)
     | large e ↦ absurd (not_large t ordinary.known e)
     | out_of_range r ↦ absurd (ordinary.within r)
-    | unexpected _ _ _ ↦ refl
+    | unexpected _ _ _ _ ↦ refl
     | too_deep depth _ _ b ↦ absurd (never (node t depth) _ (begun p b).1 refl)
     | too_many depth _ _ _ b ↦ absurd (never (node t depth) _ (begun p b).1 refl)
   ];
@@ -89,7 +95,7 @@ range_alone {t = t} p o range = record {
     | unknown e ↦ absurd (not_unknown t (range_known range) e)
     | large e ↦ absurd (not_large t (range_known range) e)
     | out_of_range _ ↦ refl
-    | unexpected _ within _ ↦ absurd (within range)
+    | unexpected _ _ within _ ↦ absurd (within range)
     | too_deep _ _ _ b ↦ absurd (no_node p o b)
     | too_many _ _ _ _ b ↦ absurd (no_node p o b)
   ];
@@ -105,7 +111,7 @@ pub node_fault : {before : List Token} {nodes d : ℕ} {t : Token} {more after :
 node_fault {t = t} p o ordinary k (unknown e) = absurd (not_unknown t ordinary.known e)
 node_fault {t = t} p o ordinary k (large e) = absurd (not_large t ordinary.known e)
 node_fault p o ordinary k (out_of_range r) = absurd (ordinary.within r)
-node_fault p o ordinary k (unexpected _ _ stuck) = absurd (stuck (viable_place p o))
+node_fault p o ordinary k (unexpected _ _ _ stuck) = absurd (stuck (viable_place p o))
 node_fault {d = d} {t = t} p o ordinary k (too_deep depth count deep b) =
     let same : depth ≡ d = (o.out (node t depth) _ (begun p b).1 refl).0 in
     record { begins = omega (arith, same, b.is_node); fault = inl (refl, omega (arith, same, deep)) }

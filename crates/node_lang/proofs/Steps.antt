@@ -47,10 +47,10 @@ plain_reached {before = before} {l = l} p o ordinary h = record {
 }
 
 -- this token, where no number out of its range can stand
-known_token : (t : Token) → same_token t t ≡ true → fault_of t ≡ kind.Unexpected
-known_token token.Unknown h = cc
-known_token token.LargeNumber h = cc
-known_token t h = refl
+wanted_known : (t : Token) → same_token t t ≡ true → fault_of t ≡ kind.Unexpected
+wanted_known token.Unknown h = cc
+wanted_known token.LargeNumber h = cc
+wanted_known t h = refl
 
 next_token : {m x : Mark} {more : Language} {ms : List Mark} → Next m more (x ∷ ms) → x.token ≡ m.token
 next_token {m} {x} {ms = ms} h =
@@ -66,7 +66,7 @@ some_token {m} h =
 pub exactly_reads : {at then_at : List Token → Type 0} {more : Language} (t : Token) → same_token t t ≡ true →
     ((before : List Token) (s : Token) → at before → IsOutOfRange before s → ⊥) → ((before : List Token) → at before → then_at (before ++ t ∷ [])) →
     IsExact at (Next (plain t) more) (Then (λ (_ : Unit {0}). then_at) (λ _. more)) (exactly t)
-exactly_reads {at} {then_at} {more} t itself within later = next_reads some_token (λ m ms h. ap fault_of (next_token h) ∙ known_token t itself) (λ before nodes l left h p known.
+exactly_reads {at} {then_at} {more} t itself within later = next_reads some_token (λ m ms h. ap fault_of (next_token h) ∙ wanted_known t itself) (λ before nodes l left h p known.
     cond_both (same_token l.token t) (done tt) (refuse kind.Unexpected l)
     (λ (r : Reader (Unit {0})). Judges before (l ∷ left) (Then (λ (_ : Unit {0}). then_at) (λ _. more)) (r nodes left))
     (λ same.

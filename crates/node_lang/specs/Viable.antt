@@ -1,5 +1,5 @@
 -- The first fault of a program text, without a way of reading: the first place at which the tokens up to it can't begin a program of the language.
-use Rattle.std.specs.Prelude.{◌≡◌, ◌⊎◌, ℕ, zero, suc, ◌+◌, ◌<◌, ◌≤◌, List, [], ◌∷◌, ◌++◌, length, map, All, sum_by}
+use Rattle.std.specs.Prelude.{◌≡◌, ◌≢◌, ◌⊎◌, ℕ, zero, suc, ◌+◌, ◌<◌, ◌≤◌, List, [], ◌∷◌, ◌++◌, length, map, All, sum_by}
 use Rattle.node_lang.specs.declared.limits.TheConstants.{MAX_CHANNELS, MAX_DEPTH, MAX_NODES, MAX_REGISTERS, MAX_ROUNDS}
 use Rattle.node_lang.specs.declared.fault.FaultKind.{FaultKind}
 use Rattle.node_lang.specs.declared.fault.FaultKind.TheVariants as kind
@@ -8,7 +8,6 @@ use Rattle.node_lang.specs.declared.token.Token.TheVariants as token
 use Rattle.node_lang.specs.Term.{Term, Literal, Identifier, LeftMessage, RightMessage, RegisterValue, Unary, Binary, Conditional, Step, ProgramTree}
 use Rattle.node_lang.specs.Lexemes.{Lexeme}
 use Rattle.node_lang.specs.Grammar.{spelling}
-use Rattle.node_lang.specs.Reading.{fault_of}
 
 -- the tree of a program of any size: each round has an assignment for each register
 abbrev pub IsProgram : ProgramTree → Type 0
@@ -110,7 +109,7 @@ pub data Stands (before : List Token) (met : Token) : FaultKind → Type 0 where
   unknown : met ≡ token.Unknown → Stands before met kind.BadWord
   large : met ≡ token.LargeNumber → Stands before met kind.NumberTooLarge
   out_of_range : IsOutOfRange before met → Stands before met kind.HeaderRange
-  unexpected : fault_of met ≡ kind.Unexpected → (IsOutOfRange before met → ⊥) → (IsViable (before ++ met ∷ []) → ⊥) →
+  unexpected : met ≢ token.Unknown → met ≢ token.LargeNumber → (IsOutOfRange before met → ⊥) → (IsViable (before ++ met ∷ []) → ⊥) →
       Stands before met kind.Unexpected
   too_deep : (depth nodes : ℕ) → MAX_DEPTH < depth → BeginsNode before met depth nodes → Stands before met kind.TooDeep
   too_many : (depth nodes : ℕ) → depth ≤ MAX_DEPTH → MAX_NODES ≤ nodes → BeginsNode before met depth nodes → Stands before met kind.TooManyNodes
