@@ -13,7 +13,7 @@ use Rattle.node_lang.specs.Grammar.{Reads}
 use Rattle.node_lang.specs.Reading.{Got, Fault, program}
 use Rattle.node_lang.specs.Parsing.{Gives, lexemes_left}
 use Rattle.node_lang.specs.Faults.{FaultsAt, IsFirstHighByte, too_long, not_ascii, in_lexemes}
-use Rattle.node_lang.specs.Laws.{OneTextFault, ReadableTextsAreRead, ReadableTextsHaveNoFault, ReadTextsAreReadable}
+use Rattle.node_lang.specs.Laws.{OneReading, OneTextFault, ReadableTextsAreRead, ReadableTextsHaveNoFault, ReadTextsAreReadable}
 use Rattle.node_lang.proofs.SmallTokens.{small_tokens}
 use Rattle.node_lang.proofs.Sound.{read_is_spelt}
 use Rattle.node_lang.proofs.Complete.{program_completes}
@@ -54,6 +54,13 @@ one_fault text k l m n (in_lexemes j i from short ascii at place) (in_lexemes h 
 -- a text that reads as a program is read as that program
 pub readable_is_read : ReadableTextsAreRead
 readable_is_read text p reads = program_completes p (lexemes_of text) reads.limits reads.tokens
+
+-- as no other one
+pub one_reading : OneReading
+one_reading text p q a b =
+    let first = readable_is_read text p a in
+    let second = readable_is_read text q b in
+    cc
 
 -- and has no fault
 pub no_fault : ReadableTextsHaveNoFault

@@ -5,7 +5,6 @@ pub mod Sizes
 pub mod SmallTokens
 pub mod Parsing
 pub mod Sound
-pub mod OneReading
 pub mod Lexing
 pub mod ReadBack
 pub mod Complete

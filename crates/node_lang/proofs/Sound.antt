@@ -151,15 +151,15 @@ each_followed part P none one (suc count) j nodes parts ls =
     record { more = a ∷ f.more; are = f.are ∙ append_assoc parts (a ∷ []) f.more; many = omega (arith, f.many); reads = step f.more n2 l2 f.reads }))
 
 -- several expressions
-record Spelt_so (spell : List Token → List Token) (es : List Term) (nodes n : ℕ) (ls left : List Lexeme) : Type 0 where
+record SpeltAll (spell : List Token → List Token) (es : List Term) (nodes n : ℕ) (ls left : List Lexeme) : Type 0 where
   pub tokens : tokens_in ls ≡ spell (tokens_in left)
   pub shallow : All (λ e. depth e ≤ MAX_DEPTH) es
   pub nodes_are : n ≡ nodes + sum_by size es
 
-assigns_spelt : (registers nodes : ℕ) (ls : List Lexeme) → Holds (assigns registers nodes ls) (λ es n left. (length es ≡ registers) × (Spelt_so (assigned 0 es) es nodes n ls left))
+assigns_spelt : (registers nodes : ℕ) (ls : List Lexeme) → Holds (assigns registers nodes ls) (λ es n left. (length es ≡ registers) × (SpeltAll (assigned 0 es) es nodes n ls left))
 unfolding assigns assign
 assigns_spelt registers nodes ls =
-    weaker (each assign registers 0 [] nodes ls) _ _ (each_followed assign (λ j es nodes n ls left. Spelt_so (assigned j es) es nodes n ls left)
+    weaker (each assign registers 0 [] nodes ls) _ _ (each_followed assign (λ j es nodes n ls left. SpeltAll (assigned j es) es nodes n ls left)
     (λ j n ls. record { tokens = refl; shallow = All-nil (λ e. depth e ≤ MAX_DEPTH); nodes_are = omega arith })
     (λ j nodes ls.
     one_token (token.Register j) nodes ls _ _ (λ l1 t1.
@@ -167,14 +167,14 @@ assigns_spelt registers nodes ls =
     weaker (expression MAX_DEPTH nodes l2) _ _ (expression_spells MAX_DEPTH nodes l2) (λ e n l3 t3 es m more rest.
     record { tokens = cc; shallow = All-cons (λ e. depth e ≤ MAX_DEPTH) e es (omega arith) rest.shallow; nodes_are = omega (arith, sum_by-cons size e es) }))))
     registers 0 nodes [] ls)
-    (λ es n left f. subst (λ fs. (length fs ≡ registers) × (Spelt_so (assigned 0 fs) fs nodes n ls left)) (sym f.are) (f.many, f.reads))
+    (λ es n left f. subst (λ fs. (length fs ≡ registers) × (SpeltAll (assigned 0 fs) fs nodes n ls left)) (sym f.are) (f.many, f.reads))
 
 rounds_spelt : (count registers nodes : ℕ) (ls : List Lexeme) → Holds (rounds count registers nodes ls)
-    (λ ss n left. (length ss ≡ count) × (All (λ s. length s.next ≡ registers) ss) × (Spelt_so (blocks ss) (step_terms ss) nodes n ls left))
+    (λ ss n left. (length ss ≡ count) × (All (λ s. length s.next ≡ registers) ss) × (SpeltAll (blocks ss) (step_terms ss) nodes n ls left))
 unfolding rounds round
 rounds_spelt count registers nodes ls =
     weaker (each (λ _. round registers) count 0 [] nodes ls) _ _
-    (each_followed (λ _. round registers) (λ j ss nodes n ls left. (All (λ s. length s.next ≡ registers) ss) × (Spelt_so (blocks ss) (step_terms ss) nodes n ls left))
+    (each_followed (λ _. round registers) (λ j ss nodes n ls left. (All (λ s. length s.next ≡ registers) ss) × (SpeltAll (blocks ss) (step_terms ss) nodes n ls left))
     (λ j n ls. (All-nil (λ (s : Step). length s.next ≡ registers), record { tokens = refl; shallow = All-nil (λ e. depth e ≤ MAX_DEPTH); nodes_are = omega arith }))
     (λ j nodes ls.
     one_token token.Round nodes ls _ _ (λ l1 t1.
@@ -197,7 +197,7 @@ rounds_spelt count registers nodes ls =
       },
     ))))))))))
     count 0 nodes [] ls)
-    (λ ss n left f. subst (λ ts. (length ts ≡ count) × (All (λ s. length s.next ≡ registers) ts) × (Spelt_so (blocks ts) (step_terms ts) nodes n ls left)) (sym f.are) (f.many, f.reads.0, f.reads.1))
+    (λ ss n left f. subst (λ ts. (length ts ≡ count) × (All (λ s. length s.next ≡ registers) ts) × (SpeltAll (blocks ts) (step_terms ts) nodes n ls left)) (sym f.are) (f.many, f.reads.0, f.reads.1))
 
 ranged : (low high : ℕ) (l : Lexeme) (t : Token) (nodes : ℕ) (ls left : List Lexeme) → tokens_in ls ≡ t ∷ tokens_in left →
     Holds (in_range low high l t nodes left) (λ n count more. (count ≡ nodes) × (tokens_in ls ≡ token.Number n ∷ tokens_in more) × (low ≤ n) × (n ≤ high))

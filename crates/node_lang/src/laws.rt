@@ -1,7 +1,7 @@
 ghost use Rattle.node_lang.specs.Laws as law;
 
 /// A text reads as at most one program.
-#[tactic(auto, using(crate::proofs::OneReading::one_reading))]
+#[tactic(auto, using(crate::proofs::Faulting::one_reading))]
 pub fn one_reading()
     ensures { law.OneReading }
 {}
