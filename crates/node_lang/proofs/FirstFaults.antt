@@ -11,6 +11,7 @@ use Rattle.node_lang.specs.Lexemes.{Lexeme}
 use Rattle.node_lang.specs.Reading.{same_token, fault_of, Read, Reader, Got, Fault, Counts, exactly, one_of, two_of, three_of, after, begun, level, operand, expression, number, header, each, assign, assigns, round, rounds, program}
 use Rattle.node_lang.specs.Viable.{Mark, plain, marked, IsOutOfRange, IsOutside, FirstFault}
 use Rattle.node_lang.specs.Viable as viable
+use Rattle.node_lang.specs.Laws.{ReadingStopsAtFirstFault, FirstFaultStopsReading}
 use Rattle.node_lang.proofs.Continuing.{Language, Next, AnExpression, ANumber, an_end, assignments, a_round, some_rounds, a_body, a_program, CanFollow, can_next, can_expression, can_number, can_body, after_expression, following, after_first, expression_opens, begins_lawful}
 use Rattle.node_lang.proofs.Places.{Place, first_place}
 use Rattle.node_lang.proofs.Standing.{unexpected_alone}
@@ -199,7 +200,7 @@ program_judged : (ls : List Lexeme) → Judges [] ls Ended (program 0 ls)
 program_judged ls = program_reads.judges [] 0 ls refl (first_place (can_next _ (can_number (can_channels 0))))
 
 -- the fault at which reading stops is the first fault
-pub first_fault_of : (ls : List Lexeme) (k : FaultKind) (from : ℕ) → program 0 ls ≡ Fault k from → FirstFault [] ls k from
+pub first_fault_of : ReadingStopsAtFirstFault
 first_fault_of ls k from e =
     let only : IsOnly [] ls k from = subst (Judges [] ls Ended) e (program_judged ls) in
     only.is
@@ -214,5 +215,5 @@ stops_at (Fault j place) ls k from h f =
     let places : from ≡ place = only.1 in
     cc
 
-pub stops_at_first_fault : (ls : List Lexeme) (k : FaultKind) (from : ℕ) → FirstFault [] ls k from → program 0 ls ≡ Fault k from
+pub stops_at_first_fault : FirstFaultStopsReading
 stops_at_first_fault ls k from f = stops_at (program 0 ls) ls k from (program_judged ls) f

@@ -41,12 +41,12 @@ OneTextFault =
 abbrev pub ReadableTextsHaveNoFault : Type 0
 ReadableTextsHaveNoFault = (text : List ℕ) (p : ProgramTree) (k : FaultKind) (offset : ℕ) → Reads text p → FaultsAt text k offset → ⊥
 
--- where reading stops, it stops at the first fault of the lexemes
-abbrev pub StopsAtTheFirstFault : Type 0
-StopsAtTheFirstFault =
+-- where reading stops is the first fault of the lexemes
+abbrev pub ReadingStopsAtFirstFault : Type 0
+ReadingStopsAtFirstFault =
     (lexemes : List Lexeme) (k : FaultKind) (from : ℕ) → program 0 lexemes ≡ Fault k from → FirstFault [] lexemes k from
 
--- and it stops where they have one
-abbrev pub StopsAtAFirstFault : Type 0
-StopsAtAFirstFault =
+-- and their first fault is where reading stops
+abbrev pub FirstFaultStopsReading : Type 0
+FirstFaultStopsReading =
     (lexemes : List Lexeme) (k : FaultKind) (from : ℕ) → FirstFault [] lexemes k from → program 0 lexemes ≡ Fault k from
