@@ -18,7 +18,7 @@ use Rattle.node_lang.proofs.Standing.{unexpected_alone}
 use Rattle.node_lang.proofs.Judging.{Judges, IsOnly, stops_here, IsExact, Then, done_later, done_reads, both}
 use Rattle.node_lang.proofs.Steps.{next_reads, exactly_reads, HasRange, number_reads, node_judged, Ended, end_reads}
 
--- these tokens go on behind the header, where no number is one of the header
+-- these tokens have the whole header, so that no number after them is one of the header
 abbrev IsBehind : List Token → Type 0
 IsBehind before = 7 ≤ length before
 
@@ -27,15 +27,15 @@ behind_header before t long (viable.rounds i h) = omega (arith, long)
 behind_header before t long (viable.channels i c h) = omega (arith, long)
 behind_header before t long (viable.registers i c r h) = omega (arith, long)
 
-farther : (t : Token) (before : List Token) → IsBehind before → IsBehind (before ++ t ∷ [])
-farther t before long = omega (arith, length-append before (t ∷ []), long)
+behind_next : (t : Token) (before : List Token) → IsBehind before → IsBehind (before ++ t ∷ [])
+behind_next t before long = omega (arith, length-append before (t ∷ []), long)
 
 -- behind the header this is read, and then the rest
 abbrev Behind : {A : Type 0} → Language → Language → Reader A → Type 0
 Behind first rest r = IsExact IsBehind first (Then (λ _. IsBehind) (λ _. rest)) r
 
 a_token : {more : Language} (t : Token) → same_token t t ≡ true → Behind (Next (plain t) more) more (exactly t)
-a_token t itself = exactly_reads t itself behind_header (farther t)
+a_token t itself = exactly_reads t itself behind_header (behind_next t)
 
 -- an expression whose root has this depth is read so
 abbrev Operand : ℕ → Reader Term → Type 1
@@ -94,7 +94,7 @@ begun_judged levels d before nodes more l left some_depth depth long p known Non
     (λ m ms h e. never ms (subst (λ t. following d more t ms) e (after_first h).1)))
 begun_judged levels d before nodes more l left some_depth depth long p known (Some f) reads =
     node_judged levels d l left some_depth depth p (expression_opens l.token reads.0) (record { known = known; within = behind_header before l.token long })
-    (farther l.token before long) reads.1
+    (behind_next l.token before long) reads.1
 
 expression_some : (d : ℕ) (e : Term) (rest : List Mark) → [] ≡ marked e d rest → ⊥
 expression_some d (Literal n) rest h = cc
@@ -146,7 +146,7 @@ rounds_reads : (count registers : ℕ) (more : Language) → Behind (some_rounds
 unfolding rounds
 rounds_reads count registers more = each_round_reads registers count 0 [] more
 
--- the numbers of the header, where the tokens before are these
+-- a token and a number of the header, where the tokens before are these
 just_token : {more : Language} (tokens : List Token) (t : Token) → same_token t t ≡ true → ((s : Token) → IsOutOfRange tokens s → ⊥) →
     IsExact (λ before. before ≡ tokens) (Next (plain t) more) (Then (λ (_ : Unit {0}) now. now ≡ tokens ++ t ∷ []) (λ _. more)) (exactly t)
 just_token tokens t itself within =

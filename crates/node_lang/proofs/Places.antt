@@ -1,4 +1,4 @@
--- A place in a program's text: the tokens before it, with what may follow them, and the faults that can stand at the next token.
+-- A place in a program: the tokens before it, and what may follow them.
 use Rattle.std.proofs.Common.{◌≡◌, ℕ, ◌+◌, ◌<◌, List, [], ◌∷◌, ◌++◌, length, append_assoc, append-nil, refl, sym, subst, ap, ◌∙◌, arith}
 use Rattle.std.proofs.lemmas.List.{map-append, length-map}
 use Rattle.std.proofs.lemmas.List.Sums.{sum_by-append}

@@ -104,7 +104,7 @@ pub data IsOutOfRange : List Token → Token → Type 0 where
   registers : (t c k : ℕ) → IsOutside 1 MAX_REGISTERS k →
       IsOutOfRange (token.Rounds ∷ token.Number t ∷ token.Channels ∷ token.Number c ∷ token.Registers ∷ []) (token.Number k)
 
--- A fault of this kind stands at the token after these. Where two kinds could, the order is that of the rules.
+-- A fault of this kind stands at the token after these. A node that is too deep and one too many is too deep.
 pub data Stands (before : List Token) (met : Token) : FaultKind → Type 0 where
   unknown : met ≡ token.Unknown → Stands before met kind.BadWord
   large : met ≡ token.LargeNumber → Stands before met kind.NumberTooLarge
@@ -114,7 +114,8 @@ pub data Stands (before : List Token) (met : Token) : FaultKind → Type 0 where
   too_deep : (depth nodes : ℕ) → MAX_DEPTH < depth → BeginsNode before met depth nodes → Stands before met kind.TooDeep
   too_many : (depth nodes : ℕ) → depth ≤ MAX_DEPTH → MAX_NODES ≤ nodes → BeginsNode before met depth nodes → Stands before met kind.TooManyNodes
 
--- The first fault of these lexemes after these tokens, with the number of bytes from it to the text's end.
+-- The first fault of these lexemes after these tokens, with the number of bytes from it to the text's end: the fault at the next token,
+-- or the first one after it, if none stands there; at the end, that the tokens are no program.
 abbrev pub FirstFault : List Token → List Lexeme → FaultKind → ℕ → Type 0
 FirstFault before [] k from = (k ≡ kind.EndOfText) × (from ≡ 0) × (IsWhole before → ⊥)
 FirstFault before (l ∷ ls) k from =
