@@ -1,12 +1,12 @@
 -- What the methods of the parser need of the reading.
-use Rattle.std.proofs.Common.{◌≡◌, ℕ, zero, suc, ◌+◌, ◌-◌, ◌<◌, true, List, [], ◌∷◌, ◌++◌, Err, Ok, refl, sym, ap, ◌∙◌, arith}
+use Rattle.std.proofs.Common.{◌≡◌, ℕ, zero, suc, ◌+◌, ◌-◌, ◌<◌, true, List, [], ◌∷◌, ◌++◌, Err, Ok, refl, ap, ◌∙◌, arith}
 use Rattle.std.proofs.lemmas.Bool.{eqb-true}
 use Rattle.node_lang.specs.declared.fault.TextFault.{TextFault}
 use Rattle.node_lang.specs.declared.parser.Parser.{Parser}
 use Rattle.node_lang.specs.declared.token.Token.{Token}
 use Rattle.node_lang.specs.declared.token.Token.TheVariants as token
 use Rattle.node_lang.specs.Lexemes.{Lexeme}
-use Rattle.node_lang.specs.Reading.{Read, Got, Fault, each, expression, go_on, operand, same_token}
+use Rattle.node_lang.specs.Reading.{Read, each, expression, go_on, operand, same_token}
 use Rattle.node_lang.specs.Parsing.{Gives, lexemes_left}
 
 -- two tokens that are the same are equal
@@ -55,6 +55,9 @@ one_read tree part high j parts v old now new h done read = record {
 
 pub stops_there : {T A : Type 0} (tree : T → A) (part : ℕ → ℕ → List Lexeme → Read A) (high j : ℕ) (parts : List A) (f : TextFault) (old now : Parser) → j < high →
     HasRead part high j parts old now → Gives tree now now (Err f) (part j) → Gives (λ xs. xs) old old (Err f) (each part high 0 [])
-stops_there tree part high j parts f old now h done stopped = (stopped.0, λ m.
-    let at = rw done.text_is at (stopped.1 m) in
-    (at.0, done.reads ∙ next_read part high j parts now.nodes _ _ h at.1))
+stops_there tree part high j parts f old now h done stopped = (
+  stopped.0,
+  λ m.
+      let at = rw done.text_is at (stopped.1 m) in
+      (at.0, done.reads ∙ next_read part high j parts now.nodes _ _ h at.1),
+)

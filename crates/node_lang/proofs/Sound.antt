@@ -10,10 +10,10 @@ use Rattle.node_lang.specs.declared.limits.TheConstants.{MAX_CHANNELS, MAX_DEPTH
 use Rattle.node_lang.specs.declared.fault.FaultKind.TheVariants as kind
 use Rattle.node_lang.specs.declared.token.Token.{Token}
 use Rattle.node_lang.specs.declared.token.Token.TheVariants as token
-use Rattle.node_lang.specs.Term.{Term, Literal, Identifier, LeftMessage, RightMessage, RegisterValue, Unary, Binary, Conditional, Step, ProgramTree, depth, size, terms, terms_of_step, step_terms}
-use Rattle.node_lang.specs.Limits.{IsSmall, IsWithinLimits}
+use Rattle.node_lang.specs.Term.{Term, Literal, Identifier, LeftMessage, RightMessage, RegisterValue, Step, ProgramTree, depth, size, terms, terms_of_step, step_terms}
+use Rattle.node_lang.specs.Limits.{IsWithinLimits}
 use Rattle.node_lang.specs.Lexemes.{Lexeme, tokens_in}
-use Rattle.node_lang.specs.Grammar.{spelled, assigned, block, blocks, spelling}
+use Rattle.node_lang.specs.Grammar.{spelled, assigned, blocks, spelling}
 use Rattle.node_lang.specs.Reading.{Read, Got, Fault, go_on, done, refuse, lawful, next, same_token, exactly, node, one_of, two_of, three_of, after, begun, level, operand, expression, each, assign, assigns, round, rounds, in_range, number, Counts, header, end, program}
 use Rattle.node_lang.proofs.Parsing.{same_token_is}
 use Rattle.node_lang.proofs.Sizes.{size-step, size-terms}
@@ -187,13 +187,15 @@ rounds_spelt count registers nodes ls =
     holds_on (assigns registers n7 l7) _ _ _ (assigns_spelt registers n7 l7) (λ es n8 l8 t8 ss m more rest.
     let s : Step = record { left = a; right = b; next = es } in
     let t9 = t8.1 in
-    let t10 = rest.1 in
-    (All-cons (λ (s : Step). length s.next ≡ registers) s ss t8.0 rest.0, record {
-      tokens = cc;
-      shallow = All-append (λ e. depth e ≤ MAX_DEPTH) (terms_of_step s) (step_terms ss)
-          (All-cons (λ e. depth e ≤ MAX_DEPTH) a (b ∷ es) (omega arith) (All-cons (λ e. depth e ≤ MAX_DEPTH) b es (omega arith) t9.shallow)) t10.shallow;
-      nodes_are = rw (sum_by-append size (terms_of_step s) (step_terms ss)) (omega (arith, size-step s, t9.nodes_are, t10.nodes_are));
-    }))))))))))
+    let t10 = rest.1 in (
+      All-cons (λ (s : Step). length s.next ≡ registers) s ss t8.0 rest.0,
+      record {
+        tokens = cc;
+        shallow = All-append (λ e. depth e ≤ MAX_DEPTH) (terms_of_step s) (step_terms ss)
+            (All-cons (λ e. depth e ≤ MAX_DEPTH) a (b ∷ es) (omega arith) (All-cons (λ e. depth e ≤ MAX_DEPTH) b es (omega arith) t9.shallow)) t10.shallow;
+        nodes_are = rw (sum_by-append size (terms_of_step s) (step_terms ss)) (omega (arith, size-step s, t9.nodes_are, t10.nodes_are));
+      },
+    ))))))))))
     count 0 nodes [] ls)
     (λ ss n left f. subst (λ ts. (length ts ≡ count) × (All (λ s. length s.next ≡ registers) ts) × (SpeltAll (blocks ts) (step_terms ts) nodes n ls left)) (sym f.are) (f.many, f.reads.0, f.reads.1))
 
