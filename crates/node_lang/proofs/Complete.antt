@@ -1,5 +1,5 @@
 -- What is spelled within the limits reads back.
-use Rattle.std.proofs.Common.{◌≡◌, ℕ, zero, suc, ◌+◌, ◌<◌, ◌≤◌, ◌&&◌, true, nat_le, cond, List, [], ◌∷◌, ◌++◌, length, Some, append_assoc, append-nil, refl, sym, ap, ◌∙◌, arith}
+use Rattle.std.proofs.Common.{◌≡◌, ℕ, zero, suc, ◌+◌, ◌<◌, ◌≤◌, true, nat_le, List, [], ◌∷◌, ◌++◌, length, Some, append_assoc, append-nil, refl, sym, ap, ◌∙◌, arith}
 use Rattle.std.specs.Prelude.{All, sum_by}
 use Rattle.std.proofs.lemmas.Bool.{lt-leb, le-leb, eq-eqb, and_from}
 use Rattle.std.proofs.lemmas.List.Sums.{sum_by-append, sum_by-cons}
@@ -12,7 +12,7 @@ use Rattle.node_lang.specs.Term.{Term, Literal, Identifier, LeftMessage, RightMe
 use Rattle.node_lang.specs.Limits.{IsSmall, IsWithinLimits}
 use Rattle.node_lang.specs.Lexemes.{Lexeme, tokens_in}
 use Rattle.node_lang.specs.Grammar.{spelled, assigned, block, blocks, spelling}
-use Rattle.node_lang.specs.Reading.{Read, Got, Fault, go_on, done, refuse, lawful, next, same_token, exactly, node, one_of, two_of, three_of, after, begun, level, operand, expression, each, assign, assigns, round, rounds, in_range, number, Counts, header, end, fault_of, program}
+use Rattle.node_lang.specs.Reading.{Read, Got, go_on, lawful, next, same_token, exactly, node, one_of, two_of, three_of, after, begun, level, operand, expression, each, assign, assigns, round, rounds, number, Counts, header, end, fault_of, program}
 use Rattle.node_lang.proofs.Sizes.{size-step, size-terms}
 use Rattle.node_lang.proofs.ReadBack.{all_left, all_right, small_finish, small_start, small_steps}
 

@@ -10,7 +10,7 @@ use Rattle.node_lang.specs.declared.parser.Parser.{Parser}
 use Rattle.node_lang.specs.Term.{ProgramTree}
 use Rattle.node_lang.specs.Lexemes.{lexemes_of}
 use Rattle.node_lang.specs.Grammar.{Reads}
-use Rattle.node_lang.specs.Reading.{Got, Fault, program}
+use Rattle.node_lang.specs.Reading.{Fault, program}
 use Rattle.node_lang.specs.Parsing.{Gives, lexemes_left}
 use Rattle.node_lang.specs.Faults.{FaultsAt, IsFirstHighByte, too_long, not_ascii, in_lexemes}
 use Rattle.node_lang.specs.Laws.{OneReading, OneTextFault, ReadableTextsAreRead, ReadableTextsHaveNoFault, ReadTextsAreReadable}

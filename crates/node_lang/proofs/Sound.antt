@@ -10,10 +10,10 @@ use Rattle.node_lang.specs.declared.limits.TheConstants.{MAX_CHANNELS, MAX_DEPTH
 use Rattle.node_lang.specs.declared.fault.FaultKind.TheVariants as kind
 use Rattle.node_lang.specs.declared.token.Token.{Token}
 use Rattle.node_lang.specs.declared.token.Token.TheVariants as token
-use Rattle.node_lang.specs.Term.{Term, Literal, Identifier, LeftMessage, RightMessage, RegisterValue, Unary, Binary, Conditional, Step, ProgramTree, depth, size, terms, terms_of_step, step_terms}
-use Rattle.node_lang.specs.Limits.{IsSmall, IsWithinLimits}
+use Rattle.node_lang.specs.Term.{Term, Literal, Identifier, LeftMessage, RightMessage, RegisterValue, Step, ProgramTree, depth, size, terms, terms_of_step, step_terms}
+use Rattle.node_lang.specs.Limits.{IsWithinLimits}
 use Rattle.node_lang.specs.Lexemes.{Lexeme, tokens_in}
-use Rattle.node_lang.specs.Grammar.{spelled, assigned, block, blocks, spelling}
+use Rattle.node_lang.specs.Grammar.{spelled, assigned, blocks, spelling}
 use Rattle.node_lang.specs.Reading.{Read, Got, Fault, go_on, done, refuse, lawful, next, same_token, exactly, node, one_of, two_of, three_of, after, begun, level, operand, expression, each, assign, assigns, round, rounds, in_range, number, Counts, header, end, program}
 use Rattle.node_lang.proofs.Parsing.{same_token_is}
 use Rattle.node_lang.proofs.Sizes.{size-step, size-terms}
