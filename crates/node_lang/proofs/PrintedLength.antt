@@ -17,9 +17,8 @@ use Rattle.node_lang.specs.Limits.{IsSmall, IsWithinLimits}
 use Rattle.node_lang.specs.Words.{unary_name, binary_name}
 use Rattle.node_lang.specs.Grammar.{Reads}
 use Rattle.node_lang.specs.Printed.{printed_expression, assignment_line, assignment_lines, send_line, round_lines, header_lines, finish_line, printed}
-use Rattle.node_lang.proofs.Blocks.{size-step}
+use Rattle.node_lang.proofs.Sizes.{size-step, size-terms}
 use Rattle.node_lang.proofs.ReadBack.{HasFew, all_left, all_right, few_each, small_start, small_steps, small_finish, printed_tokens}
-use Rattle.node_lang.proofs.Wholes.{size-terms}
 
 -- ASCII bytes, at most this many
 pub record IsShort (bytes : List ℕ) (most : ℕ) : Type 0 where

@@ -13,7 +13,7 @@ use Rattle.node_lang.specs.declared.token.Token.{Token}
 use Rattle.node_lang.specs.declared.token.Token.TheVariants as token
 use Rattle.node_lang.specs.Term.{Term, Literal, Identifier, LeftMessage, RightMessage, RegisterValue, Unary, Binary, Conditional, Step, ProgramTree, largest, largest_register, step_terms, terms_of_step}
 use Rattle.node_lang.specs.Limits.{IsSmall, IsWithinLimits}
-use Rattle.node_lang.specs.Words.{is_blank, is_word_byte, unary_name, binary_name, word_token}
+use Rattle.node_lang.specs.Words.{is_blank, is_word_byte, unary_name, binary_name, word_of, word_token}
 use Rattle.node_lang.specs.Lexemes.{lexemes_of, tokens_of}
 use Rattle.node_lang.specs.Grammar.{spelled, assigned, block, blocks, spelling}
 use Rattle.node_lang.specs.Printed.{printed_expression, assignment_line, assignment_lines, send_line, round_lines, header_lines, finish_line, printed}
@@ -21,58 +21,6 @@ use Rattle.node_lang.proofs.Lexing.{EndsWord, IsWord, blank_first, mark_first, w
 
 known : (word : List ℕ) (t : Token) → list_all is_word_byte word ≡ true → nat_lt 0 (length word) ≡ true → word_token word ≡ t → IsWord word t
 known word t letters some is = record { letters = letters; some = ltb-true 0 (length word) some; token = is }
-
-rounds_word : IsWord (codes "rounds") token.Rounds
-unfolding word_token
-rounds_word = known (codes "rounds") token.Rounds refl refl refl
-
-channels_word : IsWord (codes "channels") token.Channels
-unfolding word_token
-channels_word = known (codes "channels") token.Channels refl refl refl
-
-registers_word : IsWord (codes "registers") token.Registers
-unfolding word_token
-registers_word = known (codes "registers") token.Registers refl refl refl
-
-start_word : IsWord (codes "start") token.Start
-unfolding word_token
-start_word = known (codes "start") token.Start refl refl refl
-
-round_word : IsWord (codes "round") token.Round
-unfolding word_token
-round_word = known (codes "round") token.Round refl refl refl
-
-send_word : IsWord (codes "send") token.Send
-unfolding word_token
-send_word = known (codes "send") token.Send refl refl refl
-
-left_word : IsWord (codes "left") token.Left
-unfolding word_token
-left_word = known (codes "left") token.Left refl refl refl
-
-right_word : IsWord (codes "right") token.Right
-unfolding word_token
-right_word = known (codes "right") token.Right refl refl refl
-
-finish_word : IsWord (codes "finish") token.Finish
-unfolding word_token
-finish_word = known (codes "finish") token.Finish refl refl refl
-
-id_word : IsWord (codes "id") token.Id
-unfolding word_token
-id_word = known (codes "id") token.Id refl refl refl
-
-from_left_word : IsWord (codes "L") token.FromLeft
-unfolding word_token
-from_left_word = known (codes "L") token.FromLeft refl refl refl
-
-from_right_word : IsWord (codes "R") token.FromRight
-unfolding word_token
-from_right_word = known (codes "R") token.FromRight refl refl refl
-
-if_word : IsWord (codes "if") token.If
-unfolding word_token
-if_word = known (codes "if") token.If refl refl refl
 
 unary_word : (o : UnOp) → IsWord (unary_name o) (token.Unary o)
 unfolding word_token
@@ -95,6 +43,25 @@ binary_word op.Eq = known (codes "eq") (token.Binary op.Eq) refl refl refl
 binary_word op.Ne = known (codes "ne") (token.Binary op.Ne) refl refl refl
 binary_word op.Lt = known (codes "lt") (token.Binary op.Lt) refl refl refl
 binary_word op.Le = known (codes "le") (token.Binary op.Le) refl refl refl
+
+keyword : (t : Token) → nat_lt 0 (length (word_of t)) ≡ true → IsWord (word_of t) t
+unfolding word_token
+keyword token.Rounds h = known (codes "rounds") token.Rounds refl h refl
+keyword token.Channels h = known (codes "channels") token.Channels refl h refl
+keyword token.Registers h = known (codes "registers") token.Registers refl h refl
+keyword token.Start h = known (codes "start") token.Start refl h refl
+keyword token.Round h = known (codes "round") token.Round refl h refl
+keyword token.Send h = known (codes "send") token.Send refl h refl
+keyword token.Left h = known (codes "left") token.Left refl h refl
+keyword token.Right h = known (codes "right") token.Right refl h refl
+keyword token.Finish h = known (codes "finish") token.Finish refl h refl
+keyword token.Id h = known (codes "id") token.Id refl h refl
+keyword token.FromLeft h = known (codes "L") token.FromLeft refl h refl
+keyword token.FromRight h = known (codes "R") token.FromRight refl h refl
+keyword token.If h = known (codes "if") token.If refl h refl
+keyword (token.Unary o) h = unary_word o
+keyword (token.Binary o) h = binary_word o
+keyword t h = cc
 
 opened : (name rest : List ℕ) (t : Token) → IsWord name t → tokens_of (name ++ (40 ∷ rest)) ≡ t ∷ token.Open ∷ tokens_of rest
 opened name rest t is = word_first name (40 ∷ rest) t is refl ∙ ap (λ ts. t ∷ ts) (mark_first 40 rest refl refl refl)
@@ -128,9 +95,9 @@ three_operands name c a b rest =
 pub expression_first : (e : Term) (rest : List ℕ) → largest e < 2 ^ 32 → largest_register e < 10 → EndsWord rest →
     tokens_of (printed_expression e ++ rest) ≡ spelled e (tokens_of rest)
 expression_first (Literal n) rest number register ends = word_first (decimal n) rest (token.Number n) (number_is_word n number) ends
-expression_first Identifier rest number register ends = word_first (codes "id") rest token.Id id_word ends
-expression_first LeftMessage rest number register ends = word_first (codes "L") rest token.FromLeft from_left_word ends
-expression_first RightMessage rest number register ends = word_first (codes "R") rest token.FromRight from_right_word ends
+expression_first Identifier rest number register ends = word_first (codes "id") rest token.Id (keyword token.Id refl) ends
+expression_first LeftMessage rest number register ends = word_first (codes "L") rest token.FromLeft (keyword token.FromLeft refl) ends
+expression_first RightMessage rest number register ends = word_first (codes "R") rest token.FromRight (keyword token.FromRight refl) ends
 expression_first (RegisterValue j) rest number register ends = word_first (114 ∷ decimal j) rest (token.Register j) (register_is_word j register) ends
 expression_first (Unary o a) rest number register ends =
     let first = expression_first a (41 ∷ rest) number register refl in
@@ -152,7 +119,7 @@ expression_first (Conditional c a b) rest number register ends =
     let second = expression_first a (44 ∷ 32 ∷ after_second) (omega (arith, number)) (omega (arith, register)) refl in
     let third = expression_first b (41 ∷ rest) (omega (arith, number)) (omega (arith, register)) refl in
     ap tokens_of (three_operands (codes "if") (printed_expression c) (printed_expression a) (printed_expression b) rest)
-    ∙ opened (codes "if") (printed_expression c ++ (44 ∷ 32 ∷ after_first)) token.If if_word
+    ∙ opened (codes "if") (printed_expression c ++ (44 ∷ 32 ∷ after_first)) token.If (keyword token.If refl)
     ∙ ap (λ ts. token.If ∷ token.Open ∷ ts) (first ∙ ap (spelled c) (parted after_first
     ∙ ap (λ ts. token.Comma ∷ ts) (second ∙ ap (spelled a) (parted after_second
     ∙ ap (λ ts. token.Comma ∷ ts) (third ∙ ap (spelled b) (closed rest))))))
@@ -192,7 +159,7 @@ send_first : (side : List ℕ) (t : Token) (e : Term) (rest : List ℕ) → IsWo
 send_first side t e rest is small =
     let after = (printed_expression e ++ (10 ∷ [])) ++ rest in
     ap (λ x. tokens_of (codes "send " ++ x)) (append_assoc side (32 ∷ (printed_expression e ++ (10 ∷ []))) rest)
-    ∙ word_blank (codes "send") (side ++ (32 ∷ after)) 32 token.Send send_word refl refl
+    ∙ word_blank (codes "send") (side ++ (32 ∷ after)) 32 token.Send (keyword token.Send refl) refl refl
     ∙ ap (λ ts. token.Send ∷ ts) (word_blank side after 32 t is refl refl ∙ ap (λ ts. t ∷ ts) (line_end e rest small))
 
 round_first : (s : Step) (rest : List ℕ) → length s.next ≤ 10 → All IsSmall (terms_of_step s) →
@@ -203,9 +170,9 @@ round_first s rest few small =
     let left = send_line (codes "left") s.left in
     let right = send_line (codes "right") s.right in
     ap (λ x. tokens_of (codes "round\n" ++ x)) (append_assoc left (right ++ next) rest ∙ ap (λ x. left ++ x) (append_assoc right next rest))
-    ∙ word_blank (codes "round") (left ++ (right ++ (next ++ rest))) 10 token.Round round_word refl refl
-    ∙ ap (λ ts. token.Round ∷ ts) (send_first (codes "left") token.Left s.left (right ++ (next ++ rest)) left_word (All-head IsSmall s.left (s.right ∷ s.next) small)
-    ∙ ap (λ ts. token.Send ∷ token.Left ∷ spelled s.left ts) (send_first (codes "right") token.Right s.right (next ++ rest) right_word (All-head IsSmall s.right s.next small_rest)
+    ∙ word_blank (codes "round") (left ++ (right ++ (next ++ rest))) 10 token.Round (keyword token.Round refl) refl refl
+    ∙ ap (λ ts. token.Round ∷ ts) (send_first (codes "left") token.Left s.left (right ++ (next ++ rest)) (keyword token.Left refl) (All-head IsSmall s.left (s.right ∷ s.next) small)
+    ∙ ap (λ ts. token.Send ∷ token.Left ∷ spelled s.left ts) (send_first (codes "right") token.Right s.right (next ++ rest) (keyword token.Right refl) (All-head IsSmall s.right s.next small_rest)
     ∙ ap (λ ts. token.Send ∷ token.Right ∷ spelled s.right ts) (assignments_first s.next 0 rest (omega (arith, few)) (All-tail IsSmall s.right s.next small_rest))))
 
 pub all_left : (xs ys : List Term) → All IsSmall (xs ++ ys) → All IsSmall xs
@@ -235,7 +202,7 @@ nothing_left = refl
 
 finish_first : (e : Term) → IsSmall e → tokens_of (finish_line e) ≡ token.Finish ∷ spelled e []
 finish_first e small =
-    word_blank (codes "finish") (printed_expression e ++ (10 ∷ [])) 32 token.Finish finish_word refl refl
+    word_blank (codes "finish") (printed_expression e ++ (10 ∷ [])) 32 token.Finish (keyword token.Finish refl) refl refl
     ∙ ap (λ ts. token.Finish ∷ ts) (expression_first e (10 ∷ []) small.numbers small.registers refl
     ∙ ap (spelled e) (blank_first 10 [] refl ∙ nothing_left))
 
@@ -252,13 +219,13 @@ header_first p rest limits =
     let registers = decimal (length p.start) ++ codes "\nstart\n" in
     let channels = decimal p.channels ++ (codes "\nregisters " ++ registers) in
     let rounds = decimal (length p.steps) ++ (codes "\nchannels " ++ channels) in
-    word_blank (codes "rounds") (rounds ++ rest) 32 token.Rounds rounds_word refl refl
+    word_blank (codes "rounds") (rounds ++ rest) 32 token.Rounds (keyword token.Rounds refl) refl refl
     ∙ ap (λ ts. token.Rounds ∷ ts) (count_line (length p.steps) (codes "channels " ++ channels) rest (omega (arith, limits.rounds))
-    ∙ ap (λ ts. token.Number (length p.steps) ∷ ts) (word_blank (codes "channels") (channels ++ rest) 32 token.Channels channels_word refl refl
+    ∙ ap (λ ts. token.Number (length p.steps) ∷ ts) (word_blank (codes "channels") (channels ++ rest) 32 token.Channels (keyword token.Channels refl) refl refl
     ∙ ap (λ ts. token.Channels ∷ ts) (count_line p.channels (codes "registers " ++ registers) rest (omega (arith, limits.few_channels))
-    ∙ ap (λ ts. token.Number p.channels ∷ ts) (word_blank (codes "registers") (registers ++ rest) 32 token.Registers registers_word refl refl
+    ∙ ap (λ ts. token.Number p.channels ∷ ts) (word_blank (codes "registers") (registers ++ rest) 32 token.Registers (keyword token.Registers refl) refl refl
     ∙ ap (λ ts. token.Registers ∷ ts) (count_line (length p.start) (codes "start\n") rest (omega (arith, limits.few_registers))
-    ∙ ap (λ ts. token.Number (length p.start) ∷ ts) (word_blank (codes "start") rest 10 token.Start start_word refl refl))))))
+    ∙ ap (λ ts. token.Number (length p.start) ∷ ts) (word_blank (codes "start") rest 10 token.Start (keyword token.Start refl) refl refl))))))
 
 -- the expressions of a program
 pub small_start : (p : ProgramTree) → IsWithinLimits p → All IsSmall p.start

@@ -1,16 +1,28 @@
 -- The statements of the laws of this crate, one definition each.
-use Rattle.std.specs.Prelude.{◌≡◌, ℕ, ◌<◌, List, length}
+use Rattle.std.specs.Prelude.{◌≡◌, ℕ, ◌<◌, ◌≤◌, List, [], length, All, sum_by}
 use Rattle.node_lang.specs.declared.limits.TheConstants.{LONGEST_TEXT}
 use Rattle.node_lang.specs.declared.fault.FaultKind.{FaultKind}
-use Rattle.node_lang.specs.Term.{ProgramTree}
+use Rattle.node_lang.specs.Term.{ProgramTree, size, terms}
 use Rattle.node_lang.specs.Limits.{IsWithinLimits}
+use Rattle.node_lang.specs.Lexemes.{Lexeme, lexemes_of}
 use Rattle.node_lang.specs.Grammar.{Reads}
+use Rattle.node_lang.specs.Reading.{Got, Fault, program}
 use Rattle.node_lang.specs.Printed.{printed}
 use Rattle.node_lang.specs.Faults.{FaultsAt}
+use Rattle.node_lang.specs.Viable.{FirstFault}
 
 -- a text reads as at most one program
 abbrev pub OneReading : Type 0
 OneReading = (text : List ℕ) (p q : ProgramTree) → Reads text p → Reads text q → p ≡ q
+
+-- reading a text from the left answers the program that it reads as, with the number of its nodes and nothing left
+abbrev pub ReadableTextsAreRead : Type 0
+ReadableTextsAreRead = (text : List ℕ) (p : ProgramTree) → Reads text p → program 0 (lexemes_of text) ≡ Got p (sum_by size (terms p)) []
+
+-- and a short ASCII text reads as the program that is answered
+abbrev pub ReadTextsAreReadable : Type 0
+ReadTextsAreReadable = (text : List ℕ) (p : ProgramTree) (nodes : ℕ) (left : List Lexeme) → length text ≤ LONGEST_TEXT → All (λ b. b < 128) text →
+    program 0 (lexemes_of text) ≡ Got p nodes left → Reads text p
 
 -- the printed form of a program reads as that program
 abbrev pub PrintedIsRead : Type 0
@@ -28,3 +40,13 @@ OneTextFault =
 -- a text that reads as a program has none
 abbrev pub ReadableTextsHaveNoFault : Type 0
 ReadableTextsHaveNoFault = (text : List ℕ) (p : ProgramTree) (k : FaultKind) (offset : ℕ) → Reads text p → FaultsAt text k offset → ⊥
+
+-- where reading stops is the first fault of the lexemes
+abbrev pub ReadingStopsAtFirstFault : Type 0
+ReadingStopsAtFirstFault =
+    (lexemes : List Lexeme) (k : FaultKind) (from : ℕ) → program 0 lexemes ≡ Fault k from → FirstFault [] lexemes k from
+
+-- and their first fault is where reading stops
+abbrev pub FirstFaultStopsReading : Type 0
+FirstFaultStopsReading =
+    (lexemes : List Lexeme) (k : FaultKind) (from : ℕ) → FirstFault [] lexemes k from → program 0 lexemes ≡ Fault k from

@@ -13,8 +13,8 @@ pub mod Lexemes
 pub mod Grammar
 pub mod Printed
 pub mod Reading
-pub mod Faults
 pub mod Viable
+pub mod Faults
 pub mod Code
 pub mod Parsing
 pub mod Laws

@@ -1,83 +1,51 @@
--- How a text is read from the left: what is wanted next, how many expression nodes there are so far, and the lexemes that are left.
-use Rattle.std.specs.Prelude.{ℕ, zero, suc, ◌+◌, ◌==◌, ◌&&◌, Bool, true, false, nat_lt, nat_le, List, [], ◌∷◌, Option, Some, None, if◌then◌else◌}
+-- How a text is read from the left: each reading answers a tree, or the fault at which it stops.
+use Rattle.std.specs.Prelude.{◌&&◌, ◌++◌, ℕ, zero, suc, ◌+◌, ◌==◌, Bool, true, false, nat_le, List, [], ◌∷◌, Option, Some, None, if◌then◌else◌}
 use Rattle.node_lang.specs.declared.limits.TheConstants.{MAX_CHANNELS, MAX_DEPTH, MAX_NODES, MAX_REGISTERS, MAX_ROUNDS}
 use Rattle.node_lang.specs.declared.fault.FaultKind.{FaultKind}
 use Rattle.node_lang.specs.declared.fault.FaultKind.TheVariants as kind
 use Rattle.node_lang.specs.declared.token.Token.{Token}
 use Rattle.node_lang.specs.declared.token.Token.TheVariants as token
+use Rattle.node_lang.specs.Term.{Term, Literal, Identifier, LeftMessage, RightMessage, RegisterValue, Unary, Binary, Conditional, Step, ProgramTree}
 use Rattle.node_lang.specs.Lexemes.{Lexeme}
 
--- what may be wanted: this token, an expression whose root has this depth, or a number of the header
-pub data Want : Type 0 where
-  Exactly : Token → Want
-  Expression : ℕ → Want
-  RoundCount : Want
-  -- after this many rounds
-  ChannelCount : ℕ → Want
-  RegisterCount : ℕ → Want
+-- What was read, the expression nodes so far and the lexemes that are left; or a fault, with the number of bytes from it to the text's end.
+pub data Read (A : Type 0) : Type 0 where
+  Got : A → ℕ → List Lexeme → Read A
+  Fault : FaultKind → ℕ → Read A
 
--- assignments to `count` registers from j on, then what is wanted after them
-abbrev pub assigns_wanted : ℕ → ℕ → List Want → List Want
-assigns_wanted j zero more = more
-assigns_wanted j (suc count) more =
-    Exactly (token.Register j) ∷ Exactly token.Equals ∷ Expression 1 ∷ assigns_wanted (j + 1) count more
+-- reading goes on with what was read
+abbrev pub go_on : {A B : Type 0} → Read A → (A → ℕ → List Lexeme → Read B) → Read B
+go_on (Got a nodes left) next = next a nodes left
+go_on (Fault k from) next = Fault k from
 
-abbrev pub block_wanted : ℕ → List Want → List Want
-block_wanted registers more = Exactly token.Round ∷ Exactly token.Send ∷ Exactly token.Left ∷ Expression 1
-    ∷ Exactly token.Send ∷ Exactly token.Right ∷ Expression 1 ∷ assigns_wanted 0 registers more
+-- a way of reading, by the nodes so far and the lexemes that are left
+abbrev pub Reader : Type 0 → Type 0
+Reader A = ℕ → List Lexeme → Read A
 
-abbrev pub blocks_wanted : ℕ → ℕ → List Want → List Want
-blocks_wanted zero registers more = more
-blocks_wanted (suc count) registers more = block_wanted registers (blocks_wanted count registers more)
+infixl 10 ◌>>=◌
+abbrev pub ◌>>=◌ : {A B : Type 0} → (ℕ → List Lexeme → Read A) → (A → ℕ → List Lexeme → Read B) → ℕ → List Lexeme → Read B
+(first >>= next) nodes left = go_on (first nodes left) next
 
--- what follows the header
-abbrev pub body_wanted : ℕ → ℕ → List Want → List Want
-body_wanted rounds registers more =
-    assigns_wanted 0 registers (blocks_wanted rounds registers (Exactly token.Finish ∷ Expression 1 ∷ more))
+infixl 10 ◌>>◌
+abbrev pub ◌>>◌ : {A B : Type 0} → (ℕ → List Lexeme → Read A) → (ℕ → List Lexeme → Read B) → ℕ → List Lexeme → Read B
+(first >> second) nodes left = go_on (first nodes left) (λ _. second)
 
--- a whole program
-abbrev pub program_wanted : List Want
-program_wanted = Exactly token.Rounds ∷ RoundCount ∷ []
+abbrev pub done : {A : Type 0} → A → ℕ → List Lexeme → Read A
+done a nodes left = Got a nodes left
 
--- What a token does where something is wanted: reading goes on with what is wanted then and the nodes so far, or it stops.
-pub data Met : Type 0 where
-  Go : List Want → ℕ → Met
-  Stop : FaultKind → Met
+abbrev pub refuse : {A : Type 0} → FaultKind → Lexeme → ℕ → List Lexeme → Read A
+refuse k l nodes left = Fault k l.from
 
--- a node of an expression, at this depth and after this many nodes
-abbrev pub node : ℕ → ℕ → List Want → Met
-node depth nodes more = if nat_lt MAX_DEPTH depth then Stop kind.TooDeep
-    else if nat_le MAX_NODES nodes then Stop kind.TooManyNodes else Go more (nodes + 1)
+-- a token, where it is one of the language
+abbrev pub lawful : Token → Lexeme → Reader Lexeme
+lawful token.LargeNumber l = refuse kind.NumberTooLarge l
+lawful token.Unknown l = refuse kind.BadWord l
+lawful _ l = done l
 
--- a number of the header, from low to high
-abbrev pub counted : ℕ → ℕ → ℕ → List Want → ℕ → Met
-counted low high n more nodes = if nat_le low n && nat_le n high then Go more nodes else Stop kind.HeaderRange
-
--- the fault of a token that cannot stand where it stands
-abbrev pub fault_of : Token → FaultKind
-fault_of token.LargeNumber = kind.NumberTooLarge
-fault_of token.Unknown = kind.BadWord
-fault_of _ = kind.Unexpected
-
--- what is wanted once this token has begun an expression at this depth, or none where it begins no expression
-abbrev pub opens : ℕ → List Want → Token → Option (List Want)
-opens depth more (token.Number n) = Some more
-opens depth more token.Id = Some more
-opens depth more token.FromLeft = Some more
-opens depth more token.FromRight = Some more
-opens depth more (token.Register j) = Some more
-opens depth more (token.Unary o) =
-    Some (Exactly token.Open ∷ Expression (depth + 1) ∷ Exactly token.Close ∷ more)
-opens depth more (token.Binary o) =
-    Some (Exactly token.Open ∷ Expression (depth + 1) ∷ Exactly token.Comma ∷ Expression (depth + 1) ∷ Exactly token.Close ∷ more)
-opens depth more token.If =
-    Some (Exactly token.Open ∷ Expression (depth + 1) ∷ Exactly token.Comma ∷ Expression (depth + 1)
-    ∷ Exactly token.Comma ∷ Expression (depth + 1) ∷ Exactly token.Close ∷ more)
-opens depth more _ = None
-
-abbrev pub begun : ℕ → ℕ → Option (List Want) → FaultKind → Met
-begun depth nodes None k = Stop k
-begun depth nodes (Some more) k = node depth nodes more
+-- the next token
+abbrev pub next : Reader Lexeme
+next nodes [] = Fault kind.EndOfText 0
+next nodes (l ∷ ls) = lawful l.token l nodes ls
 
 -- whether two tokens are the same; names of operations, which are never wanted, are not compared
 abbrev pub same_token : Token → Token → Bool
@@ -97,33 +65,151 @@ same_token token.Comma token.Comma = true
 same_token token.Equals token.Equals = true
 same_token _ _ = false
 
--- what is wanted after this number of the header
-abbrev pub after_count : Want → ℕ → List Want → List Want
-after_count RoundCount n more = Exactly token.Channels ∷ ChannelCount n ∷ more
-after_count (ChannelCount rounds) n more = Exactly token.Registers ∷ RegisterCount rounds ∷ more
-after_count (RegisterCount rounds) n more = Exactly token.Start ∷ body_wanted rounds n more
-after_count _ n more = more
+-- this token
+abbrev pub exactly : Token → Reader (Unit {0})
+exactly t = do
+  l ← next
+  if same_token l.token t then done tt else refuse kind.Unexpected l
 
--- what a token does where this is wanted, with more after it
-abbrev pub meets : Want → List Want → ℕ → Token → Met
-meets (Exactly t) more nodes met = if same_token met t then Go more nodes else Stop (fault_of met)
-meets RoundCount more nodes (token.Number n) = counted 0 MAX_ROUNDS n (after_count RoundCount n more) nodes
-meets (ChannelCount rounds) more nodes (token.Number n) = counted 1 MAX_CHANNELS n (after_count (ChannelCount rounds) n more) nodes
-meets (RegisterCount rounds) more nodes (token.Number n) = counted 1 MAX_REGISTERS n (after_count (RegisterCount rounds) n more) nodes
-meets (Expression depth) more nodes met = begun depth nodes (opens depth more met) (fault_of met)
-meets _ more nodes met = Stop (fault_of met)
+-- an expression node with this many levels left
+abbrev pub node : ℕ → ℕ → Reader (Unit {0})
+node levels from nodes left = if levels == 0 then Fault kind.TooDeep from
+    else if nat_le MAX_NODES nodes then Fault kind.TooManyNodes from else Got tt (nodes + 1) left
 
--- How reading ends: with the whole text read, or at a fault, with the number of bytes from it to the text's end.
-pub data Outcome : Type 0 where
-  Whole : Outcome
-  Fault : FaultKind → ℕ → Outcome
+-- operands in parentheses, each read so
+unfoldable pub one_of : Reader Term → Reader Term
+one_of operand = do
+  exactly token.Open
+  a ← operand
+  exactly token.Close
+  done a
 
-abbrev pub go_on : Met → (List Want → ℕ → Outcome) → ℕ → Outcome
-go_on (Go more nodes) after from = after more nodes
-go_on (Stop k) after from = Fault k from
+unfoldable pub two_of : Reader Term → Reader (Term × Term)
+two_of operand = do
+  exactly token.Open
+  a ← operand
+  exactly token.Comma
+  b ← operand
+  exactly token.Close
+  done (a, b)
 
-abbrev pub reading : List Want → ℕ → List Lexeme → Outcome
-reading [] nodes [] = Whole
-reading [] nodes (l ∷ ls) = Fault (fault_of l.token) l.from
-reading (w ∷ more) nodes [] = Fault kind.EndOfText 0
-reading (w ∷ more) nodes (l ∷ ls) = go_on (meets w more nodes l.token) (λ wanted count. reading wanted count ls) l.from
+unfoldable pub three_of : Reader Term → Reader (Term × Term × Term)
+three_of operand = do
+  exactly token.Open
+  c ← operand
+  exactly token.Comma
+  a ← operand
+  exactly token.Comma
+  b ← operand
+  exactly token.Close
+  done (c, a, b)
+
+-- what follows this token in an expression, or none where it begins none
+abbrev pub after : Reader Term → Token → Option (Reader Term)
+after operand (token.Number n) = Some (done (Literal n))
+after operand token.Id = Some (done Identifier)
+after operand token.FromLeft = Some (done LeftMessage)
+after operand token.FromRight = Some (done RightMessage)
+after operand (token.Register j) = Some (done (RegisterValue j))
+after operand (token.Unary o) = Some (one_of operand >>= λ a. done (Unary o a))
+after operand (token.Binary o) = Some (two_of operand >>= λ p. done (Binary o p.0 p.1))
+after operand token.If = Some (three_of operand >>= λ p. done (Conditional p.0 p.1 p.2))
+after operand _ = None
+
+-- the token is judged first, then the depth, then the number of nodes
+abbrev pub begun : ℕ → Lexeme → Option (Reader Term) → Reader Term
+begun levels l None = refuse kind.Unexpected l
+begun levels l (Some more) = node levels l.from >> more
+
+-- an expression with this many levels left, whose operands are read so
+abbrev pub level : ℕ → Reader Term → Reader Term
+level levels operand = do
+  l ← next
+  begun levels l (after operand l.token)
+
+-- an operand of an expression with this many levels left
+abbrev pub operand : ℕ → Reader Term
+operand zero nodes left = Fault kind.TooDeep 0
+operand (suc n) nodes left = level n (operand n) nodes left
+
+-- an expression of at most this many levels
+unfoldable pub expression : ℕ → Reader Term
+expression levels = level levels (operand levels)
+
+-- a number of the header, from low to high
+abbrev pub in_range : ℕ → ℕ → Lexeme → Token → Reader ℕ
+in_range low high l (token.Number n) = if nat_le low n && nat_le n high then done n else refuse kind.HeaderRange l
+in_range low high l _ = refuse kind.Unexpected l
+
+abbrev pub number : ℕ → ℕ → Reader ℕ
+number low high = do
+  l ← next
+  in_range low high l l.token
+
+-- the numbers of the header
+pub record Counts : Type 0 where
+  pub rounds : ℕ
+  pub channels : ℕ
+  pub registers : ℕ
+
+unfoldable pub header : Reader Counts
+header = do
+  exactly token.Rounds
+  rounds ← number 0 MAX_ROUNDS
+  exactly token.Channels
+  channels ← number 1 MAX_CHANNELS
+  exactly token.Registers
+  registers ← number 1 MAX_REGISTERS
+  exactly token.Start
+  done (record { rounds = rounds; channels = channels; registers = registers })
+
+-- the fault of a token that cannot stand where it stands
+abbrev pub fault_of : Token → FaultKind
+fault_of token.LargeNumber = kind.NumberTooLarge
+fault_of token.Unknown = kind.BadWord
+fault_of _ = kind.Unexpected
+
+-- the end of the text
+abbrev pub end : Reader (Unit {0})
+end nodes [] = Got tt nodes []
+end nodes (l ∷ ls) = Fault (fault_of l.token) l.from
+
+-- so many parts from the j-th on, after those that were read
+abbrev pub each : {A : Type 0} → (ℕ → ℕ → List Lexeme → Read A) → ℕ → ℕ → List A → ℕ → List Lexeme → Read (List A)
+each part zero j parts nodes left = Got parts nodes left
+each part (suc count) j parts nodes left = go_on (part j nodes left) (λ a n l. each part count (j + 1) (parts ++ (a ∷ [])) n l)
+
+-- the assignment to register j
+unfoldable pub assign : ℕ → Reader Term
+assign j = do
+  exactly (token.Register j)
+  exactly token.Equals
+  expression MAX_DEPTH
+
+unfoldable pub assigns : ℕ → Reader (List Term)
+assigns registers = each assign registers 0 []
+
+unfoldable pub round : ℕ → Reader Step
+round registers = do
+  exactly token.Round
+  exactly token.Send
+  exactly token.Left
+  left ← expression MAX_DEPTH
+  exactly token.Send
+  exactly token.Right
+  right ← expression MAX_DEPTH
+  next ← assigns registers
+  done (record { left = left; right = right; next = next })
+
+unfoldable pub rounds : ℕ → ℕ → Reader (List Step)
+rounds count registers = each (λ _. round registers) count 0 []
+
+unfoldable pub program : Reader ProgramTree
+program = do
+  counts ← header
+  start ← assigns counts.registers
+  steps ← rounds counts.rounds counts.registers
+  exactly token.Finish
+  finish ← expression MAX_DEPTH
+  end
+  done (record { channels = counts.channels; start = start; steps = steps; finish = finish })

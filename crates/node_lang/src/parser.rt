@@ -1,14 +1,5 @@
-ghost use Rattle.std.specs.Prelude.{◌≡◌, ◌≢◌, ℕ, ◌+◌, ◌-◌, ◌^◌, ◌<◌, ◌≤◌, [], ◌∷◌, List, Ok, Err, length, map, max, sum_by, All, true, IfOk, IfErr};
-ghost use Rattle.node_lang.specs.declared.fault.FaultKind.TheVariants as kind;
-ghost use Rattle.node_lang.specs.declared.token.Token.TheVariants as token;
+ghost use Rattle.std.specs.Prelude.{◌≤◌, length};
 ghost use Rattle.node_lang.specs.declared.limits.TheConstants.{MAX_NODES};
-ghost use Rattle.node_lang.specs.Term.{depth, largest, largest_register, size, step_of, step_terms, term_of};
-ghost use Rattle.node_lang.specs.Limits.{IsSmall, IsWithinLimits};
-ghost use Rattle.node_lang.specs.Words.{register_of};
-ghost use Rattle.node_lang.specs.Lexemes.{tokens_in};
-ghost use Rattle.node_lang.specs.Grammar.{assigned, block, blocks, spelled, spelling};
-ghost use Rattle.node_lang.specs.Reading.{Want, Exactly, Expression, RoundCount, Go, Stop, Whole, Fault, program_wanted, after_count, assigns_wanted, block_wanted, blocks_wanted, body_wanted, reading, node, fault_of, same_token};
-ghost use Rattle.node_lang.specs.Parsing.{IsCount, lexemes_left, Passes, Stops, IsPlaced};
 
 use crate::fault::{FaultKind, TextFault};
 use crate::lexer::token_from;
@@ -38,19 +29,15 @@ pub(crate) struct Parser<'a> {
 }
 
 impl<'a> Parser<'a> {
+    ghost use Rattle.std.specs.Prelude.{◌≡◌, ◌-◌, ◌<◌, map, true, IfOk};
+    ghost use Rattle.node_lang.specs.Term.{step_of, term_of};
+    ghost use Rattle.node_lang.specs.Reading.{Counts, assign, assigns, end, exactly, expression, header, next, node, number, one_of, operand, program, round, rounds, same_token, three_of, two_of};
+    ghost use Rattle.node_lang.specs.Parsing.{Gives};
+
     // The next token and its place.
-    #[tactic(auto, using(crate::proofs::Registers::one_digit))]
     fn next(&mut self) -> Result<(Token, usize), TextFault>
-        ensures text { self.new.text.now ≡ self.old.text.now }
-        ensures nodes { self.new.nodes ≡ self.old.nodes }
-        ensures ok { IfOk result (λ t. lexemes_left self.old.text.now self.old.at
-            ≡ record { from = length self.old.text.now - t.1; token = t.0 } ∷ lexemes_left self.new.text.now self.new.at) }
-        ensures lawful { IfOk result (λ t. fault_of t.0 ≡ kind.Unexpected) }
-        ensures register { IfOk result (λ t. register_of t.0 < 10) }
+        ensures reads { Gives (λ t. record { from = length self.old.text.now - t.1; token = t.0 }) self.old self.new result next }
         ensures place { IfOk result (λ t. t.1 ≤ length self.old.text.now) }
-        ensures err { IfErr result (λ f. (w : Want) (more : List Want) (nodes : ℕ) →
-            reading (w ∷ more) nodes (lexemes_left self.old.text.now self.old.at) ≡ Fault f.kind (length self.old.text.now - f.offset)) }
-        ensures fault_place { IfErr result (IsPlaced (length self.old.text.now)) }
     {
         let Some(placed) = token_from(self.text, self.at) else {
             return Err(TextFault {
@@ -76,18 +63,10 @@ impl<'a> Parser<'a> {
     }
 
     // Takes this token.
-    #[tactic(auto, using(crate::proofs::Tokens::found_token, crate::proofs::Tokens::other_token, crate::proofs::Tokens::same_token_is))]
+    #[tactic(auto, using(crate::proofs::Parsing::same_token_is))]
     fn expect(&mut self, token: Token) -> Result<(), TextFault>
         requires { same_token token token ≡ true }
-        ensures text { self.new.text.now ≡ self.old.text.now }
-        ensures nodes { self.new.nodes ≡ self.old.nodes }
-        ensures ok { IfOk result (λ _. (nodes : ℕ) → Passes (λ more. Exactly token ∷ more)
-            nodes (lexemes_left self.old.text.now self.old.at) nodes (lexemes_left self.new.text.now self.new.at)) }
-        ensures tokens { IfOk result (λ _. tokens_in (lexemes_left self.old.text.now self.old.at)
-            ≡ token ∷ tokens_in (lexemes_left self.new.text.now self.new.at)) }
-        ensures err { IfErr result (λ f. (nodes : ℕ) → Stops (λ more. Exactly token ∷ more)
-            nodes (lexemes_left self.old.text.now self.old.at) (length self.old.text.now) f) }
-        ensures fault_place { IfErr result (IsPlaced (length self.old.text.now)) }
+        ensures { Gives (λ _. tt) self.old self.new result (exactly token) }
     {
         let (found, offset) = self.next()?;
         if found != token {
@@ -99,18 +78,15 @@ impl<'a> Parser<'a> {
         Ok(())
     }
 
-    // Counts an expression node at this depth and place.
-    fn count_node(&mut self, level: u32, offset: usize) -> Result<(), TextFault>
-        ensures text { self.new.text.now ≡ self.old.text.now }
-        ensures at { self.new.at ≡ self.old.at }
-        ensures ok { IfOk result (λ _. (more : List Want) → node level self.old.nodes more ≡ Go more self.new.nodes) }
-        ensures size { IfOk result (λ _. self.new.nodes ≡ self.old.nodes + 1) }
-        ensures shallow { IfOk result (λ _. level ≤ MAX_DEPTH) }
-        ensures err { IfErr result (λ f. (more : List Want) → node level self.old.nodes more ≡ Stop f.kind) }
-        ensures fault_place { IfErr result (λ f. f.offset ≡ offset) }
-        ensures no_memory { IfErr result (λ f. f.kind ≢ kind.OutOfMemory) }
+    // Counts an expression node with this many levels left, at this place; the answer is how many are left for an operand.
+    #[tactic(auto, using(crate::proofs::Parsing::operand_is))]
+    fn count_node(&mut self, levels: u32, offset: usize) -> Result<u32, TextFault>
+        requires { offset ≤ length self.old.text.now }
+        ensures reads { Gives (λ _. tt) self.old self.new result (node levels (length self.old.text.now - offset)) }
+        ensures below { IfOk result (λ below. operand levels ≡ expression below) }
+        ensures fewer { IfOk result (λ below. below < levels) }
     {
-        if level > MAX_DEPTH {
+        if levels == 0 {
             return Err(TextFault {
                 kind: FaultKind::TooDeep,
                 offset,
@@ -123,25 +99,14 @@ impl<'a> Parser<'a> {
             });
         }
         self.nodes += 1;
-        Ok(())
+        Ok(levels - 1)
     }
 
-    // An expression whose root has this depth.
+    // An expression of at most this many levels.
     #[cycle(expr)]
-    fn expr(&mut self, level: u32) -> Result<Expr, TextFault>
-        requires { level ≤ 65 }
-        ensures text { self.new.text.now ≡ self.old.text.now }
-        ensures ok { IfOk result (λ _. Passes (λ more. Expression level ∷ more)
-            self.old.nodes (lexemes_left self.old.text.now self.old.at) self.new.nodes (lexemes_left self.new.text.now self.new.at)) }
-        ensures tokens { IfOk result (λ e. tokens_in (lexemes_left self.old.text.now self.old.at)
-            ≡ spelled (term_of e) (tokens_in (lexemes_left self.new.text.now self.new.at))) }
-        ensures depth { IfOk result (λ e. level + depth (term_of e) ≤ 65) }
-        ensures numbers { IfOk result (λ e. largest (term_of e) < 2 ^ 32) }
-        ensures registers { IfOk result (λ e. largest_register (term_of e) < 10) }
-        ensures size { IfOk result (λ e. self.new.nodes ≡ self.old.nodes + size (term_of e)) }
-        ensures err { IfErr result (Stops (λ more. Expression level ∷ more)
-            self.old.nodes (lexemes_left self.old.text.now self.old.at) (length self.old.text.now)) }
-        ensures fault_place { IfErr result (IsPlaced (length self.old.text.now)) }
+    #[tactic(auto, unfolding(crate::specs::Reading::expression))]
+    fn expr(&mut self, levels: u32) -> Result<Expr, TextFault>
+        ensures { Gives term_of self.old self.new result (expression levels) }
     {
         let (token, offset) = self.next()?;
         let leaf = match token {
@@ -151,18 +116,18 @@ impl<'a> Parser<'a> {
             Token::FromRight => Expr::FromRight,
             Token::Register(register) => Expr::Register(register),
             Token::Unary(op) => {
-                self.count_node(level, offset)?;
-                let a = self.one(level + 1)?;
+                let below = self.count_node(levels, offset)?;
+                let a = self.one(below)?;
                 return Ok(Expr::One(op, Box::new(self.alloc, a)?));
             }
             Token::Binary(op) => {
-                self.count_node(level, offset)?;
-                let (a, b) = self.two(level + 1)?;
+                let below = self.count_node(levels, offset)?;
+                let (a, b) = self.two(below)?;
                 return Ok(Expr::Two(op, Box::new(self.alloc, a)?, Box::new(self.alloc, b)?));
             }
             Token::If => {
-                self.count_node(level, offset)?;
-                let (c, a, b) = self.three(level + 1)?;
+                let below = self.count_node(levels, offset)?;
+                let (c, a, b) = self.three(below)?;
                 return Ok(Expr::Choose(
                     Box::new(self.alloc, c)?,
                     Box::new(self.alloc, a)?,
@@ -176,99 +141,55 @@ impl<'a> Parser<'a> {
                 });
             }
         };
-        self.count_node(level, offset)?;
+        self.count_node(levels, offset)?;
         Ok(leaf)
     }
 
     // One operand in parentheses.
     #[cycle(expr)]
-    fn one(&mut self, level: u32) -> Result<Expr, TextFault>
-        requires { level ≤ 65 }
-        ensures text { self.new.text.now ≡ self.old.text.now }
-        ensures ok { IfOk result (λ _. Passes (λ more. Exactly token.Open ∷ Expression level ∷ Exactly token.Close ∷ more)
-            self.old.nodes (lexemes_left self.old.text.now self.old.at) self.new.nodes (lexemes_left self.new.text.now self.new.at)) }
-        ensures tokens { IfOk result (λ e. tokens_in (lexemes_left self.old.text.now self.old.at)
-            ≡ token.Open ∷ spelled (term_of e) (token.Close ∷ tokens_in (lexemes_left self.new.text.now self.new.at))) }
-        ensures depth { IfOk result (λ e. level + depth (term_of e) ≤ 65) }
-        ensures numbers { IfOk result (λ e. largest (term_of e) < 2 ^ 32) }
-        ensures registers { IfOk result (λ e. largest_register (term_of e) < 10) }
-        ensures size { IfOk result (λ e. self.new.nodes ≡ self.old.nodes + size (term_of e)) }
-        ensures err { IfErr result (Stops (λ more. Exactly token.Open ∷ Expression level ∷ Exactly token.Close ∷ more)
-            self.old.nodes (lexemes_left self.old.text.now self.old.at) (length self.old.text.now)) }
-        ensures fault_place { IfErr result (IsPlaced (length self.old.text.now)) }
+    #[tactic(auto, unfolding(crate::specs::Reading::one_of))]
+    fn one(&mut self, levels: u32) -> Result<Expr, TextFault>
+        ensures { Gives term_of self.old self.new result (one_of (expression levels)) }
     {
         self.expect(Token::Open)?;
-        let a = self.expr(level)?;
+        let a = self.expr(levels)?;
         self.expect(Token::Close)?;
         Ok(a)
     }
 
     // Two operands in parentheses.
     #[cycle(expr)]
-    fn two(&mut self, level: u32) -> Result<(Expr, Expr), TextFault>
-        requires { level ≤ 65 }
-        ensures text { self.new.text.now ≡ self.old.text.now }
-        ensures ok { IfOk result (λ _. Passes (λ more. Exactly token.Open ∷ Expression level ∷ Exactly token.Comma ∷ Expression level ∷ Exactly token.Close ∷ more)
-            self.old.nodes (lexemes_left self.old.text.now self.old.at) self.new.nodes (lexemes_left self.new.text.now self.new.at)) }
-        ensures tokens { IfOk result (λ e. tokens_in (lexemes_left self.old.text.now self.old.at)
-            ≡ token.Open ∷ spelled (term_of e.0) (token.Comma ∷ spelled (term_of e.1) (token.Close ∷ tokens_in (lexemes_left self.new.text.now self.new.at)))) }
-        ensures depth { IfOk result (λ e. level + max (depth (term_of e.0)) (depth (term_of e.1)) ≤ 65) }
-        ensures numbers { IfOk result (λ e. max (largest (term_of e.0)) (largest (term_of e.1)) < 2 ^ 32) }
-        ensures registers { IfOk result (λ e. max (largest_register (term_of e.0)) (largest_register (term_of e.1)) < 10) }
-        ensures size { IfOk result (λ e. self.new.nodes ≡ self.old.nodes + (size (term_of e.0) + size (term_of e.1))) }
-        ensures err { IfErr result (Stops (λ more. Exactly token.Open ∷ Expression level ∷ Exactly token.Comma ∷ Expression level ∷ Exactly token.Close ∷ more)
-            self.old.nodes (lexemes_left self.old.text.now self.old.at) (length self.old.text.now)) }
-        ensures fault_place { IfErr result (IsPlaced (length self.old.text.now)) }
+    #[tactic(auto, unfolding(crate::specs::Reading::two_of))]
+    fn two(&mut self, levels: u32) -> Result<(Expr, Expr), TextFault>
+        ensures { Gives (λ p. (term_of p.0, term_of p.1)) self.old self.new result (two_of (expression levels)) }
     {
         self.expect(Token::Open)?;
-        let a = self.expr(level)?;
+        let a = self.expr(levels)?;
         self.expect(Token::Comma)?;
-        let b = self.expr(level)?;
+        let b = self.expr(levels)?;
         self.expect(Token::Close)?;
         Ok((a, b))
     }
 
     // Three operands in parentheses.
     #[cycle(expr)]
-    fn three(&mut self, level: u32) -> Result<(Expr, Expr, Expr), TextFault>
-        requires { level ≤ 65 }
-        ensures text { self.new.text.now ≡ self.old.text.now }
-        ensures ok { IfOk result (λ _. Passes (λ more. Exactly token.Open ∷ Expression level ∷ Exactly token.Comma ∷ Expression level ∷ Exactly token.Comma ∷ Expression level ∷ Exactly token.Close ∷ more)
-            self.old.nodes (lexemes_left self.old.text.now self.old.at) self.new.nodes (lexemes_left self.new.text.now self.new.at)) }
-        ensures tokens { IfOk result (λ e. tokens_in (lexemes_left self.old.text.now self.old.at)
-            ≡ token.Open ∷ spelled (term_of e.0) (token.Comma ∷ spelled (term_of e.1) (token.Comma ∷ spelled (term_of e.2) (token.Close ∷ tokens_in (lexemes_left self.new.text.now self.new.at))))) }
-        ensures depth { IfOk result (λ e. level + max (depth (term_of e.0)) (max (depth (term_of e.1)) (depth (term_of e.2))) ≤ 65) }
-        ensures numbers { IfOk result (λ e. max (largest (term_of e.0)) (max (largest (term_of e.1)) (largest (term_of e.2))) < 2 ^ 32) }
-        ensures registers { IfOk result (λ e. max (largest_register (term_of e.0)) (max (largest_register (term_of e.1)) (largest_register (term_of e.2))) < 10) }
-        ensures size { IfOk result (λ e. self.new.nodes ≡ self.old.nodes + (size (term_of e.0) + (size (term_of e.1) + size (term_of e.2)))) }
-        ensures err { IfErr result (Stops (λ more. Exactly token.Open ∷ Expression level ∷ Exactly token.Comma ∷ Expression level ∷ Exactly token.Comma ∷ Expression level ∷ Exactly token.Close ∷ more)
-            self.old.nodes (lexemes_left self.old.text.now self.old.at) (length self.old.text.now)) }
-        ensures fault_place { IfErr result (IsPlaced (length self.old.text.now)) }
+    #[tactic(auto, unfolding(crate::specs::Reading::three_of))]
+    fn three(&mut self, levels: u32) -> Result<(Expr, Expr, Expr), TextFault>
+        ensures { Gives (λ p. (term_of p.0, term_of p.1, term_of p.2)) self.old self.new result (three_of (expression levels)) }
     {
         self.expect(Token::Open)?;
-        let c = self.expr(level)?;
+        let c = self.expr(levels)?;
         self.expect(Token::Comma)?;
-        let a = self.expr(level)?;
+        let a = self.expr(levels)?;
         self.expect(Token::Comma)?;
-        let b = self.expr(level)?;
+        let b = self.expr(levels)?;
         self.expect(Token::Close)?;
         Ok((c, a, b))
     }
 
     // A number of the header, from low to high.
-    #[tactic(auto, using(crate::proofs::Counts::count_within, crate::proofs::Counts::count_below, crate::proofs::Counts::count_above, crate::proofs::Counts::count_other))]
     fn number(&mut self, low: u32, high: u32) -> Result<u32, TextFault>
-        ensures text { self.new.text.now ≡ self.old.text.now }
-        ensures nodes { self.new.nodes ≡ self.old.nodes }
-        ensures ok { IfOk result (λ n. (w : Want) (nodes : ℕ) (more : List Want) → IsCount w low high →
-            reading (w ∷ more) nodes (lexemes_left self.old.text.now self.old.at) ≡ reading (after_count w n more) nodes (lexemes_left self.new.text.now self.new.at)) }
-        ensures tokens { IfOk result (λ n. tokens_in (lexemes_left self.old.text.now self.old.at)
-            ≡ token.Number n ∷ tokens_in (lexemes_left self.new.text.now self.new.at)) }
-        ensures low { IfOk result (λ n. low ≤ n) }
-        ensures high { IfOk result (λ n. n ≤ high) }
-        ensures err { IfErr result (λ f. (w : Want) (nodes : ℕ) (more : List Want) → IsCount w low high →
-            reading (w ∷ more) nodes (lexemes_left self.old.text.now self.old.at) ≡ Fault f.kind (length self.old.text.now - f.offset)) }
-        ensures fault_place { IfErr result (IsPlaced (length self.old.text.now)) }
+        ensures { Gives (λ n. n) self.old self.new result (number low high) }
     {
         let (token, offset) = self.next()?;
         let Token::Number(number) = token else {
@@ -287,21 +208,9 @@ impl<'a> Parser<'a> {
     }
 
     // What stands before the first assignment.
+    #[tactic(auto, unfolding(crate::specs::Reading::header))]
     fn header(&mut self) -> Result<Header, TextFault>
-        ensures text { self.new.text.now ≡ self.old.text.now }
-        ensures nodes { self.new.nodes ≡ self.old.nodes }
-        ensures ok { IfOk result (λ h. (nodes : ℕ) (more : List Want) →
-            reading (Exactly token.Rounds ∷ RoundCount ∷ more) nodes (lexemes_left self.old.text.now self.old.at)
-            ≡ reading (body_wanted h.rounds h.registers more) nodes (lexemes_left self.new.text.now self.new.at)) }
-        ensures tokens { IfOk result (λ h. tokens_in (lexemes_left self.old.text.now self.old.at)
-            ≡ token.Rounds ∷ token.Number h.rounds ∷ token.Channels ∷ token.Number h.channels ∷ token.Registers
-            ∷ token.Number h.registers ∷ token.Start ∷ tokens_in (lexemes_left self.new.text.now self.new.at)) }
-        ensures rounds { IfOk result (λ h. h.rounds ≤ MAX_ROUNDS) }
-        ensures channels { IfOk result (λ h. (1 ≤ h.channels) × (h.channels ≤ MAX_CHANNELS)) }
-        ensures registers { IfOk result (λ h. (1 ≤ h.registers) × (h.registers ≤ MAX_REGISTERS)) }
-        ensures err { IfErr result (λ f. (nodes : ℕ) → Stops (λ more. Exactly token.Rounds ∷ RoundCount ∷ more)
-            nodes (lexemes_left self.old.text.now self.old.at) (length self.old.text.now) f) }
-        ensures fault_place { IfErr result (IsPlaced (length self.old.text.now)) }
+        ensures { Gives (λ h. record { rounds = h.rounds; channels = h.channels; registers = h.registers }) self.old self.new result header }
     {
         self.expect(Token::Rounds)?;
         let rounds = self.number(0, MAX_ROUNDS)?;
@@ -319,11 +228,7 @@ impl<'a> Parser<'a> {
 
     // The end of the text.
     fn end(&mut self) -> Result<(), TextFault>
-        ensures text { self.new.text.now ≡ self.old.text.now }
-        ensures ok { IfOk result (λ _. lexemes_left self.old.text.now self.old.at ≡ []) }
-        ensures err { IfErr result (λ f. (nodes : ℕ) →
-            reading [] nodes (lexemes_left self.old.text.now self.old.at) ≡ Fault f.kind (length self.old.text.now - f.offset)) }
-        ensures fault_place { IfErr result (IsPlaced (length self.old.text.now)) }
+        ensures { Gives (λ _. tt) self.old self.new result end }
     {
         let Some(extra) = token_from(self.text, self.at) else {
             return Ok(());
@@ -340,36 +245,19 @@ impl<'a> Parser<'a> {
     }
 
     // The assignment to one register.
+    #[tactic(auto, unfolding(crate::specs::Reading::assign))]
     fn assign(&mut self, register: u32) -> Result<Expr, TextFault>
-        ensures text { self.new.text.now ≡ self.old.text.now }
-        ensures ok { IfOk result (λ _. Passes (λ more. Exactly (token.Register register) ∷ Exactly token.Equals ∷ Expression 1 ∷ more)
-            self.old.nodes (lexemes_left self.old.text.now self.old.at) self.new.nodes (lexemes_left self.new.text.now self.new.at)) }
-        ensures tokens { IfOk result (λ e. tokens_in (lexemes_left self.old.text.now self.old.at)
-            ≡ token.Register register ∷ token.Equals ∷ spelled (term_of e) (tokens_in (lexemes_left self.new.text.now self.new.at))) }
-        ensures small { IfOk result (λ e. IsSmall (term_of e)) }
-        ensures size { IfOk result (λ e. self.new.nodes ≡ self.old.nodes + size (term_of e)) }
-        ensures err { IfErr result (Stops (λ more. Exactly (token.Register register) ∷ Exactly token.Equals ∷ Expression 1 ∷ more)
-            self.old.nodes (lexemes_left self.old.text.now self.old.at) (length self.old.text.now)) }
-        ensures fault_place { IfErr result (IsPlaced (length self.old.text.now)) }
+        ensures { Gives term_of self.old self.new result (assign register) }
     {
         self.expect(Token::Register(register))?;
         self.expect(Token::Equals)?;
-        self.expr(1)
+        self.expr(MAX_DEPTH)
     }
 
     // An assignment to each register.
+    #[tactic(auto, unfolding(crate::specs::Reading::assigns))]
     fn assigns(&mut self, registers: u32) -> Result<Vec<Expr>, TextFault>
-        ensures text { self.new.text.now ≡ self.old.text.now }
-        ensures ok { IfOk result (λ _. Passes (assigns_wanted 0 registers)
-            self.old.nodes (lexemes_left self.old.text.now self.old.at) self.new.nodes (lexemes_left self.new.text.now self.new.at)) }
-        ensures tokens { IfOk result (λ v. tokens_in (lexemes_left self.old.text.now self.old.at)
-            ≡ assigned 0 (map term_of v.items) (tokens_in (lexemes_left self.new.text.now self.new.at))) }
-        ensures count { IfOk result (λ v. length v.items ≡ registers) }
-        ensures small { IfOk result (λ v. All IsSmall (map term_of v.items)) }
-        ensures size { IfOk result (λ v. self.new.nodes ≡ self.old.nodes + sum_by size (map term_of v.items)) }
-        ensures err { IfErr result (Stops (assigns_wanted 0 registers)
-            self.old.nodes (lexemes_left self.old.text.now self.old.at) (length self.old.text.now)) }
-        ensures fault_place { IfErr result (IsPlaced (length self.old.text.now)) }
+        ensures { Gives (λ v. map term_of v.items) self.old self.new result (assigns registers) }
     {
         let mut expressions = Vec::new(self.alloc);
         'registers: for register in 0..registers {
@@ -380,47 +268,25 @@ impl<'a> Parser<'a> {
     }
 
     // A round.
+    #[tactic(auto, unfolding(crate::specs::Reading::round))]
     fn round(&mut self, registers: u32) -> Result<Round, TextFault>
-        ensures text { self.new.text.now ≡ self.old.text.now }
-        ensures ok { IfOk result (λ _. Passes (block_wanted registers)
-            self.old.nodes (lexemes_left self.old.text.now self.old.at) self.new.nodes (lexemes_left self.new.text.now self.new.at)) }
-        ensures tokens { IfOk result (λ r. tokens_in (lexemes_left self.old.text.now self.old.at)
-            ≡ block (step_of r) (tokens_in (lexemes_left self.new.text.now self.new.at))) }
-        ensures count { IfOk result (λ r. length (step_of r).next ≡ registers) }
-        ensures left { IfOk result (λ r. IsSmall (term_of r.left)) }
-        ensures right { IfOk result (λ r. IsSmall (term_of r.right)) }
-        ensures next { IfOk result (λ r. All IsSmall (map term_of r.next.items)) }
-        ensures size { IfOk result (λ r. self.new.nodes
-            ≡ self.old.nodes + (size (term_of r.left) + (size (term_of r.right) + sum_by size (map term_of r.next.items)))) }
-        ensures err { IfErr result (Stops (block_wanted registers)
-            self.old.nodes (lexemes_left self.old.text.now self.old.at) (length self.old.text.now)) }
-        ensures fault_place { IfErr result (IsPlaced (length self.old.text.now)) }
+        ensures { Gives step_of self.old self.new result (round registers) }
     {
         self.expect(Token::Round)?;
         self.expect(Token::Send)?;
         self.expect(Token::Left)?;
-        let left = self.expr(1)?;
+        let left = self.expr(MAX_DEPTH)?;
         self.expect(Token::Send)?;
         self.expect(Token::Right)?;
-        let right = self.expr(1)?;
+        let right = self.expr(MAX_DEPTH)?;
         let next = self.assigns(registers)?;
         Ok(Round { left, right, next })
     }
 
     // The rounds.
+    #[tactic(auto, unfolding(crate::specs::Reading::rounds))]
     fn rounds(&mut self, count: u32, registers: u32) -> Result<Vec<Round>, TextFault>
-        ensures text { self.new.text.now ≡ self.old.text.now }
-        ensures ok { IfOk result (λ _. Passes (blocks_wanted count registers)
-            self.old.nodes (lexemes_left self.old.text.now self.old.at) self.new.nodes (lexemes_left self.new.text.now self.new.at)) }
-        ensures tokens { IfOk result (λ v. tokens_in (lexemes_left self.old.text.now self.old.at)
-            ≡ blocks (map step_of v.items) (tokens_in (lexemes_left self.new.text.now self.new.at))) }
-        ensures count { IfOk result (λ v. length v.items ≡ count) }
-        ensures each { IfOk result (λ v. All (λ s. length s.next ≡ registers) (map step_of v.items)) }
-        ensures small { IfOk result (λ v. All IsSmall (step_terms (map step_of v.items))) }
-        ensures size { IfOk result (λ v. self.new.nodes ≡ self.old.nodes + sum_by size (step_terms (map step_of v.items))) }
-        ensures err { IfErr result (Stops (blocks_wanted count registers)
-            self.old.nodes (lexemes_left self.old.text.now self.old.at) (length self.old.text.now)) }
-        ensures fault_place { IfErr result (IsPlaced (length self.old.text.now)) }
+        ensures { Gives (λ v. map step_of v.items) self.old self.new result (rounds count registers) }
     {
         let mut steps = Vec::new(self.alloc);
         'rounds: for index in 0..count {
@@ -431,20 +297,15 @@ impl<'a> Parser<'a> {
     }
 
     // A whole program, up to the end of the text.
+    #[tactic(auto, unfolding(crate::specs::Reading::program))]
     pub(crate) fn whole(&mut self) -> Result<Program, TextFault>
-        requires { self.old.nodes ≡ 0 }
-        ensures tokens { IfOk result (λ p. tokens_in (lexemes_left self.old.text.now self.old.at) ≡ spelling p) }
-        ensures limits { IfOk result (λ p. IsWithinLimits p) }
-        ensures ok { IfOk result (λ _. reading program_wanted 0 (lexemes_left self.old.text.now self.old.at) ≡ Whole) }
-        ensures err { IfErr result (λ f. f.kind ≢ kind.OutOfMemory →
-            reading program_wanted 0 (lexemes_left self.old.text.now self.old.at) ≡ Fault f.kind (length self.old.text.now - f.offset)) }
-        ensures fault_place { IfErr result (IsPlaced (length self.old.text.now)) }
+        ensures { Gives (λ p. p) self.old self.new result program }
     {
         let header = self.header()?;
         let start = self.assigns(header.registers)?;
         let steps = self.rounds(header.rounds, header.registers)?;
         self.expect(Token::Finish)?;
-        let finish = self.expr(1)?;
+        let finish = self.expr(MAX_DEPTH)?;
         self.end()?;
         Ok(Program {
             channels: header.channels,
