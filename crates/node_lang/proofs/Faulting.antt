@@ -1,4 +1,4 @@
--- The fault of a text is where reading it stops.
+-- What a text reads as and its fault, by how reading it from the left ends.
 use Rattle.std.proofs.Common.{◌≡◌, ◌≢◌, ℕ, ◌-◌, ◌<◌, ◌≤◌, List, length, get_or, take, refl, sym, ◌∙◌, arith, inl, inr}
 use Rattle.std.specs.Prelude.{Result, Ok, Err, IfOk, IfErr, All}
 use Rattle.std.proofs.lemmas.Bool.{cases_order}
