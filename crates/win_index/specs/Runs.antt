@@ -9,9 +9,9 @@ pub record IsRunStart (k m : ℕ) (front : List ℕ) (first : ℕ) : Type 0 wher
   pub each : (window : List ℕ) → IsWindow (k + 1) m window → take k window ≡ front
       → slice_get (windows (k + 1) m) (first + length (unused (slice_index window k) front)) ≡ Some window
 
--- A stretch of windows of length k+2 below m, as many as count: they follow one another and share all identifiers but the last, and their last
+-- A series of windows of length k+2 below m, as many as count: they follow one another and share all identifiers but the last, and their last
 -- parts, the windows of length k without the first two identifiers, follow one another too.
-pub record IsStretch (k m : ℕ) (first last : List ℕ) (count : ℕ) : Type 0 where
+pub record IsSeries (k m : ℕ) (first last : List ℕ) (count : ℕ) : Type 0 where
   pub each : (n low j : ℕ) → slice_get (windows (k + 2) m) n ≡ Some first → slice_get (windows k m) low ≡ Some (drop 2 first) → j < count
       → (window : List ℕ) × (slice_get (windows (k + 2) m) (n + j) ≡ Some window) × (take (k + 1) window ≡ take (k + 1) first)
       × (slice_get (windows k m) (low + j) ≡ Some (drop 2 window))

@@ -7,7 +7,7 @@ mod laws;
 mod limits;
 mod ring;
 mod shape;
-mod stretch;
+mod series;
 
 pub use laws::{
     blocks_are_few, count_of_windows, jobs_have_numbers, longer_windows_have_numbers,

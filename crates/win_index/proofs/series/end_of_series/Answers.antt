@@ -1,6 +1,6 @@
 use Rattle.std.proofs.Common.{◌≡◌, length, arith}
-use Rattle.win_index.proofs.Stretches.{unused_but_two}
-use Rattle.win_index.proofs.stretch.end_of_stretch.Goals as goal
+use Rattle.win_index.proofs.SeriesPlaces.{unused_but_two}
+use Rattle.win_index.proofs.series.end_of_series.Goals as goal
 
 pub overflow_sub-end : goal.overflow_sub-end
 overflow_sub-end c =

@@ -1,11 +1,11 @@
--- Where the windows of a stretch stand.
+-- Where the windows of a series stand.
 use Rattle.std.proofs.Common.{◌≡◌, ◌≢◌, ◌⊎◌, ℕ, suc, ◌+◌, ◌-◌, ◌*◌, ◌<◌, ◌≤◌, Bool, false, nat_lt, eqb, cond, List, [], ◌∷◌, ◌++◌, length, min, get_or, take, drop, set, slice_get, Some, inl, inr, ⊎_elim, refl, sym, ap, subst, ◌∙◌, arith, add-one}
 use Rattle.std.proofs.Math.Seq.{take-append_seam}
 use Rattle.std.proofs.lemmas.List.{take_all, take_more, take_more_set, length-set, length-drop, length-take, get_or-take, get_or-drop}
 use Rattle.std.proofs.lemmas.List.Elements.{All-tail}
 use Rattle.std.proofs.lemmas.Option.{slice_get-get_or, slice_get_within, same_Some}
 use Rattle.std.proofs.lemmas.Bool.{lt-ltb, le-ltb, ne_eqb, not-true}
-use Rattle.win_index.specs.Runs.{IsStretch, IsClear}
+use Rattle.win_index.specs.Runs.{IsSeries, IsClear}
 use Rattle.win_index.specs.Windows.{is_used, unused, windows, IsWindow}
 use Rattle.win_index.proofs.Kept.{kept_is}
 use Rattle.win_index.proofs.Numbers.{push_window, window_step, one_place}
@@ -106,15 +106,15 @@ unused_but_two k m (f0 ∷ f1 ∷ rest) some window =
     let shorter = shorter_by_two (k - 2) m f0 f1 rest (rw (← size) window) in
     length-unused rest m shorter.distinct shorter.below
 
--- a stretch, up to the place `high` among the numbers that its windows' shared identifiers but the first two lack
-stretch_of_front :
+-- a series, up to the place `high` among the numbers that its windows' shared identifiers but the first two lack
+series_of_front :
     (g m low high count x y : ℕ) (front : List ℕ) → IsWindow (g + 2) m front → x < m → is_used front x ≡ false → IsClear front low high
     → length (unused x (drop 2 front)) ≡ low → high ≡ low + count → 1 ≤ count → high ≤ length (unused m (drop 2 front))
     → slice_get (unused m (drop 2 front)) (low + count - 1) ≡ Some y
-    → IsStretch (g + 1) m (front ++ x ∷ []) (front ++ y ∷ []) count × IsWindow (suc (g + 2)) m (front ++ y ∷ [])
-stretch_of_front g m low high count x y [] window x_below x_free clear x_at high_is some within y_at = absurd (omega (arith, window.size))
-stretch_of_front g m low high count x y (f0 ∷ []) window x_below x_free clear x_at high_is some within y_at = absurd (omega (arith, window.size))
-stretch_of_front g m low high count x y (f0 ∷ f1 ∷ rest) window x_below x_free clear x_at high_is some within y_at =
+    → IsSeries (g + 1) m (front ++ x ∷ []) (front ++ y ∷ []) count × IsWindow (suc (g + 2)) m (front ++ y ∷ [])
+series_of_front g m low high count x y [] window x_below x_free clear x_at high_is some within y_at = absurd (omega (arith, window.size))
+series_of_front g m low high count x y (f0 ∷ []) window x_below x_free clear x_at high_is some within y_at = absurd (omega (arith, window.size))
+series_of_front g m low high count x y (f0 ∷ f1 ∷ rest) window x_below x_free clear x_at high_is some within y_at =
     let rest_is = shorter_by_two g m f0 f1 rest window in
     let rest_free = lacks_from_differs rest x (λ k lt. lacks_differs (f0 ∷ f1 ∷ rest) x x_free (suc (suc k)) 0 (omega arith)) in
     let ends : Ends m f0 f1 rest x = record { below = x_below; free = x_free; rest_free = rest_free } in
@@ -139,12 +139,12 @@ stretch_of_front g m low high count x y (f0 ∷ f1 ∷ rest) window x_below x_fr
     )
 
 -- the same of a window, whose last identifier is changed
-pub stretch_is :
+pub series_is :
     (last m low count y : ℕ) (window : List ℕ) → 2 ≤ last → IsWindow (last + 1) m window → IsClear (take last window) low (low + count)
     → length (unused (get_or window last 0) (drop 2 (take last window))) ≡ low → 1 ≤ count → low + count ≤ length (unused m (drop 2 (take last window)))
     → slice_get (unused m (drop 2 (take last window))) (low + count - 1) ≡ Some y
-    → IsStretch (last - 1) m window (set window last y) count × IsWindow (last + 1) m (set window last y)
-stretch_is last m low count y window two is clear x_at some within y_at =
+    → IsSeries (last - 1) m window (set window last y) count × IsWindow (last + 1) m (set window last y)
+series_is last m low count y window two is clear x_at some within y_at =
     let size = is.size in
     let x : ℕ = get_or window last 0 in
     let inside : last < length window = omega arith in
@@ -156,7 +156,7 @@ stretch_is last m low count y window two is clear x_at some within y_at =
     let front_is = shorter_window (last + 1) m last window refl (rw all is) in
     let free = free_at window last is.distinct inside in
     let shared : last ≡ last - 2 + 2 = omega arith in
-    let made = stretch_of_front (last - 2) m low (low + count) count x y (take last window) (subst (λ n. IsWindow n m (take last window)) shared front_is)
+    let made = series_of_front (last - 2) m low (low + count) count x y (take last window) (subst (λ n. IsWindow n m (take last window)) shared front_is)
     (is.below last 0 inside) free clear x_at refl some within y_at in
     let fewer : last - 2 + 1 ≡ last - 1 = omega arith in
     let number : suc (last - 2 + 2) ≡ last + 1 = omega arith in
