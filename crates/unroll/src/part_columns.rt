@@ -1,7 +1,10 @@
 // The states of the three parts of windows, in columns.
-ghost use Rattle.std.specs.Prelude.{◌≡◌, ◌<◌, length, set, IfOk};
-ghost use Rattle.unroll.specs.WideColumns.{IsWide};
+ghost use Rattle.std.specs.Prelude.{◌≡◌, ◌+◌, ◌<◌, ◌≤◌, length, set, IfOk};
+ghost use Rattle.win_index.specs.declared.limits.TheConstants.{BLOCK_WINDOWS};
+ghost use Rattle.unroll.specs.BlockStates.{block_len, block_state};
+ghost use Rattle.unroll.specs.WideColumns.{IsWide, AreWritten};
 
+use crate::block::Block;
 use lang_check::Plan;
 use node_lang::OutOfMemory;
 use round_columns::Columns;
@@ -33,6 +36,35 @@ impl PartColumns {
         self.left.put_state(place, left);
         self.own.put_state(place, own);
         self.right.put_state(place, right);
+    }
+
+    // Writes the states of the parts of windows that follow one another, from a place on: the first two parts are the same
+    // in all of them, and the last parts stand in a block from an index on.
+    pub(crate) fn put_series(
+        &mut self,
+        place: usize,
+        count: u32,
+        left: &[u32],
+        own: &[u32],
+        block: &Block<'_>,
+        index: u32,
+    )
+        requires few { place + count ≤ BLOCK_WINDOWS }
+        requires place { place + count ≤ length self.old.left.states }
+        requires own_place { place + count ≤ length self.old.own.states }
+        requires right_place { place + count ≤ length self.old.right.states }
+        requires left { length left.now ≡ self.old.left.registers }
+        requires own { length own.now ≡ self.old.own.registers }
+        requires right { length block.now.plan.program.start ≡ self.old.right.registers }
+        requires block { index + count ≤ block_len block.now.plan.ids block.now.level block.now.number }
+        ensures left { AreWritten self.old.left self.new.left place count (λ _. left.now) }
+        ensures own { AreWritten self.old.own self.new.own place count (λ _. own.now) }
+        ensures right { AreWritten self.old.right self.new.right place count
+            (λ i. block_state block.now.plan block.now.level block.now.number (index + i)) }
+    {
+        for i in 0..count {
+            self.put(place + i as usize, left, own, block.state(index + i));
+        }
     }
 }
 
