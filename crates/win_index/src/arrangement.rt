@@ -139,7 +139,14 @@ pub(crate) fn unused_below(before: &[u32], x: u32) -> u64
 fn least_unused(ids: u32, before: &[u32], low: u32) -> Option<u32>
     ensures { result ≡ find (λ x. not (is_used before.now x)) (range_with_len low (ids - low)) }
 {
-    (low..ids).find(|x| !before.contains(x))
+    (low..ids).find(|x| !stands_in(before, *x))
+}
+
+// Whether the number stands in the list, which is short.
+fn stands_in(list: &[u32], x: u32) -> bool
+    ensures { result ≡ is_used list.now x }
+{
+    list.iter().any(|y| *y == x)
 }
 
 // The number below `ids` that stands at this place of those that are not among the distinct ones before.
