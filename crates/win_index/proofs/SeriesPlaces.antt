@@ -1,14 +1,14 @@
 -- Where the windows of a series stand.
-use Rattle.std.proofs.Common.{◌≡◌, ◌≢◌, ◌⊎◌, ℕ, suc, ◌+◌, ◌-◌, ◌*◌, ◌<◌, ◌≤◌, Bool, false, nat_lt, eqb, cond, List, [], ◌∷◌, ◌++◌, length, min, get_or, take, drop, set, slice_get, Some, inl, inr, ⊎_elim, refl, sym, ap, subst, ◌∙◌, arith, add-one}
+use Rattle.std.proofs.Common.{◌≡◌, ◌≢◌, ◌⊎◌, ℕ, zero, suc, ◌+◌, ◌-◌, ◌*◌, ◌<◌, ◌≤◌, Bool, false, nat_lt, eqb, cond, List, [], ◌∷◌, ◌++◌, length, min, get_or, take, drop, set, slice_get, Some, inl, inr, ⊎_elim, refl, sym, ap, subst, ◌∙◌, arith, add-one}
 use Rattle.std.proofs.Math.Seq.{take-append_seam}
 use Rattle.std.proofs.lemmas.List.{take_all, take_more, take_more_set, length-set, length-drop, length-take, get_or-take, get_or-drop}
 use Rattle.std.proofs.lemmas.List.Elements.{All-tail}
 use Rattle.std.proofs.lemmas.Option.{slice_get-get_or, slice_get_within, same_Some}
 use Rattle.std.proofs.lemmas.Bool.{lt-ltb, le-ltb, ne_eqb, not-true}
-use Rattle.win_index.specs.Runs.{IsSeries, IsClear}
+use Rattle.win_index.specs.Runs.{IsSeries, IsClear, IsEnd}
 use Rattle.win_index.specs.Windows.{is_used, unused, windows, IsWindow}
 use Rattle.win_index.proofs.Kept.{kept_is}
-use Rattle.win_index.proofs.Numbers.{push_window, window_step, one_place}
+use Rattle.win_index.proofs.Numbers.{push_window, window_parts, window_step, windows_all, one_place}
 use Rattle.win_index.proofs.Positions.{free_at, window_place}
 use Rattle.win_index.proofs.Successors.{shorter_window}
 use Rattle.win_index.proofs.Unused.{IsDistinct, lacks, lacks_differs, lacks_from_differs, distinct_head, distinct_tail, unused_at, length-unused, unused_below_bound, unused_in_front}
@@ -213,3 +213,78 @@ rest_distinct last m window is =
     let to : 2 + j < last = omega arith in
     rw (get_or-drop 2 (take last window) i e, get_or-drop 2 (take last window) j e, get_or-take last window (2 + i) e from, get_or-take last window (2 + j) e to)
     (is.distinct (2 + i) (2 + j) e (omega arith) (omega (arith, is.size)))
+
+-- where the last identifiers of two windows with one front stand among the numbers that the front lacks, as the windows do
+places_along :
+    (k m n j x y : ℕ) (front : List ℕ) → IsWindow k m front → x < m → is_used front x ≡ false → y < m → is_used front y ≡ false
+    → slice_get (windows (suc k) m) n ≡ Some (front ++ x ∷ []) → slice_get (windows (suc k) m) (n + j) ≡ Some (front ++ y ∷ [])
+    → length (unused y front) ≡ length (unused x front) + j
+places_along k m n j x y front window x_below x_free y_below y_free x_at y_at =
+    let own = window_place k m front window in
+    let from = one_place (suc k) m n (own.0 * (m - k) + length (unused x front)) (front ++ x ∷ []) x_at (window_step k m own.0 x front own.1 x_below x_free) in
+    let to = one_place (suc k) m (n + j) (own.0 * (m - k) + length (unused y front)) (front ++ y ∷ []) y_at (window_step k m own.0 y front own.1 y_below y_free) in
+    omega (arith, from, to)
+
+-- no number that the front lacks stands at its end
+end_is_free :
+    (g m place y f0 f1 : ℕ) (rest : List ℕ) → IsWindow (g + 2) m (f0 ∷ f1 ∷ rest) → y < m → is_used (f0 ∷ f1 ∷ rest) y ≡ false
+    → length (unused y rest) ≡ place → IsEnd m (f0 ∷ f1 ∷ rest) place → ⊥
+end_is_free g m place y f0 f1 rest window below free at' (inl end) =
+    let places = three_places (g + 2) m y (f0 ∷ f1 ∷ rest) (omega arith) window below free in
+    absurd (omega (arith, places.inside, at', end))
+end_is_free g m place y f0 f1 rest window below free at' (inr (zero, lt, end)) =
+    (three_places (g + 2) m y (f0 ∷ f1 ∷ rest) (omega arith) window below free).first (sym end ∙ sym at')
+end_is_free g m place y f0 f1 rest window below free at' (inr (suc zero, lt, end)) =
+    (three_places (g + 2) m y (f0 ∷ f1 ∷ rest) (omega arith) window below free).second (sym end ∙ sym at')
+end_is_free g m place y f0 f1 rest window below free at' (inr (suc (suc i), lt, end)) = absurd (omega (arith, lt))
+
+-- a series of this front goes no further than its end
+no_longer_of_front :
+    (g m low count x : ℕ) (front other : List ℕ) → IsWindow (g + 2) m front → x < m → is_used front x ≡ false
+    → length (unused x (drop 2 front)) ≡ low → IsEnd m front (low + count) → IsSeries (g + 1) m (front ++ x ∷ []) other (count + 1) → ⊥
+no_longer_of_front g m low count x [] other window x_below x_free x_at end series = absurd (omega (arith, window.size))
+no_longer_of_front g m low count x (f0 ∷ []) other window x_below x_free x_at end series = absurd (omega (arith, window.size))
+no_longer_of_front g m low count x (f0 ∷ f1 ∷ rest) other window x_below x_free x_at end series =
+    let front : List ℕ = f0 ∷ f1 ∷ rest in
+    let rest_is = shorter_by_two g m f0 f1 rest window in
+    let rest_free = lacks_from_differs rest x (λ i lt. lacks_differs front x x_free (suc (suc i)) 0 (omega arith)) in
+    let long : suc (g + 2) ≡ g + 1 + 2 = omega arith in
+    let short : suc g ≡ g + 1 = omega arith in
+    let size : length front ≡ g + 1 + 1 = omega (arith, window.size) in
+    let n = window_place (suc (g + 2)) m (front ++ x ∷ []) (push_window (g + 2) m x front window x_below x_free) in
+    let low_n = window_place (suc g) m (rest ++ x ∷ []) (push_window g m x rest rest_is x_below rest_free) in
+    let own : slice_get (windows (g + 1 + 2) m) n.0 ≡ Some (front ++ x ∷ []) = subst (λ k. slice_get (windows k m) n.0 ≡ Some (front ++ x ∷ [])) long n.1 in
+    let last : slice_get (windows (g + 1) m) low_n.0 ≡ Some (rest ++ x ∷ []) = subst (λ k. slice_get (windows k m) low_n.0 ≡ Some (rest ++ x ∷ [])) short low_n.1 in
+    let got = series.each n.0 low_n.0 count own last (omega arith) in
+    let there : slice_get (windows (suc (g + 2)) m) (n.0 + count) ≡ Some got.0 = subst (λ k. slice_get (windows k m) (n.0 + count) ≡ Some got.0) (sym long) got.1 in
+    let parts = window_parts (g + 2) m (n.0 + count) got.0 there in
+    let kept = kept_is (lacks parts.front) m parts.rest parts.last parts.last_at in
+    let parts_size = (windows_all (g + 2) m parts.place parts.front parts.front_at).size in
+    let same : parts.front ≡ front = sym (take_front (g + 1 + 1) parts.front parts.last (omega (arith, parts_size)))
+        ∙ ap (take (g + 1 + 1)) (sym parts.whole) ∙ got.2 ∙ take_front (g + 1 + 1) front x size in
+    let y : ℕ = parts.last in
+    let y_free : is_used front y ≡ false = subst (λ list. is_used list y ≡ false) same (not-true (is_used parts.front y) kept.passes) in
+    let y_rest = lacks_from_differs rest y (λ i lt. lacks_differs front y y_free (suc (suc i)) 0 (omega arith)) in
+    let whole : got.0 ≡ front ++ y ∷ [] = parts.whole ∙ ap (λ list. list ++ y ∷ []) same in
+    let below : slice_get (windows (suc g) m) (low_n.0 + count) ≡ Some (rest ++ y ∷ []) =
+    subst (λ k. slice_get (windows k m) (low_n.0 + count) ≡ Some (drop 2 got.0)) (sym short) got.3 ∙ ap (λ list. Some (drop 2 list)) whole in
+    let places = places_along g m low_n.0 count x y rest rest_is x_below rest_free kept.below y_rest low_n.1 below in
+    end_is_free g m (low + count) y f0 f1 rest window kept.below y_free (omega (arith, places, x_at)) end
+
+pub no_longer :
+    (last m low count : ℕ) (window other : List ℕ) → 2 ≤ last → IsWindow (last + 1) m window
+    → length (unused (get_or window last 0) (drop 2 (take last window))) ≡ low → IsEnd m (take last window) (low + count)
+    → IsSeries (last - 1) m window other (count + 1) → ⊥
+no_longer last m low count window other two is x_at end series =
+    let size = is.size in
+    let inside : last < length window = omega arith in
+    let all : take (last + 1) window ≡ window = take_all (last + 1) window (omega arith) in
+    let old : window ≡ take last window ++ get_or window last 0 ∷ [] = sym all ∙ take_more window last 0 inside in
+    let front_is = shorter_window (last + 1) m last window refl (rw all is) in
+    let free = free_at window last is.distinct inside in
+    let shared : last ≡ last - 2 + 2 = omega arith in
+    let fewer : last - 1 ≡ last - 2 + 1 = omega arith in
+    no_longer_of_front (last - 2) m low count (get_or window last 0) (take last window) other (subst (λ n. IsWindow n m (take last window)) shared front_is)
+    (is.below last 0 inside) free x_at end
+    (subst (λ k. IsSeries k m (take last window ++ get_or window last 0 ∷ []) other (count + 1)) fewer
+    (subst (λ w. IsSeries (last - 1) m w other (count + 1)) old series))

@@ -21,3 +21,8 @@ pub record IsSeries (k m : ℕ) (first last : List ℕ) (count : ℕ) : Type 0 w
 abbrev pub IsClear : List ℕ → ℕ → ℕ → Type 0
 IsClear front low high = (i : ℕ) → i < 2
     → (length (unused (slice_index front i) (drop 2 front)) < low) ⊎ (high ≤ length (unused (slice_index front i) (drop 2 front)))
+
+-- a place among the numbers that the rest of a front lacks at which nothing more comes: their end, or that of one of the first two identifiers
+abbrev pub IsEnd : ℕ → List ℕ → ℕ → Type 0
+IsEnd m front place = (place ≡ length (unused m (drop 2 front)))
+    ⊎ ((i : ℕ) × (i < 2) × (place ≡ length (unused (slice_index front i) (drop 2 front))))

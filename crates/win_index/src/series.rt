@@ -1,18 +1,18 @@
 // Series of windows: they follow one another, and so do their last parts.
-ghost use Rattle.std.specs.Prelude.{◌≡◌, ◌≢◌, ◌⊎◌, ◌+◌, ◌-◌, ◌<◌, ◌≤◌, length, drop, set, slice_index};
+ghost use Rattle.std.specs.Prelude.{◌≡◌, ◌≢◌, ◌⊎◌, ℕ, ◌+◌, ◌-◌, ◌<◌, ◌≤◌, List, length, drop, set, slice_index};
 ghost use Rattle.win_index.specs.Windows.{unused, IsWindow};
-ghost use Rattle.win_index.specs.Runs.{IsSeries, IsClear};
+ghost use Rattle.win_index.specs.Runs.{IsSeries, IsClear, IsEnd};
 
 use crate::arrangement::{nth_unused, unused_below};
 use crate::shape::Shape;
 
 impl Shape {
-    ghost use Rattle.std.specs.Prelude.{◌≡◌, ◌+◌, ◌*◌, ◌<◌, ◌≤◌};
+    ghost use Rattle.std.specs.Prelude.{◌≡◌, ℕ, List, ◌+◌, ◌*◌, ◌<◌, ◌≤◌};
     ghost use Rattle.win_index.specs.Windows.{IsWindow};
     ghost use Rattle.win_index.specs.Runs.{IsSeries};
 
-    /// Goes from a window one level above `below` to the last one of the series that begins with it, `most` windows at
-    /// most, and says how many windows these are, at least 1. They share all identifiers but the last, and the numbers of
+    /// Goes from a window one level above `below` to the last one of the longest series that begins with it, `most` windows
+    /// at most, and says how many windows these are, at least 1. They share all identifiers but the last, and the numbers of
     /// their last parts, windows of the level `below`, follow one another as their own do.
     pub fn series(&self, below: u32, window: &mut [u32], most: u32) -> u32
         requires below { below < self.now.rounds }
@@ -21,6 +21,7 @@ impl Shape {
         ensures some { 1 ≤ result }
         ensures few { result ≤ most }
         ensures series { IsSeries (2 * below + 1) self.now.ids window.old window.new result }
+        ensures whole { result < most → (last : List ℕ) → IsSeries (2 * below + 1) self.now.ids window.old last (result + 1) → ⊥ }
         ensures window { IsWindow (2 * below + 3) self.now.ids window.new }
     {
         let last = 2 * below as usize + 2;
@@ -39,6 +40,7 @@ fn last_of_series(ids: u32, window: &[u32], last: usize, most: u32) -> (u32, u32
     ensures some { 1 ≤ result.1 }
     ensures few { result.1 ≤ most }
     ensures series { IsSeries (last - 1) ids window.now (set window.now last result.0) result.1 }
+    ensures whole { result.1 < most → (other : List ℕ) → IsSeries (last - 1) ids window.now other (result.1 + 1) → ⊥ }
     ensures window { IsWindow (last + 1) ids (set window.now last result.0) }
 {
     let front = &window[..last];
@@ -60,11 +62,12 @@ fn end_of_series(ids: u32, front: &[u32], place: u64) -> u64
     ensures some { place < result }
     ensures within { result ≤ length (unused ids (drop 2 front.now)) }
     ensures clear { IsClear front.now place result }
+    ensures end { IsEnd ids front.now result }
 {
-    let (firsts, rest) = front.split_at(2);
+    let (_firsts, rest) = front.split_at(2);
     let end = u64::from(ids) - rest.len() as u64;
-    let first = unused_below(rest, firsts[0]);
-    let second = unused_below(rest, firsts[1]);
+    let first = unused_below(rest, front[0]);
+    let second = unused_below(rest, front[1]);
     end_before(end_before(end, first, place), second, place)
 }
 
@@ -75,6 +78,7 @@ fn end_before(end: u64, gap: u64, place: u64) -> u64
     ensures some { place < result }
     ensures within { result ≤ end }
     ensures clear { (gap < place) ⊎ (result ≤ gap) }
+    ensures end { (result ≡ end) ⊎ (result ≡ gap) }
 {
     if gap > place { end.min(gap) } else { end }
 }

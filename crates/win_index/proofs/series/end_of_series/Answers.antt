@@ -1,4 +1,4 @@
-use Rattle.std.proofs.Common.{◌≡◌, length, arith}
+use Rattle.std.proofs.Common.{◌≡◌, inl, inr, length, ⊎_elim, ◌∙◌, arith}
 use Rattle.win_index.proofs.SeriesPlaces.{unused_but_two}
 use Rattle.win_index.proofs.series.end_of_series.Goals as goal
 
@@ -17,3 +17,14 @@ returns-clause-within c =
     let many = unused_but_two (length c.args.front.now) c.args.ids c.args.front.now c.requires.two c.requires.front in
     let first = rw c.split_at.ensures.back at c.end_before.ensures.within in
     omega (arith, many, c.from.ensures, first, c.end_before-2.ensures.within)
+
+pub returns-clause-end : goal.returns-clause-end
+returns-clause-end c =
+    let many = unused_but_two (length c.args.front.now) c.args.ids c.args.front.now c.requires.two c.requires.front in
+    ⊎_elim
+    (λ first. ⊎_elim
+    (λ end. inl (first ∙ end ∙ rw c.split_at.ensures.back (omega (arith, many, c.from.ensures))))
+    (λ gap. inr (0, omega arith, first ∙ gap ∙ rw c.split_at.ensures.back at c.unused_below-first.ensures))
+    c.end_before.ensures.end)
+    (λ second. inr (1, omega arith, second ∙ rw c.split_at.ensures.back at c.unused_below-second.ensures))
+    c.end_before-2.ensures.end
