@@ -4,6 +4,8 @@
 
 #[cfg(test)]
 mod audits;
+#[cfg(test)]
+mod columns;
 pub mod programs;
 #[cfg(test)]
 mod reports;

@@ -5,3 +5,4 @@ pub mod AroundPlaces
 pub mod Known
 pub mod SameRun
 pub mod ColumnStates
+pub mod SeriesStates

@@ -31,6 +31,13 @@ pub record HoldParts (plan : ProgramForIds) (low b count : ℕ) (parts : PartCol
   pub own : HoldsPart plan low b 1 count parts.own
   pub right : HoldsPart plan low b 2 count parts.right
 
+-- the items from a place on, as many as count, are these states now, and the items before the place are as they were
+pub record AreWritten (old new : NodeStates) (place count : ℕ) (state : ℕ → List ℕ) : Type 0 where
+  pub registers : new.registers ≡ old.registers
+  pub nodes : length new.states ≡ length old.states
+  pub here : (i : ℕ) → i < count → slice_index_or new.states (place + i) [] ≡ state i
+  pub before : (i : ℕ) → i < place → slice_index_or new.states i [] ≡ slice_index_or old.states i []
+
 -- what the type of a maker of blocks keeps: the code of its plan, room for it, and columns
 pub record IsReady (plan code : ProgramForIds) (work : Room) (parts : PartColumns) (made : NodeStates) : Type 0 where
   pub code_is : code ≡ plan

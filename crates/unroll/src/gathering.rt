@@ -14,13 +14,13 @@ ghost use Rattle.win_index.specs.Windows.{windows, IsWindow};
 
 use crate::fault::MakeFault;
 use crate::part_columns::PartColumns;
-use crate::parts::right_state;
+use crate::parts::right_part;
 use crate::run::run_of;
 use crate::source::Source;
 use lang_check::Plan;
 use round_columns::{Code, Columns, Work, step_columns};
 use round_eval::{rows_are_written, start_state, width_of};
-use win_index::{BLOCK_WINDOWS, Shape};
+use win_index::{BLOCK_WINDOWS, Shape, number_of_window, windows_have_numbers};
 
 // How many windows a block holds.
 pub(crate) fn len_of(shape: Shape, level: u32, number: u32) -> u32
@@ -59,14 +59,20 @@ pub(crate) fn gather<'s, S: Source<'s>>(
     ensures fault { IfErr result (IsMakeFault (S.entries source.new) plan.now.ids (below + 1) number) }
     ensures memory { IsErrOf result MakeFault.OutOfMemory → ⊥ }
 {
+    number_of_window();
+    windows_have_numbers();
     let shape = plan.shape();
+    let len = len_of(shape, below + 1, number);
+    let mut place = 0;
     let mut last = None;
     let mut last_right = None;
-    for place in 0..len_of(shape, below + 1, number) as usize {
+    while place < len {
         let run = run_of(plan, source, below, window, last)?;
-        let (right, block) = right_state(plan, source, below, window, run.start, last_right)?;
-        parts.put(place, run.left, run.own, right);
+        let (block, index) = right_part(plan, source, below, window, run.start, last_right)?;
+        let count = shape.series(below, window, (len - place).min(block.len() - index));
+        parts.put_series(place as usize, count, run.left, run.own, block, index);
         shape.next_window(below + 1, window);
+        place += count;
         last = Some(run);
         last_right = Some(block);
     }

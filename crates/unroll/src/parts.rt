@@ -1,6 +1,7 @@
 // The states of the three parts of a window: its first, its middle and its last identifiers, one level lower.
-ghost use Rattle.std.specs.Prelude.{◌≡◌, ◌+◌, ◌*◌, ◌<◌, ◌≤◌, length, take, drop, slice_get, Some, None, IfSome, IfNone, IfOk, IfErr, OnOk};
+ghost use Rattle.std.specs.Prelude.{◌≡◌, ◌+◌, ◌*◌, ◌/◌, ◌%◌, ◌<◌, ◌≤◌, length, take, drop, slice_get, Some, None, IfSome, IfNone, IfOk, IfErr, OnOk};
 ghost use Rattle.unroll.specs.Below.{part};
+ghost use Rattle.unroll.specs.BlockStates.{block_len};
 ghost use Rattle.unroll.specs.Entries.{Grows, IsEntry};
 ghost use Rattle.unroll.specs.Line.{middle_state};
 ghost use Rattle.unroll.specs.Parts.{KnowsPart, IsMissingPart};
@@ -37,20 +38,20 @@ pub(crate) fn state_below<'s, S: Source<'s>>(
     let number = plan
         .shape()
         .window_number(below, part_of(window, below, offset));
-    let (state, _block) = numbered_state(plan, source, below, window, offset, number, None)?;
-    Ok(state)
+    let block = numbered_block(plan, source, below, window, offset, number, None)?;
+    Ok(block.state(number % BLOCK_WINDOWS))
 }
 
-// The state of the last part of a window, and the block that holds it, where the windows that begin as this part does,
-// with all identifiers but the last, start at this number. The block that held such a part before may be given.
-pub(crate) fn right_state<'s, S: Source<'s>>(
+// The block that holds the last part of a window, and the place of the part in it, where the windows that begin as this
+// part does, with all identifiers but the last, start at this number. The block that held such a part before may be given.
+pub(crate) fn right_part<'s, S: Source<'s>>(
     plan: &Plan,
     source: &mut S,
     below: u32,
     window: &[u32],
     start: u32,
     last: Option<&'s Block<'s>>,
-) -> Result<(&'s [u32], &'s Block<'s>), MakeFault>
+) -> Result<(&'s Block<'s>, u32), MakeFault>
     requires plan { S.plan source.old ≡ plan.now }
     requires below { below < length plan.now.program.steps }
     requires window { IsWindow (2 * below + 3) plan.now.ids window.now }
@@ -59,14 +60,15 @@ pub(crate) fn right_state<'s, S: Source<'s>>(
     ensures same_plan { S.plan source.new ≡ S.plan source.old }
     ensures same_fixed { S.fixed source.new ≡ S.fixed source.old }
     ensures grows { Grows (S.entries source.old) (S.entries source.new) }
-    ensures state { IfOk result (λ r. r.0.now ≡ middle_state plan.now.program below (part window.now below 2)) }
-    ensures cells { IfOk result (λ r. length r.0.now ≡ length plan.now.program.start) }
-    ensures block { IfOk result (λ r. IsEntry plan.now (S.entries source.new) below r.1.now.number r.1.now) }
-    ensures known { OnOk result (KnowsPart (S.entries source.new) plan.now.ids below window.now 2) }
+    ensures block { IfOk result (λ r. IsEntry plan.now (S.entries source.new) below r.0.now.number r.0.now) }
+    ensures inside { IfOk result (λ r. r.1 < block_len plan.now.ids below r.0.now.number) }
+    ensures item { IfOk result (λ r.
+        slice_get (windows (2 * below + 1) plan.now.ids) (256 * r.0.now.number + r.1) ≡ Some (part window.now below 2)) }
     ensures fault { IfErr result (IsMissingPart (S.entries source.new) plan.now.ids (below + 1) window.now) }
 {
     let number = right_number(plan, below, window, start);
-    numbered_state(plan, source, below, window, 2, number, last)
+    let block = numbered_block(plan, source, below, window, 2, number, last)?;
+    Ok((block, number % BLOCK_WINDOWS))
 }
 
 // The number of the last part of a window.
@@ -81,9 +83,9 @@ fn right_number(plan: &Plan, below: u32, window: &[u32], start: u32) -> u32
         .number_in_run(below, start, part_of(window, below, 2))
 }
 
-// The state of the part of a window from a place on, where the part has this number, and the block that holds it. A block
-// of the level may be given.
-fn numbered_state<'s, S: Source<'s>>(
+// The block that holds the part of a window from a place on, where the part has this number. A block of the level may be
+// given.
+fn numbered_block<'s, S: Source<'s>>(
     plan: &Plan,
     source: &mut S,
     below: u32,
@@ -91,7 +93,7 @@ fn numbered_state<'s, S: Source<'s>>(
     offset: usize,
     number: u32,
     last: Option<&'s Block<'s>>,
-) -> Result<(&'s [u32], &'s Block<'s>), MakeFault>
+) -> Result<&'s Block<'s>, MakeFault>
     requires plan { S.plan source.old ≡ plan.now }
     requires below { below < length plan.now.program.steps }
     requires offset { offset ≤ 2 }
@@ -101,17 +103,15 @@ fn numbered_state<'s, S: Source<'s>>(
     ensures same_plan { S.plan source.new ≡ S.plan source.old }
     ensures same_fixed { S.fixed source.new ≡ S.fixed source.old }
     ensures grows { Grows (S.entries source.old) (S.entries source.new) }
-    ensures state { IfOk result (λ r. r.0.now ≡ middle_state plan.now.program below (part window.now below offset)) }
-    ensures cells { IfOk result (λ r. length r.0.now ≡ length plan.now.program.start) }
-    ensures block { IfOk result (λ r. IsEntry plan.now (S.entries source.new) below r.1.now.number r.1.now) }
-    ensures known { OnOk result (KnowsPart (S.entries source.new) plan.now.ids below window.now offset) }
+    ensures block { IfOk result (λ b. IsEntry plan.now (S.entries source.new) below (number / 256) b.now) }
+    ensures inside { number % 256 < block_len plan.now.ids below (number / 256) }
     ensures fault { IfErr result (IsMissingPart (S.entries source.new) plan.now.ids (below + 1) window.now) }
 {
     let place = number / BLOCK_WINDOWS;
     let Some(block) = known_block(plan, source, below, place, last) else {
         return Err(MakeFault::Missing(below, place));
     };
-    Ok((block.state(number % BLOCK_WINDOWS), block))
+    Ok(block)
 }
 
 // The block of a level with this number: the one that is given, where it has the number, else the one that the source has.

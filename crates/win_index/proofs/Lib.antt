@@ -9,6 +9,7 @@ pub mod Sizes
 pub mod Writing
 pub mod Levels
 pub mod RunStarts
+pub mod SeriesPlaces
 pub mod Arcs
 pub mod Tuples
 pub mod Order

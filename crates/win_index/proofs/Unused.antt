@@ -1,12 +1,12 @@
 -- The numbers below a bound that a list of distinct numbers lacks.
-use Rattle.std.proofs.Common.{◌≡◌, ◌≢◌, ◌⊎◌, ℕ, zero, suc, ◌+◌, ◌<◌, Bool, true, false, not, cond, nat_lt, eqb, List, [], ◌∷◌, length, get_or, count_by, slice_get, Some, All, AllPairs, refl, sym, ap, ◌∙◌, arith, length-append, ⊎_elim}
-use Rattle.std.proofs.lemmas.Bool.{cases_order, lt-ltb, le-ltb, eq-eqb, ne_eqb, false≢true, not_from_false}
+use Rattle.std.proofs.Common.{◌≡◌, ◌≢◌, ◌⊎◌, ℕ, zero, suc, ◌+◌, ◌-◌, ◌<◌, ◌≤◌, Bool, true, false, not, cond, nat_lt, eqb, List, [], ◌∷◌, length, get_or, count_by, slice_get, Some, All, AllPairs, refl, sym, ap, ◌∙◌, arith, length-append, ⊎_elim}
+use Rattle.std.proofs.lemmas.Bool.{cases_lt, cases_order, lt-ltb, le-ltb, eq-eqb, ne_eqb, false≢true, not_from_false}
 use Rattle.std.proofs.lemmas.Grind.{get_or_default_zero}
 use Rattle.std.proofs.lemmas.List.Elements.{All-head, All-tail}
 use Rattle.std.proofs.lemmas.List.Folds.{list_any_none, list_any_at}
 use Rattle.std.proofs.lemmas.List.Recursion.{is_count_by}
 use Rattle.win_index.specs.Windows.{is_used, unused}
-use Rattle.win_index.proofs.Kept.{kept, kept_suc, kept_more, kept_own}
+use Rattle.win_index.proofs.Kept.{kept, kept_suc, kept_more, kept_own, kept_rises}
 
 -- whether a list lacks a number
 abbrev pub lacks : List ℕ → ℕ → Bool
@@ -117,3 +117,74 @@ unused_more list x =
           let own : length (cond (lacks list x) (x ∷ []) []) ≡ 0 = rw used in
           omega (arith, more),
     )
+
+-- the list lacks at most so many numbers more below a larger number
+pub unused_few : (list : List ℕ) (x more : ℕ) → length (unused (x + more) list) ≤ length (unused x list) + more
+unused_few list x zero =
+    let same : x + zero ≡ x = omega arith in
+    rw same (omega arith)
+unused_few list x (suc more) =
+    let fewer = unused_few list x more in
+    let one = unused_more list (x + more) in
+    let sum : x + suc more ≡ x + more + 1 = omega arith in
+    rw sum
+    (elim (is_used list (x + more)) as (λ used. (used ≡ false → length (unused (x + more + 1) list) ≡ length (unused (x + more) list) + 1) → (used ≡ true → length (unused (x + more + 1) list) ≡ length (unused (x + more) list)) → length (unused (x + more + 1) list) ≤ length (unused x list) + suc more) [
+      | true ↦ λ free used. omega (arith, fewer, used refl)
+      | false ↦ λ free used. omega (arith, fewer, free refl)
+    ] one.0 one.1)
+
+-- a number below which the list lacks fewer than below m is below m
+pub unused_below_bound : (list : List ℕ) (x m : ℕ) → length (unused x list) < length (unused m list) → x < m
+unused_below_bound list x m fewer =
+    ⊎_elim
+    (λ (lt : x < m). lt)
+    (λ (le : m ≤ x). absurd (omega (arith, kept_rises (lacks list) m x le, fewer)))
+    (cases_lt x m)
+
+-- the number before x stands at a place where the list lacks one number more below x than the place says, and no more below the number before x
+pub unused_before :
+    (list : List ℕ) (m place x : ℕ) → 1 ≤ x → x ≤ m → length (unused (x - 1) list) ≤ place → length (unused x list) ≡ place + 1
+    → slice_get (unused m list) place ≡ Some (x - 1)
+unused_before list m place x some le before own =
+    let y : ℕ = x - 1 in
+    let next : y + 1 ≡ x = omega arith in
+    let more = rw next at (unused_more list y) in
+    elim (is_used list y) as (λ used. (used ≡ false → length (unused x list) ≡ length (unused y list) + 1)
+    → (used ≡ true → length (unused x list) ≡ length (unused y list)) → is_used list y ≡ used
+    → slice_get (unused m list) place ≡ Some y) [
+      | true ↦ λ free used e. absurd (omega (arith, used refl, before, own))
+      | false ↦ λ free used e.
+          let at' : length (unused y list) ≡ place = omega (arith, free refl, own) in
+          rw at' at (unused_at list m y (omega arith) e)
+    ] more.0 more.1 refl
+
+-- by a step of as many numbers as are lacking at most so many are found, but for the last
+pub unused_reached :
+    (list : List ℕ) (place x more : ℕ) → 1 ≤ more → length (unused x list) + more ≡ place + 1
+    → length (unused (x + more - 1) list) ≤ place
+unused_reached list place x more some sum =
+    let before : x + (more - 1) ≡ x + more - 1 = omega arith in
+    let few : length (unused (x + (more - 1)) list) ≤ place = omega (arith, unused_few list x (more - 1), sum) in
+    rw before at few
+
+-- where the list lacks more numbers below m than the place says, that step stays within m, and finds at most one number more than the place says
+pub reached_inside :
+    (list : List ℕ) (m place x more : ℕ) → 1 ≤ more → length (unused x list) + more ≡ place + 1 → place < length (unused m list)
+    → (length (unused (x + more - 1) list) ≤ place) × (x + more ≤ m) × (length (unused (x + more) list) ≤ place + 1)
+reached_inside list m place x more some sum few =
+    let before = unused_reached list place x more some sum in
+    let inside = unused_below_bound list (x + more - 1) m (omega (arith, before, few)) in
+    let last : x + more - 1 + 1 ≡ x + more = omega arith in
+    (before, omega (arith, inside), omega (arith, before, rw last at (unused_few list (x + more - 1) 1)))
+
+-- a number in front of a list is one that it lacks no more
+pub unused_in_front :
+    (y x : ℕ) (list : List ℕ) → IsDistinct (y ∷ list) → length (unused x (y ∷ list)) + cond (nat_lt y x) 1 0 ≡ length (unused x list)
+unused_in_front y x list distinct =
+    let longer = length-unused_rank (y ∷ list) x distinct in
+    let shorter = length-unused_rank list x (distinct_tail y list distinct) in
+    elim (nat_lt y x) as (λ less. length (unused x (y ∷ list)) + cond less (1 + rank list x) (rank list x) ≡ x
+    → length (unused x (y ∷ list)) + cond less 1 0 ≡ length (unused x list)) [
+      | true ↦ λ sum. omega (arith, sum, shorter)
+      | false ↦ λ sum. omega (arith, sum, shorter)
+    ] longer

@@ -139,24 +139,29 @@ pub(crate) fn unused_below(before: &[u32], x: u32) -> u64
 fn least_unused(ids: u32, before: &[u32], low: u32) -> Option<u32>
     ensures { result ≡ find (λ x. not (is_used before.now x)) (range_with_len low (ids - low)) }
 {
-    (low..ids).find(|x| !before.contains(x))
+    (low..ids).find(|x| !stands_in(before, *x))
 }
 
-// The number below `ids` that stands at this place of those that are not among the ones before.
-fn nth_unused(ids: u32, before: &[u32], place: u64) -> u32
-    requires { place < length (unused ids before.now) }
+// Whether the number stands in the list, which is short.
+fn stands_in(list: &[u32], x: u32) -> bool
+    ensures { result ≡ is_used list.now x }
+{
+    list.iter().any(|y| *y == x)
+}
+
+// The number below `ids` that stands at this place of those that are not among the distinct ones before.
+pub(crate) fn nth_unused(ids: u32, before: &[u32], place: u64) -> u32
+    requires distinct { AllPairs (λ a b. a ≢ b) before.now }
+    requires place { place < length (unused ids before.now) }
     ensures { slice_get (unused ids before.now) place ≡ Some result }
 {
-    let mut left = place;
-    for x in 0..ids {
-        if !before.contains(&x) {
-            if left == 0 {
-                return x;
-            }
-            left -= 1;
-        }
+    let mut end = place as u32 + 1;
+    let mut lacking = place + 1 - unused_below(before, end);
+    while lacking > 0 {
+        end += lacking as u32;
+        lacking = place + 1 - unused_below(before, end);
     }
-    unreachable!()
+    end - 1
 }
 
 // Writes the list with this number, of those of `len` numbers, into the first `len` cells.

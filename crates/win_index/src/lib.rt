@@ -7,6 +7,7 @@ mod laws;
 mod limits;
 mod ring;
 mod shape;
+mod series;
 
 pub use laws::{
     blocks_are_few, count_of_windows, jobs_have_numbers, longer_windows_have_numbers,

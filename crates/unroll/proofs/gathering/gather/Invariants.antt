@@ -1,4 +1,4 @@
-use Rattle.std.proofs.Common.{◌≡◌, ◌+◌, ◌*◌, ◌<◌, slice_get, Some, IfSome}
+use Rattle.std.proofs.Common.{◌≡◌, ◌+◌, ◌-◌, ◌*◌, ◌<◌, ◌≤◌, slice_get, Some, IfSome}
 use Rattle.win_index.specs.Windows.{windows, IsWindow}
 use Rattle.unroll.specs.BlockStates.{block_len}
 use Rattle.unroll.specs.Entries.{Grows, IsEntry}
@@ -9,6 +9,7 @@ use Rattle.unroll.proofs.gathering.gather.Given as goal
 abbrev pub invariant-loop-place : goal.invariant-loop-place
 invariant-loop-place g l =
     record {
+      within : l.place ≤ l.len;
       same_plan : g.S.Source.plan l.source ≡ g.S.Source.plan l.fn.source;
       same_fixed : g.S.Source.fixed l.source ≡ g.S.Source.fixed l.fn.source;
       grows : Grows (g.S.Source.entries l.fn.source) (g.S.Source.entries l.source);
@@ -21,3 +22,6 @@ invariant-loop-place g l =
       states : HoldParts l.plan l.below l.number l.place l.parts;
       known : KnowsBelow (g.S.Source.entries l.source) l.plan.ids (l.below + 1) l.number l.place;
     }
+
+abbrev pub decreases-loop-place : goal.decreases-loop-place
+decreases-loop-place g l = l.len - l.place

@@ -33,7 +33,10 @@ pub nth_unused-requires : goal.nth_unused-requires
 nth_unused-requires t c =
     let last = c.args.len - 1 in
     let left = some_left c.args.len c.args.ids last c.args.number (omega arith) c.requires.below in
-    rw c.from.ensures (rest_below c.args.ids last c.args.number _ (take last c.write_list.new.list) c.write_list.ensures.item left)
+    record {
+      distinct = c.write_list.ensures.window.distinct;
+      place = rw c.from.ensures (rest_below c.args.ids last c.args.number _ (take last c.write_list.new.list) c.write_list.ensures.item left);
+    }
 
 pub returns-clause-item : goal.returns-clause-item
 returns-clause-item t c =

@@ -29,7 +29,10 @@ nth_unused-requires t c =
     let last = c.args.len - 1 in
     let front = shorter_window c.args.len c.args.ids last c.args.list.now (omega arith) c.requires.window in
     let within = window_within _ _ _ c.requires.window in
-    later_lacks last c.args.ids (take last c.args.list.now) (take last c.write_next.new.list) (omega arith) front c.if-not-write_next.ensures.next
+    record {
+      distinct = c.if-not-write_next.ensures.window.distinct;
+      place = later_lacks last c.args.ids (take last c.args.list.now) (take last c.write_next.new.list) (omega arith) front c.if-not-write_next.ensures.next;
+    }
 
 pub returns-clause-next : goal.returns-clause-next
 returns-clause-next t c =

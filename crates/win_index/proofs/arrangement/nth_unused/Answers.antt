@@ -1,21 +1,72 @@
-use Rattle.std.proofs.Common.{◌≡◌, length, sym, ◌∙◌, arith}
+use Rattle.std.proofs.Common.{◌≡◌, ◌+◌, ◌-◌, ◌<◌, ◌≤◌, length, arith}
 use Rattle.win_index.specs.Windows.{unused}
-use Rattle.win_index.proofs.Unused.{unused_at, unused_more}
+use Rattle.win_index.proofs.Unused.{unused_below, reached_inside, unused_before}
 use Rattle.win_index.proofs.arrangement.nth_unused.Goals as goal
-use Rattle.win_index.proofs.arrangement.nth_unused.Goals.{then-not-contains+else-left-eq0, else-not-contains}
 
-pub returns-then-left-eq0 : goal.returns-then-left-eq0
-returns-then-left-eq0 c =
-    let place : length (unused c.loop-x.x-counter c.args.before.now) ≡ c.args.place = omega (arith, c.loop-x.invariant) in
-    rw place at
-    (unused_at c.args.before.now c.args.ids c.loop-x.x-counter c.loop-x-test.true (sym c.contains.ensures.value ∙ c.if-not-contains.true))
+pub overflow_cast-end : goal.overflow_cast-end
+overflow_cast-end c = omega (arith, unused_below c.args.before.now c.args.ids c.requires.distinct, c.requires.place, c.ranges.ids.fits)
 
-pub loop-x-preserved : goal.loop-x-preserved
-loop-x-preserved c =
-    let more = unused_more c.args.before.now c.loop-x.x-counter in
-    elim c.if-not-contains.branch [
-      | then-not-contains+else-left-eq0 w ↦
-          omega (arith, c.loop-x.invariant, more.0 (sym c.contains.ensures.value ∙ w.if-not-contains.true), w.left-is)
-      | else-not-contains w ↦
-          omega (arith, c.loop-x.invariant, more.1 (sym c.contains.ensures.value ∙ w.if-not-contains.false), w.left-is)
-    ]
+pub overflow_add-end : goal.overflow_add-end
+overflow_add-end c = omega (arith, unused_below c.args.before.now c.args.ids c.requires.distinct, c.requires.place, c.ranges.ids.fits)
+
+pub overflow_add-lacking : goal.overflow_add-lacking
+overflow_add-lacking c = omega (arith, unused_below c.args.before.now c.args.ids c.requires.distinct, c.requires.place, c.ranges.ids.fits)
+
+pub overflow_sub-lacking : goal.overflow_sub-lacking
+overflow_sub-lacking c =
+    omega (arith, unused_below c.args.before.now (c.args.place + 1) c.requires.distinct, c.unused_below.ensures)
+
+pub loop-lacking-init : goal.loop-lacking-init
+loop-lacking-init c =
+    let list = c.args.before.now in
+    let place = c.args.place in
+    let below = unused_below list (place + 1) c.requires.distinct in
+    let before = unused_below list place c.requires.distinct in
+    let start : place + 1 - 1 ≡ place = omega arith in
+    record {
+      some = omega arith;
+      inside = omega (arith, unused_below list c.args.ids c.requires.distinct, c.requires.place);
+      before_end = rw start (omega (arith, before));
+      lacking = omega (arith, below, c.unused_below.ensures);
+    }
+
+pub overflow_cast-end-in-loop-lacking : goal.overflow_cast-end-in-loop-lacking
+overflow_cast-end-in-loop-lacking c =
+    omega (arith, c.loop-lacking.invariant.lacking, unused_below c.args.before.now c.args.ids c.requires.distinct, c.requires.place, c.ranges.ids.fits)
+
+pub overflow_add-end-in-loop-lacking : goal.overflow_add-end-in-loop-lacking
+overflow_add-end-in-loop-lacking c =
+    omega (
+      arith,
+      (reached_inside c.args.before.now c.args.ids c.args.place c.loop-lacking.end c.loop-lacking.lacking (omega (arith, c.loop-lacking-test.true))
+          c.loop-lacking.invariant.lacking c.requires.place).1,
+      c.ranges.ids.fits,
+    )
+
+pub overflow_add-lacking-in-loop-lacking : goal.overflow_add-lacking-in-loop-lacking
+overflow_add-lacking-in-loop-lacking c =
+    omega (arith, unused_below c.args.before.now c.args.ids c.requires.distinct, c.requires.place, c.ranges.ids.fits)
+
+pub overflow_sub-lacking-in-loop-lacking : goal.overflow_sub-lacking-in-loop-lacking
+overflow_sub-lacking-in-loop-lacking c =
+    let list = c.args.before.now in
+    let reached = reached_inside list c.args.ids c.args.place c.loop-lacking.end c.loop-lacking.lacking (omega (arith, c.loop-lacking-test.true))
+    c.loop-lacking.invariant.lacking c.requires.place in
+    omega (arith, c.unused_below-in-loop-lacking.ensures, reached.2)
+
+pub loop-lacking-preserved : goal.loop-lacking-preserved
+loop-lacking-preserved c =
+    let list = c.args.before.now in
+    let reached = reached_inside list c.args.ids c.args.place c.loop-lacking.end c.loop-lacking.lacking (omega (arith, c.loop-lacking-test.true))
+    c.loop-lacking.invariant.lacking c.requires.place in
+    record {
+      some = omega (arith, c.loop-lacking-test.true);
+      inside = reached.1;
+      before_end = reached.0;
+      lacking = omega (arith, c.unused_below-in-loop-lacking.ensures, reached.2);
+    }
+
+pub returns : goal.returns
+returns c =
+    unused_before c.args.before.now c.args.ids c.args.place c.loop-lacking.end c.loop-lacking.invariant.some c.loop-lacking.invariant.inside
+    c.loop-lacking.invariant.before_end (omega (arith, c.loop-lacking.invariant.lacking, c.loop-lacking-test.false))

@@ -1,0 +1,57 @@
+//! Tables that are filled by columns, beside the states of single windows.
+
+use crate::programs::{CV1, EIGHT_REGISTERS, RED, TWO_REGISTERS};
+use lang_check::{Plan, accept};
+use node_lang::{MAX_REGISTERS, parse};
+use round_eval::{OpenGate, channel, width_of};
+use shared_memo::Memo;
+use std::alloc::Global;
+use std::sync::Wait;
+use std::test::Fail;
+use std::thread::Threads;
+use table_fill::{Table, compile};
+use unroll::window_state;
+use win_index::MAX_WINDOW_LEN;
+
+/// The table of a plan, filled by two workers.
+fn table_of<R: Threads + Wait + Sync>(rt: &R, alloc: Global, plan: &Plan) -> Result<Table, Fail> {
+    let memo = Memo::new(alloc, plan).ok().ok_or("a memo")?;
+    let mut pass = memo.pass(alloc).ok().ok_or("a pass")?;
+    let table = compile(rt, alloc, plan, &memo, &mut pass, 2, &OpenGate);
+    Ok(table.ok().ok_or("a table")?)
+}
+
+/// How many windows have the channel of the state that their rounds leave.
+fn windows_with_their_channel(plan: &Plan, table: &Table) -> u32 {
+    let shape = plan.shape();
+    let level = shape.rounds();
+    let mut ids = [0; MAX_WINDOW_LEN];
+    let window = &mut ids[..2 * level as usize + 1];
+    let mut cells = [0; MAX_REGISTERS as usize];
+    let state = &mut cells[..width_of(plan)];
+    let mut found = 0;
+    for number in 0..shape.count(level) {
+        shape.window(level, number, window);
+        window_state(plan, window, state);
+        if table.channel_at(window) == Some(channel(plan, state)) {
+            found += 1;
+        }
+    }
+    found
+}
+
+#[test]
+fn tables_have_the_channels_of_single_windows(rt: HostRuntime) -> Result<(), Fail> {
+    for (text, windows) in [
+        (CV1, 336),
+        (TWO_REGISTERS, 336),
+        (EIGHT_REGISTERS, 40_320),
+        (RED, 40_320),
+    ] {
+        let program = parse(rt.alloc(), text)?;
+        let plan = accept(program, 8).ok().ok_or("a plan")?;
+        let table = table_of(&rt, rt.alloc(), &plan)?;
+        assert_eq!(rt; windows_with_their_channel(&plan, &table), windows);
+    }
+    Ok(())
+}

@@ -1,0 +1,122 @@
+-- The parts of the windows of a series: the first two are the same in all, and the last ones stand in one block, one after another.
+use Rattle.std.proofs.Common.{◌≡◌, ℕ, ◌+◌, ◌-◌, ◌*◌, ◌/◌, ◌<◌, ◌≤◌, List, length, take, drop, slice_get, Some, IsSome, true, sym, ap, ◌∙◌, arith, subst}
+use Rattle.std.proofs.lemmas.List.{take_all, length-drop}
+use Rattle.std.proofs.lemmas.Nat.{div-mul-add}
+use Rattle.std.proofs.lemmas.Option.{same_Some}
+use Rattle.win_index.specs.Laws.{NumberOfWindow, WindowsHaveNumbers}
+use Rattle.win_index.specs.Runs.{IsSeries}
+use Rattle.win_index.specs.Windows.{windows, number_of, IsWindow}
+use Rattle.lang_check.specs.Plans.{ProgramForIds}
+use Rattle.unroll.specs.Below.{part}
+use Rattle.unroll.specs.BlockStates.{MadeBlock, window_numbered, block_state}
+use Rattle.unroll.specs.Entries.{Entries, Grows}
+use Rattle.unroll.specs.Line.{middle_state}
+use Rattle.unroll.specs.Parts.{KnowsPart, KnowsParts, KnowsBelow, IsRun}
+use Rattle.unroll.specs.declared.run.Run.{Run}
+use Rattle.unroll.specs.WideColumns.{HoldParts, AreWritten}
+use Rattle.unroll.specs.declared.part_columns.PartColumns.{PartColumns}
+use Rattle.unroll.proofs.ColumnStates.{below_sum, held_more}
+use Rattle.unroll.proofs.Known.{still_known, knows_three, window_at}
+use Rattle.unroll.proofs.SameRun.{same_run}
+
+-- the last identifiers of a window one level above low are its last part
+last_part : (low : ℕ) (w : List ℕ) → length w ≡ 2 * low + 3 → part w low 2 ≡ drop 2 w
+last_part low w size = take_all (2 * low + 1) (drop 2 w) (omega (arith, length-drop 2 w, size))
+
+-- Window place + i of block b of the level above low, where the window at the place begins a series whose last parts stand in block c from an index
+-- on: it has the run of all its windows, and its last part stands there.
+pub record SeriesAt (plan : ProgramForIds) (entries : Entries) (low b place c index i : ℕ) (run : Run) : Type 0 where
+  pub next : List ℕ
+  pub numbered : window_numbered plan.ids (low + 1) (256 * b + (place + i)) ≡ next
+  pub size : length next ≡ 2 * low + 3
+  pub run_is : IsRun plan entries low next run
+  pub right_at : slice_get (windows (2 * low + 1) plan.ids) (256 * c + (index + i)) ≡ Some (part next low 2)
+
+-- the last window of a series
+pub series_last :
+    (m low n count : ℕ) (w last : List ℕ) → slice_get (windows (2 * (low + 1) + 1) m) n ≡ Some w → IsSeries (2 * low + 1) m w last count
+    → slice_get (windows (2 * (low + 1) + 1) m) (n + (count - 1)) ≡ Some last
+series_last m low n count w last at' series =
+    let level : 2 * low + 1 + 2 ≡ 2 * (low + 1) + 1 = omega arith in
+    let own : slice_get (windows (2 * low + 1 + 2) m) n ≡ Some w = subst (λ k. slice_get (windows k m) n ≡ Some w) (sym level) at' in
+    subst (λ k. slice_get (windows k m) (n + (count - 1)) ≡ Some last) level (series.last_is n own)
+
+module _ (number_of_window : NumberOfWindow) (windows_have_numbers : WindowsHaveNumbers) where
+  pub series_at :
+      (plan : ProgramForIds) (entries : Entries) (low b place c index count i : ℕ) (w last : List ℕ) (run : Run) → length w ≡ 2 * low + 3
+      → slice_get (windows (2 * (low + 1) + 1) plan.ids) (256 * b + place) ≡ Some w
+      → slice_get (windows (2 * low + 1) plan.ids) (256 * c + index) ≡ Some (part w low 2)
+      → IsSeries (2 * low + 1) plan.ids w last count → IsRun plan entries low w run → i < count → SeriesAt plan entries low b place c index i run
+  series_at plan entries low b place c index count i w last run size at' right_at series run_is lt =
+      let m : ℕ = plan.ids in
+      let level : 2 * low + 1 + 2 ≡ 2 * (low + 1) + 1 = omega arith in
+      let front : 2 * low + 1 + 1 ≡ 2 * low + 2 = omega arith in
+      let long : 2 * (low + 1) + 1 ≡ 2 * low + 3 = omega arith in
+      let number : 256 * b + place + i ≡ 256 * b + (place + i) = omega arith in
+      let right_number : 256 * c + index + i ≡ 256 * c + (index + i) = omega arith in
+      let own : slice_get (windows (2 * low + 1 + 2) m) (256 * b + place) ≡ Some w =
+      subst (λ k. slice_get (windows k m) (256 * b + place) ≡ Some w) (sym level) at' in
+      let rest : slice_get (windows (2 * low + 1) m) (256 * c + index) ≡ Some (drop 2 w) = right_at ∙ ap Some (last_part low w size) in
+      let there = series.each (256 * b + place) (256 * c + index) i own rest lt in
+      let next : List ℕ = there.0 in
+      let raised : slice_get (windows (2 * (low + 1) + 1) m) (256 * b + place + i) ≡ Some next =
+      subst (λ k. slice_get (windows k m) (256 * b + place + i) ≡ Some next) level there.1 in
+      let next_at : slice_get (windows (2 * (low + 1) + 1) m) (256 * b + (place + i)) ≡ Some next =
+      subst (λ n. slice_get (windows (2 * (low + 1) + 1) m) n ≡ Some next) number raised in
+      let same_front : take (2 * low + 2) w ≡ take (2 * low + 2) next = subst (λ k. take k w ≡ take k next) front (sym there.2) in
+      let has = number_of_window (2 * (low + 1) + 1) m (256 * b + (place + i)) next next_at in
+      let is = (windows_have_numbers (2 * (low + 1) + 1) m next).0 (subst (λ o. IsSome o) (sym has) (λ _. true)) in
+      let next_size : length next ≡ 2 * low + 3 = is.size ∙ long in
+      let last_at : slice_get (windows (2 * low + 1) m) (256 * c + index + i) ≡ Some (part next low 2) =
+      there.3 ∙ ap Some (sym (last_part low next next_size)) in
+      record {
+        next = next;
+        numbered = window_at m (low + 1) (256 * b + (place + i)) next next_at;
+        size = next_size;
+        run_is = same_run plan entries low w next run same_front run_is;
+        right_at = subst (λ n. slice_get (windows (2 * low + 1) m) n ≡ Some (part next low 2)) right_number last_at;
+      }
+
+  -- the parts of such a window are known where the block is that holds the last parts
+  pub series_known :
+      (plan : ProgramForIds) (entries : Entries) (low b place c index i : ℕ) (run : Run) → IsSome (entries low c) → index + i < 256
+      → SeriesAt plan entries low b place c index i run → KnowsParts entries plan.ids low (window_numbered plan.ids (low + 1) (256 * b + (place + i)))
+  series_known plan entries low b place c index i run known small stands =
+      subst (KnowsParts entries plan.ids low) (sym stands.numbered)
+      (knows_three entries plan.ids low stands.next stands.run_is.left_known stands.run_is.own_known
+      (λ number is.
+      let own = number_of_window (2 * low + 1) plan.ids (256 * c + (index + i)) (part stands.next low 2) stands.right_at in
+      let same : number ≡ 256 * c + (index + i) = same_Some number (256 * c + (index + i)) (sym is ∙ own) in
+      let sum : 256 * c + (index + i) ≡ c * 256 + (index + i) = omega arith in
+      let block : number / 256 ≡ c = ap (λ k. k / 256) (same ∙ sum) ∙ div-mul-add c 256 (index + i) small in
+      subst (λ k. IsSome (entries low k)) (sym block) known))
+
+-- columns that hold the parts of the first windows of a block, and then those of the windows of a series
+pub hold_series :
+    (plan : ProgramForIds) (entries : Entries) (low b place c index count : ℕ) (run : Run) (old now : PartColumns) → HoldParts plan low b place old
+    → AreWritten old.left now.left place count (λ i. run.left.now) → AreWritten old.own now.own place count (λ i. run.own.now)
+    → AreWritten old.right now.right place count (λ i. block_state plan low c (index + i))
+    → ((i : ℕ) → i < count → SeriesAt plan entries low b place c index i run) → HoldParts plan low b (place + count) now
+hold_series plan entries low b place c index count run old now held left own right stands =
+    record {
+      sizes = below_sum (λ i. length (window_numbered plan.ids (low + 1) (256 * b + i)) ≡ 2 * low + 3) place count held.sizes
+          (λ i lt. ap length (stands i lt).numbered ∙ (stands i lt).size);
+      left = held_more plan low b 0 place count old.left now.left (λ i. run.left.now) held.left left
+          (λ i lt. (stands i lt).run_is.left_is ∙ ap (λ w. middle_state plan.program low (part w low 0)) (sym (stands i lt).numbered));
+      own = held_more plan low b 1 place count old.own now.own (λ i. run.own.now) held.own own
+          (λ i lt. (stands i lt).run_is.own_is ∙ ap (λ w. middle_state plan.program low (part w low 1)) (sym (stands i lt).numbered));
+      right = held_more plan low b 2 place count old.right now.right (λ i. block_state plan low c (index + i)) held.right right
+          (λ i lt. ap (middle_state plan.program low) (window_at plan.ids low (256 * c + (index + i)) (part (stands i lt).next low 2) (stands i lt).right_at)
+          ∙ ap (λ w. middle_state plan.program low (part w low 2)) (sym (stands i lt).numbered));
+    }
+
+-- the parts of the first windows of a block are known, and those of as many windows more
+pub knows_series :
+    (old new : Entries) (m low b place count : ℕ) → Grows old new → KnowsBelow old m (low + 1) b place
+    → ((i : ℕ) → i < count → KnowsParts new m low (window_numbered m (low + 1) (256 * b + (place + i)))) → KnowsBelow new m (low + 1) b (place + count)
+knows_series old new m low b place count grows before after =
+    λ lower j one lt.
+    let same : lower ≡ low = omega (arith, one) in
+    below_sum (λ i. KnowsParts new m lower (window_numbered m (low + 1) (256 * b + i))) place count
+    (λ i early n is. still_known old new lower (n / 256) grows (before lower i one early n is))
+    (λ i late. rw same (after i late)) j lt
