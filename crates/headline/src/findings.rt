@@ -58,7 +58,7 @@ pub fn compile_run_and_judge<'a, R: Threads + Wait + Sync, G: Gate + Sync>(
         Ok(channels) => channels,
         Err(fault) => return Err(FindingsFault::Run(fault)),
     };
-    let Ok(verdict) = judge(alloc, &table) else {
+    let Ok(verdict) = judge(rt, alloc, &table) else {
         return Err(FindingsFault::OutOfMemory);
     };
     Ok(Findings {

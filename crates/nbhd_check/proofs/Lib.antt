@@ -1,4 +1,5 @@
 pub mod Fronts
 pub mod GapPlaces
+pub mod LeastOfParts
 pub mod Runs
 pub mod Tuples

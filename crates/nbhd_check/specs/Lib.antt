@@ -1,5 +1,6 @@
 -- The definitions that the contracts cite: proper tables, good tables, runs of tuples, the judge's verdict, and the laws.
 pub mod Proper
 pub mod Runs
+pub mod Searches
 pub mod Verdicts
 pub mod Laws

@@ -32,7 +32,7 @@ pub fn judge_part(table: &Table, low: u64, high: u64) -> Option<u64>
 }
 
 // How many tuples begin with one window.
-fn run_len(table: &Table) -> u64
+pub(crate) fn run_len(table: &Table) -> u64
     ensures value { result ≡ run_len table.now }
     ensures some { 0 < result }
     ensures few { result ≤ MAX_IDS }
@@ -41,6 +41,14 @@ fn run_len(table: &Table) -> u64
     count_of_windows();
     let shape = table.shape();
     u64::from(shape.ids()) - (2 * u64::from(shape.rounds()) + 1)
+}
+
+// How many windows there are.
+pub(crate) fn window_count(table: &Table) -> u32
+    ensures { result ≡ length (windows_of table.now) }
+{
+    let shape = table.shape();
+    shape.count(shape.rounds())
 }
 
 // The least number of a bad tuple, where the tuple with the number `low` begins with this window, whose number is `first`.

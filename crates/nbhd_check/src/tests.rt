@@ -1,3 +1,6 @@
+mod parts;
+mod walks;
+
 use crate::{Verdict, judge, judge_part};
 use std::alloc::{AllocError, Global};
 use std::process::Abort;
@@ -5,22 +8,30 @@ use std::test::Fail;
 use table_fill::{Table, TableMaker};
 use win_index::Shape;
 
-// The table that gives each window its channel, of 128.
-fn table_of(rt: &impl Abort, alloc: Global, shape: Shape, channels: &[u32]) -> Result<Table, Fail> {
+// The table that gives each window its channel, of so many.
+fn table_of(
+    rt: &impl Abort,
+    alloc: Global,
+    shape: Shape,
+    count: u32,
+    channels: &[u32],
+) -> Result<Table, Fail> {
+    assert!(rt; 1 <= count && count <= 4096);
     assert!(rt; channels.len() == shape.count(shape.rounds()) as usize);
-    let mut maker = TableMaker::new(alloc, shape, 128).map_err(|_| AllocError)?;
+    let mut maker = TableMaker::new(alloc, shape, count).map_err(|_| AllocError)?;
     for channel in channels {
-        assert!(rt; *channel < 128);
+        assert!(rt; *channel < count);
         maker.push(*channel);
     }
     Ok(maker.done())
 }
 
-// The table of no rounds that gives each identifier its channel.
+// The table of no rounds that gives each identifier its channel, of as many.
 fn table_of_identifiers(rt: &impl Abort, alloc: Global, channels: &[u32]) -> Result<Table, Fail> {
     assert!(rt; channels.len() <= 1024);
-    let shape = Shape::new(channels.len() as u32, 0).expect(rt, "a shape");
-    table_of(rt, alloc, shape, channels)
+    let count = channels.len() as u32;
+    let shape = Shape::new(count, 0).expect(rt, "a shape");
+    table_of(rt, alloc, shape, count, channels)
 }
 
 // The table of one round and five identifiers that gives each window its middle, but one window another channel.
@@ -39,7 +50,19 @@ fn table_of_middles(
     }
     assert!(rt; changed < channels.len());
     channels[changed] = channel;
-    table_of(rt, alloc, shape, &channels)
+    table_of(rt, alloc, shape, 5, &channels)
+}
+
+// The ring of a no, with its place and its channel.
+fn found_in(verdict: &Verdict) -> Option<(&[u32], u32, u32)> {
+    match verdict {
+        Verdict::Yes => None,
+        Verdict::No {
+            ring,
+            place,
+            channel,
+        } => Some((ring.as_slice(), *place, *channel)),
+    }
 }
 
 // The channels 0 to 126, and 32 once more.
@@ -62,16 +85,8 @@ fn the_least_bad_tuple_of_many(rt: HostRuntime) -> Result<(), Fail> {
     ];
     for (channels, want) in rows {
         let table = table_of_identifiers(&rt, rt.alloc(), channels)?;
-        let verdict = judge(rt.alloc(), &table).map_err(|_| AllocError)?;
-        let found = match &verdict {
-            Verdict::Yes => None,
-            Verdict::No {
-                ring,
-                place,
-                channel,
-            } => Some((ring.as_slice(), *place, *channel)),
-        };
-        assert_eq!(rt; found, want, "{channels:?}");
+        let verdict = judge(&rt, rt.alloc(), &table).map_err(|_| AllocError)?;
+        assert_eq!(rt; found_in(&verdict), want, "{channels:?}");
     }
     Ok(())
 }

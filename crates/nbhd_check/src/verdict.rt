@@ -1,8 +1,10 @@
 use crate::laws::tuples_suffice;
-use crate::part::judge_part;
-use crate::tuple::{first_channel, tuple_count, tuple_len, write_tuple};
+use crate::parts::least_of_all;
+use crate::tuple::{first_channel, tuple_len, write_tuple};
 use node_lang::OutOfMemory;
+use rayon::current_num_threads;
 use std::alloc::Global;
+use std::thread::Threads;
 use table_fill::Table;
 use win_index::{MAX_TUPLE_LEN, tuples_are_rings};
 
@@ -20,20 +22,55 @@ pub enum Verdict {
     },
 }
 
-ghost use Rattle.std.specs.Prelude.{◌≡◌, ℕ, List, ◌↔◌, IfOk, OnErr};
+ghost use Rattle.std.specs.Prelude.{◌≡◌, ℕ, ◌<◌, List, ◌↔◌, IfOk, OnErr};
 ghost use Rattle.nbhd_check.specs.Proper.{IsGoodEverywhere, IsLeastBad};
 ghost use Rattle.nbhd_check.specs.Verdicts.{IsVerdict};
 
 /// Whether neighbours' channels differ on every ring of the table's shape. `No` has the least tuple
 /// whose first and last window share a channel, as a ring, and the place `t` for `t` rounds.
 /// `OutOfMemory` comes where memory for that ring was refused, so only where the answer is no.
-pub fn judge(alloc: Global, table: &Table) -> Result<Verdict, OutOfMemory>
+/// At most as many threads judge as there are processors.
+pub fn judge<R: Threads + Sync>(
+    rt: &R,
+    alloc: Global,
+    table: &Table,
+) -> Result<Verdict, OutOfMemory>
+    ensures verdict { IfOk result (IsVerdict table.now) }
+    ensures yes { IfOk result (λ verdict. (verdict ≡ Verdict.Yes) ↔ IsGoodEverywhere table.now) }
+    ensures memory { OnErr result (¬ IsGoodEverywhere table.now) }
+{
+    judge_in(rt, alloc, table, current_num_threads(rt) as u64)
+}
+
+/// What `judge` answers, by at most so many threads, the caller's among them. Where that is none, it is the
+/// caller's alone.
+pub fn judge_with_workers<R: Threads + Sync>(
+    rt: &R,
+    alloc: Global,
+    table: &Table,
+    workers: u32,
+) -> Result<Verdict, OutOfMemory>
+    ensures verdict { IfOk result (IsVerdict table.now) }
+    ensures yes { IfOk result (λ verdict. (verdict ≡ Verdict.Yes) ↔ IsGoodEverywhere table.now) }
+    ensures memory { OnErr result (¬ IsGoodEverywhere table.now) }
+{
+    judge_in(rt, alloc, table, u64::from(workers).max(1))
+}
+
+// The answer on a table, by at most so many parts.
+fn judge_in<R: Threads + Sync>(
+    rt: &R,
+    alloc: Global,
+    table: &Table,
+    parts: u64,
+) -> Result<Verdict, OutOfMemory>
+    requires { 0 < parts }
     ensures verdict { IfOk result (IsVerdict table.now) }
     ensures yes { IfOk result (λ verdict. (verdict ≡ Verdict.Yes) ↔ IsGoodEverywhere table.now) }
     ensures memory { OnErr result (¬ IsGoodEverywhere table.now) }
 {
     tuples_suffice();
-    match judge_part(table, 0, tuple_count(table)) {
+    match least_of_all(rt, table, parts) {
         None => Ok(Verdict::Yes),
         Some(number) => no(alloc, table, number),
     }

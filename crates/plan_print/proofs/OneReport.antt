@@ -1,5 +1,5 @@
 -- A task and an input have at most one report: nothing that a report tells has two values.
-use Rattle.std.proofs.Common.{◌≡◌, ℕ, List, [], ◌++◌, Option, Some, None, ap, subst, sym, ◌∙◌, refl, append-nil}
+use Rattle.std.proofs.Common.{◌≡◌, ℕ, List, [], Option, Some, None, ap, subst, sym, ◌∙◌, refl, append-nil}
 use Rattle.node_lang.specs.Term.{ProgramTree}
 use Rattle.node_lang.specs.Laws.{OneReading, OneTextFault}
 use Rattle.win_index.specs.Laws.{OneRingFault, RingsHaveNoFault}

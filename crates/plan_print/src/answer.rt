@@ -49,7 +49,9 @@ pub(crate) fn answer_of<T: Threads + Wait + Sync>(
         Task::Table { ids: _, workers } => {
             Ok(Answer::Table(compiled(rt, alloc, plan, workers)?))
         }
-        Task::Judge { ids: _, workers } => judgement(alloc, &compiled(rt, alloc, plan, workers)?),
+        Task::Judge { ids: _, workers } => {
+            judgement(rt, alloc, &compiled(rt, alloc, plan, workers)?, workers)
+        }
         Task::Run {
             ids: _,
             ring,

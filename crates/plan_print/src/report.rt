@@ -32,7 +32,7 @@ pub(crate) fn report_of<T: Threads + Wait + Sync>(
 {
     match task.ids() {
         Some(ids) => program_report(rt, alloc, task, ids, input),
-        None => audit_of(alloc, input),
+        None => audit_of(rt, alloc, input),
     }
 }
 

@@ -32,7 +32,7 @@ pub(crate) const IDS: &str = "How many identifiers there are; they are 0 to M-1"
 
 pub(crate) const RING: &str = "The ring's identifiers, each followed by its right neighbour's";
 
-pub(crate) const WORKERS: &str = "How many threads fill the table, 1 to 64";
+pub(crate) const WORKERS: &str = "How many threads work on the table, 1 to 64";
 
 pub(crate) const SEGMENTS: &str = "How many segments the ring is cut into, each a thread, 1 to 64";
 

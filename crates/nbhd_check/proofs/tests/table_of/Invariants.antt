@@ -4,7 +4,7 @@ use Rattle.nbhd_check.proofs.tests.table_of.Given as goal
 -- as many windows have their channel as channels were looked at
 abbrev pub invariant-loop-channel : goal.invariant-loop-channel
 invariant-loop-channel g l =
-    (l.maker.channels ≡ 128)
+    (l.maker.channels ≡ l.count)
     × (l.maker.ids ≡ l.initial.maker.ids)
     × (l.maker.rounds ≡ l.initial.maker.rounds)
     × (length l.maker.entries ≡ l.channel-index)

@@ -1,7 +1,7 @@
 use Rattle.std.proofs.Common.{rules}
 use Rattle.nbhd_check.specs.Verdicts.{IsWitness}
 use Rattle.plan_print.specs.Report.{bad}
-use Rattle.plan_print.proofs.judgement.judgement.Goals as goal
+use Rattle.plan_print.proofs.judgement.verdict_answer.Goals as goal
 
 pub returns-in_ok-bad_line-in-No-clause-answer : goal.returns-in_ok-bad_line-in-No-clause-answer
 returns-in_ok-bad_line-in-No-clause-answer c =
