@@ -261,7 +261,7 @@ no_longer_of_front g m low count x (f0 ∷ f1 ∷ rest) other window x_below x_f
     let kept = kept_is (lacks parts.front) m parts.rest parts.last parts.last_at in
     let parts_size = (windows_all (g + 2) m parts.place parts.front parts.front_at).size in
     let same : parts.front ≡ front = sym (take_front (g + 1 + 1) parts.front parts.last (omega (arith, parts_size)))
-        ∙ ap (take (g + 1 + 1)) (sym parts.whole) ∙ got.2 ∙ take_front (g + 1 + 1) front x size in
+    ∙ ap (take (g + 1 + 1)) (sym parts.whole) ∙ got.2 ∙ take_front (g + 1 + 1) front x size in
     let y : ℕ = parts.last in
     let y_free : is_used front y ≡ false = subst (λ list. is_used list y ≡ false) same (not-true (is_used parts.front y) kept.passes) in
     let y_rest = lacks_from_differs rest y (λ i lt. lacks_differs front y y_free (suc (suc i)) 0 (omega arith)) in

@@ -6,8 +6,8 @@ mod jobs;
 mod laws;
 mod limits;
 mod ring;
-mod shape;
 mod series;
+mod shape;
 
 pub use laws::{
     blocks_are_few, count_of_windows, jobs_have_numbers, longer_windows_have_numbers,
