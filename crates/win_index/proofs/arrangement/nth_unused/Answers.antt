@@ -1,5 +1,4 @@
-use Rattle.std.proofs.Common.{◌≡◌, ◌+◌, ◌-◌, ◌<◌, ◌≤◌, length, arith}
-use Rattle.win_index.specs.Windows.{unused}
+use Rattle.std.proofs.Common.{◌≡◌, ◌+◌, ◌-◌, arith}
 use Rattle.win_index.proofs.Unused.{unused_below, reached_inside, unused_before}
 use Rattle.win_index.proofs.arrangement.nth_unused.Goals as goal
 

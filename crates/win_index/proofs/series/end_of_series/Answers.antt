@@ -1,4 +1,4 @@
-use Rattle.std.proofs.Common.{◌≡◌, inl, inr, length, ⊎_elim, ◌∙◌, arith}
+use Rattle.std.proofs.Common.{inl, inr, length, ⊎_elim, ◌∙◌, arith}
 use Rattle.win_index.proofs.SeriesPlaces.{unused_but_two}
 use Rattle.win_index.proofs.series.end_of_series.Goals as goal
 

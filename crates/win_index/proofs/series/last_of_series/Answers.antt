@@ -1,6 +1,4 @@
-use Rattle.std.proofs.Common.{◌≡◌, ◌+◌, ◌-◌, ◌≤◌, length, take, drop, sym, arith}
-use Rattle.win_index.specs.Runs.{IsSeries}
-use Rattle.win_index.specs.Windows.{unused, IsWindow}
+use Rattle.std.proofs.Common.{◌≡◌, ◌+◌, ◌≤◌, take, sym, arith}
 use Rattle.win_index.proofs.SeriesPlaces.{places_of_window, rest_distinct, clear_less, series_is, no_longer}
 use Rattle.win_index.proofs.series.last_of_series.Goals as goal
 

@@ -1,4 +1,4 @@
-use Rattle.std.proofs.Common.{◌≡◌, ◌+◌, ◌-◌, ◌*◌, ap, arith}
+use Rattle.std.proofs.Common.{◌-◌, ◌*◌, ap, arith}
 use Rattle.win_index.specs.Runs.{IsRunStart}
 use Rattle.win_index.proofs.RunStarts.{run_start_is}
 use Rattle.win_index.proofs.arrangement.Lists.run_start.Goals as goal
