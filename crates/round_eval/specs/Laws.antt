@@ -1,5 +1,6 @@
 -- The laws of this crate.
-use Rattle.std.specs.Prelude.{◌≡◌, ℕ, ◌+◌, ◌-◌, ◌*◌, ◌≤◌, List, [], ◌∷◌, ◌++◌, take, length}
+use Rattle.std.specs.Prelude.{◌≡◌, ℕ, ◌+◌, ◌-◌, ◌*◌, ◌≤◌, List, [], ◌∷◌, ◌++◌, map, take, drop, length}
+use Rattle.std.specs.List.{range_with_len}
 use Rattle.node_lang.specs.Term.{ProgramTree}
 use Rattle.node_lang.specs.Node.{to_left, to_right}
 use Rattle.node_lang.specs.GlobalRounds.{left_of, right_of, state}
@@ -19,3 +20,8 @@ abbrev pub RowsAreWritten : Type 0
 RowsAreWritten =
     (width n : ℕ) (before cells after : List ℕ) → n * width ≤ length before → length cells ≡ width
     → rows width (n + 1) (take (n * width) before ++ (cells ++ after)) ≡ rows width n before ++ cells ∷ []
+
+-- the rows of cells, each by its place
+abbrev pub RowsAreTaken : Type 0
+RowsAreTaken =
+    (width n : ℕ) (cells : List ℕ) → rows width n cells ≡ map (λ i. take width (drop (i * width) cells)) (range_with_len 0 n)

@@ -12,3 +12,9 @@ pub fn stretches_are_rows()
 pub fn rows_are_written()
     ensures { law.RowsAreWritten }
 {}
+
+/// The rows of cells are the cells a row's width at a time.
+#[tactic(auto, using(crate::proofs::RowLemmas::rows_taken))]
+pub fn rows_are_taken()
+    ensures { law.RowsAreTaken }
+{}

@@ -11,6 +11,7 @@ ghost use Rattle.table_fill.specs.ProgramTables.{begun};
 
 use crate::maker::TableMaker;
 use round_columns::{Code, Columns, Work, channel_columns};
+use round_eval::rows_are_taken;
 use unroll::{Block, windows_are_within};
 use win_index::{number_of_window, windows_have_numbers};
 
@@ -21,9 +22,8 @@ pub(crate) fn put_block(block: &Block<'_>, states: &mut Columns)
     ensures states { (i : ℕ) → i < block_len block.now.plan.ids block.now.level block.now.number
         → slice_index_or states.new.states i [] ≡ block_state block.now.plan block.now.level block.now.number i }
 {
-    for i in 0..block.len() {
-        states.put_state(i as usize, block.state(i));
-    }
+    rows_are_taken();
+    states.put_rows(0, block.len() as usize, block.states(), 0);
 }
 
 // Writes the channels of a block of the last level, whose states stand in columns.

@@ -29,7 +29,8 @@ impl<'a> Model for Block<'a> {
 }
 
 impl<'a> Block<'a> {
-    ghost use Rattle.std.specs.Prelude.{◌≡◌, ◌<◌, ◌≤◌, length};
+    ghost use Rattle.std.specs.Prelude.{◌≡◌, ℕ, ◌*◌, ◌<◌, ◌≤◌, [], length, slice_index_or};
+    ghost use Rattle.round_eval.specs.Rows.{rows};
     ghost use Rattle.unroll.specs.BlockStates.{block_len, block_state};
     ghost use Rattle.win_index.specs.Blocks.{block_count};
 
@@ -68,6 +69,17 @@ impl<'a> Block<'a> {
         ensures { result ≡ block_len self.now.plan.ids self.now.level self.now.number }
     {
         self.len
+    }
+
+    /// The states of all its windows, row by row: a cell for each register.
+    pub fn states(&self) -> &[u32]
+        ensures size { length result.now
+            ≡ block_len self.now.plan.ids self.now.level self.now.number * length self.now.plan.program.start }
+        ensures rows { (i : ℕ) → let len = block_len self.now.plan.ids self.now.level self.now.number in
+            i < len → slice_index_or (rows (length self.now.plan.program.start) len result.now) i []
+            ≡ block_state self.now.plan self.now.level self.now.number i }
+    {
+        &self.states
     }
 
     /// The state of its `i`-th window, which has number `256*b + i` in block `b`: a cell for each register.

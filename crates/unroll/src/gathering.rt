@@ -110,17 +110,12 @@ pub(crate) fn step_parts(
 }
 
 // Writes the states of the first nodes of columns, row by row, as many as there are rows.
-#[tactic(auto, using(std::proofs::lemmas::Nat::row_fits))]
 pub(crate) fn scatter(columns: &Columns, len: usize, states: &mut [u32])
     requires few { len ≤ length columns.now.states }
     requires size { length states.old ≡ len * columns.now.registers }
     ensures { rows columns.now.registers len states.new ≡ take len columns.now.states }
 {
-    rows_are_written();
-    let width = columns.registers();
-    for place in 0..len {
-        columns.take_state(place, &mut states[place * width..place * width + width]);
-    }
+    columns.take_rows(len, states);
 }
 
 // Writes the states of the windows of a block of level 0, row by row. The first window is given, and it goes on to the

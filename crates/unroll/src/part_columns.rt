@@ -8,7 +8,7 @@ use crate::block::Block;
 use lang_check::Plan;
 use node_lang::OutOfMemory;
 use round_columns::Columns;
-use round_eval::width_of;
+use round_eval::{rows_are_taken, width_of};
 use std::alloc::Global;
 use win_index::BLOCK_WINDOWS;
 
@@ -60,9 +60,8 @@ fn put_rights(columns: &mut Columns, place: usize, count: u32, block: &Block<'_>
     ensures { AreWritten columns.old columns.new place count
         (λ i. block_state block.now.plan block.now.level block.now.number (index + i)) }
 {
-    for i in 0..count {
-        columns.put_state(place + i as usize, block.state(index + i));
-    }
+    rows_are_taken();
+    columns.put_rows(place, count as usize, block.states(), index as usize);
 }
 
 // Columns for the states of 256 windows.

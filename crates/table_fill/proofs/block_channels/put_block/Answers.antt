@@ -1,20 +1,25 @@
-use Rattle.std.proofs.Common.{◌≡◌, ◌≢◌, ℕ, ◌<◌, [], length, get_or, get_or-set_other, get_or-set_same, ap, sym, ◌∙◌, subst, arith, below_more, rules}
-use Rattle.std.proofs.lemmas.List.{length-set}
-use Rattle.unroll.specs.BlockStates.{block_state}
+use Rattle.std.proofs.Common.{◌≡◌, ℕ, ◌+◌, ◌*◌, ◌<◌, ◌≤◌, [], length, get_or, take, drop, sym, ap, ◌∙◌, arith}
+use Rattle.std.proofs.lemmas.List.FromFn.{get_or-map-range_with_len}
+use Rattle.round_eval.specs.Rows.{rows}
+use Rattle.unroll.specs.BlockStates.{block_len, block_state}
 use Rattle.table_fill.proofs.block_channels.put_block.Goals as goal
 
--- The state of one window more stands in the columns.
-pub loop-i-preserved : goal.loop-i-preserved
-loop-i-preserved c =
-    let block = c.args.block.now in
-    let i = c.loop-i.i in
-    let before = c.loop-i.invariant in
-    let put = c.put_state.ensures in
-    let few : i < 256 = omega (arith, c.loop-i-test.true, c.len-i-end.ensures) in
-    let within : i < length c.loop-i.states.states = omega (arith, few, before.room.1) in
-    record {
-      room = (put.registers ∙ before.room.0, ap length put.states ∙ length-set c.loop-i.states.states i c.state.result.now ∙ before.room.1);
-      states = below_more (λ j. get_or c.put_state.new.self.states j [] ≡ block_state block.plan block.level block.number j) i
-          (λ j lt. let ne : j ≢ i = omega arith in rw put.states (rw get_or-set_other (before.states j lt)))
-          (rw put.states (rw get_or-set_same c.state.ensures.value));
-    }
+pub put_rows-requires-clause-cells : goal.put_rows-requires-clause-cells
+put_rows-requires-clause-cells c =
+    let b = c.args.block.now in
+    rw c.requires.room.0 (omega (arith, c.states.ensures.size, ap (λ len. len * length b.plan.program.start) c.len.ensures))
+
+pub returns-clause-states : goal.returns-clause-states
+returns-clause-states c =
+    let b = c.args.block.now in
+    let width : ℕ = length b.plan.program.start in
+    let len = block_len b.plan.ids b.level b.number in
+    let cells = c.states.result.now in
+    let written = rw c.requires.room.0 at c.put_rows.ensures.written in
+    λ i lt.
+    let from_first : i ≡ 0 + i = omega arith in
+    ap (λ k. get_or c.put_rows.new.self.states k []) from_first
+    ∙ written i (omega (arith, lt, c.len.ensures))
+    ∙ sym (get_or-map-range_with_len (λ k. take width (drop (k * width) cells)) 0 len i (0 + i) [] lt (omega arith))
+    ∙ ap (λ list. get_or list i []) (sym (c.rows_are_taken.ensures width len cells))
+    ∙ c.states.ensures.rows i lt
