@@ -111,7 +111,7 @@ series_of_front :
     (g m low high count x y : ℕ) (front : List ℕ) → IsWindow (g + 2) m front → x < m → is_used front x ≡ false → IsClear front low high
     → length (unused x (drop 2 front)) ≡ low → high ≡ low + count → 1 ≤ count → high ≤ length (unused m (drop 2 front))
     → slice_get (unused m (drop 2 front)) (low + count - 1) ≡ Some y
-    → IsSeries (g + 1) m (front ++ x ∷ []) (front ++ y ∷ []) count × IsWindow (suc (g + 2)) m (front ++ y ∷ [])
+    → IsSeries (g + 1) m (front ++ x ∷ []) (front ++ y ∷ []) count
 series_of_front g m low high count x y [] window x_below x_free clear x_at high_is some within y_at = absurd (omega (arith, window.size))
 series_of_front g m low high count x y (f0 ∷ []) window x_below x_free clear x_at high_is some within y_at = absurd (omega (arith, window.size))
 series_of_front g m low high count x y (f0 ∷ f1 ∷ rest) window x_below x_free clear x_at high_is some within y_at =
@@ -122,28 +122,26 @@ series_of_front g m low high count x y (f0 ∷ f1 ∷ rest) window x_below x_fre
     let longer : suc (g + 2) ≡ g + 1 + 2 = omega arith in
     let short : suc g ≡ g + 1 = omega arith in
     let last_place : low + (count - 1) ≡ low + count - 1 = omega arith in
-    let last = stands_further g m low high f0 f1 x (count - 1) y rest window rest_is ends clear x_at (omega arith) (rw last_place y_at) in (
-      record {
-        each = λ n below j at' below_at lt.
-            let z : ℕ = get_or (unused m rest) (low + j) 0 in
-            let z_at = slice_get-get_or (unused m rest) (low + j) 0 (omega (arith, within, high_is, lt)) in
-            let there = stands_further g m low high f0 f1 x j z rest window rest_is ends clear x_at (omega (arith, high_is, lt)) z_at in (
-              f0 ∷ f1 ∷ rest ++ z ∷ [],
-              rw longer at (there.long n (rw (← longer) at at')),
-              take_front (g + 1 + 1) (f0 ∷ f1 ∷ rest) z size ∙ sym (take_front (g + 1 + 1) (f0 ∷ f1 ∷ rest) x size),
-              rw short at (there.short below (rw (← short) at below_at)),
-            );
-        last_is = λ n at'. rw longer at (last.long n (rw (← longer) at at'));
-      },
-      push_window (g + 2) m y (f0 ∷ f1 ∷ rest) window last.ends.below last.ends.free,
-    )
+    let last = stands_further g m low high f0 f1 x (count - 1) y rest window rest_is ends clear x_at (omega arith) (rw last_place y_at) in
+    record {
+      each = λ n below j at' below_at lt.
+          let z : ℕ = get_or (unused m rest) (low + j) 0 in
+          let z_at = slice_get-get_or (unused m rest) (low + j) 0 (omega (arith, within, high_is, lt)) in
+          let there = stands_further g m low high f0 f1 x j z rest window rest_is ends clear x_at (omega (arith, high_is, lt)) z_at in (
+            f0 ∷ f1 ∷ rest ++ z ∷ [],
+            rw longer at (there.long n (rw (← longer) at at')),
+            take_front (g + 1 + 1) (f0 ∷ f1 ∷ rest) z size ∙ sym (take_front (g + 1 + 1) (f0 ∷ f1 ∷ rest) x size),
+            rw short at (there.short below (rw (← short) at below_at)),
+          );
+      last_is = λ n at'. rw longer at (last.long n (rw (← longer) at at'));
+    }
 
 -- the same of a window, whose last identifier is changed
 pub series_is :
     (last m low count y : ℕ) (window : List ℕ) → 2 ≤ last → IsWindow (last + 1) m window → IsClear (take last window) low (low + count)
     → length (unused (get_or window last 0) (drop 2 (take last window))) ≡ low → 1 ≤ count → low + count ≤ length (unused m (drop 2 (take last window)))
     → slice_get (unused m (drop 2 (take last window))) (low + count - 1) ≡ Some y
-    → IsSeries (last - 1) m window (set window last y) count × IsWindow (last + 1) m (set window last y)
+    → IsSeries (last - 1) m window (set window last y) count
 series_is last m low count y window two is clear x_at some within y_at =
     let size = is.size in
     let x : ℕ = get_or window last 0 in
@@ -159,8 +157,16 @@ series_is last m low count y window two is clear x_at some within y_at =
     let made = series_of_front (last - 2) m low (low + count) count x y (take last window) (subst (λ n. IsWindow n m (take last window)) shared front_is)
     (is.below last 0 inside) free clear x_at refl some within y_at in
     let fewer : last - 2 + 1 ≡ last - 1 = omega arith in
-    let number : suc (last - 2 + 2) ≡ last + 1 = omega arith in
-    rw (old, new, number, fewer) at made
+    rw (old, new, fewer) at made
+
+-- the last list of a series is a window
+pub last_is_window :
+    (last m count : ℕ) (window end : List ℕ) → 2 ≤ last → IsWindow (last + 1) m window → IsSeries (last - 1) m window end count
+    → IsWindow (last + 1) m end
+last_is_window last m count window end two is series =
+    let long : last - 1 + 2 ≡ last + 1 = omega arith in
+    let own = window_place (last - 1 + 2) m window (subst (λ k. IsWindow k m window) (sym long) is) in
+    subst (λ k. IsWindow k m end) long (windows_all (last - 1 + 2) m (own.0 + (count - 1)) end (series.last_is own.0 own.1))
 
 -- two numbers that a list lacks stand at two places
 apart :
