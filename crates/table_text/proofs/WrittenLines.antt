@@ -1,16 +1,27 @@
 -- The lines of a table, written one behind another.
 use Rattle.std.proofs.Common.{◌≡◌, ℕ, zero, suc, ◌+◌, ◌<◌, ◌≤◌, drop, List, [], ◌∷◌, ◌++◌, Some, length, take, get_or, slice_get, refl, sym, ap, ◌∙◌, arith, append_assoc}
 use Rattle.std.specs.Fmt.{decimal}
-use Rattle.std.proofs.lemmas.List.{take_more, length-take-le}
+use Rattle.std.proofs.lemmas.List.{take_more, take_all, length-take-le}
 use Rattle.table_fill.specs.Tables.{ChannelTable, windows_of}
 use Rattle.table_text.specs.TableText.{title_then, sizes_then, ids_then, entry_then, entries_then, end_then, lines_then, table_text}
 use Rattle.table_text.proofs.TableLines.{lines_more}
-use Rattle.table_text.proofs.TextsApart.{lines_append}
+use Rattle.table_text.specs.Pieces.{id_text, channel_text}
+use Rattle.table_text.proofs.TextsApart.{ids_append, lines_append}
 
 -- one identifier more
 pub ids_more : (ids : List ℕ) (id : ℕ) (rest : List ℕ) → ids_then (ids ++ id ∷ []) rest ≡ ids_then ids [] ++ (decimal id ++ 32 ∷ rest)
 ids_more [] id rest = refl
 ids_more (x ∷ ids) id rest = ap (λ l. decimal x ++ 32 ∷ l) (ids_more ids id rest) ∙ sym (append_assoc (decimal x) (32 ∷ ids_then ids []) (decimal id ++ 32 ∷ rest))
+
+-- the line of a window from its front, its last identifier and its channel
+pub line_of_run :
+    (last : ℕ) (window : List ℕ) (channel : ℕ) → length window ≡ last + 1
+    → ids_then (take last window) [] ++ (id_text (get_or window last 0) ++ channel_text channel) ≡ entry_then window channel []
+line_of_run last window channel size =
+    let ids : ids_then (take last window) [] ++ id_text (get_or window last 0) ≡ ids_then window [] =
+    sym (ids_more (take last window) (get_or window last 0) []) ∙ ap (λ xs. ids_then xs []) (sym (take_more window last 0 (omega arith)) ∙ take_all (last + 1) window (omega arith)) in
+    sym (append_assoc (ids_then (take last window) []) (id_text (get_or window last 0)) (channel_text channel))
+    ∙ ap (λ text. text ++ channel_text channel) ids ∙ ids_append window [] (channel_text channel)
 
 -- the table with its first entries alone
 abbrev pub front_of : ChannelTable → ℕ → ChannelTable

@@ -4,11 +4,16 @@ use Rattle.std.specs.Io.KnownBytes.{Appends}
 use Rattle.std.specs.List.{range_with_len}
 use Rattle.std.specs.Fmt.{decimal}
 use Rattle.table_text.specs.declared.piece.Piece.{Piece}
+use Rattle.table_text.specs.declared.front.Front.{Front}
 use Rattle.table_text.specs.declared.chunk.Chunk.{Chunk}
 
 -- the text of a piece
 abbrev pub piece_text : Piece → List ℕ
 piece_text piece = take piece.len piece.bytes
+
+-- the text of a front
+abbrev pub front_text : Front → List ℕ
+front_text front = take front.len front.bytes
 
 -- an identifier and a blank
 abbrev pub id_text : ℕ → List ℕ

@@ -3,6 +3,7 @@
 
 mod chunk;
 mod fault;
+mod front;
 mod laws;
 mod limits;
 mod lines;

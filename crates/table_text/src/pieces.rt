@@ -1,11 +1,15 @@
 // The pieces of which the lines of windows are made.
-ghost use Rattle.std.specs.Prelude.{◌≡◌, ◌<◌, ◌≤◌, length, IfOk};
+ghost use Rattle.std.specs.Prelude.{◌≡◌, ◌<◌, ◌≤◌, [], All, length, IfOk};
 ghost use Rattle.node_lang.specs.declared.limits.TheConstants.{MAX_CHANNELS};
 ghost use Rattle.win_index.specs.declared.limits.TheConstants.{MAX_IDS};
-ghost use Rattle.table_text.specs.Pieces.{piece_text, id_text, channel_text, AreTexts};
+ghost use Rattle.table_text.specs.Pieces.{piece_text, front_text, id_text, channel_text, AreTexts};
+ghost use Rattle.table_text.specs.TableText.{ids_then};
 
+use crate::front::{FRONT_LEN, Front};
 use crate::piece::Piece;
+use crate::storing::write_at;
 use std::alloc::{AllocError, Global};
+use win_index::MAX_WINDOW_LEN;
 
 // An identifier and a blank, for each identifier below this number.
 pub(crate) fn id_pieces(alloc: Global, ids: u32) -> Result<Vec<Piece>, AllocError>
@@ -62,4 +66,20 @@ pub(crate) fn piece_of(text: &[u8]) -> Piece
         bytes,
         len: text.len(),
     }
+}
+
+// The identifiers of a window but the last, each with a blank behind it.
+pub(crate) fn front_of(ids: &[Piece], shared: &[u32]) -> Front
+    requires short { length shared.now < MAX_WINDOW_LEN }
+    requires ids { AreTexts id_text ids.now × All (λ id. id < length ids.now) shared.now }
+    ensures { front_text result ≡ ids_then shared.now [] }
+{
+    let mut bytes = [0; FRONT_LEN];
+    let mut len = 0;
+    for id in shared {
+        let piece = ids[*id as usize];
+        write_at(&mut bytes, len, &piece.bytes);
+        len += piece.len;
+    }
+    Front { bytes, len }
 }

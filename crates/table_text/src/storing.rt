@@ -3,9 +3,11 @@ ghost use Rattle.std.specs.Prelude.{◌≡◌, ◌+◌, ◌≤◌, ◌++◌, ℕ
 ghost use Rattle.std.specs.Io.KnownBytes.{Appends};
 ghost use Rattle.devices.specs.Output.{AppendsFront};
 ghost use Rattle.devices.specs.Watched.{device_of, has_failed};
-ghost use Rattle.table_text.specs.Pieces.{held, piece_text};
+ghost use Rattle.table_text.specs.declared.front.TheConstants.{FRONT_LEN};
+ghost use Rattle.table_text.specs.Pieces.{held, front_text, piece_text};
 
 use crate::chunk::Chunk;
+use crate::front::Front;
 use crate::limits::CHUNK_LEN;
 use crate::piece::Piece;
 use devices::fault::EngineFault;
@@ -41,8 +43,18 @@ pub(crate) fn store(chunk: &mut Chunk, piece: Piece)
     chunk.filled += piece.len;
 }
 
+// Stores a front behind what a chunk holds.
+pub(crate) fn store_front(chunk: &mut Chunk, front: &Front)
+    requires room { chunk.old.filled + FRONT_LEN ≤ CHUNK_LEN }
+    ensures held { held chunk.new ≡ held chunk.old ++ front_text front.now }
+    ensures filled { chunk.new.filled ≤ chunk.old.filled + FRONT_LEN }
+{
+    write_at(&mut chunk.bytes, chunk.filled, &front.bytes);
+    chunk.filled += front.len;
+}
+
 // Writes a piece over the cells from a place on.
-fn write_at(bytes: &mut [u8], start: usize, piece: &[u8])
+pub(crate) fn write_at(bytes: &mut [u8], start: usize, piece: &[u8])
     requires room { start + length piece.now ≤ length bytes.old }
     ensures len { length bytes.new ≡ length bytes.old }
     ensures fronts { (n : ℕ) → n ≤ length piece.now → take (start + n) bytes.new ≡ take start bytes.old ++ take n piece.now }

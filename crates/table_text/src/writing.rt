@@ -1,26 +1,28 @@
 //! Writing the text of a table.
 
-ghost use Rattle.std.specs.Prelude.{◌≡◌, ◌↔◌, ℕ, ◌+◌, ◌*◌, ◌<◌, ◌≤◌, ◌++◌, List, [], Option, false, IsTrue, All, length, IfOk, IfErr, OnOk, OnErr, IsErrOf, string_bytes};
+ghost use Rattle.std.specs.Prelude.{◌≡◌, ◌↔◌, ℕ, ◌+◌, ◌*◌, ◌<◌, ◌≤◌, ◌++◌, List, [], Option, false, IsTrue, length, take, slice_get, Some, IfOk, IfErr, OnOk, OnErr, IsErrOf, string_bytes};
 ghost use Rattle.std.specs.Io.KnownBytes.{Appends, Keeps};
 ghost use Rattle.devices.specs.Output.{AppendsFront};
 ghost use Rattle.devices.specs.Watched.{device_of, has_failed};
-ghost use Rattle.table_text.specs.TableText.{title_then, sizes_then, entry_then, lines_then, table_text};
-ghost use Rattle.table_text.specs.Pieces.{held, id_text, channel_text, AreTexts, Tells};
+ghost use Rattle.win_index.specs.Windows.{windows, IsWindow};
+ghost use Rattle.table_text.specs.TableText.{title_then, sizes_then, ids_then, lines_then, table_text};
+ghost use Rattle.table_text.specs.Pieces.{held, front_text, piece_text, id_text, channel_text, AreTexts, Tells};
 
 use crate::chunk::Chunk;
+use crate::front::{FRONT_LEN, Front};
 use crate::limits::CHUNK_LEN;
 use crate::piece::Piece;
-use crate::pieces::{channel_pieces, id_pieces, piece_of};
-use crate::storing::{empty_chunk, send_held, store, store_first};
+use crate::pieces::{channel_pieces, front_of, id_pieces, piece_of};
+use crate::storing::{empty_chunk, send_held, store, store_first, store_front};
 use devices::fault::{EngineFault, OutFault};
 use devices::watched::Watched;
 use std::alloc::{AllocError, Global};
 use std::io::Write;
 use table_fill::Table;
-use win_index::MAX_WINDOW_LEN;
+use win_index::{MAX_WINDOW_LEN, Shape};
 
-// Room for the pieces of a line.
-const LINE_LEN: usize = 8 * (MAX_WINDOW_LEN + 1);
+// Room for a front, the piece of an identifier and that of a channel.
+const LINE_LEN: usize = FRONT_LEN + 16;
 
 /// Writes the text of a table: a line with the version, a line with the numbers of rounds, identifiers
 /// and channels, a line for each window and its channel in the windows' order, and the line `end`.
@@ -113,12 +115,31 @@ fn write_entries<W: Write>(
     let mut cells = [0u32; MAX_WINDOW_LEN];
     let window = &mut cells[..2 * level as usize + 1];
     shape.window(level, 0, window);
+    let mut front = front_of(ids, &window[..2 * level as usize]);
     for number in 0..count {
         make_room(chunk, writer)?;
-        store_line(chunk, ids, ends, window, table.entry(number));
-        shape.next_window(level, window);
+        let last = ids[window[2 * level as usize] as usize];
+        store_line(chunk, &front, last, ends[table.entry(number) as usize]);
+        go_on(shape, ids, window, &mut front);
     }
     make_room(chunk, writer)
+}
+
+// Goes on to the next window and its front, where there is one.
+fn go_on(shape: Shape, ids: &[Piece], window: &mut [u32], front: &mut Front)
+    requires ids { AreTexts id_text ids.now × (length ids.now ≡ shape.ids) }
+    requires window { IsWindow (2 * shape.rounds + 1) shape.ids window.old }
+    requires front { front_text front.old ≡ ids_then (take (2 * shape.rounds) window.old) [] }
+    ensures next { (n : ℕ) → slice_get (windows (2 * shape.rounds + 1) shape.ids) n ≡ Some window.old
+        → n + 1 < length (windows (2 * shape.rounds + 1) shape.ids) → slice_get (windows (2 * shape.rounds + 1) shape.ids) (n + 1) ≡ Some window.new }
+    ensures window { IsWindow (2 * shape.rounds + 1) shape.ids window.new }
+    ensures front { front_text front.new ≡ ids_then (take (2 * shape.rounds) window.new) [] }
+{
+    let level = shape.rounds();
+    if !shape.next_in_run(level, window) {
+        shape.next_window(level, window);
+        *front = front_of(ids, &window[..2 * level as usize]);
+    }
 }
 
 // Writes what a chunk holds where it has no room for another line.
@@ -138,16 +159,12 @@ fn make_room<W: Write>(chunk: &mut Chunk, writer: &mut Watched<W>) -> Result<(),
     Ok(())
 }
 
-// Stores the line of a window with this channel.
-fn store_line(chunk: &mut Chunk, ids: &[Piece], ends: &[Piece], window: &[u32], channel: u32)
+// Stores a line: the front of a window, the piece of its last identifier and that of its channel.
+fn store_line(chunk: &mut Chunk, front: &Front, last: Piece, end: Piece)
     requires room { chunk.old.filled + LINE_LEN ≤ CHUNK_LEN }
-    requires short { length window.now ≤ MAX_WINDOW_LEN }
-    requires ids { AreTexts id_text ids.now × All (λ id. id < length ids.now) window.now }
-    requires ends { AreTexts channel_text ends.now × (channel < length ends.now) }
-    ensures { held chunk.new ≡ held chunk.old ++ entry_then window.now channel [] }
+    ensures { held chunk.new ≡ held chunk.old ++ (front_text front.now ++ (piece_text last ++ piece_text end)) }
 {
-    for id in window {
-        store(chunk, ids[*id as usize]);
-    }
-    store(chunk, ends[channel as usize]);
+    store_front(chunk, front);
+    store(chunk, last);
+    store(chunk, end);
 }

@@ -1,14 +1,15 @@
 -- The window after a window: the next number in the last cell, or else the next front with its least number.
-use Rattle.std.proofs.Common.{◌≡◌, ◌≢◌, ℕ, zero, suc, ◌+◌, ◌-◌, ◌*◌, ◌<◌, ◌≤◌, cond, Option, List, [], ◌∷◌, ◌++◌, length, get_or, take, set, find, slice_get, Some, None, AllPairs, sym, ap, ◌∙◌, arith, length-append, add-one}
+use Rattle.std.proofs.Common.{◌≡◌, ◌≢◌, ℕ, zero, suc, ◌+◌, ◌-◌, ◌*◌, ◌<◌, ◌≤◌, cond, Option, List, [], ◌∷◌, ◌++◌, length, get_or, take, set, find, slice_get, Some, None, AllPairs, sym, ap, ◌∙◌, arith, length-append, add-one, ⊎_elim}
 use Rattle.std.specs.List.{range_with_len}
 use Rattle.std.proofs.Math.Nat.{suc-mul}
-use Rattle.std.proofs.lemmas.List.{same_from_push, take_more, take_more_set, take-take, length-take-le, get_or-take}
+use Rattle.std.proofs.lemmas.List.{same_from_push, take_more, take_more_set, take-take, length-take-le, get_or-take, get_or-set_same, get_or-set_other}
+use Rattle.std.proofs.lemmas.Bool.{cases_lt, not_from_false}
 use Rattle.std.proofs.lemmas.List.Elements.{All-take}
 use Rattle.std.proofs.lemmas.Option.{none-some, slice_get_within}
-use Rattle.win_index.specs.Windows.{unused, windows, IsWindow}
+use Rattle.win_index.specs.Windows.{is_used, unused, windows, IsWindow}
 use Rattle.win_index.specs.Successor.{IsNext, IsLast}
-use Rattle.win_index.proofs.Kept.{kept, kept_at, kept_is, kept_suc}
-use Rattle.win_index.proofs.Unused.{lacks, length-unused}
+use Rattle.win_index.proofs.Kept.{kept, kept_at, kept_is, kept_suc, kept_own, kept_rises}
+use Rattle.win_index.proofs.Unused.{lacks, length-unused, lacks_from_differs}
 use Rattle.win_index.proofs.Positions.{window_place}
 use Rattle.win_index.proofs.Numbers.{window_parts, window_from_parts, windows_all, length-windows}
 
@@ -170,3 +171,27 @@ pub later_lacks : (last m : ℕ) (front later : List ℕ) → last < m → IsWin
 later_lacks last m front later lt window next =
     let own = next_is_window last m front later window next in
     omega (arith, length-unused later m own.distinct own.below, own.size)
+
+-- where no number after the last one is lacked by the front, none is larger in a window with this front
+pub none_larger :
+    (k m last x : ℕ) (list : List ℕ) → k ≡ last + 1 → last < length list → first_lacked m (take last list) (get_or list last 0 + 1) ≡ None
+    → IsWindow k m (set list last x) → x ≤ get_or list last 0
+none_larger k m last x list more lt none window =
+    let front : List ℕ = take last list in
+    let low : ℕ = get_or list last 0 + 1 in
+    let here : get_or (set list last x) last 0 ≡ x = get_or-set_same list last x 0 lt in
+    ⊎_elim
+    (λ (larger : get_or list last 0 < x).
+    let size = window.size in
+    let below : x < m = rw here at (window.below last 0 (omega arith)) in
+    let differs : (j : ℕ) → j < length front → get_or front j 0 ≢ x = λ j near same.
+    let nearer : j < last = omega (arith, length-take-le last list (omega arith)) in
+    let before : get_or (set list last x) j 0 ≡ get_or front j 0 =
+    get_or-set_other list last j x 0 (λ (e : j ≡ last). absurd (omega arith)) ∙ sym (get_or-take last list j 0 nearer) in
+    window.distinct j last 0 nearer (omega arith) (before ∙ same ∙ sym here) in
+    let own = slice_get_within (kept (lacks front) m) (length (kept (lacks front) x)) x
+    (kept_own (lacks front) x m below (not_from_false (is_used front x) (lacks_from_differs front x differs))) in
+    let all = none_at (kept (lacks front) m) (length (kept (lacks front) low)) (kept_at (lacks front) low m (omega arith) ∙ none) in
+    absurd (omega (arith, own, all, kept_rises (lacks front) low x (omega arith))))
+    (λ (within : x ≤ get_or list last 0). within)
+    (cases_lt (get_or list last 0) x)

@@ -1,5 +1,5 @@
 -- Runs: the windows that share all identifiers but the last stand together, in the order of their last identifiers.
-use Rattle.std.specs.Prelude.{◌≡◌, ◌⊎◌, ℕ, ◌+◌, ◌-◌, ◌<◌, ◌≤◌, List, take, drop, length, slice_index, slice_get, Some}
+use Rattle.std.specs.Prelude.{◌≡◌, ◌⊎◌, ℕ, ◌+◌, ◌-◌, ◌<◌, ◌≤◌, List, take, drop, set, length, slice_index, slice_get, Some}
 use Rattle.win_index.specs.Windows.{unused, windows, IsWindow}
 
 -- The windows of length k+1 below m that begin with the k identifiers of the front stand from number `first` on, as many as the front lacks
@@ -8,6 +8,10 @@ pub record IsRunStart (k m : ℕ) (front : List ℕ) (first : ℕ) : Type 0 wher
   pub within : first + (m - k) ≤ length (windows (k + 1) m)
   pub each : (window : List ℕ) → IsWindow (k + 1) m window → take k window ≡ front
       → slice_get (windows (k + 1) m) (first + length (unused (slice_index window k) front)) ≡ Some window
+
+-- No window of length k below m that has the same numbers but for the last has a larger one there.
+abbrev pub IsLastOfRun : ℕ → ℕ → List ℕ → Type 0
+IsLastOfRun k m window = (x : ℕ) → IsWindow k m (set window (k - 1) x) → x ≤ slice_index window (k - 1)
 
 -- A series of windows of length k+2 below m, as many as count: they follow one another and share all identifiers but the last, and their last
 -- parts, the windows of length k without the first two identifiers, follow one another too.

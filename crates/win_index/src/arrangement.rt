@@ -4,7 +4,7 @@ ghost use Rattle.std.specs.Bool.{OnTrue, OnFalse};
 ghost use Rattle.std.specs.List.{range_with_len};
 ghost use Rattle.win_index.specs.Windows.{is_used, unused, windows, number_of, IsWindow};
 ghost use Rattle.win_index.specs.Falling.{falling};
-ghost use Rattle.win_index.specs.Runs.{IsRunStart};
+ghost use Rattle.win_index.specs.Runs.{IsRunStart, IsLastOfRun};
 ghost use Rattle.win_index.specs.Successor.{IsNext, IsLast};
 
 // The lists of one length, in order. Their number has at most 64 bits.
@@ -78,6 +78,26 @@ impl Lists {
         ensures window { IsWindow self.len self.ids list.new }
     {
         write_next(self.ids, list, self.len)
+    }
+
+    // Writes the next list over this one where only the last number differs, or says that there is none such.
+    pub(crate) fn write_next_in_run(self, list: &mut [u32]) -> bool
+        requires some { 1 ≤ self.len }
+        requires window { IsWindow self.len self.ids list.old }
+        ensures next { OnTrue result (IsNext self.len self.ids list.old list.new) }
+        ensures front { take (self.len - 1) list.new ≡ take (self.len - 1) list.old }
+        ensures last { OnFalse result (IsLastOfRun self.len self.ids list.old) }
+        ensures same { OnFalse result (list.new ≡ list.old) }
+        ensures window { IsWindow self.len self.ids list.new }
+    {
+        let Lists { ids, len } = self;
+        let last = len - 1;
+        let current = list[last];
+        let Some(next) = least_unused(ids, &list[..last], current + 1) else {
+            return false;
+        };
+        list[last] = next;
+        true
     }
 
     // The number of the first list with one number more that begins with this one.

@@ -32,7 +32,7 @@ impl Shape {
     ghost use Rattle.std.specs.Prelude.{◌≡◌, ◌+◌, ◌*◌, ◌<◌, ◌↔◌, IfOk, IfErr, IfSome, IsOk, Some, length, take, slice_get};
     ghost use Rattle.std.specs.Bool.{OnTrue, OnFalse};
     ghost use Rattle.win_index.specs.Windows.{windows, number_of, IsWindow};
-    ghost use Rattle.win_index.specs.Runs.{IsRunStart};
+    ghost use Rattle.win_index.specs.Runs.{IsRunStart, IsLastOfRun};
     ghost use Rattle.win_index.specs.Successor.{IsNext, IsLast};
     ghost use Rattle.win_index.specs.ShapeRange.{IsShape};
     ghost use Rattle.win_index.specs.ShapeFaults.{IsFirstShapeFault};
@@ -150,6 +150,20 @@ impl Shape {
         ensures window { IsWindow (2 * level + 1) self.now.ids window.new }
     {
         self.windows(level).write_next(window)
+    }
+
+    /// Writes the next window of this level that has the same identifiers but for the last over a window and says `true`, or
+    /// says `false` and changes nothing where there is none.
+    pub fn next_in_run(&self, level: u32, window: &mut [u32]) -> bool
+        requires level { level ≤ self.now.rounds }
+        requires window { IsWindow (2 * level + 1) self.now.ids window.old }
+        ensures next { OnTrue result (IsNext (2 * level + 1) self.now.ids window.old window.new) }
+        ensures front { take (2 * level) window.new ≡ take (2 * level) window.old }
+        ensures last { OnFalse result (IsLastOfRun (2 * level + 1) self.now.ids window.old) }
+        ensures same { OnFalse result (window.new ≡ window.old) }
+        ensures window { IsWindow (2 * level + 1) self.now.ids window.new }
+    {
+        self.windows(level).write_next_in_run(window)
     }
 
     /// The number of a tuple, or `None` where the list is no tuple.

@@ -1,16 +1,17 @@
 use Rattle.std.proofs.Common.{◌≡◌, ◌+◌, ◌*◌, ◌<◌, [], Some, false, length, take, slice_get}
 use Rattle.win_index.specs.Windows.{windows, IsWindow}
 use Rattle.devices.specs.Watched.{device_of, has_failed}
-use Rattle.table_text.specs.TableText.{lines_then}
-use Rattle.table_text.specs.Pieces.{held, Tells}
+use Rattle.table_text.specs.TableText.{ids_then, lines_then}
+use Rattle.table_text.specs.Pieces.{held, front_text, Tells}
 use Rattle.table_text.proofs.writing.write_entries.Given as goal
 
--- the window is the next one to be written, and the lines of those before it were written or are held
+-- the window is the next one to be written, the front is its own, and the lines of those before it were written or are held
 abbrev pub invariant-loop-number : goal.invariant-loop-number
 invariant-loop-number g l =
     record {
       next : l.number < length (windows (2 * l.table.rounds + 1) l.table.ids) → slice_get (windows (2 * l.table.rounds + 1) l.table.ids) l.number ≡ Some l.window;
       window : IsWindow (2 * l.table.rounds + 1) l.table.ids l.window;
+      front : front_text l.front ≡ ids_then (take (2 * l.table.rounds) l.window) [];
       working : has_failed l.writer ≡ false;
       told : Tells (g.W.Write.contents (device_of l.initial.writer)) (g.W.Write.contents (device_of l.writer)) (held l.chunk)
           (lines_then (record l.table { entries = take l.number l.table.entries }) []);
