@@ -15,9 +15,8 @@ use Rattle.node_lang.specs.Parsing.{Gives, lexemes_left}
 use Rattle.node_lang.specs.Faults.{FaultsAt, IsFirstHighByte, too_long, not_ascii, in_lexemes}
 use Rattle.node_lang.specs.Laws.{OneReading, OneTextFault, ReadableTextsAreRead, ReadableTextsHaveNoFault, ReadTextsAreReadable}
 use Rattle.node_lang.proofs.SmallTokens.{small_tokens}
-use Rattle.node_lang.proofs.Sound.{read_is_spelt}
-use Rattle.node_lang.proofs.Complete.{program_completes}
-use Rattle.node_lang.proofs.FirstFaults.{first_fault_of, stops_at_first_fault}
+use Rattle.node_lang.proofs.Judging.{first_fault_of, stops_at_first_fault}
+use Rattle.node_lang.proofs.Limited.{read_is_spelt, program_completes}
 
 -- a high byte stands not before the first one
 not_before : (text : List ℕ) (m n : ℕ) → IsFirstHighByte text m → IsFirstHighByte text n → m < n → ⊥
@@ -74,7 +73,7 @@ no_fault text p k m reads (in_lexemes j n from short ascii at place) =
 -- a text that is read from the left reads as that program
 pub read_is_readable : ReadTextsAreReadable
 read_is_readable text p n left short ascii e =
-    let spelt = read_is_spelt p 0 n (lexemes_of text) left (small_tokens text) e in
+    let spelt = read_is_spelt p 0 n (lexemes_of text) left (omega arith) (small_tokens text) e in
     record { short = short; ascii = ascii; tokens = spelt.tokens; limits = spelt.limits }
 
 -- so does one that the parser reads to its end

@@ -28,7 +28,7 @@ pub fn one_text_fault()
 {}
 
 /// Reading stops at the first fault of the lexemes of a text, and only there.
-#[tactic(auto, using(crate::proofs::FirstFaults::first_fault_of, crate::proofs::FirstFaults::stops_at_first_fault))]
+#[tactic(auto, using(crate::proofs::Judging::first_fault_of, crate::proofs::Judging::stops_at_first_fault))]
 pub fn first_fault()
     ensures first { law.ReadingStopsAtFirstFault }
     ensures only { law.FirstFaultStopsReading }
