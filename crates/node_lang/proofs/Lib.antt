@@ -5,8 +5,7 @@ pub mod Sizes
 pub mod SmallTokens
 pub mod Parsing
 pub mod Lexing
-pub mod ReadBack
-pub mod PrintedLength
+pub mod PrintedTokens
 pub mod Assigned
 pub mod Programs
 pub mod Rest

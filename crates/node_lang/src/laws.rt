@@ -14,7 +14,7 @@ pub fn reading_is_exact()
 {}
 
 /// The printed form of a program reads as that program, and is shorter than 65,536 bytes.
-#[tactic(auto, using(crate::proofs::PrintedLength::printed_reads, crate::proofs::PrintedLength::printed_length))]
+#[tactic(auto, using(crate::proofs::PrintedTokens::printed_reads, crate::proofs::PrintedTokens::printed_length))]
 pub fn printed_is_read_back()
     ensures reads { law.PrintedIsRead }
     ensures short { law.PrintedIsShort }
