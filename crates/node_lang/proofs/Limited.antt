@@ -8,8 +8,9 @@ use Rattle.node_lang.specs.Limits.{IsWithinLimits}
 use Rattle.node_lang.specs.Lexemes.{Lexeme, tokens_in}
 use Rattle.node_lang.specs.Grammar.{spelling}
 use Rattle.node_lang.specs.Reading.{Got, go_on, done, program}
-use Rattle.node_lang.proofs.SmallTokens.{is_small, fitting_terms}
-use Rattle.node_lang.proofs.Rest.{Filling, Fits, nodes_in}
+use Rattle.node_lang.specs.Viable.{unmarked}
+use Rattle.node_lang.proofs.SmallTokens.{is_small, HasSmallNumbers, small_trees}
+use Rattle.node_lang.proofs.Rest.{Filling, filled, Fits, nodes_in}
 use Rattle.node_lang.proofs.Filled.{IsShallow, a_program, tree, tree_is, filling_of, fits_top, shallow_trees, nodes_of_trees}
 use Rattle.node_lang.proofs.Places.{spells}
 use Rattle.node_lang.proofs.Stepwise.{program_read}
@@ -19,11 +20,11 @@ nodes_of_tree : (x : Filling a_program) → nodes_in a_program x ≡ sum_by size
 nodes_of_tree x = nodes_of_trees a_program x ∙ ap (sum_by size) (tree_is x).terms
 
 -- the tree of a filling that fits is within the limits
-within_limits : (x : Filling a_program) → Fits a_program x → nodes_in a_program x ≤ MAX_NODES → list_all is_small (spelling (tree x)) ≡ true → IsWithinLimits (tree x)
+within_limits : (x : Filling a_program) → Fits a_program x → nodes_in a_program x ≤ MAX_NODES → list_all is_small (unmarked (filled a_program x)) ≡ true → IsWithinLimits (tree x)
 within_limits x fits few small =
     let t = tree_is x in
     let shallow = subst (All IsShallow) t.terms (shallow_trees a_program x fits) in
-    let numbers = fitting_terms (tree x) small in
+    let numbers = subst (All HasSmallNumbers) t.terms (small_trees a_program x small) in
     record {
       rounds = omega (arith, t.rounds, fits.1);
       some_channels = fits.2.0;
@@ -45,10 +46,9 @@ pub read_is_spelt : (p : ProgramTree) (nodes count : ℕ) (ls left : List Lexeme
 read_is_spelt p nodes count ls left few small e =
     let r = reads_as p nodes count ls left few e in
     let s = r.spells in
-    let same = s.tokens ∙ spells r.filling in
     subst (SpellsProgram ls) r.is (record {
-      tokens = same;
-      limits = within_limits r.filling s.fits (omega (arith, s.few, s.nodes_are)) (sym (ap (list_all is_small) same) ∙ small);
+      tokens = s.tokens ∙ spells r.filling;
+      limits = within_limits r.filling s.fits (omega (arith, s.few, s.nodes_are)) (sym (ap (list_all is_small) s.tokens) ∙ small);
     })
 
 -- such lexemes are read as the program

@@ -6,16 +6,12 @@ use Rattle.node_lang.specs.Grammar.{spelled, assigned, blocks, spelling}
 use Rattle.node_lang.specs.Viable.{Mark, marked, marked_assignments, marked_blocks, marks, unmarked}
 
 unmarked_expression : (e : Term) (d : ℕ) (more : List Mark) → unmarked (marked e d more) ≡ spelled e (unmarked more)
-unmarked_expression (Literal n) d more = refl
-unmarked_expression Identifier d more = refl
-unmarked_expression LeftMessage d more = refl
-unmarked_expression RightMessage d more = refl
-unmarked_expression (RegisterValue j) d more = refl
 unmarked_expression (Unary o a) d more = ap (λ ts. token.Unary o ∷ token.Open ∷ ts) (unmarked_expression a (d + 1) _)
 unmarked_expression (Binary o a b) d more = ap (λ ts. token.Binary o ∷ token.Open ∷ ts) (unmarked_expression a (d + 1) _
     ∙ ap (λ ts. spelled a (token.Comma ∷ ts)) (unmarked_expression b (d + 1) _))
 unmarked_expression (Conditional c a b) d more = ap (λ ts. token.If ∷ token.Open ∷ ts) (unmarked_expression c (d + 1) _
     ∙ ap (λ ts. spelled c (token.Comma ∷ ts)) (unmarked_expression a (d + 1) _ ∙ ap (λ ts. spelled a (token.Comma ∷ ts)) (unmarked_expression b (d + 1) _)))
+unmarked_expression e d more = refl
 
 unmarked_assignments : (j : ℕ) (es : List Term) (more : List Mark) → unmarked (marked_assignments j es more) ≡ assigned j es (unmarked more)
 unmarked_assignments j [] more = refl

@@ -147,14 +147,10 @@ First w x [] = w ≡ Nothing
 First w x (m ∷ ms) = (m.depth ≡ depth_next w) × Begins w x m.token (step w m.token)
 
 first_of_term : (d : ℕ) (w : Rest) (e : Term) (x : Filling w) → First (AnExpression d w) (e, x) (marked e (d + 1) (filled w x))
-first_of_term d w (Literal n) x = (refl, (x, refl))
-first_of_term d w Identifier x = (refl, (x, refl))
-first_of_term d w LeftMessage x = (refl, (x, refl))
-first_of_term d w RightMessage x = (refl, (x, refl))
-first_of_term d w (RegisterValue j) x = (refl, (x, refl))
 first_of_term d w (Unary o a) x = (refl, ((a, x), refl))
 first_of_term d w (Binary o a b) x = (refl, ((a, (b, x)), refl))
 first_of_term d w (Conditional c a b) x = (refl, ((c, (a, (b, x))), refl))
+first_of_term d w e x = (refl, (x, refl))
 
 pub first : (w : Rest) (x : Filling w) → First w x (filled w x)
 first Nothing x = refl
