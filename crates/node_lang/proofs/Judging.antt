@@ -1,19 +1,28 @@
--- Reading stops at the first fault, and it answers a program exactly where the tokens are spelled so within the limits.
-use Rattle.std.proofs.Common.{◌≡◌, ℕ, ◌+◌, ◌≤◌, Some, List, [], ◌∷◌, ◌++◌, refl, sym, subst, ap, ◌∙◌, arith, inl, inr}
-use Rattle.node_lang.specs.declared.limits.TheConstants.{MAX_NODES}
+-- What a text reads as and its fault, by how reading it from the left ends: it stops at the first fault, and answers a program exactly where the tokens are spelled so within the limits.
+use Rattle.std.proofs.Common.{◌≡◌, ℕ, ◌+◌, ◌≤◌, Some, List, [], ◌∷◌, ◌++◌, refl, sym, subst, ap, ◌∙◌, arith, inl, inr, true, ◌≢◌, ◌-◌, ◌<◌, length, get_or, take}
+use Rattle.node_lang.specs.declared.limits.TheConstants.{MAX_NODES, LONGEST_TEXT}
 use Rattle.node_lang.specs.declared.fault.FaultKind.{FaultKind}
 use Rattle.node_lang.specs.declared.fault.FaultKind.TheVariants as kind
 use Rattle.node_lang.specs.declared.token.Token.{Token}
-use Rattle.node_lang.specs.Term.{ProgramTree}
-use Rattle.node_lang.specs.Lexemes.{Lexeme, tokens_in}
+use Rattle.node_lang.specs.Term.{ProgramTree, size, terms}
+use Rattle.node_lang.specs.Lexemes.{Lexeme, tokens_in, lexemes_of}
 use Rattle.node_lang.specs.Reading.{Read, Got, Fault, go_on, done, expression, program}
 use Rattle.node_lang.specs.Viable.{Stands, FirstFault, unmarked}
-use Rattle.node_lang.specs.Laws.{ReadingStopsAtFirstFault, FirstFaultStopsReading}
-use Rattle.node_lang.proofs.Rest.{Rest, Nothing, AToken, AnExpression, ANumber, Filling, filled, nodes_in, Fits, Further, step, counted, Met, Stops, Goes, meets, First, first, Begins, Within, leads_on, goes_within, known_meets, known_next, checked}
-use Rattle.node_lang.proofs.Filled.{a_program, tree}
-use Rattle.node_lang.proofs.Places.{Place, first_place, next_place, whole_nothing, whole, first_is, steps_on, no_tokens}
-use Rattle.node_lang.proofs.Standing.{Ranged, ranges, next_ranged, RangedIf, first_ranged, Says, says, stands_met}
+use Rattle.node_lang.specs.Laws.{ReadingStopsAtFirstFault, FirstFaultStopsReading, OneReading, OneTextFault, ReadableTextsAreRead, ReadableTextsHaveNoFault, ReadTextsAreReadable}
+use Rattle.std.specs.Prelude.{All, sum_by, Result, Ok, Err, IfOk, IfErr}
+use Rattle.std.specs.List.{list_all}
+use Rattle.node_lang.specs.Limits.{IsWithinLimits}
+use Rattle.node_lang.specs.Grammar.{spelling, Reads}
+use Rattle.std.proofs.lemmas.Bool.{cases_order}
+use Rattle.std.proofs.lemmas.List.{length-take-le, get_or-take}
+use Rattle.node_lang.specs.declared.fault.TextFault.{TextFault}
+use Rattle.node_lang.specs.declared.parser.Parser.{Parser}
+use Rattle.node_lang.specs.Parsing.{Gives, lexemes_left}
+use Rattle.node_lang.specs.Faults.{FaultsAt, IsFirstHighByte, too_long, not_ascii, in_lexemes}
+use Rattle.node_lang.proofs.Rest.{Rest, Nothing, AToken, AnExpression, ANumber, Filling, filled, nodes_in, Fits, Further, step, counted, Met, Stops, Goes, meets, First, first, Begins, Within, leads_on, goes_within, known_meets, known_next, checked, a_program, tree, IsShallow, tree_is, filling_of, fits_top, shallow_trees, nodes_of_trees}
+use Rattle.node_lang.proofs.Places.{Place, first_place, next_place, whole_nothing, whole, first_is, steps_on, no_tokens, spells, Ranged, ranges, next_ranged, RangedIf, first_ranged, Says, says, stands_met}
 use Rattle.node_lang.proofs.Stepwise.{read, went, read_next, program_read}
+use Rattle.node_lang.proofs.SmallTokens.{is_small, HasSmallNumbers, small_trees, small_tokens}
 
 -- this fault is the first one, and no other is
 pub record IsOnly (before : List Token) (ls : List Lexeme) (k : FaultKind) (from : ℕ) : Type 0 where
@@ -167,3 +176,136 @@ stops_at_first_fault ls k from f = program_read 0 ls ∙ stops (read a_program 0
         let kinds : k ≡ j = only.0 in
         let places : from ≡ place = only.1 in
         cc
+
+nodes_of_tree : (x : Filling a_program) → nodes_in a_program x ≡ sum_by size (terms (tree x))
+nodes_of_tree x = nodes_of_trees a_program x ∙ ap (sum_by size) (tree_is x).terms
+
+-- the tree of a filling that fits is within the limits
+within_limits : (x : Filling a_program) → Fits a_program x → nodes_in a_program x ≤ MAX_NODES → list_all is_small (unmarked (filled a_program x)) ≡ true → IsWithinLimits (tree x)
+within_limits x fits few small =
+    let t = tree_is x in
+    let shallow = subst (All IsShallow) t.terms (shallow_trees a_program x fits) in
+    let numbers = subst (All HasSmallNumbers) t.terms (small_trees a_program x small) in
+    record {
+      rounds = omega (arith, t.rounds, fits.1);
+      some_channels = fits.2.0;
+      few_channels = fits.2.1;
+      some_registers = omega (arith, t.registers, fits.2.2.0);
+      few_registers = omega (arith, t.registers, fits.2.2.1);
+      each_register = t.each_register;
+      small = λ i e below. record { depth = shallow i e below; numbers = (numbers i e below).0; registers = (numbers i e below).1 };
+      nodes = omega (arith, nodes_of_tree x, few);
+    }
+
+-- these lexemes spell a program within the limits
+pub record SpellsProgram (ls : List Lexeme) (p : ProgramTree) : Type 0 where
+  pub tokens : tokens_in ls ≡ spelling p
+  pub limits : IsWithinLimits p
+
+pub read_is_spelt : (p : ProgramTree) (nodes count : ℕ) (ls left : List Lexeme) → nodes ≤ MAX_NODES → list_all is_small (tokens_in ls) ≡ true →
+    program nodes ls ≡ Got p count left → SpellsProgram ls p
+read_is_spelt p nodes count ls left few small e =
+    let r = reads_as p nodes count ls left few e in
+    let s = r.spells in
+    subst (SpellsProgram ls) r.is (record {
+      tokens = s.tokens ∙ spells r.filling;
+      limits = within_limits r.filling s.fits (omega (arith, s.few, s.nodes_are)) (sym (ap (list_all is_small) s.tokens) ∙ small);
+    })
+
+-- such lexemes are read as the program
+abbrev IsAnswered : List Lexeme → ProgramTree → Type 0
+IsAnswered ls p = IsWithinLimits p → tokens_in ls ≡ spelling p → program 0 ls ≡ Got p (sum_by size (terms p)) []
+
+tree_answered : (ls : List Lexeme) (x : Filling a_program) → IsAnswered ls (tree x)
+tree_answered ls x limits e =
+    let t = tree_is x in
+    let nodes = nodes_of_tree x in
+    let shallow = subst (All IsShallow) (sym t.terms) (λ i d below. (limits.small i d below).depth) in
+    let top = t.top (omega (arith, t.rounds, limits.rounds)) limits.some_channels limits.few_channels (omega (arith, t.registers, limits.some_registers)) (omega (arith, t.registers, limits.few_registers)) in
+    program_read 0 ls ∙ ap (λ r. go_on r (λ y. done (tree y))) (completes a_program 0 ls x (e ∙ sym (spells x)) (fits_top a_program x top shallow) (omega (arith, nodes, limits.nodes)))
+    ∙ ap (λ k. Got (tree x) k []) (omega (arith, nodes))
+
+pub program_completes : (p : ProgramTree) (ls : List Lexeme) → IsWithinLimits p → tokens_in ls ≡ spelling p → program 0 ls ≡ Got p (sum_by size (terms p)) []
+program_completes p ls limits =
+    let x = filling_of p limits.each_register in
+    subst (IsAnswered ls) x.1 (tree_answered ls x.0) limits
+
+-- a high byte stands not before the first one
+not_before : (text : List ℕ) (m n : ℕ) → IsFirstHighByte text m → IsFirstHighByte text n → m < n → ⊥
+not_before text m n a b h =
+    let low = b.before m 0 (rw (length-take-le n text (omega (arith, b.within))) h) in
+    let same : get_or (take n text) m 0 ≡ get_or text m 0 = get_or-take n text m 0 h in
+    absurd (omega (arith, low, same, a.high))
+
+pub one_high_byte : (text : List ℕ) (m n : ℕ) → IsFirstHighByte text m → IsFirstHighByte text n → m ≡ n
+one_high_byte text m n a b =
+    elim (cases_order m n) [ inl e ↦ e | inr (inl h) ↦ absurd (not_before text m n a b h) | inr (inr h) ↦ absurd (not_before text n m b a h) ]
+
+has_no_high_byte : (text : List ℕ) (n : ℕ) → All (λ b. b < 128) text → IsFirstHighByte text n → ⊥
+has_no_high_byte text n ascii first =
+    let low = ascii n 0 first.within in
+    let high = first.high in
+    omega arith
+
+-- a text has one fault
+pub one_fault : OneTextFault
+one_fault text k l m n (too_long a) (too_long b) = (refl, refl)
+one_fault text k l m n (too_long a) (not_ascii j short first) = absurd (omega arith)
+one_fault text k l m n (too_long a) (in_lexemes j i from short ascii at place) = absurd (omega arith)
+one_fault text k l m n (not_ascii i short first) (too_long b) = absurd (omega arith)
+one_fault text k l m n (not_ascii i short a) (not_ascii j _ b) = (refl, one_high_byte text i j a b)
+one_fault text k l m n (not_ascii i short a) (in_lexemes j o from _ ascii at place) = absurd (has_no_high_byte text i ascii a)
+one_fault text k l m n (in_lexemes j i from short ascii at place) (too_long b) = absurd (omega arith)
+one_fault text k l m n (in_lexemes j i from short ascii at place) (not_ascii o _ b) = absurd (has_no_high_byte text o ascii b)
+one_fault text k l m n (in_lexemes j i from short ascii at place) (in_lexemes h o since _ _ at' place') =
+    let same : Fault j from ≡ Fault h since = sym (stops_at_first_fault (lexemes_of text) j from at) ∙ stops_at_first_fault (lexemes_of text) h since at' in
+    let rest : from ≡ since = cc in
+    (cc, omega arith)
+
+-- a text that reads as a program is read as that program
+pub readable_is_read : ReadableTextsAreRead
+readable_is_read text p reads = program_completes p (lexemes_of text) reads.limits reads.tokens
+
+-- as no other one
+pub one_reading : OneReading
+one_reading text p q a b =
+    let first = readable_is_read text p a in
+    let second = readable_is_read text q b in
+    cc
+
+-- and has no fault
+pub no_fault : ReadableTextsHaveNoFault
+no_fault text p k m reads (too_long long) = omega (arith, reads.short, long)
+no_fault text p k m reads (not_ascii n short first) = has_no_high_byte text n reads.ascii first
+no_fault text p k m reads (in_lexemes j n from short ascii at place) =
+    let whole = readable_is_read text p reads in
+    let stops = stops_at_first_fault (lexemes_of text) j from at in
+    cc
+
+-- a text that is read from the left reads as that program
+pub read_is_readable : ReadTextsAreReadable
+read_is_readable text p n left short ascii e =
+    let spelt = read_is_spelt p 0 n (lexemes_of text) left (omega arith) (small_tokens text) e in
+    record { short = short; ascii = ascii; tokens = spelt.tokens; limits = spelt.limits }
+
+-- so does one that the parser reads to its end
+pub reads_program : (old new : Parser) (r : Result ProgramTree TextFault) → old.at ≡ 0 → old.nodes ≡ 0 → length old.text.now ≤ LONGEST_TEXT → All (λ b. b < 128) old.text.now →
+    Gives (λ p. p) old new r program → IfOk r (Reads old.text.now)
+reads_program old new (Ok p) at nodes short ascii h =
+    read_is_readable old.text.now p new.nodes (lexemes_left old.text.now new.at) short ascii (rw (at, nodes) at h.1)
+reads_program old new (Err f) at nodes short ascii h = tt
+
+-- and one at which it stops has this fault
+pub faults_at : (old new : Parser) (r : Result ProgramTree TextFault) → old.at ≡ 0 → old.nodes ≡ 0 → length old.text.now ≤ LONGEST_TEXT → All (λ b. b < 128) old.text.now →
+    Gives (λ p. p) old new r program → IfErr r (λ f. f.kind ≢ kind.OutOfMemory → FaultsAt old.text.now f.kind f.offset)
+faults_at old new (Ok p) at nodes short ascii h = tt
+faults_at old new (Err f) at nodes short ascii h = λ m.
+    let stops = h.1 m in
+    let first = first_fault_of (lexemes_of old.text.now) f.kind (length old.text.now - f.offset) (rw (at, nodes) at stops.1) in
+    in_lexemes f.kind f.offset (length old.text.now - f.offset) short ascii first (omega (arith, stops.0))
+
+-- so it reads as none
+pub reads_none : {T : Type 0} (text : List ℕ) (r : Result T TextFault) → IfErr r (λ f. f.kind ≢ kind.OutOfMemory → FaultsAt text f.kind f.offset) →
+    IfErr r (λ f. f.kind ≢ kind.OutOfMemory → (p : ProgramTree) → Reads text p → ⊥)
+reads_none text (Ok v) h = h
+reads_none text (Err f) h = λ m p reads. no_fault text p f.kind f.offset reads (h m)

@@ -10,8 +10,7 @@ use Rattle.node_lang.specs.Term.{Term, Step}
 use Rattle.node_lang.specs.Lexemes.{Lexeme}
 use Rattle.node_lang.specs.Reading.{same_token, Read, Reader, Got, Fault, go_on, done, refuse, ◌>>=◌, ◌>>◌, exactly, node, one_of, two_of, three_of, operand, expression, number, end, each, assign, assigns, round, rounds, header, program}
 use Rattle.node_lang.proofs.Parsing.{operand_is}
-use Rattle.node_lang.proofs.Rest.{Rest, Nothing, AToken, AnExpression, ANumber, Filling, Further, counted, Met, Stops, Goes, limited, checked, meets}
-use Rattle.node_lang.proofs.Filled.{assignments, some_rounds, a_finish, a_body, a_program, assigned_in, rounds_in, tree_from, tree}
+use Rattle.node_lang.proofs.Rest.{Rest, Nothing, AToken, AnExpression, ANumber, Filling, Further, counted, Met, Stops, Goes, limited, checked, meets, assignments, some_rounds, a_finish, a_body, a_program, assigned_in, rounds_in, tree_from, tree}
 
 -- the rest is read so
 abbrev pub read : (w : Rest) → Reader (Filling w)

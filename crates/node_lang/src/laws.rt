@@ -1,13 +1,13 @@
 ghost use Rattle.node_lang.specs.Laws as law;
 
 /// A text reads as at most one program.
-#[tactic(auto, using(crate::proofs::Faulting::one_reading))]
+#[tactic(auto, using(crate::proofs::Judging::one_reading))]
 pub fn one_reading()
     ensures { law.OneReading }
 {}
 
 /// A short ASCII text reads as a program exactly where reading it from the left answers that program.
-#[tactic(auto, using(crate::proofs::Faulting::readable_is_read, crate::proofs::Faulting::read_is_readable))]
+#[tactic(auto, using(crate::proofs::Judging::readable_is_read, crate::proofs::Judging::read_is_readable))]
 pub fn reading_is_exact()
     ensures complete { law.ReadableTextsAreRead }
     ensures sound { law.ReadTextsAreReadable }
@@ -21,7 +21,7 @@ pub fn printed_is_read_back()
 {}
 
 /// A text has at most one fault, and a text that reads as a program has none.
-#[tactic(auto, using(crate::proofs::Faulting::one_fault, crate::proofs::Faulting::no_fault))]
+#[tactic(auto, using(crate::proofs::Judging::one_fault, crate::proofs::Judging::no_fault))]
 pub fn one_text_fault()
     ensures one { law.OneTextFault }
     ensures none { law.ReadableTextsHaveNoFault }

@@ -2,7 +2,7 @@ use Rattle.std.proofs.Common.{ap, Err, refl, arith}
 use Rattle.node_lang.specs.Faults as fault
 use Rattle.node_lang.specs.declared.fault.FaultKind.TheVariants as kind
 use Rattle.node_lang.specs.declared.parser.Parser.{Parser}
-use Rattle.node_lang.proofs.Faulting.{one_high_byte, reads_none, reads_program, faults_at}
+use Rattle.node_lang.proofs.Judging.{one_high_byte, reads_none, reads_program, faults_at}
 use Rattle.node_lang.proofs.text.parse.Goals as goal
 
 pub returns-then-text-gt-LONGEST_TEXT-clause-fault : goal.returns-then-text-gt-LONGEST_TEXT-clause-fault

@@ -3,7 +3,7 @@ use Rattle.node_lang.specs.Term.{program_tree}
 use Rattle.node_lang.specs.Reading.{Got, program}
 use Rattle.node_lang.specs.Parsing.{lexemes_left}
 use Rattle.node_lang.proofs.SmallTokens.{small_tokens}
-use Rattle.node_lang.proofs.Limited.{read_is_spelt}
+use Rattle.node_lang.proofs.Judging.{read_is_spelt}
 use Rattle.node_lang.proofs.parser.Parser.whole.Goals as goal
 
 pub invariant_of-result : goal.invariant_of-result
