@@ -1,6 +1,6 @@
 -- The text of a printed program is short and ASCII, and its tokens are the spelling of the program.
-use Rattle.std.proofs.Common.{◌≡◌, ℕ, ◌+◌, ◌-◌, ◌^◌, ◌<◌, ◌==◌, true, false, cond, nat_lt, List, [], ◌∷◌, ◌++◌, length, refl, sym, ap, ◌∙◌, arith, rules, ◌*◌, ◌≤◌, Bool, append_assoc, append-nil, length-append}
-use Rattle.std.specs.Prelude.{Some, None, sum_by, All, codes}
+use Rattle.std.proofs.Common.{◌≡◌, ℕ, ◌+◌, ◌-◌, ◌^◌, ◌<◌, ◌==◌, true, false, nat_lt, List, [], ◌∷◌, ◌++◌, length, refl, sym, ap, ◌∙◌, arith, rules, ◌*◌, ◌≤◌, Bool, append_assoc, append-nil, length-append}
+use Rattle.std.specs.Prelude.{sum_by, All, codes}
 use Rattle.std.specs.List.{list_all, prefix_len, flat_map}
 use Rattle.std.specs.Fmt.{decimal}
 use Rattle.std.proofs.Math.Seq.{take-append_seam, drop-append_seam}
@@ -10,7 +10,7 @@ use Rattle.std.proofs.lemmas.Fmt.{decimal_digit, decimal_nonempty, digits_decima
 use Rattle.std.proofs.lemmas.Str.Parse.{IsNumeralModel, numerals_by_fold}
 use Rattle.node_lang.specs.declared.token.Token.{Token}
 use Rattle.node_lang.specs.declared.token.Token.TheVariants as token
-use Rattle.node_lang.specs.Words.{is_blank, is_digit, is_word_byte, read_on, word_token, mark_token, number_token, or_unknown, named, keywords, operations, unary_name, binary_name, word_of}
+use Rattle.node_lang.specs.Words.{is_blank, is_digit, is_word_byte, read_on, word_token, mark_token, unary_name, binary_name, word_of}
 use Rattle.node_lang.specs.Lexemes.{tokens_in, tokens_of, lexemes_of}
 use Rattle.std.proofs.lemmas.List.Sums.{sum_by-append, sum_by-cons, AllPass-from_list_all}
 use Rattle.node_lang.specs.Term.{Step, ProgramTree, size, step_terms, terms, terms_of_step, Term, Literal, Identifier, LeftMessage, RightMessage, RegisterValue, Unary, Binary, Conditional, largest, largest_register}
@@ -21,8 +21,8 @@ use Rattle.node_lang.specs.declared.tree.UnOp.TheVariants.{Not}
 use Rattle.node_lang.specs.declared.tree.BinOp.{BinOp}
 use Rattle.node_lang.specs.declared.tree.BinOp.TheVariants as op
 use Rattle.node_lang.specs.Limits.{IsSmall, IsWithinLimits}
-use Rattle.node_lang.specs.Grammar.{Reads, spelled, assigned, block, blocks, spelling}
-use Rattle.node_lang.specs.Printed.{printed_expression, assignment_line, assignment_lines, send_line, round_lines, header_lines, finish_line, printed}
+use Rattle.node_lang.specs.Grammar.{Reads, spelled, assigned, block, blocks}
+use Rattle.node_lang.specs.Printed.{printed_expression, assignment_line, assignment_lines, send_line, round_lines, header_lines, printed}
 use Rattle.node_lang.proofs.Placing.{blank_in_front, mark_in_front, word_token_first}
 
 pub blank_first : (b : ℕ) (rest : List ℕ) → is_blank b ≡ true → tokens_of (b ∷ rest) ≡ tokens_of rest
@@ -72,10 +72,7 @@ numeral = numerals_by_fold (λ ds. list_all is_digit ds ≡ true) (search rules)
 
 number_word : (digits : List ℕ) (n : ℕ) → list_all is_digit digits ≡ true → read_on 0 digits ≡ n → n < 2 ^ 32 → word_token digits ≡ token.Number n
 unfolding word_token
-number_word digits n h value small =
-    cond-true (list_all is_digit digits) (number_token digits) _ h
-    ∙ ap (λ k. cond (nat_lt k (2 ^ 32)) (token.Number k) token.LargeNumber) value
-    ∙ cond-true (nat_lt n (2 ^ 32)) (token.Number n) token.LargeNumber (lt-ltb n (2 ^ 32) small)
+number_word digits n h value small = rw (h, value, lt-ltb n (2 ^ 32) small) refl
 
 pub number_is_word : (n : ℕ) → n < 2 ^ 32 → IsWord (decimal n) (token.Number n)
 number_is_word n small =
@@ -89,9 +86,7 @@ number_is_word n small =
 
 register_word : (d j : ℕ) → is_digit d ≡ true → d - 48 ≡ j → word_token (114 ∷ d ∷ []) ≡ token.Register j
 unfolding word_token
-register_word d j h value =
-    ap (λ t. or_unknown (cond t (Some (token.Register (d - 48))) None) (named keywords (114 ∷ d ∷ [])) (named operations (114 ∷ d ∷ []))) h
-    ∙ ap token.Register value
+register_word d j h value = rw h (ap token.Register value)
 
 one_digit_word : (d j : ℕ) → d ≡ 48 + j → j < 10 → IsWord (114 ∷ d ∷ []) (token.Register j)
 one_digit_word d j e small =

@@ -5,10 +5,10 @@ use Rattle.std.specs.List.{list_all}
 use Rattle.std.specs.Str.{bytes_eq}
 use Rattle.std.proofs.lemmas.Bool.{cond_both, and_parts, and_from, ltb-true}
 use Rattle.std.proofs.lemmas.Bool.Decides.{nat_tests}
-use Rattle.std.proofs.lemmas.List.Elements.{All-append, All-cons, All-nil}
+use Rattle.std.proofs.lemmas.List.Elements.{All-cons, All-nil}
 use Rattle.node_lang.specs.declared.token.Token.{Token}
 use Rattle.node_lang.specs.declared.token.Token.TheVariants as token
-use Rattle.node_lang.specs.Term.{Term, Literal, RegisterValue, Unary, Binary, Conditional, Step, ProgramTree, largest, largest_register, step_terms, terms, terms_of_step}
+use Rattle.node_lang.specs.Term.{Term, Literal, RegisterValue, Unary, Binary, Conditional, largest, largest_register}
 use Rattle.node_lang.specs.Words.{is_digit, is_blank, is_word_byte, word_token, mark_token, number_token, read_on, register_named, or_unknown, named, keywords, operations, word_of}
 use Rattle.node_lang.specs.Lexemes.{Lexeme, Split, blanked, joined, split_of, lexemes_of, tokens_in, tokens_of}
 use Rattle.node_lang.specs.Viable.{Mark, marked, unmarked}
