@@ -43,6 +43,7 @@ Judges before w n ls (Got x count left) =
     Spells w n ls x count left × (Place before n w → Ranged before w → (k : FaultKind) (from : ℕ) → FirstFault before ls k from → ⊥)
 Judges before w n ls (Fault k from) = Place before n w → Ranged before w → IsOnly before ls k from
 
+-- where something is left, the end of the text is a fault
 at_end : (before : List Token) (w : Rest) (n : ℕ) → (w ≡ Nothing → ⊥) → Place before n w → Ranged before w → IsOnly before [] kind.EndOfText 0
 at_end before w n some p r = record { is = (refl, refl, λ h. some (whole_nothing p h)); only = λ j place f. (f.0, f.1) }
 
@@ -63,6 +64,7 @@ goes_at {before} {w} {n} {t} m e s = record {
   clean = λ p r k stands. let met = sym e ∙ stands_met w t k p (ranges before w r) stands in cc;
 }
 
+-- what is judged after a token is judged before it
 judged_through : (before : List Token) (w : Rest) (n : ℕ) (l : Lexeme) (ls : List Lexeme) (m : Further w) → GoesAt before w n l.token m → (r : Read (Filling m.rest)) →
     Judges (before ++ l.token ∷ []) m.rest (counted w n) ls r → Judges before w n (l ∷ ls) (go_on r (λ x. done (m.whole x)))
 judged_through before w n l ls m g (Got x count left) h =
@@ -83,6 +85,7 @@ judged_through before w n l ls m g (Fault k from) h = λ p r.
       only = λ j place f. elim f [ inl here ↦ absurd (g.clean p r j here.0) | inr there ↦ later.only j place there.1 ];
     }
 
+-- at a token reading stops at the first fault, or goes on
 judged_met : (before : List Token) (w : Rest) (n : ℕ) (l : Lexeme) (ls : List Lexeme) (r : Met w) → meets w n l.token ≡ r → Says before w n l.token r →
     ((m : Further w) → counted w n ≤ MAX_NODES → Judges (before ++ l.token ∷ []) m.rest (counted w n) ls (read m.rest (counted w n) ls)) →
     Judges before w n (l ∷ ls) (went w n l.from ls r)
@@ -97,6 +100,7 @@ judged_met before w n l ls (Stops k) e s more = λ p r.
     }
 judged_met before w n l ls (Goes m) e s more = judged_through before w n l ls m (goes_at m e s) (read m.rest (counted w n) ls) (more m s.2)
 
+-- so is each reading of the rest
 pub judged : (before : List Token) (w : Rest) (n : ℕ) (ls : List Lexeme) → n ≤ MAX_NODES → Judges before w n ls (read w n ls)
 unfolding expression
 judged before Nothing n [] few =
@@ -125,6 +129,7 @@ read_on w n l ls m y s more e fits few =
     read_next w n l.from l.token ls ∙ ap (went w n l.from ls) goes ∙ ap (λ r. go_on r (λ z. done (m.whole z))) (more rest within.1 (omega arith))
     ∙ ap (λ k. Got (m.whole y) k []) (sym less)
 
+-- each filling is
 pub completes : (w : Rest) (n : ℕ) (ls : List Lexeme) (x : Filling w) → IsRead w n ls x
 completes Nothing n [] x e fits few = ap (λ k. Got tt k []) (omega arith)
 completes (AToken t same w) n [] x e fits few = cc

@@ -154,6 +154,7 @@ whole_nothing {before} {w = w} p v =
     let g = goes_on p v.program v.each_register (unmarked_program v.program ∙ sym v.spells ∙ sym (append-nil before)) in
     subst (First w g.left) (no_tokens (filled w g.left) g.tokens) (first w g.left)
 
+-- a token that can come next is the next one of some program
 pub viable : {before : List Token} {nodes : ℕ} {w : Rest} {m : Further w} (t : Token) → Place before nodes w → step w t ≡ Some m → IsViable (before ++ t ∷ [])
 viable {before} {m = m} t p s =
     let next = next_place t p s in
@@ -165,6 +166,7 @@ viable {before} {m = m} t p s =
       spells = sym (unmarked_next next.marks (before ++ t ∷ []) _ next.tokens) ∙ ap unmarked (sym c.are) ∙ unmarked_program c.program;
     }
 
+-- where nothing is left the tokens are a program
 pub whole : {before : List Token} {nodes : ℕ} → Place before nodes Nothing → IsWhole before
 whole p =
     let c = completed p tt in
@@ -174,6 +176,7 @@ whole p =
       spells = sym p.tokens ∙ ap unmarked (sym (append-nil p.marks) ∙ sym c.are) ∙ unmarked_program c.program;
     }
 
+-- and a node that can come next begins in some program
 pub begins_node : {before : List Token} {nodes : ℕ} {w : Rest} {t : Token} {m : Further w} → Place before nodes w → step w t ≡ Some m → 0 < depth_next w →
     BeginsNode before t (depth_next w) nodes
 begins_node {w = w} {t = t} {m = m} p s deep =
@@ -217,12 +220,14 @@ behind_header before t long (rounds i h) = omega (arith, long)
 behind_header before t long (channels i c h) = omega (arith, long)
 behind_header before t long (registers i c r h) = omega (arith, long)
 
+-- of a place and all later ones, at that place
 pub ranges : (before : List Token) (w : Rest) → Ranged before w → Ranges before w
 ranges before Nothing long = record { out = λ t o. absurd o; only = λ t r. behind_header before t long r }
 ranges before (AToken t same w) h = record { out = λ t o. absurd o; only = h.0 }
 ranges before (AnExpression d w) h = record { out = λ t o. absurd o; only = λ t r. behind_header before t h.0 r }
 ranges before (ANumber low high w) h = h.0
 
+-- behind the header no number is out of its range
 behind_ranged : (before : List Token) (w : Rest) → 7 ≤ length before → IsBehind w → Ranged before w
 behind_ranged before Nothing long behind = long
 behind_ranged before (AToken t same w) long behind = (
@@ -296,6 +301,7 @@ first_ranged = (
   ),
 )
 
+-- a number that fails the test is out of its range
 outside : (low high n : ℕ) → (nat_le low n && nat_le n high) ≡ false → IsOutside low high n
 outside low high n h = elim (cases_order n low) [ inl e ↦ inr (grind (arith, nat_tests)) | inr (inl less) ↦ inl less | inr (inr more) ↦ inr (grind (arith, nat_tests)) ]
 
@@ -318,12 +324,6 @@ says_limited before (ANumber low high w) n (token.Number k) m few s =
     (λ both. (s, (grind (arith, nat_tests), grind (arith, nat_tests)), few)) (λ neither _ r. out_of_range (r.out (token.Number k) (outside low high k neither)))
 says_limited before (ANumber low high w) n t m few s = (s, tt, few)
 
-not_unknown : (t : Token) → fault_of t ≡ kind.Unexpected → t ≢ token.Unknown
-not_unknown t known e = let bad : kind.BadWord ≡ kind.Unexpected = sym (ap fault_of e) ∙ known in cc
-
-not_large : (t : Token) → fault_of t ≡ kind.Unexpected → t ≢ token.LargeNumber
-not_large t known e = let bad : kind.NumberTooLarge ≡ kind.Unexpected = sym (ap fault_of e) ∙ known in cc
-
 known_token : (t : Token) → t ≢ token.Unknown → t ≢ token.LargeNumber → fault_of t ≡ kind.Unexpected
 known_token token.Unknown u l = absurd (u refl)
 known_token token.LargeNumber u l = absurd (l refl)
@@ -339,11 +339,13 @@ out_met (ANumber low high w) n t o = absurd o
 
 says_checked : (before : List Token) (w : Rest) (n : ℕ) (t : Token) → n ≤ MAX_NODES → fault_of t ≡ kind.Unexpected → (o : Option (Further w)) → step w t ≡ o →
     Says before w n t (checked w n t o)
-says_checked before w n t few known None none = λ p r. unexpected (not_unknown t known) (not_large t known)
+says_checked before w n t few known None none = λ p r. unexpected
+    (λ e. let bad : kind.BadWord ≡ kind.Unexpected = sym (ap fault_of e) ∙ known in cc) (λ e. let bad : kind.NumberTooLarge ≡ kind.Unexpected = sym (ap fault_of e) ∙ known in cc)
     (λ range. let met = sym (out_met w n t (r.only t range)) ∙ known_meets w n t known ∙ ap (checked w n t) none in cc)
     (λ v. let m = viable_steps t p v in let both : None ≡ Some m.0 = sym none ∙ m.1 in cc)
 says_checked before w n t few known (Some m) s = says_limited before w n t m few s
 
+-- what reading meets stands there
 pub says : (before : List Token) (w : Rest) (n : ℕ) (t : Token) → n ≤ MAX_NODES → Says before w n t (meets w n t)
 says before w n token.Unknown few = λ p r. unknown refl
 says before w n token.LargeNumber few = λ p r. large refl
@@ -353,6 +355,7 @@ none_of : {w : Rest} (o : Option (Further w)) → ((m : Further w) → o ≡ Som
 none_of None h = refl
 none_of (Some m) h = absurd (h m refl)
 
+-- a node that is too deep, and one too many
 limited_deep : (w : Rest) (n : ℕ) (t : Token) (m : Further w) → MAX_DEPTH < depth_next w → limited w n t m ≡ Stops kind.TooDeep
 limited_deep (AnExpression d w) n t m deep = grind (arith, nat_tests, deep)
 limited_deep w n t m deep = absurd (omega (arith, deep))

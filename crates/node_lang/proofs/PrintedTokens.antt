@@ -118,6 +118,7 @@ unary_word : (o : UnOp) → IsWord (unary_name o) (token.Unary o)
 unfolding word_token
 unary_word Not = known (unary_name Not) (token.Unary Not) refl refl refl
 
+-- names of operations are short
 binary_length : (o : BinOp) → length (binary_name o) ≤ 3
 binary_length op.And = omega arith
 binary_length o = omega arith
@@ -158,9 +159,11 @@ roomy x le = record { ascii = x.ascii; short = omega (arith, x.short, le); reads
 ended : {xs : List ℕ} {m n : ℕ} {f : List Token → List Token} → Writes false xs m f → m ≤ n → Writes true xs n f
 ended x le = record { ascii = x.ascii; short = omega (arith, x.short, le); reads = λ rest h. x.reads rest tt }
 
+-- letters and digits are ASCII
 letters_are_ascii : (word : List ℕ) → list_all is_word_byte word ≡ true → All (λ b. b < 128) word
 letters_are_ascii word h = All-weaker (λ b. is_word_byte b ≡ true) (λ b. b < 128) (λ b p. grind (arith, nat_tests)) word (AllPass-from_list_all is_word_byte word h)
 
+-- words, numbers, registers, blanks and marks
 a_word : {word : List ℕ} {t : Token} (most : ℕ) → IsWord word t → length word ≤ most → Writes true word most (λ ts. t ∷ ts)
 a_word {word} {t} most is short =
     record { ascii = letters_are_ascii word is.letters; short = short; reads = λ rest ends. word_first word rest t is ends }
@@ -180,6 +183,7 @@ a_mark : (b : ℕ) → is_word_byte b ≡ false → is_blank b ≡ false → (b 
 a_mark b word blank comment low =
     record { ascii = All-cons (λ b. b < 128) b [] low (All-nil (λ b. b < 128)); short = omega arith; reads = λ rest _. mark_first b rest word blank comment }
 
+-- the fixed texts
 space : Writes false (codes " ") 1 (λ ts. ts)
 space = a_blank 32 refl (omega arith)
 

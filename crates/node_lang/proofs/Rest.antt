@@ -149,6 +149,7 @@ abbrev pub First : (w : Rest) → Filling w → List Mark → Type 0
 First w x [] = w ≡ Nothing
 First w x (m ∷ ms) = (m.depth ≡ depth_next w) × Begins w x m.token (step w m.token)
 
+-- so those of an expression
 first_of_term : (d : ℕ) (w : Rest) (e : Term) (x : Filling w) → First (AnExpression d w) (e, x) (marked e (d + 1) (filled w x))
 first_of_term d w (Unary o a) x = (refl, ((a, x), refl))
 first_of_term d w (Binary o a b) x = (refl, ((a, (b, x)), refl))
@@ -226,6 +227,7 @@ leads_in_term d w token.If = record {
 }
 leads_in_term d w t = tt
 
+-- each token that can come next leads on so
 pub leads : (w : Rest) (t : Token) → LeadsIf w t (step w t)
 leads Nothing t = tt
 leads (AToken s same w) t = cond_both (same_token t s) (Some _) None (LeadsIf (AToken s same w) t)
@@ -274,6 +276,7 @@ known_next (AnExpression d w) t m e = refl
 known_next (ANumber low high w) (token.Number n) m e = refl
 known_next (ANumber low high w) t m e = cc
 
+-- at a token of the language, reading meets what can come next
 pub known_meets : (w : Rest) (n : ℕ) (t : Token) → fault_of t ≡ kind.Unexpected → meets w n t ≡ checked w n t (step w t)
 known_meets w n token.Unknown known = cc
 known_meets w n token.LargeNumber known = cc
@@ -367,6 +370,7 @@ IsTop (ANumber low high w) x = (low ≤ x.0) × (x.0 ≤ high) × IsTop (w x.0) 
 abbrev pub IsShallow : Term → Type 0
 IsShallow e = depth e ≤ MAX_DEPTH
 
+-- expressions that are no operands fit where they are shallow
 pub fits_top : (w : Rest) (x : Filling w) → IsTop w x → All IsShallow (trees w x) → Fits w x
 fits_top Nothing x top shallow = tt
 fits_top (AToken t same w) x top shallow = fits_top w x top shallow
@@ -375,12 +379,14 @@ fits_top (AnExpression d w) x top shallow =
     (omega (arith, top.0, here), fits_top w x.1 top.1 (All-tail IsShallow x.0 (trees w x.1) shallow))
 fits_top (ANumber low high w) x top shallow = (top.0, top.1, fits_top (w x.0) x.1 top.2 shallow)
 
+-- the expressions of a filling that fits are shallow
 pub shallow_trees : (w : Rest) (x : Filling w) → Fits w x → All IsShallow (trees w x)
 shallow_trees Nothing x fits = All-nil IsShallow
 shallow_trees (AToken t same w) x fits = shallow_trees w x fits
 shallow_trees (AnExpression d w) x fits = All-cons IsShallow x.0 (trees w x.1) (omega (arith, fits.0)) (shallow_trees w x.1 fits.1)
 shallow_trees (ANumber low high w) x fits = shallow_trees (w x.0) x.1 fits.2
 
+-- its nodes are those of its expressions
 pub nodes_of_trees : (w : Rest) (x : Filling w) → nodes_in w x ≡ sum_by size (trees w x)
 nodes_of_trees Nothing x = refl
 nodes_of_trees (AToken t same w) x = nodes_of_trees w x

@@ -24,6 +24,7 @@ abbrev pub went : (w : Rest) → ℕ → ℕ → List Lexeme → Met w → Read 
 went w n from ls (Stops k) = Fault k from
 went w n from ls (Goes m) = go_on (read m.rest (counted w n) ls) (λ x. done (m.whole x))
 
+-- going on and going on again
 go_on_assoc : {A B C : Type 0} (r : Read A) (f : A → ℕ → List Lexeme → Read B) (g : B → ℕ → List Lexeme → Read C) →
     go_on (go_on r f) g ≡ go_on r (λ a n ls. go_on (f a n ls) g)
 go_on_assoc (Got a n ls) f g = refl
@@ -88,6 +89,7 @@ term_next d w n from (token.Binary o) ls = node_next d w n from (token.Binary o)
 term_next d w n from token.If ls = node_next d w n from token.If ls _ _ (λ some. rw (below d some) (simp go_on_assoc))
 term_next d w n from t ls = refl
 
+-- reading the rest is reading one token, and then what is left after it
 pub read_next : (w : Rest) (n from : ℕ) (t : Token) (ls : List Lexeme) → read w n (record { from = from; token = t } ∷ ls) ≡ went w n from ls (meets w n t)
 read_next Nothing n from token.Unknown ls = refl
 read_next Nothing n from token.LargeNumber ls = refl
