@@ -19,7 +19,7 @@ use Rattle.node_lang.specs.declared.fault.TextFault.{TextFault}
 use Rattle.node_lang.specs.declared.parser.Parser.{Parser}
 use Rattle.node_lang.specs.Parsing.{Gives, lexemes_left}
 use Rattle.node_lang.specs.Faults.{FaultsAt, IsFirstHighByte, too_long, not_ascii, in_lexemes}
-use Rattle.node_lang.proofs.Rest.{Rest, Nothing, AToken, AnExpression, ANumber, Filling, filled, nodes_in, Fits, Further, step, counted, Met, Stops, Goes, meets, First, first, Begins, Within, leads_on, goes_within, known_meets, known_next, checked, a_program, tree, IsShallow, tree_is, filling_of, fits_top, shallow_trees, nodes_of_trees}
+use Rattle.node_lang.proofs.Rest.{Rest, Nothing, AToken, AnExpression, ANumber, Filling, filled, nodes_in, Fits, Further, step, counted, Met, Stops, Goes, meets, First, first, Begins, Within, leads_on, goes_within, known_meets, known_next, checked, a_program, tree, IsShallow, tree_is, filling_of, fits_top, shallow_trees}
 use Rattle.node_lang.proofs.Places.{Place, first_place, next_place, whole_nothing, whole, first_is, steps_on, no_tokens, spells, Ranged, ranges, next_ranged, RangedIf, first_ranged, Says, says, stands_met}
 use Rattle.node_lang.proofs.Stepwise.{read, went, read_next, program_read}
 use Rattle.node_lang.proofs.SmallTokens.{is_small, HasSmallNumbers, small_trees, small_tokens}
@@ -183,7 +183,7 @@ stops_at_first_fault ls k from f = program_read 0 ls ∙ stops (read a_program 0
         cc
 
 nodes_of_tree : (x : Filling a_program) → nodes_in a_program x ≡ sum_by size (terms (tree x))
-nodes_of_tree x = nodes_of_trees a_program x ∙ ap (sum_by size) (tree_is x).terms
+nodes_of_tree x = ap (sum_by size) (tree_is x).terms
 
 -- the tree of a filling that fits is within the limits
 within_limits : (x : Filling a_program) → Fits a_program x → nodes_in a_program x ≤ MAX_NODES → list_all is_small (unmarked (filled a_program x)) ≡ true → IsWithinLimits (tree x)

@@ -46,10 +46,7 @@ trees (ANumber low high w) x = trees (w x.0) x.1
 
 -- how many nodes they have
 abbrev pub nodes_in : (w : Rest) → Filling w → ℕ
-nodes_in Nothing x = 0
-nodes_in (AToken t same w) x = nodes_in w x
-nodes_in (AnExpression d w) x = size x.0 + nodes_in w x.1
-nodes_in (ANumber low high w) x = nodes_in (w x.0) x.1
+nodes_in w x = sum_by size (trees w x)
 
 -- its expressions are not too deep, and its numbers are in their ranges
 abbrev pub Fits : (w : Rest) → Filling w → Type 0
@@ -192,7 +189,7 @@ leaf_leads : (d : ℕ) (w : Rest) (t : Token) (e : Term) → ((more : List Mark)
     Leads (AnExpression d w) t (record { rest = w; whole = λ x. (e, x) })
 leaf_leads d w t e marks deep one = record {
   marks = λ x. marks (filled w x);
-  nodes = λ n x. omega (arith, one);
+  nodes = λ n x. omega (arith, one, sum_by-cons size e (trees w x));
   fits = λ less x f. (omega (arith, deep, less), f);
   within = λ x f. (omega (arith, deep, f.0), f.1);
   behind = λ h. h;
@@ -206,21 +203,21 @@ leads_in_term d w token.FromRight = leaf_leads d w token.FromRight RightMessage 
 leads_in_term d w (token.Register j) = leaf_leads d w (token.Register j) (RegisterValue j) (λ more. refl) refl refl
 leads_in_term d w (token.Unary o) = record {
   marks = λ x. refl;
-  nodes = λ n x. omega arith;
+  nodes = λ n x. omega (arith, sum_by-cons size (Unary o x.0) (trees w x.1), sum_by-cons size x.0 (trees w x.1));
   fits = λ less x f. (omega (arith, f.0), f.1);
   within = λ x f. (omega (arith, f.0), (omega (arith, f.0), f.1));
   behind = λ h. h;
 }
 leads_in_term d w (token.Binary o) = record {
   marks = λ x. refl;
-  nodes = λ n x. omega arith;
+  nodes = λ n x. omega (arith, sum_by-cons size (Binary o x.0 x.1.0) (trees w x.1.1), sum_by-cons size x.0 (x.1.0 ∷ trees w x.1.1), sum_by-cons size x.1.0 (trees w x.1.1));
   fits = λ less x f. (omega (arith, f.0, f.1.0), f.1.1);
   within = λ x f. (omega (arith, f.0), (omega (arith, f.0), (omega (arith, f.0), f.1)));
   behind = λ h. h;
 }
 leads_in_term d w token.If = record {
   marks = λ x. refl;
-  nodes = λ n x. omega arith;
+  nodes = λ n x. omega (arith, sum_by-cons size (Conditional x.0 x.1.0 x.1.1.0) (trees w x.1.1.1), sum_by-cons size x.0 (x.1.0 ∷ x.1.1.0 ∷ trees w x.1.1.1), sum_by-cons size x.1.0 (x.1.1.0 ∷ trees w x.1.1.1), sum_by-cons size x.1.1.0 (trees w x.1.1.1));
   fits = λ less x f. (omega (arith, f.0, f.1.0, f.1.1.0), f.1.1.1);
   within = λ x f. (omega (arith, f.0), (omega (arith, f.0), (omega (arith, f.0), (omega (arith, f.0), f.1))));
   behind = λ h. h;
@@ -385,13 +382,6 @@ shallow_trees Nothing x fits = All-nil IsShallow
 shallow_trees (AToken t same w) x fits = shallow_trees w x fits
 shallow_trees (AnExpression d w) x fits = All-cons IsShallow x.0 (trees w x.1) (omega (arith, fits.0)) (shallow_trees w x.1 fits.1)
 shallow_trees (ANumber low high w) x fits = shallow_trees (w x.0) x.1 fits.2
-
--- its nodes are those of its expressions
-pub nodes_of_trees : (w : Rest) (x : Filling w) → nodes_in w x ≡ sum_by size (trees w x)
-nodes_of_trees Nothing x = refl
-nodes_of_trees (AToken t same w) x = nodes_of_trees w x
-nodes_of_trees (AnExpression d w) x = ap (λ n. size x.0 + n) (nodes_of_trees w x.1) ∙ sym (sum_by-cons size x.0 (trees w x.1))
-nodes_of_trees (ANumber low high w) x = nodes_of_trees (w x.0) x.1
 
 -- what the expressions of some assignments say of a filling
 record Assigns (count j : ℕ) (w : Rest) (x : Filling (assignments count j w)) (es : List Term) (left : Filling w) : Type 0 where
