@@ -1,7 +1,7 @@
 -- The lexemes of a text that begins with a blank, a comment, a mark or a word.
 use Rattle.std.proofs.Common.{◌≡◌, ℕ, suc, ◌+◌, ◌-◌, ◌<◌, ◌≤◌, ◌==◌, Bool, true, false, not, cond, List, [], ◌∷◌, length, get_or, take, drop, refl, sym, ap, subst, ◌∙◌, arith, add-one}
 use Rattle.std.proofs.Math.Seq.{drop-cons, drop-length}
-use Rattle.std.proofs.lemmas.Bool.{eqb-true, ne_eqb}
+use Rattle.std.proofs.lemmas.Bool.{cond_both, eqb-true, ne_eqb}
 use Rattle.std.proofs.lemmas.Bool.Decides.{nat_tests}
 use Rattle.std.proofs.lemmas.List.{drop-drop, length-drop, take_rest}
 use Rattle.std.proofs.lemmas.List.Folds.{length-prefix_len}
@@ -32,30 +32,14 @@ blank_no_comment b h = grind (arith, nat_tests)
 blank_no_word : (b : ℕ) → is_blank b ≡ true → is_word_byte b ≡ false
 blank_no_word b h = grind (arith, nat_tests)
 
--- a byte that begins no comment stays
-lexemes_of-cons : (b : ℕ) (bs : List ℕ) → (b == 35) ≡ false → lexemes_of (b ∷ bs) ≡ lexemes_in (b ∷ blanked false bs)
-lexemes_of-cons b bs h = lexemes_of-blanked (b ∷ bs) ∙ ap (λ t. lexemes_in (cond t (32 ∷ blanked true bs) (b ∷ blanked false bs))) h
-
--- one of three cases
-middle : {X : Type 0} (w k : Bool) (x y z : X) → w ≡ false → k ≡ true → cond w x (cond k y z) ≡ y
-middle w k x y z p q = rw (p, q) refl
-
-last : {X : Type 0} (w k : Bool) (x y z : X) → w ≡ false → k ≡ false → cond w x (cond k y z) ≡ z
-last w k x y z p q = rw (p, q) refl
-
 pub blank_in_front : (b : ℕ) (bs : List ℕ) → is_blank b ≡ true → lexemes_of (b ∷ bs) ≡ lexemes_of bs
-blank_in_front b bs h =
-    lexemes_of-cons b bs (blank_no_comment b h)
-    ∙ ap (λ (s : Split). joined (suc (length (blanked false bs))) s.word s.rest) (middle (is_word_byte b) (is_blank b) _ _ _ (blank_no_word b h) h)
-    ∙ sym (lexemes_of-blanked bs)
+unfolding lexemes_of
+blank_in_front b bs h = rw (blank_no_comment b h, blank_no_word b h, h, length-blanked false bs) refl
 
 pub mark_in_front : (b : ℕ) (bs : List ℕ) → is_word_byte b ≡ false → is_blank b ≡ false → (b == 35) ≡ false →
     lexemes_of (b ∷ bs) ≡ record { from = suc (length bs); token = mark_token b } ∷ lexemes_of bs
-mark_in_front b bs no_word no_blank no_comment =
-    lexemes_of-cons b bs no_comment
-    ∙ ap (λ (s : Split). joined (suc (length (blanked false bs))) s.word s.rest) (last (is_word_byte b) (is_blank b) _ _ _ no_word no_blank)
-    ∙ ap (λ n. record { from = n; token = mark_token b } ∷ lexemes_in (blanked false bs)) (add-one (length (blanked false bs)) ∙ ap suc (length-blanked false bs))
-    ∙ ap (λ ls. record { from = suc (length bs); token = mark_token b } ∷ ls) (sym (lexemes_of-blanked bs))
+unfolding lexemes_of
+mark_in_front b bs no_word no_blank no_comment = rw (no_comment, no_word, no_blank, length-blanked false bs, add-one) refl
 
 -- a byte that ends no comment
 abbrev pub in_line : ℕ → Bool
@@ -79,46 +63,24 @@ in_comment (b ∷ bs) = comment_step b bs (b == 10) refl (in_comment bs)
 comment_in_front : (bs : List ℕ) → lexemes_of (35 ∷ bs) ≡ lexemes_of (drop (prefix_len in_line bs) bs)
 comment_in_front bs = lexemes_of-blanked (35 ∷ bs) ∙ in_comment bs ∙ sym (lexemes_of-blanked (drop (prefix_len in_line bs) bs))
 
-no_word : (w k : Bool) (x y z : Split) → w ≡ false → y.word ≡ [] → z.word ≡ [] → (cond w x (cond k y z)).word ≡ []
-no_word true k x y z h p q = cc
-no_word false true x y z h p q = p
-no_word false false x y z h p q = q
-
-no_word_in_front : (b : ℕ) (bs : List ℕ) → is_word_byte b ≡ false → (split_of (b ∷ bs)).word ≡ []
-no_word_in_front b bs h = no_word (is_word_byte b) (is_blank b) _ _ _ h refl refl
-
 -- a byte of no word begins no word, in a comment or not
-no_word_blanked : (b : ℕ) (bs : List ℕ) (t : Bool) → (b == 35) ≡ t → is_word_byte b ≡ false → (split_of (blanked false (b ∷ bs))).word ≡ []
-no_word_blanked b bs true e h = rw e refl
-no_word_blanked b bs false e h = rw e (no_word_in_front b (blanked false bs) h)
+no_word_first : (b : ℕ) (bs : List ℕ) → is_word_byte b ≡ false → (split_of (blanked false (b ∷ bs))).word ≡ []
+no_word_first b bs h = cond_both (b == 35) (32 ∷ blanked true bs) (b ∷ blanked false bs) (λ t. (split_of t).word ≡ []) (λ _. refl)
+    (λ _. rw h (cond_both (is_blank b) _ _ (λ (s : Split). s.word ≡ []) (λ _. refl) (λ _. refl)))
 
 -- the text after the word at its front
 pub record SplitsWord (text : List ℕ) (n : ℕ) : Type 0 where
   pub word : (split_of (blanked false text)).word ≡ take n text
   pub rest : (split_of (blanked false text)).rest ≡ lexemes_of (drop n text)
 
-first : {X : Type 0} (w : Bool) (x y : X) → w ≡ true → cond w x y ≡ x
-first w x y h = rw h refl
-
-word_in_front : (b : ℕ) (bs : List ℕ) → is_word_byte b ≡ true → split_of (b ∷ bs) ≡ record { word = b ∷ (split_of bs).word; rest = (split_of bs).rest }
-word_in_front b bs h = first (is_word_byte b) _ _ h
-
 splits_byte : (b : ℕ) (bs : List ℕ) (n : ℕ) → is_word_byte b ≡ true → SplitsWord bs n → SplitsWord (b ∷ bs) (suc n)
 splits_byte b bs n h after =
-    let split : split_of (blanked false (b ∷ bs)) ≡ record { word = b ∷ (split_of (blanked false bs)).word; rest = (split_of (blanked false bs)).rest } =
-    ap (λ t. split_of (cond t (32 ∷ blanked true bs) (b ∷ blanked false bs))) (word_no_comment b h) ∙ word_in_front b (blanked false bs) h in
-    record {
-      word = ap (λ (s : Split). s.word) split ∙ ap (λ w. b ∷ w) after.word;
-      rest = ap (λ (s : Split). s.rest) split ∙ after.rest;
-    }
+    record { word = rw (word_no_comment b h, h) (ap (λ w. b ∷ w) after.word); rest = rw (word_no_comment b h, h) after.rest }
 
 splits_no_byte : (b : ℕ) (bs : List ℕ) → is_word_byte b ≡ false → SplitsWord (b ∷ bs) 0
 splits_no_byte b bs h =
-    let empty = no_word_blanked b bs (b == 35) refl h in
-    record {
-      word = empty;
-      rest = sym (lexemes_of-blanked (b ∷ bs) ∙ ap (λ w. joined (length (blanked false (b ∷ bs))) w (split_of (blanked false (b ∷ bs))).rest) empty);
-    }
+    let empty = no_word_first b bs h in
+    record { word = empty; rest = sym (lexemes_of-blanked (b ∷ bs) ∙ ap (λ w. joined (length (blanked false (b ∷ bs))) w (split_of (blanked false (b ∷ bs))).rest) empty) }
 
 splits_step : (b : ℕ) (bs : List ℕ) (t : Bool) → is_word_byte b ≡ t → SplitsWord bs (prefix_len is_word_byte bs) →
     SplitsWord (b ∷ bs) (cond t (1 + prefix_len is_word_byte bs) 0)

@@ -5,13 +5,14 @@ use Rattle.std.specs.List.{list_all}
 use Rattle.std.specs.Str.{bytes_eq}
 use Rattle.std.proofs.lemmas.Bool.{cond_both, and_parts, and_from, ltb-true}
 use Rattle.std.proofs.lemmas.Bool.Decides.{nat_tests}
-use Rattle.std.proofs.lemmas.List.Elements.{All-append, All-cons, All-nil}
+use Rattle.std.proofs.lemmas.List.Elements.{All-cons, All-nil}
 use Rattle.node_lang.specs.declared.token.Token.{Token}
 use Rattle.node_lang.specs.declared.token.Token.TheVariants as token
-use Rattle.node_lang.specs.Term.{Term, Literal, RegisterValue, Unary, Binary, Conditional, Step, ProgramTree, largest, largest_register, step_terms, terms, terms_of_step}
+use Rattle.node_lang.specs.Term.{Term, Literal, RegisterValue, Unary, Binary, Conditional, largest, largest_register}
 use Rattle.node_lang.specs.Words.{is_digit, is_blank, is_word_byte, word_token, mark_token, number_token, read_on, register_named, or_unknown, named, keywords, operations, word_of}
 use Rattle.node_lang.specs.Lexemes.{Lexeme, Split, blanked, joined, split_of, lexemes_of, tokens_in, tokens_of}
-use Rattle.node_lang.specs.Grammar.{spelled, assigned, blocks, body, spelling}
+use Rattle.node_lang.specs.Viable.{Mark, marked, unmarked}
+use Rattle.node_lang.proofs.Rest.{Rest, Nothing, AToken, AnExpression, ANumber, Filling, filled, trees}
 
 abbrev pub is_small : Token → Bool
 is_small (token.Number n) = nat_lt n (2 ^ 32)
@@ -47,11 +48,7 @@ small_word w = cond_both (list_all is_digit w) (number_token w) (or_unknown (reg
     (λ _. first_small (register_named w) (named keywords w) (named operations w) (small_register w) (found (λ t. bytes_eq w (word_of t)) keywords refl) (found (λ t. bytes_eq w (word_of t)) operations refl))
 
 small_mark : (b : ℕ) → is_small (mark_token b) ≡ true
-small_mark b =
-    cond_both (b == 40) token.Open _ (λ t. is_small t ≡ true) (λ _. refl) (λ _.
-    cond_both (b == 41) token.Close _ (λ t. is_small t ≡ true) (λ _. refl) (λ _.
-    cond_both (b == 44) token.Comma _ (λ t. is_small t ≡ true) (λ _. refl) (λ _.
-    cond_both (b == 61) token.Equals token.Unknown (λ t. is_small t ≡ true) (λ _. refl) (λ _. refl))))
+small_mark b = grind (arith, nat_tests)
 
 abbrev AllSmall : List Lexeme → Type 0
 AllSmall ls = list_all is_small (tokens_in ls) ≡ true
@@ -78,45 +75,26 @@ small_tokens text = small_joined (length text) (split_of (blanked false text)).w
 abbrev pub HasSmallNumbers : Term → Type 0
 HasSmallNumbers e = (largest e < 2 ^ 32) × (largest_register e < 10)
 
-fitting : (e : Term) (more : List Token) → list_all is_small (spelled e more) ≡ true → (HasSmallNumbers e) × (list_all is_small more ≡ true)
-fitting (Literal n) more h = let p = and_parts (nat_lt n (2 ^ 32)) (list_all is_small more) h in ((ltb-true n (2 ^ 32) p.0, omega arith), p.1)
-fitting (RegisterValue j) more h = let p = and_parts (nat_lt j 10) (list_all is_small more) h in ((omega arith, ltb-true j 10 p.0), p.1)
-fitting (Unary o a) more h = fitting a (token.Close ∷ more) h
-fitting (Binary o a b) more h =
-    let p = fitting a (token.Comma ∷ spelled b (token.Close ∷ more)) h in
-    let q = fitting b (token.Close ∷ more) p.1 in
+fitting : (e : Term) (d : ℕ) (more : List Mark) → list_all is_small (unmarked (marked e d more)) ≡ true → (HasSmallNumbers e) × (list_all is_small (unmarked more) ≡ true)
+fitting (Literal n) d more h = let p = and_parts (nat_lt n (2 ^ 32)) _ h in ((ltb-true n (2 ^ 32) p.0, omega arith), p.1)
+fitting (RegisterValue j) d more h = let p = and_parts (nat_lt j 10) _ h in ((omega arith, ltb-true j 10 p.0), p.1)
+fitting (Unary o a) d more h = fitting a (d + 1) _ h
+fitting (Binary o a b) d more h =
+    let p = fitting a (d + 1) _ h in
+    let q = fitting b (d + 1) _ p.1 in
     ((omega (arith, p.0, q.0), omega (arith, p.0, q.0)), q.1)
-fitting (Conditional c a b) more h =
-    let p = fitting c (token.Comma ∷ spelled a (token.Comma ∷ spelled b (token.Close ∷ more))) h in
-    let q = fitting a (token.Comma ∷ spelled b (token.Close ∷ more)) p.1 in
-    let r = fitting b (token.Close ∷ more) q.1 in
+fitting (Conditional c a b) d more h =
+    let p = fitting c (d + 1) _ h in
+    let q = fitting a (d + 1) _ p.1 in
+    let r = fitting b (d + 1) _ q.1 in
     ((omega (arith, p.0, q.0, r.0), omega (arith, p.0, q.0, r.0)), r.1)
-fitting e more h = ((omega arith, omega arith), h)
+fitting e d more h = ((omega arith, omega arith), h)
 
-fitting_assigned : (j : ℕ) (es : List Term) (more : List Token) → list_all is_small (assigned j es more) ≡ true → (All HasSmallNumbers es) × (list_all is_small more ≡ true)
-fitting_assigned j [] more h = (All-nil HasSmallNumbers, h)
-fitting_assigned j (e ∷ es) more h =
-    let p = fitting e (assigned (j + 1) es more) (and_parts (nat_lt j 10) (list_all is_small (spelled e (assigned (j + 1) es more))) h).1 in
-    let q = fitting_assigned (j + 1) es more p.1 in
-    (All-cons HasSmallNumbers e es p.0 q.0, q.1)
-
-fitting_blocks : (ss : List Step) (more : List Token) → list_all is_small (blocks ss more) ≡ true → (All HasSmallNumbers (step_terms ss)) × (list_all is_small more ≡ true)
-fitting_blocks [] more h = (All-nil HasSmallNumbers, h)
-fitting_blocks (s ∷ ss) more h =
-    let next = assigned 0 s.next (blocks ss more) in
-    let a = fitting s.left (token.Send ∷ token.Right ∷ spelled s.right next) h in
-    let b = fitting s.right next a.1 in
-    let c = fitting_assigned 0 s.next (blocks ss more) b.1 in
-    let d = fitting_blocks ss more c.1 in
-    (All-append HasSmallNumbers (terms_of_step s) (step_terms ss) (All-cons HasSmallNumbers s.left (s.right ∷ s.next) a.0 (All-cons HasSmallNumbers s.right s.next b.0 c.0)) d.0, d.1)
-
--- the expressions of a program that is spelled with such tokens
-pub fitting_terms : (p : ProgramTree) → list_all is_small (spelling p) ≡ true → All HasSmallNumbers (terms p)
-fitting_terms p h =
-    let rounds = and_parts (nat_lt (length p.steps) (2 ^ 32)) _ h in
-    let channels = and_parts (nat_lt p.channels (2 ^ 32)) _ rounds.1 in
-    let registers = and_parts (nat_lt (length p.start) (2 ^ 32)) (list_all is_small (body p)) channels.1 in
-    let start = fitting_assigned 0 p.start (blocks p.steps (token.Finish ∷ spelled p.finish [])) registers.1 in
-    let steps = fitting_blocks p.steps (token.Finish ∷ spelled p.finish []) start.1 in
-    let finish = fitting p.finish [] steps.1 in
-    All-append HasSmallNumbers p.start _ start.0 (All-append HasSmallNumbers (step_terms p.steps) (p.finish ∷ []) steps.0 (All-cons HasSmallNumbers p.finish [] finish.0 (All-nil HasSmallNumbers)))
+-- the expressions of a filling with such tokens
+pub small_trees : (w : Rest) (x : Filling w) → list_all is_small (unmarked (filled w x)) ≡ true → All HasSmallNumbers (trees w x)
+small_trees Nothing x h = All-nil HasSmallNumbers
+small_trees (AToken t same w) x h = small_trees w x (and_parts (is_small t) _ h).1
+small_trees (AnExpression d w) x h =
+    let p = fitting x.0 (d + 1) (filled w x.1) h in
+    All-cons HasSmallNumbers x.0 (trees w x.1) p.0 (small_trees w x.1 p.1)
+small_trees (ANumber low high w) x h = small_trees (w x.0) x.1 (and_parts (nat_lt x.0 (2 ^ 32)) _ h).1

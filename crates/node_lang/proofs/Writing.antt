@@ -5,27 +5,24 @@ use Rattle.std.proofs.Math.Seq.{drop-cons}
 use Rattle.node_lang.specs.Term.{Term, Step}
 use Rattle.node_lang.specs.Printed.{assignment_line, assignment_lines, round_lines}
 
--- one assignment more is written, and the lines that are left complete the same text
+-- one piece more is written, and the pieces that are left complete the same text
+next_piece : (whole text longer piece rest left : List ℕ) → left ≡ piece ++ rest → text ++ left ≡ whole → longer ≡ text ++ piece → longer ++ rest ≡ whole
+next_piece whole text longer piece rest left front before written =
+    ap (λ bytes. bytes ++ rest) written ∙ append_assoc text piece rest ∙ ap (λ bytes. text ++ bytes) (sym front) ∙ before
+
+-- one assignment
 pub next_line : (whole text longer : List ℕ) (j : ℕ) (es : List Term) (e : Term) → j < length es → get_or es j e ≡ e →
     text ++ assignment_lines j (drop j es) ≡ whole → longer ≡ text ++ assignment_line j e →
     longer ++ assignment_lines (j + 1) (drop (j + 1) es) ≡ whole
-next_line whole text longer j es e h is before written =
-    let front : drop j es ≡ e ∷ drop (j + 1) es = drop-cons es j e h ∙ (λ i. is i ∷ drop (sym (add-one j) i) es) in
-    ap (λ bytes. bytes ++ assignment_lines (j + 1) (drop (j + 1) es)) written
-    ∙ append_assoc text (assignment_line j e) (assignment_lines (j + 1) (drop (j + 1) es))
-    ∙ ap (λ rest. text ++ assignment_lines j rest) (sym front)
-    ∙ before
+next_line whole text longer j es e h is =
+    next_piece whole text longer _ _ _ (ap (assignment_lines j) (drop-cons es j e h ∙ (λ i. is i ∷ drop (sym (add-one j) i) es)))
 
--- one round more is written
+-- one round
 pub next_round : (whole text longer : List ℕ) (i : ℕ) (ss : List Step) (s : Step) → i < length ss → get_or ss i s ≡ s →
     text ++ flat_map round_lines (drop i ss) ≡ whole → longer ≡ text ++ round_lines s →
     longer ++ flat_map round_lines (drop (i + 1) ss) ≡ whole
-next_round whole text longer i ss s h is before written =
-    let front : drop i ss ≡ s ∷ drop (i + 1) ss = drop-cons ss i s h ∙ (λ k. is k ∷ drop (sym (add-one i) k) ss) in
-    ap (λ bytes. bytes ++ flat_map round_lines (drop (i + 1) ss)) written
-    ∙ append_assoc text (round_lines s) (flat_map round_lines (drop (i + 1) ss))
-    ∙ ap (λ rest. text ++ flat_map round_lines rest) (sym front)
-    ∙ before
+next_round whole text longer i ss s h is =
+    next_piece whole text longer _ _ _ (ap (flat_map round_lines) (drop-cons ss i s h ∙ (λ k. is k ∷ drop (sym (add-one i) k) ss)))
 
 -- four texts are appended
 pub four_texts : (text one two three four a b c d : List ℕ) → one ≡ text ++ a → two ≡ one ++ b → three ≡ two ++ c → four ≡ three ++ d →

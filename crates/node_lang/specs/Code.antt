@@ -30,20 +30,7 @@ operation_at n = slice_index_or (op.And ∷ op.Or ∷ op.Xor ∷ op.Shl ∷ op.S
 
 pub operation_at-number_of : (o : BinOp) → operation_at (number_of o) ≡ o
 operation_at-number_of op.And = refl
-operation_at-number_of op.Or = refl
-operation_at-number_of op.Xor = refl
-operation_at-number_of op.Shl = refl
-operation_at-number_of op.Shr = refl
-operation_at-number_of op.Add = refl
-operation_at-number_of op.Sub = refl
-operation_at-number_of op.Min = refl
-operation_at-number_of op.Max = refl
-operation_at-number_of op.Ldb = refl
-operation_at-number_of op.Bit = refl
-operation_at-number_of op.Eq = refl
-operation_at-number_of op.Ne = refl
-operation_at-number_of op.Lt = refl
-operation_at-number_of op.Le = refl
+operation_at-number_of o = refl
 
 -- a leaf is a number, or a pair of a kind and a number; an operation is a pair of a kind and its operands
 abbrev stored : Term → Gv

@@ -32,6 +32,16 @@ pub struct TextFault {
     pub offset: usize,
 }
 
+impl TextFault {
+    ghost use Rattle.std.specs.Prelude.{◌≡◌};
+
+    pub(crate) fn at(kind: FaultKind, offset: usize) -> TextFault
+        ensures { result ≡ record { kind = kind; offset = offset } }
+    {
+        TextFault { kind, offset }
+    }
+}
+
 impl<T: Drop> From<AllocFailed<T>> for TextFault {
     ghost use Rattle.std.specs.Prelude.{◌≡◌};
     ghost use Rattle.node_lang.specs.declared.fault.FaultKind.TheVariants.{OutOfMemory};

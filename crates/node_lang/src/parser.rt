@@ -40,21 +40,12 @@ impl<'a> Parser<'a> {
         ensures place { IfOk result (λ t. t.1 ≤ length self.old.text.now) }
     {
         let Some(placed) = token_from(self.text, self.at) else {
-            return Err(TextFault {
-                kind: FaultKind::EndOfText,
-                offset: self.text.len(),
-            });
+            return Err(TextFault::at(FaultKind::EndOfText, self.text.len()));
         };
         let offset = placed.start;
         match placed.token {
-            Token::Unknown => Err(TextFault {
-                kind: FaultKind::BadWord,
-                offset,
-            }),
-            Token::LargeNumber => Err(TextFault {
-                kind: FaultKind::NumberTooLarge,
-                offset,
-            }),
+            Token::Unknown => Err(TextFault::at(FaultKind::BadWord, offset)),
+            Token::LargeNumber => Err(TextFault::at(FaultKind::NumberTooLarge, offset)),
             token => {
                 self.at = placed.end;
                 Ok((token, offset))
@@ -70,10 +61,7 @@ impl<'a> Parser<'a> {
     {
         let (found, offset) = self.next()?;
         if found != token {
-            return Err(TextFault {
-                kind: FaultKind::Unexpected,
-                offset,
-            });
+            return Err(TextFault::at(FaultKind::Unexpected, offset));
         }
         Ok(())
     }
@@ -87,16 +75,10 @@ impl<'a> Parser<'a> {
         ensures fewer { IfOk result (λ below. below < levels) }
     {
         if levels == 0 {
-            return Err(TextFault {
-                kind: FaultKind::TooDeep,
-                offset,
-            });
+            return Err(TextFault::at(FaultKind::TooDeep, offset));
         }
         if self.nodes >= MAX_NODES {
-            return Err(TextFault {
-                kind: FaultKind::TooManyNodes,
-                offset,
-            });
+            return Err(TextFault::at(FaultKind::TooManyNodes, offset));
         }
         self.nodes += 1;
         Ok(levels - 1)
@@ -134,12 +116,7 @@ impl<'a> Parser<'a> {
                     Box::new(self.alloc, b)?,
                 ));
             }
-            _ => {
-                return Err(TextFault {
-                    kind: FaultKind::Unexpected,
-                    offset,
-                });
-            }
+            _ => return Err(TextFault::at(FaultKind::Unexpected, offset)),
         };
         self.count_node(levels, offset)?;
         Ok(leaf)
@@ -193,16 +170,10 @@ impl<'a> Parser<'a> {
     {
         let (token, offset) = self.next()?;
         let Token::Number(number) = token else {
-            return Err(TextFault {
-                kind: FaultKind::Unexpected,
-                offset,
-            });
+            return Err(TextFault::at(FaultKind::Unexpected, offset));
         };
         if number < low || number > high {
-            return Err(TextFault {
-                kind: FaultKind::HeaderRange,
-                offset,
-            });
+            return Err(TextFault::at(FaultKind::HeaderRange, offset));
         }
         Ok(number)
     }
@@ -238,10 +209,7 @@ impl<'a> Parser<'a> {
             Token::LargeNumber => FaultKind::NumberTooLarge,
             _ => FaultKind::Unexpected,
         };
-        Err(TextFault {
-            kind,
-            offset: extra.start,
-        })
+        Err(TextFault::at(kind, extra.start))
     }
 
     // The assignment to one register.

@@ -35,16 +35,10 @@ pub fn parse(alloc: Global, text: &[u8]) -> Result<Program, TextFault>
         result ≡ Err (record { kind = kind.NotAscii; offset = offset }) }
 {
     if text.len() > LONGEST_TEXT {
-        return Err(TextFault {
-            kind: FaultKind::TooLong,
-            offset: LONGEST_TEXT,
-        });
+        return Err(TextFault::at(FaultKind::TooLong, LONGEST_TEXT));
     }
     if let Some(offset) = high_byte(text) {
-        return Err(TextFault {
-            kind: FaultKind::NotAscii,
-            offset,
-        });
+        return Err(TextFault::at(FaultKind::NotAscii, offset));
     }
     let mut parser = Parser {
         alloc,
