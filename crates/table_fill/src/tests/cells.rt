@@ -6,14 +6,15 @@ use std::alloc::Global;
 use std::test::Fail;
 use unroll::MakeFault;
 
-// Cells that answer what they were told. Where nothing was told of a block that is made, the first block of
-// level 0 is missing above that level.
+// Cells that answer what they were told, and count how often they were to make a block. Where nothing was told of a
+// block that is made, the first block of level 0 is missing above that level.
 #[derive(Drop)]
 struct Told<'a> {
     plan: &'a Plan,
     found: bool,
     made: Option<Made>,
     stranger: bool,
+    makes: u32,
 }
 
 impl<'a> Cells for Told<'a> {
@@ -30,6 +31,7 @@ impl<'a> Cells for Told<'a> {
         level: u32,
         _number: u32,
     ) -> Result<Made, MakeFault> {
+        self.makes = self.makes.saturating_add(1);
         match self.made {
             Some(made) => Ok(made),
             None if level > 0 && self.plan.shape().blocks(0) > 0 => Err(MakeFault::Missing(0, 0)),
@@ -68,9 +70,12 @@ fn a_worker_that_meets_a_stranger_says_so(rt: HostRuntime) -> Result<(), Fail> {
             found,
             made,
             stranger: met,
+            makes: 0,
         };
         let answer = fill_cell(rt.alloc(), &mut told, 0, 1, 0);
         assert_eq!(rt; answer.err(), fault);
+        // Once a block in another's place was met, none is made again.
+        assert!(rt; !met || told.makes == 1);
     }
     Ok(())
 }
