@@ -1,0 +1,79 @@
+ghost use Rattle.std.specs.Prelude.{◌≡◌};
+ghost use Rattle.shared_memo.specs.PlanJobs.{IsKey};
+
+use crate::miss::Miss;
+use crate::plans::{has_block, plan_of};
+use crate::tell::{beside, given, surely, tell, tell_numbers};
+use conformance::programs::CV1;
+use lang_check::Plan;
+use shared_memo::{Memo, Reader};
+use unroll::{Block, MakeFault, make_block};
+
+/// `make_block`: how many states the second block of level 1 has, with the first of them; and without blocks below,
+/// the level and the number of the block that is missing.
+pub fn do_make_block<R: AllocGlobal + Print>(rt: &R) -> Result<(), Miss> {
+    let alloc = rt.alloc();
+    let plan = plan_of(alloc, CV1, 8)?;
+    let memo = beside(Memo::new(alloc, &plan))?;
+    let mut pass = beside(memo.pass(alloc))?;
+    let mut reader = Reader::new(&memo, &mut pass);
+    if !has_block(&plan, 0, 0) || !has_block(&plan, 1, 0) || !has_block(&plan, 1, 1) {
+        return Err(Miss::Wrong);
+    }
+    tell_missing(rt, &plan, &mut reader)?;
+    let low = made(rt, &plan, &mut reader, 0, 0)?;
+    let low = beside(Box::new(alloc, low))?;
+    if reader.install(low).is_err() {
+        return Err(Miss::Wrong);
+    }
+    let block = made(rt, &plan, &mut reader, 1, 1)?;
+    let count = block.len();
+    if count == 0 {
+        return Err(Miss::Wrong);
+    }
+    tell_numbers(rt, &[count])?;
+    tell_numbers(rt, block.state(0))
+}
+
+// Tells which block is missing below the first one of level 1.
+fn tell_missing<R: AllocGlobal + Print>(
+    rt: &R,
+    plan: &Plan,
+    reader: &mut Reader<'_, '_, '_>,
+) -> Result<(), Miss>
+    requires plan { reader.old.pass.now.plan.now ≡ plan.now }
+    requires key { IsKey plan.now 1 0 }
+    ensures { reader.new.pass.now.plan.now ≡ reader.old.pass.now.plan.now }
+{
+    let alloc = rt.alloc();
+    let answer = match make_block(alloc, plan, reader, 1, 0, 4) {
+        Err(MakeFault::OutOfMemory) => {
+            tell(rt, "OutOfMemory")?;
+            make_block(alloc, plan, reader, 1, 0, 4)
+        }
+        answer => answer,
+    };
+    match answer {
+        Err(MakeFault::Missing(level, number)) => tell_numbers(rt, &[level, number]),
+        _ => Err(Miss::Wrong),
+    }
+}
+
+// A block that a reader's blocks below give.
+fn made<'a, R: AllocGlobal + Print>(
+    rt: &R,
+    plan: &'a Plan,
+    reader: &mut Reader<'_, '_, '_>,
+    level: u32,
+    number: u32,
+) -> Result<Block<'a>, Miss>
+    requires plan { reader.old.pass.now.plan.now ≡ plan.now }
+    requires key { IsKey plan.now level number }
+    ensures { reader.new.pass.now.plan.now ≡ reader.old.pass.now.plan.now }
+{
+    let alloc = rt.alloc();
+    match given(rt, make_block(alloc, plan, reader, level, number, 4))? {
+        Some(block) => Ok(block),
+        None => surely(make_block(alloc, plan, reader, level, number, 4)),
+    }
+}

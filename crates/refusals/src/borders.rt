@@ -1,0 +1,191 @@
+ghost use Rattle.std.specs.Prelude.{◌≡◌, ◌<◌, ◌^◌, ◌+◌, OnOk, OnErr};
+
+use crate::miss::Miss;
+use crate::tell::tell;
+use border_exchange::{Border, Dated, PutFault, Seat, Side};
+use std::alloc::Global;
+use std::marker::Brand;
+use std::sync::Wait;
+use std::sync::ledger::{Blank, Ledger};
+
+/// A message with a value.
+#[derive(Clone, Copy, PartialEq, Eq, Drop)]
+struct Note {
+    side: Side,
+    round: u32,
+    value: u32,
+}
+
+impl Dated for Note {
+    ghost side_of = { λ note. note.side };
+
+    ghost round_of = { λ note. note.round };
+
+    fn side(&self) -> Side {
+        self.side
+    }
+
+    fn round(&self) -> u32 {
+        self.round
+    }
+}
+
+/// What became of a border: it could not be made, or all was told.
+#[derive(Clone, Copy)]
+enum Course {
+    NotMade,
+    Told,
+}
+
+/// `Border::new` and `Border::put`: puts and takes on a border, and its messages at the end.
+pub fn do_border<R: AllocGlobal + Print + Wait>(rt: &R) -> Result<(), Miss> {
+    let (right, left) = (Blank::new(1), Blank::new(1));
+    match puts_and_takes::<Brand, Brand, _>(rt, rt.alloc(), right, left)? {
+        Course::Told => Ok(()),
+        Course::NotMade => do_border_again(rt),
+    }
+}
+
+// Puts and takes on a border after the first one could not be made.
+fn do_border_again<R: AllocGlobal + Print + Wait>(rt: &R) -> Result<(), Miss> {
+    tell(rt, "OutOfMemory")?;
+    let (right, left) = (Blank::new(1), Blank::new(1));
+    match puts_and_takes::<Brand, Brand, _>(rt, rt.alloc(), right, left)? {
+        Course::Told => Ok(()),
+        Course::NotMade => Err(Miss::Wrong),
+    }
+}
+
+/// `Border::put`, as often as the list of a side grows twice: the values that the border has at the end.
+pub fn do_put<R: AllocGlobal + Print + Wait>(rt: &R) -> Result<(), Miss> {
+    let (right, left) = (Blank::new(1), Blank::new(1));
+    match eight_puts::<Brand, Brand, _>(rt, rt.alloc(), right, left)? {
+        Course::Told => Ok(()),
+        Course::NotMade => Err(Miss::Beside),
+    }
+}
+
+// Puts and takes on a border of the ledgers L and M, and tells what they gave.
+fn puts_and_takes<L: Ledger, M: Ledger, R: Print + Wait>(
+    rt: &R,
+    alloc: Global,
+    right: Blank,
+    left: Blank,
+) -> Result<Course, Miss>
+    requires right { (right.name ≡ L.name) × (right.parts ≡ L.parts) × (right.parts ≡ 1) }
+    requires left { (left.name ≡ M.name) × (left.parts ≡ M.parts) × (left.parts ≡ 1) }
+{
+    let Ok((border, mut right, mut left)) = Border::<Note, L, M>::new(alloc, right, left) else {
+        return Ok(Course::NotMade);
+    };
+    put(rt, &border, &mut right, to_the_right(0, 1))?;
+    put(rt, &border, &mut right, to_the_right(0, 1))?;
+    put(rt, &border, &mut right, to_the_left(1, 3))?;
+    put(rt, &border, &mut left, to_the_left(0, 2))?;
+    take(rt, &border, Side::Rightward, 0)?;
+    take(rt, &border, Side::Leftward, 0)?;
+    border.close(rt);
+    take(rt, &border, Side::Rightward, 0)?;
+    take(rt, &border, Side::Rightward, 1)?;
+    put(rt, &border, &mut right, to_the_right(1, 4))?;
+    settle(rt, border, right, left)?;
+    Ok(Course::Told)
+}
+
+// Puts eight messages to the right, and tells those that the border has at the end.
+fn eight_puts<L: Ledger, M: Ledger, R: Print + Wait>(
+    rt: &R,
+    alloc: Global,
+    right: Blank,
+    left: Blank,
+) -> Result<Course, Miss>
+    requires right { (right.name ≡ L.name) × (right.parts ≡ L.parts) × (right.parts ≡ 1) }
+    requires left { (left.name ≡ M.name) × (left.parts ≡ M.parts) × (left.parts ≡ 1) }
+{
+    let Ok((border, mut right, left)) = Border::<Note, L, M>::new(alloc, right, left) else {
+        return Ok(Course::NotMade);
+    };
+    for round in 0..8 {
+        put(rt, &border, &mut right, to_the_right(round, round))?;
+    }
+    settle(rt, border, right, left)?;
+    Ok(Course::Told)
+}
+
+// Puts a message, and tells what became of it. Where memory was refused, the message that came back is put once more.
+fn put<L: Ledger, M: Ledger, R: Print + Wait>(
+    rt: &R,
+    border: &Border<Note, L, M>,
+    seat: &mut Seat<L, M>,
+    message: Note,
+) -> Result<(), Miss> {
+    let before = seat.puts();
+    if before > 8 {
+        return Err(Miss::Wrong);
+    }
+    let answer = match border.put(rt, seat, message) {
+        Err((back, PutFault::OutOfMemory)) if back == message && seat.puts() == before => {
+            tell(rt, "OutOfMemory")?;
+            border.put(rt, seat, back)
+        }
+        answer => answer,
+    };
+    match answer {
+        Ok(()) => tell(rt, "put"),
+        Err((back, PutFault::Misplaced)) if back == message => tell(rt, "misplaced"),
+        Err((back, PutFault::Closed)) if back == message => tell(rt, "closed"),
+        Err(_) => Err(Miss::Wrong),
+    }
+}
+
+// Takes the message of a side and a round, and tells its value.
+fn take<L: Ledger, M: Ledger, R: Print + Wait>(
+    rt: &R,
+    border: &Border<Note, L, M>,
+    side: Side,
+    round: u32,
+) -> Result<(), Miss> {
+    match border.take(rt, side, round) {
+        Some(note) => println!(rt; "{}", note.value)?,
+        None => tell(rt, "none")?,
+    }
+    Ok(())
+}
+
+// Tells the values of all messages of a border, those to the right first, and how many there are on each side.
+fn settle<L: Ledger, M: Ledger, R: Print>(
+    rt: &R,
+    border: Border<Note, L, M>,
+    right: Seat<L, M>,
+    left: Seat<L, M>,
+) -> Result<(), Miss>
+    requires { (L.parts ≡ 1) × (M.parts ≡ 1) }
+{
+    if right.side() != Side::Rightward || left.side() != Side::Leftward {
+        return Err(Miss::Wrong);
+    }
+    let totals = border.settle(right, left);
+    println!(rt; "{} {}", totals.rightward.len(), totals.leftward.len())?;
+    for note in totals.rightward.iter().chain(totals.leftward.iter()) {
+        println!(rt; "{}", note.value)?;
+    }
+    Ok(())
+}
+
+// A message to the right of this round.
+fn to_the_right(round: u32, value: u32) -> Note {
+    Note {
+        side: Side::Rightward,
+        round,
+        value,
+    }
+}
+
+// A message to the left of this round.
+fn to_the_left(round: u32, value: u32) -> Note {
+    Note {
+        side: Side::Leftward,
+        round,
+        value,
+    }
+}

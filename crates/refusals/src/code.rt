@@ -1,0 +1,74 @@
+ghost use Rattle.std.specs.Prelude.{◌≡◌, ◌≤◌, length, IfOk};
+ghost use Rattle.node_lang.specs.Term.{terms};
+ghost use Rattle.round_columns.specs.StackNeed.{most_columns};
+
+use crate::miss::Miss;
+use crate::plans::plan_of;
+use crate::tell::{given, surely, tell_numbers};
+use conformance::programs::{CV1, LDB};
+use lang_check::Plan;
+use round_columns::{Code, Columns, Work, channel_columns, step_columns};
+
+/// `Code::new`: how many columns the expressions of two programs hold.
+pub fn do_code<R: AllocGlobal + Print>(rt: &R) -> Result<(), Miss> {
+    let alloc = rt.alloc();
+    let first = plan_of(alloc, CV1, 8)?;
+    let second = plan_of(alloc, LDB, 8)?;
+    let first = code_of(rt, &first)?;
+    let second = code_of(rt, &second)?;
+    tell_numbers(rt, &[first.stack(), second.stack()])
+}
+
+/// `Columns::new` and `Work::new`: the registers of three nodes after a round, and their channels then.
+pub fn do_columns<R: AllocGlobal + Print>(rt: &R) -> Result<(), Miss> {
+    let plan = plan_of(rt.alloc(), CV1, 8)?;
+    let code = code_of(rt, &plan)?;
+    let left = one_column(rt, [7, 5, 1])?;
+    let own = one_column(rt, [5, 1, 3])?;
+    let right = one_column(rt, [1, 3, 7])?;
+    let mut out = one_column(rt, [9, 9, 9])?;
+    let mut work = work_of(rt, &code)?;
+    if plan.shape().rounds() != 1 || plan.program().registers() != 1 {
+        return Err(Miss::Wrong);
+    }
+    step_columns(&code, 0, &left, &own, &right, &mut work, &mut out);
+    let after = [out.get(0, 0), out.get(0, 1), out.get(0, 2)];
+    let mut channels = [0; 3];
+    channel_columns(&code, &out, &mut work, &mut channels);
+    tell_numbers(rt, &after)?;
+    tell_numbers(rt, &channels)
+}
+
+// The code of a plan.
+fn code_of<R: AllocGlobal + Print>(rt: &R, plan: &Plan) -> Result<Code, Miss>
+    ensures { IfOk result (λ code. code ≡ plan.now) }
+{
+    match given(rt, Code::new(rt.alloc(), plan))? {
+        Some(code) => Ok(code),
+        None => surely(Code::new(rt.alloc(), plan)),
+    }
+}
+
+// Room for a code at three nodes.
+fn work_of<R: AllocGlobal + Print>(rt: &R, code: &Code) -> Result<Work, Miss>
+    ensures { IfOk result (λ work. (work.columns ≡ most_columns (terms code.now.program)) × (work.width ≡ 3)) }
+{
+    match given(rt, Work::new(rt.alloc(), code, 3))? {
+        Some(work) => Ok(work),
+        None => surely(Work::new(rt.alloc(), code, 3)),
+    }
+}
+
+// Three nodes with one register, which holds these values.
+fn one_column<R: AllocGlobal + Print>(rt: &R, values: [u32; 3]) -> Result<Columns, Miss>
+    ensures { IfOk result (λ columns. (columns.registers ≡ 1) × (length columns.states ≡ 3)) }
+{
+    let mut columns = match given(rt, Columns::new(rt.alloc(), 1, 3))? {
+        Some(columns) => columns,
+        None => surely(Columns::new(rt.alloc(), 1, 3))?,
+    };
+    columns.set(0, 0, values[0]);
+    columns.set(0, 1, values[1]);
+    columns.set(0, 2, values[2]);
+    Ok(columns)
+}

@@ -1,0 +1,68 @@
+use crate::miss::Miss;
+use crate::plans::plan_of;
+use crate::tell::{given, surely};
+use conformance::programs::CV1;
+use lang_check::Plan;
+use table_fill::fill_core::{FillEvent, FillWorld, replay};
+
+/// Two workers fill three cells.
+const FILLED: [FillEvent; 10] = [
+    FillEvent::Draw(0),
+    FillEvent::Draw(1),
+    FillEvent::Install(1, 1, 0),
+    FillEvent::Install(0, 0, 0),
+    FillEvent::Look(1, 0, 0),
+    FillEvent::Install(1, 1, 0),
+    FillEvent::Draw(0),
+    FillEvent::Install(0, 1, 1),
+    FillEvent::Draw(0),
+    FillEvent::Draw(1),
+];
+
+/// A worker installs into a full cell.
+const FULL: [FillEvent; 4] = [
+    FillEvent::Draw(0),
+    FillEvent::Draw(1),
+    FillEvent::Install(0, 0, 0),
+    FillEvent::Install(1, 0, 0),
+];
+
+/// `fill_core::replay`: who made the blocks of the three cells, the next job, and of each worker whether it is stopped
+/// and the job in its hand, after two lists of events; last whether worker 1 knows the first block.
+pub fn do_fill_replay<R: AllocGlobal + Print>(rt: &R) -> Result<(), Miss> {
+    let plan = plan_of(rt.alloc(), CV1, 8)?;
+    tell_world(rt, &after(rt, &plan, &FILLED)?)?;
+    tell_world(rt, &after(rt, &plan, &FULL)?)
+}
+
+// Two workers after these events.
+fn after<'a, R: AllocGlobal + Print>(
+    rt: &R,
+    plan: &'a Plan,
+    events: &[FillEvent],
+) -> Result<FillWorld<'a>, Miss> {
+    match given(rt, replay(rt.alloc(), plan, 2, events))? {
+        Some(world) => Ok(world),
+        None => surely(replay(rt.alloc(), plan, 2, events)),
+    }
+}
+
+// Tells what the cells hold, and the workers.
+fn tell_world<R: Print>(rt: &R, world: &FillWorld<'_>) -> Result<(), Miss> {
+    for (level, number) in [(0, 0), (1, 0), (1, 1)] {
+        let maker = maker(world, level, number);
+        println!(rt; "{maker:?}")?;
+    }
+    println!(rt; "{}", world.next())?;
+    for worker in [0, 1] {
+        let (stopped, hand) = (world.stopped(worker), world.hand(worker));
+        println!(rt; "{stopped} {hand:?}")?;
+    }
+    println!(rt; "{}", world.knows(1, 0, 0))?;
+    Ok(())
+}
+
+// Who made the block in the cell of a level and a number.
+fn maker(world: &FillWorld<'_>, level: u32, number: u32) -> Option<u32> {
+    Some(world.cell(level, number)?.maker())
+}

@@ -1,0 +1,36 @@
+use crate::miss::Miss;
+use crate::plans::ring_for;
+use crate::tell::{beside, given, surely, tell, tell_numbers};
+use conformance::programs::{CV1, CV1_WITH_BLANKS};
+use lang_check::accept;
+use node_lang::{Program, parse, print};
+use round_eval::plain_run;
+
+/// `parse`: the channels of a run of the program that was parsed, on the eight identifiers in their order.
+pub fn do_parse<R: AllocGlobal + Print>(rt: &R) -> Result<(), Miss> {
+    let alloc = rt.alloc();
+    let program = parsed(rt, CV1)?;
+    let plan = beside(accept(program, 8))?;
+    let ring = ring_for(alloc, &plan, &[0, 1, 2, 3, 4, 5, 6, 7])?;
+    let channels = beside(plain_run(alloc, &plan, &ring))?;
+    tell_numbers(rt, &channels)
+}
+
+// The program of a text, where `parse` was refused from the second call.
+fn parsed<R: AllocGlobal + Print>(rt: &R, text: &[u8]) -> Result<Program, Miss> {
+    match given(rt, parse(rt.alloc(), text))? {
+        Some(program) => Ok(program),
+        None => surely(parse(rt.alloc(), text)),
+    }
+}
+
+/// `print`: the printed form of a text with a comment and more blanks.
+pub fn do_print<R: AllocGlobal + Print>(rt: &R) -> Result<(), Miss> {
+    let alloc = rt.alloc();
+    let program = beside(parse(alloc, CV1_WITH_BLANKS))?;
+    let text = match given(rt, print(alloc, &program))? {
+        Some(text) => text,
+        None => surely(print(alloc, &program))?,
+    };
+    tell(rt, text.as_str())
+}

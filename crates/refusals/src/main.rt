@@ -1,0 +1,69 @@
+//! Does the worked example of one call that takes memory or starts threads, named by the one word after the program's
+//! name, and prints its result. Where the call is refused memory or a thread, the program prints the refusal's name,
+//! makes the same call once more, and goes on with what that gives. So what is printed shows both that the refusal has
+//! its own name, and that a refused call leaves what it was lent as it was.
+//!
+//! The program is run while each growth and each thread start of the process is refused in turn.
+#![tactic(auto)]
+
+mod blocks;
+mod borders;
+mod code;
+mod desks;
+mod events;
+mod language;
+mod memos;
+mod messages;
+mod miss;
+mod plans;
+mod refusal;
+mod report;
+mod rounds;
+mod rows;
+mod segments;
+mod tables;
+mod tell;
+mod texts;
+mod verdicts;
+mod words;
+
+use miss::Miss;
+use rows::do_row;
+use std::alloc::Global;
+use std::process::ExitCode;
+use std::rt::Env;
+use std::sync::Wait;
+use std::thread::Threads;
+use std::{env, io};
+
+fn main(rt: HostRuntime) -> ExitCode {
+    ExitCode::from(exit_status(&rt))
+}
+
+/// Does the row that the words name. The exit status is 0, or 2 where there is no such row.
+fn exit_status<R: AllocGlobal + Env + Print + Threads + Wait + Sync>(rt: &R) -> u8 {
+    match named_row(rt) {
+        Ok(()) => 0,
+        Err(Miss::NoRow) => 2,
+        Err(miss) => {
+            let _ = println!(rt; "{}", miss.name());
+            0
+        }
+    }
+}
+
+/// Does the row that the first word after the program's name names.
+fn named_row<R: AllocGlobal + Env + Print + Threads + Wait + Sync>(rt: &R) -> Result<(), Miss> {
+    let mut args = args_of(rt)?;
+    let _name = args.next();
+    match args.next() {
+        Some(word) => do_row(rt, &word),
+        None => Err(Miss::NoRow),
+    }
+}
+
+/// The words of the process, its name first.
+fn args_of<R: AllocGlobal + Env>(rt: &R) -> Result<env::Args<Global>, Miss> {
+    let args: io::Result<env::Args<Global>> = env::args(rt);
+    args.ok().ok_or(Miss::Beside)
+}

@@ -1,0 +1,109 @@
+ghost use Rattle.std.specs.Prelude.{◌≡◌, IfOk};
+ghost use Rattle.shared_memo.specs.Passes.{IsPassOf};
+
+use crate::miss::Miss;
+use crate::plans::{has_block, plan_of};
+use crate::tell::{beside, given, surely, tell};
+use conformance::programs::{CV1, RED};
+use lang_check::Plan;
+use shared_memo::{Installed, Memo, Pass, Reader};
+use unroll::{Block, make_block};
+
+/// `Memo::new` and `Memo::pass`: two passes hand in the same block, made by 1 and by 2, and look at it; then one hands
+/// in a block of another plan.
+pub fn do_memo<R: AllocGlobal + Print>(rt: &R) -> Result<(), Miss> {
+    let plan = plan_of(rt.alloc(), CV1, 8)?;
+    let other = plan_of(rt.alloc(), RED, 8)?;
+    hand_in_all(rt, &plan, &other)
+}
+
+// Hands in two blocks of a plan and one of another plan.
+fn hand_in_all<'a, R: AllocGlobal + Print>(
+    rt: &R,
+    plan: &'a Plan,
+    other: &'a Plan,
+) -> Result<(), Miss> {
+    let one = first_block(rt, plan, 1)?;
+    let two = first_block(rt, plan, 2)?;
+    let stranger = first_block(rt, other, 3)?;
+    let memo = memo_of(rt, plan)?;
+    let mut a = pass_of(rt, &memo)?;
+    let mut b = pass_of(rt, &memo)?;
+    hand_in(rt, &memo, &mut a, one)?;
+    hand_in(rt, &memo, &mut b, two)?;
+    look(rt, &memo, &mut a)?;
+    look(rt, &memo, &mut b)?;
+    hand_in(rt, &memo, &mut a, stranger)
+}
+
+// A memo of empty cells.
+fn memo_of<'a, R: AllocGlobal + Print>(rt: &R, plan: &'a Plan) -> Result<Memo<'a>, Miss> {
+    match given(rt, Memo::new(rt.alloc(), plan))? {
+        Some(memo) => Ok(memo),
+        None => surely(Memo::new(rt.alloc(), plan)),
+    }
+}
+
+// A pass of a memo.
+fn pass_of<'a, R: AllocGlobal + Print>(rt: &R, memo: &Memo<'a>) -> Result<Pass<'a>, Miss>
+    ensures { IfOk result (IsPassOf memo.now) }
+{
+    match given(rt, memo.pass(rt.alloc()))? {
+        Some(pass) => Ok(pass),
+        None => surely(memo.pass(rt.alloc())),
+    }
+}
+
+// The first block of level 0, made over a memo of its own.
+fn first_block<'a, R: AllocGlobal>(
+    rt: &R,
+    plan: &'a Plan,
+    maker: u32,
+) -> Result<Box<Block<'a>>, Miss> {
+    let alloc = rt.alloc();
+    let memo = beside(Memo::new(alloc, plan))?;
+    let mut pass = beside(memo.pass(alloc))?;
+    let mut reader = Reader::new(&memo, &mut pass);
+    if !has_block(plan, 0, 0) {
+        return Err(Miss::Wrong);
+    }
+    let block = beside(make_block(alloc, plan, &mut reader, 0, 0, maker))?;
+    beside(Box::new(alloc, block))
+}
+
+// Hands in a block, and tells what became of it and its maker.
+fn hand_in<'a, R: Print>(
+    rt: &R,
+    memo: &Memo<'a>,
+    pass: &mut Pass<'a>,
+    block: Box<Block<'a>>,
+) -> Result<(), Miss>
+    requires { IsPassOf memo.now pass.old }
+    ensures { IsPassOf memo.now pass.new }
+{
+    match memo.install(pass, block) {
+        Ok(Installed::Fresh) => tell(rt, "fresh"),
+        Ok(Installed::Stood(back)) => tell_maker(rt, "stood", &back),
+        Err(back) => tell_maker(rt, "bad block", &back),
+    }
+}
+
+// Looks at the first block of level 0, and tells its maker.
+fn look<'a, R: Print>(rt: &R, memo: &Memo<'a>, pass: &mut Pass<'a>) -> Result<(), Miss>
+    requires { IsPassOf memo.now pass.old }
+    ensures { IsPassOf memo.now pass.new }
+{
+    if !has_block(memo.plan(), 0, 0) {
+        return Err(Miss::Wrong);
+    }
+    match memo.look(pass, 0, 0) {
+        Ok(Some(block)) => tell_maker(rt, "found", block),
+        _ => Err(Miss::Wrong),
+    }
+}
+
+// Tells a block's maker behind a word.
+fn tell_maker<R: Print>(rt: &R, word: &str, block: &Block<'_>) -> Result<(), Miss> {
+    println!(rt; "{word} {}", block.maker())?;
+    Ok(())
+}

@@ -1,0 +1,24 @@
+use crate::miss::Miss;
+use crate::plans::{plan_of, ring_for};
+use crate::tell::{given, surely, tell_numbers};
+use ring_exec::run;
+use round_eval::OpenGate;
+use std::sync::Wait;
+use std::thread::Threads;
+
+/// `run`: the channels of a ring of a program for eight identifiers, in so many segments.
+pub fn do_run<R: AllocGlobal + Print + Threads + Wait + Sync>(
+    rt: &R,
+    text: &[u8],
+    ids: &[u32],
+    segments: u32,
+) -> Result<(), Miss> {
+    let alloc = rt.alloc();
+    let plan = plan_of(alloc, text, 8)?;
+    let ring = ring_for(alloc, &plan, ids)?;
+    let channels = match given(rt, run(rt, alloc, &plan, &ring, segments, &OpenGate))? {
+        Some(channels) => channels,
+        None => surely(run(rt, alloc, &plan, &ring, segments, &OpenGate))?,
+    };
+    tell_numbers(rt, &channels)
+}

@@ -1,0 +1,31 @@
+ghost use Rattle.std.specs.Prelude.{◌≡◌, true, IfOk, length};
+ghost use Rattle.shared_memo.specs.PlanJobs.{IsKey};
+
+use crate::miss::Miss;
+use crate::tell::beside;
+use lang_check::{Plan, accept};
+use node_lang::parse;
+use std::alloc::Global;
+use win_index::Ring;
+
+/// The plan of a program text for this many identifiers.
+pub fn plan_of(alloc: Global, text: &[u8], ids: u32) -> Result<Plan, Miss> {
+    let program = beside(parse(alloc, text))?;
+    beside(accept(program, ids))
+}
+
+/// The ring of these identifiers for a plan.
+pub fn ring_for(alloc: Global, plan: &Plan, ids: &[u32]) -> Result<Ring, Miss>
+    ensures { IfOk result (λ ring. (ring.ids ≡ plan.now.ids) × (ring.rounds ≡ length plan.now.program.steps) × (ring.places ≡ ids.now)) }
+{
+    let ids = beside(ids.to_vec(alloc))?;
+    beside(Ring::new(plan.shape(), ids))
+}
+
+/// Whether the plan has a block of this level and number.
+pub fn has_block(plan: &Plan, level: u32, number: u32) -> bool
+    ensures { result ≡ true → IsKey plan.now level number }
+{
+    let shape = plan.shape();
+    level <= shape.rounds() && number < shape.blocks(level)
+}

@@ -1,0 +1,94 @@
+use devices::fault::{EngineFault, OutFault};
+use node_lang::{FaultKind, OutOfMemory, TextFault};
+use ring_exec::RunFault;
+use table_fill::FillFault;
+use table_text::TableFault;
+use task_words::words::WordsFault;
+use unroll::MakeFault;
+
+/// A fault of a call that may be a refusal of memory or of a thread.
+pub trait Refusal {
+    /// The refusal's name, where the fault is one.
+    fn name(&self) -> Option<&'static str>;
+}
+
+impl Refusal for OutOfMemory {
+    fn name(&self) -> Option<&'static str> {
+        Some("OutOfMemory")
+    }
+}
+
+impl Refusal for TextFault {
+    fn name(&self) -> Option<&'static str> {
+        match self.kind {
+            FaultKind::OutOfMemory => Some("OutOfMemory"),
+            _ => None,
+        }
+    }
+}
+
+impl Refusal for MakeFault {
+    fn name(&self) -> Option<&'static str> {
+        match self {
+            MakeFault::OutOfMemory => Some("OutOfMemory"),
+            MakeFault::Missing(_, _) => None,
+        }
+    }
+}
+
+impl Refusal for FillFault {
+    fn name(&self) -> Option<&'static str> {
+        match self {
+            FillFault::OutOfMemory => Some("OutOfMemory"),
+            FillFault::NoThread => Some("NoThread"),
+            FillFault::WorkersOutOfRange | FillFault::Stranger => None,
+        }
+    }
+}
+
+impl Refusal for RunFault {
+    fn name(&self) -> Option<&'static str> {
+        match self {
+            RunFault::OutOfMemory => Some("OutOfMemory"),
+            RunFault::NoThread => Some("NoThread"),
+            RunFault::SegmentsOutOfRange | RunFault::Stranger => None,
+        }
+    }
+}
+
+impl Refusal for WordsFault {
+    fn name(&self) -> Option<&'static str> {
+        match self {
+            WordsFault::OutOfMemory => Some("OutOfMemory"),
+            WordsFault::Usage(_) | WordsFault::BadRing | WordsFault::Help(_) => None,
+        }
+    }
+}
+
+impl Refusal for TableFault {
+    fn name(&self) -> Option<&'static str> {
+        match self {
+            TableFault::OutOfMemory => Some("OutOfMemory"),
+            _ => None,
+        }
+    }
+}
+
+impl Refusal for OutFault {
+    fn name(&self) -> Option<&'static str> {
+        match self {
+            OutFault::Memory => Some("Memory"),
+            OutFault::Write => None,
+        }
+    }
+}
+
+impl Refusal for EngineFault {
+    fn name(&self) -> Option<&'static str> {
+        match self {
+            EngineFault::Memory => Some("Memory"),
+            EngineFault::Thread => Some("Thread"),
+            EngineFault::Read | EngineFault::Write | EngineFault::Stranger => None,
+        }
+    }
+}

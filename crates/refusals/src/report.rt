@@ -1,0 +1,74 @@
+use crate::miss::Miss;
+use crate::tell::{beside, given, surely};
+use conformance::programs::CV1;
+use devices::watched::Watched;
+use plan_print::engine::engine;
+use plan_print::status::Status;
+use std::alloc::Global;
+use std::io;
+use std::sync::Wait;
+use std::thread::Threads;
+use task_words::task::Task;
+
+/// `engine`: the report of a run on four places in so many segments, and its status.
+pub fn do_run_report<R: AllocGlobal + Print + Threads + Wait + Sync>(
+    rt: &R,
+    segments: u32,
+) -> Result<(), Miss> {
+    let alloc = rt.alloc();
+    let first = run_task(alloc, segments)?;
+    let again = run_task(alloc, segments)?;
+    do_report(rt, first, again)
+}
+
+/// `engine`: the report of the table of a program that so many workers filled, and its status.
+pub fn do_table_report<R: AllocGlobal + Print + Threads + Wait + Sync>(
+    rt: &R,
+    workers: u32,
+) -> Result<(), Miss> {
+    let ids = 8;
+    do_report(
+        rt,
+        Task::Table { ids, workers },
+        Task::Table { ids, workers },
+    )
+}
+
+// Does a task, and where it was refused the same task once more.
+fn do_report<R: AllocGlobal + Print + Threads + Wait + Sync>(
+    rt: &R,
+    first: Task,
+    again: Task,
+) -> Result<(), Miss> {
+    if !first.is_runnable() || !again.is_runnable() {
+        return Err(Miss::Wrong);
+    }
+    let alloc = rt.alloc();
+    let mut reader = Watched::new(CV1);
+    let mut writer = Watched::new(io::writer(rt));
+    let status = match given(rt, engine(rt, alloc, first, &mut reader, &mut writer))? {
+        Some(status) => status,
+        None => {
+            let mut reader = Watched::new(CV1);
+            let mut writer = Watched::new(io::writer(rt));
+            surely(engine(rt, alloc, again, &mut reader, &mut writer))?
+        }
+    };
+    tell_status(rt, status)
+}
+
+// The task of a run on four places.
+fn run_task(alloc: Global, segments: u32) -> Result<Task, Miss> {
+    let ring = beside([5, 1, 3, 7].to_vec(alloc))?;
+    Ok(Task::Run {
+        ids: 8,
+        ring,
+        segments,
+    })
+}
+
+// Tells a status.
+fn tell_status<R: Print>(rt: &R, status: Status) -> Result<(), Miss> {
+    println!(rt; "{}", status.code())?;
+    Ok(())
+}

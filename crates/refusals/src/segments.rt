@@ -1,0 +1,91 @@
+ghost use Rattle.std.specs.Prelude.{◌≡◌, ◌≤◌, IfOk, length};
+
+use crate::miss::Miss;
+use crate::plans::{plan_of, ring_for};
+use crate::tell::{given, surely, tell_numbers};
+use conformance::programs::CV1;
+use lang_check::Plan;
+use ring_core::{RingEvent, Segment, World, replay};
+use win_index::Ring;
+
+/// Segment 0 advances at the third try, and then segment 1.
+const EVENTS: [RingEvent; 8] = [
+    RingEvent::SendRight(0),
+    RingEvent::SendLeft(0),
+    RingEvent::Advance(0),
+    RingEvent::SendRight(1),
+    RingEvent::Advance(0),
+    RingEvent::SendLeft(1),
+    RingEvent::Advance(0),
+    RingEvent::Advance(1),
+];
+
+/// `Segment::new`: the registers of the first of two segments, and the values that it sends to the right and to the
+/// left.
+pub fn do_segment<R: AllocGlobal + Print>(rt: &R) -> Result<(), Miss> {
+    let alloc = rt.alloc();
+    let plan = plan_of(alloc, CV1, 8)?;
+    let ring = ring_for(alloc, &plan, &[5, 1, 3, 7])?;
+    let segment = first_segment(rt, &plan, &ring)?;
+    tell_numbers(rt, segment.states())?;
+    if segment.rounds() != 1 {
+        return Err(Miss::Wrong);
+    }
+    let (right, left) = segment.outgoing();
+    tell_numbers(rt, &[right.value(), left.value()])
+}
+
+// The first of two segments.
+fn first_segment<'a, R: AllocGlobal + Print>(
+    rt: &R,
+    plan: &'a Plan,
+    ring: &'a Ring,
+) -> Result<Segment<'a>, Miss>
+    requires ids { ring.now.ids ≡ plan.now.ids }
+    requires rounds { ring.now.rounds ≡ length plan.now.program.steps }
+    requires places { 2 ≤ length ring.now.places }
+    ensures { IfOk result (λ segment. segment.round ≡ 0) }
+{
+    match given(rt, Segment::new(rt.alloc(), plan, ring, 2, 0))? {
+        Some(segment) => Ok(segment),
+        None => surely(Segment::new(rt.alloc(), plan, ring, 2, 0)),
+    }
+}
+
+/// `ring_core::replay`: the round and the registers of both segments after seven events and after one more.
+pub fn do_ring_replay<R: AllocGlobal + Print>(rt: &R) -> Result<(), Miss> {
+    let alloc = rt.alloc();
+    let plan = plan_of(alloc, CV1, 8)?;
+    let ring = ring_for(alloc, &plan, &[5, 1, 3, 7])?;
+    let seven = after(rt, &plan, &ring, &EVENTS[..7])?;
+    tell_world(rt, &seven)?;
+    let eight = after(rt, &plan, &ring, &EVENTS)?;
+    tell_world(rt, &eight)
+}
+
+// Two segments after these events.
+fn after<'a, R: AllocGlobal + Print>(
+    rt: &R,
+    plan: &'a Plan,
+    ring: &'a Ring,
+    events: &[RingEvent],
+) -> Result<World<'a>, Miss>
+    requires ids { ring.now.ids ≡ plan.now.ids }
+    requires rounds { ring.now.rounds ≡ length plan.now.program.steps }
+    requires places { 2 ≤ length ring.now.places }
+    ensures { IfOk result (λ world. length world.segments ≡ 2) }
+{
+    match given(rt, replay(rt.alloc(), plan, ring, 2, events))? {
+        Some(world) => Ok(world),
+        None => surely(replay(rt.alloc(), plan, ring, 2, events)),
+    }
+}
+
+// Tells the rounds and the registers of two segments.
+fn tell_world<R: Print>(rt: &R, world: &World<'_>) -> Result<(), Miss>
+    requires { length world.now.segments ≡ 2 }
+{
+    tell_numbers(rt, &[world.round(0), world.round(1)])?;
+    tell_numbers(rt, world.states(0))?;
+    tell_numbers(rt, world.states(1))
+}

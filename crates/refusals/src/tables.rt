@@ -1,0 +1,74 @@
+use crate::miss::Miss;
+use crate::plans::plan_of;
+use crate::tell::{beside, given, surely, tell_numbers};
+use conformance::programs::CV1;
+use round_eval::OpenGate;
+use shared_memo::Memo;
+use std::sync::Wait;
+use std::thread::Threads;
+use table_fill::{Table, TableMaker, compile};
+use win_index::Shape;
+
+/// `TableMaker::new`: the numbers of rounds, identifiers and channels of a table that gives each of two identifiers
+/// itself as its channel, and its entries.
+pub fn do_table_maker<R: AllocGlobal + Print>(rt: &R) -> Result<(), Miss> {
+    let shape = Shape::new(2, 0).ok().ok_or(Miss::Wrong)?;
+    if shape.count(0) != 2 {
+        return Err(Miss::Wrong);
+    }
+    let mut maker = match given(rt, TableMaker::new(rt.alloc(), shape, 2))? {
+        Some(maker) => maker,
+        None => surely(TableMaker::new(rt.alloc(), shape, 2))?,
+    };
+    maker.push(0);
+    maker.push(1);
+    let table = maker.done();
+    let shape = table.shape();
+    tell_numbers(rt, &[shape.rounds(), shape.ids(), table.channels()])?;
+    tell_entries(rt, &table)
+}
+
+/// `compile`: the entries of a table that so many workers filled. Where they were refused, the same memo and the same
+/// pass serve once more.
+pub fn do_compile<R: AllocGlobal + Print + Threads + Wait + Sync>(
+    rt: &R,
+    workers: u32,
+) -> Result<(), Miss> {
+    let alloc = rt.alloc();
+    let plan = plan_of(alloc, CV1, 8)?;
+    let memo = beside(Memo::new(alloc, &plan))?;
+    let mut pass = beside(memo.pass(alloc))?;
+    let answer = compile(rt, alloc, &plan, &memo, &mut pass, workers, &OpenGate);
+    let table = match given(rt, answer)? {
+        Some(table) => table,
+        None => {
+            let answer = compile(rt, alloc, &plan, &memo, &mut pass, workers, &OpenGate);
+            surely(answer)?
+        }
+    };
+    tell_entries(rt, &table)
+}
+
+/// The table of a program text for this many identifiers, beside the row's own call.
+pub fn table_of<R: AllocGlobal + Threads + Wait + Sync>(
+    rt: &R,
+    text: &[u8],
+    ids: u32,
+) -> Result<Table, Miss> {
+    let alloc = rt.alloc();
+    let plan = plan_of(alloc, text, ids)?;
+    let memo = beside(Memo::new(alloc, &plan))?;
+    let mut pass = beside(memo.pass(alloc))?;
+    beside(compile(rt, alloc, &plan, &memo, &mut pass, 1, &OpenGate))
+}
+
+// Tells the entries of a table, in the order of their windows.
+fn tell_entries<R: Print>(rt: &R, table: &Table) -> Result<(), Miss> {
+    let shape = table.shape();
+    for number in 0..shape.count(shape.rounds()) {
+        let blank = if number == 0 { "" } else { " " };
+        print!(rt; "{blank}{}", table.entry(number))?;
+    }
+    println!(rt)?;
+    Ok(())
+}

@@ -1,0 +1,64 @@
+use crate::miss::Miss;
+use crate::tables::table_of;
+use crate::tell::{given, surely, tell_numbers};
+use conformance::programs::ID0;
+use devices::watched::Watched;
+use std::io;
+use std::sync::Wait;
+use std::thread::Threads;
+use table_fill::Table;
+use table_text::{TableFault, read_table, write_table};
+
+/// The text of the table of two identifiers that gives each itself as its channel.
+const TABLE: &[u8] = b"nbhd-table 1\nrounds 0 ids 2 channels 2\n0 : 0\n1 : 1\nend\n";
+
+/// That text with its third and its fourth line exchanged.
+const EXCHANGED: &[u8] = b"nbhd-table 1\nrounds 0 ids 2 channels 2\n1 : 1\n0 : 0\nend\n";
+
+/// That text with a channel of 2.
+const OVER: &[u8] = b"nbhd-table 1\nrounds 0 ids 2 channels 2\n0 : 0\n1 : 2\nend\n";
+
+/// `write_table`: the text of the table of two identifiers, and where it was refused memory, what went out before.
+pub fn do_write_table<R: AllocGlobal + Print + Threads + Wait + Sync>(rt: &R) -> Result<(), Miss> {
+    let alloc = rt.alloc();
+    let table = table_of(rt, ID0, 2)?;
+    let mut writer = Watched::new(io::writer(rt));
+    if given(rt, write_table(alloc, &table, &mut writer))?.is_none() {
+        let mut writer = Watched::new(io::writer(rt));
+        surely(write_table(alloc, &table, &mut writer))?;
+    }
+    Ok(())
+}
+
+/// `read_table`: the numbers of rounds, identifiers and channels and the entries of the table of a text, and what is
+/// wrong with three others.
+pub fn do_read_table<R: AllocGlobal + Print>(rt: &R) -> Result<(), Miss> {
+    for text in [TABLE, EXCHANGED, OVER, &TABLE[..53]] {
+        match read(rt, text)? {
+            Ok(table) => tell_table(rt, &table)?,
+            Err(fault) => println!(rt; "{fault:?}")?,
+        }
+    }
+    Ok(())
+}
+
+// The table of a text, or its fault.
+fn read<R: AllocGlobal + Print>(rt: &R, text: &[u8]) -> Result<Result<Table, TableFault>, Miss> {
+    match read_table(rt.alloc(), text) {
+        Err(TableFault::OutOfMemory) => {
+            println!(rt; "OutOfMemory")?;
+            Ok(read_table(rt.alloc(), text))
+        }
+        answer => Ok(answer),
+    }
+}
+
+// Tells the numbers of rounds, identifiers and channels of a table, and its entries.
+fn tell_table<R: Print>(rt: &R, table: &Table) -> Result<(), Miss> {
+    let shape = table.shape();
+    tell_numbers(rt, &[shape.rounds(), shape.ids(), table.channels()])?;
+    for number in 0..shape.count(shape.rounds()) {
+        tell_numbers(rt, &[table.entry(number)])?;
+    }
+    Ok(())
+}

@@ -1,0 +1,32 @@
+use crate::miss::Miss;
+use crate::tables::table_of;
+use crate::tell::{given, surely, tell, tell_numbers};
+use nbhd_check::{Verdict, judge};
+use std::sync::Wait;
+use std::thread::Threads;
+
+/// `judge`: the verdict on the table of a program for this many identifiers: yes, or the ring, the place and the channel.
+pub fn do_judge<R: AllocGlobal + Print + Threads + Wait + Sync>(
+    rt: &R,
+    text: &[u8],
+    ids: u32,
+) -> Result<(), Miss> {
+    let alloc = rt.alloc();
+    let table = table_of(rt, text, ids)?;
+    let verdict = match given(rt, judge(rt, alloc, &table))? {
+        Some(verdict) => verdict,
+        None => surely(judge(rt, alloc, &table))?,
+    };
+    match verdict {
+        Verdict::Yes => tell(rt, "yes"),
+        Verdict::No {
+            ring,
+            place,
+            channel,
+        } => {
+            tell(rt, "no")?;
+            tell_numbers(rt, &ring)?;
+            tell_numbers(rt, &[place, channel])
+        }
+    }
+}

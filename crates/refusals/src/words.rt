@@ -1,0 +1,73 @@
+use crate::miss::Miss;
+use crate::tell::{beside, tell, tell_numbers};
+use std::alloc::Global;
+use task_words::ring_text::ring_of;
+use task_words::task::Task;
+use task_words::words::{WordsFault, task_of};
+
+/// `ring_of`: the identifiers of a ring text, and what is said of three other texts.
+pub fn do_ring_of<R: AllocGlobal + Print>(rt: &R) -> Result<(), Miss> {
+    for text in ["5,1,3,7", "5,,1", "", "4294967296"] {
+        let answer = match ring_of(rt.alloc(), text) {
+            Err(WordsFault::OutOfMemory) => {
+                tell(rt, "OutOfMemory")?;
+                ring_of(rt.alloc(), text)
+            }
+            answer => answer,
+        };
+        match answer {
+            Ok(ring) => tell_numbers(rt, &ring)?,
+            Err(fault) => tell(rt, fault_name(&fault))?,
+        }
+    }
+    Ok(())
+}
+
+/// `task_of`: the ring and the numbers of identifiers and segments of a run, and what is said of no workers.
+pub fn do_task_of<R: AllocGlobal + Print>(rt: &R) -> Result<(), Miss> {
+    for line in ["run --ids 8 --ring 5,1,3,7", "table --ids 8 --workers 0"] {
+        let words = words_of(rt.alloc(), line)?;
+        let answer = match task_of(rt.alloc(), &words) {
+            Err(WordsFault::OutOfMemory) => {
+                tell(rt, "OutOfMemory")?;
+                task_of(rt.alloc(), &words)
+            }
+            answer => answer,
+        };
+        match answer {
+            Ok(
+                Task::Run {
+                    ids,
+                    ring,
+                    segments,
+                },
+            ) => {
+                tell_numbers(rt, &ring)?;
+                tell_numbers(rt, &[ids, segments])?;
+            }
+            Ok(_) => return Err(Miss::Wrong),
+            Err(fault) => tell(rt, fault_name(&fault))?,
+        }
+    }
+    Ok(())
+}
+
+// The words that stand parted by blanks in a line.
+fn words_of(alloc: Global, line: &str) -> Result<Vec<String>, Miss> {
+    let mut words = Vec::new(alloc);
+    for word in line.split(' ') {
+        let word = beside(String::from_str(alloc, word))?;
+        beside(words.push(word))?;
+    }
+    Ok(words)
+}
+
+// The name of a fault of words.
+fn fault_name(fault: &WordsFault) -> &'static str {
+    match fault {
+        WordsFault::Usage(_) => "Usage",
+        WordsFault::BadRing => "BadRing",
+        WordsFault::OutOfMemory => "OutOfMemory",
+        WordsFault::Help(_) => "Help",
+    }
+}
