@@ -11,7 +11,8 @@ use std::test::Fail;
 use std::thread::Threads;
 
 /// The text of the table of two identifiers and no rounds that gives each identifier itself as its channel.
-const TABLE_OF_IDENTIFIERS: &[u8] = b"nbhd-table 1\nrounds 0 ids 2 channels 2\n0 : 0\n1 : 1\nend\n";
+pub(crate) const TABLE_OF_IDENTIFIERS: &[u8] =
+    b"nbhd-table 1\nrounds 0 ids 2 channels 2\n0 : 0\n1 : 1\nend\n";
 
 #[test]
 fn the_audit_of_identifiers(rt: HostRuntime) -> Result<(), Fail> {

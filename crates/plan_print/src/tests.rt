@@ -2,4 +2,3 @@
 
 mod tables;
 mod texts;
-mod trickle;

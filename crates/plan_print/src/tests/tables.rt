@@ -1,8 +1,6 @@
-//! The text of a table, over memory and over a device that fails.
+//! The text of a table, over memory.
 
-use crate::tests::trickle::Trickle;
 use crate::write_table;
-use devices::fault::OutFault;
 use devices::watched::Watched;
 use std::alloc::Global;
 use std::process::Abort;
@@ -29,19 +27,5 @@ fn a_table_is_written(rt: HostRuntime) -> Result<(), Fail> {
         writer.into_device().as_slice(),
         b"nbhd-table 1\nrounds 0 ids 2 channels 2\n0 : 0\n1 : 1\nend\n".as_slice()
     );
-    Ok(())
-}
-
-#[test]
-fn a_table_that_is_not_written_whole(rt: HostRuntime) -> Result<(), Fail> {
-    let table = table_of_identifiers(&rt, rt.alloc())?;
-    let mut writer = Watched::new(Trickle::failing_after(54));
-    assert_eq!(rt;
-        write_table(rt.alloc(), &table, &mut writer),
-        Err(OutFault::Write)
-    );
-    assert!(rt; writer.failed());
-    let mut writer = Watched::new(Trickle::failing_after(55));
-    assert_eq!(rt; write_table(rt.alloc(), &table, &mut writer), Ok(()));
     Ok(())
 }
