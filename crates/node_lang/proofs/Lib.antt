@@ -7,5 +7,6 @@ pub mod PrintedTokens
 pub mod Assigned
 pub mod Rest
 pub mod Places
+pub mod Marks
 pub mod Stepwise
 pub mod Judging
