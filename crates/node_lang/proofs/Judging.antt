@@ -50,56 +50,60 @@ goes_in_program {n = n} {w = w} t ts p q limits e =
     let few : counted w n ≤ MAX_NODES = omega (arith, all, parts, next_nodes t p, limits.nodes) in
     (next.rest, ap (checked w n t) next.steps ∙ goes_within w next.rest n t (shallow_at p.marks here left shallow) few (next.range limits))
 
--- this fault is the first one, no other is, and no program within the limits is spelled so
-pub record IsOnly (before : List Token) (ls : List Lexeme) (k : FaultKind) (from : ℕ) : Type 0 where
-  pub is : FirstFault before ls k from
-  pub only : (j : FaultKind) (place : ℕ) → FirstFault before ls j place → (j ≡ k) × (place ≡ from)
-  pub none : (p : ProgramTree) → IsWithinLimits p → spelling p ≡ before ++ tokens_in ls → ⊥
+-- what is answered: a program at whose end reading is, or the first fault
+abbrev pub Answers : List Token → List Lexeme → Read ProgramTree → Type 0
+Answers before ls (Got p count left) = Place (before ++ tokens_in ls) count (Nothing p)
+Answers before ls (Fault k from) = FirstFault before ls k from
 
--- these lexemes end a program of so many nodes, and no fault stands at any of them
-pub record IsRead (before : List Token) (ls left : List Lexeme) (p : ProgramTree) (count : ℕ) : Type 0 where
-  pub place : Place (before ++ tokens_in ls) count (Nothing p)
-  pub all : left ≡ []
-  pub clean : (k : FaultKind) (from : ℕ) → FirstFault before ls k from → ⊥
-
--- what a reading says of the lexemes
-abbrev pub Judges : List Token → List Lexeme → Read ProgramTree → Type 0
-Judges before ls (Got p count left) = IsRead before ls left p count
-Judges before ls (Fault k from) = IsOnly before ls k from
+-- a reading of these lexemes after these tokens answers the first fault, or the program within the limits, that there is
+pub record Judges (before : List Token) (ls : List Lexeme) (r : Read ProgramTree) : Type 0 where
+  pub answers : Answers before ls r
+  pub first : (k : FaultKind) (from : ℕ) → FirstFault before ls k from → r ≡ Fault k from
+  pub reads : (p : ProgramTree) → IsWithinLimits p → spelling p ≡ before ++ tokens_in ls → r ≡ Got p (sum_by size (terms p)) []
 
 -- where something is left, the end of the text is a fault
-at_end : {before : List Token} {n : ℕ} {w : Rest} → Place before n w → ((p : ProgramTree) → w ≡ Nothing p → ⊥) → IsOnly before [] kind.EndOfText 0
+at_end : {before : List Token} {n : ℕ} {w : Rest} → Place before n w → ((p : ProgramTree) → w ≡ Nothing p → ⊥) → Judges before [] (Fault kind.EndOfText 0)
 at_end {before} p some = record {
-  is = (refl, refl, λ h. some h.program (none_of p h.program h.each_register (sym h.spells)));
-  only = λ j place f. (f.0, f.1);
-  none = λ q limits e. some q (none_of p q limits.each_register (e ∙ append-nil before));
+  answers = (refl, refl, λ h. some h.program (none_of p h.program h.each_register (sym h.spells)));
+  first = λ k from f. λ i. Fault (sym f.0 i) (sym f.1 i);
+  reads = λ q limits e. absurd (some q (none_of p q limits.each_register (e ∙ append-nil before)));
+}
+
+-- where nothing is left, it is none
+all_read : {before : List Token} {n : ℕ} {q : ProgramTree} → Place before n (Nothing q) → Judges before [] (Got q n [])
+all_read {before} {n} {q} p = record {
+  answers = subst (λ ts. Place ts n (Nothing q)) (sym (append-nil before)) p;
+  first = λ k from f. absurd (f.2 (record { program = q; each_register = p.ends.each_register; spells = whole p }));
+  reads = λ r limits e.
+      let ends = none_of p r limits.each_register (e ∙ append-nil before) in
+      let same : q ≡ r = cc in
+      λ i. Got (same i) ((sym (whole_nodes p) ∙ ap (λ p. sum_by size (terms p)) same) i) [];
 }
 
 -- what is judged after a token at which no fault stands is judged before it
 judged_through : {before : List Token} (l : Lexeme) (ls : List Lexeme) → ((k : FaultKind) → Stands before l.token k → ⊥) → (r : Read ProgramTree) →
     Judges (before ++ l.token ∷ []) ls r → Judges before (l ∷ ls) r
-judged_through {before} l ls clean (Got p count left) h = record {
-  place = subst (λ ts. Place ts count (Nothing p)) (append_assoc before (l.token ∷ []) (tokens_in ls)) h.place;
-  all = h.all;
-  clean = λ k from f. elim f [ inl here ↦ clean k here.0 | inr there ↦ h.clean k from there.1 ];
+judged_through {before} l ls clean r h = record {
+  answers = answers r h.answers;
+  first = λ k from f. elim f [ inl here ↦ absurd (clean k here.0) | inr there ↦ h.first k from there.1 ];
+  reads = λ p limits e. h.reads p limits (e ∙ sym (append_assoc before (l.token ∷ []) (tokens_in ls)));
 }
-judged_through {before} l ls clean (Fault k from) h = record {
-  is = inr (clean, h.is);
-  only = λ j place f. elim f [ inl here ↦ absurd (clean j here.0) | inr there ↦ h.only j place there.1 ];
-  none = λ p limits e. h.none p limits (e ∙ sym (append_assoc before (l.token ∷ []) (tokens_in ls)));
-}
+  where
+    answers : (r : Read ProgramTree) → Answers (before ++ l.token ∷ []) ls r → Answers before (l ∷ ls) r
+    answers (Got p count left) h = subst (λ ts. Place ts count (Nothing p)) (append_assoc before (l.token ∷ []) (tokens_in ls)) h
+    answers (Fault k from) h = inr (clean, h)
 
 -- at a token reading stops at the first fault, or goes on
 judged_met : {before : List Token} {n : ℕ} {w : Rest} (l : Lexeme) (ls : List Lexeme) → Place before n w → (m : Met) → meets w n l.token ≡ m → Says before (counted w n) l.token m →
     ((v : Rest) → Place (before ++ l.token ∷ []) (counted w n) v → Judges (before ++ l.token ∷ []) ls (read v (counted w n) ls)) →
     Judges before (l ∷ ls) (went (counted w n) l.from ls m)
 judged_met {w = w} l ls p (Stops k) e here more = record {
-  is = inl (here, refl);
-  only = λ j place f. elim f [
-    | inl there ↦ (let met = sym e ∙ stands_met w l.token j p there.0 in let same : j ≡ k = cc in same, there.1)
+  answers = inl (here, refl);
+  first = λ j place f. elim f [
+    | inl there ↦ let met = sym e ∙ stands_met w l.token j p there.0 in let same : k ≡ j = cc in λ i. Fault (same i) (sym there.1 i)
     | inr there ↦ absurd (there.0 k here)
   ];
-  none = λ q limits spelt. let goes = goes_in_program l.token (tokens_in ls) p q limits spelt in let met : Stops k ≡ Goes goes.0 = sym e ∙ goes.1 in cc;
+  reads = λ q limits spelt. let goes = goes_in_program l.token (tokens_in ls) p q limits spelt in let met : Stops k ≡ Goes goes.0 = sym e ∙ goes.1 in absurd (cc);
 }
 judged_met {w = w} l ls p (Goes v) e place more =
     judged_through l ls (λ k stands. let met = sym e ∙ stands_met w l.token k p stands in cc) (read v _ ls) (more v place)
@@ -107,11 +111,7 @@ judged_met {w = w} l ls p (Goes v) e place more =
 -- so is each reading of the rest
 judged : (ls : List Lexeme) {before : List Token} {n : ℕ} (w : Rest) → Place before n w → Judges before ls (read w n ls)
 unfolding expression
-judged [] {before} {n} (Nothing q) p = record {
-  place = subst (λ ts. Place ts n (Nothing q)) (sym (append-nil before)) p;
-  all = refl;
-  clean = λ k from f. f.2 (record { program = q; each_register = p.ends.each_register; spells = whole p });
-}
+judged [] (Nothing q) p = all_read p
 judged [] (AToken t w) p = at_end p (λ q e. cc)
 judged [] (AnExpression d w) p = at_end p (λ q e. cc)
 judged [] (ANumber low high w) p = at_end p (λ q e. cc)
@@ -125,15 +125,11 @@ program_judged ls r e = subst (Judges [] ls) (sym (program_read 0 ls) ∙ e) (ju
 
 -- the fault at which reading stops is the first fault
 pub first_fault_of : ReadingStopsAtFirstFault
-first_fault_of ls k from e = let only = program_judged ls (Fault k from) e in only.is
+first_fault_of ls k from e = let judges = program_judged ls (Fault k from) e in judges.answers
 
 -- and reading stops at a first fault
 pub stops_at_first_fault : FirstFaultStopsReading
-stops_at_first_fault ls k from f = stops (program 0 ls) (program_judged ls (program 0 ls) refl)
-  where
-    stops : (r : Read ProgramTree) → Judges [] ls r → r ≡ Fault k from
-    stops (Got p count left) h = absurd (h.clean k from f)
-    stops (Fault j place) h = let same = h.only k from f in λ i. Fault (sym same.0 i) (sym same.1 i)
+stops_at_first_fault ls = let judges = program_judged ls (program 0 ls) refl in judges.first
 
 -- these lexemes spell a program within the limits
 pub record SpellsProgram (ls : List Lexeme) (p : ProgramTree) : Type 0 where
@@ -142,8 +138,8 @@ pub record SpellsProgram (ls : List Lexeme) (p : ProgramTree) : Type 0 where
 
 pub read_is_spelt : (p : ProgramTree) (count : ℕ) (ls left : List Lexeme) → list_all is_small (tokens_in ls) ≡ true → program 0 ls ≡ Got p count left → SpellsProgram ls p
 read_is_spelt p count ls left small e =
-    let end = program_judged ls (Got p count left) e in
-    let place = end.place in
+    let judges = program_judged ls (Got p count left) e in
+    let place = judges.answers in
     let matches = program_matches p in
     let fine = fine place.marks place.shallow (ap (list_all is_small) place.tokens ∙ small) in
     record {
@@ -153,14 +149,7 @@ read_is_spelt p count ls left small e =
 
 -- such lexemes are read as the program
 pub program_completes : (p : ProgramTree) (ls : List Lexeme) → IsWithinLimits p → tokens_in ls ≡ spelling p → program 0 ls ≡ Got p (sum_by size (terms p)) []
-program_completes p ls limits e = completes (program 0 ls) (program_judged ls (program 0 ls) refl)
-  where
-    completes : (r : Read ProgramTree) → Judges [] ls r → r ≡ Got p (sum_by size (terms p)) []
-    completes (Got q count left) h =
-        let ends = none_of h.place p limits.each_register (sym e) in
-        let same : q ≡ p = cc in
-        λ i. Got (same i) ((sym (whole_nodes h.place) ∙ ap (λ p. sum_by size (terms p)) same) i) (h.all i)
-    completes (Fault k from) h = absurd (h.none p limits (sym e))
+program_completes p ls limits e = let judges = program_judged ls (program 0 ls) refl in judges.reads p limits (sym e)
 
 -- a high byte stands not before the first one
 not_before : (text : List ℕ) (m n : ℕ) → IsFirstHighByte text m → IsFirstHighByte text n → m < n → ⊥

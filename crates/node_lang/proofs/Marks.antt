@@ -22,23 +22,6 @@ unmarked_expression (Conditional c a b) d more = ap (λ ts. token.If ∷ token.O
     ∙ ap (λ ts. spelled c (token.Comma ∷ ts)) (unmarked_expression a (d + 1) _ ∙ ap (λ ts. spelled a (token.Comma ∷ ts)) (unmarked_expression b (d + 1) _)))
 unmarked_expression e d more = refl
 
-unmarked_assignments : (j : ℕ) (es : List Term) (more : List Mark) → unmarked (marked_assignments j es more) ≡ assigned j es (unmarked more)
-unmarked_assignments j [] more = refl
-unmarked_assignments j (e ∷ es) more = ap (λ ts. token.Register j ∷ token.Equals ∷ ts)
-    (unmarked_expression e 1 _ ∙ ap (spelled e) (unmarked_assignments (j + 1) es more))
-
-unmarked_blocks : (ss : List Step) (more : List Mark) → unmarked (marked_blocks ss more) ≡ blocks ss (unmarked more)
-unmarked_blocks [] more = refl
-unmarked_blocks (s ∷ ss) more = ap (λ ts. token.Round ∷ token.Send ∷ token.Left ∷ ts) (unmarked_expression s.left 1 _
-    ∙ ap (λ ts. spelled s.left (token.Send ∷ token.Right ∷ ts)) (unmarked_expression s.right 1 _
-    ∙ ap (spelled s.right) (unmarked_assignments 0 s.next _ ∙ ap (assigned 0 s.next) (unmarked_blocks ss more))))
-
-pub unmarked_program : (p : ProgramTree) → unmarked (marks p) ≡ spelling p
-unmarked_program p = ap (λ ts. token.Rounds ∷ token.Number (length p.steps) ∷ token.Channels ∷ token.Number p.channels
-    ∷ token.Registers ∷ token.Number (length p.start) ∷ token.Start ∷ ts)
-    (unmarked_assignments 0 p.start _ ∙ ap (assigned 0 p.start) (unmarked_blocks p.steps _
-    ∙ ap (λ ts. blocks p.steps (token.Finish ∷ ts)) (unmarked_expression p.finish 1 [])))
-
 -- no node is too deep
 abbrev pub Shallow : List Mark → Type 0
 Shallow [] = Unit {0}
@@ -110,17 +93,20 @@ shallow_marked (Conditional c a b) d ms less h =
     (omega (arith, less), (omega arith, shallow_marked c (d + 1) _ (omega (arith, less)) (omega arith, second)))
 shallow_marked e d ms less h = (omega (arith, less), h)
 
--- these marks have the nodes of these expressions
-pub record Matches (ms : List Mark) (es : List Term) : Type 0 where
+-- these marks have these tokens, and the nodes of these expressions
+pub record Matches (ms : List Mark) (es : List Term) (ts : List Token) : Type 0 where
+  pub tokens : unmarked ms ≡ ts
   pub nodes : nodes_at ms ≡ sum_by size es
   pub small : Fine ms → All IsSmall es
   pub shallow : All IsSmall es → Shallow ms
 
-plain_matches : {ms : List Mark} {es : List Term} {t : Token} → Matches ms es → Matches (plain t ∷ ms) es
-plain_matches h = record { nodes = h.nodes; small = λ f. h.small f.2; shallow = λ s. (omega arith, h.shallow s) }
+plain_matches : {ms : List Mark} {es : List Term} {ts : List Token} {t : Token} → Matches ms es ts → Matches (plain t ∷ ms) es (t ∷ ts)
+plain_matches {t = t} h =
+    record { tokens = ap (λ ts. t ∷ ts) h.tokens; nodes = h.nodes; small = λ f. h.small f.2; shallow = λ s. (omega arith, h.shallow s) }
 
-term_matches : {ms : List Mark} {es : List Term} (e : Term) → Matches ms es → Matches (marked e 1 ms) (e ∷ es)
+term_matches : {ms : List Mark} {es : List Term} {ts : List Token} (e : Term) → Matches ms es ts → Matches (marked e 1 ms) (e ∷ es) (spelled e ts)
 term_matches {ms} {es} e h = record {
+  tokens = unmarked_expression e 1 ms ∙ ap (spelled e) h.tokens;
   nodes = nodes_marked e 0 ms _ h.nodes ∙ sym (sum_by-cons size e es);
   small = λ f.
       let p = fine_marked e 0 ms f in
@@ -128,19 +114,20 @@ term_matches {ms} {es} e h = record {
   shallow = λ s. shallow_marked e 0 ms (let here = All-head IsSmall e es s in omega (arith, here.depth)) (h.shallow (All-tail IsSmall e es s));
 }
 
-assignments_match : {ms : List Mark} {more : List Term} (j : ℕ) (es : List Term) → Matches ms more → Matches (marked_assignments j es ms) (es ++ more)
+assignments_match : (j : ℕ) (es : List Term) {ms : List Mark} {more : List Term} {ts : List Token} → Matches ms more ts →
+    Matches (marked_assignments j es ms) (es ++ more) (assigned j es ts)
 assignments_match j [] h = h
 assignments_match j (e ∷ es) h = plain_matches (plain_matches (term_matches e (assignments_match (j + 1) es h)))
 
-blocks_match : {ms : List Mark} {more : List Term} (ss : List Step) → Matches ms more → Matches (marked_blocks ss ms) (step_terms ss ++ more)
+blocks_match : (ss : List Step) {ms : List Mark} {more : List Term} {ts : List Token} → Matches ms more ts → Matches (marked_blocks ss ms) (step_terms ss ++ more) (blocks ss ts)
 blocks_match [] h = h
-blocks_match {more = more} (s ∷ ss) h =
+blocks_match (s ∷ ss) {more = more} h =
     rw (append_assoc s.next (step_terms ss) more)
     (plain_matches (plain_matches (plain_matches (term_matches s.left
     (plain_matches (plain_matches (term_matches s.right (assignments_match 0 s.next (blocks_match ss h)))))))))
 
-pub program_matches : (p : ProgramTree) → Matches (marks p) (terms p)
+pub program_matches : (p : ProgramTree) → Matches (marks p) (terms p) (spelling p)
 program_matches p =
-    let none : Matches [] [] = record { nodes = refl; small = λ _. All-nil IsSmall; shallow = λ _. tt } in
+    let none : Matches [] [] [] = record { tokens = refl; nodes = refl; small = λ _. All-nil IsSmall; shallow = λ _. tt } in
     plain_matches (plain_matches (plain_matches (plain_matches (plain_matches (plain_matches (plain_matches
     (assignments_match 0 p.start (blocks_match p.steps (plain_matches (term_matches p.finish none))))))))))

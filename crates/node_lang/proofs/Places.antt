@@ -19,7 +19,7 @@ use Rattle.node_lang.specs.Reading.{fault_of, same_token}
 use Rattle.node_lang.specs.Viable.{IsProgram, IsViable, Mark, node, plain, marked, marked_assignments, marked_blocks, marks, unmarked, one_at, nodes_at, BeginsNode, IsOutside, IsOutOfRange, rounds, channels, registers, Stands, unknown, large, out_of_range, unexpected, too_deep, too_many}
 use Rattle.node_lang.proofs.Parsing.{same_token_is}
 use Rattle.node_lang.proofs.Rest.{Rest, Nothing, AToken, AnExpression, ANumber, following, step, depth_next, counted, Met, Stops, Goes, limited, checked, meets, assignments, some_rounds, a_program}
-use Rattle.node_lang.proofs.Marks.{unmarked_program, Shallow, shallow_more, program_matches}
+use Rattle.node_lang.proofs.Marks.{Shallow, shallow_more, program_matches}
 
 -- a number of the header that is next, in its range
 abbrev pub InRange : Rest → Token → Type 0
@@ -176,6 +176,9 @@ completed (AToken t w) f h = one_earlier f (plain t) (completed w _ h)
 completed (AnExpression d w) f h = one_earlier f (node token.Id (d + 1)) (completed (w Identifier) _ (h Identifier))
 completed (ANumber low high w) f h = one_earlier f (plain (token.Number low)) (completed (w low) _ (h.2 low (omega arith) h.0))
 
+unmarked_program : (p : ProgramTree) → unmarked (marks p) ≡ spelling p
+unmarked_program p = let m = program_matches p in m.tokens
+
 -- A program that begins with these marks goes on with others, which have these tokens.
 pub record GoesOn (p : ProgramTree) (before : List Mark) (ts : List Token) (w : Rest) : Type 0 where
   pub left : List Mark
@@ -255,6 +258,9 @@ next_nodes {nodes = nodes} {w = w} t p =
     let here : Mark = node t (depth_next w) in
     sum_by-append (λ (m : Mark). one_at m.depth) p.marks (here ∷ []) ∙ ap (λ n. n + nodes_at (here ∷ [])) p.nodes_are ∙ counted_is w nodes t
 
+unmarked_next : (xs : List Mark) (before : List Token) (ms : List Mark) → unmarked xs ≡ before → unmarked (xs ++ ms) ≡ before ++ unmarked ms
+unmarked_next xs before ms e = map-append (λ (x : Mark). x.token) xs ms ∙ ap (λ ts. ts ++ unmarked ms) e
+
 -- after one more token
 pub next_place : {before : List Token} {nodes : ℕ} {w v : Rest} (t : Token) → Place before nodes w → step w t ≡ Some v →
     counted w nodes ≤ MAX_NODES → depth_next w ≤ MAX_DEPTH → InRange w t → Place (before ++ t ∷ []) (counted w nodes) v
@@ -263,7 +269,7 @@ next_place {before} {nodes} {w} {v} t p s few shallow range =
     record {
       reached = fold_push after (Some a_program) before t ∙ ap (λ o. after o t) p.reached ∙ s;
       marks = p.marks ++ here ∷ [];
-      tokens = map-append (λ (m : Mark). m.token) p.marks (here ∷ []) ∙ ap (λ ts. ts ++ t ∷ []) p.tokens;
+      tokens = unmarked_next p.marks before (here ∷ []) p.tokens;
       nodes_are = next_nodes t p;
       few = few;
       shallow = shallow_more p.marks here p.shallow shallow;
@@ -274,9 +280,6 @@ next_place {before} {nodes} {w} {v} t p s few shallow range =
           let same : n.rest ≡ v = cc in
           subst (GoesOn q (p.marks ++ here ∷ []) ts) same n.after;
     }
-
-unmarked_next : (xs : List Mark) (before : List Token) (ms : List Mark) → unmarked xs ≡ before → unmarked (xs ++ ms) ≡ before ++ unmarked ms
-unmarked_next xs before ms e = map-append (λ (x : Mark). x.token) xs ms ∙ ap (λ ts. ts ++ unmarked ms) e
 
 -- a list in two parts has its first elements, and the one after them, in one way
 same_front : {A : Type 0} (xs ys vs ws : List A) (v w : A) → length xs ≡ length ys → xs ++ v ∷ vs ≡ ys ++ w ∷ ws → (xs ≡ ys) × (v ≡ w)
@@ -302,16 +305,19 @@ wanted {before} {depth = depth} {t = t} {w = w} p b =
     let same = same_front p.marks b.marks_before n.after.left b.marks_after there here lengths (sym (n.after.are ∙ append_assoc p.marks (there ∷ []) n.after.left) ∙ b.are) in
     record { rest = n.rest; steps = n.steps; depth_is = ap (λ m. m.depth) (sym same.1); count_is = sym b.nodes_are ∙ ap nodes_at (sym same.0) ∙ p.nodes_are }
 
--- the tokens before a place can begin a program
+-- tokens with which some program begins
+viable_marks : {before : List Token} (p : ProgramTree) (ms more : List Mark) → IsProgram p → unmarked ms ≡ before → marks p ≡ ms ++ more → IsViable before
+viable_marks {before} p ms more each tokens are =
+    record { program = p; more = unmarked more; each_register = each; spells = sym (unmarked_next ms before more tokens) ∙ ap unmarked (sym are) ∙ unmarked_program p }
+
 viable : {before : List Token} {nodes : ℕ} {w : Rest} → Place before nodes w → IsViable before
-viable {before} {w = w} p =
-    let c = completed w (λ ms. p.marks ++ ms) p.ends in
-    record {
-      program = c.program;
-      more = unmarked c.more;
-      each_register = c.each_register;
-      spells = sym (unmarked_next p.marks before c.more p.tokens) ∙ ap unmarked (sym c.are) ∙ unmarked_program c.program;
-    }
+viable {w = w} p = let c = completed w (λ ms. p.marks ++ ms) p.ends in viable_marks c.program p.marks c.more c.each_register p.tokens c.are
+
+viable_node : {before : List Token} {t : Token} {depth count : ℕ} → BeginsNode before t depth count → IsViable (before ++ t ∷ [])
+viable_node {before} {t} {depth} b =
+    let here : Mark = node t depth in
+    viable_marks b.program (b.marks_before ++ here ∷ []) b.marks_after b.each_register (unmarked_next b.marks_before before (here ∷ []) b.tokens_before)
+    (b.are ∙ sym (append_assoc b.marks_before (here ∷ []) b.marks_after))
 
 -- where nothing is left the marks are those of the program
 pub whole_marks : {before : List Token} {nodes : ℕ} {q : ProgramTree} (p : Place before nodes (Nothing q)) → marks q ≡ p.marks
@@ -399,16 +405,6 @@ says {before} {n} w t p = checks (step w t) refl
     checks None none = stands_none t
         (λ out. out_steps w t (next_out out p.reached) none)
         (λ v. let m = next_of t v.more p v.program v.each_register (sym v.spells ∙ append_assoc before (t ∷ []) v.more) in let both : None ≡ Some m.rest = sym none ∙ m.steps in cc)
-
--- a node that begins in some program can come next
-viable_node : {before : List Token} {t : Token} {depth count : ℕ} → BeginsNode before t depth count → IsViable (before ++ t ∷ [])
-viable_node {before} {t} {depth} b = record {
-  program = b.program;
-  more = unmarked b.marks_after;
-  each_register = b.each_register;
-  spells = append_assoc before (t ∷ []) (unmarked b.marks_after) ∙ sym (unmarked_next b.marks_before before (node t depth ∷ b.marks_after) b.tokens_before)
-      ∙ ap unmarked (sym b.are) ∙ unmarked_program b.program;
-}
 
 -- a token that can't come next is met as one
 stops_unexpected : {before : List Token} {t : Token} (n : ℕ) (m : Met) → Says before n t m → t ≢ token.Unknown → t ≢ token.LargeNumber → (IsOutOfRange before t → ⊥) →
