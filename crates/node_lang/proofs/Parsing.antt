@@ -1,12 +1,13 @@
 -- What the methods of the parser need of the reading.
 use Rattle.std.proofs.Common.{◌≡◌, ℕ, zero, suc, ◌+◌, ◌-◌, ◌<◌, true, List, [], ◌∷◌, ◌++◌, Err, Ok, refl, ap, ◌∙◌, arith}
 use Rattle.std.proofs.lemmas.Bool.{eqb-true}
+use Rattle.std.proofs.lemmas.List.{map-append}
 use Rattle.node_lang.specs.declared.fault.TextFault.{TextFault}
 use Rattle.node_lang.specs.declared.parser.Parser.{Parser}
 use Rattle.node_lang.specs.declared.token.Token.{Token}
 use Rattle.node_lang.specs.declared.token.Token.TheVariants as token
 use Rattle.node_lang.specs.Lexemes.{Lexeme}
-use Rattle.node_lang.specs.Reading.{Read, each, expression, go_on, operand, same_token}
+use Rattle.node_lang.specs.Reading.{Read, Got, each, expression, go_on, operand, same_token}
 use Rattle.node_lang.specs.Parsing.{Gives, lexemes_left}
 
 -- two tokens that are the same are equal
@@ -27,21 +28,19 @@ pub record HasRead {A : Type 0} (part : ℕ → ℕ → List Lexeme → Read A) 
   pub text_is : now.text.now ≡ old.text.now
   pub reads : each part high 0 [] old.nodes (lexemes_left old.text.now old.at) ≡ each part (high - j) j parts now.nodes (lexemes_left old.text.now now.at)
 
-pub none_read : {A : Type 0} (part : ℕ → ℕ → List Lexeme → Read A) (high : ℕ) (parts : List A) (p : Parser) → parts ≡ [] → HasRead part high 0 parts p p
-none_read part high parts p h = record { text_is = refl; reads = rw (h, let e : high - 0 ≡ high = omega arith in e) refl }
-
 next_read : {A : Type 0} (part : ℕ → ℕ → List Lexeme → Read A) (high j : ℕ) (parts : List A) (nodes : ℕ) (left : List Lexeme) (r : Read A) → j < high → part j nodes left ≡ r →
     each part (high - j) j parts nodes left ≡ go_on r (λ a n l. each part (high - (j + 1)) (j + 1) (parts ++ (a ∷ [])) n l)
 next_read part high j parts nodes left r h e =
     rw (let e : high - j ≡ suc (high - (j + 1)) = omega arith in e) (ap (λ r. go_on r (λ a n l. each part (high - (j + 1)) (j + 1) (parts ++ (a ∷ [])) n l)) e)
 
-pub one_read : {T A : Type 0} (tree : T → A) (part : ℕ → ℕ → List Lexeme → Read A) (high j : ℕ) (parts : List A) (v : T) (old now new : Parser) → j < high →
-    HasRead part high j parts old now → Gives tree now new (Ok v) (part j) → HasRead part high (j + 1) (parts ++ (tree v ∷ [])) old new
-one_read tree part high j parts v old now new h done read = record {
-  text_is = read.0 ∙ done.text_is;
-  reads = done.reads ∙ next_read part high j parts now.nodes _ _ h (rw done.text_is at read.1);
-}
+-- one part more is read
+pub one_read : {A : Type 0} (part : ℕ → ℕ → List Lexeme → Read A) (high j : ℕ) (parts : List A) (nodes : ℕ) (left : List Lexeme) (v : A) (more : ℕ) (rest : List Lexeme) → j < high →
+    part j nodes left ≡ Got v more rest → each part (high - j) j parts nodes left ≡ each part (high - (j + 1)) (j + 1) (parts ++ (v ∷ [])) more rest
+one_read part high j parts nodes left v more rest h e = next_read part high j parts nodes left (Got v more rest) h e
 
+pub ruleset part_steps = (one_read, map-append)
+
+-- or the reading stops there
 pub stops_there : {T A : Type 0} (tree : T → A) (part : ℕ → ℕ → List Lexeme → Read A) (high j : ℕ) (parts : List A) (f : TextFault) (old now : Parser) → j < high →
     HasRead part high j parts old now → Gives tree now now (Err f) (part j) → Gives (λ xs. xs) old old (Err f) (each part high 0 [])
 stops_there tree part high j parts f old now h done stopped = (
