@@ -13,7 +13,7 @@ use Rattle.node_lang.specs.declared.token.Token.TheVariants as token
 use Rattle.node_lang.specs.Words.{is_blank, is_digit, is_word_byte, read_on, word_token, mark_token, unary_name, binary_name, word_of}
 use Rattle.node_lang.specs.Lexemes.{tokens_in, tokens_of, lexemes_of}
 use Rattle.std.proofs.lemmas.List.Sums.{sum_by-append, sum_by-cons, AllPass-from_list_all}
-use Rattle.node_lang.specs.Term.{Step, ProgramTree, size, step_terms, terms, terms_of_step, Term, Literal, Identifier, LeftMessage, RightMessage, RegisterValue, Unary, Binary, Conditional, largest, largest_register}
+use Rattle.node_lang.specs.Term.{Step, ProgramTree, size, step_terms, terms_of_step, Term, Literal, Identifier, LeftMessage, RightMessage, RegisterValue, Unary, Binary, Conditional, largest, largest_register}
 use Rattle.std.proofs.lemmas.List.Elements.{All-append, All-cons, All-nil, All-head, All-tail, All-weaker}
 use Rattle.node_lang.specs.declared.limits.TheConstants.{LONGEST_TEXT}
 use Rattle.node_lang.specs.declared.tree.UnOp.{UnOp}

@@ -223,7 +223,7 @@ impl<'a> Parser<'a> {
     }
 
     // An assignment to each register.
-    #[tactic(auto, using(crate::proofs::Parsing::part_steps), unfolding(crate::specs::Reading::assigns))]
+    #[tactic(auto, unfolding(crate::specs::Reading::assigns))]
     fn assigns(&mut self, registers: u32) -> Result<Vec<Expr>, TextFault>
         ensures { Gives (λ v. map term_of v.items) self.old self.new result (assigns registers) }
     {
@@ -252,7 +252,7 @@ impl<'a> Parser<'a> {
     }
 
     // The rounds.
-    #[tactic(auto, using(crate::proofs::Parsing::part_steps), unfolding(crate::specs::Reading::rounds))]
+    #[tactic(auto, unfolding(crate::specs::Reading::rounds))]
     fn rounds(&mut self, count: u32, registers: u32) -> Result<Vec<Round>, TextFault>
         ensures { Gives (λ v. map step_of v.items) self.old self.new result (rounds count registers) }
     {
