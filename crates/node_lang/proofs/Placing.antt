@@ -26,15 +26,12 @@ lexemes_of-blanked text = ap (λ n. joined n (split_of (blanked false text)).wor
 word_no_comment : (b : ℕ) → is_word_byte b ≡ true → (b == 35) ≡ false
 word_no_comment b h = grind (arith, nat_tests)
 
-blank_no_comment : (b : ℕ) → is_blank b ≡ true → (b == 35) ≡ false
-blank_no_comment b h = grind (arith, nat_tests)
-
-blank_no_word : (b : ℕ) → is_blank b ≡ true → is_word_byte b ≡ false
-blank_no_word b h = grind (arith, nat_tests)
+blank_alone : (b : ℕ) → is_blank b ≡ true → ((b == 35) ≡ false) × (is_word_byte b ≡ false)
+blank_alone b h = (grind (arith, nat_tests), grind (arith, nat_tests))
 
 pub blank_in_front : (b : ℕ) (bs : List ℕ) → is_blank b ≡ true → lexemes_of (b ∷ bs) ≡ lexemes_of bs
 unfolding lexemes_of
-blank_in_front b bs h = rw (blank_no_comment b h, blank_no_word b h, h, length-blanked false bs) refl
+blank_in_front b bs h = let alone = blank_alone b h in rw (alone.0, alone.1, h, length-blanked false bs) refl
 
 pub mark_in_front : (b : ℕ) (bs : List ℕ) → is_word_byte b ≡ false → is_blank b ≡ false → (b == 35) ≡ false →
     lexemes_of (b ∷ bs) ≡ record { from = suc (length bs); token = mark_token b } ∷ lexemes_of bs
@@ -82,14 +79,10 @@ splits_no_byte b bs h =
     let empty = no_word_first b bs h in
     record { word = empty; rest = sym (lexemes_of-blanked (b ∷ bs) ∙ ap (λ w. joined (length (blanked false (b ∷ bs))) w (split_of (blanked false (b ∷ bs))).rest) empty) }
 
-splits_step : (b : ℕ) (bs : List ℕ) (t : Bool) → is_word_byte b ≡ t → SplitsWord bs (prefix_len is_word_byte bs) →
-    SplitsWord (b ∷ bs) (cond t (1 + prefix_len is_word_byte bs) 0)
-splits_step b bs true e after = rw one-add (splits_byte b bs (prefix_len is_word_byte bs) e after)
-splits_step b bs false e after = splits_no_byte b bs e
-
 splits_word : (text : List ℕ) → SplitsWord text (prefix_len is_word_byte text)
 splits_word [] = record { word = refl; rest = sym (lexemes_of-blanked []) }
-splits_word (b ∷ bs) = splits_step b bs (is_word_byte b) refl (splits_word bs)
+splits_word (b ∷ bs) = cond_both (is_word_byte b) (1 + prefix_len is_word_byte bs) 0 (SplitsWord (b ∷ bs))
+    (λ e. rw one-add (splits_byte b bs (prefix_len is_word_byte bs) e (splits_word bs))) (λ e. splits_no_byte b bs e)
 
 joined_word : (count : ℕ) (word : List ℕ) (rest : List Lexeme) → 0 < length word → joined count word rest ≡ record { from = count; token = word_token word } ∷ rest
 joined_word count [] rest h = absurd (omega arith)

@@ -3,6 +3,7 @@ use Rattle.std.proofs.Common.{◌≡◌, ℕ, ◌+◌, ◌-◌, ◌^◌, ◌<◌
 use Rattle.std.specs.Prelude.{sum_by, All, codes}
 use Rattle.std.specs.List.{list_all, prefix_len, flat_map}
 use Rattle.std.specs.Fmt.{decimal}
+use Rattle.std.proofs.Math.ListN.{get_or-append}
 use Rattle.std.proofs.Math.Seq.{take-append_seam, drop-append_seam}
 use Rattle.std.proofs.lemmas.Bool.{and_parts, and_from, cond-true, lt-ltb, ltb-true}
 use Rattle.std.proofs.lemmas.Bool.Decides.{nat_tests}
@@ -12,7 +13,7 @@ use Rattle.node_lang.specs.declared.token.Token.{Token}
 use Rattle.node_lang.specs.declared.token.Token.TheVariants as token
 use Rattle.node_lang.specs.Words.{is_blank, is_digit, is_word_byte, read_on, word_token, mark_token, unary_name, binary_name, word_of}
 use Rattle.node_lang.specs.Lexemes.{tokens_in, tokens_of, lexemes_of}
-use Rattle.std.proofs.lemmas.List.Sums.{sum_by-append, sum_by-cons, AllPass-from_list_all}
+use Rattle.std.proofs.lemmas.List.Sums.{sum_by-append, sum_by-cons, AllPass-from_list_all, list_all-from_AllPass}
 use Rattle.node_lang.specs.Term.{Step, ProgramTree, size, step_terms, terms_of_step, Term, Literal, Identifier, LeftMessage, RightMessage, RegisterValue, Unary, Binary, Conditional, largest, largest_register}
 use Rattle.std.proofs.lemmas.List.Elements.{All-append, All-cons, All-nil, All-head, All-tail, All-weaker}
 use Rattle.node_lang.specs.declared.limits.TheConstants.{LONGEST_TEXT}
@@ -54,10 +55,8 @@ digit_is_letter : (b : ℕ) → is_digit b ≡ true → is_word_byte b ≡ true
 digit_is_letter b h = grind (arith, nat_tests)
 
 digits_are_letters : (ds : List ℕ) → list_all is_digit ds ≡ true → list_all is_word_byte ds ≡ true
-digits_are_letters [] h = refl
-digits_are_letters (d ∷ ds) h =
-    let parts = and_parts (is_digit d) (list_all is_digit ds) h in
-    and_from (is_word_byte d) (list_all is_word_byte ds) (digit_is_letter d parts.0) (digits_are_letters ds parts.1)
+digits_are_letters ds h =
+    list_all-from_AllPass is_word_byte ds (All-weaker (λ b. is_digit b ≡ true) (λ b. is_word_byte b ≡ true) digit_is_letter ds (AllPass-from_list_all is_digit ds h))
 
 -- digits and their value, in the words of the standard library
 numeral : IsNumeralModel (λ ds. list_all is_digit ds ≡ true) (read_on 0)
@@ -229,8 +228,7 @@ a_round s few small =
     roomy (glue (lined token.Round refl) (glue left (glue right next (λ _ _. tt)) (λ _ _. tt)) (λ _ _. tt)) (omega (arith, few, sum_by-cons size s.left (s.right ∷ s.next), sum_by-cons size s.right s.next))
 
 all_left : (xs ys : List Term) → All IsSmall (xs ++ ys) → All IsSmall xs
-all_left [] ys h = All-nil IsSmall
-all_left (x ∷ xs) ys h = All-cons IsSmall x xs (All-head IsSmall x (xs ++ ys) h) (all_left xs ys (All-tail IsSmall x (xs ++ ys) h))
+all_left xs ys h = λ i d below. rw (get_or-append xs ys d i below) at (h i d (omega (arith, below, length-append xs ys)))
 
 all_right : (xs ys : List Term) → All IsSmall (xs ++ ys) → All IsSmall ys
 all_right [] ys h = h
