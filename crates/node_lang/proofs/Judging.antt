@@ -103,7 +103,9 @@ judged_met {w = w} l ls p (Stops k) e here more = record {
     | inl there ↦ let met = sym e ∙ stands_met w l.token j p there.0 in let same : k ≡ j = cc in λ i. Fault (same i) (sym there.1 i)
     | inr there ↦ absurd (there.0 k here)
   ];
-  reads = λ q limits spelt. let goes = goes_in_program l.token (tokens_in ls) p q limits spelt in let met : Stops k ≡ Goes goes.0 = sym e ∙ goes.1 in absurd (cc);
+  reads = λ q limits spelt.
+      let goes = goes_in_program l.token (tokens_in ls) p q limits spelt in
+      let met : Stops k ≡ Goes goes.0 = sym e ∙ goes.1 in absurd (cc);
 }
 judged_met {w = w} l ls p (Goes v) e place more =
     judged_through l ls (λ k stands. let met = sym e ∙ stands_met w l.token k p stands in cc) (read v _ ls) (more v place)

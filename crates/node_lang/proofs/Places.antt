@@ -7,7 +7,7 @@ use Rattle.std.proofs.lemmas.Bool.Decides.{nat_tests}
 use Rattle.std.proofs.lemmas.List.{map-append, length-map}
 use Rattle.std.proofs.lemmas.List.Elements.{All-cons, All-nil, All-head, All-tail}
 use Rattle.std.proofs.lemmas.List.Sums.{sum_by-append, fold_push}
-use Rattle.node_lang.specs.declared.limits.TheConstants.{MAX_DEPTH, MAX_NODES}
+use Rattle.node_lang.specs.declared.limits.TheConstants.{MAX_CHANNELS, MAX_DEPTH, MAX_NODES, MAX_REGISTERS, MAX_ROUNDS}
 use Rattle.node_lang.specs.declared.fault.FaultKind.{FaultKind}
 use Rattle.node_lang.specs.declared.fault.FaultKind.TheVariants as kind
 use Rattle.node_lang.specs.declared.token.Token.{Token}
@@ -18,7 +18,7 @@ use Rattle.node_lang.specs.Grammar.{spelling}
 use Rattle.node_lang.specs.Reading.{fault_of, same_token}
 use Rattle.node_lang.specs.Viable.{IsProgram, IsViable, Mark, node, plain, marked, marked_assignments, marked_blocks, marks, unmarked, one_at, nodes_at, BeginsNode, IsOutside, IsOutOfRange, rounds, channels, registers, Stands, unknown, large, out_of_range, unexpected, too_deep, too_many}
 use Rattle.node_lang.proofs.Parsing.{same_token_is}
-use Rattle.node_lang.proofs.Rest.{Rest, Nothing, AToken, AnExpression, ANumber, following, step, depth_next, counted, Met, Stops, Goes, limited, checked, meets, assignments, some_rounds, a_program}
+use Rattle.node_lang.proofs.Rest.{Rest, Nothing, AToken, AnExpression, ANumber, following, step, depth_next, counted, Met, Stops, Goes, limited, checked, meets, assignments, some_rounds, a_body, a_program}
 use Rattle.node_lang.proofs.Marks.{Shallow, shallow_more, program_matches}
 
 -- a number of the header that is next, in its range
@@ -105,36 +105,30 @@ rounds_end (suc count) many f w h = λ left right.
     let s : Step = record { left = left; right = right; next = next } in
     h (s ∷ ss) (ap suc counts) (All-cons (λ (s : Step). length s.next ≡ many) s ss full each)))
 
+body_ends : (i c r : ℕ) → i ≤ MAX_ROUNDS → 1 ≤ c → c ≤ MAX_CHANNELS → 1 ≤ r → r ≤ MAX_REGISTERS →
+    Ends (λ ms. plain token.Rounds ∷ plain (token.Number i) ∷ plain token.Channels ∷ plain (token.Number c)
+    ∷ plain token.Registers ∷ plain (token.Number r) ∷ plain token.Start ∷ ms) (a_body i c r)
+body_ends i c r fits some few least most =
+    let header : List Mark → List Mark = λ ms. plain token.Rounds ∷ plain (token.Number i) ∷ plain token.Channels ∷ plain (token.Number c)
+    ∷ plain token.Registers ∷ plain (token.Number r) ∷ plain token.Start ∷ ms in
+    assignments_end r 0 header _ (λ start many. rounds_end i r (λ ms. header (marked_assignments 0 start ms)) _ (λ steps counts each. λ finish.
+    record {
+      each_register = rw many each;
+      limits = λ small nodes. record {
+        rounds = omega (arith, counts, fits);
+        some_channels = some;
+        few_channels = few;
+        some_registers = omega (arith, many, least);
+        few_registers = omega (arith, many, most);
+        each_register = rw many each;
+        small = small;
+        nodes = nodes;
+      };
+      are = rw (many, counts) refl;
+    }))
+
 program_ends : Ends (λ ms. ms) a_program
-program_ends = (
-  omega arith,
-  rounds,
-  λ i _ fits. (
-    omega arith,
-    channels i,
-    λ c some few. (
-      omega arith,
-      registers i c,
-      λ r least most.
-          let header : List Mark → List Mark = λ ms. plain token.Rounds ∷ plain (token.Number i) ∷ plain token.Channels ∷ plain (token.Number c)
-          ∷ plain token.Registers ∷ plain (token.Number r) ∷ plain token.Start ∷ ms in
-          assignments_end r 0 header _ (λ start many. rounds_end i r (λ ms. header (marked_assignments 0 start ms)) _ (λ steps counts each. λ finish. record {
-            each_register = rw many each;
-            limits = λ small nodes. record {
-              rounds = omega (arith, counts, fits);
-              some_channels = some;
-              few_channels = few;
-              some_registers = omega (arith, many, least);
-              few_registers = omega (arith, many, most);
-              each_register = rw many each;
-              small = small;
-              nodes = nodes;
-            };
-            are = rw (many, counts) refl;
-          })),
-    ),
-  ),
-)
+program_ends = (omega arith, rounds, λ i _ fits. (omega arith, channels i, λ c some few. (omega arith, registers i c, λ r least most. body_ends i c r fits some few least most)))
 
 -- after one more token
 abbrev EndsIf : (List Mark → List Mark) → Option Rest → Type 0
@@ -404,7 +398,9 @@ says {before} {n} w t p = checks (step w t) refl
     checks (Some v) s = says_limited w v t p s
     checks None none = stands_none t
         (λ out. out_steps w t (next_out out p.reached) none)
-        (λ v. let m = next_of t v.more p v.program v.each_register (sym v.spells ∙ append_assoc before (t ∷ []) v.more) in let both : None ≡ Some m.rest = sym none ∙ m.steps in cc)
+        (λ v.
+        let next = next_of t v.more p v.program v.each_register (sym v.spells ∙ append_assoc before (t ∷ []) v.more) in
+        let both : None ≡ Some next.rest = sym none ∙ next.steps in cc)
 
 -- a token that can't come next is met as one
 stops_unexpected : {before : List Token} {t : Token} (n : ℕ) (m : Met) → Says before n t m → t ≢ token.Unknown → t ≢ token.LargeNumber → (IsOutOfRange before t → ⊥) →
