@@ -22,10 +22,9 @@ use Rattle.node_lang.specs.Viable.{Stands, FirstFault, Mark, node, one_at, nodes
 use Rattle.node_lang.specs.Faults.{FaultsAt, IsFirstHighByte, too_long, not_ascii, in_lexemes}
 use Rattle.node_lang.specs.Laws.{ReadingStopsAtFirstFault, FirstFaultStopsReading, OneReading, OneTextFault, ReadableTextsAreRead, ReadableTextsHaveNoFault, ReadTextsAreReadable}
 use Rattle.node_lang.specs.Parsing.{Gives, lexemes_left}
-use Rattle.node_lang.proofs.Rest.{Rest, Nothing, AToken, AnExpression, ANumber, depth_next, counted, Met, Stops, Goes, limited, checked, meets, a_program}
+use Rattle.node_lang.proofs.Rest.{Rest, Nothing, AToken, AnExpression, ANumber, depth_next, counted, Met, Stops, Goes, limited, checked, meets, a_program, read, went, read_next, program_read}
 use Rattle.node_lang.proofs.SmallTokens.{is_small, small_tokens}
 use Rattle.node_lang.proofs.Marks.{Shallow, shallow_at, Fine, fine, program_matches}
-use Rattle.node_lang.proofs.Stepwise.{read, went, read_next, program_read}
 use Rattle.node_lang.proofs.Places.{InRange, Place, first_place, next_of, none_of, next_nodes, whole_marks, whole_nodes, whole, Says, says, stands_met}
 
 -- reading goes on at a token that can come next, where it is within the limits

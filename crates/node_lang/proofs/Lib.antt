@@ -8,5 +8,4 @@ pub mod Assigned
 pub mod Rest
 pub mod Places
 pub mod Marks
-pub mod Stepwise
 pub mod Judging

@@ -105,14 +105,13 @@ rounds_end (suc count) many f w h = λ left right.
     let s : Step = record { left = left; right = right; next = next } in
     h (s ∷ ss) (ap suc counts) (All-cons (λ (s : Step). length s.next ≡ many) s ss full each)))
 
-body_ends : (i c r : ℕ) → i ≤ MAX_ROUNDS → 1 ≤ c → c ≤ MAX_CHANNELS → 1 ≤ r → r ≤ MAX_REGISTERS →
-    Ends (λ ms. plain token.Rounds ∷ plain (token.Number i) ∷ plain token.Channels ∷ plain (token.Number c)
-    ∷ plain token.Registers ∷ plain (token.Number r) ∷ plain token.Start ∷ ms) (a_body i c r)
+abbrev header : ℕ → ℕ → ℕ → List Mark → List Mark
+header i c r ms = plain token.Rounds ∷ plain (token.Number i) ∷ plain token.Channels ∷ plain (token.Number c)
+    ∷ plain token.Registers ∷ plain (token.Number r) ∷ plain token.Start ∷ ms
+
+body_ends : (i c r : ℕ) → i ≤ MAX_ROUNDS → 1 ≤ c → c ≤ MAX_CHANNELS → 1 ≤ r → r ≤ MAX_REGISTERS → Ends (header i c r) (a_body i c r)
 body_ends i c r fits some few least most =
-    let header : List Mark → List Mark = λ ms. plain token.Rounds ∷ plain (token.Number i) ∷ plain token.Channels ∷ plain (token.Number c)
-    ∷ plain token.Registers ∷ plain (token.Number r) ∷ plain token.Start ∷ ms in
-    assignments_end r 0 header _ (λ start many. rounds_end i r (λ ms. header (marked_assignments 0 start ms)) _ (λ steps counts each. λ finish.
-    record {
+    assignments_end r 0 (header i c r) _ (λ start many. rounds_end i r (λ ms. header i c r (marked_assignments 0 start ms)) _ (λ steps counts each finish. record {
       each_register = rw many each;
       limits = λ small nodes. record {
         rounds = omega (arith, counts, fits);

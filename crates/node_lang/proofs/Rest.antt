@@ -1,13 +1,16 @@
--- What is left of a program after some tokens, and how one token leads on; a whole program is what is left before its first token.
-use Rattle.std.proofs.Common.{ℕ, zero, suc, ◌+◌, ◌-◌, ◌==◌, nat_le, ◌&&◌, List, [], ◌∷◌, Option, Some, None}
+-- What is left of a program after some tokens, how one token leads on, and that a program is read so; a whole program is what is left before its first token.
+use Rattle.std.proofs.Common.{ℕ, zero, suc, ◌+◌, ◌-◌, ◌==◌, nat_le, ◌&&◌, List, [], ◌∷◌, Option, Some, None, ◌≡◌, ◌<◌, Bool, true, false, ◌++◌, refl, ap, ◌∙◌, arith, append_assoc, append-nil}
 use Rattle.std.specs.Prelude.{if◌then◌else◌}
+use Rattle.std.proofs.lemmas.Bool.Decides.{nat_tests}
 use Rattle.node_lang.specs.declared.limits.TheConstants.{MAX_DEPTH, MAX_NODES, MAX_CHANNELS, MAX_REGISTERS, MAX_ROUNDS}
 use Rattle.node_lang.specs.declared.fault.FaultKind.{FaultKind}
 use Rattle.node_lang.specs.declared.fault.FaultKind.TheVariants as kind
 use Rattle.node_lang.specs.declared.token.Token.{Token}
 use Rattle.node_lang.specs.declared.token.Token.TheVariants as token
 use Rattle.node_lang.specs.Term.{Term, Literal, Identifier, LeftMessage, RightMessage, RegisterValue, Unary, Binary, Conditional, Step, ProgramTree}
-use Rattle.node_lang.specs.Reading.{same_token, fault_of}
+use Rattle.node_lang.specs.Reading.{same_token, fault_of, Read, Reader, Got, Fault, go_on, done, refuse, ◌>>=◌, ◌>>◌, exactly, node, one_of, two_of, three_of, operand, expression, number, end, each, assign, assigns, round, rounds, header, program}
+use Rattle.node_lang.specs.Lexemes.{Lexeme}
+use Rattle.node_lang.proofs.Parsing.{operand_is}
 
 -- Nothing, where the program is this one; or this token, an expression that is the operand of so many others, or a number of the header, and then the rest.
 pub data Rest : Type 0 where
@@ -17,8 +20,8 @@ pub data Rest : Type 0 where
   ANumber : ℕ → ℕ → (ℕ → Rest) → Rest
 
 -- a token, and an operand of an expression that is the operand of d others
-abbrev operand : Token → ℕ → (Term → Rest) → Rest
-operand t d w = AToken t (AnExpression (d + 1) w)
+abbrev an_operand : Token → ℕ → (Term → Rest) → Rest
+an_operand t d w = AToken t (AnExpression (d + 1) w)
 
 abbrev closed : Rest → Rest
 closed w = AToken token.Close w
@@ -30,10 +33,10 @@ following d w token.Id = Some (w Identifier)
 following d w token.FromLeft = Some (w LeftMessage)
 following d w token.FromRight = Some (w RightMessage)
 following d w (token.Register j) = Some (w (RegisterValue j))
-following d w (token.Unary o) = Some (operand token.Open d (λ a. closed (w (Unary o a))))
-following d w (token.Binary o) = Some (operand token.Open d (λ a. operand token.Comma d (λ b. closed (w (Binary o a b)))))
+following d w (token.Unary o) = Some (an_operand token.Open d (λ a. closed (w (Unary o a))))
+following d w (token.Binary o) = Some (an_operand token.Open d (λ a. an_operand token.Comma d (λ b. closed (w (Binary o a b)))))
 following d w token.If =
-    Some (operand token.Open d (λ c. operand token.Comma d (λ a. operand token.Comma d (λ b. closed (w (Conditional c a b))))))
+    Some (an_operand token.Open d (λ c. an_operand token.Comma d (λ a. an_operand token.Comma d (λ b. closed (w (Conditional c a b))))))
 following d w _ = None
 
 -- what follows a token, where it can come next
@@ -95,3 +98,125 @@ a_body rounds channels registers = assignments registers 0 (λ start. some_round
 abbrev pub a_program : Rest
 a_program = AToken token.Rounds (ANumber 0 MAX_ROUNDS (λ rounds. AToken token.Channels (ANumber 1 MAX_CHANNELS (λ channels.
     AToken token.Registers (ANumber 1 MAX_REGISTERS (λ registers. AToken token.Start (a_body rounds channels registers)))))))
+
+-- the rest is read so
+abbrev pub read : Rest → Reader ProgramTree
+read (Nothing p) nodes left = go_on (end nodes left) (λ _. done p)
+read (AToken t w) nodes left = go_on (exactly t nodes left) (λ _ n ls. read w n ls)
+read (AnExpression d w) nodes left = go_on (expression (MAX_DEPTH - d) nodes left) (λ e n ls. read (w e) n ls)
+read (ANumber low high w) nodes left = go_on (number low high nodes left) (λ k n ls. read (w k) n ls)
+
+-- what comes of a token
+abbrev pub went : ℕ → ℕ → List Lexeme → Met → Read ProgramTree
+went nodes from ls (Stops k) = Fault k from
+went nodes from ls (Goes v) = read v nodes ls
+
+-- going on and going on again
+go_on_assoc : {A B C : Type 0} (r : Read A) (f : A → ℕ → List Lexeme → Read B) (g : B → ℕ → List Lexeme → Read C) →
+    go_on (go_on r f) g ≡ go_on r (λ a n ls. go_on (f a n ls) g)
+go_on_assoc (Got a n ls) f g = refl
+go_on_assoc (Fault k from) f g = refl
+
+go_on_same : {A B : Type 0} (r : Read A) (f g : A → ℕ → List Lexeme → Read B) → ((a : A) (n : ℕ) (ls : List Lexeme) → f a n ls ≡ g a n ls) → go_on r f ≡ go_on r g
+go_on_same (Got a n ls) f g h = h a n ls
+go_on_same (Fault k from) f g h = refl
+
+-- a token that is wanted
+abbrev matched : Bool → Lexeme → Reader (Unit {0})
+matched b l = if b then done tt else refuse kind.Unexpected l
+
+wanted_next : (s : Token) (w : Rest) (n from : ℕ) (t : Token) (ls : List Lexeme) (b : Bool) → kind.Unexpected ≡ fault_of t →
+    go_on (matched b (record { from = from; token = t }) n ls) (λ _. read w) ≡ went n from ls (checked (AToken s w) n t (if b then Some w else None))
+wanted_next s w n from t ls true known = refl
+wanted_next s w n from t ls false known = ap (λ k. Fault k from) known
+
+-- a number that is wanted
+number_next : (w : ℕ → Rest) (n from k : ℕ) (ls : List Lexeme) (b : Bool) →
+    go_on ((if b then done k else refuse kind.HeaderRange (record { from = from; token = token.Number k })) n ls) (λ k. read (w k))
+    ≡ went n from ls (if b then Goes (w k) else Stops kind.HeaderRange)
+number_next w n from k ls true = refl
+number_next w n from k ls false = refl
+
+-- a node that is wanted
+node_judged : (w : Term → Rest) (n from : ℕ) (ls : List Lexeme) (more : Reader Term) (v : Rest) (a b : Bool) →
+    (a ≡ false → go_on (more (n + 1) ls) (λ e. read (w e)) ≡ read v (n + 1) ls) →
+    go_on (go_on (if a then Fault kind.TooDeep from else if b then Fault kind.TooManyNodes from else Got (tt {0}) (n + 1) ls) (λ _. more)) (λ e. read (w e))
+    ≡ went (n + 1) from ls (if a then Stops kind.TooDeep else if b then Stops kind.TooManyNodes else Goes v)
+node_judged w n from ls more v true b h = refl
+node_judged w n from ls more v false true h = refl
+node_judged w n from ls more v false false h = h refl
+
+node_next : (d : ℕ) (w : Term → Rest) (n from : ℕ) (t : Token) (ls : List Lexeme) (more : Reader Term) (v : Rest) →
+    (0 < MAX_DEPTH - d → go_on (more (n + 1) ls) (λ e. read (w e)) ≡ read v (n + 1) ls) →
+    go_on (go_on (node (MAX_DEPTH - d) from n ls) (λ _. more)) (λ e. read (w e)) ≡ went (n + 1) from ls (limited (AnExpression d w) n t v)
+node_next d w n from t ls more v h =
+    node_judged w n from ls more v ((MAX_DEPTH - d) == 0) (nat_le MAX_NODES n) (λ some. h (grind (arith, nat_tests)))
+
+below : (d : ℕ) → 0 < MAX_DEPTH - d → operand (MAX_DEPTH - d) ≡ expression (MAX_DEPTH - (d + 1))
+below d some = operand_is (MAX_DEPTH - d) some ∙ ap expression (omega arith)
+
+term_next : (d : ℕ) (w : Term → Rest) (n from : ℕ) (t : Token) (ls : List Lexeme) →
+    read (AnExpression d w) n (record { from = from; token = t } ∷ ls) ≡ went (n + 1) from ls (meets (AnExpression d w) n t)
+unfolding expression one_of two_of three_of
+term_next d w n from (token.Number k) ls = node_next d w n from (token.Number k) ls _ _ (λ _. refl)
+term_next d w n from token.Id ls = node_next d w n from token.Id ls _ _ (λ _. refl)
+term_next d w n from token.FromLeft ls = node_next d w n from token.FromLeft ls _ _ (λ _. refl)
+term_next d w n from token.FromRight ls = node_next d w n from token.FromRight ls _ _ (λ _. refl)
+term_next d w n from (token.Register j) ls = node_next d w n from (token.Register j) ls _ _ (λ _. refl)
+term_next d w n from (token.Unary o) ls = node_next d w n from (token.Unary o) ls _ _ (λ some. rw (below d some) (simp go_on_assoc))
+term_next d w n from (token.Binary o) ls = node_next d w n from (token.Binary o) ls _ _ (λ some. rw (below d some) (simp go_on_assoc))
+term_next d w n from token.If ls = node_next d w n from token.If ls _ _ (λ some. rw (below d some) (simp go_on_assoc))
+term_next d w n from t ls = refl
+
+-- reading the rest is reading one token, and then what is left after it
+pub read_next : (w : Rest) (n from : ℕ) (t : Token) (ls : List Lexeme) → read w n (record { from = from; token = t } ∷ ls) ≡ went (counted w n) from ls (meets w n t)
+read_next (Nothing p) n from t ls = refl
+read_next (AToken s w) n from token.Unknown ls = refl
+read_next (AToken s w) n from token.LargeNumber ls = refl
+read_next (AToken s w) n from t ls = wanted_next s w n from t ls (same_token t s) refl
+read_next (AnExpression d w) n from t ls = term_next d w n from t ls
+read_next (ANumber low high w) n from (token.Number k) ls = number_next w n from k ls (nat_le low k && nat_le k high)
+read_next (ANumber low high w) n from t ls = refl
+
+-- assignments, and then the rest
+assigns_read : (count j : ℕ) (parts : List Term) (w : List Term → Rest) (n : ℕ) (ls : List Lexeme) →
+    go_on (each assign count j parts n ls) (λ es. read (w es)) ≡ read (assignments count j (λ es. w (parts ++ es))) n ls
+unfolding assign
+assigns_read zero j parts w n ls = simp append-nil
+assigns_read (suc count) j parts w n ls =
+    let others : (e : Term) (m : ℕ) (left : List Lexeme) → go_on (each assign count (j + 1) (parts ++ (e ∷ [])) m left) (λ es. read (w es))
+    ≡ read (assignments count (j + 1) (λ es. w ((parts ++ (e ∷ [])) ++ es))) m left =
+    λ e m left. assigns_read count (j + 1) (parts ++ (e ∷ [])) w m left in
+    simp (go_on_assoc, others, append_assoc)
+
+-- rounds, and then the rest
+rounds_read : (count many j : ℕ) (parts : List Step) (w : List Step → Rest) (n : ℕ) (ls : List Lexeme) →
+    go_on (each (λ _. round many) count j parts n ls) (λ ss. read (w ss)) ≡ read (some_rounds count many (λ ss. w (parts ++ ss))) n ls
+unfolding round assigns
+rounds_read zero many j parts w n ls = simp append-nil
+rounds_read (suc count) many j parts w n ls =
+    let others : (s : Step) (m : ℕ) (left : List Lexeme) → go_on (each (λ _. round many) count (j + 1) (parts ++ (s ∷ [])) m left) (λ ss. read (w ss))
+    ≡ read (some_rounds count many (λ ss. w ((parts ++ (s ∷ [])) ++ ss))) m left =
+    λ s m left. rounds_read count many (j + 1) (parts ++ (s ∷ [])) w m left in
+    let after : Term → Term → List Term → Rest = λ a b es. some_rounds count many (λ ss. w (parts ++ (record { left = a; right = b; next = es } ∷ ss))) in
+    let assigned : (a b : Term) (m : ℕ) (left : List Lexeme) → go_on (assigns many m left) (λ es. read (after a b es)) ≡ read (assignments many 0 (after a b)) m left =
+    λ a b m left. assigns_read many 0 [] (after a b) m left in
+    simp (go_on_assoc, others, append_assoc, assigned)
+
+-- what follows the header
+body_read : (c i r n : ℕ) (ls : List Lexeme) →
+    go_on (assigns r n ls) (λ start. rounds i r >>= λ steps. exactly token.Finish >> (expression MAX_DEPTH >>= λ finish.
+    end >> done (record { channels = c; start = start; steps = steps; finish = finish })))
+    ≡ read (a_body i c r) n ls
+unfolding assigns rounds
+body_read c i r n ls =
+    let last : List Term → List Step → Rest = λ es ss. AToken token.Finish (AnExpression 0 (λ e. Nothing (record { channels = c; start = es; steps = ss; finish = e }))) in
+    go_on_same (assigns r n ls) _ _ (λ es m left. rounds_read i r 0 [] (last es) m left)
+    ∙ assigns_read r 0 [] (λ es. some_rounds i r (last es)) n ls
+
+-- a program is read so
+pub program_read : (n : ℕ) (ls : List Lexeme) → program n ls ≡ read a_program n ls
+unfolding program header
+program_read n ls =
+    go_on_same (header n ls) _ (λ c m left. read (a_body c.rounds c.channels c.registers) m left) (λ c m left. body_read c.channels c.rounds c.registers m left)
+    ∙ simp go_on_assoc
