@@ -1,4 +1,5 @@
--- What a text reads as and its fault, by how reading it from the left ends: it stops at the first fault, and answers a program exactly where the tokens are spelled so within the limits.
+-- What a text reads as and its fault, by how reading it from the left ends: it stops at the first fault,
+-- and answers a program exactly where the tokens are spelled so within the limits.
 use Rattle.std.proofs.Common.{◌≡◌, ℕ, ◌≤◌, List, [], ◌∷◌, ◌++◌, append_assoc, append-nil, refl, sym, subst, ap, ◌∙◌, arith, inl, inr, true, ◌≢◌, ◌-◌, ◌<◌, length, get_or, take}
 use Rattle.std.specs.Prelude.{All, sum_by, Result, Ok, Err, IfOk, IfErr}
 use Rattle.std.specs.List.{list_all}
@@ -164,10 +165,7 @@ one_high_byte text m n a b =
     elim (cases_order m n) [ inl e ↦ e | inr (inl h) ↦ absurd (not_before text m n a b h) | inr (inr h) ↦ absurd (not_before text n m b a h) ]
 
 has_no_high_byte : (text : List ℕ) (n : ℕ) → All (λ b. b < 128) text → IsFirstHighByte text n → ⊥
-has_no_high_byte text n ascii first =
-    let low = ascii n 0 first.within in
-    let high = first.high in
-    omega arith
+has_no_high_byte text n ascii first = let low = ascii n 0 first.within in omega (arith, first.high)
 
 -- a text has one fault
 pub one_fault : OneTextFault

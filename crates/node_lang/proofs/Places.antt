@@ -1,4 +1,5 @@
--- A place in a program: the tokens before it, and what is left of the program after them. What reading meets at the next token is the fault that stands there, or none.
+-- A place in a program: the tokens before it, and what is left of the program after them.
+-- What reading meets at the next token is the fault that stands there, or none.
 use Rattle.std.proofs.Common.{◌≡◌, ℕ, ◌+◌, ◌<◌, Option, Some, None, List, [], ◌∷◌, ◌++◌, length, take, drop, append_assoc, append-nil, refl, sym, subst, ap, ◌∙◌, arith, add-one, ◌≢◌, zero, suc, ◌-◌, ◌≤◌, ◌==◌, nat_le, ◌&&◌, true, false, inl, inr}
 use Rattle.std.specs.Prelude.{All, fold, sum_by}
 use Rattle.std.proofs.Math.Seq.{take-append_seam, drop-append_seam}
@@ -31,11 +32,14 @@ abbrev IsOut : Rest → Token → Type 0
 IsOut (ANumber low high w) (token.Number n) = IsOutside low high n
 IsOut w t = ⊥
 
--- These marks lead from what is left to the end of a program: each is that of a token that can come next, in its range where the program is within the limits.
+-- These marks lead from what is left to the end of a program: each is that of a token that can come next,
+-- in its range where the program is within the limits.
 pub data Leads (p : ProgramTree) : Rest → List Mark → Type 0 where
   ended : Leads p (Nothing p) []
-  led : {w v : Rest} {ms : List Mark} (t : Token) → step w t ≡ Some v → (IsWithinLimits p → InRange w t) → Leads p v ms → Leads p w (node t (depth_next w) ∷ ms)
+  led : {w v : Rest} {ms : List Mark} (t : Token) → step w t ≡ Some v → (IsWithinLimits p → InRange w t) → Leads p v ms →
+      Leads p w (node t (depth_next w) ∷ ms)
 
+-- so do those of a token, an expression, assignments and rounds, and of a program from its beginning
 token_leads : {p : ProgramTree} {w : Rest} {ms : List Mark} (t : Token) → same_token t t ≡ true → Leads p w ms → Leads p (AToken t w) (plain t ∷ ms)
 token_leads {w = w} t same h = led t (rw same refl) (λ _. tt) h
 
@@ -67,10 +71,10 @@ rounds_lead (s ∷ ss) many w each h =
     token_leads token.Round refl (token_leads token.Send refl (token_leads token.Left refl (term_leads s.left 0 _
     (token_leads token.Send refl (token_leads token.Right refl (term_leads s.right 0 _ (assignments_lead s.next many 0 _ here others)))))))
 
--- so do the marks of a program from its beginning
 program_leads : (p : ProgramTree) → IsProgram p → Leads p a_program (marks p)
 program_leads p each =
-    let body = assignments_lead p.start (length p.start) 0 _ refl (rounds_lead p.steps (length p.start) _ each (token_leads token.Finish refl (term_leads p.finish 0 _ ended))) in
+    let finish = token_leads token.Finish refl (term_leads p.finish 0 _ ended) in
+    let body = assignments_lead p.start (length p.start) 0 _ refl (rounds_lead p.steps (length p.start) _ each finish) in
     token_leads token.Rounds refl (led (token.Number (length p.steps)) refl (λ l. (omega arith, l.rounds))
     (token_leads token.Channels refl (led (token.Number p.channels) refl (λ l. (l.some_channels, l.few_channels))
     (token_leads token.Registers refl (led (token.Number (length p.start)) refl (λ l. (l.some_registers, l.few_registers)) (token_leads token.Start refl body))))))
@@ -89,6 +93,7 @@ Ends f (AnExpression d w) = (e : Term) → Ends (λ ms. f (marked e (d + 1) ms))
 Ends f (ANumber low high w) = (low ≤ high) × ((n : ℕ) → IsOutside low high n → IsOutOfRange (unmarked (f [])) (token.Number n))
     × ((n : ℕ) → low ≤ n → n ≤ high → Ends (λ ms. f (plain (token.Number n) ∷ ms)) (w n))
 
+-- so it is where each list of assignments, and of rounds, that can come next is followed so
 assignments_end : (count j : ℕ) (f : List Mark → List Mark) (w : List Term → Rest) →
     ((es : List Term) → length es ≡ count → Ends (λ ms. f (marked_assignments j es ms)) (w es)) → Ends f (assignments count j w)
 assignments_end zero j f w h = h [] refl
@@ -99,12 +104,14 @@ rounds_end : (count many : ℕ) (f : List Mark → List Mark) (w : List Step →
     ((ss : List Step) → length ss ≡ count → All (λ s. length s.next ≡ many) ss → Ends (λ ms. f (marked_blocks ss ms)) (w ss)) → Ends f (some_rounds count many w)
 rounds_end zero many f w h = h [] refl (All-nil (λ (s : Step). length s.next ≡ many))
 rounds_end (suc count) many f w h = λ left right.
-    let put : List Mark → List Mark = λ ms. f (plain token.Round ∷ plain token.Send ∷ plain token.Left ∷ marked left 1 (plain token.Send ∷ plain token.Right ∷ marked right 1 ms)) in
+    let put : List Mark → List Mark = λ ms. f (plain token.Round ∷ plain token.Send ∷ plain token.Left
+    ∷ marked left 1 (plain token.Send ∷ plain token.Right ∷ marked right 1 ms)) in
     assignments_end many 0 put _ (λ next full.
     rounds_end count many (λ ms. put (marked_assignments 0 next ms)) _ (λ ss counts each.
     let s : Step = record { left = left; right = right; next = next } in
     h (s ∷ ss) (ap suc counts) (All-cons (λ (s : Step). length s.next ≡ many) s ss full each)))
 
+-- the header's marks, in front of others
 abbrev header : ℕ → ℕ → ℕ → List Mark → List Mark
 header i c r ms = plain token.Rounds ∷ plain (token.Number i) ∷ plain token.Channels ∷ plain (token.Number c)
     ∷ plain token.Registers ∷ plain (token.Number r) ∷ plain token.Start ∷ ms
@@ -127,9 +134,9 @@ body_ends i c r fits some few least most =
     }))
 
 program_ends : Ends (λ ms. ms) a_program
-program_ends = (omega arith, rounds, λ i _ fits. (omega arith, channels i, λ c some few. (omega arith, registers i c, λ r least most. body_ends i c r fits some few least most)))
+program_ends = (omega arith, rounds, λ i _ fits. (omega arith, channels i, λ c some few. (omega arith, registers i c, λ r. body_ends i c r fits some few)))
 
--- after one more token
+-- and after one more token
 abbrev EndsIf : (List Mark → List Mark) → Option Rest → Type 0
 EndsIf f None = Unit {0}
 EndsIf f (Some w) = Ends f w
@@ -153,7 +160,7 @@ ends_next f (AnExpression d w) t h range = ends_in_term f d w t h
 ends_next f (ANumber low high w) (token.Number n) h range = h.2 n range.0 range.1
 ends_next f (ANumber low high w) t h range = tt
 
--- a program with these first marks
+-- a program that has such first marks
 pub record Completed (f : List Mark → List Mark) : Type 0 where
   pub program : ProgramTree
   pub more : List Mark
@@ -163,6 +170,7 @@ pub record Completed (f : List Mark → List Mark) : Type 0 where
 one_earlier : (f : List Mark → List Mark) (m : Mark) → Completed (λ ms. f (m ∷ ms)) → Completed f
 one_earlier f m c = record { program = c.program; more = m ∷ c.more; each_register = c.each_register; are = c.are }
 
+-- some program that begins so
 completed : (w : Rest) (f : List Mark → List Mark) → Ends f w → Completed f
 completed (Nothing p) f h = record { program = p; more = []; each_register = h.each_register; are = h.are }
 completed (AToken t w) f h = one_earlier f (plain t) (completed w _ h)
@@ -184,8 +192,8 @@ abbrev pub after : Option Rest → Token → Option Rest
 after None t = None
 after (Some w) t = step w t
 
--- The tokens before a place lead to what is left; they have so many nodes, none of them too deep. Whatever comes next ends a program, and each program that
--- begins so goes on from here.
+-- The tokens before a place lead to what is left; they have so many nodes, none of them too deep.
+-- Whatever comes next ends a program, and each program that begins so goes on from here.
 pub record Place (before : List Token) (nodes : ℕ) (w : Rest) : Type 0 where
   pub reached : fold after (Some a_program) before ≡ Some w
   pub marks : List Mark
@@ -233,6 +241,7 @@ has_none : {p : ProgramTree} {w : Rest} {left : List Mark} → Leads p w left �
 has_none ended e = refl
 has_none (led u s range h) e = absurd (cc)
 
+-- so a program that begins with the tokens before a place
 pub next_of : {before : List Token} {nodes : ℕ} {w : Rest} (t : Token) (ts : List Token) (p : Place before nodes w) (q : ProgramTree) → IsProgram q → spelling q ≡ before ++ t ∷ ts →
     HasNext q p.marks t ts w
 next_of t ts p q each e = let g = p.goes_on q (t ∷ ts) each e in has_next t g.leads g.are g.tokens
@@ -246,15 +255,16 @@ counted_is (AToken s w) n t = omega arith
 counted_is (AnExpression d w) n t = rw (add-one d) (omega arith)
 counted_is (ANumber low high w) n t = omega arith
 
+-- the nodes after one more token, and the place there
 pub next_nodes : {before : List Token} {nodes : ℕ} {w : Rest} (t : Token) (p : Place before nodes w) → nodes_at (p.marks ++ node t (depth_next w) ∷ []) ≡ counted w nodes
 next_nodes {nodes = nodes} {w = w} t p =
     let here : Mark = node t (depth_next w) in
     sum_by-append (λ (m : Mark). one_at m.depth) p.marks (here ∷ []) ∙ ap (λ n. n + nodes_at (here ∷ [])) p.nodes_are ∙ counted_is w nodes t
 
+-- the tokens of these marks and of others
 unmarked_next : (xs : List Mark) (before : List Token) (ms : List Mark) → unmarked xs ≡ before → unmarked (xs ++ ms) ≡ before ++ unmarked ms
 unmarked_next xs before ms e = map-append (λ (x : Mark). x.token) xs ms ∙ ap (λ ts. ts ++ unmarked ms) e
 
--- after one more token
 pub next_place : {before : List Token} {nodes : ℕ} {w v : Rest} (t : Token) → Place before nodes w → step w t ≡ Some v →
     counted w nodes ≤ MAX_NODES → depth_next w ≤ MAX_DEPTH → InRange w t → Place (before ++ t ∷ []) (counted w nodes) v
 next_place {before} {nodes} {w} {v} t p s few shallow range =
@@ -303,6 +313,7 @@ viable_marks : {before : List Token} (p : ProgramTree) (ms more : List Mark) →
 viable_marks {before} p ms more each tokens are =
     record { program = p; more = unmarked more; each_register = each; spells = sym (unmarked_next ms before more tokens) ∙ ap unmarked (sym are) ∙ unmarked_program p }
 
+-- so those before a place, and those up to a node that begins in some program
 viable : {before : List Token} {nodes : ℕ} {w : Rest} → Place before nodes w → IsViable before
 viable {w = w} p = let c = completed w (λ ms. p.marks ++ ms) p.ends in viable_marks c.program p.marks c.more c.each_register p.tokens c.are
 
@@ -312,14 +323,13 @@ viable_node {before} {t} {depth} b =
     viable_marks b.program (b.marks_before ++ here ∷ []) b.marks_after b.each_register (unmarked_next b.marks_before before (here ∷ []) b.tokens_before)
     (b.are ∙ sym (append_assoc b.marks_before (here ∷ []) b.marks_after))
 
--- where nothing is left the marks are those of the program
+-- where nothing is left the marks are those of the program, with its nodes and its spelling
 pub whole_marks : {before : List Token} {nodes : ℕ} {q : ProgramTree} (p : Place before nodes (Nothing q)) → marks q ≡ p.marks
 whole_marks p = p.ends.are ∙ append-nil p.marks
 
 pub whole_nodes : {before : List Token} {nodes : ℕ} {q : ProgramTree} (p : Place before nodes (Nothing q)) → sum_by size (terms q) ≡ nodes
 whole_nodes {q = q} p = let m = program_matches q in sym m.nodes ∙ ap nodes_at (whole_marks p) ∙ p.nodes_are
 
--- and the tokens are its spelling
 pub whole : {before : List Token} {nodes : ℕ} {q : ProgramTree} → Place before nodes (Nothing q) → before ≡ spelling q
 whole {q = q} p = sym p.tokens ∙ ap unmarked (sym (whole_marks p)) ∙ unmarked_program q
 

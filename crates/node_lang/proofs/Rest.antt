@@ -1,4 +1,5 @@
--- What is left of a program after some tokens, how one token leads on, and that a program is read so; a whole program is what is left before its first token.
+-- What is left of a program after some tokens, how one token leads on, and that a program is read so.
+-- A whole program is what is left before its first token.
 use Rattle.std.proofs.Common.{ℕ, zero, suc, ◌+◌, ◌-◌, ◌==◌, nat_le, ◌&&◌, List, [], ◌∷◌, Option, Some, None, ◌≡◌, ◌<◌, Bool, true, false, ◌++◌, refl, ap, ◌∙◌, arith, append_assoc, append-nil}
 use Rattle.std.specs.Prelude.{if◌then◌else◌}
 use Rattle.std.proofs.lemmas.Bool.Decides.{nat_tests}
@@ -12,7 +13,8 @@ use Rattle.node_lang.specs.Reading.{same_token, fault_of, Read, Reader, Got, Fau
 use Rattle.node_lang.specs.Lexemes.{Lexeme}
 use Rattle.node_lang.proofs.Parsing.{operand_is}
 
--- Nothing, where the program is this one; or this token, an expression that is the operand of so many others, or a number of the header, and then the rest.
+-- Nothing, where the program is this one; or this token, an expression that is the operand of so many others,
+-- or a number of the header, and then the rest.
 pub data Rest : Type 0 where
   Nothing : ProgramTree → Rest
   AToken : Token → Rest → Rest
@@ -23,6 +25,7 @@ pub data Rest : Type 0 where
 abbrev an_operand : Token → ℕ → (Term → Rest) → Rest
 an_operand t d w = AToken t (AnExpression (d + 1) w)
 
+-- the end of an operation, and then the rest
 abbrev closed : Rest → Rest
 closed w = AToken token.Close w
 
@@ -69,6 +72,7 @@ limited (AnExpression d w) nodes t v =
 limited (ANumber low high w) nodes (token.Number n) v = if nat_le low n && nat_le n high then Goes v else Stops kind.HeaderRange
 limited w nodes t v = Goes v
 
+-- a token that may follow or not
 abbrev pub checked : Rest → ℕ → Token → Option Rest → Met
 checked w nodes t None = Stops (fault_of t)
 checked w nodes t (Some v) = limited w nodes t v
@@ -83,6 +87,7 @@ assignments zero j w = w []
 assignments (suc count) j w =
     AToken (token.Register j) (AToken token.Equals (AnExpression 0 (λ e. assignments count (j + 1) (λ es. w (e ∷ es)))))
 
+-- so many rounds of so many registers
 abbrev pub some_rounds : ℕ → ℕ → (List Step → Rest) → Rest
 some_rounds zero registers w = w []
 some_rounds (suc count) registers w = AToken token.Round (AToken token.Send (AToken token.Left (AnExpression 0 (λ left.
