@@ -7,5 +7,5 @@ pub mod PrintedTokens
 pub mod Assigned
 pub mod Rest
 pub mod Places
-pub mod Stepwise
+pub mod Marks
 pub mod Judging

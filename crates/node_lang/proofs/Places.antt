@@ -1,381 +1,455 @@
--- A place in a program: the tokens before it, and what is left of the program after them. What reading meets at the next token is the fault that stands there, or none.
-use Rattle.std.proofs.Common.{◌≡◌, ℕ, ◌+◌, ◌<◌, Option, Some, None, List, [], ◌∷◌, ◌++◌, length, append_assoc, append-nil, refl, sym, subst, ap, ◌∙◌, arith, add-one, ◌≢◌, zero, suc, ◌-◌, ◌≤◌, ◌==◌, nat_le, ◌&&◌, false, length-append, inl, inr}
-use Rattle.std.proofs.lemmas.List.{map-append, length-map}
-use Rattle.std.proofs.lemmas.List.Sums.{sum_by-append}
-use Rattle.node_lang.specs.declared.token.Token.{Token}
-use Rattle.node_lang.specs.Term.{ProgramTree}
-use Rattle.node_lang.specs.Grammar.{spelling}
-use Rattle.node_lang.specs.Viable.{IsProgram, IsViable, IsWhole, Mark, node, marks, unmarked, one_at, nodes_at, BeginsNode, IsOutside, IsOutOfRange, rounds, channels, registers, Stands, unknown, large, out_of_range, unexpected, too_deep, too_many}
-use Rattle.std.proofs.lemmas.Bool.{cases_order, cond_both}
+-- A place in a program: the tokens before it, and what is left of the program after them.
+-- What reading meets at the next token is the fault that stands there, or none.
+use Rattle.std.proofs.Common.{◌≡◌, ℕ, ◌+◌, ◌<◌, Option, Some, None, List, [], ◌∷◌, ◌++◌, length, take, drop, append_assoc, append-nil, refl, sym, subst, ap, ◌∙◌, arith, add-one, ◌≢◌, zero, suc, ◌-◌, ◌≤◌, ◌==◌, nat_le, ◌&&◌, true, false, inl, inr}
+use Rattle.std.specs.Prelude.{All, fold, sum_by}
+use Rattle.std.proofs.Math.Seq.{take-append_seam, drop-append_seam}
+use Rattle.std.proofs.lemmas.Bool.{cases_order, cond_both, eq-eqb}
 use Rattle.std.proofs.lemmas.Bool.Decides.{nat_tests}
+use Rattle.std.proofs.lemmas.List.{map-append, length-map}
+use Rattle.std.proofs.lemmas.List.Elements.{All-cons, All-nil, All-head, All-tail}
+use Rattle.std.proofs.lemmas.List.Sums.{sum_by-append, fold_push}
 use Rattle.node_lang.specs.declared.limits.TheConstants.{MAX_CHANNELS, MAX_DEPTH, MAX_NODES, MAX_REGISTERS, MAX_ROUNDS}
 use Rattle.node_lang.specs.declared.fault.FaultKind.{FaultKind}
 use Rattle.node_lang.specs.declared.fault.FaultKind.TheVariants as kind
+use Rattle.node_lang.specs.declared.token.Token.{Token}
 use Rattle.node_lang.specs.declared.token.Token.TheVariants as token
+use Rattle.node_lang.specs.Term.{Term, Literal, Identifier, LeftMessage, RightMessage, RegisterValue, Unary, Binary, Conditional, Step, ProgramTree, size, terms}
+use Rattle.node_lang.specs.Limits.{IsSmall, IsWithinLimits}
+use Rattle.node_lang.specs.Grammar.{spelling}
 use Rattle.node_lang.specs.Reading.{fault_of, same_token}
-use Rattle.node_lang.proofs.Rest.{Rest, Nothing, AToken, AnExpression, ANumber, Filling, filled, Further, step, depth_next, counted, Begins, First, first, leads_on, some_filling, Met, Stops, Goes, limited, checked, meets, Within, IsBehind, leads, LeadsIf, known_next, known_meets, a_program, tree, tree_is, filling_of, some_rounds, assignments, a_body, a_finish, unmarked_program}
+use Rattle.node_lang.specs.Viable.{IsProgram, IsViable, Mark, node, plain, marked, marked_assignments, marked_blocks, marks, unmarked, one_at, nodes_at, BeginsNode, IsOutside, IsOutOfRange, rounds, channels, registers, Stands, unknown, large, out_of_range, unexpected, too_deep, too_many}
 use Rattle.node_lang.proofs.Parsing.{same_token_is}
+use Rattle.node_lang.proofs.Rest.{Rest, Nothing, AToken, AnExpression, ANumber, following, step, depth_next, counted, Met, Stops, Goes, limited, checked, meets, assignments, some_rounds, a_body, a_program}
+use Rattle.node_lang.proofs.Marks.{Shallow, shallow_more, program_matches}
 
--- a filling of the rest with these tokens, by which these marks go on to all of them
-pub record GoesOn (before all : List Mark) (ts : List Token) (w : Rest) : Type 0 where
-  pub left : Filling w
-  pub is : all ≡ before ++ filled w left
-  pub tokens : unmarked (filled w left) ≡ ts
+-- a number of the header that is next, in its range
+abbrev pub InRange : Rest → Token → Type 0
+InRange (ANumber low high w) (token.Number n) = (low ≤ n) × (n ≤ high)
+InRange w t = Unit {0}
 
--- Programs that begin with these tokens have this many nodes there, and go on with the fillings of the rest.
+-- and out of it
+abbrev IsOut : Rest → Token → Type 0
+IsOut (ANumber low high w) (token.Number n) = IsOutside low high n
+IsOut w t = ⊥
+
+-- These marks lead from what is left to the end of a program: each is that of a token that can come next,
+-- in its range where the program is within the limits.
+pub data Leads (p : ProgramTree) : Rest → List Mark → Type 0 where
+  ended : Leads p (Nothing p) []
+  led : {w v : Rest} {ms : List Mark} (t : Token) → step w t ≡ Some v → (IsWithinLimits p → InRange w t) → Leads p v ms →
+      Leads p w (node t (depth_next w) ∷ ms)
+
+-- so do those of a token, an expression, assignments and rounds, and of a program from its beginning
+token_leads : {p : ProgramTree} {w : Rest} {ms : List Mark} (t : Token) → same_token t t ≡ true → Leads p w ms → Leads p (AToken t w) (plain t ∷ ms)
+token_leads {w = w} t same h = led t (rw same refl) (λ _. tt) h
+
+term_leads : {p : ProgramTree} (e : Term) (d : ℕ) (w : Term → Rest) {ms : List Mark} → Leads p (w e) ms → Leads p (AnExpression d w) (marked e (d + 1) ms)
+term_leads (Unary o a) d w h =
+    led (token.Unary o) refl (λ _. tt) (token_leads token.Open refl (term_leads a (d + 1) _ (token_leads token.Close refl h)))
+term_leads (Binary o a b) d w h =
+    led (token.Binary o) refl (λ _. tt) (token_leads token.Open refl (term_leads a (d + 1) _
+    (token_leads token.Comma refl (term_leads b (d + 1) _ (token_leads token.Close refl h)))))
+term_leads (Conditional c a b) d w h =
+    led token.If refl (λ _. tt) (token_leads token.Open refl (term_leads c (d + 1) _ (token_leads token.Comma refl
+    (term_leads a (d + 1) _ (token_leads token.Comma refl (term_leads b (d + 1) _ (token_leads token.Close refl h)))))))
+term_leads e d w h = led _ refl (λ _. tt) h
+
+assignments_lead : {p : ProgramTree} {ms : List Mark} (es : List Term) (count j : ℕ) (w : List Term → Rest) → length es ≡ count → Leads p (w es) ms →
+    Leads p (assignments count j w) (marked_assignments j es ms)
+assignments_lead [] zero j w many h = h
+assignments_lead (e ∷ es) (suc count) j w many h =
+    token_leads (token.Register j) (eq-eqb j j refl) (token_leads token.Equals refl (term_leads e 0 _
+    (assignments_lead es count (j + 1) (λ es. w (e ∷ es)) (omega (arith, many)) h)))
+assignments_lead es count j w many h = absurd (cc)
+
+rounds_lead : {p : ProgramTree} {ms : List Mark} (ss : List Step) (many : ℕ) (w : List Step → Rest) → All (λ s. length s.next ≡ many) ss → Leads p (w ss) ms →
+    Leads p (some_rounds (length ss) many w) (marked_blocks ss ms)
+rounds_lead [] many w each h = h
+rounds_lead (s ∷ ss) many w each h =
+    let here = All-head (λ (s : Step). length s.next ≡ many) s ss each in
+    let others = rounds_lead ss many (λ ss. w (s ∷ ss)) (All-tail (λ (s : Step). length s.next ≡ many) s ss each) h in
+    token_leads token.Round refl (token_leads token.Send refl (token_leads token.Left refl (term_leads s.left 0 _
+    (token_leads token.Send refl (token_leads token.Right refl (term_leads s.right 0 _ (assignments_lead s.next many 0 _ here others)))))))
+
+program_leads : (p : ProgramTree) → IsProgram p → Leads p a_program (marks p)
+program_leads p each =
+    let finish = token_leads token.Finish refl (term_leads p.finish 0 _ ended) in
+    let body = assignments_lead p.start (length p.start) 0 _ refl (rounds_lead p.steps (length p.start) _ each finish) in
+    token_leads token.Rounds refl (led (token.Number (length p.steps)) refl (λ l. (omega arith, l.rounds))
+    (token_leads token.Channels refl (led (token.Number p.channels) refl (λ l. (l.some_channels, l.few_channels))
+    (token_leads token.Registers refl (led (token.Number (length p.start)) refl (λ l. (l.some_registers, l.few_registers)) (token_leads token.Start refl body))))))
+
+-- a program with these marks, and with numbers of the header in their ranges
+pub record IsEnd (p : ProgramTree) (ms : List Mark) : Type 0 where
+  pub each_register : IsProgram p
+  pub limits : All IsSmall (terms p) → sum_by size (terms p) ≤ MAX_NODES → IsWithinLimits p
+  pub are : marks p ≡ ms
+
+-- Whatever comes next, these marks are the first ones of a program that ends so; f puts them in front of others.
+abbrev pub Ends : (List Mark → List Mark) → Rest → Type 0
+Ends f (Nothing p) = IsEnd p (f [])
+Ends f (AToken t w) = Ends (λ ms. f (plain t ∷ ms)) w
+Ends f (AnExpression d w) = (e : Term) → Ends (λ ms. f (marked e (d + 1) ms)) (w e)
+Ends f (ANumber low high w) = (low ≤ high) × ((n : ℕ) → IsOutside low high n → IsOutOfRange (unmarked (f [])) (token.Number n))
+    × ((n : ℕ) → low ≤ n → n ≤ high → Ends (λ ms. f (plain (token.Number n) ∷ ms)) (w n))
+
+-- so it is where each list of assignments, and of rounds, that can come next is followed so
+assignments_end : (count j : ℕ) (f : List Mark → List Mark) (w : List Term → Rest) →
+    ((es : List Term) → length es ≡ count → Ends (λ ms. f (marked_assignments j es ms)) (w es)) → Ends f (assignments count j w)
+assignments_end zero j f w h = h [] refl
+assignments_end (suc count) j f w h = λ e.
+    assignments_end count (j + 1) (λ ms. f (plain (token.Register j) ∷ plain token.Equals ∷ marked e 1 ms)) (λ es. w (e ∷ es)) (λ es many. h (e ∷ es) (ap suc many))
+
+rounds_end : (count many : ℕ) (f : List Mark → List Mark) (w : List Step → Rest) →
+    ((ss : List Step) → length ss ≡ count → All (λ s. length s.next ≡ many) ss → Ends (λ ms. f (marked_blocks ss ms)) (w ss)) → Ends f (some_rounds count many w)
+rounds_end zero many f w h = h [] refl (All-nil (λ (s : Step). length s.next ≡ many))
+rounds_end (suc count) many f w h = λ left right.
+    let put : List Mark → List Mark = λ ms. f (plain token.Round ∷ plain token.Send ∷ plain token.Left
+    ∷ marked left 1 (plain token.Send ∷ plain token.Right ∷ marked right 1 ms)) in
+    assignments_end many 0 put _ (λ next full.
+    rounds_end count many (λ ms. put (marked_assignments 0 next ms)) _ (λ ss counts each.
+    let s : Step = record { left = left; right = right; next = next } in
+    h (s ∷ ss) (ap suc counts) (All-cons (λ (s : Step). length s.next ≡ many) s ss full each)))
+
+-- the header's marks, in front of others
+abbrev header : ℕ → ℕ → ℕ → List Mark → List Mark
+header i c r ms = plain token.Rounds ∷ plain (token.Number i) ∷ plain token.Channels ∷ plain (token.Number c)
+    ∷ plain token.Registers ∷ plain (token.Number r) ∷ plain token.Start ∷ ms
+
+body_ends : (i c r : ℕ) → i ≤ MAX_ROUNDS → 1 ≤ c → c ≤ MAX_CHANNELS → 1 ≤ r → r ≤ MAX_REGISTERS → Ends (header i c r) (a_body i c r)
+body_ends i c r fits some few least most =
+    assignments_end r 0 (header i c r) _ (λ start many. rounds_end i r (λ ms. header i c r (marked_assignments 0 start ms)) _ (λ steps counts each finish. record {
+      each_register = rw many each;
+      limits = λ small nodes. record {
+        rounds = omega (arith, counts, fits);
+        some_channels = some;
+        few_channels = few;
+        some_registers = omega (arith, many, least);
+        few_registers = omega (arith, many, most);
+        each_register = rw many each;
+        small = small;
+        nodes = nodes;
+      };
+      are = rw (many, counts) refl;
+    }))
+
+program_ends : Ends (λ ms. ms) a_program
+program_ends = (omega arith, rounds, λ i _ fits. (omega arith, channels i, λ c some few. (omega arith, registers i c, λ r. body_ends i c r fits some few)))
+
+-- and after one more token
+abbrev EndsIf : (List Mark → List Mark) → Option Rest → Type 0
+EndsIf f None = Unit {0}
+EndsIf f (Some w) = Ends f w
+
+ends_in_term : (f : List Mark → List Mark) (d : ℕ) (w : Term → Rest) (t : Token) → Ends f (AnExpression d w) → EndsIf (λ ms. f (node t (d + 1) ∷ ms)) (following d w t)
+ends_in_term f d w (token.Number n) h = h (Literal n)
+ends_in_term f d w token.Id h = h Identifier
+ends_in_term f d w token.FromLeft h = h LeftMessage
+ends_in_term f d w token.FromRight h = h RightMessage
+ends_in_term f d w (token.Register j) h = h (RegisterValue j)
+ends_in_term f d w (token.Unary o) h = λ a. h (Unary o a)
+ends_in_term f d w (token.Binary o) h = λ a b. h (Binary o a b)
+ends_in_term f d w token.If h = λ c a b. h (Conditional c a b)
+ends_in_term f d w t h = tt
+
+ends_next : (f : List Mark → List Mark) (w : Rest) (t : Token) → Ends f w → InRange w t → EndsIf (λ ms. f (node t (depth_next w) ∷ ms)) (step w t)
+ends_next f (Nothing p) t h range = tt
+ends_next f (AToken s w) t h range = cond_both (same_token t s) (Some w) None (EndsIf (λ ms. f (plain t ∷ ms)))
+    (λ is. subst (λ u. Ends (λ ms. f (plain u ∷ ms)) w) (sym (same_token_is t s is)) h) (λ _. tt)
+ends_next f (AnExpression d w) t h range = ends_in_term f d w t h
+ends_next f (ANumber low high w) (token.Number n) h range = h.2 n range.0 range.1
+ends_next f (ANumber low high w) t h range = tt
+
+-- a program that has such first marks
+pub record Completed (f : List Mark → List Mark) : Type 0 where
+  pub program : ProgramTree
+  pub more : List Mark
+  pub each_register : IsProgram program
+  pub are : marks program ≡ f more
+
+one_earlier : (f : List Mark → List Mark) (m : Mark) → Completed (λ ms. f (m ∷ ms)) → Completed f
+one_earlier f m c = record { program = c.program; more = m ∷ c.more; each_register = c.each_register; are = c.are }
+
+-- some program that begins so
+completed : (w : Rest) (f : List Mark → List Mark) → Ends f w → Completed f
+completed (Nothing p) f h = record { program = p; more = []; each_register = h.each_register; are = h.are }
+completed (AToken t w) f h = one_earlier f (plain t) (completed w _ h)
+completed (AnExpression d w) f h = one_earlier f (node token.Id (d + 1)) (completed (w Identifier) _ (h Identifier))
+completed (ANumber low high w) f h = one_earlier f (plain (token.Number low)) (completed (w low) _ (h.2 low (omega arith) h.0))
+
+unmarked_program : (p : ProgramTree) → unmarked (marks p) ≡ spelling p
+unmarked_program p = let m = program_matches p in m.tokens
+
+-- A program that begins with these marks goes on with others, which have these tokens.
+pub record GoesOn (p : ProgramTree) (before : List Mark) (ts : List Token) (w : Rest) : Type 0 where
+  pub left : List Mark
+  pub are : marks p ≡ before ++ left
+  pub tokens : unmarked left ≡ ts
+  pub leads : Leads p w left
+
+-- what is left after this token
+abbrev pub after : Option Rest → Token → Option Rest
+after None t = None
+after (Some w) t = step w t
+
+-- The tokens before a place lead to what is left; they have so many nodes, none of them too deep.
+-- Whatever comes next ends a program, and each program that begins so goes on from here.
 pub record Place (before : List Token) (nodes : ℕ) (w : Rest) : Type 0 where
+  pub reached : fold after (Some a_program) before ≡ Some w
   pub marks : List Mark
   pub tokens : unmarked marks ≡ before
   pub nodes_are : nodes_at marks ≡ nodes
-  pub into : (x : Filling w) → (y : Filling a_program) × (filled a_program y ≡ marks ++ filled w x)
-  pub out : (y : Filling a_program) (ts : List Token) → unmarked (filled a_program y) ≡ before ++ ts → GoesOn marks (filled a_program y) ts w
+  pub few : nodes ≤ MAX_NODES
+  pub shallow : Shallow marks
+  pub ends : Ends (λ ms. marks ++ ms) w
+  pub goes_on : (p : ProgramTree) (ts : List Token) → IsProgram p → spelling p ≡ before ++ ts → GoesOn p marks ts w
 
 -- the place before all tokens
 pub first_place : Place [] 0 a_program
 first_place = record {
+  reached = refl;
   marks = [];
   tokens = refl;
   nodes_are = refl;
-  into = λ x. (x, refl);
-  out = λ y ts e. record { left = y; is = refl; tokens = e };
+  few = omega arith;
+  shallow = tt;
+  ends = program_ends;
+  goes_on = λ p ts each e. record { left = marks p; are = refl; tokens = unmarked_program p ∙ e; leads = program_leads p each };
 }
 
--- how a filling whose first token is this one begins
-pub first_is : (w : Rest) (x : Filling w) (t : Token) (ts : List Token) → unmarked (filled w x) ≡ t ∷ ts → Begins w x t (step w t)
-first_is w x t ts e = go (filled w x) refl e
-  where
-    go : (all : List Mark) → filled w x ≡ all → unmarked all ≡ t ∷ ts → Begins w x t (step w t)
-    go [] is e = absurd (cc)
-    go (m ∷ ms) is e =
-        let same : m.token ≡ t = cc in
-        let here : First w x (m ∷ ms) = subst (First w x) is (first w x) in
-        subst (λ u. Begins w x u (step w u)) same here.1
+-- a program that has this token next
+pub record HasNext (p : ProgramTree) (before : List Mark) (t : Token) (ts : List Token) (w : Rest) : Type 0 where
+  pub rest : Rest
+  pub steps : step w t ≡ Some rest
+  pub range : IsWithinLimits p → InRange w t
+  pub after : GoesOn p (before ++ node t (depth_next w) ∷ []) ts rest
 
--- its token can come next
-pub steps_on : (w : Rest) (x : Filling w) (t : Token) (o : Option (Further w)) → Begins w x t o → (m : Further w) × (o ≡ Some m)
-steps_on w x t None b = absurd b
-steps_on w x t (Some m) b = (m, refl)
+has_next : {p : ProgramTree} {before left : List Mark} {ts : List Token} {w : Rest} (t : Token) → Leads p w left → marks p ≡ before ++ left → unmarked left ≡ t ∷ ts →
+    HasNext p before t ts w
+has_next t ended are e = absurd (cc)
+has_next {p} {before} {ts = ts} {w = w} t (led {ms = ms} u s range h) are e =
+    let same : u ≡ t = cc in
+    subst (λ u. HasNext p before u ts w) same (record {
+      rest = _;
+      steps = s;
+      range = range;
+      after = record { left = ms; are = are ∙ sym (append_assoc before (node u (depth_next w) ∷ []) ms); tokens = cc; leads = h };
+    })
+
+-- and one that has none
+has_none : {p : ProgramTree} {w : Rest} {left : List Mark} → Leads p w left → unmarked left ≡ [] → w ≡ Nothing p
+has_none ended e = refl
+has_none (led u s range h) e = absurd (cc)
+
+-- so a program that begins with the tokens before a place
+pub next_of : {before : List Token} {nodes : ℕ} {w : Rest} (t : Token) (ts : List Token) (p : Place before nodes w) (q : ProgramTree) → IsProgram q → spelling q ≡ before ++ t ∷ ts →
+    HasNext q p.marks t ts w
+next_of t ts p q each e = let g = p.goes_on q (t ∷ ts) each e in has_next t g.leads g.are g.tokens
+
+pub none_of : {before : List Token} {nodes : ℕ} {w : Rest} → Place before nodes w → (q : ProgramTree) → IsProgram q → spelling q ≡ before → w ≡ Nothing q
+none_of {before} p q each e = let g = p.goes_on q [] each (e ∙ sym (append-nil before)) in has_none g.leads g.tokens
 
 counted_is : (w : Rest) (n : ℕ) (t : Token) → n + nodes_at (node t (depth_next w) ∷ []) ≡ counted w n
-counted_is Nothing n t = omega arith
-counted_is (AToken s same w) n t = omega arith
+counted_is (Nothing p) n t = omega arith
+counted_is (AToken s w) n t = omega arith
 counted_is (AnExpression d w) n t = rw (add-one d) (omega arith)
 counted_is (ANumber low high w) n t = omega arith
 
--- after one more token
-pub next_place : {before : List Token} {nodes : ℕ} {w : Rest} {m : Further w} (t : Token) → Place before nodes w → step w t ≡ Some m →
-    Place (before ++ t ∷ []) (counted w nodes) m.rest
-next_place {before} {nodes} {w} {m} t p s =
-    let lead = leads_on w t m s in
-    let here = node t (depth_next w) in
-    let further : (x : Filling m.rest) → p.marks ++ filled w (m.whole x) ≡ (p.marks ++ here ∷ []) ++ filled m.rest x =
-    λ x. ap (λ ms. p.marks ++ ms) (lead.marks x) ∙ sym (append_assoc p.marks (here ∷ []) (filled m.rest x)) in
-    record {
-      marks = p.marks ++ here ∷ [];
-      tokens = map-append (λ (m : Mark). m.token) p.marks (here ∷ []) ∙ ap (λ ts. ts ++ t ∷ []) p.tokens;
-      nodes_are = sum_by-append (λ (m : Mark). one_at m.depth) p.marks (here ∷ []) ∙ ap (λ n. n + nodes_at (here ∷ [])) p.nodes_are ∙ counted_is w nodes t;
-      into = λ x. let y = p.into (m.whole x) in (y.0, y.1 ∙ further x);
-      out = λ y ts e.
-          let g = p.out y (t ∷ ts) (e ∙ append_assoc before (t ∷ []) ts) in
-          let b = subst (Begins w g.left t) s (first_is w g.left t ts g.tokens) in
-          let is : filled w g.left ≡ here ∷ filled m.rest b.0 = ap (filled w) (sym b.1) ∙ lead.marks b.0 in
-          let tokens : t ∷ unmarked (filled m.rest b.0) ≡ t ∷ ts = ap unmarked (sym is) ∙ g.tokens in
-          record { left = b.0; is = g.is ∙ ap (λ x. p.marks ++ filled w x) (sym b.1) ∙ further b.0; tokens = cc };
-    }
+-- the nodes after one more token, and the place there
+pub next_nodes : {before : List Token} {nodes : ℕ} {w : Rest} (t : Token) (p : Place before nodes w) → nodes_at (p.marks ++ node t (depth_next w) ∷ []) ≡ counted w nodes
+next_nodes {nodes = nodes} {w = w} t p =
+    let here : Mark = node t (depth_next w) in
+    sum_by-append (λ (m : Mark). one_at m.depth) p.marks (here ∷ []) ∙ ap (λ n. n + nodes_at (here ∷ [])) p.nodes_are ∙ counted_is w nodes t
 
--- a list in two parts has its first elements in one way
-same_front : {A : Type 0} (xs ys vs ws : List A) → length xs ≡ length ys → xs ++ vs ≡ ys ++ ws → (xs ≡ ys) × (vs ≡ ws)
-same_front [] [] vs ws n e = (refl, e)
-same_front (x ∷ xs) (y ∷ ys) vs ws n e =
-    let rest = same_front xs ys vs ws (omega (arith, n)) (cc) in
-    let first : x ≡ y = cc in
-    let others : xs ≡ ys = rest.0 in
-    (cc, rest.1)
-same_front [] (y ∷ ys) vs ws n e = absurd (omega (arith, n))
-same_front (x ∷ xs) [] vs ws n e = absurd (omega (arith, n))
-
+-- the tokens of these marks and of others
 unmarked_next : (xs : List Mark) (before : List Token) (ms : List Mark) → unmarked xs ≡ before → unmarked (xs ++ ms) ≡ before ++ unmarked ms
 unmarked_next xs before ms e = map-append (λ (x : Mark). x.token) xs ms ∙ ap (λ ts. ts ++ unmarked ms) e
 
-pub no_tokens : (ms : List Mark) → unmarked ms ≡ [] → ms ≡ []
-no_tokens [] e = refl
-no_tokens (m ∷ ms) e = absurd (cc)
+pub next_place : {before : List Token} {nodes : ℕ} {w v : Rest} (t : Token) → Place before nodes w → step w t ≡ Some v →
+    counted w nodes ≤ MAX_NODES → depth_next w ≤ MAX_DEPTH → InRange w t → Place (before ++ t ∷ []) (counted w nodes) v
+next_place {before} {nodes} {w} {v} t p s few shallow range =
+    let here = node t (depth_next w) in
+    record {
+      reached = fold_push after (Some a_program) before t ∙ ap (λ o. after o t) p.reached ∙ s;
+      marks = p.marks ++ here ∷ [];
+      tokens = unmarked_next p.marks before (here ∷ []) p.tokens;
+      nodes_are = next_nodes t p;
+      few = few;
+      shallow = shallow_more p.marks here p.shallow shallow;
+      ends = subst (λ f. Ends f v) (λ i ms. sym (append_assoc p.marks (here ∷ []) ms) i)
+          (subst (EndsIf (λ ms. p.marks ++ here ∷ ms)) s (ends_next (λ ms. p.marks ++ ms) w t p.ends range));
+      goes_on = λ q ts each e.
+          let n = next_of t ts p q each (e ∙ append_assoc before (t ∷ []) ts) in
+          let same : n.rest ≡ v = cc in
+          subst (GoesOn q (p.marks ++ here ∷ []) ts) same n.after;
+    }
 
--- the marks of a filling are those of the program, whose tokens are its spelling
-pub spells : (x : Filling a_program) → unmarked (filled a_program x) ≡ spelling (tree x)
-spells x = ap unmarked (tree_is x).marks ∙ unmarked_program (tree x)
-
--- a program that begins so goes on with a filling of the rest
-goes_on : {before ts : List Token} {nodes : ℕ} {w : Rest} → (p : Place before nodes w) (q : ProgramTree) → IsProgram q → unmarked (marks q) ≡ before ++ ts → GoesOn p.marks (marks q) ts w
-goes_on {ts = ts} {w = w} p q each e =
-    let x = filling_of q each in
-    let is : filled a_program x.0 ≡ marks q = (tree_is x.0).marks ∙ ap marks x.1 in
-    subst (λ ms. GoesOn p.marks ms ts w) is (p.out x.0 ts (ap unmarked is ∙ e))
-
--- a program that goes on with this filling
-pub record Completed (before : List Mark) (ms : List Mark) : Type 0 where
-  pub program : ProgramTree
-  pub each_register : IsProgram program
-  pub are : marks program ≡ before ++ ms
-
-pub completed : {before : List Token} {nodes : ℕ} {w : Rest} (p : Place before nodes w) (x : Filling w) → Completed p.marks (filled w x)
-completed p x =
-    let y = p.into x in
-    record { program = tree y.0; each_register = (tree_is y.0).each_register; are = sym (tree_is y.0).marks ∙ y.1 }
+-- a list in two parts has its first elements, and the one after them, in one way
+same_front : {A : Type 0} (xs ys vs ws : List A) (v w : A) → length xs ≡ length ys → xs ++ v ∷ vs ≡ ys ++ w ∷ ws → (xs ≡ ys) × (v ≡ w)
+same_front xs ys vs ws v w n e =
+    let after = sym (drop-append_seam xs (v ∷ vs)) ∙ (λ i. drop (n i) (e i)) ∙ drop-append_seam ys (w ∷ ws) in
+    (sym (take-append_seam xs (v ∷ vs)) ∙ (λ i. take (n i) (e i)) ∙ take-append_seam ys (w ∷ ws), cc (after))
 
 -- a node that begins in some program is the one that the rest wants, after so many nodes
-pub record IsWanted (t : Token) (depth count nodes : ℕ) (w : Rest) : Type 0 where
-  pub further : Further w
-  pub steps : step w t ≡ Some further
+record IsWanted (t : Token) (depth count nodes : ℕ) (w : Rest) : Type 0 where
+  pub rest : Rest
+  pub steps : step w t ≡ Some rest
   pub depth_is : depth ≡ depth_next w
   pub count_is : count ≡ nodes
 
-pub begun : {before : List Token} {nodes depth count : ℕ} {t : Token} {w : Rest} → Place before nodes w → BeginsNode before t depth count → IsWanted t depth count nodes w
-begun {before} {nodes} {depth} {t = t} {w = w} p b =
+wanted : {before : List Token} {nodes depth count : ℕ} {t : Token} {w : Rest} → Place before nodes w → BeginsNode before t depth count → IsWanted t depth count nodes w
+wanted {before} {depth = depth} {t = t} {w = w} p b =
     let here : Mark = node t depth in
     let tokens = unmarked_next b.marks_before before (here ∷ b.marks_after) b.tokens_before in
-    let g = goes_on p b.program b.each_register (ap unmarked b.are ∙ tokens) in
+    let n = next_of t (unmarked b.marks_after) p b.program b.each_register (sym (unmarked_program b.program) ∙ ap unmarked b.are ∙ tokens) in
     let lengths : length p.marks ≡ length b.marks_before =
     sym (length-map p.marks (λ (m : Mark). m.token)) ∙ ap length (p.tokens ∙ sym b.tokens_before) ∙ length-map b.marks_before (λ (m : Mark). m.token) in
-    let same = same_front p.marks b.marks_before (filled w g.left) (here ∷ b.marks_after) lengths (sym g.is ∙ b.are) in
-    let opens = subst (First w g.left) same.1 (first w g.left) in
-    let further = steps_on w g.left t (step w t) opens.1 in
-    record { further = further.0; steps = further.1; depth_is = opens.0; count_is = sym b.nodes_are ∙ ap nodes_at (sym same.0) ∙ p.nodes_are }
+    let there : Mark = node t (depth_next w) in
+    let same = same_front p.marks b.marks_before n.after.left b.marks_after there here lengths (sym (n.after.are ∙ append_assoc p.marks (there ∷ []) n.after.left) ∙ b.are) in
+    record { rest = n.rest; steps = n.steps; depth_is = ap (λ m. m.depth) (sym same.1); count_is = sym b.nodes_are ∙ ap nodes_at (sym same.0) ∙ p.nodes_are }
 
--- a token that some program has next
-pub viable_steps : {before : List Token} {nodes : ℕ} {w : Rest} (t : Token) → Place before nodes w → IsViable (before ++ t ∷ []) → (m : Further w) × (step w t ≡ Some m)
-viable_steps {before} {w = w} t p v =
-    let g = goes_on p v.program v.each_register (unmarked_program v.program ∙ sym v.spells ∙ append_assoc before (t ∷ []) v.more) in
-    steps_on w g.left t (step w t) (first_is w g.left t v.more g.tokens)
+-- tokens with which some program begins
+viable_marks : {before : List Token} (p : ProgramTree) (ms more : List Mark) → IsProgram p → unmarked ms ≡ before → marks p ≡ ms ++ more → IsViable before
+viable_marks {before} p ms more each tokens are =
+    record { program = p; more = unmarked more; each_register = each; spells = sym (unmarked_next ms before more tokens) ∙ ap unmarked (sym are) ∙ unmarked_program p }
 
--- at a whole program nothing is left
-pub whole_nothing : {before : List Token} {nodes : ℕ} {w : Rest} → Place before nodes w → IsWhole before → w ≡ Nothing
-whole_nothing {before} {w = w} p v =
-    let g = goes_on p v.program v.each_register (unmarked_program v.program ∙ sym v.spells ∙ sym (append-nil before)) in
-    subst (First w g.left) (no_tokens (filled w g.left) g.tokens) (first w g.left)
+-- so those before a place, and those up to a node that begins in some program
+viable : {before : List Token} {nodes : ℕ} {w : Rest} → Place before nodes w → IsViable before
+viable {w = w} p = let c = completed w (λ ms. p.marks ++ ms) p.ends in viable_marks c.program p.marks c.more c.each_register p.tokens c.are
 
--- a token that can come next is the next one of some program
-pub viable : {before : List Token} {nodes : ℕ} {w : Rest} {m : Further w} (t : Token) → Place before nodes w → step w t ≡ Some m → IsViable (before ++ t ∷ [])
-viable {before} {m = m} t p s =
-    let next = next_place t p s in
-    let c = completed next (some_filling m.rest) in
-    record {
-      program = c.program;
-      more = unmarked (filled m.rest (some_filling m.rest));
-      each_register = c.each_register;
-      spells = sym (unmarked_next next.marks (before ++ t ∷ []) _ next.tokens) ∙ ap unmarked (sym c.are) ∙ unmarked_program c.program;
-    }
+viable_node : {before : List Token} {t : Token} {depth count : ℕ} → BeginsNode before t depth count → IsViable (before ++ t ∷ [])
+viable_node {before} {t} {depth} b =
+    let here : Mark = node t depth in
+    viable_marks b.program (b.marks_before ++ here ∷ []) b.marks_after b.each_register (unmarked_next b.marks_before before (here ∷ []) b.tokens_before)
+    (b.are ∙ sym (append_assoc b.marks_before (here ∷ []) b.marks_after))
 
--- where nothing is left the tokens are a program
-pub whole : {before : List Token} {nodes : ℕ} → Place before nodes Nothing → IsWhole before
-whole p =
-    let c = completed p tt in
-    record {
-      program = c.program;
-      each_register = c.each_register;
-      spells = sym p.tokens ∙ ap unmarked (sym (append-nil p.marks) ∙ sym c.are) ∙ unmarked_program c.program;
-    }
+-- where nothing is left the marks are those of the program, with its nodes and its spelling
+pub whole_marks : {before : List Token} {nodes : ℕ} {q : ProgramTree} (p : Place before nodes (Nothing q)) → marks q ≡ p.marks
+whole_marks p = p.ends.are ∙ append-nil p.marks
 
--- and a node that can come next begins in some program
-pub begins_node : {before : List Token} {nodes : ℕ} {w : Rest} {t : Token} {m : Further w} → Place before nodes w → step w t ≡ Some m → 0 < depth_next w →
-    BeginsNode before t (depth_next w) nodes
-begins_node {w = w} {t = t} {m = m} p s deep =
-    let x = some_filling m.rest in
-    let c = completed p (m.whole x) in
+pub whole_nodes : {before : List Token} {nodes : ℕ} {q : ProgramTree} (p : Place before nodes (Nothing q)) → sum_by size (terms q) ≡ nodes
+whole_nodes {q = q} p = let m = program_matches q in sym m.nodes ∙ ap nodes_at (whole_marks p) ∙ p.nodes_are
+
+pub whole : {before : List Token} {nodes : ℕ} {q : ProgramTree} → Place before nodes (Nothing q) → before ≡ spelling q
+whole {q = q} p = sym p.tokens ∙ ap unmarked (sym (whole_marks p)) ∙ unmarked_program q
+
+-- a node that can come next begins in some program
+begins_node : {before : List Token} {nodes d : ℕ} {w : Term → Rest} {v : Rest} (t : Token) → Place before nodes (AnExpression d w) → following d w t ≡ Some v →
+    BeginsNode before t (d + 1) nodes
+begins_node {d = d} {w = w} {v = v} t p s =
+    let f : List Mark → List Mark = λ ms. p.marks ++ node t (d + 1) ∷ ms in
+    let c = completed v f (subst (EndsIf f) s (ends_in_term (λ ms. p.marks ++ ms) d w t p.ends)) in
     record {
       program = c.program;
       marks_before = p.marks;
-      marks_after = filled m.rest x;
+      marks_after = c.more;
       each_register = c.each_register;
-      are = c.are ∙ ap (λ ms. p.marks ++ ms) ((leads_on w t m s).marks x);
+      are = c.are;
       tokens_before = p.tokens;
-      is_node = deep;
+      is_node = omega arith;
       nodes_are = p.nodes_are;
     }
 
--- a number of the header that is next and out of its range
-abbrev OutOf : ℕ → ℕ → Token → Type 0
-OutOf low high (token.Number n) = IsOutside low high n
-OutOf low high t = ⊥
+-- the header's number that is out of its range after these tokens is the one that is next
+abbrev IsOutIf : Option Rest → Token → Type 0
+IsOutIf None t = ⊥
+IsOutIf (Some w) t = IsOut w t
 
-abbrev pub IsOut : Rest → Token → Type 0
-IsOut (ANumber low high w) t = OutOf low high t
-IsOut w t = ⊥
+next_out : {before : List Token} {t : Token} {w : Rest} → IsOutOfRange before t → fold after (Some a_program) before ≡ Some w → IsOut w t
+next_out (rounds n h) e = subst (λ o. IsOutIf o (token.Number n)) e h
+next_out (channels i n h) e = subst (λ o. IsOutIf o (token.Number n)) e h
+next_out (registers i c n h) e = subst (λ o. IsOutIf o (token.Number n)) e h
 
--- the numbers out of range after these tokens
-pub record Ranges (before : List Token) (w : Rest) : Type 0 where
-  pub out : (t : Token) → IsOut w t → IsOutOfRange before t
-  pub only : (t : Token) → IsOutOfRange before t → IsOut w t
+-- a number out of its range is a token that can come next, and refused
+out_met : (w : Rest) (n : ℕ) (t : Token) → IsOut w t → meets w n t ≡ Stops kind.HeaderRange
+out_met (ANumber low high w) n (token.Number k) o = elim o [ inl below ↦ grind (arith, nat_tests) | inr above ↦ grind (arith, nat_tests) ]
+out_met w n t o = absurd o
 
--- here and at each later place
-abbrev pub Ranged : List Token → Rest → Type 0
-Ranged before Nothing = 7 ≤ length before
-Ranged before (AToken t same w) = ((s : Token) → IsOutOfRange before s → ⊥) × Ranged (before ++ t ∷ []) w
-Ranged before (AnExpression d w) = (7 ≤ length before) × IsBehind w
-Ranged before (ANumber low high w) = Ranges before (ANumber low high w) × ((n : ℕ) → Ranged (before ++ token.Number n ∷ []) (w n))
-
--- after seven tokens no number is one of the header
-behind_header : (before : List Token) (t : Token) → 7 ≤ length before → IsOutOfRange before t → ⊥
-behind_header before t long (rounds i h) = omega (arith, long)
-behind_header before t long (channels i c h) = omega (arith, long)
-behind_header before t long (registers i c r h) = omega (arith, long)
-
--- of a place and all later ones, at that place
-pub ranges : (before : List Token) (w : Rest) → Ranged before w → Ranges before w
-ranges before Nothing long = record { out = λ t o. absurd o; only = λ t r. behind_header before t long r }
-ranges before (AToken t same w) h = record { out = λ t o. absurd o; only = h.0 }
-ranges before (AnExpression d w) h = record { out = λ t o. absurd o; only = λ t r. behind_header before t h.0 r }
-ranges before (ANumber low high w) h = h.0
-
--- behind the header no number is out of its range
-behind_ranged : (before : List Token) (w : Rest) → 7 ≤ length before → IsBehind w → Ranged before w
-behind_ranged before Nothing long behind = long
-behind_ranged before (AToken t same w) long behind = (
-  λ s r. behind_header before s long r,
-  behind_ranged (before ++ t ∷ []) w (omega (arith, long, length-append before (t ∷ []))) behind,
-)
-behind_ranged before (AnExpression d w) long behind = (long, behind)
-behind_ranged before (ANumber low high w) long behind = absurd behind
-
--- after one more token
-abbrev pub RangedIf : {w : Rest} → List Token → Option (Further w) → Type 0
-RangedIf before None = Unit {0}
-RangedIf before (Some m) = Ranged before m.rest
-
-next_of_expression : (before : List Token) (d : ℕ) (w : Rest) (t : Token) → Ranged before (AnExpression d w) → (o : Option (Further (AnExpression d w))) → LeadsIf (AnExpression d w) t o →
-    RangedIf (before ++ t ∷ []) o
-next_of_expression before d w t h None lead = tt
-next_of_expression before d w t h (Some m) lead = behind_ranged (before ++ t ∷ []) m.rest (omega (arith, h.0, length-append before (t ∷ []))) (lead.behind h.1)
-
-pub next_ranged : (before : List Token) (w : Rest) (t : Token) → Ranged before w → RangedIf (before ++ t ∷ []) (step w t)
-next_ranged before Nothing t h = tt
-next_ranged before (AToken s same w) t h = cond_both (same_token t s) (Some _) None (RangedIf (before ++ t ∷ []))
-    (λ is. subst (λ u. Ranged (before ++ u ∷ []) w) (sym (same_token_is t s is)) h.1) (λ _. tt)
-next_ranged before (AnExpression d w) t h = next_of_expression before d w t h (step (AnExpression d w) t) (leads (AnExpression d w) t)
-next_ranged before (ANumber low high w) (token.Number n) h = h.1 n
-next_ranged before (ANumber low high w) t h = tt
-
-body_behind : (count j : ℕ) (w : Rest) → IsBehind w → IsBehind (assignments count j w)
-body_behind zero j w h = h
-body_behind (suc count) j w h = body_behind count (j + 1) w h
-
-rounds_behind : (count many : ℕ) (w : Rest) → IsBehind w → IsBehind (some_rounds count many w)
-rounds_behind zero many w h = h
-rounds_behind (suc count) many w h = body_behind many 0 _ (rounds_behind count many w h)
-
--- the numbers of the header
-numbers : {before : List Token} (low high : ℕ) → ((n : ℕ) → IsOutside low high n → IsOutOfRange before (token.Number n)) →
-    (t : Token) → OutOf low high t → IsOutOfRange before t
-numbers low high h (token.Number n) o = h n o
-numbers low high h t o = absurd o
-
-only_rounds : (t : Token) → IsOutOfRange (token.Rounds ∷ []) t → OutOf 0 MAX_ROUNDS t
-only_rounds t (rounds _ h) = h
-
-only_channels : (i : ℕ) (t : Token) → IsOutOfRange (token.Rounds ∷ token.Number i ∷ token.Channels ∷ []) t → OutOf 1 MAX_CHANNELS t
-only_channels i t (channels _ _ h) = h
-
-only_registers : (i c : ℕ) (t : Token) → IsOutOfRange (token.Rounds ∷ token.Number i ∷ token.Channels ∷ token.Number c ∷ token.Registers ∷ []) t →
-    OutOf 1 MAX_REGISTERS t
-only_registers i c t (registers _ _ _ h) = h
-
-pub first_ranged : Ranged [] a_program
-first_ranged = (
-  λ t r. elim r [ ],
-  (
-    record { out = numbers 0 MAX_ROUNDS rounds; only = only_rounds },
-    λ i. (
-      λ t r. elim r [ ],
-      (
-        record { out = numbers 1 MAX_CHANNELS (channels i); only = only_channels i },
-        λ c. (
-          λ t r. elim r [ ],
-          (
-            record { out = numbers 1 MAX_REGISTERS (registers i c); only = only_registers i c },
-            λ r.
-                (λ t r. elim r [ ], behind_ranged _ (a_body i r) (omega arith) (body_behind r 0 _ (rounds_behind i r a_finish tt))),
-          ),
-        ),
-      ),
-    ),
-  ),
-)
+out_steps : (w : Rest) (t : Token) → IsOut w t → step w t ≡ None → ⊥
+out_steps (ANumber low high w) (token.Number k) o none = cc
+out_steps w t o none = absurd o
 
 -- a number that fails the test is out of its range
 outside : (low high n : ℕ) → (nat_le low n && nat_le n high) ≡ false → IsOutside low high n
 outside low high n h = elim (cases_order n low) [ inl e ↦ inr (grind (arith, nat_tests)) | inr (inl less) ↦ inl less | inr (inr more) ↦ inr (grind (arith, nat_tests)) ]
 
--- what stands at a token where reading meets this: that fault; or none, and reading goes on within the limits
-abbrev pub Says : List Token → (w : Rest) → ℕ → Token → Met w → Type 0
-Says before w n t (Stops k) = Place before n w → Ranges before w → Stands before t k
-Says before w n t (Goes m) = (step w t ≡ Some m) × Within w t × (counted w n ≤ MAX_NODES)
+-- what stands at a token where reading meets this: that fault; or none, and it is the place after it
+abbrev pub Says : List Token → ℕ → Token → Met → Type 0
+Says before count t (Stops k) = Stands before t k
+Says before count t (Goes v) = Place (before ++ t ∷ []) count v
 
-says_limited : (before : List Token) (w : Rest) (n : ℕ) (t : Token) (m : Further w) → n ≤ MAX_NODES → step w t ≡ Some m → Says before w n t (limited w n t m)
-says_limited before Nothing n t m few s = (s, tt, few)
-says_limited before (AToken u same w) n t m few s = (s, tt, few)
-says_limited before (AnExpression d w) n t m few s =
-    cond_both ((MAX_DEPTH - d) == 0) (Stops kind.TooDeep) _ (Says before (AnExpression d w) n t)
-    (λ none p _. too_deep (d + 1) n (grind (arith, nat_tests)) (begins_node p s (omega arith))) (λ some.
-    cond_both (nat_le MAX_NODES n) (Stops kind.TooManyNodes) (Goes m) (Says before (AnExpression d w) n t)
-    (λ full p _. too_many (d + 1) n (grind (arith, nat_tests)) (grind (arith, nat_tests)) (begins_node p s (omega arith)))
-    (λ room. (s, grind (arith, nat_tests), grind (arith, nat_tests))))
-says_limited before (ANumber low high w) n (token.Number k) m few s =
-    cond_both (nat_le low k && nat_le k high) (Goes m) (Stops kind.HeaderRange) (Says before (ANumber low high w) n (token.Number k))
-    (λ both. (s, (grind (arith, nat_tests), grind (arith, nat_tests)), few)) (λ neither _ r. out_of_range (r.out (token.Number k) (outside low high k neither)))
-says_limited before (ANumber low high w) n t m few s = (s, tt, few)
+says_limited : {before : List Token} {n : ℕ} (w v : Rest) (t : Token) → Place before n w → step w t ≡ Some v → Says before (counted w n) t (limited w n t v)
+says_limited (Nothing q) v t p s = absurd (cc)
+says_limited (AToken u w) v t p s = next_place t p s p.few (omega arith) tt
+says_limited {before} {n} (AnExpression d w) v t p s =
+    cond_both ((MAX_DEPTH - d) == 0) (Stops kind.TooDeep) _ (Says before (n + 1) t)
+    (λ none. too_deep (d + 1) n (grind (arith, nat_tests)) (begins_node t p s)) (λ some.
+    cond_both (nat_le MAX_NODES n) (Stops kind.TooManyNodes) (Goes v) (Says before (n + 1) t)
+    (λ full. too_many (d + 1) n (grind (arith, nat_tests)) (grind (arith, nat_tests)) (begins_node t p s))
+    (λ room. next_place t p s (grind (arith, nat_tests)) (grind (arith, nat_tests)) tt))
+says_limited {before} {n} (ANumber low high w) v (token.Number k) p s =
+    cond_both (nat_le low k && nat_le k high) (Goes v) (Stops kind.HeaderRange) (Says before n (token.Number k))
+    (λ both. next_place (token.Number k) p s p.few (omega arith) (grind (arith, nat_tests), grind (arith, nat_tests)))
+    (λ neither. out_of_range (subst (λ ts. IsOutOfRange ts (token.Number k)) (ap unmarked (append-nil p.marks) ∙ p.tokens) (p.ends.1 k (outside low high k neither))))
+says_limited (ANumber low high w) v t p s = absurd (cc)
 
-known_token : (t : Token) → t ≢ token.Unknown → t ≢ token.LargeNumber → fault_of t ≡ kind.Unexpected
-known_token token.Unknown u l = absurd (u refl)
-known_token token.LargeNumber u l = absurd (l refl)
-known_token t u l = refl
-
--- a number out of its range is a token that can come next, and refused
-out_met : (w : Rest) (n : ℕ) (t : Token) → IsOut w t → meets w n t ≡ Stops kind.HeaderRange
-out_met Nothing n t o = absurd o
-out_met (AToken s same w) n t o = absurd o
-out_met (AnExpression d w) n t o = absurd o
-out_met (ANumber low high w) n (token.Number k) o = elim o [ inl below ↦ grind (arith, nat_tests) | inr above ↦ grind (arith, nat_tests) ]
-out_met (ANumber low high w) n t o = absurd o
-
-says_checked : (before : List Token) (w : Rest) (n : ℕ) (t : Token) → n ≤ MAX_NODES → fault_of t ≡ kind.Unexpected → (o : Option (Further w)) → step w t ≡ o →
-    Says before w n t (checked w n t o)
-says_checked before w n t few known None none = λ p r. unexpected
-    (λ e. let bad : kind.BadWord ≡ kind.Unexpected = sym (ap fault_of e) ∙ known in cc) (λ e. let bad : kind.NumberTooLarge ≡ kind.Unexpected = sym (ap fault_of e) ∙ known in cc)
-    (λ range. let met = sym (out_met w n t (r.only t range)) ∙ known_meets w n t known ∙ ap (checked w n t) none in cc)
-    (λ v. let m = viable_steps t p v in let both : None ≡ Some m.0 = sym none ∙ m.1 in cc)
-says_checked before w n t few known (Some m) s = says_limited before w n t m few s
+-- at a token that can't come next
+stands_none : {before : List Token} (t : Token) → (IsOutOfRange before t → ⊥) → (IsViable (before ++ t ∷ []) → ⊥) → Stands before t (fault_of t)
+stands_none token.Unknown r v = unknown refl
+stands_none token.LargeNumber r v = large refl
+stands_none t r v = unexpected (λ e. cc) (λ e. cc) r v
 
 -- what reading meets stands there
-pub says : (before : List Token) (w : Rest) (n : ℕ) (t : Token) → n ≤ MAX_NODES → Says before w n t (meets w n t)
-says before w n token.Unknown few = λ p r. unknown refl
-says before w n token.LargeNumber few = λ p r. large refl
-says before w n t few = says_checked before w n t few refl (step w t) refl
+pub says : {before : List Token} {n : ℕ} (w : Rest) (t : Token) → Place before n w → Says before (counted w n) t (meets w n t)
+says {before} {n} w t p = checks (step w t) refl
+  where
+    checks : (o : Option Rest) → step w t ≡ o → Says before (counted w n) t (checked w n t o)
+    checks (Some v) s = says_limited w v t p s
+    checks None none = stands_none t
+        (λ out. out_steps w t (next_out out p.reached) none)
+        (λ v.
+        let next = next_of t v.more p v.program v.each_register (sym v.spells ∙ append_assoc before (t ∷ []) v.more) in
+        let both : None ≡ Some next.rest = sym none ∙ next.steps in cc)
 
-none_of : {w : Rest} (o : Option (Further w)) → ((m : Further w) → o ≡ Some m → ⊥) → o ≡ None
-none_of None h = refl
-none_of (Some m) h = absurd (h m refl)
+-- a token that can't come next is met as one
+stops_unexpected : {before : List Token} {t : Token} (n : ℕ) (m : Met) → Says before n t m → t ≢ token.Unknown → t ≢ token.LargeNumber → (IsOutOfRange before t → ⊥) →
+    (IsViable (before ++ t ∷ []) → ⊥) → m ≡ Stops kind.Unexpected
+stops_unexpected n (Goes w) place u l r v = absurd (v (viable place))
+stops_unexpected n (Stops k) (unknown e) u l r v = absurd (u e)
+stops_unexpected n (Stops k) (large e) u l r v = absurd (l e)
+stops_unexpected n (Stops k) (out_of_range o) u l r v = absurd (r o)
+stops_unexpected n (Stops k) (unexpected _ _ _ _) u l r v = refl
+stops_unexpected n (Stops k) (too_deep _ _ _ b) u l r v = absurd (v (viable_node b))
+stops_unexpected n (Stops k) (too_many _ _ _ _ b) u l r v = absurd (v (viable_node b))
 
 -- a node that is too deep, and one too many
-limited_deep : (w : Rest) (n : ℕ) (t : Token) (m : Further w) → MAX_DEPTH < depth_next w → limited w n t m ≡ Stops kind.TooDeep
-limited_deep (AnExpression d w) n t m deep = grind (arith, nat_tests, deep)
-limited_deep w n t m deep = absurd (omega (arith, deep))
+limited_deep : (w v : Rest) (n : ℕ) (t : Token) → MAX_DEPTH < depth_next w → limited w n t v ≡ Stops kind.TooDeep
+limited_deep (AnExpression d w) v n t deep = grind (arith, nat_tests, deep)
+limited_deep w v n t deep = absurd (omega (arith, deep))
 
-limited_many : (w : Rest) (n : ℕ) (t : Token) (m : Further w) → 0 < depth_next w → depth_next w ≤ MAX_DEPTH → MAX_NODES ≤ n → limited w n t m ≡ Stops kind.TooManyNodes
-limited_many (AnExpression d w) n t m some shallow many = grind (arith, nat_tests, shallow, many)
-limited_many w n t m some shallow many = absurd (omega (arith, some))
+limited_many : (w v : Rest) (n : ℕ) (t : Token) → 0 < depth_next w → depth_next w ≤ MAX_DEPTH → MAX_NODES ≤ n → limited w n t v ≡ Stops kind.TooManyNodes
+limited_many (AnExpression d w) v n t some shallow many = grind (arith, nat_tests, shallow, many)
+limited_many w v n t some shallow many = absurd (omega (arith, some))
+
+-- what is no token of the language
+unknown_met : (w : Rest) (n : ℕ) → (meets w n token.Unknown ≡ Stops kind.BadWord) × (meets w n token.LargeNumber ≡ Stops kind.NumberTooLarge)
+unknown_met (Nothing p) n = (refl, refl)
+unknown_met (AToken s w) n = (refl, refl)
+unknown_met (AnExpression d w) n = (refl, refl)
+unknown_met (ANumber low high w) n = (refl, refl)
 
 -- and a fault that stands there is what reading meets
-pub stands_met : {before : List Token} {n : ℕ} (w : Rest) (t : Token) (k : FaultKind) → Place before n w → Ranges before w → Stands before t k → meets w n t ≡ Stops k
-stands_met {n = n} w t k p r s = elim s as (λ k _. meets w n t ≡ Stops k) [
-  | unknown e ↦ ap (meets w n) e
-  | large e ↦ ap (meets w n) e
-  | out_of_range o ↦ out_met w n t (r.only t o)
-  | unexpected u l _ v ↦ known_meets w n t (known_token t u l) ∙ ap (checked w n t) (none_of (step w t) (λ m e. v (viable t p e)))
+pub stands_met : {before : List Token} {n : ℕ} (w : Rest) (t : Token) (k : FaultKind) → Place before n w → Stands before t k → meets w n t ≡ Stops k
+stands_met {n = n} w t k p s = elim s as (λ k _. meets w n t ≡ Stops k) [
+  | unknown e ↦ ap (meets w n) e ∙ (unknown_met w n).0
+  | large e ↦ ap (meets w n) e ∙ (unknown_met w n).1
+  | out_of_range o ↦ out_met w n t (next_out o p.reached)
+  | unexpected u l r v ↦ stops_unexpected _ (meets w n t) (says w t p) u l r v
   | too_deep depth count deep b ↦
-      let i = begun p b in
-      known_meets w n t (known_next w t i.further i.steps) ∙ ap (checked w n t) i.steps ∙ limited_deep w n t i.further (omega (arith, deep, i.depth_is))
+      let i = wanted p b in
+      ap (checked w n t) i.steps ∙ limited_deep w i.rest n t (omega (arith, deep, i.depth_is))
   | too_many depth count shallow many b ↦
-      let i = begun p b in
-      known_meets w n t (known_next w t i.further i.steps) ∙ ap (checked w n t) i.steps
-      ∙ limited_many w n t i.further (omega (arith, b.is_node, i.depth_is)) (omega (arith, shallow, i.depth_is)) (omega (arith, many, i.count_is))
+      let i = wanted p b in
+      ap (checked w n t) i.steps
+      ∙ limited_many w i.rest n t (omega (arith, b.is_node, i.depth_is)) (omega (arith, shallow, i.depth_is)) (omega (arith, many, i.count_is))
 ]

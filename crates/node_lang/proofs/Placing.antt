@@ -26,15 +26,12 @@ lexemes_of-blanked text = ap (λ n. joined n (split_of (blanked false text)).wor
 word_no_comment : (b : ℕ) → is_word_byte b ≡ true → (b == 35) ≡ false
 word_no_comment b h = grind (arith, nat_tests)
 
-blank_no_comment : (b : ℕ) → is_blank b ≡ true → (b == 35) ≡ false
-blank_no_comment b h = grind (arith, nat_tests)
-
-blank_no_word : (b : ℕ) → is_blank b ≡ true → is_word_byte b ≡ false
-blank_no_word b h = grind (arith, nat_tests)
+blank_alone : (b : ℕ) → is_blank b ≡ true → ((b == 35) ≡ false) × (is_word_byte b ≡ false)
+blank_alone b h = (grind (arith, nat_tests), grind (arith, nat_tests))
 
 pub blank_in_front : (b : ℕ) (bs : List ℕ) → is_blank b ≡ true → lexemes_of (b ∷ bs) ≡ lexemes_of bs
 unfolding lexemes_of
-blank_in_front b bs h = rw (blank_no_comment b h, blank_no_word b h, h, length-blanked false bs) refl
+blank_in_front b bs h = let alone = blank_alone b h in rw (alone.0, alone.1, h, length-blanked false bs) refl
 
 pub mark_in_front : (b : ℕ) (bs : List ℕ) → is_word_byte b ≡ false → is_blank b ≡ false → (b == 35) ≡ false →
     lexemes_of (b ∷ bs) ≡ record { from = suc (length bs); token = mark_token b } ∷ lexemes_of bs
@@ -82,14 +79,10 @@ splits_no_byte b bs h =
     let empty = no_word_first b bs h in
     record { word = empty; rest = sym (lexemes_of-blanked (b ∷ bs) ∙ ap (λ w. joined (length (blanked false (b ∷ bs))) w (split_of (blanked false (b ∷ bs))).rest) empty) }
 
-splits_step : (b : ℕ) (bs : List ℕ) (t : Bool) → is_word_byte b ≡ t → SplitsWord bs (prefix_len is_word_byte bs) →
-    SplitsWord (b ∷ bs) (cond t (1 + prefix_len is_word_byte bs) 0)
-splits_step b bs true e after = rw one-add (splits_byte b bs (prefix_len is_word_byte bs) e after)
-splits_step b bs false e after = splits_no_byte b bs e
-
 splits_word : (text : List ℕ) → SplitsWord text (prefix_len is_word_byte text)
 splits_word [] = record { word = refl; rest = sym (lexemes_of-blanked []) }
-splits_word (b ∷ bs) = splits_step b bs (is_word_byte b) refl (splits_word bs)
+splits_word (b ∷ bs) = cond_both (is_word_byte b) (1 + prefix_len is_word_byte bs) 0 (SplitsWord (b ∷ bs))
+    (λ e. rw one-add (splits_byte b bs (prefix_len is_word_byte bs) e (splits_word bs))) (λ e. splits_no_byte b bs e)
 
 joined_word : (count : ℕ) (word : List ℕ) (rest : List Lexeme) → 0 < length word → joined count word rest ≡ record { from = count; token = word_token word } ∷ rest
 joined_word count [] rest h = absurd (omega arith)
@@ -120,15 +113,12 @@ mark_token_first (b ∷ bs) h e no_blank no_comment = mark_in_front b bs (stops 
 pub after_blank : (text : List ℕ) (i : ℕ) → i < length text → is_blank (get_or text i 0) ≡ true → lexemes_of (drop (i + 1) text) ≡ lexemes_of (drop i text)
 after_blank text i h blank = rw (add-one, drop-cons text i 0) (sym (blank_in_front (get_or text i 0) (drop (suc i) text) blank))
 
-cons_at : (x y m n : ℕ) (text : List ℕ) → x ≡ y → m ≡ n → x ∷ drop m text ≡ y ∷ drop n text
-cons_at x y m n text p q = λ k. p k ∷ drop (q k) text
-
 -- at a comment the text goes on after the line
 pub after_comment : (text : List ℕ) (i n : ℕ) → i < length text → get_or text i 0 ≡ 35 → n ≡ prefix_len in_line (drop (i + 1) text) →
     lexemes_of (drop (i + (1 + n)) text) ≡ lexemes_of (drop i text)
 after_comment text i n h comment e =
     let place : i + (1 + n) ≡ (i + 1) + n = omega arith in
-    let front : drop i text ≡ 35 ∷ drop (i + 1) text = drop-cons text i 0 h ∙ cons_at _ _ _ _ text comment (sym (add-one i)) in
+    let front : drop i text ≡ 35 ∷ drop (i + 1) text = drop-cons text i 0 h ∙ (λ k. comment k ∷ drop (sym (add-one i) k) text) in
     ap (λ k. lexemes_of (drop k text)) place
     ∙ ap lexemes_of (sym (drop-drop n (i + 1) text))
     ∙ ap (λ k. lexemes_of (drop k (drop (i + 1) text))) e
@@ -139,18 +129,15 @@ after_comment text i n h comment e =
 pub all_skipped : (text : List ℕ) (n : ℕ) → n ≡ length text → lexemes_of (drop n text) ≡ lexemes_of text → lexemes_of text ≡ []
 all_skipped text n e same = sym same ∙ ap lexemes_of (ap (λ k. drop k text) e ∙ drop-length text) ∙ lexemes_of-blanked []
 
-lexeme_at : (m n : ℕ) (t : Token) (xs ys : List Lexeme) → m ≡ n → xs ≡ ys → record { from = m; token = t } ∷ xs ≡ record { from = n; token = t } ∷ ys
-lexeme_at m n t xs ys p q = λ k. record { from = p k; token = t } ∷ q k
-
 -- the lexemes from a place on, by those of a slice of the code
 pub placed_after : (text : List ℕ) (at start end : ℕ) (t : Token) → at ≤ length text → start < end →
     lexemes_of (take (length text - at) (drop at text)) ≡ record { from = length (take (length text - at) (drop at text)) - start; token = t } ∷ lexemes_of (drop end (take (length text - at) (drop at text))) →
     lexemes_of (drop at text) ≡ record { from = length text - (at + start); token = t } ∷ lexemes_of (drop (at + end) text)
 placed_after text at start end t h order e =
     let size : length (drop at text) - start ≡ length text - (at + start) = omega (arith, length-drop at text) in
-    sym (ap lexemes_of (take_rest text at)) ∙ e
-    ∙ lexeme_at _ _ t _ _ (ap (λ xs. length xs - start) (take_rest text at) ∙ size)
-    (ap (λ xs. lexemes_of (drop end xs)) (take_rest text at) ∙ ap lexemes_of (drop-drop end at text))
+    let first = ap (λ xs. length xs - start) (take_rest text at) ∙ size in
+    let others = ap (λ xs. lexemes_of (drop end xs)) (take_rest text at) ∙ ap lexemes_of (drop-drop end at text) in
+    sym (ap lexemes_of (take_rest text at)) ∙ e ∙ (λ k. record { from = first k; token = t } ∷ others k)
 
 pub none_after : (text : List ℕ) (at : ℕ) → lexemes_of (take (length text - at) (drop at text)) ≡ [] → lexemes_of (drop at text) ≡ []
 none_after text at e = sym (ap lexemes_of (take_rest text at)) ∙ e

@@ -3,6 +3,7 @@ use Rattle.std.proofs.Common.{◌≡◌, ℕ, ◌+◌, ◌-◌, ◌^◌, ◌<◌
 use Rattle.std.specs.Prelude.{sum_by, All, codes}
 use Rattle.std.specs.List.{list_all, prefix_len, flat_map}
 use Rattle.std.specs.Fmt.{decimal}
+use Rattle.std.proofs.Math.ListN.{get_or-append}
 use Rattle.std.proofs.Math.Seq.{take-append_seam, drop-append_seam}
 use Rattle.std.proofs.lemmas.Bool.{and_parts, and_from, cond-true, lt-ltb, ltb-true}
 use Rattle.std.proofs.lemmas.Bool.Decides.{nat_tests}
@@ -12,8 +13,8 @@ use Rattle.node_lang.specs.declared.token.Token.{Token}
 use Rattle.node_lang.specs.declared.token.Token.TheVariants as token
 use Rattle.node_lang.specs.Words.{is_blank, is_digit, is_word_byte, read_on, word_token, mark_token, unary_name, binary_name, word_of}
 use Rattle.node_lang.specs.Lexemes.{tokens_in, tokens_of, lexemes_of}
-use Rattle.std.proofs.lemmas.List.Sums.{sum_by-append, sum_by-cons, AllPass-from_list_all}
-use Rattle.node_lang.specs.Term.{Step, ProgramTree, size, step_terms, terms, terms_of_step, Term, Literal, Identifier, LeftMessage, RightMessage, RegisterValue, Unary, Binary, Conditional, largest, largest_register}
+use Rattle.std.proofs.lemmas.List.Sums.{sum_by-append, sum_by-cons, AllPass-from_list_all, list_all-from_AllPass}
+use Rattle.node_lang.specs.Term.{Step, ProgramTree, size, step_terms, terms_of_step, Term, Literal, Identifier, LeftMessage, RightMessage, RegisterValue, Unary, Binary, Conditional, largest, largest_register}
 use Rattle.std.proofs.lemmas.List.Elements.{All-append, All-cons, All-nil, All-head, All-tail, All-weaker}
 use Rattle.node_lang.specs.declared.limits.TheConstants.{LONGEST_TEXT}
 use Rattle.node_lang.specs.declared.tree.UnOp.{UnOp}
@@ -24,13 +25,6 @@ use Rattle.node_lang.specs.Limits.{IsSmall, IsWithinLimits}
 use Rattle.node_lang.specs.Grammar.{Reads, spelled, assigned, block, blocks}
 use Rattle.node_lang.specs.Printed.{printed_expression, assignment_line, assignment_lines, send_line, round_lines, header_lines, printed}
 use Rattle.node_lang.proofs.Placing.{blank_in_front, mark_in_front, word_token_first}
-
-pub blank_first : (b : ℕ) (rest : List ℕ) → is_blank b ≡ true → tokens_of (b ∷ rest) ≡ tokens_of rest
-blank_first b rest h = ap tokens_in (blank_in_front b rest h)
-
-pub mark_first : (b : ℕ) (rest : List ℕ) → is_word_byte b ≡ false → is_blank b ≡ false → (b == 35) ≡ false →
-    tokens_of (b ∷ rest) ≡ mark_token b ∷ tokens_of rest
-mark_first b rest no_word no_blank no_comment = ap tokens_in (mark_in_front b rest no_word no_blank no_comment)
 
 -- no word goes on in this text
 abbrev pub EndsWord : List ℕ → Type 0
@@ -61,76 +55,52 @@ digit_is_letter : (b : ℕ) → is_digit b ≡ true → is_word_byte b ≡ true
 digit_is_letter b h = grind (arith, nat_tests)
 
 digits_are_letters : (ds : List ℕ) → list_all is_digit ds ≡ true → list_all is_word_byte ds ≡ true
-digits_are_letters [] h = refl
-digits_are_letters (d ∷ ds) h =
-    let parts = and_parts (is_digit d) (list_all is_digit ds) h in
-    and_from (is_word_byte d) (list_all is_word_byte ds) (digit_is_letter d parts.0) (digits_are_letters ds parts.1)
+digits_are_letters ds h =
+    list_all-from_AllPass is_word_byte ds (All-weaker (λ b. is_digit b ≡ true) (λ b. is_word_byte b ≡ true) digit_is_letter ds (AllPass-from_list_all is_digit ds h))
 
 -- digits and their value, in the words of the standard library
 numeral : IsNumeralModel (λ ds. list_all is_digit ds ≡ true) (read_on 0)
 numeral = numerals_by_fold (λ ds. list_all is_digit ds ≡ true) (search rules) read_on (search rules)
 
-number_word : (digits : List ℕ) (n : ℕ) → list_all is_digit digits ≡ true → read_on 0 digits ≡ n → n < 2 ^ 32 → word_token digits ≡ token.Number n
-unfolding word_token
-number_word digits n h value small = rw (h, value, lt-ltb n (2 ^ 32) small) refl
-
 pub number_is_word : (n : ℕ) → n < 2 ^ 32 → IsWord (decimal n) (token.Number n)
+unfolding word_token
 number_is_word n small =
     let fits : n < 2 ^ 64 = omega (arith, small) in
     let digits = digits_decimal numeral n fits in
     record {
       letters = digits_are_letters (decimal n) digits;
       some = decimal_nonempty n fits;
-      token = number_word (decimal n) n digits (digits_value-decimal numeral n fits) small;
+      token = rw (digits, digits_value-decimal numeral n fits, lt-ltb n (2 ^ 32) small) refl;
     }
 
-register_word : (d j : ℕ) → is_digit d ≡ true → d - 48 ≡ j → word_token (114 ∷ d ∷ []) ≡ token.Register j
+register_word : (d j : ℕ) → d ≡ 48 + j → j < 10 → IsWord (114 ∷ d ∷ []) (token.Register j)
 unfolding word_token
-register_word d j h value = rw h (ap token.Register value)
-
-one_digit_word : (d j : ℕ) → d ≡ 48 + j → j < 10 → IsWord (114 ∷ d ∷ []) (token.Register j)
-one_digit_word d j e small =
+register_word d j e small =
     let digit : is_digit d ≡ true = grind (arith, nat_tests) in
-    record {
-      letters = and_from (is_word_byte d) true (digit_is_letter d digit) refl;
-      some = omega arith;
-      token = register_word d j digit (omega (arith, e));
-    }
+    let value : d - 48 ≡ j = omega arith in
+    record { letters = and_from (is_word_byte d) true (digit_is_letter d digit) refl; some = omega arith; token = rw digit (ap token.Register value) }
 
 pub register_is_word : (j : ℕ) → j < 10 → IsWord (114 ∷ decimal j) (token.Register j)
-register_is_word j small = rw (decimal_digit j small) (one_digit_word (48 + j) j refl small)
-
-pub size-step : (s : Step) → sum_by size (terms_of_step s) ≡ size s.left + (size s.right + sum_by size s.next)
-size-step s = sum_by-cons size s.left (s.right ∷ s.next) ∙ ap (λ n. size s.left + n) (sum_by-cons size s.right s.next)
-
-pub size-terms : (p : ProgramTree) → sum_by size (terms p) ≡ sum_by size p.start + (sum_by size (step_terms p.steps) + size p.finish)
-size-terms p = rw (sum_by-append size p.start (step_terms p.steps ++ p.finish ∷ []), sum_by-append size (step_terms p.steps) (p.finish ∷ []), sum_by-cons size p.finish []) (omega arith)
+register_is_word j small = rw (decimal_digit j small) (register_word (48 + j) j refl small)
 
 known : (word : List ℕ) (t : Token) → list_all is_word_byte word ≡ true → nat_lt 0 (length word) ≡ true → word_token word ≡ t → IsWord word t
 known word t letters some is = record { letters = letters; some = ltb-true 0 (length word) some; token = is }
 
-binary_word : (o : BinOp) → IsWord (binary_name o) (token.Binary o)
-unfolding word_token
-binary_word op.And = known (binary_name op.And) (token.Binary op.And) refl refl refl
-binary_word o = known (binary_name o) (token.Binary o) refl refl refl
-
-unary_word : (o : UnOp) → IsWord (unary_name o) (token.Unary o)
-unfolding word_token
-unary_word Not = known (unary_name Not) (token.Unary Not) refl refl refl
-
 -- names of operations are short
-binary_length : (o : BinOp) → length (binary_name o) ≤ 3
-binary_length op.And = omega arith
-binary_length o = omega arith
+binary_word : (o : BinOp) → IsWord (binary_name o) (token.Binary o) × (length (binary_name o) ≤ 3)
+unfolding word_token
+binary_word op.And = (known (binary_name op.And) (token.Binary op.And) refl refl refl, omega arith)
+binary_word o = (known (binary_name o) (token.Binary o) refl refl refl, omega arith)
 
-unary_length : (o : UnOp) → length (unary_name o) ≤ 3
-unary_length Not = omega arith
+unary_word : (o : UnOp) → IsWord (unary_name o) (token.Unary o) × (length (unary_name o) ≤ 3)
+unfolding word_token
+unary_word Not = (known (unary_name Not) (token.Unary Not) refl refl refl, omega arith)
 
 -- the words that are no names of operations, and `if`
 keyword : (t : Token) → nat_lt 0 (length (word_of t)) ≡ true → IsWord (word_of t) t
 unfolding word_token
-keyword (token.Unary o) h = unary_word o
-keyword (token.Binary o) h = binary_word o
+keyword (token.Unary o) h = let word = unary_word o in word.0
+keyword (token.Binary o) h = let word = binary_word o in word.0
 keyword t h = known (word_of t) t refl h (cc)
 
 -- ASCII bytes, at most this many, which read so: where a word ends them, where no word goes on after them
@@ -177,11 +147,11 @@ a_register j small =
     a_word 2 (register_is_word j small) (omega (arith, short))
 
 a_blank : (b : ℕ) → is_blank b ≡ true → b < 128 → Writes false (b ∷ []) 1 (λ ts. ts)
-a_blank b is low = record { ascii = All-cons (λ b. b < 128) b [] low (All-nil (λ b. b < 128)); short = omega arith; reads = λ rest _. blank_first b rest is }
+a_blank b is low = record { ascii = All-cons (λ b. b < 128) b [] low (All-nil (λ b. b < 128)); short = omega arith; reads = λ rest _. ap tokens_in (blank_in_front b rest is) }
 
 a_mark : (b : ℕ) → is_word_byte b ≡ false → is_blank b ≡ false → (b == 35) ≡ false → b < 128 → Writes false (b ∷ []) 1 (λ ts. mark_token b ∷ ts)
 a_mark b word blank comment low =
-    record { ascii = All-cons (λ b. b < 128) b [] low (All-nil (λ b. b < 128)); short = omega arith; reads = λ rest _. mark_first b rest word blank comment }
+    record { ascii = All-cons (λ b. b < 128) b [] low (All-nil (λ b. b < 128)); short = omega arith; reads = λ rest _. ap tokens_in (mark_in_front b rest word blank comment) }
 
 -- the fixed texts
 space : Writes false (codes " ") 1 (λ ts. ts)
@@ -202,16 +172,6 @@ comma = glue (a_mark 44 refl refl refl (omega arith)) space (λ _ _. tt)
 equals : Writes false (codes " = ") 3 (λ ts. token.Equals ∷ ts)
 equals = glue space (glue (a_mark 61 refl refl refl (omega arith)) space (λ _ _. tt)) (λ _ _. tt)
 
--- an operation's operands
-one_operand : {name a : List ℕ} {k m : ℕ} {f g : List Token → List Token} → Writes true name k f → Writes true a m g →
-    Writes false (name ++ (codes "(" ++ (a ++ codes ")"))) (k + (1 + (m + 1))) (λ ts. f (token.Open ∷ g (token.Close ∷ ts)))
-one_operand n a = glue n (glue opened (glue a closed (λ _ _. refl)) (λ _ _. tt)) (λ _ _. refl)
-
-two_operands : {name a b : List ℕ} {k m n : ℕ} {f g h : List Token → List Token} → Writes true name k f → Writes true a m g → Writes true b n h →
-    Writes false (name ++ (codes "(" ++ (a ++ (codes ", " ++ (b ++ codes ")"))))) (k + (1 + (m + (2 + (n + 1)))))
-    (λ ts. f (token.Open ∷ g (token.Comma ∷ h (token.Close ∷ ts))))
-two_operands n a b = glue n (glue opened (glue a (glue comma (glue b closed (λ _ _. refl)) (λ _ _. tt)) (λ _ _. refl)) (λ _ _. tt)) (λ _ _. refl)
-
 -- at most ten bytes a node
 an_expression : (e : Term) → largest e < 2 ^ 32 → largest_register e < 10 → Writes true (printed_expression e) (10 * size e) (spelled e)
 an_expression (Literal n) number register = a_number n number
@@ -220,11 +180,13 @@ an_expression LeftMessage number register = a_word 10 (keyword token.FromLeft re
 an_expression RightMessage number register = a_word 10 (keyword token.FromRight refl) (omega arith)
 an_expression (RegisterValue j) number register = roomy (a_register j register) (omega arith)
 an_expression (Unary o a) number register =
-    ended (one_operand (a_word 3 (unary_word o) (unary_length o)) (an_expression a number register)) (omega arith)
+    let word = unary_word o in
+    ended (glue (a_word 3 word.0 word.1) (glue opened (glue (an_expression a number register) closed (λ _ _. refl)) (λ _ _. tt)) (λ _ _. refl)) (omega arith)
 an_expression (Binary o a b) number register =
+    let word = binary_word o in
     let first = an_expression a (omega (arith, number)) (omega (arith, register)) in
     let second = an_expression b (omega (arith, number)) (omega (arith, register)) in
-    ended (two_operands (a_word 3 (binary_word o) (binary_length o)) first second) (omega arith)
+    ended (glue (a_word 3 word.0 word.1) (glue opened (glue first (glue comma (glue second closed (λ _ _. refl)) (λ _ _. tt)) (λ _ _. refl)) (λ _ _. tt)) (λ _ _. refl)) (omega arith)
 an_expression (Conditional c a b) number register =
     let first = an_expression c (omega (arith, number)) (omega (arith, register)) in
     let second = an_expression a (omega (arith, number)) (omega (arith, register)) in
@@ -263,11 +225,10 @@ a_round s few small =
     let left = a_send s.left (a_word 5 (keyword token.Left refl) (omega arith)) (All-head IsSmall s.left (s.right ∷ s.next) small) in
     let right = a_send s.right (a_word 5 (keyword token.Right refl) (omega arith)) (All-head IsSmall s.right s.next small_rest) in
     let next = assignments s.next 0 (omega (arith, few)) (All-tail IsSmall s.right s.next small_rest) in
-    roomy (glue (lined token.Round refl) (glue left (glue right next (λ _ _. tt)) (λ _ _. tt)) (λ _ _. tt)) (omega (arith, few, size-step s))
+    roomy (glue (lined token.Round refl) (glue left (glue right next (λ _ _. tt)) (λ _ _. tt)) (λ _ _. tt)) (omega (arith, few, sum_by-cons size s.left (s.right ∷ s.next), sum_by-cons size s.right s.next))
 
 all_left : (xs ys : List Term) → All IsSmall (xs ++ ys) → All IsSmall xs
-all_left [] ys h = All-nil IsSmall
-all_left (x ∷ xs) ys h = All-cons IsSmall x xs (All-head IsSmall x (xs ++ ys) h) (all_left xs ys (All-tail IsSmall x (xs ++ ys) h))
+all_left xs ys h = λ i d below. rw (get_or-append xs ys d i below) at (h i d (omega (arith, below, length-append xs ys)))
 
 all_right : (xs ys : List Term) → All IsSmall (xs ++ ys) → All IsSmall ys
 all_right [] ys h = h
@@ -300,10 +261,6 @@ a_header p limits =
     let rounds = a_count (length p.steps) (omega (arith, limits.rounds)) (glue (spaced token.Channels refl) channels (λ _ _. tt)) in
     roomy (glue (spaced token.Rounds refl) rounds (λ _ _. tt)) (omega arith)
 
-nothing_left : tokens_of [] ≡ []
-unfolding lexemes_of
-nothing_left = refl
-
 a_program : (p : ProgramTree) → IsWithinLimits p → Writes false (printed p) 65535
     (λ ts. header_tokens p (assigned 0 p.start (blocks p.steps (token.Finish ∷ spelled p.finish ts))))
 a_program p limits =
@@ -312,17 +269,21 @@ a_program p limits =
     let few : All HasFew p.steps = λ i d h. omega (arith, limits.each_register i d h, limits.few_registers) in
     let steps = some_rounds p.steps few (all_left (step_terms p.steps) (p.finish ∷ []) after_start) in
     let finish = glue (spaced token.Finish refl) (a_line p.finish (All-head IsSmall p.finish [] (all_right (step_terms p.steps) (p.finish ∷ []) after_start))) (λ _ _. tt) in
-    roomy (glue (a_header p limits) (glue start (glue steps finish (λ _ _. tt)) (λ _ _. tt)) (λ _ _. tt)) (omega (arith, size-terms p, limits.nodes, limits.rounds, limits.few_registers))
+    let sizes = sum_by-append size p.start (step_terms p.steps ++ p.finish ∷ []) in
+    let others = sum_by-append size (step_terms p.steps) (p.finish ∷ []) in
+    roomy (glue (a_header p limits) (glue start (glue steps finish (λ _ _. tt)) (λ _ _. tt)) (λ _ _. tt))
+    (omega (arith, sizes, others, sum_by-cons size p.finish [], limits.nodes, limits.rounds, limits.few_registers))
 
 pub printed_length : (p : ProgramTree) → IsWithinLimits p → length (printed p) < LONGEST_TEXT
 printed_length p limits = let text = a_program p limits in omega (arith, text.short)
 
 pub printed_reads : (p : ProgramTree) → IsWithinLimits p → Reads (printed p) p
+unfolding lexemes_of
 printed_reads p limits =
     let text = a_program p limits in
     record {
       short = omega (arith, text.short);
       ascii = text.ascii;
-      tokens = ap tokens_of (sym (append-nil (printed p))) ∙ (rw nothing_left at (text.reads [] tt));
+      tokens = ap tokens_of (sym (append-nil (printed p))) ∙ text.reads [] tt;
       limits = limits;
     }

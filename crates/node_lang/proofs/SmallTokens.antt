@@ -1,18 +1,14 @@
 -- The numbers of a text are below 2^32, and its registers have one digit.
-use Rattle.std.proofs.Common.{◌≡◌, ℕ, ◌+◌, ◌-◌, ◌^◌, ◌<◌, ◌==◌, Bool, true, false, ◌&&◌, nat_lt, List, [], ◌∷◌, length, refl, arith}
-use Rattle.std.specs.Prelude.{Option, Some, None, All, find}
+use Rattle.std.proofs.Common.{◌≡◌, ℕ, ◌-◌, ◌^◌, ◌==◌, Bool, true, false, ◌&&◌, nat_lt, List, [], ◌∷◌, length, refl, arith}
+use Rattle.std.specs.Prelude.{Option, Some, None, find}
 use Rattle.std.specs.List.{list_all}
 use Rattle.std.specs.Str.{bytes_eq}
-use Rattle.std.proofs.lemmas.Bool.{cond_both, and_parts, and_from, ltb-true}
+use Rattle.std.proofs.lemmas.Bool.{cond_both, and_parts, and_from}
 use Rattle.std.proofs.lemmas.Bool.Decides.{nat_tests}
-use Rattle.std.proofs.lemmas.List.Elements.{All-cons, All-nil}
 use Rattle.node_lang.specs.declared.token.Token.{Token}
 use Rattle.node_lang.specs.declared.token.Token.TheVariants as token
-use Rattle.node_lang.specs.Term.{Term, Literal, RegisterValue, Unary, Binary, Conditional, largest, largest_register}
 use Rattle.node_lang.specs.Words.{is_digit, is_blank, is_word_byte, word_token, mark_token, number_token, read_on, register_named, or_unknown, named, keywords, operations, word_of}
 use Rattle.node_lang.specs.Lexemes.{Lexeme, Split, blanked, joined, split_of, lexemes_of, tokens_in, tokens_of}
-use Rattle.node_lang.specs.Viable.{Mark, marked, unmarked}
-use Rattle.node_lang.proofs.Rest.{Rest, Nothing, AToken, AnExpression, ANumber, Filling, filled, trees}
 
 abbrev pub is_small : Token → Bool
 is_small (token.Number n) = nat_lt n (2 ^ 32)
@@ -70,31 +66,3 @@ small_split (b ∷ bs) =
 pub small_tokens : (text : List ℕ) → list_all is_small (tokens_of text) ≡ true
 unfolding lexemes_of
 small_tokens text = small_joined (length text) (split_of (blanked false text)).word _ (small_split (blanked false text))
-
--- an expression whose numbers and registers are so small
-abbrev pub HasSmallNumbers : Term → Type 0
-HasSmallNumbers e = (largest e < 2 ^ 32) × (largest_register e < 10)
-
-fitting : (e : Term) (d : ℕ) (more : List Mark) → list_all is_small (unmarked (marked e d more)) ≡ true → (HasSmallNumbers e) × (list_all is_small (unmarked more) ≡ true)
-fitting (Literal n) d more h = let p = and_parts (nat_lt n (2 ^ 32)) _ h in ((ltb-true n (2 ^ 32) p.0, omega arith), p.1)
-fitting (RegisterValue j) d more h = let p = and_parts (nat_lt j 10) _ h in ((omega arith, ltb-true j 10 p.0), p.1)
-fitting (Unary o a) d more h = fitting a (d + 1) _ h
-fitting (Binary o a b) d more h =
-    let p = fitting a (d + 1) _ h in
-    let q = fitting b (d + 1) _ p.1 in
-    ((omega (arith, p.0, q.0), omega (arith, p.0, q.0)), q.1)
-fitting (Conditional c a b) d more h =
-    let p = fitting c (d + 1) _ h in
-    let q = fitting a (d + 1) _ p.1 in
-    let r = fitting b (d + 1) _ q.1 in
-    ((omega (arith, p.0, q.0, r.0), omega (arith, p.0, q.0, r.0)), r.1)
-fitting e d more h = ((omega arith, omega arith), h)
-
--- the expressions of a filling with such tokens
-pub small_trees : (w : Rest) (x : Filling w) → list_all is_small (unmarked (filled w x)) ≡ true → All HasSmallNumbers (trees w x)
-small_trees Nothing x h = All-nil HasSmallNumbers
-small_trees (AToken t same w) x h = small_trees w x (and_parts (is_small t) _ h).1
-small_trees (AnExpression d w) x h =
-    let p = fitting x.0 (d + 1) (filled w x.1) h in
-    All-cons HasSmallNumbers x.0 (trees w x.1) p.0 (small_trees w x.1 p.1)
-small_trees (ANumber low high w) x h = small_trees (w x.0) x.1 (and_parts (nat_lt x.0 (2 ^ 32)) _ h).1

@@ -1,3 +1,6 @@
+ghost use Rattle.std.specs.Prelude.{◌≡◌};
+ghost use Rattle.node_lang.specs.declared.fault.FaultKind.TheVariants.{OutOfMemory};
+
 use std::alloc::{AllocError, AllocFailed};
 
 /// What is wrong with a program text. The report names a kind by `N` and its number.
@@ -33,8 +36,6 @@ pub struct TextFault {
 }
 
 impl TextFault {
-    ghost use Rattle.std.specs.Prelude.{◌≡◌};
-
     pub(crate) fn at(kind: FaultKind, offset: usize) -> TextFault
         ensures { result ≡ record { kind = kind; offset = offset } }
     {
@@ -43,9 +44,6 @@ impl TextFault {
 }
 
 impl<T: Drop> From<AllocFailed<T>> for TextFault {
-    ghost use Rattle.std.specs.Prelude.{◌≡◌};
-    ghost use Rattle.node_lang.specs.declared.fault.FaultKind.TheVariants.{OutOfMemory};
-
     ghost from_gives = { λ _ f. f ≡ record { kind = OutOfMemory; offset = 0 } };
 
     fn from(_refused: AllocFailed<T>) -> TextFault {
@@ -54,9 +52,6 @@ impl<T: Drop> From<AllocFailed<T>> for TextFault {
 }
 
 impl From<AllocError> for TextFault {
-    ghost use Rattle.std.specs.Prelude.{◌≡◌};
-    ghost use Rattle.node_lang.specs.declared.fault.FaultKind.TheVariants.{OutOfMemory};
-
     ghost from_gives = { λ _ f. f ≡ record { kind = OutOfMemory; offset = 0 } };
 
     fn from(_refused: AllocError) -> TextFault {

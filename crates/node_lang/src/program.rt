@@ -1,3 +1,8 @@
+ghost use Rattle.std.specs.Prelude.{◌≡◌, ◌≤◌, length, map, All};
+ghost use Rattle.node_lang.specs.Term.{ProgramTree, program_tree, term_of, step_of};
+ghost use Rattle.node_lang.specs.Code.{program_code};
+ghost use Rattle.node_lang.specs.Limits.{IsWithinLimits};
+
 use crate::tree::{Expr, Round};
 use std::marker::Model;
 
@@ -13,10 +18,6 @@ pub struct Program {
 }
 
 impl Model for Program {
-    ghost use Rattle.node_lang.specs.Term.{ProgramTree, program_tree};
-    ghost use Rattle.node_lang.specs.Code.{program_code};
-    ghost use Rattle.node_lang.specs.Limits.{IsWithinLimits};
-
     ghost Value = { ProgramTree };
 
     ghost coded = { program_code };
@@ -27,10 +28,6 @@ impl Model for Program {
 }
 
 impl Program {
-    ghost use Rattle.std.specs.Prelude.{◌≡◌, ◌≤◌, length, map, All};
-    ghost use Rattle.node_lang.specs.Limits.{IsWithinLimits};
-    ghost use Rattle.node_lang.specs.Term.{term_of, step_of};
-
     /// The number of rounds, 0 to 3.
     pub fn rounds(&self) -> u32
         ensures value { result ≡ length self.now.steps }

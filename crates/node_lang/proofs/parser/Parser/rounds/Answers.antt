@@ -1,21 +1,13 @@
-use Rattle.std.proofs.Common.{◌∷◌, []}
 use Rattle.std.proofs.lemmas.Result.{err_from_is_err_and}
-use Rattle.std.proofs.lemmas.List.{map-append}
-use Rattle.node_lang.specs.Term.{step_of}
-use Rattle.node_lang.specs.Reading.{round, rounds}
-use Rattle.node_lang.proofs.Parsing.{none_read, one_read, stops_there}
+use Rattle.node_lang.specs.Reading.{rounds}
+use Rattle.node_lang.proofs.Parsing.{one_read, stops_there}
 use Rattle.node_lang.proofs.parser.Parser.rounds.Goals as goal
-
-pub rounds-init : goal.rounds-init
-rounds-init c = none_read _ c.args.count _ _ (rw c.new-steps.ensures.items)
 
 pub returns-in_err-step : goal.returns-in_err-step
 unfolding rounds
 returns-in_err-step c =
     let p = err_from_is_err_and c.from_residual.result c.from_residual.ensures.1 in
-    rw (p.1, p.2) (stops_there step_of (λ _. round c.args.registers) c.args.count c.rounds.index _ _ _ _ c.rounds-test.true c.rounds.invariant c.in_err-step.ensures)
+    rw (p.1, p.2) (stops_there _ c.rounds-test.true c.rounds.invariant c.in_err-step.ensures)
 
 pub rounds-preserved : goal.rounds-preserved
-rounds-preserved c =
-    rw (c.in_ok-push.ensures.items, map-append step_of c.rounds.steps.items (c.in_ok-step.step ∷ []))
-    (one_read step_of (λ _. round c.args.registers) c.args.count c.rounds.index _ c.in_ok-step.step _ _ _ c.rounds-test.true c.rounds.invariant c.in_ok-step.ensures)
+rounds-preserved c = one_read c.in_ok-step.step c.rounds-test.true c.rounds.invariant c.in_ok-step.ensures c.in_ok-push.ensures.items
