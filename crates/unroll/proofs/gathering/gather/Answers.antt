@@ -5,7 +5,7 @@ use Rattle.unroll.specs.Parts.{KnowsBelow, IsRun}
 use Rattle.unroll.specs.WideColumns.{HoldParts}
 use Rattle.unroll.proofs.Known.{still_known, window_at, fault_of_block}
 use Rattle.unroll.proofs.SameRun.{run_grows}
-use Rattle.unroll.proofs.SeriesStates.{series_at, series_last, series_known, hold_series, knows_series}
+use Rattle.unroll.proofs.SeriesStates.{series_at, series_last, run_of_last, series_known, hold_series, knows_series}
 use Rattle.unroll.proofs.gathering.gather.Goals as goal
 
 pub returns-in_err-run-clause-fault : goal.returns-in_err-run-clause-fault
@@ -119,14 +119,14 @@ next_run-requires g c κs =
     let last = c.series-count.new.window in
     let last_number : 256 * b + place + (count - 1) ≡ 256 * b + (place + (count - 1)) = omega arith in
     let last_at = rw last_number at (series_last m low (256 * b + place) count window last before.here series) in
-    let final = stands (count - 1) (omega (arith, some)) in
-    let same : final.next ≡ last = sym final.numbered ∙ window_at m (low + 1) (256 * b + (place + (count - 1))) last last_at in (
+    let last_run = run_of_last plan after low b place block.number index (count - 1) last run (stands (count - 1) (omega (arith, some))) last_at in
+    (
       (refl, tt),
       (
         asked.same_plan ∙ before.same_plan ∙ c.requires.plan,
         (
           c.requires.below,
-          (rw c.shape-shape.ensures.ids at c.series-count.ensures.window, subst (λ w. IsRun plan after low w run) same final.run_is),
+          (rw c.shape-shape.ensures.ids at c.series-count.ensures.window, last_run),
         ),
       ),
     )
