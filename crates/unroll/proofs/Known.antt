@@ -1,11 +1,9 @@
 -- What a source knows while blocks are asked for.
-use Rattle.std.proofs.Common.{◌≡◌, ℕ, zero, suc, ◌+◌, ◌*◌, ◌/◌, ◌<◌, ◌≤◌, Bool, true, false, Option, Some, None, IsSome, List, [], slice_get, refl, arith, below_more}
-use Rattle.std.specs.Bool.{OnTrue, OnFalse}
+use Rattle.std.proofs.Common.{◌≡◌, ℕ, zero, suc, ◌+◌, ◌*◌, ◌<◌, ◌≤◌, Option, Some, None, IsSome, List, [], slice_get, refl, arith}
 use Rattle.std.proofs.lemmas.Bool.{false≢true}
 use Rattle.std.proofs.lemmas.Option.{get_or_from_slice_get}
-use Rattle.win_index.specs.Windows.{windows, number_of}
-use Rattle.win_index.specs.Successor.{IsNext, IsLast}
-use Rattle.unroll.specs.Below.{part, IsBelow}
+use Rattle.win_index.specs.Windows.{windows}
+use Rattle.unroll.specs.Below.{IsBelow}
 use Rattle.unroll.specs.BlockStates.{MadeBlock, window_numbered, block_len}
 use Rattle.unroll.specs.Entries.{Entries, Grows}
 use Rattle.unroll.specs.MakeFaults.{IsMakeFault}

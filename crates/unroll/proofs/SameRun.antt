@@ -1,11 +1,11 @@
 -- Windows that begin with the same identifiers share what a run says.
-use Rattle.std.proofs.Common.{◌≡◌, ℕ, ◌+◌, ◌-◌, ◌*◌, ◌/◌, ◌<◌, ◌≤◌, List, length, take, drop, IsSome, sym, ap, ◌∙◌, arith, subst}
+use Rattle.std.proofs.Common.{◌≡◌, ℕ, ◌+◌, ◌-◌, ◌*◌, ◌/◌, ◌<◌, ◌≤◌, List, length, take, drop, sym, ap, ◌∙◌, arith, subst}
 use Rattle.std.proofs.lemmas.List.{drop-take, take-take, length-take-le, get_or-take, get_or-drop, length-drop}
 use Rattle.win_index.specs.Windows.{IsWindow}
 use Rattle.lang_check.specs.Plans.{ProgramForIds}
 use Rattle.unroll.specs.Below.{part}
 use Rattle.unroll.specs.Entries.{Entries, Grows}
-use Rattle.unroll.specs.Parts.{KnowsPart, IsRun}
+use Rattle.unroll.specs.Parts.{IsRun}
 use Rattle.unroll.specs.declared.run.Run.{Run}
 use Rattle.unroll.proofs.Known.{still_known}
 

@@ -1,18 +1,18 @@
 -- The parts of the windows of a series: the first two are the same in all, and the last ones stand in one block, one after another.
-use Rattle.std.proofs.Common.{◌≡◌, ℕ, ◌+◌, ◌-◌, ◌*◌, ◌/◌, ◌<◌, ◌≤◌, List, [], length, take, drop, get_or, slice_get, Some, IsSome, true, sym, ap, ◌∙◌, arith, subst}
+use Rattle.std.proofs.Common.{◌≡◌, ℕ, ◌+◌, ◌-◌, ◌*◌, ◌/◌, ◌<◌, List, [], length, take, drop, get_or, slice_get, Some, IsSome, true, sym, ap, ◌∙◌, arith, subst}
 use Rattle.std.proofs.lemmas.List.{take_all, length-drop}
 use Rattle.std.proofs.lemmas.Nat.{div-mul-add}
 use Rattle.std.proofs.lemmas.Option.{same_Some}
 use Rattle.win_index.specs.Laws.{NumberOfWindow, WindowsHaveNumbers}
 use Rattle.win_index.specs.Runs.{IsSeries}
-use Rattle.win_index.specs.Windows.{windows, number_of, IsWindow}
+use Rattle.win_index.specs.Windows.{windows}
 use Rattle.lang_check.specs.Plans.{ProgramForIds}
 use Rattle.node_lang.specs.Node.{to_left, to_right}
 use Rattle.unroll.specs.Below.{part}
-use Rattle.unroll.specs.BlockStates.{MadeBlock, window_numbered, block_state}
+use Rattle.unroll.specs.BlockStates.{window_numbered, block_state}
 use Rattle.unroll.specs.Entries.{Entries, Grows}
 use Rattle.unroll.specs.Line.{middle_state}
-use Rattle.unroll.specs.Parts.{KnowsPart, KnowsParts, KnowsBelow, IsRun}
+use Rattle.unroll.specs.Parts.{KnowsParts, KnowsBelow, IsRun}
 use Rattle.unroll.specs.declared.run.Run.{Run}
 use Rattle.unroll.specs.WideColumns.{part_state, HoldParts, AreWritten}
 use Rattle.unroll.specs.declared.part_columns.PartColumns.{PartColumns}

@@ -1,7 +1,7 @@
-use Rattle.std.proofs.Common.{◌≡◌, ℕ, ◌+◌, ◌-◌, ◌*◌, ◌/◌, ◌<◌, ◌≤◌, List, slice_get, Some, IsSome, refl, sym, ◌∙◌, arith, subst}
+use Rattle.std.proofs.Common.{◌≡◌, ◌+◌, ◌-◌, ◌*◌, ◌/◌, ◌<◌, ◌≤◌, IsSome, refl, ◌∙◌, arith, subst}
 use Rattle.std.proofs.lemmas.Result.{err_from_is_err_and}
 use Rattle.unroll.specs.BlockStates.{block_len}
-use Rattle.unroll.specs.Parts.{KnowsBelow, IsRun}
+use Rattle.unroll.specs.Parts.{KnowsBelow}
 use Rattle.unroll.specs.WideColumns.{HoldParts}
 use Rattle.unroll.proofs.Known.{still_known, window_at, fault_of_block}
 use Rattle.unroll.proofs.SameRun.{run_grows}
@@ -119,8 +119,7 @@ next_run-requires g c κs =
     let last = c.series-count.new.window in
     let last_number : 256 * b + place + (count - 1) ≡ 256 * b + (place + (count - 1)) = omega arith in
     let last_at = rw last_number at (series_last m low (256 * b + place) count window last before.here series) in
-    let last_run = run_of_last plan after low b place block.number index (count - 1) last run (stands (count - 1) (omega (arith, some))) last_at in
-    (
+    let last_run = run_of_last plan after low b place block.number index (count - 1) last run (stands (count - 1) (omega (arith, some))) last_at in (
       (refl, tt),
       (
         asked.same_plan ∙ before.same_plan ∙ c.requires.plan,

@@ -1,4 +1,4 @@
-use Rattle.std.proofs.Common.{◌≡◌, ◌+◌, ◌-◌, ◌*◌, ◌<◌, ◌≤◌, slice_get, Some, IfSome}
+use Rattle.std.proofs.Common.{◌≡◌, ◌+◌, ◌-◌, ◌*◌, ◌<◌, slice_get, Some, IfSome}
 use Rattle.win_index.specs.Windows.{windows, IsWindow}
 use Rattle.unroll.specs.BlockStates.{block_len}
 use Rattle.unroll.specs.Entries.{Grows, IsEntry}

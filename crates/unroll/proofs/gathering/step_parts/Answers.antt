@@ -1,4 +1,4 @@
-use Rattle.std.proofs.Common.{◌≡◌, ◌+◌, ◌*◌, ◌<◌, ◌≤◌, [], length, get_or, refl, ◌∙◌, arith}
+use Rattle.std.proofs.Common.{◌+◌, ◌*◌, [], get_or, refl, ◌∙◌, arith}
 use Rattle.node_lang.specs.Node.{next}
 use Rattle.unroll.specs.BlockStates.{window_numbered, block_state}
 use Rattle.unroll.specs.WideColumns.{part_state}

@@ -1,4 +1,3 @@
-use Rattle.std.proofs.Common.{◌<◌, length}
 use Rattle.unroll.proofs.block.Block.to_left.Goals as goal
 
 pub returns-clause-size : goal.returns-clause-size
