@@ -1,11 +1,9 @@
 -- What a source knows while blocks are asked for.
-use Rattle.std.proofs.Common.{◌≡◌, ℕ, zero, suc, ◌+◌, ◌*◌, ◌/◌, ◌<◌, ◌≤◌, Bool, true, false, Option, Some, None, IsSome, List, [], slice_get, refl, arith, below_more}
-use Rattle.std.specs.Bool.{OnTrue, OnFalse}
+use Rattle.std.proofs.Common.{◌≡◌, ℕ, zero, suc, ◌+◌, ◌*◌, ◌<◌, ◌≤◌, Option, Some, None, IsSome, List, [], slice_get, refl, arith}
 use Rattle.std.proofs.lemmas.Bool.{false≢true}
 use Rattle.std.proofs.lemmas.Option.{get_or_from_slice_get}
-use Rattle.win_index.specs.Windows.{windows, number_of}
-use Rattle.win_index.specs.Successor.{IsNext, IsLast}
-use Rattle.unroll.specs.Below.{part, IsBelow}
+use Rattle.win_index.specs.Windows.{windows}
+use Rattle.unroll.specs.Below.{IsBelow}
 use Rattle.unroll.specs.BlockStates.{MadeBlock, window_numbered, block_len}
 use Rattle.unroll.specs.Entries.{Entries, Grows}
 use Rattle.unroll.specs.MakeFaults.{IsMakeFault}
@@ -36,16 +34,6 @@ module _ (entries : Entries) (m low : ℕ) (w : List ℕ) where
 pub window_at : (m r n : ℕ) (window : List ℕ) → slice_get (windows (2 * r + 1) m) n ≡ Some window → window_numbered m r n ≡ window
 window_at m r n window at' = get_or_from_slice_get (windows (2 * r + 1) m) n window [] at'
 
--- the windows of a block follow one another
-pub next_in_block :
-    (m r b place : ℕ) (more : Bool) (window next : List ℕ) → OnTrue more (IsNext (2 * r + 1) m window next)
-    → OnFalse more (IsLast (2 * r + 1) m window) → slice_get (windows (2 * r + 1) m) (256 * b + place) ≡ Some window
-    → place + 1 < block_len m r b → slice_get (windows (2 * r + 1) m) (256 * b + (place + 1)) ≡ Some next
-next_in_block m r b place true window next after last at' lt =
-    let number : 256 * b + (place + 1) ≡ 256 * b + place + 1 = omega arith in
-    rw number (after (256 * b + place) at')
-next_in_block m r b place false window next after last at' lt = absurd (omega (arith, last (256 * b + place) at'))
-
 -- what is missing for a window is missing for its block
 pub fault_of_block :
     (entries : Entries) (m r b place : ℕ) (window : List ℕ) (fault : MakeFault) → place < block_len m r b
@@ -63,16 +51,7 @@ fault_of_block entries m r b place window (Missing low c) lt own missing = (
 )
 fault_of_block entries m r b place window OutOfMemory lt own missing = absurd missing
 
--- the parts of one window more are known
-pub knows_more :
-    (old new : Entries) (m r b place : ℕ) (window : List ℕ) → Grows old new → KnowsBelow old m r b place
-    → window_numbered m r (256 * b + place) ≡ window → ((low : ℕ) → r ≡ low + 1 → KnowsParts new m low window)
-    → KnowsBelow new m r b (place + 1)
-knows_more old new m r b place window grows before own here = λ low j one lt.
-    below_more (λ i. KnowsParts new m low (window_numbered m r (256 * b + i))) place
-    (λ i below n is. still_known old new low (n / 256) grows (before low i one below n is))
-    (rw own (here low one)) j lt
-
+-- all blocks below a block are known where the parts of all its windows are
 pub knows_all_below :
     (entries : Entries) (m r b : ℕ) → KnowsBelow entries m r b (block_len m r b)
     → (low c : ℕ) → IsBelow m r b low c → IsSome (entries low c)

@@ -1,11 +1,11 @@
 -- Windows that begin with the same identifiers share what a run says.
-use Rattle.std.proofs.Common.{◌≡◌, ℕ, ◌+◌, ◌-◌, ◌*◌, ◌/◌, ◌<◌, ◌≤◌, List, length, take, drop, IsSome, sym, ap, ◌∙◌, arith, subst}
+use Rattle.std.proofs.Common.{◌≡◌, ℕ, ◌+◌, ◌-◌, ◌*◌, ◌/◌, ◌<◌, ◌≤◌, List, length, take, drop, sym, ap, ◌∙◌, arith, subst}
 use Rattle.std.proofs.lemmas.List.{drop-take, take-take, length-take-le, get_or-take, get_or-drop, length-drop}
 use Rattle.win_index.specs.Windows.{IsWindow}
 use Rattle.lang_check.specs.Plans.{ProgramForIds}
 use Rattle.unroll.specs.Below.{part}
 use Rattle.unroll.specs.Entries.{Entries, Grows}
-use Rattle.unroll.specs.Parts.{KnowsPart, IsRun}
+use Rattle.unroll.specs.Parts.{IsRun}
 use Rattle.unroll.specs.declared.run.Run.{Run}
 use Rattle.unroll.proofs.Known.{still_known}
 
@@ -30,7 +30,6 @@ same_run plan entries low w v run same is =
       start_is = rw rest at is.start_is;
       left_is = rw left at is.left_is;
       own_is = rw middle at is.own_is;
-      left_cells = is.left_cells;
       own_cells = is.own_cells;
       left_known = rw left at is.left_known;
       own_known = rw middle at is.own_known;
@@ -44,7 +43,6 @@ run_grows plan old new low w run grows is =
       start_is = is.start_is;
       left_is = is.left_is;
       own_is = is.own_is;
-      left_cells = is.left_cells;
       own_cells = is.own_cells;
       left_known = λ n number. still_known old new low (n / 256) grows (is.left_known n number);
       own_known = λ n number. still_known old new low (n / 256) grows (is.own_known n number);

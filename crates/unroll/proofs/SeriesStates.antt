@@ -1,19 +1,20 @@
 -- The parts of the windows of a series: the first two are the same in all, and the last ones stand in one block, one after another.
-use Rattle.std.proofs.Common.{◌≡◌, ℕ, ◌+◌, ◌-◌, ◌*◌, ◌/◌, ◌<◌, ◌≤◌, List, length, take, drop, slice_get, Some, IsSome, true, sym, ap, ◌∙◌, arith, subst}
+use Rattle.std.proofs.Common.{◌≡◌, ℕ, ◌+◌, ◌-◌, ◌*◌, ◌/◌, ◌<◌, List, [], length, take, drop, get_or, slice_get, Some, IsSome, true, sym, ap, ◌∙◌, arith, subst}
 use Rattle.std.proofs.lemmas.List.{take_all, length-drop}
 use Rattle.std.proofs.lemmas.Nat.{div-mul-add}
 use Rattle.std.proofs.lemmas.Option.{same_Some}
 use Rattle.win_index.specs.Laws.{NumberOfWindow, WindowsHaveNumbers}
 use Rattle.win_index.specs.Runs.{IsSeries}
-use Rattle.win_index.specs.Windows.{windows, number_of, IsWindow}
+use Rattle.win_index.specs.Windows.{windows}
 use Rattle.lang_check.specs.Plans.{ProgramForIds}
+use Rattle.node_lang.specs.Node.{to_left, to_right}
 use Rattle.unroll.specs.Below.{part}
-use Rattle.unroll.specs.BlockStates.{MadeBlock, window_numbered, block_state}
+use Rattle.unroll.specs.BlockStates.{window_numbered, block_state}
 use Rattle.unroll.specs.Entries.{Entries, Grows}
 use Rattle.unroll.specs.Line.{middle_state}
-use Rattle.unroll.specs.Parts.{KnowsPart, KnowsParts, KnowsBelow, IsRun}
+use Rattle.unroll.specs.Parts.{KnowsParts, KnowsBelow, IsRun}
 use Rattle.unroll.specs.declared.run.Run.{Run}
-use Rattle.unroll.specs.WideColumns.{HoldParts, AreWritten}
+use Rattle.unroll.specs.WideColumns.{part_state, HoldParts, AreWritten}
 use Rattle.unroll.specs.declared.part_columns.PartColumns.{PartColumns}
 use Rattle.unroll.proofs.ColumnStates.{below_sum, held_more}
 use Rattle.unroll.proofs.Known.{still_known, knows_three, window_at}
@@ -41,13 +42,21 @@ series_last m low n count w last at' series =
     let own : slice_get (windows (2 * low + 1 + 2) m) n ≡ Some w = subst (λ k. slice_get (windows k m) n ≡ Some w) (sym level) at' in
     subst (λ k. slice_get (windows k m) (n + (count - 1)) ≡ Some last) level (series.last_is n own)
 
+-- the last window of a series has the run of the first one
+pub run_of_last :
+    (plan : ProgramForIds) (entries : Entries) (low b place c index i : ℕ) (last : List ℕ) (run : Run) → SeriesAt plan entries low b place c index i run
+    → slice_get (windows (2 * (low + 1) + 1) plan.ids) (256 * b + (place + i)) ≡ Some last → IsRun plan entries low last run
+run_of_last plan entries low b place c index i last run stands at' =
+    subst (λ w. IsRun plan entries low w run) (sym stands.numbered ∙ window_at plan.ids (low + 1) (256 * b + (place + i)) last at') stands.run_is
+
 module _ (number_of_window : NumberOfWindow) (windows_have_numbers : WindowsHaveNumbers) where
   pub series_at :
-      (plan : ProgramForIds) (entries : Entries) (low b place c index count i : ℕ) (w last : List ℕ) (run : Run) → length w ≡ 2 * low + 3
+      (plan : ProgramForIds) (entries : Entries) (low b place c index count : ℕ) (w last : List ℕ) (run : Run) → length w ≡ 2 * low + 3
       → slice_get (windows (2 * (low + 1) + 1) plan.ids) (256 * b + place) ≡ Some w
       → slice_get (windows (2 * low + 1) plan.ids) (256 * c + index) ≡ Some (part w low 2)
-      → IsSeries (2 * low + 1) plan.ids w last count → IsRun plan entries low w run → i < count → SeriesAt plan entries low b place c index i run
-  series_at plan entries low b place c index count i w last run size at' right_at series run_is lt =
+      → IsSeries (2 * low + 1) plan.ids w last count → IsRun plan entries low w run
+      → (i : ℕ) → i < count → SeriesAt plan entries low b place c index i run
+  series_at plan entries low b place c index count w last run size at' right_at series run_is i lt =
       let m : ℕ = plan.ids in
       let level : 2 * low + 1 + 2 ≡ 2 * (low + 1) + 1 = omega arith in
       let front : 2 * low + 1 + 1 ≡ 2 * low + 2 = omega arith in
@@ -91,23 +100,30 @@ module _ (number_of_window : NumberOfWindow) (windows_have_numbers : WindowsHave
       let block : number / 256 ≡ c = ap (λ k. k / 256) (same ∙ sum) ∙ div-mul-add c 256 (index + i) small in
       subst (λ k. IsSome (entries low k)) (sym block) known))
 
--- columns that hold the parts of the first windows of a block, and then those of the windows of a series
+-- the parts of the first windows of a block, and then those of the windows of a series, for which a list holds what is sent from the right
 pub hold_series :
-    (plan : ProgramForIds) (entries : Entries) (low b place c index count : ℕ) (run : Run) (old now : PartColumns) → HoldParts plan low b place old
-    → AreWritten old.left now.left place count (λ i. run.left.now) → AreWritten old.own now.own place count (λ i. run.own.now)
-    → AreWritten old.right now.right place count (λ i. block_state plan low c (index + i))
+    (plan : ProgramForIds) (entries : Entries) (low b place c index count : ℕ) (run : Run) (sent : List ℕ) (old now : PartColumns)
+    → HoldParts plan low b place old
+    → ((i : ℕ) → i < count → get_or sent (index + i) 0 ≡ to_left plan.program low (block_state plan low c (index + i)))
+    → AreWritten ℕ 0 old.from_left.items now.from_left.items place count (λ i. run.from_left)
+    → AreWritten (List ℕ) [] old.own.states now.own.states place count (λ i. run.own.now)
+    → AreWritten ℕ 0 old.from_right.items now.from_right.items place count (λ i. get_or sent (index + i) 0)
     → ((i : ℕ) → i < count → SeriesAt plan entries low b place c index i run) → HoldParts plan low b (place + count) now
-hold_series plan entries low b place c index count run old now held left own right stands =
+hold_series plan entries low b place c index count run sent old now held are_sent left own right stands =
+    let of_window = λ (d i : ℕ) (lt : i < count). ap (λ w. middle_state plan.program low (part w low d)) (sym (stands i lt).numbered) in
     record {
       sizes = below_sum (λ i. length (window_numbered plan.ids (low + 1) (256 * b + i)) ≡ 2 * low + 3) place count held.sizes
           (λ i lt. ap length (stands i lt).numbered ∙ (stands i lt).size);
-      left = held_more plan low b 0 place count old.left now.left (λ i. run.left.now) held.left left
-          (λ i lt. (stands i lt).run_is.left_is ∙ ap (λ w. middle_state plan.program low (part w low 0)) (sym (stands i lt).numbered));
-      own = held_more plan low b 1 place count old.own now.own (λ i. run.own.now) held.own own
-          (λ i lt. (stands i lt).run_is.own_is ∙ ap (λ w. middle_state plan.program low (part w low 1)) (sym (stands i lt).numbered));
-      right = held_more plan low b 2 place count old.right now.right (λ i. block_state plan low c (index + i)) held.right right
-          (λ i lt. ap (middle_state plan.program low) (window_at plan.ids low (256 * c + (index + i)) (part (stands i lt).next low 2) (stands i lt).right_at)
-          ∙ ap (λ w. middle_state plan.program low (part w low 2)) (sym (stands i lt).numbered));
+      left = held_more ℕ 0 place count old.from_left.items now.from_left.items (λ i. run.from_left)
+          (λ i. to_right plan.program low (part_state plan low b 0 i)) held.left left
+          (λ i lt. (stands i lt).run_is.left_is ∙ ap (to_right plan.program low) (of_window 0 i lt));
+      own = held_more (List ℕ) [] place count old.own.states now.own.states (λ i. run.own.now) (part_state plan low b 1) held.own own
+          (λ i lt. (stands i lt).run_is.own_is ∙ of_window 1 i lt);
+      right = held_more ℕ 0 place count old.from_right.items now.from_right.items (λ i. get_or sent (index + i) 0)
+          (λ i. to_left plan.program low (part_state plan low b 2 i)) held.right right
+          (λ i lt. are_sent i lt ∙ ap (to_left plan.program low)
+          (ap (middle_state plan.program low) (window_at plan.ids low (256 * c + (index + i)) (part (stands i lt).next low 2) (stands i lt).right_at)
+          ∙ of_window 2 i lt));
     }
 
 -- the parts of the first windows of a block are known, and those of as many windows more

@@ -1,6 +1,7 @@
 -- What the functions that make a block say of the source, one window at a time.
 use Rattle.std.specs.Prelude.{◌≡◌, ℕ, ◌+◌, ◌*◌, ◌/◌, ◌<◌, List, take, drop, length, Some, None, IsSome}
 use Rattle.lang_check.specs.Plans.{ProgramForIds}
+use Rattle.node_lang.specs.Node.{to_right}
 use Rattle.win_index.specs.Runs.{IsRunStart}
 use Rattle.win_index.specs.Windows.{number_of}
 use Rattle.unroll.specs.Line.{middle_state}
@@ -20,12 +21,12 @@ abbrev pub KnowsPart : Entries → ℕ → ℕ → List ℕ → ℕ → Type 0
 KnowsPart entries m low w d = (n : ℕ) → number_of (2 * low + 1) m (part w low d) ≡ Some n → IsSome (entries low (n / 256))
 
 -- What the windows one level above low share that begin as w does, with all identifiers but the last: the number of the first window that
--- begins as their last parts do, and the states of their first and of their middle part. The blocks of these two are known.
+-- begins as their last parts do, what the node of their first part sends to the right, and the state of their middle part. The blocks of
+-- these two are known.
 pub record IsRun (plan : ProgramForIds) (entries : Entries) (low : ℕ) (w : List ℕ) (run : Run) : Type 0 where
   pub start_is : IsRunStart (2 * low) plan.ids (take (2 * low) (drop 2 w)) run.start
-  pub left_is : run.left.now ≡ middle_state plan.program low (part w low 0)
+  pub left_is : run.from_left ≡ to_right plan.program low (middle_state plan.program low (part w low 0))
   pub own_is : run.own.now ≡ middle_state plan.program low (part w low 1)
-  pub left_cells : length run.left.now ≡ length plan.program.start
   pub own_cells : length run.own.now ≡ length plan.program.start
   pub left_known : KnowsPart entries plan.ids low w 0
   pub own_known : KnowsPart entries plan.ids low w 1

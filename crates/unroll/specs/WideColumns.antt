@@ -1,5 +1,6 @@
 -- Columns for the windows of a block. No public contract cites this file.
-use Rattle.std.specs.Prelude.{◌≡◌, ℕ, ◌+◌, ◌*◌, ◌<◌, ◌≤◌, List, [], length, slice_index_or}
+use Rattle.std.specs.Prelude.{◌≡◌, ℕ, ◌+◌, ◌*◌, ◌<◌, ◌≤◌, List, [], length, slice_index, slice_index_or}
+use Rattle.node_lang.specs.Node.{to_left, to_right}
 use Rattle.node_lang.specs.Term.{terms}
 use Rattle.win_index.specs.declared.limits.TheConstants.{BLOCK_WINDOWS}
 use Rattle.lang_check.specs.Plans.{ProgramForIds}
@@ -15,28 +16,28 @@ use Rattle.unroll.specs.declared.part_columns.PartColumns.{PartColumns}
 abbrev pub IsWide : ProgramForIds → NodeStates → Type 0
 IsWide plan columns = (columns.registers ≡ length plan.program.start) × (length columns.states ≡ BLOCK_WINDOWS)
 
--- the same of each of the three parts
+-- the same of the states, and a message from each side at 256 windows
 abbrev pub AreWide : ProgramForIds → PartColumns → Type 0
-AreWide plan parts = IsWide plan parts.left × IsWide plan parts.own × IsWide plan parts.right
+AreWide plan parts = (length parts.from_left.items ≡ BLOCK_WINDOWS) × IsWide plan parts.own × (length parts.from_right.items ≡ BLOCK_WINDOWS)
 
--- item i holds the state of the part from place d on of the window i of block b of the level above low, for the first windows, as many as count
-abbrev pub HoldsPart : ProgramForIds → ℕ → ℕ → ℕ → ℕ → NodeStates → Type 0
-HoldsPart plan low b d count columns = (i : ℕ) → i < count
-    → slice_index_or columns.states i [] ≡ middle_state plan.program low (part (window_numbered plan.ids (low + 1) (256 * b + i)) low d)
+-- the state of the part from place d on of the window i of block b of the level above low
+abbrev pub part_state : ProgramForIds → ℕ → ℕ → ℕ → ℕ → List ℕ
+part_state plan low b d i = middle_state plan.program low (part (window_numbered plan.ids (low + 1) (256 * b + i)) low d)
 
--- the same of the three parts of windows, each of which has two identifiers more than its parts
+-- the parts of the first windows of block b of the level above low, as many as count: each window has two identifiers more than its
+-- parts, item i of the lists is what the node of the first part sends to the right in the next round, what that of the middle part
+-- holds, and what that of the last part sends to the left
 pub record HoldParts (plan : ProgramForIds) (low b count : ℕ) (parts : PartColumns) : Type 0 where
   pub sizes : (i : ℕ) → i < count → length (window_numbered plan.ids (low + 1) (256 * b + i)) ≡ 2 * low + 3
-  pub left : HoldsPart plan low b 0 count parts.left
-  pub own : HoldsPart plan low b 1 count parts.own
-  pub right : HoldsPart plan low b 2 count parts.right
+  pub left : (i : ℕ) → i < count → slice_index parts.from_left.items i ≡ to_right plan.program low (part_state plan low b 0 i)
+  pub own : (i : ℕ) → i < count → slice_index_or parts.own.states i [] ≡ part_state plan low b 1 i
+  pub right : (i : ℕ) → i < count → slice_index parts.from_right.items i ≡ to_left plan.program low (part_state plan low b 2 i)
 
--- the items from a place on, as many as count, are these states now, and the items before the place are as they were
-pub record AreWritten (old new : NodeStates) (place count : ℕ) (state : ℕ → List ℕ) : Type 0 where
-  pub registers : new.registers ≡ old.registers
-  pub nodes : length new.states ≡ length old.states
-  pub here : (i : ℕ) → i < count → slice_index_or new.states (place + i) [] ≡ state i
-  pub before : (i : ℕ) → i < place → slice_index_or new.states i [] ≡ slice_index_or old.states i []
+-- the items from a place on, as many as count, are these now, and the items before the place are as they were
+pub record AreWritten (A : Type 0) (none : A) (old new : List A) (place count : ℕ) (item : ℕ → A) : Type 0 where
+  pub size : length new ≡ length old
+  pub here : (i : ℕ) → i < count → slice_index_or new (place + i) none ≡ item i
+  pub before : (i : ℕ) → i < place → slice_index_or new i none ≡ slice_index_or old i none
 
 -- what the type of a maker of blocks keeps: the code of its plan, room for it, and columns
 pub record IsReady (plan code : ProgramForIds) (work : Room) (parts : PartColumns) (made : NodeStates) : Type 0 where

@@ -4,7 +4,8 @@ use std::marker::Model;
 
 /// The states of up to 256 windows of one level of a plan, in the order of their numbers: block `b` holds
 /// those of the windows from number `256*b` on. Each is its window's state after as many rounds as the level
-/// says. A block names who made it, by any number. It is made by `make_block` alone.
+/// says. Below the last level it also holds what the middle of each window sends in the next round, from which blocks of
+/// the level above are made. A block names who made it, by any number. It is made by `make_block` alone.
 #[derive(Drop)]
 pub struct Block<'a> {
     pub(crate) plan: &'a Plan,
@@ -13,6 +14,8 @@ pub struct Block<'a> {
     pub(crate) maker: u32,
     pub(crate) len: u32,
     pub(crate) states: Vec<u32>,
+    pub(crate) to_left: Vec<u32>,
+    pub(crate) to_right: Vec<u32>,
 }
 
 impl<'a> Model for Block<'a> {
@@ -25,11 +28,12 @@ impl<'a> Model for Block<'a> {
 
     ghost view = { λ b. record { plan = b.plan.now; level = b.level; number = b.number; maker = b.maker } };
 
-    ghost invariant = { λ b. HoldsStates b.plan.now b.level b.number b.len b.states.items };
+    ghost invariant = { λ b. HoldsStates b.plan.now b.level b.number b.len b.states.items b.to_left.items b.to_right.items };
 }
 
 impl<'a> Block<'a> {
-    ghost use Rattle.std.specs.Prelude.{◌≡◌, ℕ, ◌*◌, ◌<◌, ◌≤◌, [], length, slice_index_or};
+    ghost use Rattle.std.specs.Prelude.{◌≡◌, ℕ, ◌*◌, ◌<◌, ◌≤◌, [], length, slice_index, slice_index_or};
+    ghost use Rattle.node_lang.specs.Node.{to_left, to_right};
     ghost use Rattle.round_eval.specs.Rows.{rows};
     ghost use Rattle.unroll.specs.BlockStates.{block_len, block_state};
     ghost use Rattle.win_index.specs.Blocks.{block_count};
@@ -90,5 +94,24 @@ impl<'a> Block<'a> {
     {
         let plan = self.plan;
         row_at(&self.states, width_of(plan), i as usize)
+    }
+
+    // What the middle of each of its windows sends to the left in the next round, and perhaps more numbers behind.
+    pub(crate) fn to_left(&self) -> &[u32]
+        requires level { self.now.level < length self.now.plan.program.steps }
+        ensures size { block_len self.now.plan.ids self.now.level self.now.number ≤ length result.now }
+        ensures sent { (i : ℕ) → i < block_len self.now.plan.ids self.now.level self.now.number → slice_index result.now i
+            ≡ to_left self.now.plan.program self.now.level (block_state self.now.plan self.now.level self.now.number i) }
+    {
+        &self.to_left
+    }
+
+    // What the middle of its `i`-th window sends to the right in the next round.
+    pub(crate) fn to_right(&self, i: u32) -> u32
+        requires level { self.now.level < length self.now.plan.program.steps }
+        requires place { i < block_len self.now.plan.ids self.now.level self.now.number }
+        ensures { result ≡ to_right self.now.plan.program self.now.level (block_state self.now.plan self.now.level self.now.number i) }
+    {
+        self.to_right[i as usize]
     }
 }

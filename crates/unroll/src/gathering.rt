@@ -1,9 +1,9 @@
 // The states of the parts of a block's windows, from the blocks one level lower; and the states of its windows.
-ghost use Rattle.std.specs.Prelude.{◌≡◌, ℕ, ◌+◌, ◌-◌, ◌*◌, ◌^◌, ◌<◌, ◌≤◌, length, take, slice_get, Some, IfErr, OnOk, IsErrOf};
+ghost use Rattle.std.specs.Prelude.{◌≡◌, ℕ, ◌+◌, ◌-◌, ◌*◌, ◌^◌, ◌<◌, ◌≤◌, [], ◌∷◌, length, take, slice_get, slice_index, Some, IfErr, OnOk, IsErrOf};
 ghost use Rattle.round_eval.specs.Rows.{rows};
-ghost use Rattle.unroll.specs.BlockStates.{block_len};
+ghost use Rattle.unroll.specs.BlockStates.{block_len, window_numbered};
 ghost use Rattle.unroll.specs.Entries.{Grows};
-ghost use Rattle.unroll.specs.HeldStates.{first_states};
+ghost use Rattle.unroll.specs.HeldStates.{first_states, HoldsSent};
 ghost use Rattle.unroll.specs.MakeFaults.{IsMakeFault};
 ghost use Rattle.unroll.specs.Parts.{KnowsBelow};
 ghost use Rattle.unroll.specs.WideColumns.{IsWide, AreWide, HoldParts};
@@ -15,11 +15,12 @@ ghost use Rattle.win_index.specs.Windows.{windows, IsWindow};
 use crate::fault::MakeFault;
 use crate::part_columns::PartColumns;
 use crate::parts::right_part;
-use crate::run::run_of;
+use crate::run::{next_run, start_run};
 use crate::source::Source;
 use lang_check::Plan;
-use round_columns::{Code, Columns, Work, step_columns};
-use round_eval::{rows_are_written, start_state, width_of};
+use round_columns::{
+    Code, Columns, Work, next_columns, start_columns, to_left_columns, to_right_columns,
+};
 use win_index::{BLOCK_WINDOWS, Shape, number_of_window, windows_have_numbers};
 
 // How many windows a block holds.
@@ -33,7 +34,7 @@ pub(crate) fn len_of(shape: Shape, level: u32, number: u32) -> u32
     (shape.count(level) - BLOCK_WINDOWS * number).min(BLOCK_WINDOWS)
 }
 
-// Writes the states of the three parts of each window of a block one level above `below`. The first window is given,
+// Writes the three parts of each window of a block one level above `below`. The first window is given,
 // and it goes on to the next one in place.
 pub(crate) fn gather<'s, S: Source<'s>>(
     plan: &Plan,
@@ -64,19 +65,27 @@ pub(crate) fn gather<'s, S: Source<'s>>(
     let shape = plan.shape();
     let len = len_of(shape, below + 1, number);
     let mut place = 0;
-    let mut last = None;
+    let mut run = start_run(plan, source, below, window)?;
     let mut last_right = None;
-    while place < len {
-        let run = run_of(plan, source, below, window, last)?;
+    loop {
         let (block, index) = right_part(plan, source, below, window, run.start, last_right)?;
         let count = shape.series(below, window, (len - place).min(block.len() - index));
-        parts.put_series(place as usize, count, run.left, run.own, block, index);
-        shape.next_window(below + 1, window);
+        let sent = block.to_left();
+        parts.put_series(
+            place as usize,
+            count as usize,
+            run.from_left,
+            run.own,
+            sent,
+            index as usize,
+        );
         place += count;
-        last = Some(run);
+        if place == len {
+            return Ok(());
+        }
         last_right = Some(block);
+        run = next_run(plan, source, below, window, run)?;
     }
-    Ok(())
 }
 
 // Writes the states of windows one level above `below`, by those of their parts.
@@ -98,12 +107,12 @@ pub(crate) fn step_parts(
     ensures states { (b count : ℕ) → count ≤ BLOCK_WINDOWS → HoldParts plan.now below b count parts.now
         → take count made.new.states ≡ first_states plan.now (below + 1) b count }
 {
-    step_columns(
+    next_columns(
         code,
         below,
-        &parts.left,
+        &parts.from_left,
         &parts.own,
-        &parts.right,
+        &parts.from_right,
         work,
         made,
     );
@@ -118,26 +127,71 @@ pub(crate) fn scatter(columns: &Columns, len: usize, states: &mut [u32])
     columns.take_rows(len, states);
 }
 
-// Writes the states of the windows of a block of level 0, row by row. The first window is given, and it goes on to the
-// next one in place.
-#[tactic(auto, using(std::proofs::lemmas::Nat::row_fits))]
-pub(crate) fn start_states(plan: &Plan, number: u32, window: &mut [u32], states: &mut [u32])
+// Writes the states of the windows of a block of level 0. The first window is given, and it goes on to the next one in
+// place.
+pub(crate) fn start_states(
+    plan: &Plan,
+    code: &Code,
+    number: u32,
+    window: &mut [u32],
+    work: &mut Work,
+    made: &mut Columns,
+)
+    requires code { code.now ≡ plan.now }
     requires number { number < block_count plan.now.ids 0 }
-    requires size { length states.old ≡ block_len plan.now.ids 0 number * length plan.now.program.start }
     requires first { slice_get (windows 1 plan.now.ids) (256 * number) ≡ Some window.old }
     requires window { IsWindow 1 plan.now.ids window.old }
-    ensures { rows (length plan.now.program.start) (block_len plan.now.ids 0 number) states.new
+    requires room { (most_columns (terms plan.now.program) ≤ work.old.columns) × (work.old.width ≡ BLOCK_WINDOWS) }
+    requires made { IsWide plan.now made.old }
+    ensures work { work.new ≡ work.old }
+    ensures wide { IsWide plan.now made.new }
+    ensures states { take (block_len plan.now.ids 0 number) made.new.states
         ≡ first_states plan.now 0 number (block_len plan.now.ids 0 number) }
 {
-    rows_are_written();
-    let shape = plan.shape();
-    let width = width_of(plan);
+    let mut ids = [0; BLOCK_WINDOWS as usize];
+    put_ids(plan.shape(), number, window, &mut ids);
+    start_columns(code, &ids, work, made);
+}
+
+// Writes the identifiers of the windows of a block of level 0. The first window is given, and it goes on to the next one
+// in place.
+fn put_ids(shape: Shape, number: u32, window: &mut [u32], ids: &mut [u32])
+    requires number { number < block_count shape.ids 0 }
+    requires first { slice_get (windows 1 shape.ids) (256 * number) ≡ Some window.old }
+    requires window { IsWindow 1 shape.ids window.old }
+    requires ids { length ids.old ≡ BLOCK_WINDOWS }
+    ensures { (i : ℕ) → i < block_len shape.ids 0 number
+        → window_numbered shape.ids 0 (256 * number + i) ≡ slice_index ids.new i ∷ [] }
+{
     for place in 0..len_of(shape, 0, number) as usize {
-        start_state(
-            plan,
-            window[0],
-            &mut states[place * width..place * width + width],
-        );
+        ids[place] = window[0];
         shape.next_window(0, window);
+    }
+}
+
+// Writes what the nodes of the windows of a block below the last level send in the next round, by their states.
+pub(crate) fn send_states(
+    plan: &Plan,
+    code: &Code,
+    level: u32,
+    number: u32,
+    made: &Columns,
+    work: &mut Work,
+    to_left: &mut [u32],
+    to_right: &mut [u32],
+)
+    requires code { code.now ≡ plan.now }
+    requires room { (most_columns (terms plan.now.program) ≤ work.old.columns) × (work.old.width ≡ BLOCK_WINDOWS) }
+    requires made { IsWide plan.now made.now }
+    requires states { take (block_len plan.now.ids level number) made.now.states
+        ≡ first_states plan.now level number (block_len plan.now.ids level number) }
+    requires sizes { level < length plan.now.program.steps
+        → (length to_left.old ≡ BLOCK_WINDOWS) × (length to_right.old ≡ BLOCK_WINDOWS) }
+    ensures work { work.new ≡ work.old }
+    ensures sent { HoldsSent plan.now level number to_left.new to_right.new }
+{
+    if level < plan.shape().rounds() {
+        to_left_columns(code, level, made, work, to_left);
+        to_right_columns(code, level, made, work, to_right);
     }
 }

@@ -1,7 +1,7 @@
 use crate::block::Block;
 use crate::fault::MakeFault;
-use crate::gathering::{gather, len_of, scatter, start_states, step_parts};
-use crate::part_columns::{PartColumns, wide_columns};
+use crate::gathering::{gather, len_of, scatter, send_states, start_states, step_parts};
+use crate::part_columns::{PartColumns, wide_columns, zeros};
 use crate::source::Source;
 use lang_check::Plan;
 use node_lang::OutOfMemory;
@@ -9,7 +9,7 @@ use round_columns::{Code, Columns, Work};
 use round_eval::width_of;
 use std::alloc::Global;
 use std::marker::Model;
-use win_index::{BLOCK_WINDOWS, MAX_WINDOW_LEN};
+use win_index::{BLOCK_WINDOWS, MAX_WINDOW_LEN, Shape};
 
 /// Makes blocks of a plan, one after another, in columns that it keeps from one block to the next. It is seen as the
 /// plan.
@@ -48,11 +48,7 @@ impl<'p> BlockMaker<'p> {
     {
         let code = Code::new(alloc, plan)?;
         let work = Work::new(alloc, &code, BLOCK_WINDOWS as usize)?;
-        let parts = PartColumns {
-            left: wide_columns(alloc, plan)?,
-            own: wide_columns(alloc, plan)?,
-            right: wide_columns(alloc, plan)?,
-        };
+        let parts = PartColumns::new(alloc, plan)?;
         let made = wide_columns(alloc, plan)?;
         Ok(BlockMaker {
             plan,
@@ -63,7 +59,7 @@ impl<'p> BlockMaker<'p> {
         })
     }
 
-    /// The block of the plan with this level, number and maker, as `make_block` makes it; memory is taken for its states
+    /// The block of the plan with this level, number and maker, as `make_block` makes it; memory is taken for its lists
     /// alone.
     pub fn make<'s, S: Source<'s>>(
         &mut self,
@@ -91,12 +87,22 @@ impl<'p> BlockMaker<'p> {
         let shape = plan.shape();
         let len = len_of(shape, level, number);
         let cells = len as usize * width_of(plan);
-        let mut states = vec![in alloc; 0; cells].map_err(|_| MakeFault::OutOfMemory)?;
+        let sent = sent_len(shape, level);
+        let mut states = zeros(alloc, cells).map_err(|_| MakeFault::OutOfMemory)?;
+        let mut to_left = zeros(alloc, sent).map_err(|_| MakeFault::OutOfMemory)?;
+        let mut to_right = zeros(alloc, sent).map_err(|_| MakeFault::OutOfMemory)?;
         let mut ids = [0; MAX_WINDOW_LEN];
         let window = &mut ids[..2 * level as usize + 1];
         shape.window(level, BLOCK_WINDOWS * number, window);
         if level == 0 {
-            start_states(plan, number, window, &mut states);
+            start_states(
+                plan,
+                &self.code,
+                number,
+                window,
+                &mut self.work,
+                &mut self.made,
+            );
         } else {
             gather(plan, source, level - 1, number, window, &mut self.parts)?;
             step_parts(
@@ -107,8 +113,18 @@ impl<'p> BlockMaker<'p> {
                 &mut self.work,
                 &mut self.made,
             );
-            scatter(&self.made, len as usize, &mut states);
         }
+        scatter(&self.made, len as usize, &mut states);
+        send_states(
+            plan,
+            &self.code,
+            level,
+            number,
+            &self.made,
+            &mut self.work,
+            &mut to_left,
+            &mut to_right,
+        );
         Ok(Block {
             plan,
             level,
@@ -116,6 +132,21 @@ impl<'p> BlockMaker<'p> {
             maker,
             len,
             states,
+            to_left,
+            to_right,
         })
+    }
+}
+
+ghost use Rattle.std.specs.Prelude.{◌≡◌, ◌<◌};
+
+// How many messages a block of a level holds: none on the last one.
+fn sent_len(shape: Shape, level: u32) -> usize
+    ensures { level < shape.rounds → result ≡ BLOCK_WINDOWS }
+{
+    if level < shape.rounds() {
+        BLOCK_WINDOWS as usize
+    } else {
+        0
     }
 }

@@ -1,67 +1,71 @@
-// The states of the three parts of windows, in columns.
-ghost use Rattle.std.specs.Prelude.{◌≡◌, ◌+◌, ◌<◌, ◌≤◌, length, set, IfOk};
-ghost use Rattle.win_index.specs.declared.limits.TheConstants.{BLOCK_WINDOWS};
-ghost use Rattle.unroll.specs.BlockStates.{block_len, block_state};
-ghost use Rattle.unroll.specs.WideColumns.{IsWide, AreWritten};
+// What the parts of windows give to the states one level above.
+ghost use Rattle.std.specs.Prelude.{◌≡◌, ◌+◌, ◌≤◌, [], ℕ, List, length, replicate, slice_index, IfOk};
+ghost use Rattle.unroll.specs.WideColumns.{IsWide, AreWide, AreWritten};
 
-use crate::block::Block;
 use lang_check::Plan;
 use node_lang::OutOfMemory;
 use round_columns::Columns;
-use round_eval::{rows_are_taken, width_of};
+use round_eval::width_of;
 use std::alloc::Global;
 use win_index::BLOCK_WINDOWS;
 
-// The states of the first, of the middle and of the last parts of up to 256 windows.
+// Of up to 256 windows: what the node of the first part sends to the right in the next round, what the node of the middle
+// part holds, and what the node of the last part sends to the left.
 #[derive(Drop)]
 pub(crate) struct PartColumns {
-    pub(crate) left: Columns,
+    pub(crate) from_left: Vec<u32>,
     pub(crate) own: Columns,
-    pub(crate) right: Columns,
+    pub(crate) from_right: Vec<u32>,
 }
 
 impl PartColumns {
-    // Writes the states of the parts of windows that follow one another, from a place on: the first two parts are the same
-    // in all of them, and the last parts stand in a block from an index on.
+    // Room for the parts of 256 windows.
+    pub(crate) fn new(alloc: Global, plan: &Plan) -> Result<PartColumns, OutOfMemory>
+        ensures { IfOk result (AreWide plan.now) }
+    {
+        let from_left = zeros(alloc, BLOCK_WINDOWS as usize)?;
+        let own = wide_columns(alloc, plan)?;
+        let from_right = zeros(alloc, BLOCK_WINDOWS as usize)?;
+        Ok(PartColumns {
+            from_left,
+            own,
+            from_right,
+        })
+    }
+
+    // Writes the parts of windows that follow one another, from a place on: the first two parts are the same in all of
+    // them, and what the nodes of the last parts send stands in a list from an index on.
     pub(crate) fn put_series(
         &mut self,
         place: usize,
-        count: u32,
-        left: &[u32],
+        count: usize,
+        from_left: u32,
         own: &[u32],
-        block: &Block<'_>,
-        index: u32,
+        sent: &[u32],
+        index: usize,
     )
-        requires few { place + count ≤ BLOCK_WINDOWS }
-        requires place { place + count ≤ length self.old.left.states }
-        requires own_place { place + count ≤ length self.old.own.states }
-        requires right_place { place + count ≤ length self.old.right.states }
-        requires left { length left.now ≡ self.old.left.registers }
-        requires own { length own.now ≡ self.old.own.registers }
-        requires right { length block.now.plan.program.start ≡ self.old.right.registers }
-        requires block { index + count ≤ block_len block.now.plan.ids block.now.level block.now.number }
-        ensures left { AreWritten self.old.left self.new.left place count (λ _. left.now) }
-        ensures own { AreWritten self.old.own self.new.own place count (λ _. own.now) }
-        ensures right { AreWritten self.old.right self.new.right place count
-            (λ i. block_state block.now.plan block.now.level block.now.number (index + i)) }
+        requires left { place + count ≤ length self.old.from_left.items }
+        requires own { place + count ≤ length self.old.own.states }
+        requires right { place + count ≤ length self.old.from_right.items }
+        requires sent { index + count ≤ length sent.now }
+        requires cells { length own.now ≡ self.old.own.registers }
+        ensures left { AreWritten ℕ 0 self.old.from_left.items self.new.from_left.items place count (λ _. from_left) }
+        ensures registers { self.new.own.registers ≡ self.old.own.registers }
+        ensures own { AreWritten (List ℕ) [] self.old.own.states self.new.own.states place count (λ _. own.now) }
+        ensures right { AreWritten ℕ 0 self.old.from_right.items self.new.from_right.items place count
+            (λ i. slice_index sent.now (index + i)) }
     {
-        self.left.fill_states(place, count as usize, left);
-        self.own.fill_states(place, count as usize, own);
-        put_rights(&mut self.right, place, count, block, index);
+        self.from_left[place..place + count].fill(from_left);
+        self.own.fill_states(place, count, own);
+        self.from_right[place..place + count].copy_from_slice(&sent[index..index + count]);
     }
 }
 
-// Writes the states of windows that stand in a block from an index on.
-fn put_rights(columns: &mut Columns, place: usize, count: u32, block: &Block<'_>, index: u32)
-    requires few { place + count ≤ BLOCK_WINDOWS }
-    requires place { place + count ≤ length columns.old.states }
-    requires cells { length block.now.plan.program.start ≡ columns.old.registers }
-    requires block { index + count ≤ block_len block.now.plan.ids block.now.level block.now.number }
-    ensures { AreWritten columns.old columns.new place count
-        (λ i. block_state block.now.plan block.now.level block.now.number (index + i)) }
+// A list of zeros.
+pub(crate) fn zeros(alloc: Global, len: usize) -> Result<Vec<u32>, OutOfMemory>
+    ensures { IfOk result (λ list. list.items ≡ replicate len 0) }
 {
-    rows_are_taken();
-    columns.put_rows(place, count as usize, block.states(), index as usize);
+    vec![in alloc; 0; len].map_err(|_| OutOfMemory)
 }
 
 // Columns for the states of 256 windows.

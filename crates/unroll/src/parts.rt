@@ -1,7 +1,7 @@
 // The states of the three parts of a window: its first, its middle and its last identifiers, one level lower.
 ghost use Rattle.std.specs.Prelude.{◌≡◌, ◌+◌, ◌*◌, ◌/◌, ◌%◌, ◌<◌, ◌≤◌, length, take, drop, slice_get, Some, None, IfSome, IfNone, IfOk, IfErr, OnOk};
 ghost use Rattle.unroll.specs.Below.{part};
-ghost use Rattle.unroll.specs.BlockStates.{block_len};
+ghost use Rattle.unroll.specs.BlockStates.{block_len, block_state};
 ghost use Rattle.unroll.specs.Entries.{Grows, IsEntry};
 ghost use Rattle.unroll.specs.Line.{middle_state};
 ghost use Rattle.unroll.specs.Parts.{KnowsPart, IsMissingPart};
@@ -15,14 +15,14 @@ use crate::source::Source;
 use lang_check::Plan;
 use win_index::BLOCK_WINDOWS;
 
-// The state of the part of a window from a place on, which is 0, 1 or 2.
-pub(crate) fn state_below<'s, S: Source<'s>>(
+// The block that holds the part of a window from a place on, which is 0, 1 or 2, and the place of the part in it.
+pub(crate) fn part_below<'s, S: Source<'s>>(
     plan: &Plan,
     source: &mut S,
     below: u32,
     window: &[u32],
     offset: usize,
-) -> Result<&'s [u32], MakeFault>
+) -> Result<(&'s Block<'s>, u32), MakeFault>
     requires plan { S.plan source.old ≡ plan.now }
     requires below { below < length plan.now.program.steps }
     requires window { IsWindow (2 * below + 3) plan.now.ids window.now }
@@ -30,8 +30,10 @@ pub(crate) fn state_below<'s, S: Source<'s>>(
     ensures same_plan { S.plan source.new ≡ S.plan source.old }
     ensures same_fixed { S.fixed source.new ≡ S.fixed source.old }
     ensures grows { Grows (S.entries source.old) (S.entries source.new) }
-    ensures state { IfOk result (λ s. s.now ≡ middle_state plan.now.program below (part window.now below offset)) }
-    ensures cells { IfOk result (λ s. length s.now ≡ length plan.now.program.start) }
+    ensures block { IfOk result (λ r. IsEntry plan.now (S.entries source.new) below r.0.now.number r.0.now) }
+    ensures inside { IfOk result (λ r. r.1 < block_len plan.now.ids below r.0.now.number) }
+    ensures state { IfOk result (λ r.
+        block_state plan.now below r.0.now.number r.1 ≡ middle_state plan.now.program below (part window.now below offset)) }
     ensures known { OnOk result (KnowsPart (S.entries source.new) plan.now.ids below window.now offset) }
     ensures fault { IfErr result (IsMissingPart (S.entries source.new) plan.now.ids (below + 1) window.now) }
 {
@@ -39,7 +41,7 @@ pub(crate) fn state_below<'s, S: Source<'s>>(
         .shape()
         .window_number(below, part_of(window, below, offset));
     let block = numbered_block(plan, source, below, window, offset, number, None)?;
-    Ok(block.state(number % BLOCK_WINDOWS))
+    Ok((block, number % BLOCK_WINDOWS))
 }
 
 // The block that holds the last part of a window, and the place of the part in it, where the windows that begin as this

@@ -1,5 +1,7 @@
-use Rattle.std.proofs.Common.{◌≡◌, ◌+◌, ◌*◌, ◌<◌, ◌≤◌, [], length, get_or, refl, arith, rules}
+use Rattle.std.proofs.Common.{◌+◌, ◌*◌, [], get_or, refl, ◌∙◌, arith}
+use Rattle.node_lang.specs.Node.{next}
 use Rattle.unroll.specs.BlockStates.{window_numbered, block_state}
+use Rattle.unroll.specs.WideColumns.{part_state}
 use Rattle.unroll.proofs.ColumnStates.{take_states}
 use Rattle.unroll.proofs.Lines.{middle_from_parts}
 use Rattle.unroll.proofs.gathering.step_parts.Goals as goal
@@ -8,8 +10,11 @@ pub returns-clause-states : goal.returns-clause-states
 returns-clause-states c = λ b count few held.
     let plan = c.args.plan.now in
     let low = c.args.below in
-    let made = c.step_columns.new.out.states in
-    take_states count made (block_state plan (low + 1) b) (omega (arith, few, c.step_columns.ensures.nodes, c.requires.made.1))
+    let made = c.next_columns.new.out.states in
+    let own = c.args.parts.now.own.states in
+    take_states count made (block_state plan (low + 1) b) (omega (arith, few, c.next_columns.ensures.nodes, c.requires.made.1))
     (λ i lt.
-    middle_from_parts plan.program low (low + 1) (window_numbered plan.ids (low + 1) (256 * b + i)) _ _ _ (get_or made i []) refl (held.sizes i lt)
-    (held.left i lt) (held.own i lt) (held.right i lt) (rw c.requires.code at c.step_columns.ensures.states i (omega (arith, lt, few, c.requires.parts.1.1))))
+    let stepped = rw (c.requires.code, c.deref.ensures.value, c.deref-2.ensures.value) at c.next_columns.ensures.states i (omega (arith, lt, few, c.requires.parts.1.1)) in
+    middle_from_parts plan.program low (low + 1) (window_numbered plan.ids (low + 1) (256 * b + i)) (part_state plan low b 0 i) (get_or own i [])
+    (part_state plan low b 2 i) (get_or made i []) refl (held.sizes i lt) refl (held.own i lt) refl
+    (stepped ∙ (λ j. next plan.program low (get_or own i []) (held.left i lt j) (held.right i lt j))))

@@ -1,4 +1,4 @@
-use Rattle.std.proofs.Common.{◌≡◌, ◌*◌, ◌<◌, [], length, get_or, sym, ◌∙◌, ap, arith}
+use Rattle.std.proofs.Common.{◌*◌, ◌<◌, [], length, get_or, sym, ◌∙◌, ap, arith}
 use Rattle.std.proofs.lemmas.List.FromFn.{get_or-map-range_with_len}
 use Rattle.round_eval.specs.Rows.{rows}
 use Rattle.unroll.specs.BlockStates.{MadeBlock, block_len, block_state}

@@ -1,4 +1,4 @@
-use Rattle.std.proofs.Common.{◌≡◌, ◌+◌, ◌-◌, subst, sym, arith, rules}
+use Rattle.std.proofs.Common.{◌≡◌, ◌+◌, ◌-◌, subst, arith}
 use Rattle.unroll.specs.BlockStates.{block_len}
 use Rattle.unroll.specs.Parts.{KnowsBelow}
 use Rattle.unroll.proofs.Known.{knows_all_below}
