@@ -1,6 +1,6 @@
 -- What a text reads as and its fault, by how reading it from the left ends: it stops at the first fault,
 -- and answers a program exactly where the tokens are spelled so within the limits.
-use Rattle.std.proofs.Common.{◌≡◌, ℕ, ◌≤◌, List, [], ◌∷◌, ◌++◌, append_assoc, append-nil, refl, sym, subst, ap, ◌∙◌, arith, inl, inr, true, ◌≢◌, ◌-◌, ◌<◌, length, get_or, take}
+use Rattle.std.proofs.Common.{◌≡◌, ℕ, ◌≤◌, List, [], ◌∷◌, ◌++◌, Option, Some, append_assoc, append-nil, refl, sym, subst, ap, ◌∙◌, arith, inl, inr, true, ◌≢◌, ◌-◌, ◌<◌, length, get_or, take}
 use Rattle.std.specs.Prelude.{All, sum_by, Result, Ok, Err, IfOk, IfErr}
 use Rattle.std.specs.List.{list_all}
 use Rattle.std.proofs.lemmas.Bool.{cases_order}
@@ -23,7 +23,7 @@ use Rattle.node_lang.specs.Viable.{Stands, FirstFault, Mark, node, one_at, nodes
 use Rattle.node_lang.specs.Faults.{FaultsAt, IsFirstHighByte, too_long, not_ascii, in_lexemes}
 use Rattle.node_lang.specs.Laws.{ReadingStopsAtFirstFault, FirstFaultStopsReading, OneReading, OneTextFault, ReadableTextsAreRead, ReadableTextsHaveNoFault, ReadTextsAreReadable}
 use Rattle.node_lang.specs.Parsing.{Gives, lexemes_left}
-use Rattle.node_lang.proofs.Rest.{Rest, Nothing, AToken, AnExpression, ANumber, depth_next, counted, Met, Stops, Goes, limited, checked, meets, a_program, read, went, read_next, program_read}
+use Rattle.node_lang.proofs.Rest.{Rest, Nothing, AToken, AnExpression, ANumber, depth_next, counted, Met, Stops, Goes, limited, checked, meets, step, a_program, read, went, read_next, program_read}
 use Rattle.node_lang.proofs.SmallTokens.{is_small, small_tokens}
 use Rattle.node_lang.proofs.Marks.{Shallow, shallow_at, Fine, fine, program_matches}
 use Rattle.node_lang.proofs.Places.{InRange, Place, first_place, next_of, none_of, next_nodes, whole_marks, whole_nodes, whole, Says, says, stands_met}
@@ -133,21 +133,42 @@ first_fault_of ls k from e = let judges = program_judged ls (Fault k from) e in 
 pub stops_at_first_fault : FirstFaultStopsReading
 stops_at_first_fault ls = let judges = program_judged ls (program 0 ls) refl in judges.first
 
+-- where reading goes on after so many nodes, it goes on after fewer
+goes_sooner : (w v : Rest) (n m : ℕ) (t : Token) (o : Option Rest) → n ≤ m → checked w m t o ≡ Goes v →
+    (checked w n t o ≡ Goes v) × (counted w n ≤ counted w m)
+goes_sooner (AnExpression d w) v n m t (Some u) less e = (grind (arith, nat_tests, less, e), omega (arith, less))
+goes_sooner (ANumber low high w) v n m (token.Number k) (Some u) less e = (e, less)
+goes_sooner w v n m t o less e = (e, omega (arith, less))
+
+-- so a program that is read after so many nodes is read after fewer
+read_sooner : (ls : List Lexeme) {left : List Lexeme} (w : Rest) (n m : ℕ) {count : ℕ} {p : ProgramTree} → n ≤ m → read w m ls ≡ Got p count left →
+    (c : ℕ) × (read w n ls ≡ Got p c left)
+unfolding expression
+read_sooner [] (Nothing q) n m less e = (n, cc)
+read_sooner [] w n m less e = absurd (cc)
+read_sooner (l ∷ ls) {left} w n m {count} {p} less e =
+    elim (meets w m l.token)
+    as (λ r. meets w m l.token ≡ r → went (counted w m) l.from ls r ≡ Got p count left → (c : ℕ) × (read w n (l ∷ ls) ≡ Got p c left)) [
+      | Stops k ↦ λ met e. absurd (cc)
+      | Goes v ↦ λ met e.
+          let goes = goes_sooner w v n m l.token (step w l.token) less met in
+          let rest = read_sooner ls v (counted w n) (counted w m) goes.1 e in
+          (rest.0, read_next w n l.from l.token ls ∙ ap (went (counted w n) l.from ls) goes.0 ∙ rest.1)
+    ] refl (sym (read_next w m l.from l.token ls) ∙ e)
+
 -- these lexemes spell a program within the limits
 pub record SpellsProgram (ls : List Lexeme) (p : ProgramTree) : Type 0 where
   pub tokens : tokens_in ls ≡ spelling p
   pub limits : IsWithinLimits p
 
-pub read_is_spelt : (p : ProgramTree) (count : ℕ) (ls left : List Lexeme) → list_all is_small (tokens_in ls) ≡ true → program 0 ls ≡ Got p count left → SpellsProgram ls p
-read_is_spelt p count ls left small e =
-    let judges = program_judged ls (Got p count left) e in
-    let place = judges.answers in
-    let matches = program_matches p in
+pub read_is_spelt : (p : ProgramTree) (nodes count : ℕ) (ls left : List Lexeme) → list_all is_small (tokens_in ls) ≡ true → program nodes ls ≡ Got p count left →
+    SpellsProgram ls p
+read_is_spelt p nodes count ls left small e =
+    let first = read_sooner ls a_program 0 nodes (omega arith) (sym (program_read nodes ls) ∙ e) in
+    let place = subst (Answers [] ls) first.1 (judged ls a_program first_place).answers in
     let fine = fine place.marks place.shallow (ap (list_all is_small) place.tokens ∙ small) in
-    record {
-      tokens = whole place;
-      limits = place.ends.limits (matches.small (subst Fine (sym (whole_marks place)) fine)) (omega (arith, whole_nodes place, place.few));
-    }
+    let small = (program_matches p).small (subst Fine (sym (whole_marks place)) fine) in
+    record { tokens = whole place; limits = place.ends.limits small (omega (arith, whole_nodes place, place.few)) }
 
 -- such lexemes are read as the program
 pub program_completes : (p : ProgramTree) (ls : List Lexeme) → IsWithinLimits p → tokens_in ls ≡ spelling p → program 0 ls ≡ Got p (sum_by size (terms p)) []
@@ -188,24 +209,18 @@ readable_is_read text p reads = program_completes p (lexemes_of text) reads.limi
 
 -- as no other one
 pub one_reading : OneReading
-one_reading text p q a b =
-    let first = readable_is_read text p a in
-    let second = readable_is_read text q b in
-    cc
+one_reading text p q a b = cc (readable_is_read text p a, readable_is_read text q b)
 
 -- and has no fault
 pub no_fault : ReadableTextsHaveNoFault
 no_fault text p k m reads (too_long long) = omega (arith, reads.short, long)
 no_fault text p k m reads (not_ascii n short first) = has_no_high_byte text n reads.ascii first
-no_fault text p k m reads (in_lexemes j n from short ascii at place) =
-    let whole = readable_is_read text p reads in
-    let stops = stops_at_first_fault (lexemes_of text) j from at in
-    cc
+no_fault text p k m reads (in_lexemes j n from short ascii at place) = cc (readable_is_read text p reads, stops_at_first_fault (lexemes_of text) j from at)
 
 -- a text that is read from the left reads as that program
 pub read_is_readable : ReadTextsAreReadable
 read_is_readable text p n left short ascii e =
-    let spelt = read_is_spelt p n (lexemes_of text) left (small_tokens text) e in
+    let spelt = read_is_spelt p 0 n (lexemes_of text) left (small_tokens text) e in
     record { short = short; ascii = ascii; tokens = spelt.tokens; limits = spelt.limits }
 
 -- so does one that the parser reads to its end

@@ -264,10 +264,9 @@ impl<'a> Parser<'a> {
         Ok(steps)
     }
 
-    // A whole program, up to the end of the text, by a parser that has read no node.
+    // A whole program, up to the end of the text.
     #[tactic(auto, unfolding(crate::specs::Reading::program))]
     pub(crate) fn whole(&mut self) -> Result<Program, TextFault>
-        requires { self.old.nodes ≡ 0 }
         ensures { Gives (λ p. p) self.old self.new result program }
     {
         let header = self.header()?;
