@@ -1,12 +1,13 @@
 // The states of the parts of a block's windows, from the blocks one level lower; and the states of its windows.
-ghost use Rattle.std.specs.Prelude.{◌≡◌, ℕ, ◌+◌, ◌-◌, ◌*◌, ◌^◌, ◌<◌, ◌≤◌, [], ◌∷◌, length, take, slice_get, slice_index, Some, IfErr, OnOk, IsErrOf};
+ghost use Rattle.std.specs.Prelude.{◌≡◌, ℕ, ◌+◌, ◌-◌, ◌*◌, ◌^◌, ◌<◌, ◌≤◌, [], ◌∷◌, length, take, slice_get, slice_index, Some, IsSome, IfErr, OnOk, IsErrOf};
 ghost use Rattle.round_eval.specs.Rows.{rows};
+ghost use Rattle.unroll.specs.Below.{IsBelow};
 ghost use Rattle.unroll.specs.BlockStates.{block_len, window_numbered};
 ghost use Rattle.unroll.specs.Entries.{Grows};
 ghost use Rattle.unroll.specs.HeldStates.{first_states, HoldsSent};
 ghost use Rattle.unroll.specs.MakeFaults.{IsMakeFault};
 ghost use Rattle.unroll.specs.Parts.{KnowsBelow};
-ghost use Rattle.unroll.specs.WideColumns.{IsWide, AreWide, HoldParts};
+ghost use Rattle.unroll.specs.WideColumns.{IsWide, AreWide, HoldParts, IsReady};
 ghost use Rattle.node_lang.specs.Term.{terms};
 ghost use Rattle.round_columns.specs.StackNeed.{most_columns};
 ghost use Rattle.win_index.specs.Blocks.{block_count};
@@ -21,17 +22,16 @@ use lang_check::Plan;
 use round_columns::{
     Code, Columns, Work, next_columns, start_columns, to_left_columns, to_right_columns,
 };
-use win_index::{BLOCK_WINDOWS, Shape, number_of_window, windows_have_numbers};
+use win_index::{BLOCK_WINDOWS, MAX_WINDOW_LEN, Shape, number_of_window, windows_have_numbers};
 
 // How many windows a block holds.
 pub(crate) fn len_of(shape: Shape, level: u32, number: u32) -> u32
     requires level { level ≤ shape.rounds }
     requires number { number < block_count shape.ids level }
     ensures value { result ≡ block_len shape.ids level number }
-    ensures fits { BLOCK_WINDOWS * number < 2 ^ 32 }
     ensures few { result ≤ 256 }
 {
-    (shape.count(level) - BLOCK_WINDOWS * number).min(BLOCK_WINDOWS)
+    (shape.count(level) - first_number(shape, level, number)).min(BLOCK_WINDOWS)
 }
 
 // Writes the three parts of each window of a block one level above `below`. The first window is given,
@@ -86,6 +86,55 @@ pub(crate) fn gather<'s, S: Source<'s>>(
         last_right = Some(block);
         run = next_run(plan, source, below, window, run)?;
     }
+}
+
+// The number of the first window of a block.
+fn first_number(shape: Shape, level: u32, number: u32) -> u32
+    requires level { level ≤ shape.rounds }
+    requires number { number < block_count shape.ids level }
+    ensures { result ≡ 256 * number }
+{
+    let _windows = shape.count(level);
+    BLOCK_WINDOWS * number
+}
+
+// Writes the states of the windows of a block: at level 0 by their identifiers, above it by their parts.
+pub(crate) fn write_states<'s, S: Source<'s>>(
+    plan: &Plan,
+    code: &Code,
+    source: &mut S,
+    level: u32,
+    number: u32,
+    parts: &mut PartColumns,
+    work: &mut Work,
+    made: &mut Columns,
+) -> Result<(), MakeFault>
+    requires plan { S.plan source.old ≡ plan.now }
+    requires level { level ≤ length plan.now.program.steps }
+    requires number { number < block_count plan.now.ids level }
+    requires ready { IsReady plan.now code.now work.old parts.old made.old }
+    ensures same_plan { S.plan source.new ≡ S.plan source.old }
+    ensures same_fixed { S.fixed source.new ≡ S.fixed source.old }
+    ensures grows { Grows (S.entries source.old) (S.entries source.new) }
+    ensures not_asked { level ≡ 0 → source.new ≡ source.old }
+    ensures ready { IsReady plan.now code.now work.new parts.new made.new }
+    ensures states { OnOk result (take (block_len plan.now.ids level number) made.new.states
+        ≡ first_states plan.now level number (block_len plan.now.ids level number)) }
+    ensures known { OnOk result ((low c : ℕ) → IsBelow plan.now.ids level number low c → IsSome (S.entries source.new low c)) }
+    ensures fault { IfErr result (IsMakeFault (S.entries source.new) plan.now.ids level number) }
+    ensures memory { IsErrOf result MakeFault.OutOfMemory → ⊥ }
+{
+    let shape = plan.shape();
+    let mut ids = [0; MAX_WINDOW_LEN];
+    let window = &mut ids[..2 * level as usize + 1];
+    shape.window(level, first_number(shape, level, number), window);
+    if level == 0 {
+        start_states(plan, code, number, window, work, made);
+        return Ok(());
+    }
+    gather(plan, source, level - 1, number, window, parts)?;
+    step_parts(plan, code, level - 1, parts, work, made);
+    Ok(())
 }
 
 // Writes the states of windows one level above `below`, by those of their parts.

@@ -1,6 +1,6 @@
 use crate::block::Block;
 use crate::fault::MakeFault;
-use crate::gathering::{gather, len_of, scatter, send_states, start_states, step_parts};
+use crate::gathering::{len_of, scatter, send_states, write_states};
 use crate::part_columns::{PartColumns, wide_columns, zeros};
 use crate::source::Source;
 use lang_check::Plan;
@@ -9,7 +9,7 @@ use round_columns::{Code, Columns, Work};
 use round_eval::width_of;
 use std::alloc::Global;
 use std::marker::Model;
-use win_index::{BLOCK_WINDOWS, MAX_WINDOW_LEN, Shape};
+use win_index::{BLOCK_WINDOWS, Shape};
 
 /// Makes blocks of a plan, one after another, in columns that it keeps from one block to the next. It is seen as the
 /// plan.
@@ -91,29 +91,16 @@ impl<'p> BlockMaker<'p> {
         let mut states = zeros(alloc, cells).map_err(|_| MakeFault::OutOfMemory)?;
         let mut to_left = zeros(alloc, sent).map_err(|_| MakeFault::OutOfMemory)?;
         let mut to_right = zeros(alloc, sent).map_err(|_| MakeFault::OutOfMemory)?;
-        let mut ids = [0; MAX_WINDOW_LEN];
-        let window = &mut ids[..2 * level as usize + 1];
-        shape.window(level, BLOCK_WINDOWS * number, window);
-        if level == 0 {
-            start_states(
-                plan,
-                &self.code,
-                number,
-                window,
-                &mut self.work,
-                &mut self.made,
-            );
-        } else {
-            gather(plan, source, level - 1, number, window, &mut self.parts)?;
-            step_parts(
-                plan,
-                &self.code,
-                level - 1,
-                &self.parts,
-                &mut self.work,
-                &mut self.made,
-            );
-        }
+        write_states(
+            plan,
+            &self.code,
+            source,
+            level,
+            number,
+            &mut self.parts,
+            &mut self.work,
+            &mut self.made,
+        )?;
         scatter(&self.made, len as usize, &mut states);
         send_states(
             plan,
