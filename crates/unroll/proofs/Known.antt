@@ -1,13 +1,13 @@
 -- What a source knows while blocks are asked for.
-use Rattle.std.proofs.Common.{◌≡◌, ℕ, zero, suc, ◌+◌, ◌*◌, ◌<◌, ◌≤◌, Option, Some, None, IsSome, List, [], slice_get, refl, arith}
+use Rattle.std.proofs.Common.{◌≡◌, ℕ, zero, suc, ◌+◌, ◌*◌, ◌/◌, ◌<◌, ◌≤◌, Option, Some, None, IsSome, IfSome, List, [], slice_get, refl, arith}
 use Rattle.std.proofs.lemmas.Bool.{false≢true}
 use Rattle.std.proofs.lemmas.Option.{get_or_from_slice_get}
-use Rattle.win_index.specs.Windows.{windows}
-use Rattle.unroll.specs.Below.{IsBelow}
+use Rattle.win_index.specs.Windows.{windows, number_of}
+use Rattle.unroll.specs.Below.{part, IsBelow, IsPartNumber}
 use Rattle.unroll.specs.BlockStates.{MadeBlock, window_numbered, block_len}
 use Rattle.unroll.specs.Entries.{Entries, Grows}
 use Rattle.unroll.specs.MakeFaults.{IsMakeFault}
-use Rattle.unroll.specs.Parts.{KnowsPart, KnowsParts, KnowsBelow, IsMissingPart}
+use Rattle.unroll.specs.Parts.{KnowsPart, KnowsParts, KnowsBelow, IsMissingPart, IsMissingBlock}
 use Rattle.unroll.specs.declared.fault.MakeFault.{MakeFault}
 use Rattle.unroll.specs.declared.fault.MakeFault.TheVariants.{Missing, OutOfMemory}
 
@@ -18,6 +18,9 @@ some_kept (Some b) new kept some = rw (kept b refl) refl
 -- what is known stays known
 pub still_known : (old new : Entries) (r c : ℕ) → Grows old new → IsSome (old r c) → IsSome (new r c)
 still_known old new r c grows some = some_kept (old r c) (new r c) (grows.kept r c) some
+
+pub grows_both : (old now new : Entries) → Grows old now → Grows now new → Grows old new
+grows_both old now new first later = record { kept = λ level n block at'. later.kept level n block (first.kept level n block at') }
 
 -- the three parts of a window, each with its block known
 module _ (entries : Entries) (m low : ℕ) (w : List ℕ) where
@@ -50,6 +53,30 @@ fault_of_block entries m r b place window (Missing low c) lt own missing = (
   missing.2,
 )
 fault_of_block entries m r b place window OutOfMemory lt own missing = absurd missing
+
+-- a block that is missing for the last part of a window is missing for its block
+pub fault_of_last :
+    (entries : Entries) (m low b place number : ℕ) (window : List ℕ) (fault : MakeFault) → place < block_len m (low + 1) b
+    → window_numbered m (low + 1) (256 * b + place) ≡ window → number_of (2 * low + 1) m (part window low 2) ≡ Some number
+    → IsMissingBlock entries low (number / 256) fault → IsMakeFault entries m (low + 1) b fault
+fault_of_last entries m low b place number window (Missing l c) lt own is missing =
+    rw (missing.0, missing.1) (
+      record {
+        one_lower = refl;
+        place = place;
+        inside = lt;
+        number = number;
+        is_part = rw own (record { offset = 2; three = omega arith; number_is = is });
+        block_is = refl;
+      },
+      missing.2,
+    )
+fault_of_last entries m low b place number window OutOfMemory lt own is missing = absurd missing
+
+-- what holds of what an option has, where it has something, and gives something else
+pub if_some_more : {A : Type 0} (P Q : A → Type 0) (o : Option A) → ((a : A) → P a → Q a) → IfSome o P → IfSome o Q
+if_some_more P Q None more is = tt
+if_some_more P Q (Some a) more is = more a is
 
 -- all blocks below a block are known where the parts of all its windows are
 pub knows_all_below :

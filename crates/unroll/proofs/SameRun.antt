@@ -1,7 +1,9 @@
 -- Windows that begin with the same identifiers share what a run says.
-use Rattle.std.proofs.Common.{◌≡◌, ℕ, ◌+◌, ◌-◌, ◌*◌, ◌/◌, ◌<◌, ◌≤◌, List, length, take, drop, sym, ap, ◌∙◌, arith, subst}
+use Rattle.std.proofs.Common.{◌≡◌, ℕ, ◌+◌, ◌-◌, ◌*◌, ◌/◌, ◌<◌, ◌≤◌, List, length, get_or, take, drop, sym, ap, ◌∙◌, arith, subst}
 use Rattle.std.proofs.lemmas.List.{drop-take, take-take, length-take-le, get_or-take, get_or-drop, length-drop}
+use Rattle.win_index.specs.Runs.{HasPlaces}
 use Rattle.win_index.specs.Windows.{IsWindow}
+use Rattle.win_index.specs.declared.series.RunPlaces.{RunPlaces}
 use Rattle.lang_check.specs.Plans.{ProgramForIds}
 use Rattle.unroll.specs.Below.{part}
 use Rattle.unroll.specs.Entries.{Entries, Grows}
@@ -19,6 +21,21 @@ same_inside : (w v : List ℕ) (n d len : ℕ) → d + len ≤ n → take n w �
 same_inside w v n d len fits same =
     inside_front w n d len fits ∙ ap (λ front. take len (drop d front)) same ∙ sym (inside_front v n d len fits)
 
+-- the places of a run follow from what its windows share
+same_places :
+    (m low : ℕ) (w v : List ℕ) (places : RunPlaces) → take (2 * low + 2) w ≡ take (2 * low + 2) v → HasPlaces (2 * low + 1) m w places
+    → HasPlaces (2 * low + 1) m v places
+same_places m low w v places same has =
+    let long : 2 * low + 2 ≡ 2 * low + 1 + 1 = omega arith in
+    let front : take (2 * low + 1 + 1) w ≡ take (2 * low + 1 + 1) v = subst (λ k. take k w ≡ take k v) long same in
+    let item = λ (i : ℕ) (lt : i < 2 * low + 1 + 1). sym (get_or-take (2 * low + 1 + 1) w i 0 lt) ∙ ap (λ list. get_or list i 0) front
+    ∙ get_or-take (2 * low + 1 + 1) v i 0 lt in
+    record {
+      first = rw (item 0 (omega arith), front) at has.first;
+      second = rw (item 1 (omega arith), front) at has.second;
+      end = rw front at has.end;
+    }
+
 pub same_run :
     (plan : ProgramForIds) (entries : Entries) (low : ℕ) (w v : List ℕ) (run : Run)
     → take (2 * low + 2) w ≡ take (2 * low + 2) v → IsRun plan entries low w run → IsRun plan entries low v run
@@ -28,6 +45,7 @@ same_run plan entries low w v run same is =
     let rest : take (2 * low) (drop 2 w) ≡ take (2 * low) (drop 2 v) = same_inside w v (2 * low + 2) 2 (2 * low) (omega arith) same in
     record {
       start_is = rw rest at is.start_is;
+      places_are = same_places plan.ids low w v run.places same is.places_are;
       left_is = rw left at is.left_is;
       own_is = rw middle at is.own_is;
       own_cells = is.own_cells;
@@ -41,6 +59,7 @@ pub run_grows :
 run_grows plan old new low w run grows is =
     record {
       start_is = is.start_is;
+      places_are = is.places_are;
       left_is = is.left_is;
       own_is = is.own_is;
       own_cells = is.own_cells;

@@ -1,11 +1,12 @@
 -- The parts of the windows of a series: the first two are the same in all, and the last ones stand in one block, one after another.
-use Rattle.std.proofs.Common.{◌≡◌, ℕ, ◌+◌, ◌-◌, ◌*◌, ◌/◌, ◌<◌, List, [], length, take, drop, get_or, slice_get, Some, IsSome, true, sym, ap, ◌∙◌, arith, subst}
-use Rattle.std.proofs.lemmas.List.{take_all, length-drop}
+use Rattle.std.proofs.Common.{◌≡◌, ℕ, ◌+◌, ◌-◌, ◌*◌, ◌/◌, ◌<◌, ◌≤◌, List, [], length, take, drop, get_or, slice_get, Some, IsSome, true, sym, ap, ◌∙◌, arith, subst}
+use Rattle.std.proofs.lemmas.List.{take_all, length-drop, drop-take, get_or-take, get_or-drop}
 use Rattle.std.proofs.lemmas.Nat.{div-mul-add}
 use Rattle.std.proofs.lemmas.Option.{same_Some}
 use Rattle.win_index.specs.Laws.{NumberOfWindow, WindowsHaveNumbers}
-use Rattle.win_index.specs.Runs.{IsSeries}
-use Rattle.win_index.specs.Windows.{windows}
+use Rattle.win_index.specs.Runs.{IsSeries, IsAtPlace, place_in_run}
+use Rattle.win_index.specs.Successor.{IsNext}
+use Rattle.win_index.specs.Windows.{windows, IsWindow}
 use Rattle.lang_check.specs.Plans.{ProgramForIds}
 use Rattle.node_lang.specs.Node.{to_left, to_right}
 use Rattle.unroll.specs.Below.{part}
@@ -18,45 +19,53 @@ use Rattle.unroll.specs.WideColumns.{part_state, HoldParts, AreWritten}
 use Rattle.unroll.specs.declared.part_columns.PartColumns.{PartColumns}
 use Rattle.unroll.proofs.ColumnStates.{below_sum, held_more}
 use Rattle.unroll.proofs.Known.{still_known, knows_three, window_at}
-use Rattle.unroll.proofs.SameRun.{same_run}
+use Rattle.unroll.proofs.SameRun.{same_run, slice_window, last_front}
 
 -- the last identifiers of a window one level above low are its last part
 last_part : (low : ℕ) (w : List ℕ) → length w ≡ 2 * low + 3 → part w low 2 ≡ drop 2 w
 last_part low w size = take_all (2 * low + 1) (drop 2 w) (omega (arith, length-drop 2 w, size))
 
--- Window place + i of block b of the level above low, where the window at the place begins a series whose last parts stand in block c from an index
--- on: it has the run of all its windows, and its last part stands there.
-pub record SeriesAt (plan : ProgramForIds) (entries : Entries) (low b place c index i : ℕ) (run : Run) : Type 0 where
+-- Window place + i of block b of the level above low, where the window w at the place begins a series whose last parts stand in block c from an
+-- index on: it begins as w does, it has the run of all its windows, and its last part stands there.
+pub record SeriesAt (plan : ProgramForIds) (entries : Entries) (low b place c index i : ℕ) (w : List ℕ) (run : Run) : Type 0 where
   pub next : List ℕ
+  pub next_at : slice_get (windows (2 * (low + 1) + 1) plan.ids) (256 * b + (place + i)) ≡ Some next
+  pub begins : take (2 * low + 2) w ≡ take (2 * low + 2) next
+  pub window : IsWindow (2 * (low + 1) + 1) plan.ids next
   pub numbered : window_numbered plan.ids (low + 1) (256 * b + (place + i)) ≡ next
   pub size : length next ≡ 2 * low + 3
   pub run_is : IsRun plan entries low next run
   pub right_at : slice_get (windows (2 * low + 1) plan.ids) (256 * c + (index + i)) ≡ Some (part next low 2)
 
--- the last window of a series
-pub series_last :
-    (m low n count : ℕ) (w last : List ℕ) → slice_get (windows (2 * (low + 1) + 1) m) n ≡ Some w → IsSeries (2 * low + 1) m w last count
-    → slice_get (windows (2 * (low + 1) + 1) m) (n + (count - 1)) ≡ Some last
-series_last m low n count w last at' series =
-    let level : 2 * low + 1 + 2 ≡ 2 * (low + 1) + 1 = omega arith in
-    let own : slice_get (windows (2 * low + 1 + 2) m) n ≡ Some w = subst (λ k. slice_get (windows k m) n ≡ Some w) (sym level) at' in
-    subst (λ k. slice_get (windows k m) (n + (count - 1)) ≡ Some last) level (series.last_is n own)
+-- the last part of a window stands in its run where the window's last identifier does among those that the others lack
+last_part_at :
+    (plan : ProgramForIds) (entries : Entries) (low : ℕ) (w : List ℕ) (run : Run) → IsRun plan entries low w run → IsWindow (2 * low + 1 + 2) plan.ids w
+    → slice_get (windows (2 * low + 1) plan.ids) (run.start + place_in_run (2 * low + 1) w (get_or w (2 * low + 1 + 1) 0)) ≡ Some (part w low 2)
+last_part_at plan entries low w run run_is is =
+    let last : List ℕ = part w low 2 in
+    let fits : 2 + (2 * low + 1) ≤ 2 * low + 1 + 2 = omega arith in
+    let window = slice_window plan.ids (2 * low + 1 + 2) 2 (2 * low + 1) w is fits in
+    let own = run_is.start_is.each last window (last_front low w) in
+    let long : 2 + 2 * low ≡ 2 * low + 1 + 1 = omega arith in
+    let end : get_or last (2 * low) 0 ≡ get_or w (2 * low + 1 + 1) 0 =
+    get_or-take (2 * low + 1) (drop 2 w) (2 * low) 0 (omega arith) ∙ get_or-drop 2 w (2 * low) 0 ∙ ap (λ i. get_or w i 0) long in
+    let rest : take (2 * low) (drop 2 w) ≡ drop 2 (take (2 * low + 1 + 1) w) =
+    subst (λ k. take (2 * low) (drop 2 w) ≡ drop 2 (take k w)) long (sym (drop-take 2 (2 * low) w)) in
+    rw (end, rest) at own
 
--- the last window of a series has the run of the first one
-pub run_of_last :
-    (plan : ProgramForIds) (entries : Entries) (low b place c index i : ℕ) (last : List ℕ) (run : Run) → SeriesAt plan entries low b place c index i run
-    → slice_get (windows (2 * (low + 1) + 1) plan.ids) (256 * b + (place + i)) ≡ Some last → IsRun plan entries low last run
-run_of_last plan entries low b place c index i last run stands at' =
-    subst (λ w. IsRun plan entries low w run) (sym stands.numbered ∙ window_at plan.ids (low + 1) (256 * b + (place + i)) last at') stands.run_is
+pub right_at_place :
+    (plan : ProgramForIds) (entries : Entries) (low at' : ℕ) (w : List ℕ) (run : Run) → IsRun plan entries low w run
+    → IsAtPlace (2 * low + 1) plan.ids run.places w at' → slice_get (windows (2 * low + 1) plan.ids) (run.start + at') ≡ Some (part w low 2)
+right_at_place plan entries low at' w run run_is is = rw is.place_is at (last_part_at plan entries low w run run_is is.window_is)
 
 module _ (number_of_window : NumberOfWindow) (windows_have_numbers : WindowsHaveNumbers) where
   pub series_at :
-      (plan : ProgramForIds) (entries : Entries) (low b place c index count : ℕ) (w last : List ℕ) (run : Run) → length w ≡ 2 * low + 3
+      (plan : ProgramForIds) (entries : Entries) (low b place c index count : ℕ) (w : List ℕ) (run : Run) → length w ≡ 2 * low + 3
       → slice_get (windows (2 * (low + 1) + 1) plan.ids) (256 * b + place) ≡ Some w
       → slice_get (windows (2 * low + 1) plan.ids) (256 * c + index) ≡ Some (part w low 2)
-      → IsSeries (2 * low + 1) plan.ids w last count → IsRun plan entries low w run
-      → (i : ℕ) → i < count → SeriesAt plan entries low b place c index i run
-  series_at plan entries low b place c index count w last run size at' right_at series run_is i lt =
+      → IsSeries (2 * low + 1) plan.ids w count → IsRun plan entries low w run
+      → (i : ℕ) → i < count → SeriesAt plan entries low b place c index i w run
+  series_at plan entries low b place c index count w run size at' right_at series run_is i lt =
       let m : ℕ = plan.ids in
       let level : 2 * low + 1 + 2 ≡ 2 * (low + 1) + 1 = omega arith in
       let front : 2 * low + 1 + 1 ≡ 2 * low + 2 = omega arith in
@@ -66,7 +75,7 @@ module _ (number_of_window : NumberOfWindow) (windows_have_numbers : WindowsHave
       let own : slice_get (windows (2 * low + 1 + 2) m) (256 * b + place) ≡ Some w =
       subst (λ k. slice_get (windows k m) (256 * b + place) ≡ Some w) (sym level) at' in
       let rest : slice_get (windows (2 * low + 1) m) (256 * c + index) ≡ Some (drop 2 w) = right_at ∙ ap Some (last_part low w size) in
-      let there = series.each (256 * b + place) (256 * c + index) i own rest lt in
+      let there = series (256 * b + place) (256 * c + index) i own rest lt in
       let next : List ℕ = there.0 in
       let raised : slice_get (windows (2 * (low + 1) + 1) m) (256 * b + place + i) ≡ Some next =
       subst (λ k. slice_get (windows k m) (256 * b + place + i) ≡ Some next) level there.1 in
@@ -80,17 +89,31 @@ module _ (number_of_window : NumberOfWindow) (windows_have_numbers : WindowsHave
       there.3 ∙ ap Some (sym (last_part low next next_size)) in
       record {
         next = next;
+        next_at = next_at;
+        begins = same_front;
+        window = is;
         numbered = window_at m (low + 1) (256 * b + (place + i)) next next_at;
         size = next_size;
         run_is = same_run plan entries low w next run same_front run_is;
         right_at = subst (λ n. slice_get (windows (2 * low + 1) m) n ≡ Some (part next low 2)) right_number last_at;
       }
 
+  -- such a window stands further in its run by as many places
+  pub further_place :
+      (plan : ProgramForIds) (entries : Entries) (low b place c index i at' : ℕ) (w : List ℕ) (run : Run) (stands : SeriesAt plan entries low b place c index i w run) → 256 * c + index ≡ run.start + at' → IsAtPlace (2 * low + 1) plan.ids run.places stands.next (at' + i)
+  further_place plan entries low b place c index i at' w run stands start =
+      let long : 2 * (low + 1) + 1 ≡ 2 * low + 1 + 2 = omega arith in
+      let window : IsWindow (2 * low + 1 + 2) plan.ids stands.next = subst (λ k. IsWindow k plan.ids stands.next) long stands.window in
+      let own = number_of_window (2 * low + 1) plan.ids _ (part stands.next low 2) (last_part_at plan entries low stands.next run stands.run_is window) in
+      let there = number_of_window (2 * low + 1) plan.ids (256 * c + (index + i)) (part stands.next low 2) stands.right_at in
+      let same = same_Some (run.start + place_in_run (2 * low + 1) stands.next (get_or stands.next (2 * low + 1 + 1) 0)) (256 * c + (index + i)) (sym own ∙ there) in
+      record { window_is = window; run_has = stands.run_is.places_are; place_is = omega (arith, same, start) }
+
   -- the parts of such a window are known where the block is that holds the last parts
   pub series_known :
-      (plan : ProgramForIds) (entries : Entries) (low b place c index i : ℕ) (run : Run) → IsSome (entries low c) → index + i < 256
-      → SeriesAt plan entries low b place c index i run → KnowsParts entries plan.ids low (window_numbered plan.ids (low + 1) (256 * b + (place + i)))
-  series_known plan entries low b place c index i run known small stands =
+      (plan : ProgramForIds) (entries : Entries) (low b place c index i : ℕ) (w : List ℕ) (run : Run) → IsSome (entries low c) → index + i < 256
+      → SeriesAt plan entries low b place c index i w run → KnowsParts entries plan.ids low (window_numbered plan.ids (low + 1) (256 * b + (place + i)))
+  series_known plan entries low b place c index i w run known small stands =
       subst (KnowsParts entries plan.ids low) (sym stands.numbered)
       (knows_three entries plan.ids low stands.next stands.run_is.left_known stands.run_is.own_known
       (λ number is.
@@ -102,14 +125,14 @@ module _ (number_of_window : NumberOfWindow) (windows_have_numbers : WindowsHave
 
 -- the parts of the first windows of a block, and then those of the windows of a series, for which a list holds what is sent from the right
 pub hold_series :
-    (plan : ProgramForIds) (entries : Entries) (low b place c index count : ℕ) (run : Run) (sent : List ℕ) (old now : PartColumns)
+    (plan : ProgramForIds) (entries : Entries) (low b place c index count : ℕ) (w : List ℕ) (run : Run) (sent : List ℕ) (old now : PartColumns)
     → HoldParts plan low b place old
     → ((i : ℕ) → i < count → get_or sent (index + i) 0 ≡ to_left plan.program low (block_state plan low c (index + i)))
     → AreWritten ℕ 0 old.from_left.items now.from_left.items place count (λ i. run.from_left)
     → AreWritten (List ℕ) [] old.own.states now.own.states place count (λ i. run.own.now)
     → AreWritten ℕ 0 old.from_right.items now.from_right.items place count (λ i. get_or sent (index + i) 0)
-    → ((i : ℕ) → i < count → SeriesAt plan entries low b place c index i run) → HoldParts plan low b (place + count) now
-hold_series plan entries low b place c index count run sent old now held are_sent left own right stands =
+    → ((i : ℕ) → i < count → SeriesAt plan entries low b place c index i w run) → HoldParts plan low b (place + count) now
+hold_series plan entries low b place c index count w run sent old now held are_sent left own right stands =
     let of_window = λ (d i : ℕ) (lt : i < count). ap (λ w. middle_state plan.program low (part w low d)) (sym (stands i lt).numbered) in
     record {
       sizes = below_sum (λ i. length (window_numbered plan.ids (low + 1) (256 * b + i)) ≡ 2 * low + 3) place count held.sizes
@@ -124,6 +147,54 @@ hold_series plan entries low b place c index count run sent old now held are_sen
           (λ i lt. are_sent i lt ∙ ap (to_left plan.program low)
           (ap (middle_state plan.program low) (window_at plan.ids low (256 * c + (index + i)) (part (stands i lt).next low 2) (stands i lt).right_at)
           ∙ of_window 2 i lt));
+    }
+
+-- what one value was written into is so still in a part of it, where nothing was written since
+pub still_written :
+    (A : Type 0) (none x : A) (first old now : List A) (from most place count : ℕ) → AreWritten A none first old from most (λ _. x) → now ≡ old
+    → from ≤ place → place + count ≤ from + most → AreWritten A none old now place count (λ _. x)
+still_written A none x first old now from most place count written same after within =
+    record {
+      size = ap length same;
+      here = λ i lt.
+          let sum : from + (place - from + i) ≡ place + i = omega (arith, after) in
+          let here : get_or old (from + (place - from + i)) none ≡ x = written.here (place - from + i) (omega (arith, after, within, lt)) in
+          rw same (rw sum at here);
+      before = λ i lt. ap (λ list. get_or list i none) same;
+    }
+
+pub written_same :
+    (A : Type 0) (none x : A) (first old now : List A) (from most : ℕ) → now ≡ old → AreWritten A none first old from most (λ _. x)
+    → AreWritten A none first now from most (λ _. x)
+written_same A none x first old now from most same written = rw same written
+
+-- the window after the last one of a series begins as the first one of its run does, where it begins as the last one
+pub later_window :
+    (m low b place count : ℕ) (first w last later : List ℕ) → 1 ≤ count
+    → slice_get (windows (2 * (low + 1) + 1) m) (256 * b + (place + (count - 1))) ≡ Some last → take (2 * low + 2) w ≡ take (2 * low + 2) last
+    → take (2 * low + 2) w ≡ take (2 * low + 2) first → take (2 * low + 1 + 1) later ≡ take (2 * low + 1 + 1) last → IsNext (2 * low + 1 + 2) m last later
+    → (slice_get (windows (2 * (low + 1) + 1) m) (256 * b + (place + count)) ≡ Some later) × (take (2 * low + 2) later ≡ take (2 * low + 2) first)
+later_window m low b place count first w last later some at' begins own same next =
+    let long : 2 * low + 1 + 2 ≡ 2 * (low + 1) + 1 = omega arith in
+    let front : 2 * low + 1 + 1 ≡ 2 * low + 2 = omega arith in
+    let n : ℕ = 256 * b + (place + (count - 1)) in
+    let sum : n + 1 ≡ 256 * b + (place + count) = omega (arith, some) in
+    let own_at = subst (λ k. slice_get (windows k m) n ≡ Some last) (sym long) at' in
+    let follows = subst (λ k. slice_get (windows k m) (n + 1) ≡ Some later) long (next n own_at) in
+    let alike = subst (λ k. take k later ≡ take k last) front same in
+    (subst (λ k. slice_get (windows (2 * (low + 1) + 1) m) k ≡ Some later) sum follows, alike ∙ sym begins ∙ own)
+
+-- the parts of the first windows of a block, where only later items were written
+pub still_hold :
+    (plan : ProgramForIds) (low b place most : ℕ) (left : ℕ) (own : List ℕ) (old now : PartColumns) → HoldParts plan low b place old
+    → AreWritten ℕ 0 old.from_left.items now.from_left.items place most (λ _. left)
+    → AreWritten (List ℕ) [] old.own.states now.own.states place most (λ _. own) → now.from_right ≡ old.from_right → HoldParts plan low b place now
+still_hold plan low b place most left own old now held lefts owns rights =
+    record {
+      sizes = held.sizes;
+      left = λ i lt. lefts.before i lt ∙ held.left i lt;
+      own = λ i lt. owns.before i lt ∙ held.own i lt;
+      right = λ i lt. ap (λ list. get_or list.items i 0) rights ∙ held.right i lt;
     }
 
 -- the parts of the first windows of a block are known, and those of as many windows more

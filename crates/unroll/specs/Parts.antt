@@ -1,9 +1,9 @@
 -- What the functions that make a block say of the source, one window at a time.
-use Rattle.std.specs.Prelude.{◌≡◌, ℕ, ◌+◌, ◌*◌, ◌/◌, ◌<◌, List, take, drop, length, Some, None, IsSome}
+use Rattle.std.specs.Prelude.{◌≡◌, ℕ, ◌+◌, ◌*◌, ◌/◌, ◌<◌, List, take, drop, length, slice_get, Some, None, IsSome}
 use Rattle.lang_check.specs.Plans.{ProgramForIds}
 use Rattle.node_lang.specs.Node.{to_right}
-use Rattle.win_index.specs.Runs.{IsRunStart}
-use Rattle.win_index.specs.Windows.{number_of}
+use Rattle.win_index.specs.Runs.{IsRunStart, HasPlaces, IsEndOfSame}
+use Rattle.win_index.specs.Windows.{windows, number_of}
 use Rattle.unroll.specs.Line.{middle_state}
 use Rattle.unroll.specs.Below.{part, IsPartNumber}
 use Rattle.unroll.specs.BlockStates.{window_numbered}
@@ -21,10 +21,11 @@ abbrev pub KnowsPart : Entries → ℕ → ℕ → List ℕ → ℕ → Type 0
 KnowsPart entries m low w d = (n : ℕ) → number_of (2 * low + 1) m (part w low d) ≡ Some n → IsSome (entries low (n / 256))
 
 -- What the windows one level above low share that begin as w does, with all identifiers but the last: the number of the first window that
--- begins as their last parts do, what the node of their first part sends to the right, and the state of their middle part. The blocks of
--- these two are known.
+-- begins as their last parts do, the places of these, what the node of their first part sends to the right, and the state of their middle
+-- part. The blocks of these two are known.
 pub record IsRun (plan : ProgramForIds) (entries : Entries) (low : ℕ) (w : List ℕ) (run : Run) : Type 0 where
   pub start_is : IsRunStart (2 * low) plan.ids (take (2 * low) (drop 2 w)) run.start
+  pub places_are : HasPlaces (2 * low + 1) plan.ids w run.places
   pub left_is : run.from_left ≡ to_right plan.program low (middle_state plan.program low (part w low 0))
   pub own_is : run.own.now ≡ middle_state plan.program low (part w low 1)
   pub own_cells : length run.own.now ≡ length plan.program.start
@@ -41,3 +42,12 @@ abbrev pub IsMissingPart : Entries → ℕ → ℕ → List ℕ → MakeFault �
 IsMissingPart entries m r w (Missing low c) =
     (r ≡ low + 1) × ((n : ℕ) × IsPartNumber m low w n × (c ≡ n / 256)) × (entries low c ≡ None)
 IsMissingPart entries m r w OutOfMemory = ⊥
+
+-- the block with this number, of this level, is missing: no other fault comes
+abbrev pub IsMissingBlock : Entries → ℕ → ℕ → MakeFault → Type 0
+IsMissingBlock entries level number (Missing low c) = (low ≡ level) × (c ≡ number) × (entries level number ≡ None)
+IsMissingBlock entries level number OutOfMemory = ⊥
+
+-- the window of level r with number n is the last one that begins as w does, with all identifiers but the last
+abbrev pub EndsAt : ℕ → ℕ → List ℕ → ℕ → Type 0
+EndsAt m r w n = (last : List ℕ) × (slice_get (windows (2 * r + 1) m) n ≡ Some last) × IsEndOfSame (2 * r + 1) m w last

@@ -1,22 +1,23 @@
 // The states of the parts of a block's windows, from the blocks one level lower; and the states of its windows.
-ghost use Rattle.std.specs.Prelude.{◌≡◌, ℕ, ◌+◌, ◌-◌, ◌*◌, ◌^◌, ◌<◌, ◌≤◌, [], ◌∷◌, length, take, slice_get, slice_index, Some, IsSome, IfErr, OnOk, IsErrOf};
+ghost use Rattle.std.specs.Prelude.{◌≡◌, ℕ, ◌+◌, ◌-◌, ◌*◌, ◌^◌, ◌<◌, ◌≤◌, [], ◌∷◌, length, take, slice_get, slice_index, Some, IsSome, IfSome, IfOk, IfErr, OnOk, IsErrOf};
 ghost use Rattle.round_eval.specs.Rows.{rows};
 ghost use Rattle.unroll.specs.Below.{IsBelow};
 ghost use Rattle.unroll.specs.BlockStates.{block_len, window_numbered};
-ghost use Rattle.unroll.specs.Entries.{Grows};
+ghost use Rattle.unroll.specs.Entries.{Grows, IsEntry};
 ghost use Rattle.unroll.specs.HeldStates.{first_states, HoldsSent};
 ghost use Rattle.unroll.specs.MakeFaults.{IsMakeFault};
-ghost use Rattle.unroll.specs.Parts.{KnowsBelow};
+ghost use Rattle.unroll.specs.Parts.{KnowsBelow, IsRun, EndsAt};
 ghost use Rattle.unroll.specs.WideColumns.{IsWide, AreWide, HoldParts, IsReady};
 ghost use Rattle.node_lang.specs.Term.{terms};
 ghost use Rattle.round_columns.specs.StackNeed.{most_columns};
 ghost use Rattle.win_index.specs.Blocks.{block_count};
 ghost use Rattle.win_index.specs.Windows.{windows, IsWindow};
 
+use crate::block::Block;
 use crate::fault::MakeFault;
 use crate::part_columns::PartColumns;
-use crate::parts::right_part;
-use crate::run::{next_run, start_run};
+use crate::parts::numbered_block;
+use crate::run::{Run, next_run, start_run};
 use crate::source::Source;
 use lang_check::Plan;
 use round_columns::{
@@ -60,31 +61,92 @@ pub(crate) fn gather<'s, S: Source<'s>>(
     ensures fault { IfErr result (IsMakeFault (S.entries source.new) plan.now.ids (below + 1) number) }
     ensures memory { IsErrOf result MakeFault.OutOfMemory → ⊥ }
 {
-    number_of_window();
-    windows_have_numbers();
     let shape = plan.shape();
     let len = len_of(shape, below + 1, number);
     let mut place = 0;
-    let mut run = start_run(plan, source, below, window)?;
-    let mut last_right = None;
+    let mut last = None;
     loop {
-        let (block, index) = right_part(plan, source, below, window, run.start, last_right)?;
-        let count = shape.series(below, window, (len - place).min(block.len() - index));
-        let sent = block.to_left();
-        parts.put_series(
+        let run = start_run(plan, source, below, window)?;
+        let (after, block) = gather_run(
+            plan, source, below, number, len, place, window, run, parts, last,
+        )?;
+        if after == len {
+            return Ok(());
+        }
+        place = after;
+        last = Some(block);
+        next_run(shape, below, window);
+    }
+}
+
+// Writes the parts of those windows of a block, from this place on, that begin as the window there does, and says up to
+// which place these are, and which block holds the last part of the last of them. The block that held such a part before
+// may be given.
+fn gather_run<'s, S: Source<'s>>(
+    plan: &Plan,
+    source: &mut S,
+    below: u32,
+    number: u32,
+    len: u32,
+    from: u32,
+    window: &[u32],
+    run: Run<'s>,
+    parts: &mut PartColumns,
+    given: Option<&'s Block<'s>>,
+) -> Result<(u32, &'s Block<'s>), MakeFault>
+    requires plan { S.plan source.old ≡ plan.now }
+    requires below { below < length plan.now.program.steps }
+    requires number { number < block_count plan.now.ids (below + 1) }
+    requires len { len ≡ block_len plan.now.ids (below + 1) number }
+    requires from { from < len }
+    requires here { slice_get (windows (2 * (below + 1) + 1) plan.now.ids) (256 * number + from) ≡ Some window.now }
+    requires window { IsWindow (2 * below + 3) plan.now.ids window.now }
+    requires run { IsRun plan.now (S.entries source.old) below window.now run }
+    requires given { IfSome given (λ b. IsEntry plan.now (S.entries source.old) below b.now.number b.now) }
+    requires wide { AreWide plan.now parts.old }
+    requires states { HoldParts plan.now below number from parts.old }
+    requires known { KnowsBelow (S.entries source.old) plan.now.ids (below + 1) number from }
+    ensures same_plan { S.plan source.new ≡ S.plan source.old }
+    ensures same_fixed { S.fixed source.new ≡ S.fixed source.old }
+    ensures grows { Grows (S.entries source.old) (S.entries source.new) }
+    ensures wide { AreWide plan.now parts.new }
+    ensures later { IfOk result (λ r. (from < r.0) × (r.0 ≤ len)) }
+    ensures ended { IfOk result (λ r. r.0 < len → EndsAt plan.now.ids (below + 1) window.now (256 * number + (r.0 - 1))) }
+    ensures block { IfOk result (λ r. IsEntry plan.now (S.entries source.new) below r.1.now.number r.1.now) }
+    ensures states { IfOk result (λ r. HoldParts plan.now below number r.0 parts.new) }
+    ensures known { IfOk result (λ r. KnowsBelow (S.entries source.new) plan.now.ids (below + 1) number r.0) }
+    ensures fault { IfErr result (IsMakeFault (S.entries source.new) plan.now.ids (below + 1) number) }
+    ensures memory { IsErrOf result MakeFault.OutOfMemory → ⊥ }
+{
+    number_of_window();
+    windows_have_numbers();
+    let shape = plan.shape();
+    let _windows = shape.count(below);
+    let mut at = shape.place_in_run(below, window);
+    let most = (len - from).min(run.places.rest(at));
+    parts.put_fronts(from as usize, most as usize, run.from_left, run.own);
+    let mut place = from;
+    let mut last = given;
+    loop {
+        let (block, index) = numbered_block(plan, source, below, run.start + at, last)?;
+        let count = run
+            .places
+            .series(at, (len - place).min(block.len() - index));
+        parts.put_lasts(
             place as usize,
             count as usize,
-            run.from_left,
-            run.own,
-            sent,
+            block.to_left(),
             index as usize,
         );
         place += count;
         if place == len {
-            return Ok(());
+            return Ok((place, block));
         }
-        last_right = Some(block);
-        run = next_run(plan, source, below, window, run)?;
+        let Some(next) = run.places.after(at + count - 1) else {
+            return Ok((place, block));
+        };
+        at = next;
+        last = Some(block);
     }
 }
 

@@ -33,30 +33,30 @@ impl PartColumns {
         })
     }
 
-    // Writes the parts of windows that follow one another, from a place on: the first two parts are the same in all of
-    // them, and what the nodes of the last parts send stands in a list from an index on.
-    pub(crate) fn put_series(
-        &mut self,
-        place: usize,
-        count: usize,
-        from_left: u32,
-        own: &[u32],
-        sent: &[u32],
-        index: usize,
-    )
+    // Writes the first two parts of windows that follow one another, from a place on: they are the same in all of them.
+    pub(crate) fn put_fronts(&mut self, place: usize, count: usize, from_left: u32, own: &[u32])
         requires left { place + count ≤ length self.old.from_left.items }
         requires own { place + count ≤ length self.old.own.states }
-        requires right { place + count ≤ length self.old.from_right.items }
-        requires sent { index + count ≤ length sent.now }
         requires cells { length own.now ≡ self.old.own.registers }
         ensures left { AreWritten ℕ 0 self.old.from_left.items self.new.from_left.items place count (λ _. from_left) }
         ensures registers { self.new.own.registers ≡ self.old.own.registers }
         ensures own { AreWritten (List ℕ) [] self.old.own.states self.new.own.states place count (λ _. own.now) }
-        ensures right { AreWritten ℕ 0 self.old.from_right.items self.new.from_right.items place count
-            (λ i. slice_index sent.now (index + i)) }
+        ensures right { self.new.from_right ≡ self.old.from_right }
     {
         self.from_left[place..place + count].fill(from_left);
         self.own.fill_states(place, count, own);
+    }
+
+    // Writes the last parts of windows that follow one another, from a place on: what their nodes send stands in a list from
+    // an index on.
+    pub(crate) fn put_lasts(&mut self, place: usize, count: usize, sent: &[u32], index: usize)
+        requires right { place + count ≤ length self.old.from_right.items }
+        requires sent { index + count ≤ length sent.now }
+        ensures left { self.new.from_left ≡ self.old.from_left }
+        ensures own { self.new.own ≡ self.old.own }
+        ensures right { AreWritten ℕ 0 self.old.from_right.items self.new.from_right.items place count
+            (λ i. slice_index sent.now (index + i)) }
+    {
         self.from_right[place..place + count].copy_from_slice(&sent[index..index + count]);
     }
 }

@@ -1,20 +1,23 @@
 // Runs of windows: those that begin with the same identifiers, all but the last.
-ghost use Rattle.std.specs.Prelude.{◌≡◌, ℕ, ◌+◌, ◌*◌, ◌<◌, length, take, drop, slice_get, Some, IfOk, IfErr};
+ghost use Rattle.std.specs.Prelude.{◌≡◌, ℕ, List, ◌+◌, ◌*◌, ◌<◌, length, take, drop, slice_get, Some, IfOk, IfErr};
 ghost use Rattle.unroll.specs.Entries.{Grows};
 ghost use Rattle.unroll.specs.Parts.{IsRun, IsMissingPart};
-ghost use Rattle.win_index.specs.Runs.{IsRunStart};
+ghost use Rattle.win_index.specs.Runs.{IsRunStart, IsEndOfSame};
 ghost use Rattle.win_index.specs.Windows.{windows, IsWindow};
 
 use crate::fault::MakeFault;
 use crate::parts::part_below;
 use crate::source::Source;
 use lang_check::Plan;
+use win_index::{RunPlaces, Shape};
 
 // What the windows of a run share: the number of the first of the windows one level lower among which their last parts
-// stand; what the node of their first part sends to the right in the next round; what the node of their middle part holds.
+// stand, and their places there; what the node of their first part sends to the right in the next round; what the node of
+// their middle part holds.
 #[derive(Clone, Copy)]
 pub(crate) struct Run<'s> {
     pub(crate) start: u32,
+    pub(crate) places: RunPlaces,
     pub(crate) from_left: u32,
     pub(crate) own: &'s [u32],
 }
@@ -38,41 +41,26 @@ pub(crate) fn start_run<'s, S: Source<'s>>(
     let (first, left_index) = part_below(plan, source, below, window, 0)?;
     let (middle, own_index) = part_below(plan, source, below, window, 1)?;
     let start = last_start(plan, below, window);
+    let places = plan.shape().run_places(below, window);
     Ok(Run {
         start,
+        places,
         from_left: first.to_right(left_index),
         own: middle.state(own_index),
     })
 }
 
-// Goes from a window one level above `below` to the next one, and from its run to that of the next one.
-pub(crate) fn next_run<'s, S: Source<'s>>(
-    plan: &Plan,
-    source: &mut S,
-    below: u32,
-    window: &mut [u32],
-    run: Run<'s>,
-) -> Result<Run<'s>, MakeFault>
-    requires plan { S.plan source.old ≡ plan.now }
-    requires below { below < length plan.now.program.steps }
-    requires window { IsWindow (2 * below + 3) plan.now.ids window.old }
-    requires run { IsRun plan.now (S.entries source.old) below window.old run }
-    ensures same_plan { S.plan source.new ≡ S.plan source.old }
-    ensures same_fixed { S.fixed source.new ≡ S.fixed source.old }
-    ensures grows { Grows (S.entries source.old) (S.entries source.new) }
-    ensures next { (n : ℕ) → slice_get (windows (2 * (below + 1) + 1) plan.now.ids) n ≡ Some window.old
-        → n + 1 < length (windows (2 * (below + 1) + 1) plan.now.ids)
-        → slice_get (windows (2 * (below + 1) + 1) plan.now.ids) (n + 1) ≡ Some window.new }
-    ensures window { IsWindow (2 * below + 3) plan.now.ids window.new }
-    ensures run { IfOk result (λ run. IsRun plan.now (S.entries source.new) below window.new run) }
-    ensures fault { IfErr result (IsMissingPart (S.entries source.new) plan.now.ids (below + 1) window.new) }
+// Goes from a window one level above `below` to the first one after the windows that begin as it does.
+pub(crate) fn next_run(shape: Shape, below: u32, window: &mut [u32])
+    requires below { below < shape.rounds }
+    requires window { IsWindow (2 * below + 3) shape.ids window.old }
+    ensures next { (n : ℕ) (last : List ℕ) → slice_get (windows (2 * (below + 1) + 1) shape.ids) n ≡ Some last
+        → IsEndOfSame (2 * (below + 1) + 1) shape.ids window.old last
+        → n + 1 < length (windows (2 * (below + 1) + 1) shape.ids)
+        → slice_get (windows (2 * (below + 1) + 1) shape.ids) (n + 1) ≡ Some window.new }
+    ensures window { IsWindow (2 * below + 3) shape.ids window.new }
 {
-    let shape = plan.shape();
-    if shape.next_in_run(below + 1, window) {
-        return Ok(run);
-    }
-    shape.next_window(below + 1, window);
-    start_run(plan, source, below, window)
+    shape.next_run(below + 1, window);
 }
 
 // The number of the first window that begins as the last part of a window does, with all identifiers but the last.

@@ -9,7 +9,9 @@ pub mod Sizes
 pub mod Writing
 pub mod Levels
 pub mod RunStarts
+pub mod FrontPlaces
 pub mod SeriesPlaces
+pub mod LaterPlaces
 pub mod Arcs
 pub mod Tuples
 pub mod Order

@@ -1,16 +1,17 @@
 -- The window after a window: the next number in the last cell, or else the next front with its least number.
-use Rattle.std.proofs.Common.{◌≡◌, ◌≢◌, ℕ, zero, suc, ◌+◌, ◌-◌, ◌*◌, ◌<◌, ◌≤◌, cond, Option, List, [], ◌∷◌, ◌++◌, length, get_or, take, set, find, slice_get, Some, None, AllPairs, sym, ap, ◌∙◌, arith, length-append, add-one, ⊎_elim}
+use Rattle.std.proofs.Common.{◌≡◌, ◌≢◌, ℕ, zero, suc, ◌+◌, ◌-◌, ◌*◌, ◌<◌, ◌≤◌, cond, Option, List, [], ◌∷◌, ◌++◌, length, get_or, take, set, find, slice_get, Some, None, AllPairs, refl, sym, ap, ◌∙◌, arith, length-append, add-one, ⊎_elim}
 use Rattle.std.specs.List.{range_with_len}
 use Rattle.std.proofs.Math.Nat.{suc-mul}
-use Rattle.std.proofs.lemmas.List.{same_from_push, take_more, take_more_set, take-take, length-take-le, get_or-take, get_or-set_same, get_or-set_other}
+use Rattle.std.proofs.lemmas.List.{take_all, length-set, same_from_push, take_more, take_more_set, take-take, length-take-le, get_or-take, get_or-set_same, get_or-set_other}
 use Rattle.std.proofs.lemmas.Bool.{cases_lt, not_from_false}
 use Rattle.std.proofs.lemmas.List.Elements.{All-take}
 use Rattle.std.proofs.lemmas.Option.{none-some, slice_get_within}
 use Rattle.win_index.specs.Windows.{is_used, unused, windows, IsWindow}
+use Rattle.win_index.specs.Runs.{IsLastOfRun}
 use Rattle.win_index.specs.Successor.{IsNext, IsLast}
 use Rattle.win_index.proofs.Kept.{kept, kept_at, kept_is, kept_suc, kept_own, kept_rises}
-use Rattle.win_index.proofs.Unused.{lacks, length-unused, lacks_from_differs}
-use Rattle.win_index.proofs.Positions.{window_place}
+use Rattle.win_index.proofs.Unused.{lacks, length-unused, lacks_from_differs, unused_at}
+use Rattle.win_index.proofs.Positions.{window_place, free_at}
 use Rattle.win_index.proofs.Numbers.{window_parts, window_from_parts, windows_all, length-windows}
 
 -- the first number from low on that the list lacks
@@ -195,3 +196,26 @@ none_larger k m last x list more lt none window =
     absurd (omega (arith, own, all, kept_rises (lacks front) low x (omega arith))))
     (λ (within : x ≤ get_or list last 0). within)
     (cases_lt (get_or list last 0) x)
+
+-- the last of the windows with one front ends with the greatest number that the front lacks
+pub run_ends :
+    (k m last : ℕ) (list : List ℕ) → k ≡ last + 1 → IsWindow k m list → IsLastOfRun k m list
+    → first_lacked m (take last list) (get_or list last 0 + 1) ≡ None
+run_ends k m last list more window greatest =
+    let size = window.size in
+    let lt : last < length list = omega arith in
+    let before : k - 1 ≡ last = omega arith in
+    let x : ℕ = get_or list last 0 in
+    let front : List ℕ = take last list in
+    let own = unused_at front m x (window.below last 0 lt) (free_at list last window.distinct lt) in
+    elim (first_lacked m front (x + 1)) as (λ o. first_lacked m front (x + 1) ≡ o → o ≡ None) [
+      | None ↦ λ found. refl
+      | Some y ↦ λ found.
+          let whole : take k list ≡ list = take_all k list (omega arith) in
+          let whole_set : take k (set list last y) ≡ set list last y = take_all k (set list last y) (omega (arith, length-set list last y)) in
+          let step : IsNext k m list (set list last y) = rw (whole, whole_set) at (next_in_last_cell k m last y list more lt found) in
+          let other = next_is_window k m list (set list last y) window step in
+          let within : y ≤ x = rw before at (greatest y (rw before other)) in
+          let kept = kept_is (lacks front) m (length (unused x front) + 1) y (after m (length (unused x front)) x front own ∙ found) in
+          absurd (omega (arith, kept.before, kept_rises (lacks front) y x within))
+    ] refl

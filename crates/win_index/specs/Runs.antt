@@ -1,6 +1,7 @@
 -- Runs: the windows that share all identifiers but the last stand together, in the order of their last identifiers.
-use Rattle.std.specs.Prelude.{◌≡◌, ◌⊎◌, ℕ, ◌+◌, ◌-◌, ◌<◌, ◌≤◌, List, take, drop, set, length, slice_index, slice_get, Some}
+use Rattle.std.specs.Prelude.{◌≡◌, ℕ, ◌+◌, ◌-◌, ◌<◌, ◌≤◌, List, take, drop, set, length, slice_index, slice_get, Some}
 use Rattle.win_index.specs.Windows.{unused, windows, IsWindow}
+use Rattle.win_index.specs.declared.series.RunPlaces.{RunPlaces}
 
 -- The windows of length k+1 below m that begin with the k identifiers of the front stand from number `first` on, as many as the front lacks
 -- identifiers, each at the place of its last identifier among these.
@@ -13,20 +14,34 @@ pub record IsRunStart (k m : ℕ) (front : List ℕ) (first : ℕ) : Type 0 wher
 abbrev pub IsLastOfRun : ℕ → ℕ → List ℕ → Type 0
 IsLastOfRun k m window = (x : ℕ) → IsWindow k m (set window (k - 1) x) → x ≤ slice_index window (k - 1)
 
+-- the last window of length k below m that has the same numbers as this one but for the last
+pub record IsEndOfSame (k m : ℕ) (window last : List ℕ) : Type 0 where
+  pub last_is : IsWindow k m last
+  pub same : take (k - 1) last ≡ take (k - 1) window
+  pub none_larger : IsLastOfRun k m last
+
 -- A series of windows of length k+2 below m, as many as count: they follow one another and share all identifiers but the last, and their last
 -- parts, the windows of length k without the first two identifiers, follow one another too.
-pub record IsSeries (k m : ℕ) (first last : List ℕ) (count : ℕ) : Type 0 where
-  pub each : (n low j : ℕ) → slice_get (windows (k + 2) m) n ≡ Some first → slice_get (windows k m) low ≡ Some (drop 2 first) → j < count
-      → (window : List ℕ) × (slice_get (windows (k + 2) m) (n + j) ≡ Some window) × (take (k + 1) window ≡ take (k + 1) first)
-      × (slice_get (windows k m) (low + j) ≡ Some (drop 2 window))
-  pub last_is : (n : ℕ) → slice_get (windows (k + 2) m) n ≡ Some first → slice_get (windows (k + 2) m) (n + (count - 1)) ≡ Some last
+abbrev pub IsSeries : ℕ → ℕ → List ℕ → ℕ → Type 0
+IsSeries k m first count =
+    (n low j : ℕ) → slice_get (windows (k + 2) m) n ≡ Some first → slice_get (windows k m) low ≡ Some (drop 2 first) → j < count
+    → (window : List ℕ) × (slice_get (windows (k + 2) m) (n + j) ≡ Some window) × (take (k + 1) window ≡ take (k + 1) first)
+    × (slice_get (windows k m) (low + j) ≡ Some (drop 2 window))
 
--- none of the first two identifiers of a front stands, among the numbers that the rest lacks, at a place from low on and below high
-abbrev pub IsClear : List ℕ → ℕ → ℕ → Type 0
-IsClear front low high = (i : ℕ) → i < 2
-    → (length (unused (slice_index front i) (drop 2 front)) < low) ⊎ (high ≤ length (unused (slice_index front i) (drop 2 front)))
+-- Where the number x stands among those that a window of length k+2 lacks without its last and its first two identifiers: the window's last part
+-- stands there, with its last identifier for x, among the windows of length k that begin as it does.
+abbrev pub place_in_run : ℕ → List ℕ → ℕ → ℕ
+place_in_run k window x = length (unused x (drop 2 (take (k + 1) window)))
 
--- a place among the numbers that the rest of a front lacks at which nothing more comes: their end, or that of one of the first two identifiers
-abbrev pub IsEnd : ℕ → List ℕ → ℕ → Type 0
-IsEnd m front place = (place ≡ length (unused m (drop 2 front)))
-    ⊎ ((i : ℕ) × (i < 2) × (place ≡ length (unused (slice_index front i) (drop 2 front))))
+-- the last parts of the windows that begin as this one does, all identifiers but the last, stand at all places below the end but at the two gaps:
+-- there its own first two identifiers would come again
+pub record HasPlaces (k m : ℕ) (window : List ℕ) (places : RunPlaces) : Type 0 where
+  pub first : place_in_run k window (slice_index window 0) ≡ places.first_gap
+  pub second : place_in_run k window (slice_index window 1) ≡ places.second_gap
+  pub end : place_in_run k window m ≡ places.end
+
+-- a window of length k+2 below m whose run has these places, and whose last part stands at this one
+pub record IsAtPlace (k m : ℕ) (places : RunPlaces) (window : List ℕ) (place : ℕ) : Type 0 where
+  pub window_is : IsWindow (k + 2) m window
+  pub run_has : HasPlaces k m window places
+  pub place_is : place_in_run k window (slice_index window (k + 1)) ≡ place

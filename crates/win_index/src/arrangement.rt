@@ -1,10 +1,10 @@
 // Lists of distinct numbers below `ids`, of any length, in lexicographic order.
-ghost use Rattle.std.specs.Prelude.{◌≡◌, ◌≢◌, ℕ, ◌+◌, ◌-◌, ◌^◌, ◌<◌, ◌≤◌, ◌↔◌, IsTrue, IfSome, Some, not, find, length, take, slice_get, nat_lt, count_by, AllPairs};
+ghost use Rattle.std.specs.Prelude.{◌≡◌, ◌≢◌, ℕ, ◌+◌, ◌-◌, ◌^◌, ◌<◌, ◌≤◌, ◌↔◌, IsTrue, IfSome, Some, List, not, find, length, take, slice_get, nat_lt, count_by, AllPairs};
 ghost use Rattle.std.specs.Bool.{OnTrue, OnFalse};
 ghost use Rattle.std.specs.List.{range_with_len};
 ghost use Rattle.win_index.specs.Windows.{is_used, unused, windows, number_of, IsWindow};
 ghost use Rattle.win_index.specs.Falling.{falling};
-ghost use Rattle.win_index.specs.Runs.{IsRunStart, IsLastOfRun};
+ghost use Rattle.win_index.specs.Runs.{IsRunStart, IsLastOfRun, IsEndOfSame};
 ghost use Rattle.win_index.specs.Successor.{IsNext, IsLast};
 
 // The lists of one length, in order. Their number has at most 64 bits.
@@ -97,6 +97,25 @@ impl Lists {
             return false;
         };
         list[last] = next;
+        true
+    }
+
+    // Writes the next list that differs before the last number over this one, or says that there is none such.
+    pub(crate) fn write_next_run(self, list: &mut [u32]) -> bool
+        requires some { 1 ≤ self.len }
+        requires window { IsWindow self.len self.ids list.old }
+        ensures next { OnTrue result ((last : List ℕ) → IsEndOfSame self.len self.ids list.old last → IsNext self.len self.ids last list.new) }
+        ensures last { OnFalse result ((last : List ℕ) → IsEndOfSame self.len self.ids list.old last → IsLast self.len self.ids last) }
+        ensures same { OnFalse result (list.new ≡ list.old) }
+        ensures window { IsWindow self.len self.ids list.new }
+    {
+        let Lists { ids, len } = self;
+        let last = len - 1;
+        if !write_next(ids, list, last) {
+            return false;
+        }
+        let least = nth_unused(ids, &list[..last], 0);
+        list[last] = least;
         true
     }
 

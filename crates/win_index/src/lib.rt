@@ -18,6 +18,7 @@ pub use limits::{
     BLOCK_WINDOWS, MAX_BLOCKS, MAX_IDS, MAX_ROUNDS, MAX_TUPLE_LEN, MAX_WINDOW_LEN, MAX_WINDOWS,
 };
 pub use ring::{Ring, RingFault};
+pub use series::RunPlaces;
 pub use shape::{Shape, ShapeFault, place_among_unused};
 
 #[cfg(test)]

@@ -1,83 +1,134 @@
 // Series of windows: they follow one another, and so do their last parts.
-ghost use Rattle.std.specs.Prelude.{◌≡◌, ◌≢◌, ◌⊎◌, ℕ, ◌+◌, ◌-◌, ◌<◌, ◌≤◌, List, length, drop, set, slice_index};
-ghost use Rattle.win_index.specs.Windows.{unused, IsWindow};
-ghost use Rattle.win_index.specs.Runs.{IsSeries, IsClear, IsEnd};
+ghost use Rattle.std.specs.Prelude.{◌≡◌, ◌≢◌, ◌⊎◌, ◌+◌, ◌*◌, ◌<◌, ◌≤◌, length, take, drop};
+ghost use Rattle.win_index.specs.declared.limits.TheConstants.{MAX_IDS};
 
-use crate::arrangement::{nth_unused, unused_below};
-use crate::shape::Shape;
+use crate::limits::MAX_IDS;
+use crate::shape::{Shape, place_among_unused};
+
+/// Of the windows that share all identifiers but the last: the places of their last parts among the windows that begin as
+/// these do. They are all below the end but two, the gaps.
+#[derive(Clone, Copy, Debug, PartialEq, Eq)]
+pub struct RunPlaces {
+    pub(crate) first_gap: u32,
+    pub(crate) second_gap: u32,
+    pub(crate) end: u32,
+    pub ghost few: { end ≤ MAX_IDS },
+}
 
 impl Shape {
-    ghost use Rattle.std.specs.Prelude.{◌≡◌, ℕ, List, ◌+◌, ◌*◌, ◌<◌, ◌≤◌};
+    ghost use Rattle.std.specs.Prelude.{◌≡◌, ◌+◌, ◌*◌, ◌<◌, ◌≤◌, slice_index};
     ghost use Rattle.win_index.specs.Windows.{IsWindow};
-    ghost use Rattle.win_index.specs.Runs.{IsSeries};
+    ghost use Rattle.win_index.specs.Runs.{HasPlaces, place_in_run};
 
-    /// Goes from a window one level above `below` to the last one of the longest series that begins with it, `most` windows
-    /// at most, and says how many windows these are, at least 1. They share all identifiers but the last, and the numbers of
-    /// their last parts, windows of the level `below`, follow one another as their own do.
-    pub fn series(&self, below: u32, window: &mut [u32], most: u32) -> u32
+    /// The places of the last parts of the windows that begin as this one does, which is one level above `below`.
+    pub fn run_places(&self, below: u32, window: &[u32]) -> RunPlaces
         requires below { below < self.now.rounds }
-        requires window { IsWindow (2 * below + 3) self.now.ids window.old }
-        requires most { 1 ≤ most }
-        ensures some { 1 ≤ result }
-        ensures few { result ≤ most }
-        ensures series { IsSeries (2 * below + 1) self.now.ids window.old window.new result }
-        ensures whole { result < most → (last : List ℕ) → IsSeries (2 * below + 1) self.now.ids window.old last (result + 1) → ⊥ }
-        ensures window { IsWindow (2 * below + 3) self.now.ids window.new }
+        requires window { IsWindow (2 * below + 3) self.now.ids window.now }
+        ensures { HasPlaces (2 * below + 1) self.now.ids window.now result }
+    {
+        let rest = rest_of(below, window);
+        RunPlaces {
+            first_gap: place_among_unused(rest, window[0]),
+            second_gap: place_among_unused(rest, window[1]),
+            end: self.ids - 2 * below,
+        }
+    }
+
+    /// The place of the last part of a window one level above `below`, among the windows that begin as the part does.
+    pub fn place_in_run(&self, below: u32, window: &[u32]) -> u32
+        requires below { below < self.now.rounds }
+        requires window { IsWindow (2 * below + 3) self.now.ids window.now }
+        ensures value { result ≡ place_in_run (2 * below + 1) window.now (slice_index window.now (2 * below + 2)) }
+        ensures inside { result < place_in_run (2 * below + 1) window.now self.now.ids }
     {
         let last = 2 * below as usize + 2;
-        let (last_id, count) = last_of_series(self.ids, window, last, most);
-        window[last] = last_id;
-        count
+        place_among_unused(rest_of(below, window), window[last])
     }
 }
 
-// The last identifier of the last window of the series that begins with this one, `most` windows at most, and how many
-// windows these are. The last identifier of the window stands at place `last`.
-fn last_of_series(ids: u32, window: &[u32], last: usize, most: u32) -> (u32, u32)
-    requires last { 2 ≤ last }
-    requires window { IsWindow (last + 1) ids window.now }
-    requires most { 1 ≤ most }
-    ensures some { 1 ≤ result.1 }
-    ensures few { result.1 ≤ most }
-    ensures series { IsSeries (last - 1) ids window.now (set window.now last result.0) result.1 }
-    ensures whole { result.1 < most → (other : List ℕ) → IsSeries (last - 1) ids window.now other (result.1 + 1) → ⊥ }
-    ensures window { IsWindow (last + 1) ids (set window.now last result.0) }
-{
-    let front = &window[..last];
-    let (_firsts, rest) = front.split_at(2);
-    let place = unused_below(rest, window[last]);
-    let end = end_of_series(ids, front, place);
-    let count = (end - place).min(u64::from(most));
-    (nth_unused(ids, rest, place + count - 1), count as u32)
+impl RunPlaces {
+    ghost use Rattle.std.specs.Prelude.{◌≡◌, ◌≢◌, ◌⊎◌, ℕ, List, ◌+◌, ◌<◌, ◌≤◌, take, IfSome, IfNone};
+    ghost use Rattle.win_index.specs.Runs.{IsAtPlace, IsSeries, IsLastOfRun};
+    ghost use Rattle.win_index.specs.Successor.{IsNext};
+
+    /// How many places there are from this one on, the gaps among them.
+    pub fn rest(self, place: u32) -> u32
+        requires { place ≤ self.end }
+        ensures { result + place ≡ self.end }
+    {
+        self.end - place
+    }
+
+    /// How many windows there are in the longest series that begins with the window at this place, `most` at most, at least 1:
+    /// they and their last parts follow one another.
+    pub fn series(self, place: u32, most: u32) -> u32
+        requires place { place < self.end }
+        requires most { 1 ≤ most }
+        ensures some { 1 ≤ result }
+        ensures few { result ≤ most }
+        ensures inside { place + result ≤ self.end }
+        ensures series { (k m : ℕ) (first : List ℕ) → 1 ≤ k → IsAtPlace k m self first place → IsSeries k m first result }
+        ensures whole { (k m : ℕ) (first : List ℕ) → 1 ≤ k → IsAtPlace k m self first place → result < most → IsSeries k m first (result + 1) → ⊥ }
+    {
+        (self.clear_end(place) - place).min(most)
+    }
+
+    /// The place of the window after the one at this place, where it begins as this one does.
+    pub fn after(self, place: u32) -> Option<u32>
+        requires { place < self.end }
+        ensures inside { IfSome result (λ next. (place < next) × (next < self.end)) }
+        ensures next { IfSome result (λ next. (k m : ℕ) (window : List ℕ) → 1 ≤ k → IsAtPlace k m self window place
+            → (later : List ℕ) × IsAtPlace k m self later next × (take (k + 1) later ≡ take (k + 1) window) × IsNext (k + 2) m window later) }
+        ensures last { IfNone result ((k m : ℕ) (window : List ℕ) → 1 ≤ k → IsAtPlace k m self window place → IsLastOfRun (k + 2) m window) }
+    {
+        let next = self.past_gap(self.past_gap(place + 1));
+        if next < self.end { Some(next) } else { None }
+    }
+
+    // The first gap after a place, or the end of all places.
+    fn clear_end(self, place: u32) -> u32
+        requires place { place < self.end }
+        ensures some { place < result }
+        ensures within { result ≤ self.end }
+        ensures first { (self.first_gap ≤ place) ⊎ (result ≤ self.first_gap) }
+        ensures second { (self.second_gap ≤ place) ⊎ (result ≤ self.second_gap) }
+        ensures end { (result ≡ self.end) ⊎ ((result ≡ self.first_gap) ⊎ (result ≡ self.second_gap)) }
+    {
+        end_before(
+            end_before(self.end, self.first_gap, place),
+            self.second_gap,
+            place,
+        )
+    }
+
+    // The place, or the one after it where a gap is there.
+    fn past_gap(self, place: u32) -> u32
+        requires { place ≤ self.end + 1 }
+        ensures { ((result ≡ place) × (place ≢ self.first_gap) × (place ≢ self.second_gap))
+            ⊎ ((result ≡ place + 1) × ((place ≡ self.first_gap) ⊎ (place ≡ self.second_gap))) }
+    {
+        if place == self.first_gap || place == self.second_gap {
+            place + 1
+        } else {
+            place
+        }
+    }
 }
 
-// Among the numbers below `ids` that a window's identifiers lack but for the first two and the last: the place up to which,
-// from this one on, neither of the first two stands. The front is the window without its last identifier.
-fn end_of_series(ids: u32, front: &[u32], place: u64) -> u64
-    requires two { 2 ≤ length front.now }
-    requires front { IsWindow (length front.now) ids front.now }
-    requires place { place < length (unused ids (drop 2 front.now)) }
-    requires first { length (unused (slice_index front.now 0) (drop 2 front.now)) ≢ place }
-    requires second { length (unused (slice_index front.now 1) (drop 2 front.now)) ≢ place }
-    ensures some { place < result }
-    ensures within { result ≤ length (unused ids (drop 2 front.now)) }
-    ensures clear { IsClear front.now place result }
-    ensures end { IsEnd ids front.now result }
+// The identifiers of a window one level above `below`, but for the first two and the last.
+fn rest_of(below: u32, window: &[u32]) -> &[u32]
+    requires { length window.now ≡ 2 * below + 3 }
+    ensures { result.now ≡ drop 2 (take (2 * below + 1 + 1) window.now) }
 {
-    let (_firsts, rest) = front.split_at(2);
-    let end = u64::from(ids) - rest.len() as u64;
-    let first = unused_below(rest, front[0]);
-    let second = unused_below(rest, front[1]);
-    end_before(end_before(end, first, place), second, place)
+    &window[2..2 * below as usize + 2]
 }
 
 // The end of what goes on from a place: the gap, where it stands between the place and this end.
-fn end_before(end: u64, gap: u64, place: u64) -> u64
-    requires end { place < end }
-    requires gap { gap ≢ place }
+fn end_before(end: u32, gap: u32, place: u32) -> u32
+    requires { place < end }
     ensures some { place < result }
     ensures within { result ≤ end }
-    ensures clear { (gap < place) ⊎ (result ≤ gap) }
+    ensures clear { (gap ≤ place) ⊎ (result ≤ gap) }
     ensures end { (result ≡ end) ⊎ (result ≡ gap) }
 {
     if gap > place { end.min(gap) } else { end }

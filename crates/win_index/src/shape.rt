@@ -29,10 +29,10 @@ pub struct Shape {
 }
 
 impl Shape {
-    ghost use Rattle.std.specs.Prelude.{◌≡◌, ◌+◌, ◌*◌, ◌<◌, ◌↔◌, IfOk, IfErr, IfSome, IsOk, Some, length, take, slice_get};
+    ghost use Rattle.std.specs.Prelude.{◌≡◌, ℕ, List, ◌+◌, ◌*◌, ◌<◌, ◌↔◌, IfOk, IfErr, IfSome, IsOk, Some, length, take, slice_get};
     ghost use Rattle.std.specs.Bool.{OnTrue, OnFalse};
     ghost use Rattle.win_index.specs.Windows.{windows, number_of, IsWindow};
-    ghost use Rattle.win_index.specs.Runs.{IsRunStart, IsLastOfRun};
+    ghost use Rattle.win_index.specs.Runs.{IsRunStart, IsLastOfRun, IsEndOfSame};
     ghost use Rattle.win_index.specs.Successor.{IsNext, IsLast};
     ghost use Rattle.win_index.specs.ShapeRange.{IsShape};
     ghost use Rattle.win_index.specs.ShapeFaults.{IsFirstShapeFault};
@@ -115,19 +115,6 @@ impl Shape {
         self.fronts(level).run_start(front) as u32
     }
 
-    /// The number of a window of this level, where the run of windows that begin with all its identifiers but the last
-    /// starts at this number.
-    pub fn number_in_run(&self, level: u32, start: u32, window: &[u32]) -> u32
-        requires level { level ≤ self.now.rounds }
-        requires window { IsWindow (2 * level + 1) self.now.ids window.now }
-        requires start { IsRunStart (2 * level) self.now.ids (take (2 * level) window.now) start }
-        ensures number { number_of (2 * level + 1) self.now.ids window.now ≡ Some result }
-        ensures item { slice_get (windows (2 * level + 1) self.now.ids) result ≡ Some window.now }
-    {
-        let last = 2 * level as usize;
-        start + place_among_unused(&window[..last], window[last])
-    }
-
     /// Writes the window of this level with this number into the `2r+1` cells of `out`.
     pub fn window(&self, level: u32, number: u32, out: &mut [u32])
         requires level { level ≤ self.now.rounds }
@@ -164,6 +151,21 @@ impl Shape {
         ensures window { IsWindow (2 * level + 1) self.now.ids window.new }
     {
         self.windows(level).write_next_in_run(window)
+    }
+
+    /// Writes the next window of this level that differs before its last identifier over a window and says `true`, or says
+    /// `false` and changes nothing where there is none: it comes after the last one that begins as this window does.
+    pub fn next_run(&self, level: u32, window: &mut [u32]) -> bool
+        requires level { level ≤ self.now.rounds }
+        requires window { IsWindow (2 * level + 1) self.now.ids window.old }
+        ensures next { OnTrue result ((last : List ℕ) → IsEndOfSame (2 * level + 1) self.now.ids window.old last
+            → IsNext (2 * level + 1) self.now.ids last window.new) }
+        ensures last { OnFalse result ((last : List ℕ) → IsEndOfSame (2 * level + 1) self.now.ids window.old last
+            → IsLast (2 * level + 1) self.now.ids last) }
+        ensures same { OnFalse result (window.new ≡ window.old) }
+        ensures window { IsWindow (2 * level + 1) self.now.ids window.new }
+    {
+        self.windows(level).write_next_run(window)
     }
 
     /// The number of a tuple, or `None` where the list is no tuple.

@@ -70,6 +70,67 @@ fn windows_one_after_another(rt: HostRuntime) -> Result<(), Fail> {
 }
 
 #[test]
+fn places_of_the_windows_of_a_run(rt: HostRuntime) -> Result<(), Fail> {
+    let shape = shape_of_eight(1).ok_or("a shape")?;
+    assert!(rt; shape.rounds() == 1);
+    assert!(rt; shape.count(1) == 336);
+    let mut window = [0; 3];
+    shape.window(1, 218, &mut window);
+    assert_eq!(rt; window, [5, 1, 3]);
+    assert_eq!(rt; shape.place_in_run(0, &window), 3);
+    let places = shape.run_places(0, &window);
+    assert!(rt; places.first_gap == 5);
+    assert!(rt; places.second_gap == 1);
+    assert!(rt; places.end == 8);
+    assert_eq!(rt; places.rest(3), 5);
+    assert_eq!(rt; places.series(3, 256), 2);
+    assert_eq!(rt; places.series(3, 1), 1);
+    assert_eq!(rt; places.series(6, 256), 2);
+    assert_eq!(rt; places.after(0), Some(2));
+    assert_eq!(rt; places.after(3), Some(4));
+    assert_eq!(rt; places.after(4), Some(6));
+    assert_eq!(rt; places.after(7), None);
+    assert!(rt; shape.next_run(1, &mut window));
+    assert_eq!(rt; window, [5, 2, 0]);
+    Ok(())
+}
+
+#[test]
+fn two_gaps_side_by_side(rt: HostRuntime) -> Result<(), Fail> {
+    let shape = shape_of_eight(2).ok_or("a shape")?;
+    assert!(rt; shape.rounds() == 2);
+    assert!(rt; shape.count(2) == 6720);
+    let mut window = [0; 5];
+    shape.window(2, 3861, &mut window);
+    assert_eq!(rt; window, [4, 5, 1, 0, 3]);
+    assert_eq!(rt; shape.place_in_run(1, &window), 1);
+    let places = shape.run_places(1, &window);
+    assert!(rt; places.first_gap == 2);
+    assert!(rt; places.second_gap == 3);
+    assert!(rt; places.end == 6);
+    assert_eq!(rt; places.series(1, 256), 1);
+    assert_eq!(rt; places.after(1), Some(4));
+    assert_eq!(rt; places.series(4, 256), 2);
+    assert_eq!(rt; places.after(5), None);
+    assert!(rt; shape.next_run(2, &mut window));
+    assert_eq!(rt; window, [4, 5, 1, 2, 0]);
+    Ok(())
+}
+
+#[test]
+fn no_run_after_the_last(rt: HostRuntime) -> Result<(), Fail> {
+    let shape = shape_of_eight(1).ok_or("a shape")?;
+    assert!(rt; shape.rounds() == 1);
+    assert!(rt; shape.count(1) == 336);
+    let mut window = [0; 3];
+    shape.window(1, 330, &mut window);
+    assert_eq!(rt; window, [7, 6, 0]);
+    assert!(rt; !shape.next_run(1, &mut window));
+    assert_eq!(rt; window, [7, 6, 0]);
+    Ok(())
+}
+
+#[test]
 fn tuples_of_eight_identifiers(rt: HostRuntime) -> Result<(), Fail> {
     let shape = shape_of_eight(1).ok_or("a shape")?;
     assert!(rt; shape.rounds() == 1);

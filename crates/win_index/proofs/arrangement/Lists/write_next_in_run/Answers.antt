@@ -1,4 +1,4 @@
-use Rattle.std.proofs.Common.{◌-◌, ◌≤◌, set, take, sym, ◌∙◌, arith, length-set}
+use Rattle.std.proofs.Common.{◌-◌, set, take, sym, ◌∙◌, arith, length-set}
 use Rattle.std.proofs.lemmas.List.{take_all}
 use Rattle.win_index.specs.Successor.{IsNext}
 use Rattle.win_index.proofs.Successors.{next_in_last_cell, next_is_window, none_larger}
