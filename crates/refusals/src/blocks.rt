@@ -11,22 +11,51 @@ use unroll::{Block, MakeFault, make_block};
 
 /// `make_block`: how many states the second block of level 1 has, with the first of them; and without blocks below,
 /// the level and the number of the block that is missing.
-pub fn do_make_block<R: AllocGlobal + Print>(rt: &R) -> Result<(), Miss> {
+pub(crate) fn do_make_block<R: AllocGlobal + Print>(rt: &R) -> Result<(), Miss> {
     let alloc = rt.alloc();
     let plan = plan_of(alloc, CV1, 8)?;
     let memo = beside(Memo::new(alloc, &plan))?;
     let mut pass = beside(memo.pass(alloc))?;
     let mut reader = Reader::new(&memo, &mut pass);
-    if !has_block(&plan, 0, 0) || !has_block(&plan, 1, 0) || !has_block(&plan, 1, 1) {
+    tell_blocks(rt, &plan, &mut reader)
+}
+
+// Tells what `make_block` gives at level 1, without blocks below and with the first of them.
+fn tell_blocks<'a, R: AllocGlobal + Print>(
+    rt: &R,
+    plan: &'a Plan,
+    reader: &mut Reader<'_, '_, 'a>,
+) -> Result<(), Miss>
+    requires { reader.old.pass.now.plan.now ≡ plan.now }
+{
+    if !has_block(plan, 0, 0) || !has_block(plan, 1, 0) || !has_block(plan, 1, 1) {
         return Err(Miss::Wrong);
     }
-    tell_missing(rt, &plan, &mut reader)?;
-    let low = made(rt, &plan, &mut reader, 0, 0)?;
-    let low = beside(Box::new(alloc, low))?;
-    if reader.install(low).is_err() {
-        return Err(Miss::Wrong);
+    tell_missing(rt, plan, reader)?;
+    install_first(rt, plan, reader)?;
+    tell_states(rt, &made(rt, plan, reader, 1, 1)?)
+}
+
+// Puts the first block of level 0 into a reader's memo.
+fn install_first<'a, R: AllocGlobal + Print>(
+    rt: &R,
+    plan: &'a Plan,
+    reader: &mut Reader<'_, '_, 'a>,
+) -> Result<(), Miss>
+    requires plan { reader.old.pass.now.plan.now ≡ plan.now }
+    requires key { IsKey plan.now 0 0 }
+    ensures { reader.new.pass.now.plan.now ≡ reader.old.pass.now.plan.now }
+{
+    let block = made(rt, plan, reader, 0, 0)?;
+    let block = beside(Box::new(rt.alloc(), block))?;
+    match reader.install(block) {
+        Ok(_) => Ok(()),
+        Err(_) => Err(Miss::Wrong),
     }
-    let block = made(rt, &plan, &mut reader, 1, 1)?;
+}
+
+// Tells how many states a block has, and the first of them.
+fn tell_states<R: Print>(rt: &R, block: &Block<'_>) -> Result<(), Miss> {
     let count = block.len();
     if count == 0 {
         return Err(Miss::Wrong);

@@ -38,7 +38,7 @@ enum Course {
 }
 
 /// `Border::new` and `Border::put`: puts and takes on a border, and its messages at the end.
-pub fn do_border<R: AllocGlobal + Print + Wait>(rt: &R) -> Result<(), Miss> {
+pub(crate) fn do_border<R: AllocGlobal + Print + Wait>(rt: &R) -> Result<(), Miss> {
     let (right, left) = (Blank::new(1), Blank::new(1));
     match puts_and_takes::<Brand, Brand, _>(rt, rt.alloc(), right, left)? {
         Course::Told => Ok(()),
@@ -57,7 +57,7 @@ fn do_border_again<R: AllocGlobal + Print + Wait>(rt: &R) -> Result<(), Miss> {
 }
 
 /// `Border::put`, as often as the list of a side grows twice: the values that the border has at the end.
-pub fn do_put<R: AllocGlobal + Print + Wait>(rt: &R) -> Result<(), Miss> {
+pub(crate) fn do_put<R: AllocGlobal + Print + Wait>(rt: &R) -> Result<(), Miss> {
     let (right, left) = (Blank::new(1), Blank::new(1));
     match eight_puts::<Brand, Brand, _>(rt, rt.alloc(), right, left)? {
         Course::Told => Ok(()),
@@ -78,18 +78,37 @@ fn puts_and_takes<L: Ledger, M: Ledger, R: Print + Wait>(
     let Ok((border, mut right, mut left)) = Border::<Note, L, M>::new(alloc, right, left) else {
         return Ok(Course::NotMade);
     };
-    put(rt, &border, &mut right, to_the_right(0, 1))?;
-    put(rt, &border, &mut right, to_the_right(0, 1))?;
-    put(rt, &border, &mut right, to_the_left(1, 3))?;
-    put(rt, &border, &mut left, to_the_left(0, 2))?;
-    take(rt, &border, Side::Rightward, 0)?;
-    take(rt, &border, Side::Leftward, 0)?;
+    exchange(rt, &border, &mut right, &mut left)?;
     border.close(rt);
-    take(rt, &border, Side::Rightward, 0)?;
-    take(rt, &border, Side::Rightward, 1)?;
-    put(rt, &border, &mut right, to_the_right(1, 4))?;
+    go_on_when_closed(rt, &border, &mut right)?;
     settle(rt, border, right, left)?;
     Ok(Course::Told)
+}
+
+// Puts messages from both sides, two of them out of turn, and takes those of the first round.
+fn exchange<L: Ledger, M: Ledger, R: Print + Wait>(
+    rt: &R,
+    border: &Border<Note, L, M>,
+    right: &mut Seat<L, M>,
+    left: &mut Seat<L, M>,
+) -> Result<(), Miss> {
+    put(rt, border, right, to_the_right(0, 1))?;
+    put(rt, border, right, to_the_right(0, 1))?;
+    put(rt, border, right, to_the_left(1, 3))?;
+    put(rt, border, left, to_the_left(0, 2))?;
+    take(rt, border, Side::Rightward, 0)?;
+    take(rt, border, Side::Leftward, 0)
+}
+
+// Takes from a closed border what was put and what was not, and puts one message more.
+fn go_on_when_closed<L: Ledger, M: Ledger, R: Print + Wait>(
+    rt: &R,
+    border: &Border<Note, L, M>,
+    right: &mut Seat<L, M>,
+) -> Result<(), Miss> {
+    take(rt, border, Side::Rightward, 0)?;
+    take(rt, border, Side::Rightward, 1)?;
+    put(rt, border, right, to_the_right(1, 4))
 }
 
 // Puts eight messages to the right, and tells those that the border has at the end.

@@ -10,7 +10,7 @@ use lang_check::Plan;
 use round_columns::{Code, Columns, Work, channel_columns, step_columns};
 
 /// `Code::new`: how many columns the expressions of two programs hold.
-pub fn do_code<R: AllocGlobal + Print>(rt: &R) -> Result<(), Miss> {
+pub(crate) fn do_code<R: AllocGlobal + Print>(rt: &R) -> Result<(), Miss> {
     let alloc = rt.alloc();
     let first = plan_of(alloc, CV1, 8)?;
     let second = plan_of(alloc, LDB, 8)?;
@@ -20,21 +20,38 @@ pub fn do_code<R: AllocGlobal + Print>(rt: &R) -> Result<(), Miss> {
 }
 
 /// `Columns::new` and `Work::new`: the registers of three nodes after a round, and their channels then.
-pub fn do_columns<R: AllocGlobal + Print>(rt: &R) -> Result<(), Miss> {
+pub(crate) fn do_columns<R: AllocGlobal + Print>(rt: &R) -> Result<(), Miss> {
     let plan = plan_of(rt.alloc(), CV1, 8)?;
+    if plan.shape().rounds() != 1 || plan.program().registers() != 1 {
+        return Err(Miss::Wrong);
+    }
     let code = code_of(rt, &plan)?;
     let left = one_column(rt, [7, 5, 1])?;
     let own = one_column(rt, [5, 1, 3])?;
     let right = one_column(rt, [1, 3, 7])?;
+    tell_round(rt, &code, &left, &own, &right)
+}
+
+// Tells the registers of three nodes of one register after the first round, and their channels then.
+fn tell_round<R: AllocGlobal + Print>(
+    rt: &R,
+    code: &Code,
+    left: &Columns,
+    own: &Columns,
+    right: &Columns,
+) -> Result<(), Miss>
+    requires rounds { length code.now.program.steps ≡ 1 }
+    requires registers { length code.now.program.start ≡ 1 }
+    requires left { (left.now.registers ≡ 1) × (length left.now.states ≡ 3) }
+    requires own { (own.now.registers ≡ 1) × (length own.now.states ≡ 3) }
+    requires right { (right.now.registers ≡ 1) × (length right.now.states ≡ 3) }
+{
     let mut out = one_column(rt, [9, 9, 9])?;
-    let mut work = work_of(rt, &code)?;
-    if plan.shape().rounds() != 1 || plan.program().registers() != 1 {
-        return Err(Miss::Wrong);
-    }
-    step_columns(&code, 0, &left, &own, &right, &mut work, &mut out);
+    let mut work = work_of(rt, code)?;
+    step_columns(code, 0, left, own, right, &mut work, &mut out);
     let after = [out.get(0, 0), out.get(0, 1), out.get(0, 2)];
     let mut channels = [0; 3];
-    channel_columns(&code, &out, &mut work, &mut channels);
+    channel_columns(code, &out, &mut work, &mut channels);
     tell_numbers(rt, &after)?;
     tell_numbers(rt, &channels)
 }

@@ -6,7 +6,7 @@ use crate::tell::{beside, given, surely};
 use shared_memo::{Desk, Ticket};
 
 /// `Desk::new`: two tickets draw three numbers in turn, and one ticket draws where there is none.
-pub fn do_desk<R: AllocGlobal + Print>(rt: &R) -> Result<(), Miss> {
+pub(crate) fn do_desk<R: AllocGlobal + Print>(rt: &R) -> Result<(), Miss> {
     let (desk, mut tickets) = match given(rt, Desk::new(rt.alloc(), 3, 2))? {
         Some(made) => made,
         None => surely(Desk::new(rt.alloc(), 3, 2))?,

@@ -29,7 +29,7 @@ const FULL: [FillEvent; 4] = [
 
 /// `fill_core::replay`: who made the blocks of the three cells, the next job, and of each worker whether it is stopped
 /// and the job in its hand, after two lists of events; last whether worker 1 knows the first block.
-pub fn do_fill_replay<R: AllocGlobal + Print>(rt: &R) -> Result<(), Miss> {
+pub(crate) fn do_fill_replay<R: AllocGlobal + Print>(rt: &R) -> Result<(), Miss> {
     let plan = plan_of(rt.alloc(), CV1, 8)?;
     tell_world(rt, &after(rt, &plan, &FILLED)?)?;
     tell_world(rt, &after(rt, &plan, &FULL)?)

@@ -7,7 +7,7 @@ use node_lang::{Program, parse, print};
 use round_eval::plain_run;
 
 /// `parse`: the channels of a run of the program that was parsed, on the eight identifiers in their order.
-pub fn do_parse<R: AllocGlobal + Print>(rt: &R) -> Result<(), Miss> {
+pub(crate) fn do_parse<R: AllocGlobal + Print>(rt: &R) -> Result<(), Miss> {
     let alloc = rt.alloc();
     let program = parsed(rt, CV1)?;
     let plan = beside(accept(program, 8))?;
@@ -25,7 +25,7 @@ fn parsed<R: AllocGlobal + Print>(rt: &R, text: &[u8]) -> Result<Program, Miss> 
 }
 
 /// `print`: the printed form of a text with a comment and more blanks.
-pub fn do_print<R: AllocGlobal + Print>(rt: &R) -> Result<(), Miss> {
+pub(crate) fn do_print<R: AllocGlobal + Print>(rt: &R) -> Result<(), Miss> {
     let alloc = rt.alloc();
     let program = beside(parse(alloc, CV1_WITH_BLANKS))?;
     let text = match given(rt, print(alloc, &program))? {

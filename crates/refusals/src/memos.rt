@@ -11,7 +11,7 @@ use unroll::{Block, make_block};
 
 /// `Memo::new` and `Memo::pass`: two passes hand in the same block, made by 1 and by 2, and look at it; then one hands
 /// in a block of another plan.
-pub fn do_memo<R: AllocGlobal + Print>(rt: &R) -> Result<(), Miss> {
+pub(crate) fn do_memo<R: AllocGlobal + Print>(rt: &R) -> Result<(), Miss> {
     let plan = plan_of(rt.alloc(), CV1, 8)?;
     let other = plan_of(rt.alloc(), RED, 8)?;
     hand_in_all(rt, &plan, &other)

@@ -7,7 +7,7 @@ use std::sync::Wait;
 use std::thread::Threads;
 
 /// `run`: the channels of a ring of a program for eight identifiers, in so many segments.
-pub fn do_run<R: AllocGlobal + Print + Threads + Wait + Sync>(
+pub(crate) fn do_run<R: AllocGlobal + Print + Threads + Wait + Sync>(
     rt: &R,
     text: &[u8],
     ids: &[u32],

@@ -2,7 +2,7 @@ use std::io;
 
 /// Why a row has no result.
 #[derive(Clone, Copy)]
-pub enum Miss {
+pub(crate) enum Miss {
     /// Memory was refused to what stands before or behind the call.
     Beside,
     /// The call answered neither its result nor a refusal, or refused once more.
@@ -15,7 +15,7 @@ pub enum Miss {
 
 impl Miss {
     /// The word that is printed in the place of the result.
-    pub fn name(self) -> &'static str {
+    pub(crate) fn name(self) -> &'static str {
         match self {
             Miss::Beside => "beside",
             Miss::Wrong => "wrong",

@@ -9,13 +9,13 @@ use std::alloc::Global;
 use win_index::Ring;
 
 /// The plan of a program text for this many identifiers.
-pub fn plan_of(alloc: Global, text: &[u8], ids: u32) -> Result<Plan, Miss> {
+pub(crate) fn plan_of(alloc: Global, text: &[u8], ids: u32) -> Result<Plan, Miss> {
     let program = beside(parse(alloc, text))?;
     beside(accept(program, ids))
 }
 
 /// The ring of these identifiers for a plan.
-pub fn ring_for(alloc: Global, plan: &Plan, ids: &[u32]) -> Result<Ring, Miss>
+pub(crate) fn ring_for(alloc: Global, plan: &Plan, ids: &[u32]) -> Result<Ring, Miss>
     ensures { IfOk result (λ ring. (ring.ids ≡ plan.now.ids) × (ring.rounds ≡ length plan.now.program.steps) × (ring.places ≡ ids.now)) }
 {
     let ids = beside(ids.to_vec(alloc))?;
@@ -23,7 +23,7 @@ pub fn ring_for(alloc: Global, plan: &Plan, ids: &[u32]) -> Result<Ring, Miss>
 }
 
 /// Whether the plan has a block of this level and number.
-pub fn has_block(plan: &Plan, level: u32, number: u32) -> bool
+pub(crate) fn has_block(plan: &Plan, level: u32, number: u32) -> bool
     ensures { result ≡ true → IsKey plan.now level number }
 {
     let shape = plan.shape();

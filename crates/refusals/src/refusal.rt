@@ -7,7 +7,7 @@ use task_words::words::WordsFault;
 use unroll::MakeFault;
 
 /// A fault of a call that may be a refusal of memory or of a thread.
-pub trait Refusal {
+pub(crate) trait Refusal {
     /// The refusal's name, where the fault is one.
     fn name(&self) -> Option<&'static str>;
 }

@@ -11,7 +11,7 @@ use std::thread::Threads;
 use task_words::task::Task;
 
 /// `engine`: the report of a run on four places in so many segments, and its status.
-pub fn do_run_report<R: AllocGlobal + Print + Threads + Wait + Sync>(
+pub(crate) fn do_run_report<R: AllocGlobal + Print + Threads + Wait + Sync>(
     rt: &R,
     segments: u32,
 ) -> Result<(), Miss> {
@@ -22,7 +22,7 @@ pub fn do_run_report<R: AllocGlobal + Print + Threads + Wait + Sync>(
 }
 
 /// `engine`: the report of the table of a program that so many workers filled, and its status.
-pub fn do_table_report<R: AllocGlobal + Print + Threads + Wait + Sync>(
+pub(crate) fn do_table_report<R: AllocGlobal + Print + Threads + Wait + Sync>(
     rt: &R,
     workers: u32,
 ) -> Result<(), Miss> {

@@ -5,7 +5,7 @@ use conformance::programs::CV1;
 use round_eval::plain_run;
 
 /// `plain_run`: the channels of four places.
-pub fn do_plain_run<R: AllocGlobal + Print>(rt: &R) -> Result<(), Miss> {
+pub(crate) fn do_plain_run<R: AllocGlobal + Print>(rt: &R) -> Result<(), Miss> {
     let alloc = rt.alloc();
     let plan = plan_of(alloc, CV1, 8)?;
     let ring = ring_for(alloc, &plan, &[5, 1, 3, 7])?;

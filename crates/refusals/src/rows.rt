@@ -25,7 +25,7 @@ const EIGHT: [u32; 8] = [5, 1, 3, 7, 0, 2, 4, 6];
 const FOUR: [u32; 4] = [5, 1, 3, 7];
 
 /// Does the row with this name.
-pub fn do_row<R: AllocGlobal + Print + Threads + Wait + Sync>(
+pub(crate) fn do_row<R: AllocGlobal + Print + Threads + Wait + Sync>(
     rt: &R,
     name: &str,
 ) -> Result<(), Miss> {

@@ -22,7 +22,7 @@ const EVENTS: [RingEvent; 8] = [
 
 /// `Segment::new`: the registers of the first of two segments, and the values that it sends to the right and to the
 /// left.
-pub fn do_segment<R: AllocGlobal + Print>(rt: &R) -> Result<(), Miss> {
+pub(crate) fn do_segment<R: AllocGlobal + Print>(rt: &R) -> Result<(), Miss> {
     let alloc = rt.alloc();
     let plan = plan_of(alloc, CV1, 8)?;
     let ring = ring_for(alloc, &plan, &[5, 1, 3, 7])?;
@@ -53,7 +53,7 @@ fn first_segment<'a, R: AllocGlobal + Print>(
 }
 
 /// `ring_core::replay`: the round and the registers of both segments after seven events and after one more.
-pub fn do_ring_replay<R: AllocGlobal + Print>(rt: &R) -> Result<(), Miss> {
+pub(crate) fn do_ring_replay<R: AllocGlobal + Print>(rt: &R) -> Result<(), Miss> {
     let alloc = rt.alloc();
     let plan = plan_of(alloc, CV1, 8)?;
     let ring = ring_for(alloc, &plan, &[5, 1, 3, 7])?;

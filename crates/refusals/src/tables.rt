@@ -11,7 +11,7 @@ use win_index::Shape;
 
 /// `TableMaker::new`: the numbers of rounds, identifiers and channels of a table that gives each of two identifiers
 /// itself as its channel, and its entries.
-pub fn do_table_maker<R: AllocGlobal + Print>(rt: &R) -> Result<(), Miss> {
+pub(crate) fn do_table_maker<R: AllocGlobal + Print>(rt: &R) -> Result<(), Miss> {
     let shape = Shape::new(2, 0).ok().ok_or(Miss::Wrong)?;
     if shape.count(0) != 2 {
         return Err(Miss::Wrong);
@@ -30,7 +30,7 @@ pub fn do_table_maker<R: AllocGlobal + Print>(rt: &R) -> Result<(), Miss> {
 
 /// `compile`: the entries of a table that so many workers filled. Where they were refused, the same memo and the same
 /// pass serve once more.
-pub fn do_compile<R: AllocGlobal + Print + Threads + Wait + Sync>(
+pub(crate) fn do_compile<R: AllocGlobal + Print + Threads + Wait + Sync>(
     rt: &R,
     workers: u32,
 ) -> Result<(), Miss> {
@@ -50,7 +50,7 @@ pub fn do_compile<R: AllocGlobal + Print + Threads + Wait + Sync>(
 }
 
 /// The table of a program text for this many identifiers, beside the row's own call.
-pub fn table_of<R: AllocGlobal + Threads + Wait + Sync>(
+pub(crate) fn table_of<R: AllocGlobal + Threads + Wait + Sync>(
     rt: &R,
     text: &[u8],
     ids: u32,

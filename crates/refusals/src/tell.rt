@@ -4,13 +4,13 @@ use crate::miss::Miss;
 use crate::refusal::Refusal;
 
 /// Prints a line.
-pub fn tell<R: Print>(rt: &R, line: &str) -> Result<(), Miss> {
+pub(crate) fn tell<R: Print>(rt: &R, line: &str) -> Result<(), Miss> {
     println!(rt; "{line}")?;
     Ok(())
 }
 
 /// Prints numbers on a line, parted by single blanks. It takes no memory.
-pub fn tell_numbers<R: Print>(rt: &R, numbers: &[u32]) -> Result<(), Miss> {
+pub(crate) fn tell_numbers<R: Print>(rt: &R, numbers: &[u32]) -> Result<(), Miss> {
     for (i, number) in numbers.iter().enumerate() {
         let blank = if i == 0 { "" } else { " " };
         print!(rt; "{blank}{number}")?;
@@ -21,7 +21,7 @@ pub fn tell_numbers<R: Print>(rt: &R, numbers: &[u32]) -> Result<(), Miss> {
 
 /// What a call gave. `None` where it was refused memory or a thread: the refusal's name is then printed. Any other fault
 /// is `Wrong`.
-pub fn given<R: Print, T: Drop, F: Refusal + Drop>(
+pub(crate) fn given<R: Print, T: Drop, F: Refusal + Drop>(
     rt: &R,
     answer: Result<T, F>,
 ) -> Result<Option<T>, Miss>
@@ -40,7 +40,7 @@ pub fn given<R: Print, T: Drop, F: Refusal + Drop>(
 }
 
 /// What a call gave that is made once more.
-pub fn surely<T: Drop, F: Drop>(answer: Result<T, F>) -> Result<T, Miss>
+pub(crate) fn surely<T: Drop, F: Drop>(answer: Result<T, F>) -> Result<T, Miss>
     ensures { IfOk result (λ value. answer ≡ Ok value) }
 {
     match answer {
@@ -50,7 +50,7 @@ pub fn surely<T: Drop, F: Drop>(answer: Result<T, F>) -> Result<T, Miss>
 }
 
 /// What a call beside the row's own gave.
-pub fn beside<T: Drop, F: Drop>(answer: Result<T, F>) -> Result<T, Miss>
+pub(crate) fn beside<T: Drop, F: Drop>(answer: Result<T, F>) -> Result<T, Miss>
     ensures { IfOk result (λ value. answer ≡ Ok value) }
 {
     match answer {

@@ -19,7 +19,9 @@ const EXCHANGED: &[u8] = b"nbhd-table 1\nrounds 0 ids 2 channels 2\n1 : 1\n0 : 0
 const OVER: &[u8] = b"nbhd-table 1\nrounds 0 ids 2 channels 2\n0 : 0\n1 : 2\nend\n";
 
 /// `write_table`: the text of the table of two identifiers, and where it was refused memory, what went out before.
-pub fn do_write_table<R: AllocGlobal + Print + Threads + Wait + Sync>(rt: &R) -> Result<(), Miss> {
+pub(crate) fn do_write_table<R: AllocGlobal + Print + Threads + Wait + Sync>(
+    rt: &R,
+) -> Result<(), Miss> {
     let alloc = rt.alloc();
     let table = table_of(rt, ID0, 2)?;
     let mut writer = Watched::new(io::writer(rt));
@@ -32,7 +34,7 @@ pub fn do_write_table<R: AllocGlobal + Print + Threads + Wait + Sync>(rt: &R) ->
 
 /// `read_table`: the numbers of rounds, identifiers and channels and the entries of the table of a text, and what is
 /// wrong with three others.
-pub fn do_read_table<R: AllocGlobal + Print>(rt: &R) -> Result<(), Miss> {
+pub(crate) fn do_read_table<R: AllocGlobal + Print>(rt: &R) -> Result<(), Miss> {
     for text in [TABLE, EXCHANGED, OVER, &TABLE[..53]] {
         match read(rt, text)? {
             Ok(table) => tell_table(rt, &table)?,

@@ -6,7 +6,7 @@ use std::sync::Wait;
 use std::thread::Threads;
 
 /// `judge`: the verdict on the table of a program for this many identifiers: yes, or the ring, the place and the channel.
-pub fn do_judge<R: AllocGlobal + Print + Threads + Wait + Sync>(
+pub(crate) fn do_judge<R: AllocGlobal + Print + Threads + Wait + Sync>(
     rt: &R,
     text: &[u8],
     ids: u32,

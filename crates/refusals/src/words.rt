@@ -6,7 +6,7 @@ use task_words::task::Task;
 use task_words::words::{WordsFault, task_of};
 
 /// `ring_of`: the identifiers of a ring text, and what is said of three other texts.
-pub fn do_ring_of<R: AllocGlobal + Print>(rt: &R) -> Result<(), Miss> {
+pub(crate) fn do_ring_of<R: AllocGlobal + Print>(rt: &R) -> Result<(), Miss> {
     for text in ["5,1,3,7", "5,,1", "", "4294967296"] {
         let answer = match ring_of(rt.alloc(), text) {
             Err(WordsFault::OutOfMemory) => {
@@ -24,7 +24,7 @@ pub fn do_ring_of<R: AllocGlobal + Print>(rt: &R) -> Result<(), Miss> {
 }
 
 /// `task_of`: the ring and the numbers of identifiers and segments of a run, and what is said of no workers.
-pub fn do_task_of<R: AllocGlobal + Print>(rt: &R) -> Result<(), Miss> {
+pub(crate) fn do_task_of<R: AllocGlobal + Print>(rt: &R) -> Result<(), Miss> {
     for line in ["run --ids 8 --ring 5,1,3,7", "table --ids 8 --workers 0"] {
         let words = words_of(rt.alloc(), line)?;
         let answer = match task_of(rt.alloc(), &words) {
