@@ -3,7 +3,7 @@ use Rattle.std.proofs.Common.{◌≡◌, ℕ, zero, suc, ◌+◌, ◌*◌, ◌/�
 use Rattle.std.proofs.lemmas.Bool.{false≢true}
 use Rattle.std.proofs.lemmas.Option.{get_or_from_slice_get}
 use Rattle.win_index.specs.Windows.{windows, number_of}
-use Rattle.unroll.specs.Below.{part, IsBelow, IsPartNumber}
+use Rattle.unroll.specs.Below.{part, IsBelow}
 use Rattle.unroll.specs.BlockStates.{MadeBlock, window_numbered, block_len}
 use Rattle.unroll.specs.Entries.{Entries, Grows}
 use Rattle.unroll.specs.MakeFaults.{IsMakeFault}

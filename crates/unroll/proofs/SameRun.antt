@@ -2,12 +2,15 @@
 use Rattle.std.proofs.Common.{◌≡◌, ℕ, ◌+◌, ◌-◌, ◌*◌, ◌/◌, ◌<◌, ◌≤◌, List, length, get_or, take, drop, sym, ap, ◌∙◌, arith, subst}
 use Rattle.std.proofs.lemmas.List.{drop-take, take-take, length-take-le, get_or-take, get_or-drop, length-drop}
 use Rattle.win_index.specs.Runs.{HasPlaces}
-use Rattle.win_index.specs.Windows.{IsWindow}
+use Rattle.win_index.specs.Windows.{number_of, IsWindow}
 use Rattle.win_index.specs.declared.series.RunPlaces.{RunPlaces}
 use Rattle.lang_check.specs.Plans.{ProgramForIds}
+use Rattle.node_lang.specs.Node.{to_right}
 use Rattle.unroll.specs.Below.{part}
 use Rattle.unroll.specs.Entries.{Entries, Grows}
-use Rattle.unroll.specs.Parts.{IsRun}
+use Rattle.unroll.specs.Line.{middle_state}
+use Rattle.unroll.specs.Parts.{KnowsPart, IsFirstPart, IsRun}
+use Rattle.unroll.specs.declared.run.FirstPart.{FirstPart}
 use Rattle.unroll.specs.declared.run.Run.{Run}
 use Rattle.unroll.proofs.Known.{still_known}
 
@@ -46,12 +49,26 @@ same_run plan entries low w v run same is =
     record {
       start_is = rw rest at is.start_is;
       places_are = same_places plan.ids low w v run.places same is.places_are;
-      left_is = rw left at is.left_is;
+      first_ids = is.first_ids ∙ left;
+      first_is = is.first_is;
       own_is = rw middle at is.own_is;
       own_cells = is.own_cells;
-      left_known = rw left at is.left_known;
       own_known = rw middle at is.own_known;
     }
+
+-- a first part stays one where the source comes to know more
+pub first_grows :
+    (plan : ProgramForIds) (old new : Entries) (low : ℕ) (first : FirstPart) → Grows old new → IsFirstPart plan old low first
+    → IsFirstPart plan new low first
+first_grows plan old new low first grows is = (is.0, λ n number. still_known old new low (n / 256) grows (is.1 n number))
+
+-- what a run says of the first parts of its windows
+module _ (plan : ProgramForIds) (entries : Entries) (low : ℕ) (w : List ℕ) (run : Run) (is : IsRun plan entries low w run) where
+  pub left_is : run.first.sent ≡ to_right plan.program low (middle_state plan.program low (part w low 0))
+  left_is = is.first_is.0 ∙ ap (λ ids. to_right plan.program low (middle_state plan.program low ids)) is.first_ids
+
+  pub left_known : KnowsPart entries plan.ids low w 0
+  left_known = λ n number. is.first_is.1 n (ap (number_of (2 * low + 1) plan.ids) is.first_ids ∙ number)
 
 -- a run stays one where the source comes to know more
 pub run_grows :
@@ -60,10 +77,10 @@ run_grows plan old new low w run grows is =
     record {
       start_is = is.start_is;
       places_are = is.places_are;
-      left_is = is.left_is;
+      first_ids = is.first_ids;
+      first_is = first_grows plan old new low run.first grows is.first_is;
       own_is = is.own_is;
       own_cells = is.own_cells;
-      left_known = λ n number. still_known old new low (n / 256) grows (is.left_known n number);
       own_known = λ n number. still_known old new low (n / 256) grows (is.own_known n number);
     }
 

@@ -19,7 +19,7 @@ use Rattle.unroll.specs.WideColumns.{part_state, HoldParts, AreWritten}
 use Rattle.unroll.specs.declared.part_columns.PartColumns.{PartColumns}
 use Rattle.unroll.proofs.ColumnStates.{below_sum, held_more}
 use Rattle.unroll.proofs.Known.{still_known, knows_three, window_at}
-use Rattle.unroll.proofs.SameRun.{same_run, slice_window, last_front}
+use Rattle.unroll.proofs.SameRun.{same_run, left_is, left_known, slice_window, last_front}
 
 -- the last identifiers of a window one level above low are its last part
 last_part : (low : ℕ) (w : List ℕ) → length w ≡ 2 * low + 3 → part w low 2 ≡ drop 2 w
@@ -115,7 +115,7 @@ module _ (number_of_window : NumberOfWindow) (windows_have_numbers : WindowsHave
       → SeriesAt plan entries low b place c index i w run → KnowsParts entries plan.ids low (window_numbered plan.ids (low + 1) (256 * b + (place + i)))
   series_known plan entries low b place c index i w run known small stands =
       subst (KnowsParts entries plan.ids low) (sym stands.numbered)
-      (knows_three entries plan.ids low stands.next stands.run_is.left_known stands.run_is.own_known
+      (knows_three entries plan.ids low stands.next (left_known plan entries low stands.next run stands.run_is) stands.run_is.own_known
       (λ number is.
       let own = number_of_window (2 * low + 1) plan.ids (256 * c + (index + i)) (part stands.next low 2) stands.right_at in
       let same : number ≡ 256 * c + (index + i) = same_Some number (256 * c + (index + i)) (sym is ∙ own) in
@@ -128,7 +128,7 @@ pub hold_series :
     (plan : ProgramForIds) (entries : Entries) (low b place c index count : ℕ) (w : List ℕ) (run : Run) (sent : List ℕ) (old now : PartColumns)
     → HoldParts plan low b place old
     → ((i : ℕ) → i < count → get_or sent (index + i) 0 ≡ to_left plan.program low (block_state plan low c (index + i)))
-    → AreWritten ℕ 0 old.from_left.items now.from_left.items place count (λ i. run.from_left)
+    → AreWritten ℕ 0 old.from_left.items now.from_left.items place count (λ i. run.first.sent)
     → AreWritten (List ℕ) [] old.own.states now.own.states place count (λ i. run.own.now)
     → AreWritten ℕ 0 old.from_right.items now.from_right.items place count (λ i. get_or sent (index + i) 0)
     → ((i : ℕ) → i < count → SeriesAt plan entries low b place c index i w run) → HoldParts plan low b (place + count) now
@@ -137,9 +137,9 @@ hold_series plan entries low b place c index count w run sent old now held are_s
     record {
       sizes = below_sum (λ i. length (window_numbered plan.ids (low + 1) (256 * b + i)) ≡ 2 * low + 3) place count held.sizes
           (λ i lt. ap length (stands i lt).numbered ∙ (stands i lt).size);
-      left = held_more ℕ 0 place count old.from_left.items now.from_left.items (λ i. run.from_left)
+      left = held_more ℕ 0 place count old.from_left.items now.from_left.items (λ i. run.first.sent)
           (λ i. to_right plan.program low (part_state plan low b 0 i)) held.left left
-          (λ i lt. (stands i lt).run_is.left_is ∙ ap (to_right plan.program low) (of_window 0 i lt));
+          (λ i lt. left_is plan entries low (stands i lt).next run (stands i lt).run_is ∙ ap (to_right plan.program low) (of_window 0 i lt));
       own = held_more (List ℕ) [] place count old.own.states now.own.states (λ i. run.own.now) (part_state plan low b 1) held.own own
           (λ i lt. (stands i lt).run_is.own_is ∙ of_window 1 i lt);
       right = held_more ℕ 0 place count old.from_right.items now.from_right.items (λ i. get_or sent (index + i) 0)

@@ -8,6 +8,7 @@ use Rattle.unroll.specs.Line.{middle_state}
 use Rattle.unroll.specs.Below.{part, IsPartNumber}
 use Rattle.unroll.specs.BlockStates.{window_numbered}
 use Rattle.unroll.specs.Entries.{Entries}
+use Rattle.unroll.specs.declared.run.FirstPart.{FirstPart}
 use Rattle.unroll.specs.declared.run.Run.{Run}
 use Rattle.unroll.specs.declared.fault.MakeFault.{MakeFault}
 use Rattle.unroll.specs.declared.fault.MakeFault.TheVariants.{Missing, OutOfMemory}
@@ -20,16 +21,22 @@ KnowsParts entries m low w = (n : ℕ) → IsPartNumber m low w n → IsSome (en
 abbrev pub KnowsPart : Entries → ℕ → ℕ → List ℕ → ℕ → Type 0
 KnowsPart entries m low w d = (n : ℕ) → number_of (2 * low + 1) m (part w low d) ≡ Some n → IsSome (entries low (n / 256))
 
+-- the first part of a window: what its node sends to the right after as many rounds as the level low says, and its block is known
+abbrev pub IsFirstPart : ProgramForIds → Entries → ℕ → FirstPart → Type 0
+IsFirstPart plan entries low first =
+    (first.sent ≡ to_right plan.program low (middle_state plan.program low (take (2 * low + 1) first.ids)))
+    × ((n : ℕ) → number_of (2 * low + 1) plan.ids (take (2 * low + 1) first.ids) ≡ Some n → IsSome (entries low (n / 256)))
+
 -- What the windows one level above low share that begin as w does, with all identifiers but the last: the number of the first window that
--- begins as their last parts do, the places of these, what the node of their first part sends to the right, and the state of their middle
--- part. The blocks of these two are known.
+-- begins as their last parts do, the places of these, their first part, and the state of their middle part. The blocks of these two are
+-- known.
 pub record IsRun (plan : ProgramForIds) (entries : Entries) (low : ℕ) (w : List ℕ) (run : Run) : Type 0 where
   pub start_is : IsRunStart (2 * low) plan.ids (take (2 * low) (drop 2 w)) run.start
   pub places_are : HasPlaces (2 * low + 1) plan.ids w run.places
-  pub left_is : run.from_left ≡ to_right plan.program low (middle_state plan.program low (part w low 0))
+  pub first_ids : take (2 * low + 1) run.first.ids ≡ part w low 0
+  pub first_is : IsFirstPart plan entries low run.first
   pub own_is : run.own.now ≡ middle_state plan.program low (part w low 1)
   pub own_cells : length run.own.now ≡ length plan.program.start
-  pub left_known : KnowsPart entries plan.ids low w 0
   pub own_known : KnowsPart entries plan.ids low w 1
 
 -- the parts of the first windows of block b of level r are known, as many windows as count

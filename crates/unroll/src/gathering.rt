@@ -64,9 +64,10 @@ pub(crate) fn gather<'s, S: Source<'s>>(
     let shape = plan.shape();
     let len = len_of(shape, below + 1, number);
     let mut place = 0;
+    let mut first = None;
     let mut last = None;
     loop {
-        let run = start_run(plan, source, below, window)?;
+        let run = start_run(plan, source, below, window, first)?;
         let (after, block) = gather_run(
             plan, source, below, number, len, place, window, run, parts, last,
         )?;
@@ -74,6 +75,7 @@ pub(crate) fn gather<'s, S: Source<'s>>(
             return Ok(());
         }
         place = after;
+        first = Some(run.first);
         last = Some(block);
         next_run(shape, below, window);
     }
@@ -124,7 +126,7 @@ fn gather_run<'s, S: Source<'s>>(
     let _windows = shape.count(below);
     let mut at = shape.place_in_run(below, window);
     let most = (len - from).min(run.places.rest(at));
-    parts.put_fronts(from as usize, most as usize, run.from_left, run.own);
+    parts.put_fronts(from as usize, most as usize, run.first.sent, run.own);
     let mut place = from;
     let mut last = given;
     loop {

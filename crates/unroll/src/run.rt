@@ -1,7 +1,8 @@
 // Runs of windows: those that begin with the same identifiers, all but the last.
-ghost use Rattle.std.specs.Prelude.{◌≡◌, ℕ, List, ◌+◌, ◌*◌, ◌<◌, length, take, drop, slice_get, Some, IfOk, IfErr};
+ghost use Rattle.std.specs.Prelude.{◌≡◌, ℕ, List, ◌+◌, ◌*◌, ◌<◌, length, take, drop, slice_get, Some, IfSome, IfOk, IfErr};
+ghost use Rattle.unroll.specs.Below.{part};
 ghost use Rattle.unroll.specs.Entries.{Grows};
-ghost use Rattle.unroll.specs.Parts.{IsRun, IsMissingPart};
+ghost use Rattle.unroll.specs.Parts.{IsFirstPart, IsRun, IsMissingPart};
 ghost use Rattle.win_index.specs.Runs.{IsRunStart, IsEndOfSame};
 ghost use Rattle.win_index.specs.Windows.{windows, IsWindow};
 
@@ -9,44 +10,89 @@ use crate::fault::MakeFault;
 use crate::parts::part_below;
 use crate::source::Source;
 use lang_check::Plan;
-use win_index::{RunPlaces, Shape};
+use win_index::{MAX_WINDOW_LEN, RunPlaces, Shape};
+
+// The first part of a window: its identifiers, and what its node sends to the right in the next round.
+#[derive(Clone, Copy)]
+pub(crate) struct FirstPart {
+    pub(crate) ids: [u32; MAX_WINDOW_LEN],
+    pub(crate) sent: u32,
+}
 
 // What the windows of a run share: the number of the first of the windows one level lower among which their last parts
-// stand, and their places there; what the node of their first part sends to the right in the next round; what the node of
-// their middle part holds.
+// stand, and their places there; their first part; what the node of their middle part holds.
 #[derive(Clone, Copy)]
 pub(crate) struct Run<'s> {
     pub(crate) start: u32,
     pub(crate) places: RunPlaces,
-    pub(crate) from_left: u32,
+    pub(crate) first: FirstPart,
     pub(crate) own: &'s [u32],
 }
 
-// The run of a window one level above `below`, from the first two parts of the window.
+// The run of a window one level above `below`, from the first two parts of the window. The first part of another window may
+// be given.
 pub(crate) fn start_run<'s, S: Source<'s>>(
     plan: &Plan,
     source: &mut S,
     below: u32,
     window: &[u32],
+    given: Option<FirstPart>,
 ) -> Result<Run<'s>, MakeFault>
     requires plan { S.plan source.old ≡ plan.now }
     requires below { below < length plan.now.program.steps }
     requires window { IsWindow (2 * below + 3) plan.now.ids window.now }
+    requires given { IfSome given (IsFirstPart plan.now (S.entries source.old) below) }
     ensures same_plan { S.plan source.new ≡ S.plan source.old }
     ensures same_fixed { S.fixed source.new ≡ S.fixed source.old }
     ensures grows { Grows (S.entries source.old) (S.entries source.new) }
     ensures run { IfOk result (λ run. IsRun plan.now (S.entries source.new) below window.now run) }
     ensures fault { IfErr result (IsMissingPart (S.entries source.new) plan.now.ids (below + 1) window.now) }
 {
-    let (first, left_index) = part_below(plan, source, below, window, 0)?;
-    let (middle, own_index) = part_below(plan, source, below, window, 1)?;
+    let first = first_part(plan, source, below, window, given)?;
+    let (middle, index) = part_below(plan, source, below, window, 1)?;
     let start = last_start(plan, below, window);
     let places = plan.shape().run_places(below, window);
     Ok(Run {
         start,
         places,
-        from_left: first.to_right(left_index),
-        own: middle.state(own_index),
+        first,
+        own: middle.state(index),
+    })
+}
+
+// The first part of a window one level above `below`: the one that is given, where it has the identifiers, else the one that
+// the source has.
+fn first_part<'s, S: Source<'s>>(
+    plan: &Plan,
+    source: &mut S,
+    below: u32,
+    window: &[u32],
+    given: Option<FirstPart>,
+) -> Result<FirstPart, MakeFault>
+    requires plan { S.plan source.old ≡ plan.now }
+    requires below { below < length plan.now.program.steps }
+    requires window { IsWindow (2 * below + 3) plan.now.ids window.now }
+    requires given { IfSome given (IsFirstPart plan.now (S.entries source.old) below) }
+    ensures same_plan { S.plan source.new ≡ S.plan source.old }
+    ensures same_fixed { S.fixed source.new ≡ S.fixed source.old }
+    ensures grows { Grows (S.entries source.old) (S.entries source.new) }
+    ensures ids { IfOk result (λ first. take (2 * below + 1) first.ids ≡ part window.now below 0) }
+    ensures first { IfOk result (IsFirstPart plan.now (S.entries source.new) below) }
+    ensures fault { IfErr result (IsMissingPart (S.entries source.new) plan.now.ids (below + 1) window.now) }
+{
+    let _shape = plan.shape();
+    let len = 2 * below as usize + 1;
+    if let Some(first) = given
+        && &first.ids[..len] == &window[..len]
+    {
+        return Ok(first);
+    }
+    let (block, index) = part_below(plan, source, below, window, 0)?;
+    let mut ids = [0; MAX_WINDOW_LEN];
+    ids[..len].copy_from_slice(&window[..len]);
+    Ok(FirstPart {
+        ids,
+        sent: block.to_right(index),
     })
 }
 

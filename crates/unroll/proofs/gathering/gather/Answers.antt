@@ -1,10 +1,10 @@
-use Rattle.std.proofs.Common.{◌≡◌, ◌+◌, ◌-◌, ◌*◌, ◌/◌, ◌<◌, ◌≤◌, refl, ◌∙◌, arith, subst}
+use Rattle.std.proofs.Common.{◌≡◌, ◌+◌, ◌-◌, ◌*◌, ◌/◌, ◌<◌, refl, ◌∙◌, arith, subst}
 use Rattle.std.proofs.lemmas.Result.{err_from_is_err_and}
 use Rattle.unroll.specs.BlockStates.{block_len}
 use Rattle.unroll.specs.Entries.{IsEntry}
 use Rattle.unroll.specs.Parts.{KnowsBelow}
-use Rattle.unroll.specs.WideColumns.{HoldParts}
 use Rattle.unroll.proofs.Known.{still_known, window_at, grows_both, fault_of_block, if_some_more}
+use Rattle.unroll.proofs.SameRun.{first_grows}
 use Rattle.unroll.proofs.gathering.gather.Goals as goal
 
 pub returns-in_err-run-clause-fault : goal.returns-in_err-run-clause-fault
@@ -107,6 +107,7 @@ loop-run-preserved g c =
           (grows_both (entries c.args.source.now) (entries c.loop-run.source) (entries c.start_run.new.source) before.grows asked.grows) went.grows;
       window = rw c.shape-shape.ensures.ids at c.next_run.ensures.window;
       here = follows;
+      first = first_grows plan (entries c.start_run.new.source) (entries c.gather_run.new.source) low _ went.grows asked.run.first_is;
       last = went.block;
       wide = went.wide;
       states = went.states;

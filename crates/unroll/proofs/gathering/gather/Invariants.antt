@@ -2,7 +2,7 @@ use Rattle.std.proofs.Common.{◌≡◌, ◌+◌, ◌-◌, ◌*◌, ◌<◌, sli
 use Rattle.win_index.specs.Windows.{windows, IsWindow}
 use Rattle.unroll.specs.BlockStates.{block_len}
 use Rattle.unroll.specs.Entries.{Grows, IsEntry}
-use Rattle.unroll.specs.Parts.{KnowsBelow}
+use Rattle.unroll.specs.Parts.{IsFirstPart, KnowsBelow}
 use Rattle.unroll.specs.WideColumns.{AreWide, HoldParts}
 use Rattle.unroll.proofs.gathering.gather.Given as goal
 
@@ -15,6 +15,7 @@ invariant-loop-run g l =
       grows : Grows (g.S.Source.entries l.fn.source) (g.S.Source.entries l.source);
       window : IsWindow (2 * l.below + 3) l.plan.ids l.window;
       here : slice_get (windows (2 * (l.below + 1) + 1) l.plan.ids) (256 * l.number + l.place) ≡ Some l.window;
+      first : IfSome l.first (IsFirstPart l.plan (g.S.Source.entries l.source) l.below);
       last : IfSome l.last (λ b. IsEntry l.plan (g.S.Source.entries l.source) l.below b.now.number b.now);
       wide : AreWide l.plan l.parts;
       states : HoldParts l.plan l.below l.number l.place l.parts;

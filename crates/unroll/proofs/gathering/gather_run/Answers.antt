@@ -1,10 +1,9 @@
-use Rattle.std.proofs.Common.{◌≡◌, ℕ, ◌+◌, ◌-◌, ◌*◌, ◌/◌, ◌%◌, ◌<◌, ◌≤◌, List, [], length, take, get_or, slice_get, Some, IsSome, refl, sym, ap, ◌∙◌, arith, subst}
+use Rattle.std.proofs.Common.{◌≡◌, ℕ, ◌+◌, ◌-◌, ◌*◌, ◌≤◌, List, [], length, take, get_or, IsSome, refl, sym, ap, ◌∙◌, arith, subst}
 use Rattle.std.proofs.lemmas.Result.{err_from_is_err_and}
 use Rattle.std.proofs.lemmas.Option.{slice_get_within}
 use Rattle.win_index.specs.Runs.{place_in_run}
 use Rattle.win_index.specs.Windows.{windows, IsWindow}
 use Rattle.unroll.specs.Below.{part}
-use Rattle.unroll.specs.WideColumns.{AreWritten}
 use Rattle.unroll.proofs.Known.{window_at, grows_both, fault_of_last}
 use Rattle.unroll.proofs.SameRun.{same_run, run_grows}
 use Rattle.unroll.proofs.SeriesStates.{series_at, series_known, hold_series, knows_series, still_written, still_hold, written_same, right_at_place, further_place, later_window}
@@ -53,7 +52,7 @@ returns-then-place-len-clause-states g c =
     let few : index + count ≤ c.len.result = omega (arith, c.series-count.ensures.few, c.min.ensures, asked.inside, c.len.ensures) in
     let within : place + count ≤ c.args.from + c.min-most.result =
     omega (arith, c.min-most.ensures, c.rest.ensures, c.place_in_run-at.ensures.value, before.along, before.after, c.series-count.ensures.inside, c.series-count.ensures.few, c.min.ensures) in
-    let left = still_written ℕ 0 run.from_left c.args.parts.now.from_left.items c.loop-block.parts.from_left.items c.put_lasts.new.self.from_left.items
+    let left = still_written ℕ 0 run.first.sent c.args.parts.now.from_left.items c.loop-block.parts.from_left.items c.put_lasts.new.self.from_left.items
     c.args.from c.min-most.result place count before.left (ap (λ list. list.items) c.put_lasts.ensures.left) before.after within in
     let own = still_written (List ℕ) [] run.own.now c.args.parts.now.own.states c.loop-block.parts.own.states c.put_lasts.new.self.own.states
     c.args.from c.min-most.result place count before.own (ap (λ columns. columns.states) c.put_lasts.ensures.own) before.after within in
@@ -91,7 +90,7 @@ returns-in_default-clause-states g c =
     let few : index + count ≤ c.len.result = omega (arith, c.series-count.ensures.few, c.min.ensures, asked.inside, c.len.ensures) in
     let within : place + count ≤ c.args.from + c.min-most.result =
     omega (arith, c.min-most.ensures, c.rest.ensures, c.place_in_run-at.ensures.value, before.along, before.after, c.series-count.ensures.inside, c.series-count.ensures.few, c.min.ensures) in
-    let left = still_written ℕ 0 run.from_left c.args.parts.now.from_left.items c.loop-block.parts.from_left.items c.put_lasts.new.self.from_left.items
+    let left = still_written ℕ 0 run.first.sent c.args.parts.now.from_left.items c.loop-block.parts.from_left.items c.put_lasts.new.self.from_left.items
     c.args.from c.min-most.result place count before.left (ap (λ list. list.items) c.put_lasts.ensures.left) before.after within in
     let own = still_written (List ℕ) [] run.own.now c.args.parts.now.own.states c.loop-block.parts.own.states c.put_lasts.new.self.own.states
     c.args.from c.min-most.result place count before.own (ap (λ columns. columns.states) c.put_lasts.ensures.own) before.after within in
@@ -298,7 +297,7 @@ loop-block-init g c =
       );
       left = put.left;
       own = put.own;
-      states = still_hold plan low b c.args.from c.min-most.result run.from_left run.own.now c.args.parts.now c.put_fronts.new.self c.requires.states put.left
+      states = still_hold plan low b c.args.from c.min-most.result run.first.sent run.own.now c.args.parts.now c.put_fronts.new.self c.requires.states put.left
           put.own put.right;
       known = c.requires.known;
     }
@@ -331,7 +330,7 @@ loop-block-preserved g c =
     let few : index + count ≤ c.len.result = omega (arith, c.series-count.ensures.few, c.min.ensures, asked.inside, c.len.ensures) in
     let within : place + count ≤ c.args.from + c.min-most.result =
     omega (arith, c.min-most.ensures, c.rest.ensures, c.place_in_run-at.ensures.value, before.along, before.after, c.series-count.ensures.inside, c.series-count.ensures.few, c.min.ensures) in
-    let left = still_written ℕ 0 run.from_left c.args.parts.now.from_left.items c.loop-block.parts.from_left.items c.put_lasts.new.self.from_left.items
+    let left = still_written ℕ 0 run.first.sent c.args.parts.now.from_left.items c.loop-block.parts.from_left.items c.put_lasts.new.self.from_left.items
     c.args.from c.min-most.result place count before.left (ap (λ list. list.items) c.put_lasts.ensures.left) before.after within in
     let own = still_written (List ℕ) [] run.own.now c.args.parts.now.own.states c.loop-block.parts.own.states c.put_lasts.new.self.own.states
     c.args.from c.min-most.result place count before.own (ap (λ columns. columns.states) c.put_lasts.ensures.own) before.after within in
@@ -367,7 +366,7 @@ loop-block-preserved g c =
         (ap (λ columns. columns.registers) put.own ∙ before.wide.1.0, ap (λ columns. length columns.states) put.own ∙ before.wide.1.1),
         put.right.size ∙ before.wide.2,
       );
-      left = written_same ℕ 0 run.from_left c.args.parts.now.from_left.items c.loop-block.parts.from_left.items c.put_lasts.new.self.from_left.items
+      left = written_same ℕ 0 run.first.sent c.args.parts.now.from_left.items c.loop-block.parts.from_left.items c.put_lasts.new.self.from_left.items
           c.args.from c.min-most.result (ap (λ list. list.items) put.left) before.left;
       own = written_same (List ℕ) [] run.own.now c.args.parts.now.own.states c.loop-block.parts.own.states c.put_lasts.new.self.own.states
           c.args.from c.min-most.result (ap (λ columns. columns.states) put.own) before.own;

@@ -20,7 +20,7 @@ invariant-loop-block g l =
           × (take (2 * l.below + 2) w ≡ take (2 * l.below + 2) l.window) × IsAtPlace (2 * l.below + 1) l.plan.ids l.run.places w l.at;
       last : IfSome l.last (λ b. IsEntry l.plan (g.S.Source.entries l.source) l.below b.now.number b.now);
       wide : AreWide l.plan l.parts;
-      left : AreWritten ℕ 0 l.fn.parts.from_left.items l.parts.from_left.items l.from l.most (λ _. l.run.from_left);
+      left : AreWritten ℕ 0 l.fn.parts.from_left.items l.parts.from_left.items l.from l.most (λ _. l.run.first.sent);
       own : AreWritten (List ℕ) [] l.fn.parts.own.states l.parts.own.states l.from l.most (λ _. l.run.own.now);
       states : HoldParts l.plan l.below l.number l.place l.parts;
       known : KnowsBelow (g.S.Source.entries l.source) l.plan.ids (l.below + 1) l.number l.place;
