@@ -58,7 +58,5 @@ pub(crate) fn push_channels(channels: &[u32], block: &Block<'_>, maker: &mut Tab
     requires maker { maker.old ≡ begun block.now.plan.program block.now.plan.ids (256 * block.now.number) }
     ensures { maker.new ≡ begun block.now.plan.program block.now.plan.ids (256 * (block.now.number + 1)) }
 {
-    for i in 0..block.len() {
-        maker.push(channels[i as usize]);
-    }
+    maker.push_all(&channels[..block.len() as usize]);
 }

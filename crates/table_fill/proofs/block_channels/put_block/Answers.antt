@@ -1,7 +1,6 @@
-use Rattle.std.proofs.Common.{◌≡◌, ℕ, ◌+◌, ◌*◌, ◌<◌, ◌≤◌, [], length, get_or, take, drop, sym, ap, ◌∙◌, arith}
+use Rattle.std.proofs.Common.{◌≡◌, ℕ, ◌+◌, ◌*◌, [], length, get_or, take, drop, sym, ap, ◌∙◌, arith}
 use Rattle.std.proofs.lemmas.List.FromFn.{get_or-map-range_with_len}
-use Rattle.round_eval.specs.Rows.{rows}
-use Rattle.unroll.specs.BlockStates.{block_len, block_state}
+use Rattle.unroll.specs.BlockStates.{block_len}
 use Rattle.table_fill.proofs.block_channels.put_block.Goals as goal
 
 pub put_rows-requires-clause-cells : goal.put_rows-requires-clause-cells

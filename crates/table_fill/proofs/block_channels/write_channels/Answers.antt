@@ -1,8 +1,8 @@
-use Rattle.std.proofs.Common.{◌≡◌, ◌+◌, ◌*◌, ◌<◌, [], map, length, get_or, subst, sym, ap, ◌∙◌, arith, rules}
-use Rattle.std.proofs.lemmas.List.{get_or-map, length-map}
+use Rattle.std.proofs.Common.{◌≡◌, ◌+◌, ◌*◌, ◌<◌, [], length, get_or, subst, sym, ap, ◌∙◌, arith}
+use Rattle.std.proofs.lemmas.List.{get_or-map}
 use Rattle.node_lang.specs.Node.{channel}
 use Rattle.node_lang.specs.Bounds.{register_bounds, IsWithin}
-use Rattle.unroll.specs.BlockStates.{window_numbered, block_len}
+use Rattle.unroll.specs.BlockStates.{window_numbered}
 use Rattle.unroll.specs.Line.{middle_state}
 use Rattle.win_index.specs.Windows.{windows}
 use Rattle.table_fill.proofs.Programs.{numbered_is_window}
