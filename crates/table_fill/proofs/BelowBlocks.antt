@@ -1,10 +1,10 @@
 -- A block below a block is one of its level.
-use Rattle.std.proofs.Common.{◌≡◌, ℕ, ◌+◌, ◌*◌, ◌<◌, ◌≤◌, List, Some, length, slice_get, arith}
+use Rattle.std.proofs.Common.{ℕ, ◌+◌, ◌*◌, ◌<◌, ◌≤◌, List, length, arith}
 use Rattle.std.proofs.lemmas.Option.{slice_get_within}
 use Rattle.lang_check.specs.Plans.{ProgramForIds}
 use Rattle.win_index.specs.Blocks.{block_count}
 use Rattle.win_index.specs.Laws.{WindowOfNumber}
-use Rattle.win_index.specs.Windows.{windows, number_of}
+use Rattle.win_index.specs.Windows.{windows}
 use Rattle.unroll.specs.Below.{part, IsBelow}
 use Rattle.unroll.specs.BlockStates.{window_numbered}
 use Rattle.unroll.specs.Entries.{Entries}

@@ -14,8 +14,7 @@ use std::thread::{JoinHandle, Scope, Threads};
 // What a worker answers once it has ended.
 type Answer = Result<(), WorkFault>;
 
-// Fills a memo by so many workers, each in a thread of its own. That threads may share a memo is shown here,
-// where few values are in scope.
+// Fills a memo by so many workers. That threads may share a memo is shown here, where few values are in scope.
 pub(crate) fn fill_memo<'a, R: Threads + Wait + Sync, G: Gate + Sync>(
     rt: &R,
     alloc: Global,
@@ -96,7 +95,7 @@ fn crew_of<'d, 'm, 'g, M: Fills, G: Gate>(
     Ok(crew)
 }
 
-// Runs each worker in a thread until all have ended.
+// Runs the last worker in this thread, and each other one in a thread of its own, until all have ended.
 fn run_all<'d, 'm, 'g, R: Threads + Wait + Sync, M: Fills + Sync, G: Gate + Sync>(
     rt: &R,
     crew: Vec<Worker<'d, 'm, 'g, M, G>>,
@@ -109,32 +108,63 @@ fn run_all<'d, 'm, 'g, R: Threads + Wait + Sync, M: Fills + Sync, G: Gate + Sync
         rt,
         |scope| -> Answer
             requires { vec_len handles + vec_len crew ≤ vec_capacity handles }
-        { start_all(rt, scope, crew, handles) },
+        { run_in_scope(rt, scope, crew, handles) },
     )
 }
 
-// Starts the workers, and joins all that were started. A refused start counts first.
-fn start_all<'s, 'd: 's, 'm: 's, 'g: 's, E, R: Threads, M: Fills + Sync + 's, G: Gate + Sync + 's>(
+// Starts all workers but the last, which works here where no start was refused, and joins all that were started.
+// A refused start counts first.
+fn run_in_scope<
+    's,
+    'd: 's,
+    'm: 's,
+    'g: 's,
+    E,
+    R: Threads,
+    M: Fills + Sync + 's,
+    G: Gate + Sync + 's,
+>(
     rt: &R,
     scope: &Scope<'s, E>,
-    crew: Vec<Worker<'d, 'm, 'g, M, G>>,
+    mut crew: Vec<Worker<'d, 'm, 'g, M, G>>,
     mut handles: Vec<JoinHandle<Answer>>,
 ) -> Answer
     requires { vec_len handles + vec_len crew ≤ vec_capacity handles }
 {
-    let mut started = Ok(());
+    let last = crew.pop();
+    let started = start_all(scope, crew, &mut handles);
+    let worked = match last {
+        Some(worker) => work_if(started.is_ok(), worker),
+        None => Ok(()),
+    };
+    let joined = join_all(rt, handles);
+    started?;
+    joined?;
+    worked
+}
+
+// Runs a worker, if it shall.
+fn work_if<'d, 'm, 'g, M: Fills, G: Gate>(shall: bool, worker: Worker<'d, 'm, 'g, M, G>) -> Answer {
+    if shall { worker.run() } else { Ok(()) }
+}
+
+// Starts workers up to the first start that is refused.
+fn start_all<'s, 'd: 's, 'm: 's, 'g: 's, E, M: Fills + Sync + 's, G: Gate + Sync + 's>(
+    scope: &Scope<'s, E>,
+    crew: Vec<Worker<'d, 'm, 'g, M, G>>,
+    handles: &mut Vec<JoinHandle<Answer>>,
+) -> Answer
+    requires { vec_len handles.old + vec_len crew ≤ vec_capacity handles.old }
+{
     for worker in crew {
         let Some(handle) = start_one(scope, worker) else {
-            started = Err(WorkFault::NoThread);
-            break;
+            return Err(WorkFault::NoThread);
         };
         let Ok(()) = handles.push(handle) else {
             unreachable!()
         };
     }
-    let joined = join_all(rt, handles);
-    started?;
-    joined
+    Ok(())
 }
 
 // Starts one worker in a thread, or answers `None` where that was refused.
