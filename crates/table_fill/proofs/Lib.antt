@@ -1,4 +1,5 @@
 -- Lemmas that several proofs share.
+pub mod BegunTables
 pub mod Programs
 pub mod BelowBlocks
 pub mod FillViews
