@@ -43,7 +43,7 @@ impl PartColumns {
         ensures own { AreWritten (List ℕ) [] self.old.own.states self.new.own.states place count (λ _. own.now) }
         ensures right { self.new.from_right ≡ self.old.from_right }
     {
-        self.from_left[place..place + count].fill(from_left);
+        fill_some(&mut self.from_left, place, count, from_left);
         self.own.fill_states(place, count, own);
     }
 
@@ -57,7 +57,35 @@ impl PartColumns {
         ensures right { AreWritten ℕ 0 self.old.from_right.items self.new.from_right.items place count
             (λ i. slice_index sent.now (index + i)) }
     {
-        self.from_right[place..place + count].copy_from_slice(&sent[index..index + count]);
+        copy_some(&mut self.from_right, place, count, sent, index);
+    }
+}
+
+// So many cells are written at once where fewer are asked for, and the cells behind these are there: that takes no loop.
+const CHUNK: usize = 16;
+
+// Writes a number into cells that follow one another, from a place on, and perhaps into some behind them.
+fn fill_some(cells: &mut [u32], place: usize, count: usize, number: u32)
+    requires { place + count ≤ length cells.old }
+    ensures { AreWritten ℕ 0 cells.old cells.new place count (λ _. number) }
+{
+    if count <= CHUNK && place + CHUNK <= cells.len() {
+        cells[place..place + CHUNK].fill(number);
+    } else {
+        cells[place..place + count].fill(number);
+    }
+}
+
+// Copies numbers from an index on into cells that follow one another, from a place on, and perhaps some that follow them.
+fn copy_some(cells: &mut [u32], place: usize, count: usize, numbers: &[u32], index: usize)
+    requires cells { place + count ≤ length cells.old }
+    requires numbers { index + count ≤ length numbers.now }
+    ensures { AreWritten ℕ 0 cells.old cells.new place count (λ i. slice_index numbers.now (index + i)) }
+{
+    if count <= CHUNK && place + CHUNK <= cells.len() && index + CHUNK <= numbers.len() {
+        cells[place..place + CHUNK].copy_from_slice(&numbers[index..index + CHUNK]);
+    } else {
+        cells[place..place + count].copy_from_slice(&numbers[index..index + count]);
     }
 }
 
