@@ -159,11 +159,15 @@ fn is_window(ids: u32, list: &[u32]) -> bool
     true
 }
 
-// How many of the numbers are below x.
+// How many of the numbers are below x. A test is added as a number, since a jump would often be foreseen wrongly.
 fn smaller_before(before: &[u32], x: u32) -> usize
     ensures { result ≡ count_by (λ y. nat_lt y x) before.now }
 {
-    before.iter().filter(|y| **y < x).count()
+    let mut count = 0;
+    for i in 0..before.len() {
+        count += usize::from(before[i] < x);
+    }
+    count
 }
 
 // How many numbers below x are not among the distinct ones before.
