@@ -1,5 +1,5 @@
 // Runs of windows: those that begin with the same identifiers, all but the last.
-ghost use Rattle.std.specs.Prelude.{◌≡◌, ℕ, List, ◌+◌, ◌*◌, ◌<◌, length, take, drop, slice_get, Some, IfSome, IfOk, IfErr};
+ghost use Rattle.std.specs.Prelude.{◌≡◌, ◌↔◌, IsTrue, ℕ, List, ◌+◌, ◌*◌, ◌<◌, length, take, drop, slice_get, Some, IfSome, IfOk, IfErr};
 ghost use Rattle.unroll.specs.Below.{part};
 ghost use Rattle.unroll.specs.Entries.{Grows};
 ghost use Rattle.unroll.specs.Parts.{IsFirstPart, IsRun, IsMissingPart};
@@ -83,7 +83,7 @@ fn first_part<'s, S: Source<'s>>(
     let _shape = plan.shape();
     let len = 2 * below as usize + 1;
     if let Some(first) = given
-        && &first.ids[..len] == &window[..len]
+        && are_same(&first.ids[..len], &window[..len])
     {
         return Ok(first);
     }
@@ -94,6 +94,19 @@ fn first_part<'s, S: Source<'s>>(
         ids,
         sent: block.to_right(index),
     })
+}
+
+// Whether two short lists of one length are equal.
+fn are_same(a: &[u32], b: &[u32]) -> bool
+    requires { length a.now ≡ length b.now }
+    ensures { IsTrue result ↔ (a.now ≡ b.now) }
+{
+    for i in 0..a.len() {
+        if a[i] != b[i] {
+            return false;
+        }
+    }
+    true
 }
 
 // Goes from a window one level above `below` to the first one after the windows that begin as it does.
