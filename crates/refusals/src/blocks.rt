@@ -48,8 +48,10 @@ fn install_first<'a, R: AllocGlobal + Print>(
 {
     let block = made(rt, plan, reader, 0, 0)?;
     let block = beside(Box::new(rt.alloc(), block))?;
-    let _ = reader.keep(block);
-    Ok(())
+    match reader.install(block) {
+        Ok(_) => Ok(()),
+        Err(_) => Err(Miss::Wrong),
+    }
 }
 
 // Tells how many states a block has, and the first of them.
