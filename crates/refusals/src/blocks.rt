@@ -48,10 +48,8 @@ fn install_first<'a, R: AllocGlobal + Print>(
 {
     let block = made(rt, plan, reader, 0, 0)?;
     let block = beside(Box::new(rt.alloc(), block))?;
-    match reader.install(block) {
-        Ok(_) => Ok(()),
-        Err(_) => Err(Miss::Wrong),
-    }
+    let _ = reader.keep(block);
+    Ok(())
 }
 
 // Tells how many states a block has, and the first of them.

@@ -17,8 +17,6 @@ pub(crate) enum Made {
     Fresh,
     // Another stood there before.
     Stood,
-    // It is of another plan.
-    Refused,
 }
 
 // The cells of a plan's blocks, as one worker knows them.
@@ -69,11 +67,10 @@ impl<'s, 'p, 'a> Cells for CellMaker<'s, 'p, 'a> {
         let Ok(block) = Box::new(alloc, block) else {
             return Err(MakeFault::OutOfMemory);
         };
-        match reader.install(block) {
-            Ok(Installed::Fresh) => Ok(Made::Fresh),
-            Ok(Installed::Stood(_)) => Ok(Made::Stood),
-            Err(_) => Ok(Made::Refused),
-        }
+        Ok(match reader.keep(block) {
+            Installed::Fresh => Made::Fresh,
+            Installed::Stood(_) => Made::Stood,
+        })
     }
 
     fn stranger(&self) -> bool {

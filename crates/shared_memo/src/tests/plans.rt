@@ -1,5 +1,5 @@
 //! Plans and blocks for the tests.
-ghost use Rattle.std.specs.Prelude.{◌≡◌, true};
+ghost use Rattle.std.specs.Prelude.{◌≡◌, true, IfSome};
 ghost use Rattle.shared_memo.specs.PlanJobs.{IsKey};
 
 use crate::{Memo, Reader};
@@ -39,7 +39,9 @@ pub fn block_of<'a>(
     level: u32,
     number: u32,
     maker: u32,
-) -> Option<Box<Block<'a>>> {
+) -> Option<Box<Block<'a>>>
+    ensures { IfSome result (λ b. b.value.plan ≡ plan.now) }
+{
     let memo = Memo::new(alloc, plan).ok()?;
     let mut pass = memo.pass(alloc).ok()?;
     let mut reader = Reader::new(&memo, &mut pass);
@@ -47,9 +49,7 @@ pub fn block_of<'a>(
         return None;
     }
     let low = make_block(alloc, plan, &mut reader, 0, 0, maker).ok()?;
-    if reader.install(Box::new(alloc, low).ok()?).is_err() {
-        return None;
-    }
+    let _ = reader.keep(Box::new(alloc, low).ok()?);
     let block = make_block(alloc, plan, &mut reader, level, number, maker).ok()?;
     Box::new(alloc, block).ok()
 }

@@ -63,7 +63,7 @@ fn found(alloc: Global, plan: &Plan) -> Option<[bool; 4]> {
     }
     let first = reader.finds(1, 0);
     let before = reader.finds(1, 1);
-    let _ = reader.install(block_of(alloc, plan, 1, 1, 1)?);
+    let _ = reader.keep(block_of(alloc, plan, 1, 1, 1)?);
     Some([first, before, reader.finds(1, 1), reader.stranger()])
 }
 

@@ -57,8 +57,6 @@ fn a_worker_that_meets_a_stranger_says_so(rt: HostRuntime) -> Result<(), Fail> {
         (false, Some(Made::Fresh), false, None),
         // another block stood there and is not found
         (false, Some(Made::Stood), false, stranger),
-        // the block is of another plan
-        (false, Some(Made::Refused), false, stranger),
         // a block below is missing, since another's stands there
         (false, None, true, stranger),
         // a block below is missing, however often it is made
