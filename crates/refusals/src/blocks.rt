@@ -1,4 +1,4 @@
-ghost use Rattle.std.specs.Prelude.{◌≡◌};
+ghost use Rattle.std.specs.Prelude.{◌≡◌, IfOk};
 ghost use Rattle.shared_memo.specs.PlanJobs.{IsKey};
 
 use crate::miss::Miss;
@@ -96,7 +96,8 @@ fn made<'a, R: AllocGlobal + Print>(
 ) -> Result<Block<'a>, Miss>
     requires plan { reader.old.pass.now.plan.now ≡ plan.now }
     requires key { IsKey plan.now level number }
-    ensures { reader.new.pass.now.plan.now ≡ reader.old.pass.now.plan.now }
+    ensures same_plan { reader.new.pass.now.plan.now ≡ reader.old.pass.now.plan.now }
+    ensures plan { IfOk result (λ block. block.plan ≡ plan.now) }
 {
     let alloc = rt.alloc();
     match given(rt, make_block(alloc, plan, reader, level, number, 4))? {

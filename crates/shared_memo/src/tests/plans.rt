@@ -1,5 +1,5 @@
 //! Plans and blocks for the tests.
-ghost use Rattle.std.specs.Prelude.{◌≡◌, true, IfSome};
+ghost use Rattle.std.specs.Prelude.{◌≡◌, true, IfOk, IfSome};
 ghost use Rattle.shared_memo.specs.PlanJobs.{IsKey};
 
 use crate::{Memo, Reader};
@@ -18,7 +18,9 @@ pub const RED: &[u8] =
     b"rounds 3\nchannels 4\nregisters 1\nstart\nr0 = id\nround\nsend left 0\nsend right r0\nr0 = add(shl(ldb(r0, L), 1), bit(r0, ldb(r0, L)))\nround\nsend left r0\nsend right r0\nr0 = min(if(eq(r0, 5), if(and(ne(L, 0), ne(R, 0)), 0, if(and(ne(L, 1), ne(R, 1)), 1, 2)), r0), 4)\nround\nsend left r0\nsend right r0\nr0 = min(if(eq(r0, 4), if(and(ne(L, 0), ne(R, 0)), 0, if(and(ne(L, 1), ne(R, 1)), 1, 2)), r0), 3)\nfinish r0\n";
 
 // The plan of a program text for 8 identifiers.
-pub fn plan_of(alloc: Global, text: &[u8]) -> Result<Plan, Fail> {
+pub fn plan_of(alloc: Global, text: &[u8]) -> Result<Plan, Fail>
+    ensures { IfOk result (λ plan. plan.ids ≡ 8) }
+{
     let program = parse(alloc, text).ok().ok_or("a program")?;
     let plan = accept(program, 8).ok().ok_or("a plan")?;
     Ok(plan)
@@ -40,7 +42,8 @@ pub fn block_of<'a>(
     number: u32,
     maker: u32,
 ) -> Option<Box<Block<'a>>>
-    ensures { IfSome result (λ b. b.value.plan ≡ plan.now) }
+    ensures plan { IfSome result (λ b. b.value.plan ≡ plan.now) }
+    ensures place { IfSome result (λ b. (b.value.level ≡ level) × (b.value.number ≡ number) × (b.value.maker ≡ maker)) }
 {
     let memo = Memo::new(alloc, plan).ok()?;
     let mut pass = memo.pass(alloc).ok()?;
