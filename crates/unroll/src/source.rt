@@ -12,8 +12,10 @@ pub trait Source<'s> {
 
     ghost entries: { Self → Entries };
 
+    ghost Fixed: { Type 0 };
+
     // What no call changes: the entries, for a source that learns nothing from its calls.
-    ghost fixed: { Self → Entries };
+    ghost fixed: { Self → Fixed };
 
     /// The block of a level of the plan and a number below the number of its blocks, known from then on, or
     /// `None` where there is no entry.

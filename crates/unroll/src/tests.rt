@@ -31,12 +31,15 @@ struct Lent<'s> {
 
 ghost use Rattle.std.specs.Prelude.{◌≡◌, ◌==◌, ◌&&◌, Some, None, if◌then◌else◌, All, slice_get, IfOk};
 ghost use Rattle.std.specs.Option.{option_and_then};
+ghost use Rattle.unroll.specs.Entries.{Entries};
 
 impl<'s> Source<'s> for Lent<'s> {
     ghost plan = { λ s. s.plan.now };
 
     ghost entries = { λ s level number. option_and_then
         (λ b. if (b.level == level) && (b.number == number) then Some b else None) (slice_get s.blocks.now 0) };
+
+    ghost Fixed = { Entries };
 
     ghost fixed = { λ s _ _. None };
 

@@ -1,5 +1,6 @@
 ghost use Rattle.std.specs.Prelude.{◌≡◌, length};
 ghost use Rattle.shared_memo.specs.PlanJobs.{job_count};
+ghost use Rattle.unroll.specs.Entries.{Entries};
 ghost use Rattle.table_fill.specs.FillPromises.{HoldsJobs};
 ghost use Rattle.table_fill.specs.KnownCells.{known_entries};
 
@@ -21,6 +22,8 @@ impl<'s> Source<'s> for Known<'s> {
     ghost plan = { λ s. s.plan.now };
 
     ghost entries = { λ s. known_entries s.plan.now s.cells.now s.knows.now };
+
+    ghost Fixed = { Entries };
 
     ghost fixed = { λ s. known_entries s.plan.now s.cells.now s.knows.now };
 
