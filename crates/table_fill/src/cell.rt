@@ -1,5 +1,6 @@
 ghost use Rattle.std.specs.Prelude.{◌≡◌, IfErr};
 ghost use Rattle.lang_check.specs.Plans.{ProgramForIds};
+ghost use Rattle.shared_memo.specs.declared.memo.Memo.{Memo};
 ghost use Rattle.shared_memo.specs.PlanJobs.{IsKey};
 ghost use Rattle.table_fill.specs.MissingBlocks.{IsMissingBlock};
 
@@ -7,7 +8,7 @@ use crate::cell_maker::CellMaker;
 use crate::fault::WorkFault;
 use shared_memo::Installed;
 use std::alloc::Global;
-use unroll::MakeFault;
+use unroll::{MakeFault, Source};
 use win_index::{MAX_BLOCKS, window_of_number};
 
 // What became of a block that was made.
@@ -23,10 +24,16 @@ pub(crate) enum Made {
 pub(crate) trait Cells {
     ghost plan: { Self → ProgramForIds };
 
+    ghost Fixed: { Type 0 };
+
+    // What no call changes.
+    ghost fixed: { Self → Fixed };
+
     // Whether it finds the block of a level and a number.
     fn finds(&mut self, level: u32, number: u32) -> bool
         requires { IsKey (plan self.old) level number }
-        ensures { plan self.new ≡ plan self.old };
+        ensures plan { plan self.new ≡ plan self.old }
+        ensures same_fixed { fixed self.new ≡ fixed self.old };
 
     // Makes the block of a level and a number and installs it, or names a block of a lower level that is missing.
     fn make(
@@ -38,17 +45,22 @@ pub(crate) trait Cells {
     ) -> Result<Made, MakeFault>
         requires { IsKey (plan self.old) level number }
         ensures plan { plan self.new ≡ plan self.old }
+        ensures same_fixed { fixed self.new ≡ fixed self.old }
         ensures missing { IfErr result (IsMissingBlock (plan self.old) level) };
 
     // Whether it met a block in another's place.
     fn stranger(&self) -> bool;
 }
 
-impl<'s, 'p, 'a> Cells for CellMaker<'s, 'p, 'a> {
-    ghost plan = { λ c. c.reader.pass.now.plan.now };
+impl<'s, 'a> Cells for CellMaker<'s, 'a> {
+    ghost plan = { λ c. c.reader.pass.plan.now };
+
+    ghost Fixed = { Memo };
+
+    ghost fixed = { λ c. c.reader.memo.now };
 
     fn finds(&mut self, level: u32, number: u32) -> bool {
-        self.reader.finds(level, number)
+        self.reader.block(level, number).is_some()
     }
 
     fn make(
@@ -67,14 +79,14 @@ impl<'s, 'p, 'a> Cells for CellMaker<'s, 'p, 'a> {
         let Ok(block) = Box::new(alloc, block) else {
             return Err(MakeFault::OutOfMemory);
         };
-        Ok(match reader.keep(block) {
+        Ok(match reader.memo.keep(&mut reader.pass, block) {
             Installed::Fresh => Made::Fresh,
             Installed::Stood(_) => Made::Stood,
         })
     }
 
     fn stranger(&self) -> bool {
-        self.reader.stranger()
+        self.reader.stranger
     }
 }
 
@@ -88,7 +100,8 @@ pub(crate) fn fill_cell<C: Cells>(
     number: u32,
 ) -> Result<(), WorkFault>
     requires { IsKey (C.plan cells.old) level number }
-    ensures { C.plan cells.new ≡ C.plan cells.old }
+    ensures plan { C.plan cells.new ≡ C.plan cells.old }
+    ensures same_fixed { C.fixed cells.new ≡ C.fixed cells.old }
 {
     if cells.finds(level, number) {
         return Ok(());

@@ -1,13 +1,13 @@
 // What one worker has: its reader of the memo, and what makes blocks of the same plan.
 ghost use Rattle.std.specs.Prelude.{◌≡◌};
 
-use shared_memo::Reader;
+use crate::own_reader::OwnReader;
 use unroll::BlockMaker;
 
 // A reader of a memo, and a maker of blocks of the memo's plan.
 #[derive(Drop)]
-pub(crate) struct CellMaker<'s, 'p, 'a> {
-    pub(crate) reader: Reader<'s, 'p, 'a>,
+pub(crate) struct CellMaker<'s, 'a> {
+    pub(crate) reader: OwnReader<'s, 'a>,
     pub(crate) blocks: BlockMaker<'a>,
-    pub(crate) ghost one_plan: { blocks ≡ reader.pass.now.plan.now },
+    pub(crate) ghost one_plan: { blocks ≡ reader.pass.plan.now },
 }

@@ -12,6 +12,7 @@ mod filling;
 mod laws;
 mod looks;
 mod maker;
+mod own_reader;
 mod reading;
 mod table;
 mod worker;

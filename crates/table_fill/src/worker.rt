@@ -1,12 +1,14 @@
-ghost use Rattle.std.specs.Prelude.{◌≡◌, ℕ, ◌≤◌, ◌^◌};
+ghost use Rattle.std.specs.Prelude.{◌≡◌, ℕ, ◌≤◌, ◌^◌, IfOk};
+ghost use Rattle.shared_memo.specs.Passes.{IsPassOf};
 ghost use Rattle.shared_memo.specs.PlanJobs.{job_count};
 ghost use Rattle.shared_memo.specs.Tickets.{told, IsTicketOf};
 
 use crate::cell::fill_cell;
 use crate::cell_maker::CellMaker;
 use crate::fault::WorkFault;
+use crate::own_reader::OwnReader;
 use round_eval::Gate;
-use shared_memo::{Desk, Memo, Reader, Ticket};
+use shared_memo::{Desk, Memo, Pass, Ticket};
 use std::alloc::Global;
 use unroll::BlockMaker;
 
@@ -32,6 +34,27 @@ pub(crate) trait Fills {
         requires total { desk.now.total ≡ jobs self.now };
 }
 
+// What workers fill where the last of them leaves what it knows.
+pub(crate) trait Leaves: Fills {
+    type Left: Drop;
+
+    // Whether a worker of this may leave that.
+    ghost IsLeft: { Self → Self.Left → Type 0 };
+
+    // Works, and answers what the worker knows.
+    fn work_last<G: Gate>(
+        &self,
+        alloc: Global,
+        desk: &Desk,
+        ticket: Ticket,
+        gate: &G,
+        number: u32,
+    ) -> Result<Self::Left, WorkFault>
+        requires ticket { IsTicketOf desk.now ticket × (told ticket ≡ 0) }
+        requires total { desk.now.total ≡ Self.jobs self.now }
+        ensures { IfOk result (IsLeft self.now) };
+}
+
 impl<'a> Fills for Memo<'a> {
     ghost jobs = { λ m. job_count m.plan.now };
 
@@ -43,27 +66,47 @@ impl<'a> Fills for Memo<'a> {
         &self,
         alloc: Global,
         desk: &Desk,
-        mut ticket: Ticket,
+        ticket: Ticket,
         gate: &G,
         number: u32,
     ) -> Result<(), WorkFault> {
-        let Ok(mut pass) = self.pass(alloc) else {
+        let _pass = self.work_last(alloc, desk, ticket, gate, number)?;
+        Ok(())
+    }
+}
+
+impl<'a> Leaves for Memo<'a> {
+    type Left = Pass<'a>;
+
+    ghost IsLeft = { IsPassOf };
+
+    fn work_last<G: Gate>(
+        &self,
+        alloc: Global,
+        desk: &Desk,
+        mut ticket: Ticket,
+        gate: &G,
+        number: u32,
+    ) -> Result<Pass<'a>, WorkFault> {
+        let Ok(pass) = self.pass(alloc) else {
             return Err(WorkFault::OutOfMemory);
         };
         let Ok(blocks) = BlockMaker::new(alloc, self.plan()) else {
             return Err(WorkFault::OutOfMemory);
         };
         let shape = self.plan().shape();
-        let mut cells = CellMaker {
-            reader: Reader::new(self, &mut pass),
-            blocks,
+        let reader = OwnReader {
+            memo: self,
+            pass,
+            stranger: false,
         };
+        let mut cells = CellMaker { reader, blocks };
         while let Some(job) = desk.draw(&mut ticket) {
             gate.entered(number, job);
             let (level, block) = shape.job(job);
             fill_cell(alloc, &mut cells, number, level, block)?;
         }
-        Ok(())
+        Ok(cells.reader.pass)
     }
 }
 
@@ -92,5 +135,22 @@ impl<'d, 'm, 'g, M: Fills, G: Gate> Worker<'d, 'm, 'g, M, G> {
             ticket,
         } = self;
         memo.work(alloc, desk, ticket, gate, number)
+    }
+}
+
+impl<'d, 'm, 'g, M: Leaves, G: Gate> Worker<'d, 'm, 'g, M, G> {
+    // Does all its work, and answers what it knows then.
+    pub(crate) fn run_last(self) -> Result<M::Left, WorkFault>
+        ensures { IfOk result (M.IsLeft self.entry.memo.now) }
+    {
+        let Worker {
+            number,
+            alloc,
+            memo,
+            desk,
+            gate,
+            ticket,
+        } = self;
+        memo.work_last(alloc, desk, ticket, gate, number)
     }
 }

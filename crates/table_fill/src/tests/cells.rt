@@ -20,6 +20,10 @@ struct Told<'a> {
 impl<'a> Cells for Told<'a> {
     ghost plan = { λ cells. cells.plan.now };
 
+    ghost Fixed = { Unit {0} };
+
+    ghost fixed = { λ cells. tt };
+
     fn finds(&mut self, _level: u32, _number: u32) -> bool {
         self.found
     }

@@ -1,7 +1,7 @@
 use super::{CV1, plan_of};
 use crate::crew::fill_by_workers;
 use crate::fault::WorkFault;
-use crate::worker::Fills;
+use crate::worker::{Fills, Leaves};
 use crate::{FillFault, compile};
 use lang_check::Plan;
 use round_eval::{Gate, OpenGate};
@@ -61,6 +61,23 @@ impl Fills for Answers {
             Some(Some(fault)) => Err(*fault),
             _ => Ok(()),
         }
+    }
+}
+
+impl Leaves for Answers {
+    type Left = ();
+
+    ghost IsLeft = { λ _ _. Unit {0} };
+
+    fn work_last<G: Gate>(
+        &self,
+        alloc: Global,
+        desk: &Desk,
+        ticket: Ticket,
+        gate: &G,
+        number: u32,
+    ) -> Result<(), WorkFault> {
+        self.work(alloc, desk, ticket, gate, number)
     }
 }
 

@@ -5,5 +5,5 @@ use Rattle.table_fill.proofs.cell.CellMakerCells.make.Goals as goal
 pub returns-in-Err-clause-missing : goal.returns-in-Err-clause-missing
 returns-in-Err-clause-missing c =
     let fault = rw c.args.self.now.one_plan at c.in-Err.ensures.fault in
-    missing_is_block c.window_of_number.ensures c.args.self.now.reader.pass.now.plan.now (known c.make.new.source.pass.now) c.args.level
+    missing_is_block c.window_of_number.ensures c.args.self.now.reader.pass.plan.now (known c.make.new.source.pass) c.args.level
     c.args.number c.in-Err.fault c.requires.0 fault

@@ -1,12 +1,13 @@
 use Rattle.std.proofs.Common.{◌≡◌, ◌-◌, length}
 use Rattle.shared_memo.specs.Tickets.{drawn, told, IsTicketOf}
-use Rattle.table_fill.proofs.worker.MemoFills.work.Given as goal
+use Rattle.table_fill.proofs.worker.MemoLeaves.work_last.Given as goal
 
 abbrev pub invariant-loop-job : goal.invariant-loop-job
 invariant-loop-job g l = record {
   ticket : IsTicketOf l.desk l.ticket;
   untold : told l.ticket ≡ 0;
-  reader : l.cells.reader.pass.now.plan.now ≡ l.self.plan.now;
+  same_plan : l.cells.reader.pass.plan.now ≡ l.self.plan.now;
+  same_memo : l.cells.reader.memo.now ≡ l.self;
 }
 
 abbrev pub decreases-loop-job : goal.decreases-loop-job
