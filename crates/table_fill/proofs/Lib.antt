@@ -2,6 +2,7 @@
 pub mod BegunTables
 pub mod Programs
 pub mod BelowBlocks
+pub mod JoinedEntries
 pub mod FillViews
 pub mod KnownSources
 pub mod FillKeeps

@@ -6,6 +6,7 @@ pub mod ProgramTables
 pub mod Workers
 pub mod Filled
 pub mod ChannelRoom
+pub mod EntryShares
 pub mod FillMachine
 pub mod FillPromises
 pub mod Laws

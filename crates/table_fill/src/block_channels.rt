@@ -1,5 +1,5 @@
 // The channels of a block of the last level: its states in columns, their channels, the entries of the table.
-ghost use Rattle.std.specs.Prelude.{◌≡◌, ℕ, ◌+◌, ◌*◌, ◌<◌, ◌≤◌, [], length, slice_index, slice_index_or};
+ghost use Rattle.std.specs.Prelude.{◌≡◌, ℕ, ◌*◌, ◌^◌, ◌<◌, ◌≤◌, [], length, slice_index_or, All};
 ghost use Rattle.node_lang.specs.Term.{terms};
 ghost use Rattle.lang_check.specs.Plans.{ProgramForIds};
 ghost use Rattle.win_index.specs.declared.limits.TheConstants.{BLOCK_WINDOWS};
@@ -7,9 +7,8 @@ ghost use Rattle.round_columns.specs.StackNeed.{most_columns};
 ghost use Rattle.unroll.specs.BlockStates.{block_len, block_state};
 ghost use Rattle.shared_memo.specs.PlanJobs.{IsKeyedBlock};
 ghost use Rattle.table_fill.specs.ChannelRoom.{IsStatesRoom, AreChannels};
-ghost use Rattle.table_fill.specs.ProgramTables.{begun};
+ghost use Rattle.table_fill.specs.EntryShares.{AreEntries};
 
-use crate::maker::TableMaker;
 use round_columns::{Code, Columns, Work, channel_columns};
 use round_eval::rows_are_taken;
 use unroll::{Block, windows_are_within};
@@ -50,13 +49,26 @@ pub(crate) fn write_channels(
     channel_columns(code, states, work, channels);
 }
 
-// Gives the windows of a block of the last level their channels.
-pub(crate) fn push_channels(channels: &[u32], block: &Block<'_>, maker: &mut TableMaker)
+// Writes the channels of a block of the last level as entries of a table.
+pub(crate) fn write_entries(channels: &[u32], block: &Block<'_>, entries: &mut [u16])
     requires wide { length channels.now ≡ BLOCK_WINDOWS }
     requires channels { AreChannels block.now.plan block.now.number channels.now }
-    requires last { block.now.level ≡ length block.now.plan.program.steps }
-    requires maker { maker.old ≡ begun block.now.plan.program block.now.plan.ids (256 * block.now.number) }
-    ensures { maker.new ≡ begun block.now.plan.program block.now.plan.ids (256 * (block.now.number + 1)) }
+    requires size { length entries.old ≡ block_len block.now.plan.ids (length block.now.plan.program.steps) block.now.number }
+    ensures size { length entries.new ≡ length entries.old }
+    ensures entries { AreEntries block.now.plan (256 * block.now.number) entries.new }
 {
-    maker.push_all(&channels[..block.len() as usize]);
+    let limit = block.plan().program().channels();
+    narrow(&channels[..entries.len()], limit, entries);
+}
+
+// Copies numbers below a limit that 16 bits can count to.
+fn narrow(numbers: &[u32], limit: u32, entries: &mut [u16])
+    requires limit { limit ≤ 2 ^ 16 }
+    requires numbers { All (λ n. n < limit) numbers.now }
+    requires size { length entries.old ≡ length numbers.now }
+    ensures { entries.new ≡ numbers.now }
+{
+    for i in 0..numbers.len() {
+        entries[i] = numbers[i] as u16;
+    }
 }

@@ -1,4 +1,4 @@
-ghost use Rattle.std.specs.Prelude.{◌≡◌, ◌+◌, ◌≤◌, IfOk, vec_len, vec_capacity, All};
+ghost use Rattle.std.specs.Prelude.{◌≡◌, ◌+◌, ◌≤◌, IfOk, IfSome, vec_len, vec_capacity, All};
 ghost use Rattle.shared_memo.specs.Passes.{IsPassOf};
 ghost use Rattle.shared_memo.specs.Tickets.{told, IsTicketOf};
 ghost use Rattle.table_fill.specs.Workers.{IsWorkerCount};
@@ -12,71 +12,66 @@ use std::sync::Wait;
 use std::thread;
 use std::thread::{JoinHandle, Scope, Threads};
 
-// What a worker in a thread of its own answers once it has ended.
+// What a worker answers once it has ended.
 type Answer = Result<(), WorkFault>;
 
-// Fills a memo by so many workers, and answers what the last of them knows. That threads may share a memo is shown here, where
-// few values are in scope.
+// Fills a memo by so many workers, and answers what a worker without others knows then. That threads may share a memo is
+// shown here, where few values are in scope.
 pub(crate) fn fill_memo<'a, R: Threads + Wait + Sync, G: Gate + Sync>(
     rt: &R,
     alloc: Global,
     memo: &Memo<'a>,
     workers: u32,
     gate: &G,
-) -> Result<Pass<'a>, WorkFault>
+) -> Result<Option<Pass<'a>>, WorkFault>
     requires { IsWorkerCount workers }
-    ensures { IfOk result (IsPassOf memo.now) }
+    ensures { IfOk result (λ left. IfSome left (IsPassOf memo.now)) }
 {
     fill_by_workers(rt, alloc, memo, workers, gate)
 }
 
-// Fills what has jobs: the workers draw them at one desk.
+// Fills what has jobs: the workers draw them at one desk. A worker without others works in this thread, and what it
+// knows then is answered.
 pub(crate) fn fill_by_workers<R: Threads + Wait + Sync, M: Leaves + Sync, G: Gate + Sync>(
     rt: &R,
     alloc: Global,
     memo: &M,
     workers: u32,
     gate: &G,
-) -> Result<M::Left, WorkFault>
+) -> Result<Option<M::Left>, WorkFault>
     requires { IsWorkerCount workers }
-    ensures { IfOk result (M.IsLeft memo.now) }
+    ensures { IfOk result (λ left. IfSome left (M.IsLeft memo.now)) }
 {
-    let Ok((desk, tickets)) = Desk::new(alloc, memo.total(), workers) else {
+    let Ok((desk, mut tickets)) = Desk::new(alloc, memo.total(), workers) else {
         return Err(WorkFault::OutOfMemory);
     };
-    fill_at(rt, alloc, memo, &desk, tickets, gate)
+    if workers > 1 {
+        fill_at(rt, alloc, memo, &desk, tickets, gate)?;
+        return Ok(None);
+    }
+    let Some(ticket) = tickets.pop() else {
+        unreachable!()
+    };
+    Ok(Some(memo.work_alone(alloc, &desk, ticket, gate, 0)?))
 }
 
-// Makes a worker of each ticket, and runs them all.
-fn fill_at<R: Threads + Wait + Sync, M: Leaves + Sync, G: Gate + Sync>(
+// Makes a worker of each ticket, and runs each in a thread of its own.
+fn fill_at<R: Threads + Wait + Sync, M: Fills + Sync, G: Gate + Sync>(
     rt: &R,
     alloc: Global,
     memo: &M,
     desk: &Desk,
-    mut tickets: Vec<Ticket>,
+    tickets: Vec<Ticket>,
     gate: &G,
-) -> Result<M::Left, WorkFault>
-    requires count { IsWorkerCount (vec_len tickets) }
+) -> Answer
     requires tickets { All (λ t. IsTicketOf desk.now t × (told t ≡ 0)) tickets.items }
     requires jobs { desk.now.total ≡ M.jobs memo.now }
-    ensures { IfOk result (M.IsLeft memo.now) }
 {
-    let Some(ticket) = tickets.pop() else {
-        unreachable!()
-    };
-    let last = Worker {
-        number: tickets.len() as u32,
-        alloc,
-        memo,
-        desk,
-        gate,
-        ticket,
-    };
     let Ok(handles) = Vec::with_capacity(alloc, tickets.len()) else {
         return Err(WorkFault::OutOfMemory);
     };
     let crew = crew_of(alloc, memo, desk, tickets, gate)?;
-    run_all(rt, crew, last, handles)
+    run_all(rt, crew, handles)
 }
 
 // A worker for each ticket, numbered from 0.
@@ -112,28 +107,24 @@ fn crew_of<'d, 'm, 'g, M: Fills, G: Gate>(
     Ok(crew)
 }
 
-// Runs the last worker in this thread, and each of the crew in a thread of its own, until all have ended.
-fn run_all<'d, 'm, 'g, R: Threads + Wait + Sync, M: Leaves + Sync, G: Gate + Sync>(
+// Runs each worker in a thread of its own, until all have ended.
+fn run_all<'d, 'm, 'g, R: Threads + Wait + Sync, M: Fills + Sync, G: Gate + Sync>(
     rt: &R,
     crew: Vec<Worker<'d, 'm, 'g, M, G>>,
-    last: Worker<'d, 'm, 'g, M, G>,
     handles: Vec<JoinHandle<Answer>>,
-) -> Result<M::Left, WorkFault>
+) -> Answer
     requires { vec_len handles + vec_len crew ≤ vec_capacity handles }
-    ensures { IfOk result (M.IsLeft last.entry.memo.now) }
 {
     thread::scope(
         thread::scope_env(),
         rt,
-        |scope| -> Result<M::Left, WorkFault>
+        |scope| -> Answer
             requires { vec_len handles + vec_len crew ≤ vec_capacity handles }
-            ensures { IfOk result (M.IsLeft last.entry.memo.now) }
-        { run_in_scope(rt, scope, crew, last, handles) },
+        { run_in_scope(rt, scope, crew, handles) },
     )
 }
 
-// Starts the crew, runs the last worker here where no start was refused, and joins all that were started. A refused start
-// counts first.
+// Starts the workers, and joins all that were started. A refused start counts first.
 fn run_in_scope<
     's,
     'd: 's,
@@ -141,35 +132,20 @@ fn run_in_scope<
     'g: 's,
     E,
     R: Threads,
-    M: Leaves + Sync + 's,
+    M: Fills + Sync + 's,
     G: Gate + Sync + 's,
 >(
     rt: &R,
     scope: &Scope<'s, E>,
     crew: Vec<Worker<'d, 'm, 'g, M, G>>,
-    last: Worker<'d, 'm, 'g, M, G>,
     mut handles: Vec<JoinHandle<Answer>>,
-) -> Result<M::Left, WorkFault>
+) -> Answer
     requires { vec_len handles + vec_len crew ≤ vec_capacity handles }
-    ensures { IfOk result (M.IsLeft last.entry.memo.now) }
 {
     let started = start_all(scope, crew, &mut handles);
-    let left = run_after(started, last);
     let joined = join_all(rt, handles);
     started?;
-    joined?;
-    left
-}
-
-// Runs a worker, where no fault came before.
-fn run_after<'d, 'm, 'g, M: Leaves, G: Gate>(
-    before: Answer,
-    worker: Worker<'d, 'm, 'g, M, G>,
-) -> Result<M::Left, WorkFault>
-    ensures { IfOk result (M.IsLeft worker.entry.memo.now) }
-{
-    before?;
-    worker.run_last()
+    joined
 }
 
 // Starts workers up to the first start that is refused.

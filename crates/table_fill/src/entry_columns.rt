@@ -1,5 +1,4 @@
-use crate::block_channels::{push_channels, put_block, write_channels};
-use crate::maker::TableMaker;
+use crate::block_channels::{put_block, write_channels, write_entries};
 use lang_check::Plan;
 use node_lang::OutOfMemory;
 use round_columns::{Code, Columns, Work};
@@ -32,9 +31,10 @@ impl Model for EntryColumns {
 }
 
 impl EntryColumns {
-    ghost use Rattle.std.specs.Prelude.{◌≡◌, ◌+◌, ◌*◌, length, IfOk};
+    ghost use Rattle.std.specs.Prelude.{◌≡◌, ◌*◌, length, IfOk};
     ghost use Rattle.shared_memo.specs.PlanJobs.{IsKeyedBlock};
-    ghost use Rattle.table_fill.specs.ProgramTables.{begun};
+    ghost use Rattle.table_fill.specs.EntryShares.{AreEntries};
+    ghost use Rattle.unroll.specs.BlockStates.{block_len};
 
     // Room for the blocks of a plan. The error comes where memory was refused.
     pub(crate) fn new(alloc: Global, plan: &Plan) -> Result<EntryColumns, OutOfMemory>
@@ -53,12 +53,13 @@ impl EntryColumns {
         })
     }
 
-    // Gives the windows of a block of the last level their channels.
-    pub(crate) fn push_block(&mut self, block: &Block<'_>, maker: &mut TableMaker)
+    // Writes the channels of the windows of a block of the last level.
+    pub(crate) fn write_block(&mut self, block: &Block<'_>, entries: &mut [u16])
         requires block { IsKeyedBlock self.old (length self.old.program.steps) block.now.number block.now }
-        requires maker { maker.old ≡ begun self.old.program self.old.ids (256 * block.now.number) }
+        requires size { length entries.old ≡ block_len self.old.ids (length self.old.program.steps) block.now.number }
         ensures same { self.new ≡ self.old }
-        ensures maker { maker.new ≡ begun self.old.program self.old.ids (256 * (block.now.number + 1)) }
+        ensures size { length entries.new ≡ length entries.old }
+        ensures entries { AreEntries self.old (256 * block.now.number) entries.new }
     {
         put_block(block, &mut self.states);
         write_channels(
@@ -68,6 +69,6 @@ impl EntryColumns {
             &mut self.work,
             &mut self.channels,
         );
-        push_channels(&self.channels, block, maker)
+        write_entries(&self.channels, block, entries)
     }
 }

@@ -1,4 +1,4 @@
-ghost use Rattle.std.specs.Prelude.{◌≡◌, IsTrue};
+ghost use Rattle.std.specs.Prelude.{◌≡◌, IfSome, IsTrue};
 ghost use Rattle.shared_memo.specs.Passes.{known, IsPassOf};
 ghost use Rattle.table_fill.specs.Filled.{KnowsAll};
 ghost use Rattle.unroll.specs.Entries.{Grows};
@@ -22,4 +22,16 @@ pub(crate) fn look_at_all<'a>(memo: &Memo<'a>, pass: &mut Pass<'a>) -> bool
         }
     }
     true
+}
+
+// What a worker left is known from then on.
+pub(crate) fn learn_left<'a>(memo: &Memo<'a>, pass: &mut Pass<'a>, left: Option<Pass<'a>>)
+    requires pass { IsPassOf memo.now pass.old }
+    requires left { IfSome left (IsPassOf memo.now) }
+    ensures pass { IsPassOf memo.now pass.new }
+    ensures kept { Grows (known pass.old) (known pass.new) }
+{
+    if let Some(mut left) = left {
+        memo.learn(pass, &mut left);
+    }
 }

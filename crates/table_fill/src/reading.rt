@@ -1,39 +1,82 @@
-ghost use Rattle.std.specs.Prelude.{◌≡◌};
+ghost use Rattle.std.specs.Prelude.{◌≡◌, ◌<◌, ◌≤◌, [], length, vec_len, vec_capacity, All, IfOk};
 ghost use Rattle.unroll.specs.Entries.{Grows};
 ghost use Rattle.shared_memo.specs.PlanJobs.{IsKey, IsKeyedBlock};
 ghost use Rattle.shared_memo.specs.Passes.{known, IsPassOf};
 ghost use Rattle.table_fill.specs.Filled.{KnowsAll};
-ghost use Rattle.table_fill.specs.ProgramTables.{begun, table_of};
+ghost use Rattle.table_fill.specs.ProgramTables.{table_of};
+ghost use Rattle.table_fill.specs.EntryShares.{AreLastBlocks};
+ghost use Rattle.win_index.specs.Blocks.{block_count};
 
 use crate::entry_columns::EntryColumns;
-use crate::maker::TableMaker;
+use crate::room::TableRoom;
+use crate::shares::write_shares;
+use crate::table::Table;
 use lang_check::Plan;
+use node_lang::OutOfMemory;
 use shared_memo::{Memo, Pass};
+use std::alloc::Global;
+use std::thread::Threads;
 use unroll::Block;
 
-// Gives each window its channel, in order, from the blocks of the last level.
-pub(crate) fn push_all<'a>(
-    plan: &Plan,
-    memo: &Memo<'a>,
-    pass: &mut Pass<'a>,
-    mut entries: EntryColumns,
-    maker: &mut TableMaker,
-)
-    requires plan { memo.now.plan.now ≡ plan.now }
-    requires entries { entries ≡ plan.now }
-    requires pass { IsPassOf memo.now pass.old }
-    requires known { KnowsAll plan.now (known pass.old) }
-    requires maker { maker.old ≡ begun plan.now.program plan.now.ids 0 }
-    ensures pass { IsPassOf memo.now pass.new }
-    ensures kept { Grows (known pass.old) (known pass.new) }
-    ensures known { KnowsAll plan.now (known pass.new) }
-    ensures maker { maker.new ≡ table_of plan.now.program plan.now.ids }
+// Fewer blocks than these are not worth a thread.
+const LEAST_SHARE: u32 = 64;
+
+// Room for a plan's table, which is read by so many shares at most. The error comes where memory was refused.
+pub(crate) fn room_for<'p>(
+    alloc: Global,
+    plan: &'p Plan,
+    shares: u32,
+) -> Result<TableRoom<'p>, OutOfMemory>
+    requires { 0 < shares }
+    ensures { IfOk result (λ room. room.plan.now ≡ plan.now) }
 {
     let shape = plan.shape();
     let level = shape.rounds();
-    for number in 0..shape.blocks(level) {
-        let block = known_block(memo, pass, level, number);
-        entries.push_block(block, maker);
+    let entries = vec![in alloc; 0; shape.count(level) as usize].map_err(|_| OutOfMemory)?;
+    let worth = shape.blocks(level).div_ceil(LEAST_SHARE);
+    let columns = columns_of_shares(alloc, plan, shares.min(worth))?;
+    Ok(TableRoom {
+        plan,
+        entries,
+        columns,
+    })
+}
+
+// Columns for each of so many shares.
+fn columns_of_shares(
+    alloc: Global,
+    plan: &Plan,
+    shares: u32,
+) -> Result<Vec<EntryColumns>, OutOfMemory>
+    ensures count { IfOk result (λ columns. vec_len columns ≡ shares) }
+    ensures of_plan { IfOk result (λ columns. All (λ c. c ≡ plan.now) columns.items) }
+{
+    let mut columns = Vec::with_capacity(alloc, shares as usize).map_err(|_| OutOfMemory)?;
+    for _share in 0..shares {
+        columns.push_reserved(EntryColumns::new(alloc, plan)?);
+    }
+    Ok(columns)
+}
+
+// The table, read from the blocks of the last level.
+pub(crate) fn read_table<R: Threads + Sync>(
+    rt: &R,
+    blocks: &[&Block<'_>],
+    room: TableRoom<'_>,
+) -> Table
+    requires { AreLastBlocks room.plan.now blocks.now }
+    ensures { result ≡ table_of room.entry.plan.now.program room.entry.plan.now.ids }
+{
+    let TableRoom {
+        plan,
+        mut entries,
+        mut columns,
+    } = room;
+    write_shares(rt, plan, blocks, 0, &mut columns, &mut entries);
+    Table {
+        shape: plan.shape(),
+        channels: plan.program().channels(),
+        entries,
     }
 }
 
@@ -56,4 +99,39 @@ fn known_block<'s, 'a>(
         Ok(Some(block)) => block,
         _ => unreachable!(),
     }
+}
+
+// A list with room for the blocks of the last level.
+pub(crate) fn no_blocks<'s, 'a>(
+    alloc: Global,
+    memo: &'s Memo<'a>,
+) -> Result<Vec<&'s Block<'a>>, OutOfMemory>
+    ensures none { IfOk result (λ blocks. blocks.items ≡ []) }
+    ensures room { IfOk result (λ blocks. block_count memo.now.plan.now.ids (length memo.now.plan.now.program.steps) ≤ vec_capacity blocks) }
+{
+    let shape = memo.plan().shape();
+    Vec::with_capacity(alloc, shape.blocks(shape.rounds()) as usize).map_err(|_| OutOfMemory)
+}
+
+// The blocks of the last level, in order, put into a list with room for them.
+pub(crate) fn last_blocks<'s, 'a>(
+    memo: &'s Memo<'a>,
+    pass: &mut Pass<'a>,
+    mut blocks: Vec<&'s Block<'a>>,
+) -> Vec<&'s Block<'a>>
+    requires pass { IsPassOf memo.now pass.old }
+    requires known { KnowsAll memo.now.plan.now (known pass.old) }
+    requires none { blocks.items ≡ [] }
+    requires room { block_count memo.now.plan.now.ids (length memo.now.plan.now.program.steps) ≤ vec_capacity blocks }
+    ensures pass { IsPassOf memo.now pass.new }
+    ensures kept { Grows (known pass.old) (known pass.new) }
+    ensures known { KnowsAll memo.now.plan.now (known pass.new) }
+    ensures blocks { AreLastBlocks memo.now.plan.now result.items }
+{
+    let shape = memo.plan().shape();
+    let level = shape.rounds();
+    for number in 0..shape.blocks(level) {
+        blocks.push_reserved(known_block(memo, pass, level, number));
+    }
+    blocks
 }

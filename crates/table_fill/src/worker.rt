@@ -34,7 +34,7 @@ pub(crate) trait Fills {
         requires total { desk.now.total ≡ jobs self.now };
 }
 
-// What workers fill where the last of them leaves what it knows.
+// What workers fill where one without others leaves what it knows.
 pub(crate) trait Leaves: Fills {
     type Left: Drop;
 
@@ -42,7 +42,7 @@ pub(crate) trait Leaves: Fills {
     ghost IsLeft: { Self → Self.Left → Type 0 };
 
     // Works, and answers what the worker knows.
-    fn work_last<G: Gate>(
+    fn work_alone<G: Gate>(
         &self,
         alloc: Global,
         desk: &Desk,
@@ -70,7 +70,7 @@ impl<'a> Fills for Memo<'a> {
         gate: &G,
         number: u32,
     ) -> Result<(), WorkFault> {
-        let _pass = self.work_last(alloc, desk, ticket, gate, number)?;
+        let _pass = self.work_alone(alloc, desk, ticket, gate, number)?;
         Ok(())
     }
 }
@@ -80,7 +80,7 @@ impl<'a> Leaves for Memo<'a> {
 
     ghost IsLeft = { IsPassOf };
 
-    fn work_last<G: Gate>(
+    fn work_alone<G: Gate>(
         &self,
         alloc: Global,
         desk: &Desk,
@@ -135,22 +135,5 @@ impl<'d, 'm, 'g, M: Fills, G: Gate> Worker<'d, 'm, 'g, M, G> {
             ticket,
         } = self;
         memo.work(alloc, desk, ticket, gate, number)
-    }
-}
-
-impl<'d, 'm, 'g, M: Leaves, G: Gate> Worker<'d, 'm, 'g, M, G> {
-    // Does all its work, and answers what it knows then.
-    pub(crate) fn run_last(self) -> Result<M::Left, WorkFault>
-        ensures { IfOk result (M.IsLeft self.entry.memo.now) }
-    {
-        let Worker {
-            number,
-            alloc,
-            memo,
-            desk,
-            gate,
-            ticket,
-        } = self;
-        memo.work_last(alloc, desk, ticket, gate, number)
     }
 }

@@ -69,7 +69,7 @@ impl Leaves for Answers {
 
     ghost IsLeft = { λ _ _. Unit {0} };
 
-    fn work_last<G: Gate>(
+    fn work_alone<G: Gate>(
         &self,
         alloc: Global,
         desk: &Desk,

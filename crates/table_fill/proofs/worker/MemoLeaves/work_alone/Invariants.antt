@@ -1,6 +1,6 @@
 use Rattle.std.proofs.Common.{◌≡◌, ◌-◌, length}
 use Rattle.shared_memo.specs.Tickets.{drawn, told, IsTicketOf}
-use Rattle.table_fill.proofs.worker.MemoLeaves.work_last.Given as goal
+use Rattle.table_fill.proofs.worker.MemoLeaves.work_alone.Given as goal
 
 abbrev pub invariant-loop-job : goal.invariant-loop-job
 invariant-loop-job g l = record {

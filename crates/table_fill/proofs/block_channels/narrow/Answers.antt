@@ -1,6 +1,6 @@
 use Rattle.std.proofs.Common.{arith, ◌∙◌}
 use Rattle.std.proofs.lemmas.List.{ext_get_or}
-use Rattle.table_fill.proofs.maker.narrow.Goals as goal
+use Rattle.table_fill.proofs.block_channels.narrow.Goals as goal
 
 pub returns : goal.returns
 returns c =

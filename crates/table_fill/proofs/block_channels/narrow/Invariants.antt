@@ -1,5 +1,5 @@
 use Rattle.std.proofs.Common.{◌≡◌, ℕ, ◌<◌, length, slice_index}
-use Rattle.table_fill.proofs.maker.narrow.Given as goal
+use Rattle.table_fill.proofs.block_channels.narrow.Given as goal
 
 -- the numbers so far are copied
 abbrev pub invariant-loop-i : goal.invariant-loop-i

@@ -1,0 +1,11 @@
+use Rattle.std.proofs.Common.{◌≡◌, ◌≤◌, length, All, vec_capacity}
+use Rattle.table_fill.proofs.reading.columns_of_shares.Given as goal
+
+-- the columns so far are of the plan
+abbrev pub invariant-loop-share : goal.invariant-loop-share
+invariant-loop-share l =
+    record {
+      count : length l.columns.items ≡ l._share;
+      room : l.shares ≤ vec_capacity l.columns;
+      of_plan : All (λ c. c ≡ l.plan) l.columns.items;
+    }

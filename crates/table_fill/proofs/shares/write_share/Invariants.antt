@@ -1,0 +1,15 @@
+use Rattle.std.proofs.Common.{◌≡◌, ℕ, ◌+◌, ◌*◌, ◌<◌, length, slice_index}
+use Rattle.unroll.specs.BlockStates.{window_numbered}
+use Rattle.table_fill.specs.ProgramTables.{window_channel}
+use Rattle.table_fill.proofs.shares.write_share.Given as goal
+
+-- the entries of the blocks so far are written
+abbrev pub invariant-loop-i : goal.invariant-loop-i
+invariant-loop-i l =
+    record {
+      plan : l.columns ≡ l.fn.columns;
+      size : length l.share ≡ length l.fn.share;
+      written : (k : ℕ) → k < 256 * l.i → k < length l.fn.share
+          → (slice_index l.share k ≡ window_channel l.fn.columns.program (window_numbered l.fn.columns.ids (length l.fn.columns.program.steps) (256 * l.first + k)))
+          × (slice_index l.share k < l.fn.columns.program.channels);
+    }
