@@ -42,7 +42,7 @@ pub fn judge<R: Threads + Sync>(
     judge_in(rt, alloc, table, current_num_threads(rt) as u64)
 }
 
-/// What `judge` answers, by at most so many threads, the caller's among them. Where that is none, it is the
+/// What `judge` answers, by at most so many threads. Where that is one or none, it is the
 /// caller's alone.
 pub fn judge_with_workers<R: Threads + Sync>(
     rt: &R,

@@ -72,7 +72,7 @@ pub(crate) fn read_table<R: Threads + Sync>(
         mut entries,
         mut columns,
     } = room;
-    write_shares(rt, plan, blocks, 0, &mut columns, &mut entries);
+    write_shares(rt, plan, blocks, &mut columns, &mut entries);
     Table {
         shape: plan.shape(),
         channels: plan.program().channels(),

@@ -1,6 +1,7 @@
 // The entries of a table, read from the blocks of the last level by shares, each in a thread of its own.
-ghost use Rattle.std.specs.Prelude.{◌≡◌, ◌+◌, ◌*◌, ◌%◌, ◌<◌, length, All};
+ghost use Rattle.std.specs.Prelude.{◌≡◌, ◌*◌, ◌%◌, ◌<◌, ◌≤◌, ◌⊎◌, length, All};
 ghost use Rattle.std.specs.Thread.{IsSync};
+ghost use Rattle.win_index.specs.Blocks.{window_count};
 ghost use Rattle.table_fill.specs.EntryShares.{AreLastBlocks, AreEntries, IsShare};
 
 use crate::entry_columns::EntryColumns;
@@ -9,10 +10,33 @@ use std::thread::{Threads, join_mut};
 use unroll::Block;
 use win_index::BLOCK_WINDOWS;
 
-// Writes the entries of a share, which begins with the block `first`. There are columns for each of the shares that it
-// is cut into.
-#[cycle(shares)]
+// Writes all entries, by as many shares as there are columns. More shares than one are written in a thread each, while
+// this one waits.
 pub(crate) fn write_shares<R: Threads + Sync>(
+    rt: &R,
+    plan: &Plan,
+    blocks: &[&Block<'_>],
+    columns: &mut [EntryColumns],
+    entries: &mut [u16],
+)
+    requires some { 0 < length columns.old }
+    requires columns { All (λ c. c ≡ plan.now) columns.old }
+    requires blocks { AreLastBlocks plan.now blocks.now }
+    requires size { length entries.old ≡ window_count plan.now.ids (length plan.now.program.steps) }
+    ensures size { length entries.new ≡ length entries.old }
+    ensures entries { AreEntries plan.now 0 entries.new }
+{
+    if columns.len() == 1 {
+        write_share(&mut columns[0], blocks, 0, entries);
+    } else {
+        write_from(rt, plan, blocks, 0, columns, entries);
+    }
+}
+
+// Writes the entries from the block `first` on, by as many shares as there are columns. The first share is written in a
+// thread of its own, while this one sees to the others.
+#[cycle(shares)]
+fn write_from<R: Threads + Sync>(
     rt: &R,
     plan: &Plan,
     blocks: &[&Block<'_>],
@@ -20,53 +44,67 @@ pub(crate) fn write_shares<R: Threads + Sync>(
     columns: &mut [EntryColumns],
     entries: &mut [u16],
 )
-    requires some { 0 < length columns.old }
     requires columns { All (λ c. c ≡ plan.now) columns.old }
     requires blocks { AreLastBlocks plan.now blocks.now }
     requires share { IsShare plan.now first (length entries.old) }
+    requires none_is_left { length columns.old ≡ 0 → length entries.old ≡ 0 }
     ensures size { length entries.new ≡ length entries.old }
     ensures entries { AreEntries plan.now (256 * first) entries.new }
 {
-    if columns.len() == 1 {
-        write_share(&mut columns[0], blocks, first, entries);
+    if columns.is_empty() {
         return;
     }
-    let width = BLOCK_WINDOWS as usize;
-    let low = columns.len() / 2;
-    let mid = entries.len() / width / columns.len() * low;
-    let (front_columns, back_columns) = columns.split_at_mut(low);
-    let (front, back) = entries.split_at_mut(mid * width);
+    let len = share_len(entries.len(), columns.len());
+    let (own, others) = columns.split_at_mut(1);
+    let (front, back) = entries.split_at_mut(len);
+    let middle = first + len / BLOCK_WINDOWS as usize;
     write_both(
         rt,
         plan,
         blocks,
         first,
-        front_columns,
+        &mut own[0],
         front,
-        first + mid,
-        back_columns,
+        middle,
+        others,
         back,
     );
 }
 
-// Writes the entries of two shares, one of them in a thread of its own.
+// How many of so many windows the first of so many shares has: whole blocks, and all of them where it is the only one.
+fn share_len(windows: usize, shares: usize) -> usize
+    requires { 0 < shares }
+    ensures within { result ≤ windows }
+    ensures ends_a_block { (result % 256 ≡ 0) ⊎ (result ≡ windows) }
+    ensures all { shares ≡ 1 → result ≡ windows }
+{
+    let width = BLOCK_WINDOWS as usize;
+    if shares == 1 {
+        windows
+    } else {
+        windows / width / shares * width
+    }
+}
+
+// Writes the entries of a share in a thread of its own, and those after it.
 #[cycle(shares)]
 fn write_both<R: Threads + Sync>(
     rt: &R,
     plan: &Plan,
     blocks: &[&Block<'_>],
     first: usize,
-    front_columns: &mut [EntryColumns],
+    own: &mut EntryColumns,
     front: &mut [u16],
     middle: usize,
-    back_columns: &mut [EntryColumns],
+    others: &mut [EntryColumns],
     back: &mut [u16],
 )
-    requires front_columns { (0 < length front_columns.old) × All (λ c. c ≡ plan.now) front_columns.old }
-    requires back_columns { (0 < length back_columns.old) × All (λ c. c ≡ plan.now) back_columns.old }
+    requires own { own.old ≡ plan.now }
+    requires others { All (λ c. c ≡ plan.now) others.old }
     requires blocks { AreLastBlocks plan.now blocks.now }
     requires front { IsShare plan.now first (length front.old) }
     requires back { IsShare plan.now middle (length back.old) }
+    requires none_is_left { length others.old ≡ 0 → length back.old ≡ 0 }
     ensures front_size { length front.new ≡ length front.old }
     ensures back_size { length back.new ≡ length back.old }
     ensures front { AreEntries plan.now (256 * first) front.new }
@@ -75,15 +113,15 @@ fn write_both<R: Threads + Sync>(
     join_mut(
         rt,
         &mut ||
-            requires { IsSync R.row × (0 < length front_columns.now) × All (λ c. c ≡ plan.now) front_columns.now × AreLastBlocks plan.now blocks.now × IsShare plan.now first (length front.now) }
+            requires { AreLastBlocks own.now blocks.now × IsShare own.now first (length front.now) }
             ensures size { length front.exit.now ≡ length front.entry.now }
-            ensures entries { AreEntries plan.entry.now (256 * first) front.exit.now }
-        { write_shares(rt, plan, blocks, first, front_columns, front) },
+            ensures entries { AreEntries own.entry.now (256 * first) front.exit.now }
+        { write_share(own, blocks, first, front) },
         &mut ||
-            requires { IsSync R.row × (0 < length back_columns.now) × All (λ c. c ≡ plan.now) back_columns.now × AreLastBlocks plan.now blocks.now × IsShare plan.now middle (length back.now) }
+            requires { IsSync R.row × All (λ c. c ≡ plan.now) others.now × AreLastBlocks plan.now blocks.now × IsShare plan.now middle (length back.now) × (length others.now ≡ 0 → length back.now ≡ 0) }
             ensures size { length back.exit.now ≡ length back.entry.now }
             ensures entries { AreEntries plan.entry.now (256 * middle) back.exit.now }
-        { write_shares(rt, plan, blocks, middle, back_columns, back) },
+        { write_from(rt, plan, blocks, middle, others, back) },
     );
 }
 

@@ -1,8 +1,13 @@
-use Rattle.std.proofs.Common.{◌*◌, arith}
+use Rattle.std.proofs.Common.{◌≡◌, ◌*◌, ◌%◌, length, inl, inr, ⊎_elim, arith}
 use Rattle.table_fill.proofs.JoinedEntries.{joined_entries}
 use Rattle.table_fill.proofs.shares.+shares.Goals as goal
 
-pub write_shares-returns-clause-entries : goal.write_shares-returns-clause-entries
-write_shares-returns-clause-entries g t c =
+-- The windows after those of whole blocks begin with a block, and after all others there is none.
+pub write_from-returns-clause-entries : goal.write_from-returns-clause-entries
+write_from-returns-clause-entries g t c =
     let both = c.write_both.ensures in
-    joined_entries c.args.plan.now (256 * c.args.first) _ _ _ (omega (arith, both.front_size)) both.front both.back
+    let len = c.share_len-len.result in
+    let after =
+    ⊎_elim (λ (whole : len % 256 ≡ 0). inl (omega (arith, whole, both.front_size)))
+    (λ (all : len ≡ length c.args.entries.now). inr (omega (arith, all, both.back_size))) c.share_len-len.ensures.ends_a_block in
+    joined_entries c.args.plan.now (256 * c.args.first) _ _ _ after both.front both.back
