@@ -7,7 +7,8 @@ ghost use Rattle.task_words.specs.Task.{ids_of, IsRunnable};
 ghost use Rattle.plan_print.specs.Engine.{IsTaskFault};
 ghost use Rattle.plan_print.specs.Answers.{report_in};
 ghost use Rattle.plan_print.specs.Report as report;
-ghost use Rattle.plan_print.specs.Report.{Says, IsAnswer, IsRunAnswer};
+ghost use Rattle.plan_print.specs.Report.{Says, IsAnswer, IsJudgement, IsRunAnswer};
+ghost use Rattle.std.specs.Thread.{IsSync};
 
 use crate::judgement::judgement;
 use crate::lines::{accepted_line, numbers_line, ring_fault_line, segments_fault_line};
@@ -19,8 +20,9 @@ use ring_exec::{RunFault, run};
 use round_eval::OpenGate;
 use shared_memo::Memo;
 use std::alloc::Global;
+use std::marker::Send;
 use std::sync::Wait;
-use std::thread::Threads;
+use std::thread::{Threads, join};
 use table_fill::{FillFault, Table, compile};
 use task_words::task::Task;
 use win_index::{Ring, RingFault};
@@ -49,9 +51,7 @@ pub(crate) fn answer_of<T: Threads + Wait + Sync>(
         Task::Table { ids: _, workers } => {
             Ok(Answer::Table(compiled(rt, alloc, plan, workers)?))
         }
-        Task::Judge { ids: _, workers } => {
-            judgement(rt, alloc, &compiled(rt, alloc, plan, workers)?, workers)
-        }
+        Task::Judge { ids: _, workers } => judged(rt, alloc, plan, workers),
         Task::Run {
             ids: _,
             ring,
@@ -108,8 +108,66 @@ fn run_answer<T: Threads + Wait + Sync>(
     }
 }
 
+// The judge's answer on the table of an accepted program, by so many workers. More workers than one judge while the memo
+// is dropped.
+fn judged<T: Threads + Wait + Sync>(
+    rt: &T,
+    alloc: Global,
+    plan: &Plan,
+    workers: u32,
+) -> Result<Answer, EngineFault>
+    requires { IsCount workers }
+    ensures answer { IfOk result (λ r. IsJudgement (table_of plan.now.program plan.now.ids) (report_in r)) }
+    ensures fault { IfErr result IsTaskFault }
+{
+    let memo = Memo::new(alloc, plan)?;
+    let table = table_by(rt, alloc, plan, &memo, workers)?;
+    if workers == 1 {
+        drop(memo);
+        return judgement(rt, alloc, &table, workers);
+    }
+    judgement_and_drop(rt, alloc, &table, workers, memo)
+}
+
+// The judge's answer on a table, by so many workers, while a memo is dropped. That a thread may have a memo is shown here,
+// where few values are in scope.
+fn judgement_and_drop<T: Threads + Sync>(
+    rt: &T,
+    alloc: Global,
+    table: &Table,
+    workers: u32,
+    memo: Memo<'_>,
+) -> Result<Answer, EngineFault>
+    ensures answer { IfOk result (λ r. IsJudgement table.now (report_in r)) }
+    ensures fault { IfErr result (λ fault. fault ≡ EngineFault.Memory) }
+{
+    judgement_beside(rt, alloc, table, workers, memo)
+}
+
+// The judge's answer on a table, by so many workers, while this is dropped.
+fn judgement_beside<T: Threads + Sync, D: Send + Drop>(
+    rt: &T,
+    alloc: Global,
+    table: &Table,
+    workers: u32,
+    dropped: D,
+) -> Result<Answer, EngineFault>
+    ensures answer { IfOk result (λ r. IsJudgement table.now (report_in r)) }
+    ensures fault { IfErr result (λ fault. fault ≡ EngineFault.Memory) }
+{
+    let (_, answer) = join(
+        rt,
+        move || drop(dropped),
+        || -> Result<Answer, EngineFault>
+            requires { IsSync T.row }
+            ensures answer { IfOk result (λ r. IsJudgement table.entry.now (report_in r)) }
+            ensures fault { IfErr result (λ fault. fault ≡ EngineFault.Memory) }
+        { judgement(rt, alloc, table, workers) },
+    );
+    answer
+}
+
 // The table of an accepted program, filled by so many workers. The memo is dropped here.
-#[tactic(auto, using(crate::proofs::Workers::worker_count))]
 fn compiled<T: Threads + Wait + Sync>(
     rt: &T,
     alloc: Global,
@@ -121,8 +179,25 @@ fn compiled<T: Threads + Wait + Sync>(
     ensures fault { IfErr result IsTaskFault }
 {
     let memo = Memo::new(alloc, plan)?;
+    table_by(rt, alloc, plan, &memo, workers)
+}
+
+// The table of an accepted program, filled by so many workers in a memo of it.
+#[tactic(auto, using(crate::proofs::Workers::worker_count))]
+fn table_by<T: Threads + Wait + Sync>(
+    rt: &T,
+    alloc: Global,
+    plan: &Plan,
+    memo: &Memo<'_>,
+    workers: u32,
+) -> Result<Table, EngineFault>
+    requires memo { memo.now.plan.now ≡ plan.now }
+    requires workers { IsCount workers }
+    ensures table { IfOk result (λ table. table ≡ table_of plan.now.program plan.now.ids) }
+    ensures fault { IfErr result IsTaskFault }
+{
     let mut pass = memo.pass(alloc)?;
-    match compile(rt, alloc, plan, &memo, &mut pass, workers, &OpenGate) {
+    match compile(rt, alloc, plan, memo, &mut pass, workers, &OpenGate) {
         Ok(table) => Ok(table),
         Err(FillFault::OutOfMemory) => Err(EngineFault::Memory),
         Err(FillFault::NoThread) => Err(EngineFault::Thread),
