@@ -1,5 +1,6 @@
 pub mod Fronts
 pub mod GapPlaces
-pub mod LeastOfParts
+pub mod EnoughParts
+pub mod Marks
 pub mod Runs
 pub mod Tuples

@@ -1,5 +1,5 @@
 -- What a search for the least bad tuple finds.
-use Rattle.std.specs.Prelude.{ℕ, ◌<◌, List, Option, MatchOption}
+use Rattle.std.specs.Prelude.{◌≡◌, ℕ, ◌+◌, ◌*◌, ◌<◌, Bool, true, false, List, Option, MatchOption, slice_index_or}
 use Rattle.table_fill.specs.Tables.{ChannelTable}
 use Rattle.nbhd_check.specs.Proper.{NoneIsBad, IsLeastBad}
 
@@ -7,3 +7,8 @@ use Rattle.nbhd_check.specs.Proper.{NoneIsBad, IsLeastBad}
 abbrev pub IsLeastIn : ChannelTable → ℕ → ℕ → Option ℕ → Type 0
 IsLeastIn t low high found =
     MatchOption found (NoneIsBad t low high) (λ n. (n < high) × ((tuple : List ℕ) × IsLeastBad t low n tuple))
+
+-- where the tuples are cut into parts of len each, none of a part that is marked is bad
+abbrev pub AreGoodParts : ChannelTable → ℕ → List Bool → Type 0
+AreGoodParts t len marks =
+    (part : ℕ) → slice_index_or marks part false ≡ true → NoneIsBad t (part * len) (part * len + len)

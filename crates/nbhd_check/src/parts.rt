@@ -1,74 +1,173 @@
-// The least bad tuple of all: the tuples are cut into parts, which several threads judge.
-ghost use Rattle.std.specs.Prelude.{◌*◌, ◌<◌, ◌≤◌, length};
+// The least bad tuple of all: the tuples are cut into parts, which several threads draw and judge.
+ghost use Rattle.std.specs.Prelude.{ℕ, ◌+◌, ◌*◌, ◌<◌, ◌≤◌, length};
 ghost use Rattle.std.specs.Thread.{IsSync};
 ghost use Rattle.nbhd_check.specs.Proper.{tuples};
-ghost use Rattle.nbhd_check.specs.Searches.{IsLeastIn};
+ghost use Rattle.nbhd_check.specs.Searches.{IsLeastIn, AreGoodParts};
 
 use crate::part::{judge_part, run_len, window_count};
 use crate::tuple::tuple_count;
 use rayon::join;
+use std::sync::atomic::{AtomicUsize, Ordering};
 use std::thread::Threads;
 use table_fill::Table;
 
-// Fewer tuples than these are not worth a thread.
+// Fewer tuples than these are not worth a part.
 const LEAST_PART: u64 = 1 << 16;
 
-// The least number of a bad tuple of all, by at most so many parts.
+// There are no more parts than these.
+pub(crate) const MOST_PARTS: usize = 64;
+
+// Which parts are known to have no bad tuple.
+type Marks = [bool; MOST_PARTS];
+
+// The least number of a bad tuple of all, by at most so many threads.
 pub(crate) fn least_of_all<R: Threads + Sync>(rt: &R, table: &Table, most: u64) -> Option<u64>
-    requires { 0 < most }
     ensures { IsLeastIn table.now 0 (length (tuples table.now)) result }
 {
-    least_by_parts(rt, table, part_len(table, most))
+    least_by_parts(rt, table, part_len(table), most)
 }
 
-// How many tuples a part has, where there are at most so many parts: those of whole runs.
-fn part_len(table: &Table, most: u64) -> u64
-    requires { 0 < most }
+// How many tuples a part has: those of whole runs.
+fn part_len(table: &Table) -> u64
     ensures some { 0 < result }
-    ensures enough { length (tuples table.now) ≤ most * result }
+    ensures enough { length (tuples table.now) ≤ MOST_PARTS * result }
 {
     let windows = u64::from(window_count(table));
     let free = run_len(table);
-    windows.div_ceil(most).max(LEAST_PART.div_ceil(free)) * free
+    windows
+        .div_ceil(MOST_PARTS as u64)
+        .max(LEAST_PART.div_ceil(free))
+        * free
 }
 
-// The least number of a bad tuple of all, by parts of so many tuples. More parts than one are judged in a thread each, while
-// this one waits.
-pub(crate) fn least_by_parts<R: Threads + Sync>(rt: &R, table: &Table, len: u64) -> Option<u64>
-    requires { 0 < len }
+// The least number of a bad tuple of all, by parts of so many tuples and at most so many threads. Where there is one part,
+// or one thread is wanted, none is started.
+pub(crate) fn least_by_parts<R: Threads + Sync>(
+    rt: &R,
+    table: &Table,
+    len: u64,
+    most: u64,
+) -> Option<u64>
+    requires some { 0 < len }
+    requires enough { length (tuples table.now) ≤ MOST_PARTS * len }
     ensures { IsLeastIn table.now 0 (length (tuples table.now)) result }
 {
-    let count = tuple_count(table);
-    if count <= len {
-        return judge_part(table, 0, count);
-    }
-    least_from(rt, table, len, 0)
+    let parts = tuple_count(table).div_ceil(len);
+    let threads = most.min(parts);
+    let marks = if threads < 2 {
+        no_marks(table, len)
+    } else {
+        judged_by(
+            rt,
+            table,
+            len,
+            parts as usize,
+            &AtomicUsize::new(0),
+            threads,
+        )
+    };
+    least_unmarked(table, len, parts as usize, &marks)
 }
 
-// The least number of a bad tuple from this number on. The first part is judged in a thread of its own, while this one
-// sees to the others.
-#[cycle(parts)]
-#[tactic(auto, using(crate::proofs::LeastOfParts::least_of_both))]
-fn least_from<R: Threads + Sync>(rt: &R, table: &Table, len: u64, low: u64) -> Option<u64>
-    requires some { 0 < len }
-    requires low { low ≤ length (tuples table.now) }
-    ensures { IsLeastIn table.now low (length (tuples table.now)) result }
+// The parts that so many threads found without a bad tuple. Each judges the parts that it has drawn, and this thread waits
+// for them.
+#[cycle(threads)]
+fn judged_by<R: Threads + Sync>(
+    rt: &R,
+    table: &Table,
+    len: u64,
+    parts: usize,
+    next: &AtomicUsize,
+    threads: u64,
+) -> Marks
+    requires few { parts ≤ MOST_PARTS }
+    requires begin { (part : ℕ) → part < parts → part * len < length (tuples table.now) }
+    ensures { AreGoodParts table.now len result }
+{
+    if threads == 0 {
+        return no_marks(table, len);
+    }
+    let (own, others) = join(
+        rt,
+        move || -> Marks
+            requires { (parts ≤ MOST_PARTS) × ((part : ℕ) → part < parts → part * len < length (tuples table.now)) }
+            ensures { AreGoodParts table.entry.now len result }
+        { draw_parts(table, len, parts, next) },
+        move || -> Marks
+            requires { IsSync R.row × (0 < threads) × (parts ≤ MOST_PARTS) × ((part : ℕ) → part < parts → part * len < length (tuples table.now)) }
+            ensures { AreGoodParts table.entry.now len result }
+        { judged_by(rt, table, len, parts, next, threads - 1) },
+    );
+    marked_in_either(table, len, own, &others)
+}
+
+// No part is marked.
+fn no_marks(table: &Table, len: u64) -> Marks
+    ensures { AreGoodParts table.now len result }
+{
+    [false; MOST_PARTS]
+}
+
+// Draws parts and judges them, until none is left or one has a bad tuple; then no thread draws another. Nothing need be
+// known of the counter: a part that no thread has drawn is not marked.
+fn draw_parts(table: &Table, len: u64, parts: usize, next: &AtomicUsize) -> Marks
+    requires few { parts ≤ MOST_PARTS }
+    requires begin { (part : ℕ) → part < parts → part * len < length (tuples table.now) }
+    ensures { AreGoodParts table.now len result }
+{
+    let mut marks = no_marks(table, len);
+    for _draw in 0..parts {
+        let part = next.fetch_add(1, Ordering::SeqCst);
+        if part >= parts {
+            return marks;
+        }
+        if least_of_part(table, len, part).is_some() {
+            next.store(parts, Ordering::SeqCst);
+            return marks;
+        }
+        marks[part] = true;
+    }
+    marks
+}
+
+// The parts that are marked in one or in the other.
+fn marked_in_either(table: &Table, len: u64, mut marks: Marks, other: &Marks) -> Marks
+    requires own { AreGoodParts table.now len marks }
+    requires other { AreGoodParts table.now len other.now }
+    ensures { AreGoodParts table.entry.now len result }
+{
+    for part in 0..MOST_PARTS {
+        if other[part] {
+            marks[part] = true;
+        }
+    }
+    marks
+}
+
+// The least number of a bad tuple of all: that of the first part that has one. Parts that are marked are not looked at.
+fn least_unmarked(table: &Table, len: u64, parts: usize, marks: &Marks) -> Option<u64>
+    requires few { parts ≤ MOST_PARTS }
+    requires begin { (part : ℕ) → part < parts → part * len < length (tuples table.now) }
+    requires all { length (tuples table.now) ≤ parts * len }
+    requires marks { AreGoodParts table.now len marks.now }
+    ensures { IsLeastIn table.now 0 (length (tuples table.now)) result }
+{
+    for part in 0..parts {
+        if !marks[part] {
+            if let Some(number) = least_of_part(table, len, part) {
+                return Some(number);
+            }
+        }
+    }
+    None
+}
+
+// The least number of a bad tuple of a part.
+fn least_of_part(table: &Table, len: u64, part: usize) -> Option<u64>
+    requires { part * len < length (tuples table.now) }
+    ensures { IsLeastIn table.now (part * len) (part * len + len) result }
 {
     let count = tuple_count(table);
-    if low == count {
-        return None;
-    }
-    let high = low + len.min(count - low);
-    let (first, later) = join(
-        rt,
-        move || -> Option<u64>
-            requires { (low ≤ high) × (high ≤ length (tuples table.now)) }
-            ensures { IsLeastIn table.entry.now low high result }
-        { judge_part(table, low, high) },
-        move || -> Option<u64>
-            requires { IsSync R.row × (0 < len) × (high ≤ length (tuples table.now)) }
-            ensures { IsLeastIn table.entry.now high (length (tuples table.entry.now)) result }
-        { least_from(rt, table, len, high) },
-    );
-    first.or(later)
+    let low = part as u64 * len;
+    judge_part(table, low, low + len.min(count - low))
 }

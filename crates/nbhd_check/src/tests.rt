@@ -1,10 +1,13 @@
 mod parts;
 mod walks;
 
+use crate::parts::{MOST_PARTS, least_by_parts};
+use crate::tuple::tuple_count;
 use crate::{Verdict, judge, judge_part};
 use std::alloc::{AllocError, Global};
 use std::process::Abort;
 use std::test::Fail;
+use std::thread::Threads;
 use table_fill::{Table, TableMaker};
 use win_index::Shape;
 
@@ -51,6 +54,19 @@ fn table_of_middles(
     assert!(rt; changed < channels.len());
     channels[changed] = channel;
     table_of(rt, alloc, shape, 5, &channels)
+}
+
+// The least number of a bad tuple, by parts of so many tuples, or of more where there would be too many parts.
+fn least_in_parts<R: Abort + Threads + Sync>(
+    rt: &R,
+    table: &Table,
+    len: u64,
+    threads: u64,
+) -> Option<u64> {
+    let most = MOST_PARTS as u64;
+    let len = len.max(tuple_count(table).div_ceil(most));
+    assert!(rt; 0 < len && len <= 1 << 32 && tuple_count(table) <= most * len);
+    least_by_parts(rt, table, len, threads)
 }
 
 // The ring of a no, with its place and its channel.

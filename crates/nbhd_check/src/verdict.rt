@@ -22,7 +22,7 @@ pub enum Verdict {
     },
 }
 
-ghost use Rattle.std.specs.Prelude.{◌≡◌, ℕ, ◌<◌, List, ◌↔◌, IfOk, OnErr};
+ghost use Rattle.std.specs.Prelude.{◌≡◌, ℕ, List, ◌↔◌, IfOk, OnErr};
 ghost use Rattle.nbhd_check.specs.Proper.{IsGoodEverywhere, IsLeastBad};
 ghost use Rattle.nbhd_check.specs.Verdicts.{IsVerdict};
 
@@ -54,23 +54,22 @@ pub fn judge_with_workers<R: Threads + Sync>(
     ensures yes { IfOk result (λ verdict. (verdict ≡ Verdict.Yes) ↔ IsGoodEverywhere table.now) }
     ensures memory { OnErr result (¬ IsGoodEverywhere table.now) }
 {
-    judge_in(rt, alloc, table, u64::from(workers).max(1))
+    judge_in(rt, alloc, table, u64::from(workers))
 }
 
-// The answer on a table, by at most so many parts.
+// The answer on a table, by at most so many threads.
 fn judge_in<R: Threads + Sync>(
     rt: &R,
     alloc: Global,
     table: &Table,
-    parts: u64,
+    threads: u64,
 ) -> Result<Verdict, OutOfMemory>
-    requires { 0 < parts }
     ensures verdict { IfOk result (IsVerdict table.now) }
     ensures yes { IfOk result (λ verdict. (verdict ≡ Verdict.Yes) ↔ IsGoodEverywhere table.now) }
     ensures memory { OnErr result (¬ IsGoodEverywhere table.now) }
 {
     tuples_suffice();
-    match least_of_all(rt, table, parts) {
+    match least_of_all(rt, table, threads) {
         None => Ok(Verdict::Yes),
         Some(number) => no(alloc, table, number),
     }

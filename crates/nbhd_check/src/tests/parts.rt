@@ -1,7 +1,6 @@
 // The answer is the same for every number of parts and of threads.
 
-use super::{found_in, table_of, table_of_identifiers};
-use crate::parts::least_by_parts;
+use super::{found_in, least_in_parts, table_of, table_of_identifiers};
 use crate::tuple::{tuple_count, write_tuple};
 use crate::{Verdict, judge, judge_with_workers};
 use std::alloc::{AllocError, Global};
@@ -51,15 +50,23 @@ fn table_of_one_bad_tuple(
 #[test]
 fn one_bad_tuple_anywhere(rt: HostRuntime) -> Result<(), Fail> {
     let all = table_of_numbers(&rt, rt.alloc())?;
-    assert_eq!(rt; least_by_parts(&rt, &all, 7), None);
+    assert_eq!(rt; least_in_parts(&rt, &all, 7, 3), None);
     assert_eq!(rt; tuple_count(&all), 120);
     for number in 0..120 {
         let table = table_of_one_bad_tuple(&rt, rt.alloc(), &all, number)?;
-        for len in [1, 2, 7, 60, 119, 120, u64::MAX] {
+        for (len, threads) in [
+            (2, 64),
+            (7, 3),
+            (7, 1),
+            (60, 2),
+            (119, 5),
+            (120, 2),
+            (1 << 32, 9),
+        ] {
             assert_eq!(rt;
-                least_by_parts(&rt, &table, len),
+                least_in_parts(&rt, &table, len, threads),
                 Some(number),
-                "{len} in a part"
+                "{len} in a part, {threads} threads"
             );
         }
     }
@@ -72,11 +79,13 @@ fn many_bad_tuples(rt: HostRuntime) -> Result<(), Fail> {
     let table = table_of_identifiers(&rt, rt.alloc(), &[0, 1, 2, 3, 2, 1, 0, 0])?;
     assert_eq!(rt; tuple_count(&table), 56);
     for len in 1..60 {
-        assert_eq!(rt;
-            least_by_parts(&rt, &table, len),
-            Some(5),
-            "{len} in a part"
-        );
+        for threads in [0, 1, 2, 3, 64] {
+            assert_eq!(rt;
+                least_in_parts(&rt, &table, len, threads),
+                Some(5),
+                "{len} in a part, {threads} threads"
+            );
+        }
     }
     Ok(())
 }
@@ -113,11 +122,13 @@ fn ring_of(verdict: &Verdict) -> Option<&[u32]> {
     if place == 0 { Some(ring) } else { None }
 }
 
-// 1,047,552 tuples, in runs of 1,023: with four workers a part has 256 runs.
+// 1,047,552 tuples, in runs of 1,023: a part has 65 runs.
 #[test]
 fn as_many_workers_as_one_likes(rt: HostRuntime) -> Result<(), Fail> {
-    let rows: [(&[(usize, u32)], Option<&[u32]>); 8] = [
+    let rows: [(&[(usize, u32)], Option<&[u32]>); 10] = [
         (&[], None),
+        (&[(65, 64)], Some(&[64, 65])),
+        (&[(66, 65)], Some(&[65, 66])),
         (&[(1, 0)], Some(&[0, 1])),
         (&[(1023, 1022)], Some(&[1022, 1023])),
         (&[(1023, 255)], Some(&[255, 1023])),

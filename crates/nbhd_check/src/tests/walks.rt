@@ -1,7 +1,6 @@
 // The judge beside a plain walk over all tuples.
 
-use super::{found_in, table_of};
-use crate::parts::least_by_parts;
+use super::{found_in, least_in_parts, table_of};
 use crate::tuple::{tuple_count, tuple_len, write_tuple};
 use crate::{Verdict, judge, judge_part};
 use std::alloc::{AllocError, Global};
@@ -59,7 +58,7 @@ fn is_good<R: Abort + Threads + Sync>(rt: &R, alloc: Global, table: &Table) -> R
     let mut cells = [0; MAX_TUPLE_LEN];
     let bad = first_bad_tuple(table, &mut cells);
     assert_eq!(rt; judge_part(table, 0, tuple_count(table)), bad);
-    assert_eq!(rt; least_by_parts(rt, table, 5), bad);
+    assert_eq!(rt; least_in_parts(rt, table, 5, 3), bad);
     let verdict = judge(rt, alloc, table).map_err(|_| AllocError)?;
     assert_eq!(rt; verdict == Verdict::Yes, bad.is_none());
     if let Some((ring, place, channel)) = found_in(&verdict) {

@@ -1,0 +1,14 @@
+-- Parts that are marked.
+use Rattle.std.proofs.Common.{◌≡◌, ℕ, zero, suc, false, get_or, replicate, sym, ◌∙◌, refl}
+use Rattle.std.proofs.lemmas.Bool.{false≢true}
+use Rattle.table_fill.specs.Tables.{ChannelTable}
+use Rattle.nbhd_check.specs.Searches.{AreGoodParts}
+
+unmarked : (n part : ℕ) → get_or (replicate n false) part false ≡ false
+unmarked zero part = refl
+unmarked (suc n) zero = refl
+unmarked (suc n) (suc part) = unmarked n part
+
+-- where none is marked, nothing is said
+pub none_marked : (t : ChannelTable) (len n : ℕ) → AreGoodParts t len (replicate n false)
+none_marked t len n = λ part marked. absurd (false≢true (sym (unmarked n part) ∙ marked))
