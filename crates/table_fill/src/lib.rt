@@ -14,7 +14,6 @@ mod looks;
 mod maker;
 mod own_reader;
 mod reading;
-mod room;
 mod shares;
 mod table;
 mod worker;

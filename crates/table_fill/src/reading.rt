@@ -5,10 +5,9 @@ ghost use Rattle.shared_memo.specs.Passes.{known, IsPassOf};
 ghost use Rattle.table_fill.specs.Filled.{KnowsAll};
 ghost use Rattle.table_fill.specs.ProgramTables.{table_of};
 ghost use Rattle.table_fill.specs.EntryShares.{AreLastBlocks};
-ghost use Rattle.win_index.specs.Blocks.{block_count};
+ghost use Rattle.win_index.specs.Blocks.{block_count, window_count};
 
 use crate::entry_columns::EntryColumns;
-use crate::room::TableRoom;
 use crate::shares::write_shares;
 use crate::table::Table;
 use lang_check::Plan;
@@ -17,29 +16,24 @@ use shared_memo::{Memo, Pass};
 use std::alloc::Global;
 use std::thread::Threads;
 use unroll::Block;
+use win_index::BLOCK_WINDOWS;
 
-// Fewer blocks than these are not worth a thread.
-const LEAST_SHARE: u32 = 64;
+// One share for each so many windows begun, and no more: fewer are not worth a thread.
+const SHARE_WINDOWS: u32 = 64 * BLOCK_WINDOWS;
 
-// Room for a plan's table, which is read by so many shares at most. The error comes where memory was refused.
-pub(crate) fn room_for<'p>(
+// Columns for each share of a plan's entries, of which there are so many at most.
+pub(crate) fn columns_for(
     alloc: Global,
-    plan: &'p Plan,
+    plan: &Plan,
     shares: u32,
-) -> Result<TableRoom<'p>, OutOfMemory>
+) -> Result<Vec<EntryColumns>, OutOfMemory>
     requires { 0 < shares }
-    ensures { IfOk result (λ room. room.plan.now ≡ plan.now) }
+    ensures some { IfOk result (λ columns. 0 < vec_len columns) }
+    ensures of_plan { IfOk result (λ columns. All (λ c. c ≡ plan.now) columns.items) }
 {
     let shape = plan.shape();
-    let level = shape.rounds();
-    let entries = vec![in alloc; 0; shape.count(level) as usize].map_err(|_| OutOfMemory)?;
-    let worth = shape.blocks(level).div_ceil(LEAST_SHARE);
-    let columns = columns_of_shares(alloc, plan, shares.min(worth))?;
-    Ok(TableRoom {
-        plan,
-        entries,
-        columns,
-    })
+    let worth = shape.count(shape.rounds()).div_ceil(SHARE_WINDOWS);
+    columns_of_shares(alloc, plan, shares.min(worth))
 }
 
 // Columns for each of so many shares.
@@ -58,20 +52,45 @@ fn columns_of_shares(
     Ok(columns)
 }
 
-// The table, read from the blocks of the last level.
+// How many entries a plan's table has.
+pub(crate) fn entry_count(plan: &Plan) -> usize
+    ensures { result ≡ window_count plan.now.ids (length plan.now.program.steps) }
+{
+    let shape = plan.shape();
+    shape.count(shape.rounds()) as usize
+}
+
+// A list with room for the entries of a plan's table.
+pub(crate) fn no_entries(alloc: Global, plan: &Plan) -> Result<Vec<u16>, OutOfMemory>
+    ensures { IfOk result (λ entries. window_count plan.now.ids (length plan.now.program.steps) ≤ vec_capacity entries) }
+{
+    Vec::with_capacity(alloc, entry_count(plan)).map_err(|_| OutOfMemory)
+}
+
+// Makes a list one of so many zeros, for which it has room.
+pub(crate) fn put_zeros(entries: &mut Vec<u16>, count: usize)
+    requires { count ≤ vec_capacity entries.old }
+    ensures { vec_len entries.new ≡ count }
+{
+    let Ok(()) = entries.resize(count, 0) else {
+        unreachable!()
+    };
+}
+
+// The table, whose entries are read from the blocks of the last level, by as many shares as there are columns.
 pub(crate) fn read_table<R: Threads + Sync>(
     rt: &R,
+    plan: &Plan,
     blocks: &[&Block<'_>],
-    room: TableRoom<'_>,
+    mut columns: Vec<EntryColumns>,
+    mut entries: Vec<u16>,
 ) -> Table
-    requires { AreLastBlocks room.plan.now blocks.now }
-    ensures { result ≡ table_of room.entry.plan.now.program room.entry.plan.now.ids }
+    requires blocks { AreLastBlocks plan.now blocks.now }
+    requires some { 0 < vec_len columns }
+    requires of_plan { All (λ c. c ≡ plan.now) columns.items }
+    requires size { vec_len entries ≡ window_count plan.now.ids (length plan.now.program.steps) }
+    ensures { result ≡ table_of plan.now.program plan.now.ids }
 {
-    let TableRoom {
-        plan,
-        mut entries,
-        mut columns,
-    } = room;
     write_shares(rt, plan, blocks, &mut columns, &mut entries);
     Table {
         shape: plan.shape(),

@@ -1,5 +1,5 @@
 // The entries of a table, read from the blocks of the last level by shares, each in a thread of its own.
-ghost use Rattle.std.specs.Prelude.{◌≡◌, ◌*◌, ◌%◌, ◌<◌, ◌≤◌, ◌⊎◌, length, All};
+ghost use Rattle.std.specs.Prelude.{◌≡◌, ◌*◌, ◌/◌, ◌%◌, ◌<◌, ◌≤◌, ◌⊎◌, length, All};
 ghost use Rattle.std.specs.Thread.{IsSync};
 ghost use Rattle.win_index.specs.Blocks.{window_count};
 ghost use Rattle.table_fill.specs.EntryShares.{AreLastBlocks, AreEntries, IsShare};
@@ -71,12 +71,14 @@ fn write_from<R: Threads + Sync>(
     );
 }
 
-// How many of so many windows the first of so many shares has: whole blocks, and all of them where it is the only one.
+// How many of so many windows the first of so many shares has: those of its part of the whole blocks, and all of them
+// where it is the only one.
 fn share_len(windows: usize, shares: usize) -> usize
     requires { 0 < shares }
+    ensures one { shares ≡ 1 → result ≡ windows }
+    ensures more { 1 < shares → result ≡ windows / 256 / shares * 256 }
     ensures within { result ≤ windows }
     ensures ends_a_block { (result % 256 ≡ 0) ⊎ (result ≡ windows) }
-    ensures all { shares ≡ 1 → result ≡ windows }
 {
     let width = BLOCK_WINDOWS as usize;
     if shares == 1 {
