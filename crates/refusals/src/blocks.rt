@@ -7,7 +7,7 @@ use crate::tell::{beside, given, surely, tell, tell_numbers};
 use conformance::programs::CV1;
 use lang_check::Plan;
 use shared_memo::{Memo, Reader};
-use unroll::{Block, MakeFault, make_block};
+use unroll::{Block, BlockMaker, MakeFault, make_block};
 
 /// `make_block`: how many states the second block of level 1 has, with the first of them; and without blocks below,
 /// the level and the number of the block that is missing.
@@ -18,6 +18,28 @@ pub(crate) fn do_make_block<R: AllocGlobal + Print>(rt: &R) -> Result<(), Miss> 
     let mut pass = beside(memo.pass(alloc))?;
     let mut reader = Reader::new(&memo, &mut pass);
     tell_blocks(rt, &plan, &mut reader)
+}
+
+/// `BlockMaker`: how many states the block of level 0 has, with the first of them. A maker that was refused memory for a
+/// block makes it once more.
+pub(crate) fn do_block_maker<R: AllocGlobal + Print>(rt: &R) -> Result<(), Miss> {
+    let alloc = rt.alloc();
+    let plan = plan_of(alloc, CV1, 8)?;
+    let memo = beside(Memo::new(alloc, &plan))?;
+    let mut pass = beside(memo.pass(alloc))?;
+    let mut reader = Reader::new(&memo, &mut pass);
+    let mut maker = match given(rt, BlockMaker::new(alloc, &plan))? {
+        Some(maker) => maker,
+        None => surely(BlockMaker::new(alloc, &plan))?,
+    };
+    if !has_block(&plan, 0, 0) {
+        return Err(Miss::Wrong);
+    }
+    let block = match given(rt, maker.make(alloc, &mut reader, 0, 0, 4))? {
+        Some(block) => block,
+        None => surely(maker.make(alloc, &mut reader, 0, 0, 4))?,
+    };
+    tell_states(rt, &block)
 }
 
 // Tells what `make_block` gives at level 1, without blocks below and with the first of them.

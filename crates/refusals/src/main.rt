@@ -11,6 +11,8 @@ mod borders;
 mod code;
 mod desks;
 mod events;
+mod findings;
+mod input;
 mod language;
 mod memos;
 mod messages;

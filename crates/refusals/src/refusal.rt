@@ -1,6 +1,8 @@
 use devices::fault::{EngineFault, OutFault};
+use headline::FindingsFault;
 use node_lang::{FaultKind, OutOfMemory, TextFault};
 use ring_exec::RunFault;
+use std::alloc::AllocError;
 use table_fill::FillFault;
 use table_text::TableFault;
 use task_words::words::WordsFault;
@@ -13,6 +15,12 @@ pub(crate) trait Refusal {
 }
 
 impl Refusal for OutOfMemory {
+    fn name(&self) -> Option<&'static str> {
+        Some("OutOfMemory")
+    }
+}
+
+impl Refusal for AllocError {
     fn name(&self) -> Option<&'static str> {
         Some("OutOfMemory")
     }
@@ -52,6 +60,16 @@ impl Refusal for RunFault {
             RunFault::OutOfMemory => Some("OutOfMemory"),
             RunFault::NoThread => Some("NoThread"),
             RunFault::SegmentsOutOfRange | RunFault::Stranger => None,
+        }
+    }
+}
+
+impl Refusal for FindingsFault {
+    fn name(&self) -> Option<&'static str> {
+        match self {
+            FindingsFault::Table(fault) => fault.name(),
+            FindingsFault::Run(fault) => fault.name(),
+            FindingsFault::OutOfMemory => Some("OutOfMemory"),
         }
     }
 }

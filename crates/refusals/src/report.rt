@@ -3,6 +3,7 @@ use crate::tell::{beside, given, surely};
 use conformance::programs::CV1;
 use devices::watched::Watched;
 use plan_print::engine::engine;
+use plan_print::lines::numbers_line;
 use plan_print::status::Status;
 use std::alloc::Global;
 use std::io;
@@ -32,6 +33,17 @@ pub(crate) fn do_table_report<R: AllocGlobal + Print + Threads + Wait + Sync>(
         Task::Table { ids, workers },
         Task::Table { ids, workers },
     )
+}
+
+/// `numbers_line`: the line of four numbers.
+pub(crate) fn do_numbers_line<R: AllocGlobal + Print>(rt: &R) -> Result<(), Miss> {
+    let numbers = [5, 1, 3, 7];
+    let line = match given(rt, numbers_line(rt.alloc(), &numbers))? {
+        Some(line) => line,
+        None => surely(numbers_line(rt.alloc(), &numbers))?,
+    };
+    print!(rt; "{line}")?;
+    Ok(())
 }
 
 // Does a task, and where it was refused the same task once more.

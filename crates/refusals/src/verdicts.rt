@@ -1,7 +1,7 @@
 use crate::miss::Miss;
 use crate::tables::table_of;
 use crate::tell::{given, surely, tell, tell_numbers};
-use nbhd_check::{Verdict, judge};
+use nbhd_check::{Verdict, judge, judge_with_workers};
 use std::sync::Wait;
 use std::thread::Threads;
 
@@ -17,6 +17,27 @@ pub(crate) fn do_judge<R: AllocGlobal + Print + Threads + Wait + Sync>(
         Some(verdict) => verdict,
         None => surely(judge(rt, alloc, &table))?,
     };
+    tell_verdict(rt, &verdict)
+}
+
+/// `judge_with_workers`: the verdict as `judge` gives it, by so many threads at most.
+pub(crate) fn do_judge_with_workers<R: AllocGlobal + Print + Threads + Wait + Sync>(
+    rt: &R,
+    text: &[u8],
+    ids: u32,
+    workers: u32,
+) -> Result<(), Miss> {
+    let alloc = rt.alloc();
+    let table = table_of(rt, text, ids)?;
+    let verdict = match given(rt, judge_with_workers(rt, alloc, &table, workers))? {
+        Some(verdict) => verdict,
+        None => surely(judge_with_workers(rt, alloc, &table, workers))?,
+    };
+    tell_verdict(rt, &verdict)
+}
+
+/// Tells a verdict: yes, or the ring, the place and the channel.
+pub(crate) fn tell_verdict<R: Print>(rt: &R, verdict: &Verdict) -> Result<(), Miss> {
     match verdict {
         Verdict::Yes => tell(rt, "yes"),
         Verdict::No {
@@ -25,8 +46,8 @@ pub(crate) fn do_judge<R: AllocGlobal + Print + Threads + Wait + Sync>(
             channel,
         } => {
             tell(rt, "no")?;
-            tell_numbers(rt, &ring)?;
-            tell_numbers(rt, &[place, channel])
+            tell_numbers(rt, ring)?;
+            tell_numbers(rt, &[*place, *channel])
         }
     }
 }

@@ -1,9 +1,11 @@
 use crate::miss::Miss;
 use crate::tell::{beside, tell, tell_numbers};
 use std::alloc::Global;
+use std::io;
+use std::io::ErrorKind;
 use task_words::ring_text::ring_of;
 use task_words::task::Task;
-use task_words::words::{WordsFault, task_of};
+use task_words::words::{WordsFault, task_of, words_fault};
 
 /// `ring_of`: the identifiers of a ring text, and what is said of three other texts.
 pub(crate) fn do_ring_of<R: AllocGlobal + Print>(rt: &R) -> Result<(), Miss> {
@@ -50,6 +52,21 @@ pub(crate) fn do_task_of<R: AllocGlobal + Print>(rt: &R) -> Result<(), Miss> {
         }
     }
     Ok(())
+}
+
+/// `words_fault`: what is said of words that are not UTF-8.
+pub(crate) fn do_words_fault<R: AllocGlobal + Print>(rt: &R) -> Result<(), Miss> {
+    let answer = match words_fault(rt.alloc(), io::Error::from(ErrorKind::InvalidData)) {
+        WordsFault::OutOfMemory => {
+            tell(rt, "OutOfMemory")?;
+            words_fault(rt.alloc(), io::Error::from(ErrorKind::InvalidData))
+        }
+        answer => answer,
+    };
+    match answer {
+        WordsFault::Usage(text) => tell(rt, &text),
+        _ => Err(Miss::Wrong),
+    }
 }
 
 // The words that stand parted by blanks in a line.

@@ -1,0 +1,32 @@
+use crate::miss::Miss;
+use crate::plans::{plan_of, ring_for};
+use crate::tell::{given, surely, tell_numbers};
+use crate::verdicts::tell_verdict;
+use conformance::programs::CV1;
+use headline::compile_run_and_judge;
+use round_eval::OpenGate;
+use std::sync::Wait;
+use std::thread::Threads;
+
+/// `compile_run_and_judge`: the channels of four places of a program for eight identifiers, and the verdict on its table,
+/// by so many workers and segments.
+pub(crate) fn do_findings<R: AllocGlobal + Print + Threads + Wait + Sync>(
+    rt: &R,
+    workers: u32,
+    segments: u32,
+) -> Result<(), Miss> {
+    let alloc = rt.alloc();
+    let plan = plan_of(alloc, CV1, 8)?;
+    let ring = ring_for(alloc, &plan, &[5, 1, 3, 7])?;
+    let gate = OpenGate;
+    let answer = compile_run_and_judge(rt, alloc, &plan, &ring, workers, segments, &gate);
+    let findings = match given(rt, answer)? {
+        Some(findings) => findings,
+        None => {
+            let answer = compile_run_and_judge(rt, alloc, &plan, &ring, workers, segments, &gate);
+            surely(answer)?
+        }
+    };
+    tell_numbers(rt, &findings.channels)?;
+    tell_verdict(rt, &findings.verdict)
+}

@@ -1,0 +1,22 @@
+use crate::miss::Miss;
+use crate::tell::{given, surely, tell};
+use conformance::programs::CV1;
+use devices::input::read_input;
+use devices::watched::Watched;
+
+/// `read_input`: a program's text as it was read.
+pub(crate) fn do_read_input<R: AllocGlobal + Print>(rt: &R) -> Result<(), Miss> {
+    let alloc = rt.alloc();
+    let mut reader = Watched::new(CV1);
+    let input = match given(rt, read_input(alloc, &mut reader, 65536))? {
+        Some(input) => input,
+        None => {
+            let mut reader = Watched::new(CV1);
+            surely(read_input(alloc, &mut reader, 65536))?
+        }
+    };
+    match str::from_utf8(&input) {
+        Ok(text) => tell(rt, text),
+        Err(_) => Err(Miss::Wrong),
+    }
+}
