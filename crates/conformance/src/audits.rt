@@ -104,8 +104,8 @@ fn a_byte_after_the_end_of_a_table(rt: HostRuntime) -> Result<(), Fail> {
 
 #[test]
 fn a_table_text_that_is_too_long(rt: HostRuntime) -> Result<(), Fail> {
-    let text = vec![in rt.alloc(); b' '; 33_554_433]?;
-    let line = "table fault A1 at 33554432\n";
+    let text = vec![in rt.alloc(); b' '; 134_217_729]?;
+    let line = "table fault A1 at 134217728\n";
     reports(&rt, rt.alloc(), Task::Audit, &text, line, Status::Refused)
 }
 

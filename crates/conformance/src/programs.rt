@@ -20,6 +20,10 @@ pub const CV1_OF_12: &[u8] =
 pub const CV1_OF_14: &[u8] =
     b"rounds 1\nchannels 14\nregisters 1\nstart\nr0 = id\nround\nsend left 0\nsend right r0\nr0 = add(shl(ldb(r0, L), 1), bit(r0, ldb(r0, L)))\nfinish r0\n";
 
+/// `CV1` with sixteen channels.
+pub const CV1_OF_16: &[u8] =
+    b"rounds 1\nchannels 16\nregisters 1\nstart\nr0 = id\nround\nsend left 0\nsend right r0\nr0 = add(shl(ldb(r0, L), 1), bit(r0, ldb(r0, L)))\nfinish r0\n";
+
 /// `CV1` that sends what it receives.
 pub const CV1_SENDS_L: &[u8] =
     b"rounds 1\nchannels 6\nregisters 1\nstart\nr0 = id\nround\nsend left 0\nsend right L\nr0 = add(shl(ldb(r0, L), 1), bit(r0, ldb(r0, L)))\nfinish r0\n";
@@ -41,6 +45,10 @@ pub const RED: &[u8] =
 /// `CV1` with each blank doubled, after a comment.
 pub const CV1_WITH_BLANKS: &[u8] =
     b"# note\nrounds  1\nchannels  6\nregisters  1\nstart\nr0  =  id\nround\nsend  left  0\nsend  right  r0\nr0  =  add(shl(ldb(r0,  L),  1),  bit(r0,  ldb(r0,  L)))\nfinish  r0\n";
+
+/// Four rounds, in each of which a node takes what its left neighbour had: the channel is the identifier four places to the left.
+pub const SHIFT4: &[u8] =
+    b"rounds 4\nchannels 10\nregisters 1\nstart\nr0 = id\nround\nsend left 0\nsend right r0\nr0 = L\nround\nsend left 0\nsend right r0\nr0 = L\nround\nsend left 0\nsend right r0\nr0 = L\nround\nsend left 0\nsend right r0\nr0 = L\nfinish r0\n";
 
 /// Two registers, each of which reads the other: the channel is the identifier and the left neighbour's.
 pub const TWO_REGISTERS: &[u8] =

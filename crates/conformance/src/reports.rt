@@ -1,8 +1,8 @@
 //! Reports of the engine, byte for byte, with their status.
 
 use crate::programs::{
-    CV1, CV1_OF_11, CV1_OF_12, CV1_OF_14, CV1_OF_THREE, CV1_SENDS_L, EIGHT_REGISTERS, ID0, LDB,
-    NOT_HEAD, RED, TWO_REGISTERS, ZERO,
+    CV1, CV1_OF_11, CV1_OF_12, CV1_OF_14, CV1_OF_16, CV1_OF_THREE, CV1_SENDS_L, EIGHT_REGISTERS,
+    ID0, LDB, NOT_HEAD, RED, SHIFT4, TWO_REGISTERS, ZERO,
 };
 use crate::texts::{full_tree, nested};
 use plan_print::engine::engine;
@@ -99,9 +99,10 @@ fn all_refuse<R: Abort + Threads + Wait + Sync>(
 
 #[test]
 fn text_faults(rt: HostRuntime) -> Result<(), Fail> {
-    let rows: [(&[u8], &str); 9] = [
+    let rows: [(&[u8], &str); 10] = [
         (b"", "text fault N9 at 0\n"),
         (b"rounds 4294967296", "text fault N4 at 7\n"),
+        (b"rounds 4", "text fault N9 at 8\n"),
         (b"rounds 5", "text fault N5 at 7\n"),
         (b"ronds 1", "text fault N3 at 0\n"),
         (b"round 1", "text fault N6 at 0\n"),
@@ -161,9 +162,11 @@ fn text_faults_of_long_texts(rt: HostRuntime) -> Result<(), Fail> {
 
 #[test]
 fn check_faults(rt: HostRuntime) -> Result<(), Fail> {
-    let rows: [(&[u8], u32, &str); 9] = [
+    let rows: [(&[u8], u32, &str); 11] = [
         (CV1_OF_14, 3, "check fault X1\n"),
-        (CV1_OF_14, 103, "check fault X2\n"),
+        (SHIFT4, 9, "check fault X1\n"),
+        (CV1_OF_16, 163, "check fault X2\n"),
+        (SHIFT4, 11, "check fault X2\n"),
         (CV1_OF_11, 64, "check fault C4 bound 11\n"),
         (CV1_OF_THREE, 8, "check fault C4 bound 5\n"),
         (
@@ -196,7 +199,7 @@ fn check_faults(rt: HostRuntime) -> Result<(), Fail> {
 
 #[test]
 fn accepted_programs(rt: HostRuntime) -> Result<(), Fail> {
-    let rows: [(&[u8], u32, &str); 3] = [
+    let rows: [(&[u8], u32, &str); 6] = [
         (
             CV1_OF_12,
             64,
@@ -207,6 +210,17 @@ fn accepted_programs(rt: HostRuntime) -> Result<(), Fail> {
             102,
             "rounds 1 channels 14 bound 13 windows 1030200",
         ),
+        (
+            CV1_OF_14,
+            103,
+            "rounds 1 channels 14 bound 13 windows 1061106",
+        ),
+        (
+            CV1_OF_16,
+            162,
+            "rounds 1 channels 16 bound 15 windows 4173120",
+        ),
+        (SHIFT4, 10, "rounds 4 channels 10 bound 9 windows 3628800"),
         (RED, 8, "rounds 3 channels 4 bound 3 windows 40320"),
     ];
     for (text, ids, numbers) in rows {
@@ -251,8 +265,14 @@ fn ring_faults(rt: HostRuntime) -> Result<(), Fail> {
 
 #[test]
 fn runs(rt: HostRuntime) -> Result<(), Fail> {
-    let rows: [(&[u8], u32, &[u32], &str); 9] = [
+    let rows: [(&[u8], u32, &[u32], &str); 10] = [
         (CV1, 8, &[0, 1, 2, 3, 4, 5, 6, 7], "0 1 0 1 0 1 0 1\n"),
+        (
+            SHIFT4,
+            10,
+            &[0, 1, 2, 3, 4, 5, 6, 7, 8, 9],
+            "6 7 8 9 0 1 2 3 4 5\n",
+        ),
         (CV1, 8, &[5, 1, 3, 7], "2 4 3 5\n"),
         (CV1_OF_14, 102, &[5, 1, 3, 7], "2 4 3 5\n"),
         (LDB, 8, &[5, 1, 3, 7], "1 2 1 2\n"),
@@ -353,6 +373,17 @@ fn the_judge_of_64_identifiers(rt: HostRuntime) -> Result<(), Fail> {
     };
     let line = "yes: 15249024 tuples\n";
     reports(&rt, rt.alloc(), task, CV1_OF_12, line, Status::Done)
+}
+
+// Over three million windows: too many for a run that is not built.
+#[test]
+fn the_judge_of_four_rounds(rt: HostRuntime) -> Result<(), Fail> {
+    let task = Task::Judge {
+        ids: 10,
+        workers: 4,
+    };
+    let line = "yes: 3628800 tuples\n";
+    reports(&rt, rt.alloc(), task, SHIFT4, line, Status::Done)
 }
 
 #[test]

@@ -19,7 +19,7 @@ use win_index::{Shape, ShapeFault};
 pub enum CheckFault {
     /// X1: fewer than `2t+2` identifiers for `t` rounds, or more than 1,024.
     IdsOutOfRange,
-    /// X2: more than `2^20` windows of level `t`.
+    /// X2: more than `MAX_WINDOWS` windows of level `t`.
     TooManyWindows,
     /// C1: the first register number in reading order that is not below the number of registers.
     RegisterOutOfRange(u32),

@@ -105,7 +105,7 @@ fn cv1_is_refused(rt: HostRuntime) -> Result<(), Fail> {
         (6, "L", 8, CheckFault::MessageOutsideStep),
         (11, "r0", 64, CheckFault::ChannelBound(11)),
         (14, "r0", 3, CheckFault::IdsOutOfRange),
-        (14, "r0", 103, CheckFault::TooManyWindows),
+        (16, "r0", 163, CheckFault::TooManyWindows),
     ];
     for (channels, sent, ids, want) in rows {
         let fault = accept(cv1(rt.alloc(), channels, sent)?, ids)
@@ -118,7 +118,7 @@ fn cv1_is_refused(rt: HostRuntime) -> Result<(), Fail> {
 
 #[test]
 fn cv1_is_accepted(rt: HostRuntime) -> Result<(), Fail> {
-    for (channels, ids, bound) in [(12, 64, 11), (11, 8, 5), (14, 102, 13)] {
+    for (channels, ids, bound) in [(12, 64, 11), (11, 8, 5), (14, 103, 13), (16, 162, 15)] {
         let plan = cv1_plan(rt.alloc(), channels, ids)?;
         assert_eq!(rt; plan.channels(), channels);
         assert_eq!(rt; plan.bound(), bound, "{ids} identifiers");

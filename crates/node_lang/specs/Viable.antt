@@ -97,7 +97,7 @@ pub record BeginsNode (before : List Token) (met : Token) (depth nodes : ℕ) : 
 abbrev pub IsOutside : ℕ → ℕ → ℕ → Type 0
 IsOutside low high n = (n < low) ⊎ (high < n)
 
--- a number of the header out of its range: rounds up to 3, channels 1 to 4,096, registers 1 to 8
+-- a number of the header out of its range: rounds up to MAX_ROUNDS, channels from 1 to MAX_CHANNELS, registers from 1 to MAX_REGISTERS
 pub data IsOutOfRange : List Token → Token → Type 0 where
   rounds : (t : ℕ) → IsOutside 0 MAX_ROUNDS t → IsOutOfRange (token.Rounds ∷ []) (token.Number t)
   channels : (t c : ℕ) → IsOutside 1 MAX_CHANNELS c → IsOutOfRange (token.Rounds ∷ token.Number t ∷ token.Channels ∷ []) (token.Number c)

@@ -2,7 +2,7 @@
 pub const LONGEST_TEXT: usize = 65_536;
 
 /// The most rounds of a program.
-pub const MAX_ROUNDS: u32 = 3;
+pub const MAX_ROUNDS: u32 = 4;
 
 /// The most channels of a program.
 pub const MAX_CHANNELS: u32 = 4096;

@@ -6,7 +6,7 @@ ghost use Rattle.node_lang.specs.Limits.{IsWithinLimits};
 use crate::tree::{Expr, Round};
 use std::marker::Model;
 
-/// A program of the node language, made by `parse` alone. It has 0 to 3 rounds, 1 to 4,096 channels and
+/// A program of the node language, made by `parse` alone. It has at most `MAX_ROUNDS` rounds, 1 to 4,096 channels and
 /// 1 to 8 registers, an expression for each register in `start` and in each round, at most 4,096
 /// expression nodes, and no expression of a depth over 64. An expression names registers 0 to 9.
 #[derive(Drop)]
@@ -28,7 +28,7 @@ impl Model for Program {
 }
 
 impl Program {
-    /// The number of rounds, 0 to 3.
+    /// The number of rounds, at most `MAX_ROUNDS`.
     pub fn rounds(&self) -> u32
         ensures value { result ≡ length self.now.steps }
         ensures limits { IsWithinLimits self.now }

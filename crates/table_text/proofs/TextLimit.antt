@@ -1,5 +1,5 @@
 -- The text of a table is within the limit.
-use Rattle.std.proofs.Common.{ℕ, zero, suc, ◌+◌, ◌*◌, ◌^◌, ◌<◌, ◌≤◌, List, [], ◌∷◌, ◌++◌, length, get_or, inl, inr, arith, length-append}
+use Rattle.std.proofs.Common.{◌≡◌, ℕ, zero, suc, ◌+◌, ◌*◌, ◌^◌, ◌<◌, ◌≤◌, List, [], ◌∷◌, ◌++◌, length, get_or, inl, inr, sym, arith, length-append}
 use Rattle.std.specs.Prelude.{codes, All}
 use Rattle.std.specs.Fmt.{decimal}
 use Rattle.std.proofs.Math.Nat.{mul-le-mul}
@@ -7,6 +7,7 @@ use Rattle.std.proofs.lemmas.Bool.{cases_lt}
 use Rattle.std.proofs.lemmas.Fmt.{length-decimal-le}
 use Rattle.std.proofs.lemmas.List.Elements.{All-head, All-tail}
 use Rattle.std.proofs.lemmas.Option.{slice_get-get_or}
+use Rattle.win_index.specs.declared.limits.TheConstants.{MAX_IDS, MAX_ROUNDS, MAX_WINDOWS}
 use Rattle.win_index.specs.Falling.{falling}
 use Rattle.win_index.specs.Windows.{IsWindow}
 use Rattle.win_index.specs.Laws.{CountOfWindows, NumberOfWindow, WindowsHaveNumbers}
@@ -20,56 +21,62 @@ falling_le : (k m n : ℕ) → m ≤ n → falling m k ≤ falling n k
 falling_le zero m n less = omega arith
 falling_le (suc k) m n less = mul-le-mul (falling_le k m n less) (omega (arith, less))
 
--- a shape of two rounds or three has at most 100 identifiers, since 101 have more than 2^20 lists of five or seven
-at_most_100 : (k m : ℕ) → falling m k ≤ 2 ^ 20 → 2 ^ 20 < falling 101 k → m ≤ 100
-at_most_100 k m few many = elim (cases_lt 100 m) [
-  | inl more ↦ absurd (omega (arith, falling_le k 101 m (omega (arith, more)), few, many))
+-- a bound of the identifiers, since with one more there are too many lists of this length
+at_most : (most k m : ℕ) → falling m k ≤ MAX_WINDOWS → MAX_WINDOWS < falling (most + 1) k → m ≤ most
+at_most most k m few many = elim (cases_lt most m) [
+  | inl more ↦ absurd (omega (arith, falling_le k (most + 1) m (omega (arith, more)), few, many))
   | inr less ↦ less
 ]
 
--- each identifier with its blank takes at most five bytes
-ids_of_four : (ids rest : List ℕ) → All (λ id. id < 10 ^ 4) ids → length (ids_then ids rest) ≤ 5 * length ids + length rest
-ids_of_four [] rest small = omega arith
-ids_of_four (id ∷ ids) rest small =
-    let head = All-head (λ n. n < 10 ^ 4) id ids small in
-    let digits = length-decimal-le 4 id (omega arith) head (omega (arith, head)) in
-    omega (arith, digits, length-append (decimal id) (32 ∷ ids_then ids rest), ids_of_four ids rest (All-tail (λ n. n < 10 ^ 4) id ids small))
-
--- below 100 at most three
-ids_of_two : (ids rest : List ℕ) → All (λ id. id < 10 ^ 2) ids → length (ids_then ids rest) ≤ 3 * length ids + length rest
-ids_of_two [] rest small = omega arith
-ids_of_two (id ∷ ids) rest small =
-    let head = All-head (λ n. n < 10 ^ 2) id ids small in
-    let digits = length-decimal-le 2 id (omega arith) head (omega (arith, head)) in
-    omega (arith, digits, length-append (decimal id) (32 ∷ ids_then ids rest), ids_of_two ids rest (All-tail (λ n. n < 10 ^ 2) id ids small))
+-- each identifier of at most d digits takes with its blank at most d + 1 bytes
+ids_of : (d : ℕ) (ids rest : List ℕ) → 0 < d → 10 ^ d < 2 ^ 64 → All (λ id. id < 10 ^ d) ids
+    → length (ids_then ids rest) ≤ (d + 1) * length ids + length rest
+ids_of d [] rest some fits small = omega arith
+ids_of d (id ∷ ids) rest some fits small =
+    let head = All-head (λ n. n < 10 ^ d) id ids small in
+    let digits = length-decimal-le d id some head (omega (arith, head, fits)) in
+    omega (arith, digits, length-append (decimal id) (32 ∷ ids_then ids rest), ids_of d ids rest some fits (All-tail (λ n. n < 10 ^ d) id ids small))
 
 channel_length : (channel : ℕ) (rest : List ℕ) → channel < 10 ^ 4 → length (codes ": " ++ (decimal channel ++ 10 ∷ rest)) ≤ 7 + length rest
 channel_length channel rest small =
     omega (arith, length-decimal-le 4 channel (omega arith) small (omega (arith, small)), length-append (decimal channel) (10 ∷ rest))
 
--- the line of the window has at most 31 bytes
+-- the most bytes of a line of a window
+abbrev most_of_line : ℕ
+most_of_line = 31
+
+-- the line of the window is within them
 abbrev IsShort : List ℕ → Type 0
-IsShort window = (channel : ℕ) (rest : List ℕ) → channel < 10 ^ 4 → length (entry_then window channel rest) ≤ 31 + length rest
+IsShort window = (channel : ℕ) (rest : List ℕ) → channel < 10 ^ 4 → length (entry_then window channel rest) ≤ most_of_line + length rest
 
-few_ids : (window : List ℕ) → length window ≤ 3 → All (λ id. id < 10 ^ 4) window → IsShort window
-few_ids window size small channel rest fits =
-    omega (arith, size, ids_of_four window (codes ": " ++ (decimal channel ++ 10 ∷ rest)) small, channel_length channel rest fits)
-
-small_ids : (window : List ℕ) → length window ≤ 7 → All (λ id. id < 10 ^ 2) window → IsShort window
-small_ids window size small channel rest fits =
-    omega (arith, size, ids_of_two window (codes ": " ++ (decimal channel ++ 10 ∷ rest)) small, channel_length channel rest fits)
+-- so it is with k identifiers of at most d digits
+short_ids : (d k : ℕ) (window : List ℕ) → 0 < d → 10 ^ d < 2 ^ 64 → (d + 1) * k + 7 ≤ most_of_line → length window ≡ k
+    → All (λ id. id < 10 ^ d) window → IsShort window
+short_ids d k window some fits room size small channel rest few =
+    let ids : length (entry_then window channel rest) ≤ (d + 1) * k + length (codes ": " ++ (decimal channel ++ 10 ∷ rest)) =
+    rw (sym size) (ids_of d window (codes ": " ++ (decimal channel ++ 10 ∷ rest)) some fits small) in
+    omega (arith, room, ids, channel_length channel rest few)
 
 ids_below : (m bound : ℕ) (window : List ℕ) → m ≤ bound → All (λ x. x < m) window → All (λ x. x < bound) window
 ids_below m bound window less below = λ i d within. omega (arith, less, below i d within)
 
-short_window : (r m : ℕ) (window : List ℕ) → r ≤ 3 → m ≤ 1024 → falling m (2 * r + 1) ≤ 2 ^ 20 → IsWindow (2 * r + 1) m window → IsShort window
-short_window zero m window rounds ids few is = few_ids window (omega (arith, is.size)) (ids_below m (10 ^ 4) window (omega (arith, ids)) is.below)
-short_window (suc zero) m window rounds ids few is = few_ids window (omega (arith, is.size)) (ids_below m (10 ^ 4) window (omega (arith, ids)) is.below)
+-- two rounds leave at most 23 identifiers, three 12 and four 10
+short_window : (r m : ℕ) (window : List ℕ) → r ≤ MAX_ROUNDS → m ≤ MAX_IDS → falling m (2 * r + 1) ≤ MAX_WINDOWS → IsWindow (2 * r + 1) m window
+    → IsShort window
+short_window zero m window rounds ids few is =
+    short_ids 4 1 window (omega arith) (omega arith) (omega arith) is.size (ids_below m (10 ^ 4) window (omega (arith, ids)) is.below)
+short_window (suc zero) m window rounds ids few is =
+    short_ids 4 3 window (omega arith) (omega arith) (omega arith) is.size (ids_below m (10 ^ 4) window (omega (arith, ids)) is.below)
 short_window (suc (suc zero)) m window rounds ids few is =
-    small_ids window (omega (arith, is.size)) (ids_below m (10 ^ 2) window (omega (arith, at_most_100 5 m few (omega arith))) is.below)
+    short_ids 2 5 window (omega arith) (omega arith) (omega arith) is.size
+    (ids_below m (10 ^ 2) window (omega (arith, at_most 23 5 m few (omega arith))) is.below)
 short_window (suc (suc (suc zero))) m window rounds ids few is =
-    small_ids window (omega (arith, is.size)) (ids_below m (10 ^ 2) window (omega (arith, at_most_100 7 m few (omega arith))) is.below)
-short_window (suc (suc (suc (suc r)))) m window rounds ids few is = absurd (omega (arith, rounds))
+    short_ids 2 7 window (omega arith) (omega arith) (omega arith) is.size
+    (ids_below m (10 ^ 2) window (omega (arith, at_most 12 7 m few (omega arith))) is.below)
+short_window (suc (suc (suc (suc zero)))) m window rounds ids few is =
+    short_ids 1 9 window (omega arith) (omega arith) (omega arith) is.size
+    (ids_below m (10 ^ 1) window (omega (arith, at_most 10 9 m few (omega arith))) is.below)
+short_window (suc (suc (suc (suc (suc r))))) m window rounds ids few is = absurd (omega (arith, rounds))
 
 -- each window of a table has a short line
 short_windows : CountOfWindows → NumberOfWindow → WindowsHaveNumbers → (t : ChannelTable) → IsBegun t → All IsShort (windows_of t)
@@ -81,7 +88,7 @@ short_windows count number have t begun = λ i d within.
     (omega (arith, begun.shape.few_windows, count k t.ids)) is
 
 entries_short : (ws : List (List ℕ)) (cs rest : List ℕ) → All IsShort ws → All (λ c. c < 10 ^ 4) cs
-    → length (entries_then ws cs rest) ≤ 31 * length cs + length rest
+    → length (entries_then ws cs rest) ≤ most_of_line * length cs + length rest
 entries_short ws [] rest short small = omega arith
 entries_short [] (c ∷ cs) rest short small = omega arith
 entries_short (w ∷ ws) (c ∷ cs) rest short small =
@@ -100,7 +107,7 @@ header_short rounds ids channels rest are =
     omega (arith, few_rounds, few_ids, few_channels, length-append (decimal rounds) (32 ∷ second), length-append (decimal ids) (32 ∷ third), length-append (decimal channels) (10 ∷ rest))
 
 lines_short : CountOfWindows → NumberOfWindow → WindowsHaveNumbers → (t : ChannelTable) (rest : List ℕ) → IsBegun t
-    → length (lines_then t rest) ≤ 45 + (31 * length t.entries + length rest)
+    → length (lines_then t rest) ≤ 45 + (most_of_line * length t.entries + length rest)
 unfolding lines_then
 lines_short count number have t rest begun =
     let small = ids_below t.channels (10 ^ 4) t.entries (omega (arith, begun.few_channels)) begun.below in

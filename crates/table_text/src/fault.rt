@@ -1,7 +1,7 @@
 /// Why a text is not read as a table. Lines are counted from 1, and offsets of bytes from 0.
 #[derive(Clone, Copy, Debug, PartialEq, Eq)]
 pub enum TableFault {
-    /// A1: a text of more than 33,554,432 bytes, at the offset 33,554,432; else the offset of the first byte of
+    /// A1: a text of more than `LONGEST_TABLE_TEXT` bytes, at that offset; else the offset of the first byte of
     /// the first line that does not have its form.
     Syntax(u32),
     /// A2: the number of the line whose identifiers are not the window of that line.

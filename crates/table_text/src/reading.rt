@@ -19,7 +19,7 @@ use win_index::{MAX_WINDOW_LEN, Shape};
 /// the windows' order, which has the identifiers, a colon and the window's channel, and the line `end`. A line ends
 /// with a line feed, single blanks part its words, and numbers have no leading zeros.
 ///
-/// Another text has a fault. `Syntax` comes first for a text of more than 33,554,432 bytes; then the lines are judged
+/// Another text has a fault. `Syntax` comes first for a text of more than `LONGEST_TABLE_TEXT` bytes; then the lines are judged
 /// in order, and the first that has a fault is named: `Syntax`, else `WrongWindow`, else `ChannelTooLarge`.
 /// `OutOfMemory` comes where memory was refused; it may come in place of any fault but that of the length.
 pub fn read_table(alloc: Global, text: &[u8]) -> Result<Table, TableFault>

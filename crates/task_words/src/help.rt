@@ -1,5 +1,29 @@
 //! The texts of help, beside those that `clap` writes by itself.
 
+/// What a command on a program text reads and prints: these lines, then how many identifiers each number of rounds may have
+/// (enough for a ring, and at most `win_index::MAX_WINDOWS` windows), for a command on a ring how many its ring has at least,
+/// then the other lines.
+macro_rules! details {
+    (@ $reads:literal, $ring:literal, $more:literal) => {
+        concat!(
+            $reads,
+            "M is 2 to 1024 for 0 rounds, 4 to 162 for 1 round, 6 to 23 for 2, 8 to 12 for 3, 10 for 4 rounds.\n",
+            $ring,
+            $more
+        )
+    };
+    (ring: $reads:literal, $more:literal) => {
+        details!(
+            @ $reads,
+            "The ring has at least 2, 4, 6, 8 or 10 identifiers for 0 to 4 rounds, below M, no two the same.\n",
+            $more
+        )
+    };
+    ($reads:literal, $more:literal) => {
+        details!(@ $reads, "", $more)
+    };
+}
+
 /// What the program is.
 pub(crate) const PROGRAM: &str =
     "Compiles a node program of synchronous rounds to a table with one channel per window of identifiers,
@@ -37,53 +61,59 @@ pub(crate) const WORKERS: &str = "How many threads work on the table, 1 to 64";
 pub(crate) const SEGMENTS: &str = "How many segments the ring is cut into, each a thread, 1 to 64";
 
 /// What `check` reads and prints.
-pub(crate) const CHECK_DETAILS: &str = "Standard input:  a program text
+pub(crate) const CHECK_DETAILS: &str = details!(
+    "Standard input:  a program text
 Standard output: one line: the program is accepted, or what is refused
 
-M is 2 to 1024 for 0 rounds, 4 to 102 for 1 round, 6 to 18 for 2 rounds, 8 to 10 for 3 rounds.
-
+",
+    "
 Exit status:
   0  the program is accepted
   2  the words are refused
   3  the program is refused
   5  reading or writing failed
-  6  memory was refused";
+  6  memory was refused"
+);
 
 /// What `table` reads and prints.
-pub(crate) const TABLE_DETAILS: &str = "Standard input:  a program text
+pub(crate) const TABLE_DETAILS: &str = details!(
+    "Standard input:  a program text
 Standard output: the table text, or one line: what is refused
 
-M is 2 to 1024 for 0 rounds, 4 to 102 for 1 round, 6 to 18 for 2 rounds, 8 to 10 for 3 rounds.
-
+",
+    "
 Exit status:
   0  the table is printed
   2  the words are refused
   3  the program is refused
   5  reading or writing failed
-  6  memory or a thread was refused";
+  6  memory or a thread was refused"
+);
 
 /// What `judge` reads and prints.
-pub(crate) const JUDGE_DETAILS: &str = "Standard input:  a program text
+pub(crate) const JUDGE_DETAILS: &str = details!(
+    "Standard input:  a program text
 Standard output: one line: yes, or no with a ring where two neighbours have one channel,
                  or what is refused
 
-M is 2 to 1024 for 0 rounds, 4 to 102 for 1 round, 6 to 18 for 2 rounds, 8 to 10 for 3 rounds.
-
+",
+    "
 Exit status:
   0  yes
   1  no
   2  the words are refused
   3  the program is refused
   5  reading or writing failed
-  6  memory or a thread was refused";
+  6  memory or a thread was refused"
+);
 
 /// What `run` reads and prints.
-pub(crate) const RUN_DETAILS: &str = "Standard input:  a program text
+pub(crate) const RUN_DETAILS: &str = details!(
+    ring: "Standard input:  a program text
 Standard output: one line: the channels in the order of the ring, or what is refused
 
-M is 2 to 1024 for 0 rounds, 4 to 102 for 1 round, 6 to 18 for 2 rounds, 8 to 10 for 3 rounds.
-The ring has at least 2, 4, 6 or 8 identifiers for 0, 1, 2 or 3 rounds, below M, no two the same.
-It is cut into at most as many segments as it has identifiers.
+",
+    "It is cut into at most as many segments as it has identifiers.
 
 Exit status:
   0  the channels are printed
@@ -91,23 +121,25 @@ Exit status:
   3  the program is refused
   4  the ring is refused
   5  reading or writing failed
-  6  memory or a thread was refused";
+  6  memory or a thread was refused"
+);
 
 /// What `plan` reads and prints.
-pub(crate) const PLAN_DETAILS: &str = "Standard input:  a program text
+pub(crate) const PLAN_DETAILS: &str = details!(
+    ring: "Standard input:  a program text
 Standard output: one line for each place of the ring: the place, its identifier and its channel;
                  or one line: what is refused
 
-M is 2 to 1024 for 0 rounds, 4 to 102 for 1 round, 6 to 18 for 2 rounds, 8 to 10 for 3 rounds.
-The ring has at least 2, 4, 6 or 8 identifiers for 0, 1, 2 or 3 rounds, below M, no two the same.
-
+",
+    "
 Exit status:
   0  the channels are printed
   2  the words are refused
   3  the program is refused
   4  the ring is refused
   5  reading or writing failed
-  6  memory or a thread was refused";
+  6  memory or a thread was refused"
+);
 
 /// What `audit` reads and prints.
 pub(crate) const AUDIT_DETAILS: &str = "Standard input:  a table text, as `nbhd table` prints it

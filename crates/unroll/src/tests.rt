@@ -16,6 +16,10 @@ const CV1: &[u8] =
 const RED: &[u8] =
     b"rounds 3\nchannels 4\nregisters 1\nstart\nr0 = id\nround\nsend left 0\nsend right r0\nr0 = add(shl(ldb(r0, L), 1), bit(r0, ldb(r0, L)))\nround\nsend left r0\nsend right r0\nr0 = min(if(eq(r0, 5), if(and(ne(L, 0), ne(R, 0)), 0, if(and(ne(L, 1), ne(R, 1)), 1, 2)), r0), 4)\nround\nsend left r0\nsend right r0\nr0 = min(if(eq(r0, 4), if(and(ne(L, 0), ne(R, 0)), 0, if(and(ne(L, 1), ne(R, 1)), 1, 2)), r0), 3)\nfinish r0\n";
 
+// Four rounds, in each of which a node takes what its left neighbour had.
+const SHIFT4: &[u8] =
+    b"rounds 4\nchannels 10\nregisters 1\nstart\nr0 = id\nround\nsend left 0\nsend right r0\nr0 = L\nround\nsend left 0\nsend right r0\nr0 = L\nround\nsend left 0\nsend right r0\nr0 = L\nround\nsend left 0\nsend right r0\nr0 = L\nfinish r0\n";
+
 // One round, in which the first register takes the second one and the second the sum of the first one and what
 // comes from the left.
 const SUM: &[u8] =
@@ -80,6 +84,24 @@ fn windows_have_their_states(rt: HostRuntime) -> Result<(), Fail> {
         window_state(&plan, window, state);
         assert_eq!(rt; *state, *want);
     }
+    Ok(())
+}
+
+#[test]
+fn the_last_window_of_four_rounds(rt: HostRuntime) -> Result<(), Fail> {
+    let program = parse(rt.alloc(), SHIFT4).ok().ok_or("a program")?;
+    let plan = accept(program, 10).ok().ok_or("a plan")?;
+    let shape = plan.shape();
+    assert!(rt; shape.rounds() == 4);
+    let count = shape.count(4);
+    assert_eq!(rt; count, 3_628_800);
+    let mut window = [0; 9];
+    shape.window(4, count - 1, &mut window);
+    assert_eq!(rt; window, [9, 8, 7, 6, 5, 4, 3, 2, 1]);
+    assert!(rt; plan.program().registers() == 1);
+    let mut state = [0; 1];
+    window_state(&plan, &window, &mut state);
+    assert_eq!(rt; state, [9]);
     Ok(())
 }
 

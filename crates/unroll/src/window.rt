@@ -37,7 +37,7 @@ pub fn window_state(plan: &Plan, window: &[u32], out: &mut [u32])
 fn shrink(plan: &Plan, round: u32, inner: usize, line: &[u32; CELLS], next: &mut [u32; CELLS])
     requires round { round < length plan.now.program.steps }
     requires some { 1 ≤ inner }
-    requires few { inner ≤ 5 }
+    requires few { inner + 2 ≤ MAX_WINDOW_LEN }
     ensures { rows (length plan.now.program.start) inner next.new
         ≡ shrunk plan.now.program round (rows (length plan.now.program.start) (inner + 2) line.now) }
 {

@@ -12,7 +12,7 @@ use Rattle.win_index.proofs.Levels.{level_is_few}
 use Rattle.win_index.proofs.Numbers.{length-windows}
 use Rattle.win_index.proofs.Kept.{range_with_len-append, slice_get-append_left, slice_get-append_right}
 
--- at most 2^20 windows fill at most 4,096 blocks
+-- at most MAX_WINDOWS windows fill at most MAX_BLOCKS blocks
 pub few_blocks : (m t level : ℕ) → HasIds m t → HasFewWindows m t → level ≤ t → block_count m level ≤ MAX_BLOCKS
 few_blocks m t level ids few le =
     let most = level_is_few m t level (2 * level + 1) refl ids few le in

@@ -8,7 +8,7 @@ pub record HasIds (m t : ℕ) : Type 0 where
   pub enough : 2 * t + 2 ≤ m
   pub few : m ≤ MAX_IDS
 
--- there are at most 2^20 windows of level t, which are those of length 2t+1
+-- there are at most MAX_WINDOWS windows of level t, which are those of length 2t+1
 abbrev pub HasFewWindows : ℕ → ℕ → Type 0
 HasFewWindows m t = length (windows (2 * t + 1) m) ≤ MAX_WINDOWS
 

@@ -1,11 +1,11 @@
 /// The most rounds of a shape.
-pub const MAX_ROUNDS: u32 = 3;
+pub const MAX_ROUNDS: u32 = 4;
 
 /// The most identifiers of a shape, and so the most places of a ring.
 pub const MAX_IDS: u32 = 1024;
 
 /// The most windows that a shape has of its last level.
-pub const MAX_WINDOWS: u32 = 1 << 20;
+pub const MAX_WINDOWS: u32 = 1 << 22;
 
 /// How many windows a block holds; the last block of a level may hold fewer.
 pub const BLOCK_WINDOWS: u32 = 256;

@@ -11,12 +11,12 @@ use crate::limits::{MAX_IDS, MAX_ROUNDS, MAX_WINDOWS};
 pub enum ShapeFault {
     /// X1: fewer than `2t+2` identifiers for `t` rounds, or more than 1,024.
     IdsOutOfRange,
-    /// X2: more than `2^20` windows of level `t`.
+    /// X2: more than `MAX_WINDOWS` windows of level `t`.
     TooManyWindows,
 }
 
-/// A number of identifiers and a number of rounds: `t` rounds, 0 to 3, and `2t+2` to 1,024 identifiers,
-/// of which there are at most `2^20` windows of level `t`. Identifiers are the numbers below their number.
+/// A number of identifiers and a number of rounds: `t` rounds, at most `MAX_ROUNDS`, and `2t+2` to 1,024 identifiers,
+/// of which there are at most `MAX_WINDOWS` windows of level `t`. Identifiers are the numbers below their number.
 /// A window of level `r` is a list of `2r+1` distinct identifiers, for `r` from 0 to `t`, and a tuple is a
 /// list of `2t+2` distinct identifiers. Windows of a level, and tuples, are numbered in lexicographic order.
 #[derive(Clone, Copy, Debug, PartialEq, Eq)]
@@ -61,7 +61,7 @@ impl Shape {
         self.ids
     }
 
-    /// The number of rounds, 0 to 3.
+    /// The number of rounds, at most `MAX_ROUNDS`.
     pub fn rounds(&self) -> u32
         ensures { result ≡ self.now.rounds }
     {

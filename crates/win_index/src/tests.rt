@@ -1,10 +1,11 @@
+use crate::limits::MAX_ROUNDS;
 use crate::ring::{Ring, RingFault};
 use crate::shape::{Shape, ShapeFault};
 use std::test::Fail;
 
 // A shape of 8 identifiers.
 fn shape_of_eight(rounds: u32) -> Option<Shape>
-    requires { rounds ≤ 3 }
+    requires { rounds ≤ MAX_ROUNDS }
     ensures { IfSome result (λ shape. shape.rounds ≡ rounds) }
 {
     Shape::new(8, rounds).ok()
@@ -150,9 +151,12 @@ fn tuples_of_eight_identifiers(rt: HostRuntime) -> Result<(), Fail> {
 fn the_range_of_shapes(rt: HostRuntime) {
     assert_eq!(rt; Shape::new(3, 1), Err(ShapeFault::IdsOutOfRange));
     assert_eq!(rt; Shape::new(1025, 0), Err(ShapeFault::IdsOutOfRange));
-    assert_eq!(rt; Shape::new(103, 1), Err(ShapeFault::TooManyWindows));
-    assert_eq!(rt; Shape::new(1024, 3), Err(ShapeFault::TooManyWindows));
-    assert!(rt; Shape::new(102, 1).is_ok());
+    assert_eq!(rt; Shape::new(163, 1), Err(ShapeFault::TooManyWindows));
+    assert_eq!(rt; Shape::new(11, 4), Err(ShapeFault::TooManyWindows));
+    assert_eq!(rt; Shape::new(1024, 4), Err(ShapeFault::TooManyWindows));
+    assert_eq!(rt; Shape::new(9, 4), Err(ShapeFault::IdsOutOfRange));
+    assert!(rt; Shape::new(162, 1).is_ok());
+    assert!(rt; Shape::new(10, 4).is_ok());
     assert!(rt; Shape::new(4, 1).is_ok());
     assert!(rt; Shape::new(1024, 0).is_ok());
 }
@@ -220,6 +224,24 @@ fn jobs_of_three_rounds(rt: HostRuntime) -> Result<(), Fail> {
     assert_eq!(rt; shape.job_number(3, 157), Some(187));
     assert_eq!(rt; shape.job_number(3, 158), None);
     assert_eq!(rt; shape.job_number(4, 0), None);
+    Ok(())
+}
+
+#[test]
+fn jobs_of_four_rounds(rt: HostRuntime) -> Result<(), Fail> {
+    let shape = Shape::new(10, 4).ok().ok_or("a shape")?;
+    assert!(rt; shape.rounds() == 4);
+    assert_eq!(rt; shape.count(4), 3_628_800);
+    assert_eq!(rt; shape.tuples(), 3_628_800);
+    assert_eq!(rt; shape.blocks(0), 1);
+    assert_eq!(rt; shape.blocks(1), 3);
+    assert_eq!(rt; shape.blocks(2), 119);
+    assert_eq!(rt; shape.blocks(3), 2363);
+    assert_eq!(rt; shape.blocks(4), 14_175);
+    let jobs = shape.jobs();
+    assert!(rt; jobs == 16_661);
+    assert_eq!(rt; shape.job(16_660), (4, 14_174));
+    assert_eq!(rt; shape.job_number(4, 14_174), Some(16_660));
     Ok(())
 }
 

@@ -8,7 +8,7 @@ use std::process::Abort;
 use std::test::Fail;
 use std::thread::Threads;
 use table_fill::Table;
-use win_index::{MAX_TUPLE_LEN, Shape};
+use win_index::{MAX_ROUNDS, MAX_TUPLE_LEN, Shape};
 
 // Numbers that look random, by a linear congruence.
 #[derive(Drop)]
@@ -77,7 +77,7 @@ fn good_of_ten<R: Abort + Threads + Sync>(
     rounds: u32,
     numbers: &mut Numbers,
 ) -> Result<u32, Fail> {
-    assert!(rt; rounds <= 3);
+    assert!(rt; rounds <= MAX_ROUNDS);
     let shape = Shape::new(ids, rounds).expect(rt, "a shape");
     let mut good = 0u32;
     for _ in 0..10 {

@@ -1,6 +1,7 @@
 use super::{IDENTIFIERS, fault_of};
 use crate::fault::TableFault;
 use crate::fault::TableFault::{ChannelTooLarge, Syntax, WrongWindow};
+use crate::limits::LONGEST_TABLE_TEXT;
 use std::alloc::{AllocError, Global};
 use std::test::Fail;
 
@@ -25,8 +26,10 @@ fn a_second_line_without_its_form(rt: HostRuntime) -> Result<(), Fail> {
     let rows = [
         "rounds 0 ids 1 channels 2",
         "rounds 0 ids 1025 channels 2",
-        "rounds 1 ids 103 channels 2",
-        "rounds 4 ids 10 channels 2",
+        "rounds 1 ids 163 channels 2",
+        "rounds 4 ids 9 channels 2",
+        "rounds 4 ids 11 channels 2",
+        "rounds 5 ids 12 channels 2",
         "rounds 0 ids 2 channels 0",
         "rounds 0 ids 2 channels 4097",
         "rounds 0 ids 2 channels 02",
@@ -83,9 +86,9 @@ fn fault_of_blanks(alloc: Global, count: usize) -> Result<Option<TableFault>, Al
 
 #[test]
 fn a_text_that_is_too_long(rt: HostRuntime) -> Result<(), Fail> {
-    let longest = fault_of_blanks(rt.alloc(), 33_554_432)?;
+    let longest = fault_of_blanks(rt.alloc(), LONGEST_TABLE_TEXT)?;
     assert_eq!(rt; longest, Some(Syntax(0)));
-    let too_long = fault_of_blanks(rt.alloc(), 33_554_433)?;
-    assert_eq!(rt; too_long, Some(Syntax(33_554_432)));
+    let too_long = fault_of_blanks(rt.alloc(), LONGEST_TABLE_TEXT + 1)?;
+    assert_eq!(rt; too_long, Some(Syntax(134_217_728)));
     Ok(())
 }

@@ -57,8 +57,8 @@ Options:
 Standard input:  a program text
 Standard output: one line: the channels in the order of the ring, or what is refused
 
-M is 2 to 1024 for 0 rounds, 4 to 102 for 1 round, 6 to 18 for 2 rounds, 8 to 10 for 3 rounds.
-The ring has at least 2, 4, 6 or 8 identifiers for 0, 1, 2 or 3 rounds, below M, no two the same.
+M is 2 to 1024 for 0 rounds, 4 to 162 for 1 round, 6 to 23 for 2, 8 to 12 for 3, 10 for 4 rounds.
+The ring has at least 2, 4, 6, 8 or 10 identifiers for 0 to 4 rounds, below M, no two the same.
 It is cut into at most as many segments as it has identifiers.
 
 Exit status:
