@@ -17,7 +17,7 @@ use win_index::{Shape, ShapeFault};
 /// Why a program is not accepted for a number of identifiers.
 #[derive(Clone, Copy, Debug, PartialEq, Eq)]
 pub enum CheckFault {
-    /// X1: fewer than `2t+2` identifiers for `t` rounds, or more than 1,024.
+    /// X1: fewer than `2t+2` identifiers for `t` rounds, or more than `MAX_IDS`.
     IdsOutOfRange,
     /// X2: more than `MAX_WINDOWS` windows of level `t`.
     TooManyWindows,

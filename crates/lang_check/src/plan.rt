@@ -58,7 +58,7 @@ impl Plan {
         self.bound
     }
 
-    /// The number of channels, 1 to 4,096.
+    /// The number of channels, 1 to `MAX_CHANNELS`.
     pub fn channels(&self) -> u32
         ensures value { result ≡ self.now.program.channels }
         ensures accepted { IsAccepted self.now.ids self.now.program }

@@ -3,7 +3,7 @@ use Rattle.std.specs.Prelude.{◌≡◌, ◌^◌, ◌<◌, ◌≤◌, length, Al
 use Rattle.node_lang.specs.declared.limits.TheConstants.{MAX_CHANNELS, MAX_DEPTH, MAX_NODES, MAX_REGISTERS, MAX_ROUNDS}
 use Rattle.node_lang.specs.Term.{Term, ProgramTree, depth, size, largest, largest_register, terms}
 
--- an expression is at most 64 deep, its numbers are below 2^32, and its registers have one digit
+-- an expression is at most MAX_DEPTH deep, its numbers are below 2^32, and its registers have one digit
 pub record IsSmall (e : Term) : Type 0 where
   pub depth : depth e ≤ MAX_DEPTH
   pub numbers : largest e < 2 ^ 32
@@ -18,5 +18,5 @@ pub record IsWithinLimits (p : ProgramTree) : Type 0 where
   -- each round has an expression for each register
   pub each_register : All (λ s. length s.next ≡ length p.start) p.steps
   pub small : All IsSmall (terms p)
-  -- at most 4,096 expression nodes
+  -- expression nodes
   pub nodes : sum_by size (terms p) ≤ MAX_NODES

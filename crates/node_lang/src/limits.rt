@@ -15,3 +15,6 @@ pub const MAX_DEPTH: u32 = 64;
 
 /// The most expression nodes of a program.
 pub const MAX_NODES: u32 = 4096;
+
+/// The most workers that fill a table, and the most segments that a ring is cut into.
+pub const MAX_THREADS: u32 = 64;

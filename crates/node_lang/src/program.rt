@@ -6,9 +6,9 @@ ghost use Rattle.node_lang.specs.Limits.{IsWithinLimits};
 use crate::tree::{Expr, Round};
 use std::marker::Model;
 
-/// A program of the node language, made by `parse` alone. It has at most `MAX_ROUNDS` rounds, 1 to 4,096 channels and
-/// 1 to 8 registers, an expression for each register in `start` and in each round, at most 4,096
-/// expression nodes, and no expression of a depth over 64. An expression names registers 0 to 9.
+/// A program of the node language, made by `parse` alone. It has at most `MAX_ROUNDS` rounds, 1 to `MAX_CHANNELS` channels
+/// and 1 to `MAX_REGISTERS` registers, an expression for each register in `start` and in each round, at most `MAX_NODES`
+/// expression nodes, and no expression of a depth over `MAX_DEPTH`. An expression names registers 0 to 9.
 #[derive(Drop)]
 pub struct Program {
     pub(crate) channels: u32,
@@ -36,7 +36,7 @@ impl Program {
         self.steps.len() as u32
     }
 
-    /// The number of channels, 1 to 4,096.
+    /// The number of channels, 1 to `MAX_CHANNELS`.
     pub fn channels(&self) -> u32
         ensures value { result ≡ self.now.channels }
         ensures limits { IsWithinLimits self.now }
@@ -44,7 +44,7 @@ impl Program {
         self.channels
     }
 
-    /// The number of registers, 1 to 8.
+    /// The number of registers, 1 to `MAX_REGISTERS`.
     pub fn registers(&self) -> u32
         ensures value { result ≡ length self.now.start }
         ensures limits { IsWithinLimits self.now }

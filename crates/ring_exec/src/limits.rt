@@ -1,4 +1,4 @@
 // Limits of a run.
 
 /// The most segments that a ring is run in.
-pub const MAX_SEGMENTS: u32 = 64;
+pub const MAX_SEGMENTS: u32 = node_lang::MAX_THREADS;

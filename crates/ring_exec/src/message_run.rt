@@ -24,7 +24,7 @@ use win_index::Ring;
 /// Why a run gives no channels.
 #[derive(Clone, Copy, Debug, PartialEq, Eq, Drop)]
 pub enum RunFault {
-    /// E1: not 1 to 64 segments, or more than the ring has places.
+    /// E1: not 1 to `MAX_SEGMENTS` segments, or more than the ring has places.
     SegmentsOutOfRange,
     /// E2: memory for a segment, a border, a message or the channels was refused.
     OutOfMemory,
@@ -38,7 +38,7 @@ pub enum RunFault {
 /// runs in a thread of its own, the last one in the caller's, and neighbours exchange messages at borders. The gate is
 /// told of each round of each segment, before the segment sends. The ring has the plan's shape.
 ///
-/// `SegmentsOutOfRange` comes first, where the number of segments is not 1 to 64 or is above the number of places; then
+/// `SegmentsOutOfRange` comes first, where the number of segments is not 1 to `MAX_SEGMENTS` or is above the number of places; then
 /// `NoThread`, where the start of a thread was refused; else the fault of the lowest segment that has one. All threads
 /// have ended before any answer.
 pub fn run<'a, R: Threads + Wait + Sync, G: Gate + Sync>(

@@ -3,7 +3,7 @@ ghost use Rattle.std.specs.Prelude.{◌≢◌};
 /// Why no table was compiled.
 #[derive(Clone, Copy, Debug, PartialEq, Eq)]
 pub enum FillFault {
-    /// The number of workers is not 1 to 64.
+    /// The number of workers is not 1 to `MAX_THREADS`.
     WorkersOutOfRange,
     /// The allocator refused memory.
     OutOfMemory,

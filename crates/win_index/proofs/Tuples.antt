@@ -26,29 +26,31 @@ arc_part x offset count le =
     ∙ sym (get_or-take count (drop offset x) k 0 within))
 
 -- a list taken as a ring
-pub tuple_ring : (m t step : ℕ) (list : List ℕ) → 1 ≤ step → IsWindow (2 * t + 1 + step) m list
-    → IsRing m t list × (window_around list t t ≡ part_at t 0 list) × (window_around list t (t + step) ≡ part_at t step list)
-tuple_ring m t step list some window =
+pub tuple_ring : (m t extra : ℕ) (list : List ℕ) → 1 ≤ extra → IsWindow (2 * t + 1 + extra) m list
+    → IsRing m t list × (window_around list t t ≡ part_at t 0 list) × ((step : ℕ) → step ≤ extra → window_around list t (t + step) ≡ part_at t step list)
+tuple_ring m t extra list some window =
     let size = window.size in
-    let few = window_within (2 * t + 1 + step) m list window in
-    let first : t + length list - t ≡ 0 + length list = omega arith in
-    let last : t + step + length list - t ≡ step + length list = omega arith in (
+    let few = window_within (2 * t + 1 + extra) m list window in
+    let first : t + length list - t ≡ 0 + length list = omega arith in (
       record { long = omega arith; short = omega arith; below = window.below; distinct = window.distinct },
       ap (λ i. arc list i (2 * t + 1)) first ∙ arc_part list 0 (2 * t + 1) (omega arith),
-      ap (λ i. arc list i (2 * t + 1)) last ∙ arc_part list step (2 * t + 1) (omega arith),
+      λ step le.
+          let later : t + step + length list - t ≡ step + length list = omega arith in
+          ap (λ i. arc list i (2 * t + 1)) later ∙ arc_part list step (2 * t + 1) (omega arith),
     )
 
 -- a list around a place of a ring
-pub ring_tuple : (m t step place : ℕ) (ring : List ℕ) → IsRing m t ring → 2 * t + 1 + step ≤ length ring
-    → let list = arc ring (place + length ring - t) (2 * t + 1 + step) in
-    IsWindow (2 * t + 1 + step) m list × (part_at t 0 list ≡ window_around ring t place) × (part_at t step list ≡ window_around ring t (place + step))
-ring_tuple m t step place ring is long =
+pub ring_tuple : (m t extra place : ℕ) (ring : List ℕ) → IsRing m t ring → 2 * t + 1 + extra ≤ length ring
+    → let list = arc ring (place + length ring - t) (2 * t + 1 + extra) in
+    IsWindow (2 * t + 1 + extra) m list × (part_at t 0 list ≡ window_around ring t place)
+    × ((step : ℕ) → step ≤ extra → part_at t step list ≡ window_around ring t (place + step))
+ring_tuple m t extra place ring is long =
     let start = place + length ring - t in
-    let count = 2 * t + 1 + step in
-    let rest : count - step ≡ 2 * t + 1 = omega arith in
-    let later : start + step ≡ place + step + length ring - t = omega arith in (
+    let count = 2 * t + 1 + extra in (
       arc_window m t start count ring is long,
       take-arc ring start count (2 * t + 1) (omega arith),
-      ap (take (2 * t + 1)) (drop-arc ring start count step (omega arith) ∙ ap (arc ring (start + step)) rest)
-          ∙ take-arc ring (start + step) (2 * t + 1) (2 * t + 1) (omega arith) ∙ ap (λ i. arc ring i (2 * t + 1)) later,
+      λ step le.
+          let later : start + step ≡ place + step + length ring - t = omega arith in
+          ap (take (2 * t + 1)) (drop-arc ring start count step (omega arith))
+          ∙ take-arc ring (start + step) (count - step) (2 * t + 1) (omega arith) ∙ ap (λ i. arc ring i (2 * t + 1)) later,
     )

@@ -60,21 +60,21 @@ abbrev pub RingsHaveWindows : Type 0
 RingsHaveWindows =
     (m t level place : ℕ) (ring : List ℕ) → IsRing m t ring → level ≤ t → IsWindow (2 * level + 1) m (window_around ring level place)
 
--- a list of 2t+1+step distinct identifiers, taken as a ring, has its first window at place t and its last one at
--- place t+step
+-- a list of 2t+1+extra distinct identifiers, taken as a ring, has at place t+step the window that it has itself from the offset step on
 abbrev pub TuplesAreRings : Type 0
 TuplesAreRings =
-    (m t step : ℕ) (list : List ℕ) → 1 ≤ step → IsWindow (2 * t + 1 + step) m list
-    → IsRing m t list × (window_around list t t ≡ part_at t 0 list) × (window_around list t (t + step) ≡ part_at t step list)
+    (m t extra : ℕ) (list : List ℕ) → 1 ≤ extra → IsWindow (2 * t + 1 + extra) m list
+    → IsRing m t list × (window_around list t t ≡ part_at t 0 list)
+    × ((step : ℕ) → step ≤ extra → window_around list t (t + step) ≡ part_at t step list)
 
--- what stands from t places to the left of a place of a ring to t+step places to its right is a list of distinct
--- identifiers, with the windows of both places
+-- what stands from t places to the left of a place of a ring to t+extra places to its right is a list of distinct
+-- identifiers, with the windows of all places from this one to t+extra
 abbrev pub RingsHaveTuples : Type 0
 RingsHaveTuples =
-    (m t step place : ℕ) (ring : List ℕ) → IsRing m t ring → 2 * t + 1 + step ≤ length ring
-    → let list = arc ring (place + length ring - t) (2 * t + 1 + step) in
-    IsWindow (2 * t + 1 + step) m list × (part_at t 0 list ≡ window_around ring t place)
-    × (part_at t step list ≡ window_around ring t (place + step))
+    (m t extra place : ℕ) (ring : List ℕ) → IsRing m t ring → 2 * t + 1 + extra ≤ length ring
+    → let list = arc ring (place + length ring - t) (2 * t + 1 + extra) in
+    IsWindow (2 * t + 1 + extra) m list × (part_at t 0 list ≡ window_around ring t place)
+    × ((step : ℕ) → step ≤ extra → part_at t step list ≡ window_around ring t (place + step))
 
 -- an arc has as many identifiers as were asked for
 abbrev pub LengthOfArcs : Type 0

@@ -3,7 +3,7 @@ use Rattle.std.specs.Prelude.{ℕ, ◌+◌, ◌*◌, ◌≤◌, length}
 use Rattle.win_index.specs.declared.limits.TheConstants.{MAX_IDS, MAX_WINDOWS}
 use Rattle.win_index.specs.Windows.{windows}
 
--- m identifiers are enough for a ring of 2t+2 nodes, and at most 1,024
+-- m identifiers are enough for a ring of 2t+2 nodes, and at most MAX_IDS
 pub record HasIds (m t : ℕ) : Type 0 where
   pub enough : 2 * t + 2 ≤ m
   pub few : m ≤ MAX_IDS

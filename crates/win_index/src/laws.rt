@@ -57,7 +57,7 @@ pub fn places_of_arcs()
     ensures item { law.ItemsOfArcs }
 {}
 
-/// The windows of a level of a shape fill at most 4,096 blocks.
+/// The windows of a level of a shape fill at most `MAX_BLOCKS` blocks.
 pub fn blocks_are_few()
     ensures { law.BlocksAreFew }
 {}

@@ -15,7 +15,8 @@ pub use laws::{
     tuples_are_rings, window_of_number, windows_are_in_order, windows_have_numbers,
 };
 pub use limits::{
-    BLOCK_WINDOWS, MAX_BLOCKS, MAX_IDS, MAX_ROUNDS, MAX_TUPLE_LEN, MAX_WINDOW_LEN, MAX_WINDOWS,
+    BLOCK_WINDOWS, MAX_BLOCKS, MAX_EXTRA, MAX_IDS, MAX_ROUNDS, MAX_TUPLE_LEN, MAX_WINDOW_LEN,
+    MAX_WINDOWS,
 };
 pub use ring::{Ring, RingFault};
 pub use series::RunPlaces;

@@ -1,5 +1,5 @@
 /// The most rounds of a shape.
-pub const MAX_ROUNDS: u32 = 4;
+pub const MAX_ROUNDS: u32 = node_lang::MAX_ROUNDS;
 
 /// The most identifiers of a shape, and so the most places of a ring.
 pub const MAX_IDS: u32 = 1024;
@@ -16,5 +16,8 @@ pub const MAX_BLOCKS: u32 = MAX_WINDOWS / BLOCK_WINDOWS;
 /// The most identifiers of a window of a shape.
 pub const MAX_WINDOW_LEN: usize = 2 * MAX_ROUNDS as usize + 1;
 
+/// How many identifiers a tuple has more than a window, at most.
+pub const MAX_EXTRA: u32 = 2;
+
 /// The most identifiers of a tuple of a shape.
-pub const MAX_TUPLE_LEN: usize = 2 * MAX_ROUNDS as usize + 2;
+pub const MAX_TUPLE_LEN: usize = MAX_WINDOW_LEN + MAX_EXTRA as usize;

@@ -17,7 +17,7 @@ pub enum RingFault {
     Repeated(u32, u32),
 }
 
-/// An oriented ring of a shape: `2t+2` to 1,024 places with distinct identifiers, read in a circle. The
+/// An oriented ring of a shape: `2t+2` to `MAX_IDS` places with distinct identifiers, read in a circle. The
 /// right neighbour of place `i` is place `i+1`, and that of the last place is place 0.
 #[derive(Drop)]
 pub struct Ring {
@@ -62,7 +62,7 @@ impl Ring {
         self.shape
     }
 
-    /// The number of places, `2t+2` to 1,024.
+    /// The number of places, `2t+2` to `MAX_IDS`.
     pub fn len(&self) -> u32
         ensures value { result ≡ length self.now.places }
         ensures valid { IsRing self.now.ids self.now.rounds self.now.places }

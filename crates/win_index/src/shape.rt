@@ -1,5 +1,5 @@
 ghost use Rattle.std.specs.Prelude.{◌≡◌, ◌≢◌, ◌≤◌, length, AllPairs};
-ghost use Rattle.win_index.specs.declared.limits.TheConstants.{MAX_ROUNDS};
+ghost use Rattle.win_index.specs.declared.limits.TheConstants.{MAX_ROUNDS, MAX_EXTRA};
 ghost use Rattle.win_index.specs.ShapeRange.{HasIds, HasFewWindows};
 ghost use Rattle.win_index.specs.Windows.{unused};
 
@@ -9,16 +9,17 @@ use crate::limits::{MAX_IDS, MAX_ROUNDS, MAX_WINDOWS};
 /// Why there is no shape.
 #[derive(Clone, Copy, Debug, PartialEq, Eq)]
 pub enum ShapeFault {
-    /// X1: fewer than `2t+2` identifiers for `t` rounds, or more than 1,024.
+    /// X1: fewer than `2t+2` identifiers for `t` rounds, or more than `MAX_IDS`.
     IdsOutOfRange,
     /// X2: more than `MAX_WINDOWS` windows of level `t`.
     TooManyWindows,
 }
 
-/// A number of identifiers and a number of rounds: `t` rounds, at most `MAX_ROUNDS`, and `2t+2` to 1,024 identifiers,
-/// of which there are at most `MAX_WINDOWS` windows of level `t`. Identifiers are the numbers below their number.
-/// A window of level `r` is a list of `2r+1` distinct identifiers, for `r` from 0 to `t`, and a tuple is a
-/// list of `2t+2` distinct identifiers. Windows of a level, and tuples, are numbered in lexicographic order.
+/// A number of identifiers and a number of rounds: `t` rounds, at most `MAX_ROUNDS`, and `2t+2` to `MAX_IDS`
+/// identifiers, of which there are at most `MAX_WINDOWS` windows of level `t`. Identifiers are the numbers below
+/// their number. A window of level `r` is a list of `2r+1` distinct identifiers, for `r` from 0 to `t`, and a tuple
+/// is a list of `2t+1+extra` distinct identifiers, where `extra` is 1 or 2. Windows of a level, and tuples of an
+/// `extra`, are numbered in lexicographic order.
 #[derive(Clone, Copy, Debug, PartialEq, Eq)]
 pub struct Shape {
     pub(crate) ids: u32,
@@ -29,7 +30,7 @@ pub struct Shape {
 }
 
 impl Shape {
-    ghost use Rattle.std.specs.Prelude.{◌≡◌, ℕ, List, ◌+◌, ◌*◌, ◌<◌, ◌↔◌, IfOk, IfErr, IfSome, IsOk, Some, length, take, slice_get};
+    ghost use Rattle.std.specs.Prelude.{◌≡◌, ℕ, List, ◌+◌, ◌*◌, ◌<◌, ◌↔◌, IsTrue, IfOk, IfErr, IfSome, IsOk, Some, length, take, slice_get};
     ghost use Rattle.std.specs.Bool.{OnTrue, OnFalse};
     ghost use Rattle.win_index.specs.Windows.{windows, number_of, IsWindow};
     ghost use Rattle.win_index.specs.Runs.{IsRunStart, IsLastOfRun, IsEndOfSame};
@@ -77,12 +78,18 @@ impl Shape {
         self.windows(level).count() as u32
     }
 
-    /// How many tuples there are.
-    pub fn tuples(&self) -> u64
-        ensures value { result ≡ length (windows (2 * self.now.rounds + 2) self.now.ids) }
-        ensures some { 0 < result }
+    /// How many tuples of `2t+1+extra` identifiers there are, for an `extra` of 1 or 2. There are none where the shape
+    /// has fewer identifiers.
+    pub fn tuples(&self, extra: u32) -> u64
+        requires some { 1 ≤ extra }
+        requires few { extra ≤ MAX_EXTRA }
+        ensures value { result ≡ length (windows (2 * self.now.rounds + 1 + extra) self.now.ids) }
+        ensures some { 2 * self.now.rounds + 1 + extra ≤ self.now.ids → 0 < result }
     {
-        self.all_tuples().count()
+        if !self.has_tuples(extra) {
+            return 0;
+        }
+        self.all_tuples(extra).count()
     }
 
     /// The number of a window of this level, or `None` where the list is no such window.
@@ -168,33 +175,42 @@ impl Shape {
         self.windows(level).write_next_run(window)
     }
 
-    /// The number of a tuple, or `None` where the list is no tuple.
-    pub fn tuple_number(&self, list: &[u32]) -> Option<u64>
-        ensures { result ≡ number_of (2 * self.now.rounds + 2) self.now.ids list.now }
+    /// The number of a tuple of this `extra`, or `None` where the list is no such tuple.
+    pub fn tuple_number(&self, extra: u32, list: &[u32]) -> Option<u64>
+        requires some { 1 ≤ extra }
+        requires few { extra ≤ MAX_EXTRA }
+        ensures { result ≡ number_of (2 * self.now.rounds + 1 + extra) self.now.ids list.now }
     {
-        self.all_tuples().find(list)
+        if !self.has_tuples(extra) {
+            return None;
+        }
+        self.all_tuples(extra).find(list)
     }
 
-    /// Writes the tuple with this number into the `2t+2` cells of `out`.
-    pub fn tuple(&self, number: u64, out: &mut [u32])
-        requires below { number < length (windows (2 * self.now.rounds + 2) self.now.ids) }
-        requires room { length out.old ≡ 2 * self.now.rounds + 2 }
-        ensures item { slice_get (windows (2 * self.now.rounds + 2) self.now.ids) number ≡ Some out.new }
-        ensures tuple { IsWindow (2 * self.now.rounds + 2) self.now.ids out.new }
+    /// Writes the tuple with this number into the `2t+1+extra` cells of `out`.
+    pub fn tuple(&self, extra: u32, number: u64, out: &mut [u32])
+        requires some { 1 ≤ extra }
+        requires few { extra ≤ MAX_EXTRA }
+        requires below { number < length (windows (2 * self.now.rounds + 1 + extra) self.now.ids) }
+        requires room { length out.old ≡ 2 * self.now.rounds + 1 + extra }
+        ensures item { slice_get (windows (2 * self.now.rounds + 1 + extra) self.now.ids) number ≡ Some out.new }
+        ensures tuple { IsWindow (2 * self.now.rounds + 1 + extra) self.now.ids out.new }
     {
-        self.all_tuples().write(number, out);
+        self.all_tuples(extra).write(number, out);
     }
 
     /// Writes the next tuple over a tuple and says `true`, or says `false` and changes nothing where it is
     /// the last.
-    pub fn after(&self, tuple: &mut [u32]) -> bool
-        requires { IsWindow (2 * self.now.rounds + 2) self.now.ids tuple.old }
-        ensures next { OnTrue result (IsNext (2 * self.now.rounds + 2) self.now.ids tuple.old tuple.new) }
-        ensures last { OnFalse result (IsLast (2 * self.now.rounds + 2) self.now.ids tuple.old) }
+    pub fn after(&self, extra: u32, tuple: &mut [u32]) -> bool
+        requires some { 1 ≤ extra }
+        requires few { extra ≤ MAX_EXTRA }
+        requires tuple { IsWindow (2 * self.now.rounds + 1 + extra) self.now.ids tuple.old }
+        ensures next { OnTrue result (IsNext (2 * self.now.rounds + 1 + extra) self.now.ids tuple.old tuple.new) }
+        ensures last { OnFalse result (IsLast (2 * self.now.rounds + 1 + extra) self.now.ids tuple.old) }
         ensures same { OnFalse result (tuple.new ≡ tuple.old) }
-        ensures tuple { IsWindow (2 * self.now.rounds + 2) self.now.ids tuple.new }
+        ensures tuple { IsWindow (2 * self.now.rounds + 1 + extra) self.now.ids tuple.new }
     {
-        self.all_tuples().write_next(tuple)
+        self.all_tuples(extra).write_next(tuple)
     }
 
     // The windows of this level.
@@ -224,14 +240,24 @@ impl Shape {
         }
     }
 
+    // Whether the shape has as many identifiers as a tuple.
+    fn has_tuples(&self, extra: u32) -> bool
+        requires { extra ≤ MAX_EXTRA }
+        ensures { IsTrue result ↔ (2 * self.now.rounds + 1 + extra ≤ self.now.ids) }
+    {
+        2 * self.rounds + 1 + extra <= self.ids
+    }
+
     // The tuples.
-    fn all_tuples(&self) -> Lists
+    fn all_tuples(&self, extra: u32) -> Lists
+        requires few { extra ≤ MAX_EXTRA }
+        requires enough { 2 * self.now.rounds + 1 + extra ≤ self.now.ids }
         ensures ids { result.ids ≡ self.now.ids }
-        ensures len { result.len ≡ 2 * self.now.rounds + 2 }
+        ensures len { result.len ≡ 2 * self.now.rounds + 1 + extra }
     {
         Lists {
             ids: self.ids,
-            len: 2 * self.rounds as usize + 2,
+            len: 2 * self.rounds as usize + 1 + extra as usize,
         }
     }
 }

@@ -135,15 +135,15 @@ fn no_run_after_the_last(rt: HostRuntime) -> Result<(), Fail> {
 fn tuples_of_eight_identifiers(rt: HostRuntime) -> Result<(), Fail> {
     let shape = shape_of_eight(1).ok_or("a shape")?;
     assert!(rt; shape.rounds() == 1);
-    let count = shape.tuples();
+    let count = shape.tuples(1);
     assert!(rt; count == 1680);
     let mut out = [0; 4];
-    shape.tuple(0, &mut out);
+    shape.tuple(1, 0, &mut out);
     assert_eq!(rt; out, [0, 1, 2, 3]);
-    shape.tuple(1679, &mut out);
+    shape.tuple(1, 1679, &mut out);
     assert_eq!(rt; out, [7, 6, 5, 4]);
-    assert_eq!(rt; shape.tuple_number(&out), Some(1679));
-    assert_eq!(rt; shape.tuple_number(&[7, 6, 5, 7]), None);
+    assert_eq!(rt; shape.tuple_number(1, &out), Some(1679));
+    assert_eq!(rt; shape.tuple_number(1, &[7, 6, 5, 7]), None);
     Ok(())
 }
 
@@ -232,7 +232,7 @@ fn jobs_of_four_rounds(rt: HostRuntime) -> Result<(), Fail> {
     let shape = Shape::new(10, 4).ok().ok_or("a shape")?;
     assert!(rt; shape.rounds() == 4);
     assert_eq!(rt; shape.count(4), 3_628_800);
-    assert_eq!(rt; shape.tuples(), 3_628_800);
+    assert_eq!(rt; shape.tuples(1), 3_628_800);
     assert_eq!(rt; shape.blocks(0), 1);
     assert_eq!(rt; shape.blocks(1), 3);
     assert_eq!(rt; shape.blocks(2), 119);

@@ -35,7 +35,7 @@ ghost use Rattle.table_fill.specs.FillMachine.{Runs, opening};
 ghost use Rattle.table_fill.specs.FillPromises.{IsConsistent, IsFilledWhenStopped};
 ghost use Rattle.table_fill.specs.Workers.{IsWorkerCount};
 
-/// What a list of events leaves of the opening state of this plan and so many workers, 1 to 64. In the opening state
+/// What a list of events leaves of the opening state of this plan and so many workers, 1 to `MAX_THREADS`. In the opening state
 /// all cells are empty, no job is drawn, no worker has a job in hand or is stopped, and none knows a block. An event
 /// that is not enabled, or that names a worker, a level or a number out of range, changes nothing:
 /// - A draw is enabled where the worker has no job in hand and is not stopped. It takes the next job in hand; where
