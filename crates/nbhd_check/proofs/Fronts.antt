@@ -1,11 +1,12 @@
 -- Windows by the windows that they begin with.
-use Rattle.std.proofs.Common.{◌≡◌, ◌≢◌, ℕ, suc, ◌+◌, ◌-◌, ◌*◌, ◌<◌, ◌≤◌, Option, List, [], ◌∷◌, ◌++◌, get_or, take, drop, slice_get, Some, None, IsSome, subst, sym, ap, ◌∙◌, arith, refl, ⊎_elim, length-drop}
-use Rattle.std.proofs.Math.Nat.{suc-mul, mul-le-mul_right}
+use Rattle.std.proofs.Common.{◌≡◌, ◌≢◌, ℕ, zero, suc, ◌+◌, ◌-◌, ◌*◌, ◌<◌, ◌≤◌, Option, List, [], ◌∷◌, ◌++◌, get_or, take, drop, slice_get, Some, None, IsSome, subst, sym, ap, ◌∙◌, arith, refl, ⊎_elim, length-drop}
+use Rattle.std.proofs.Math.Nat.{suc-mul, add-mul, mul_assoc, mul-le-mul_right}
 use Rattle.std.proofs.lemmas.Bool.{cases_lt, false≢true}
-use Rattle.std.proofs.lemmas.List.{get_or-take, get_or-drop, length-take-le, length_push, get_or_default}
+use Rattle.std.proofs.lemmas.List.{get_or-take, get_or-drop, length-take-le, length_push, get_or_default, take_all, take-take}
 use Rattle.std.proofs.lemmas.List.Elements.{All-take, All-drop, All-push}
 use Rattle.std.proofs.lemmas.List.Quantifiers.{all_pairs_push}
 use Rattle.std.proofs.lemmas.Option.{same_Some}
+use Rattle.win_index.specs.Falling.{falling}
 use Rattle.win_index.specs.Windows.{windows, number_of, IsWindow}
 use Rattle.nbhd_check.specs.Laws.{WindowsAreNumbered}
 use Rattle.nbhd_check.specs.Runs.{place_of_last}
@@ -41,22 +42,23 @@ window_drop k m j list is =
           (sym (get_or-drop j list a d) ∙ same ∙ get_or-drop j list b d);
     }
 
--- a window without its first identifier, which comes last instead
+-- a window without its first identifiers, one of which comes last instead
 pub window_turned :
-    (k m : ℕ) (window : List ℕ) → IsWindow (k + 1) m window → IsWindow (k + 1) m (drop 1 window ++ get_or window 0 0 ∷ [])
-window_turned k m window is =
-    let swapped : k + 1 ≡ 1 + k = omega arith in
-    let rest = window_drop k m 1 window (subst (λ n. IsWindow n m window) swapped is) in
-    let first : ℕ = get_or window 0 0 in
+    (k m offset i : ℕ) (list : List ℕ) → IsWindow (k + offset) m list → i < offset
+    → IsWindow (k + 1) m (drop offset list ++ get_or list i 0 ∷ [])
+window_turned k m offset i list is lt =
+    let swapped : k + offset ≡ offset + k = omega arith in
+    let rest = window_drop k m offset list (subst (λ n. IsWindow n m list) swapped is) in
+    let first : ℕ = get_or list i 0 in
     let size = rest.size in
     let whole = is.size in
-    let long = length_push (drop 1 window) first in
+    let long = length_push (drop offset list) first in
     record {
       size = omega arith;
-      below = All-push (λ x. x < m) (drop 1 window) first rest.below (is.below 0 0 (omega arith));
-      distinct = all_pairs_push (λ a b. a ≢ b) (drop 1 window) first rest.distinct (λ i d within same.
-          is.distinct 0 (1 + i) 0 (omega arith) (omega arith)
-          (sym same ∙ get_or-drop 1 window i d ∙ get_or_default window (1 + i) d 0 (omega arith)));
+      below = All-push (λ x. x < m) (drop offset list) first rest.below (is.below i 0 (omega arith));
+      distinct = all_pairs_push (λ a b. a ≢ b) (drop offset list) first rest.distinct (λ j d within same.
+          is.distinct i (offset + j) 0 (omega arith) (omega arith)
+          (sym same ∙ get_or-drop offset list j d ∙ get_or_default list (offset + j) d 0 (omega arith)));
     }
 
 -- a number is at one place of one run
@@ -81,6 +83,23 @@ pub record InRun (k m n : ℕ) (longer : List ℕ) : Type 0 where
   pub front_at : slice_get (windows k m) number ≡ Some (take k longer)
   pub inside : place_of_last k longer < m - k
   pub number_is : n ≡ number * (m - k) + place_of_last k longer
+
+-- window n of k+more identifiers, with the number of the window of k that it begins with
+pub record InLongerRun (k m more n : ℕ) (longer : List ℕ) : Type 0 where
+  pub number : ℕ
+  pub rest : ℕ
+  pub front_at : slice_get (windows k m) number ≡ Some (take k longer)
+  pub inside : rest < falling (m - k) more
+  pub number_is : n ≡ number * falling (m - k) more + rest
+
+-- the numbers of a run of runs
+run_of_runs : (number rest place runs c : ℕ) → rest < runs → place < c
+    → (rest * c + place < runs * c) × ((number * runs + rest) * c + place ≡ number * (runs * c) + (rest * c + place))
+run_of_runs number rest place runs c below inside =
+    let le : suc rest ≤ runs = omega arith in
+    let more = mul-le-mul_right c le in
+    let apart : (number * runs + rest) * c ≡ number * (runs * c) + rest * c = add-mul (number * runs) rest c ∙ ap (λ n. n + rest * c) (mul_assoc number runs c) in
+    (omega (arith, more, suc-mul rest c), omega (arith, apart))
 
 module _ (laws : WindowsAreNumbered) where
   -- each window has a number
@@ -119,3 +138,34 @@ module _ (laws : WindowsAreNumbered) where
       let first = laws.longer_number k m front.0 a is_a front.1 in
       let second = laws.longer_number k m front.0 b is_b (front.1 ∙ ap Some fronts) in
       same_Some a b (sym first.1 ∙ ap (λ p. slice_get (windows (k + 1) m) (front.0 * (m - k) + p)) places ∙ second.1)
+
+  -- a window of more identifiers stands in the run of the window of k that it begins with
+  pub in_longer_run : (k m more n : ℕ) (longer : List ℕ) → slice_get (windows (k + more) m) n ≡ Some longer → InLongerRun k m more n longer
+  in_longer_run k m zero n longer at' =
+      let same : k + zero ≡ k = omega arith in
+      let item : slice_get (windows k m) n ≡ Some longer = subst (λ j. slice_get (windows j m) n ≡ Some longer) same at' in
+      let own = window_at k m n longer item in
+      let size = own.size in
+      record {
+        number = n;
+        rest = 0;
+        front_at = item ∙ ap Some (sym (take_all k longer (omega arith)));
+        inside = omega arith;
+        number_is = omega arith;
+      }
+  in_longer_run k m (suc more) n longer at' =
+      let size : k + suc more ≡ k + more + 1 = omega arith in
+      let last = in_run (k + more) m n longer (subst (λ j. slice_get (windows j m) n ≡ Some longer) size at') in
+      let first = in_longer_run k m more last.number (take (k + more) longer) last.front_at in
+      let free : m - (k + more) ≡ m - k - more = omega arith in
+      let place : ℕ = place_of_last (k + more) longer in
+      let inside : place < m - k - more = subst (λ c. place < c) free last.inside in
+      let numbers = run_of_runs first.number first.rest place (falling (m - k) more) (m - k - more) first.inside inside in
+      let own : n ≡ last.number * (m - k - more) + place = last.number_is ∙ ap (λ c. last.number * c + place) free in
+      record {
+        number = first.number;
+        rest = first.rest * (m - k - more) + place;
+        front_at = first.front_at ∙ ap Some (take-take k (k + more) longer (omega arith));
+        inside = numbers.0;
+        number_is = own ∙ ap (λ i. i * (m - k - more) + place) first.number_is ∙ numbers.1;
+      }

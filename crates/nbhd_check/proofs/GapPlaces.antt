@@ -1,23 +1,24 @@
--- Where a channel stands in a list, but for some places.
-use Rattle.std.proofs.Common.{◌≡◌, ◌≢◌, ℕ, ◌+◌, ◌-◌, ◌<◌, ◌≤◌, List, length, get_or, take, drop, All, AllPairs, Contains, sym, ap, ◌∙◌, arith, ⊎_elim, length-drop}
+-- Where close channels stand in a list, but for some places.
+use Rattle.std.proofs.Common.{◌≡◌, ℕ, ◌+◌, ◌-◌, ◌<◌, ◌≤◌, List, length, get_or, take, drop, All, AllPairs, Contains, subst, sym, ap, ◌∙◌, arith, ⊎_elim, length-drop}
 use Rattle.std.proofs.lemmas.Bool.{cases_lt}
 use Rattle.std.proofs.lemmas.List.{get_or-take, get_or-drop, get_or_default, length-take-le}
-use Rattle.nbhd_check.specs.Runs.{StandsOutside}
+use Rattle.std.specs.Int.{abs_diff}
+use Rattle.nbhd_check.specs.Runs.{HasClose, HasCloseOutside}
 
 -- the first gaps are before a place, and the others are not
 pub record ArePassed (gaps : List ℕ) (count from : ℕ) : Type 0 where
   pub before : (i : ℕ) → i < count → get_or gaps i 0 < from
   pub after : (i : ℕ) → count ≤ i → i < length gaps → from ≤ get_or gaps i 0
 
--- before a place the channel stands at gaps alone
-pub record NoneBefore (list gaps : List ℕ) (channel from : ℕ) : Type 0 where
-  pub none : (place : ℕ) → place < from → ¬ Contains gaps place → get_or list place 0 ≢ channel
+-- before a place such channels stand at gaps alone
+pub record NoneBefore (list gaps : List ℕ) (distance channel from : ℕ) : Type 0 where
+  pub none : (place : ℕ) → place < from → ¬ Contains gaps place → ¬ (abs_diff channel (get_or list place 0) < distance)
 
 pub none_passed : (gaps : List ℕ) → ArePassed gaps 0 0
 none_passed gaps = record { before = λ i lt. absurd (omega arith); after = λ i le lt. omega arith }
 
-pub none_at_first : (list gaps : List ℕ) (channel : ℕ) → NoneBefore list gaps channel 0
-none_at_first list gaps channel = record { none = λ place lt. absurd (omega arith) }
+pub none_at_first : (list gaps : List ℕ) (distance channel : ℕ) → NoneBefore list gaps distance channel 0
+none_at_first list gaps distance channel = record { none = λ place lt. absurd (omega arith) }
 
 -- one gap more
 pub passed_more :
@@ -34,16 +35,16 @@ passed_more gaps count from rising within passed =
 
 -- the part of the list from one place on and before another one
 pub found_between :
-    (list gaps : List ℕ) (channel count from to : ℕ) → to ≤ length list → from ≤ to → ArePassed gaps count from
+    (list gaps : List ℕ) (distance channel count from to : ℕ) → to ≤ length list → from ≤ to → ArePassed gaps count from
     → ((i : ℕ) → count ≤ i → i < length gaps → to ≤ get_or gaps i 0)
-    → Contains (take (to - from) (drop from list)) channel → StandsOutside list gaps channel
-found_between list gaps channel count from to within order passed later found =
+    → HasClose (take (to - from) (drop from list)) distance channel → HasCloseOutside list gaps distance channel
+found_between list gaps distance channel count from to within order passed later found =
     let long : length (take (to - from) (drop from list)) ≡ to - from =
     length-take-le (to - from) (drop from list) (omega (arith, length-drop from list)) in
     let k = found.0 in
     let short : k < to - from = omega (arith, found.1) in
-    let read : get_or (take (to - from) (drop from list)) k channel ≡ get_or list (from + k) 0 =
-    get_or-take (to - from) (drop from list) k channel short ∙ get_or-drop from list k channel ∙ get_or_default list (from + k) channel 0 (omega arith) in (
+    let read : get_or (take (to - from) (drop from list)) k 0 ≡ get_or list (from + k) 0 =
+    get_or-take (to - from) (drop from list) k 0 short ∙ get_or-drop from list k 0 in (
       from + k,
       omega arith,
       (λ at'.
@@ -53,71 +54,67 @@ found_between list gaps channel count from to within order passed later found =
           (λ (earlier : i < count). let less = passed.before i earlier in absurd (omega arith))
           (λ (rest : count ≤ i). let more = later i rest at'.1 in absurd (omega arith))
           (cases_lt i count)),
-      sym read ∙ found.2,
+      subst (λ x. abs_diff channel x < distance) read found.2,
     )
 
 -- the part before the next gap
 pub found_before_gap :
-    (list gaps : List ℕ) (channel count from : ℕ) → AllPairs (λ a b. a < b) gaps → All (λ gap. gap < length list) gaps → count < length gaps
-    → ArePassed gaps count from → Contains (take (get_or gaps count 0 - from) (drop from list)) channel → StandsOutside list gaps channel
-found_before_gap list gaps channel count from rising inside within passed found =
+    (list gaps : List ℕ) (distance channel count from : ℕ) → AllPairs (λ a b. a < b) gaps → All (λ gap. gap < length list) gaps
+    → count < length gaps → ArePassed gaps count from → HasClose (take (get_or gaps count 0 - from) (drop from list)) distance channel
+    → HasCloseOutside list gaps distance channel
+found_before_gap list gaps distance channel count from rising inside within passed found =
     let gap = inside count 0 within in
-    found_between list gaps channel count from (get_or gaps count 0) (omega arith) (passed.after count (omega arith) within) passed
+    found_between list gaps distance channel count from (get_or gaps count 0) (omega arith) (passed.after count (omega arith) within) passed
     (λ i le lt. ⊎_elim
     (λ (later : count < i). let more = rising count i 0 later lt in omega arith)
     (λ (le_own : i ≤ count). let same : i ≡ count = omega arith in omega (arith, ap (λ j. get_or gaps j 0) same))
     (cases_lt count i)) found
 
-pub none_between :
-    (list gaps : List ℕ) (channel from to : ℕ) → to ≤ length list → from ≤ to → NoneBefore list gaps channel from
-    → ¬ Contains (take (to - from) (drop from list)) channel → NoneBefore list gaps channel to
-none_between list gaps channel from to within order earlier none =
+-- a place of a part of the list
+has_close_between :
+    (list : List ℕ) (distance channel from to place : ℕ) → to ≤ length list → from ≤ place → place < to
+    → abs_diff channel (get_or list place 0) < distance → HasClose (take (to - from) (drop from list)) distance channel
+has_close_between list distance channel from to place within here lt close =
     let long : length (take (to - from) (drop from list)) ≡ to - from =
     length-take-le (to - from) (drop from list) (omega (arith, length-drop from list)) in
+    let back : from + (place - from) ≡ place = omega arith in
+    let read : get_or list place 0 ≡ get_or (take (to - from) (drop from list)) (place - from) 0 =
+    sym (get_or-take (to - from) (drop from list) (place - from) 0 (omega arith) ∙ get_or-drop from list (place - from) 0
+    ∙ ap (λ i. get_or list i 0) back) in
+    (place - from, omega arith, subst (λ x. abs_diff channel x < distance) read close)
+
+pub none_between :
+    (list gaps : List ℕ) (distance channel from to : ℕ) → to ≤ length list → from ≤ to → NoneBefore list gaps distance channel from
+    → ¬ HasClose (take (to - from) (drop from list)) distance channel → NoneBefore list gaps distance channel to
+none_between list gaps distance channel from to within order earlier none =
     record {
-      none = λ place lt outside same. ⊎_elim
-          (λ (before : place < from). earlier.none place before outside same)
-          (λ (here : from ≤ place).
-          let back : from + (place - from) ≡ place = omega arith in
-          none (
-            place - from,
-            omega arith,
-            get_or-take (to - from) (drop from list) (place - from) channel (omega arith) ∙ get_or-drop from list (place - from) channel
-                ∙ ap (λ i. get_or list i channel) back ∙ get_or_default list place channel 0 (omega arith) ∙ same,
-          ))
+      none = λ place lt outside close. ⊎_elim
+          (λ (before : place < from). earlier.none place before outside close)
+          (λ (here : from ≤ place). none (has_close_between list distance channel from to place within here lt close))
           (cases_lt place from);
     }
 
 -- and the gap itself
 pub none_at_gap :
-    (list gaps : List ℕ) (channel count : ℕ) → count < length gaps → NoneBefore list gaps channel (get_or gaps count 0)
-    → NoneBefore list gaps channel (get_or gaps count 0 + 1)
-none_at_gap list gaps channel count within earlier =
+    (list gaps : List ℕ) (distance channel count : ℕ) → count < length gaps → NoneBefore list gaps distance channel (get_or gaps count 0)
+    → NoneBefore list gaps distance channel (get_or gaps count 0 + 1)
+none_at_gap list gaps distance channel count within earlier =
     record {
-      none = λ place lt outside same. ⊎_elim
-          (λ (before : place < get_or gaps count 0). earlier.none place before outside same)
+      none = λ place lt outside close. ⊎_elim
+          (λ (before : place < get_or gaps count 0). earlier.none place before outside close)
           (λ (here : get_or gaps count 0 ≤ place).
           let equal : get_or gaps count 0 ≡ place = omega arith in
           outside (count, within, get_or_default gaps count place 0 within ∙ equal))
           (cases_lt place (get_or gaps count 0));
     }
 
--- a channel that is not before a place stands after it
+-- a close channel that is not before a place stands after it
 pub found_after :
-    (list gaps : List ℕ) (channel from : ℕ) → NoneBefore list gaps channel from → StandsOutside list gaps channel
-    → Contains (take (length list - from) (drop from list)) channel
-found_after list gaps channel from none found =
+    (list gaps : List ℕ) (distance channel from : ℕ) → NoneBefore list gaps distance channel from → HasCloseOutside list gaps distance channel
+    → HasClose (take (length list - from) (drop from list)) distance channel
+found_after list gaps distance channel from none found =
     let place = found.0 in
     ⊎_elim
     (λ (before : place < from). absurd (none.none place before found.2 found.3))
-    (λ (here : from ≤ place).
-    let within : place < length list = found.1 in
-    let long : length (take (length list - from) (drop from list)) ≡ length list - from =
-    length-take-le (length list - from) (drop from list) (omega (arith, length-drop from list)) in
-    let back : from + (place - from) ≡ place = omega arith in (
-      place - from,
-      omega arith,
-      get_or-take (length list - from) (drop from list) (place - from) channel (omega arith) ∙ get_or-drop from list (place - from) channel
-          ∙ ap (λ i. get_or list i channel) back ∙ get_or_default list place channel 0 within ∙ found.3,
-    ))
+    (λ (here : from ≤ place). has_close_between list distance channel from (length list) place (omega arith) here found.1 found.3)
     (cases_lt place from)

@@ -1,6 +1,16 @@
+pub mod Cells
+pub mod Close
 pub mod Fronts
 pub mod GapPlaces
 pub mod EnoughParts
+pub mod HeldCounts
+pub mod Included
 pub mod Marks
+pub mod RunLengths
+pub mod LastAdded
+pub mod FarCounts
+pub mod FarFree
 pub mod Runs
+pub mod OneApart
+pub mod TwoGaps
 pub mod Tuples

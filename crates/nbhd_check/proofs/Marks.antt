@@ -2,6 +2,7 @@
 use Rattle.std.proofs.Common.{◌≡◌, ℕ, zero, suc, false, get_or, replicate, sym, ◌∙◌, refl}
 use Rattle.std.proofs.lemmas.Bool.{false≢true}
 use Rattle.table_fill.specs.Tables.{ChannelTable}
+use Rattle.nbhd_check.specs.declared.separation.Separation.{Separation}
 use Rattle.nbhd_check.specs.Searches.{AreGoodParts}
 
 unmarked : (n part : ℕ) → get_or (replicate n false) part false ≡ false
@@ -10,5 +11,5 @@ unmarked (suc n) zero = refl
 unmarked (suc n) (suc part) = unmarked n part
 
 -- where none is marked, nothing is said
-pub none_marked : (t : ChannelTable) (len n : ℕ) → AreGoodParts t len (replicate n false)
-none_marked t len n = λ part marked. absurd (false≢true (sym (unmarked n part) ∙ marked))
+pub none_marked : (t : ChannelTable) (s : Separation) (len n : ℕ) → AreGoodParts t s len (replicate n false)
+none_marked t s len n = λ part marked. absurd (false≢true (sym (unmarked n part) ∙ marked))

@@ -1,33 +1,46 @@
 -- The statements of the laws of this crate, one definition each.
-use Rattle.std.specs.Prelude.{◌≡◌, ◌↔◌, ℕ, ◌+◌, ◌*◌, List}
+use Rattle.std.specs.Prelude.{◌≡◌, ◌↔◌, ℕ, ◌+◌, ◌*◌, ◌⊎◌, Option, List}
 use Rattle.win_index.specs.Laws.{NumberOfWindow, WindowOfNumber, WindowsHaveNumbers, LongerWindowsHaveNumbers}
 use Rattle.win_index.specs.Ring.{IsRing}
 use Rattle.win_index.specs.Arcs.{window_around}
 use Rattle.win_index.specs.Windows.{IsWindow}
 use Rattle.table_fill.specs.Tables.{ChannelTable, channel_of}
-use Rattle.nbhd_check.specs.Proper.{IsBad, IsProper, IsGoodEverywhere}
+use Rattle.nbhd_check.specs.declared.separation.Separation.{Separation}
+use Rattle.nbhd_check.specs.Apart.{extra, AreClose, IsBad, IsApart, IsApartEverywhere}
+use Rattle.nbhd_check.specs.Proper.{IsProper, IsGoodEverywhere}
 use Rattle.nbhd_check.specs.Verdicts.{IsWitness}
 
--- a table is proper where it is good everywhere, and only there
+-- the tuples of a table are apart where its channels are apart on every ring, and only there
 abbrev pub TuplesSuffice : Type 0
-TuplesSuffice = (t : ChannelTable) → IsProper t ↔ IsGoodEverywhere t
+TuplesSuffice = (t : ChannelTable) (s : Separation) → IsApart t s ↔ IsApartEverywhere t s
 
--- a bad tuple of a table of t rounds, taken as a ring, has one channel at the places t and t+1
+-- a bad tuple of a table of t rounds, taken as a ring, breaks the separation at the places t and t+1, or t and t+2
 abbrev pub BadTuplesAreRings : Type 0
 BadTuplesAreRings =
-    (table : ChannelTable) (tuple : List ℕ) → IsWindow (2 * table.rounds + 2) table.ids tuple → IsBad table tuple
+    (table : ChannelTable) (s : Separation) (tuple : List ℕ) → IsWindow (2 * table.rounds + 1 + extra s) table.ids tuple → IsBad table s tuple
     → let t = table.rounds in
-    IsRing table.ids t tuple × (channel_of table (window_around tuple t t) ≡ channel_of table (window_around tuple t (t + 1)))
+    let channel_at : ℕ → Option ℕ = λ place. channel_of table (window_around tuple t place) in
+    IsRing table.ids t tuple
+    × (AreClose s.near (channel_at t) (channel_at (t + 1)) ⊎ AreClose s.far (channel_at t) (channel_at (t + 2)))
+
+-- with near 1 and far 0 the tuples of a proper table are apart, and only they
+abbrev pub OneApartIsProper : Type 0
+OneApartIsProper = (t : ChannelTable) → IsApart t (record { near = 1; far = 0 }) ↔ IsProper t
+
+-- and its channels are apart on every ring where those of neighbours differ
+abbrev pub OneApartIsGood : Type 0
+OneApartIsGood = (t : ChannelTable) → IsApartEverywhere t (record { near = 1; far = 0 }) ↔ IsGoodEverywhere t
 
 -- a table has at most one witness
 abbrev pub OneWitness : Type 0
 OneWitness =
-    (t : ChannelTable) (ring other : List ℕ) (i j c d : ℕ) → IsWitness t ring i c → IsWitness t other j d
+    (t : ChannelTable) (s : Separation) (ring other : List ℕ) (i j c d : ℕ × ℕ) → IsWitness t s ring i c → IsWitness t s other j d
     → (ring ≡ other) × (i ≡ j) × (c ≡ d)
 
--- a table that is good everywhere has none
-abbrev pub GoodTablesHaveNoWitness : Type 0
-GoodTablesHaveNoWitness = (t : ChannelTable) (ring : List ℕ) (place c : ℕ) → IsGoodEverywhere t → IsWitness t ring place c → ⊥
+-- a table whose channels are apart everywhere has none
+abbrev pub ApartTablesHaveNoWitness : Type 0
+ApartTablesHaveNoWitness =
+    (t : ChannelTable) (s : Separation) (ring : List ℕ) (places channels : ℕ × ℕ) → IsApartEverywhere t s → IsWitness t s ring places channels → ⊥
 
 -- windows and their numbers determine each other, and the windows that begin with one window stand together
 pub record WindowsAreNumbered : Type 0 where

@@ -1,6 +1,8 @@
--- The definitions that the contracts cite: proper tables, good tables, runs of tuples, searches for bad ones, the judge's verdict, and the laws.
+-- The definitions that the contracts cite: separations, proper tables, runs of tuples, searches for bad ones, the judge's verdict, and the laws.
+pub mod Apart
 pub mod Proper
 pub mod Runs
+pub mod Counts
 pub mod Searches
 pub mod Verdicts
 pub mod Laws

@@ -1,18 +1,28 @@
--- Runs: the tuples that begin with one window, and the channels of their second windows.
+-- Runs: the tuples that begin with one window, and the channels of their later windows.
 use Rattle.std.specs.Prelude.{◌≡◌, ℕ, ◌+◌, ◌-◌, ◌*◌, ◌<◌, List, length, take, Contains, slice_index, Some}
+use Rattle.std.specs.Int.{abs_diff}
 use Rattle.win_index.specs.Arcs.{part_at}
+use Rattle.win_index.specs.Falling.{falling}
 use Rattle.win_index.specs.Windows.{unused, IsWindow}
 use Rattle.table_fill.specs.Tables.{ChannelTable, channel_of}
-use Rattle.nbhd_check.specs.Proper.{IsBad}
+use Rattle.nbhd_check.specs.declared.separation.Separation.{Separation}
+use Rattle.nbhd_check.specs.Apart.{extra, AreClose, IsBad}
 
 -- how many tuples begin with one window
-abbrev pub run_len : ChannelTable → ℕ
-run_len t = t.ids - (2 * t.rounds + 1)
+abbrev pub run_len : ChannelTable → Separation → ℕ
+run_len t s = falling (t.ids - (2 * t.rounds + 1)) (extra s)
 
 -- a tuple that begins with the window is bad
-abbrev pub BeginsBadTuple : ChannelTable → List ℕ → Type 0
-BeginsBadTuple t window =
-    (tuple : List ℕ) × IsWindow (2 * t.rounds + 2) t.ids tuple × (part_at t.rounds 0 tuple ≡ window) × IsBad t tuple
+abbrev pub BeginsBadTuple : ChannelTable → Separation → List ℕ → Type 0
+BeginsBadTuple t s window =
+    (tuple : List ℕ) × IsWindow (2 * t.rounds + 1 + extra s) t.ids tuple × (part_at t.rounds 0 tuple ≡ window) × IsBad t s tuple
+
+-- no list that has one identifier more than this one, its last, has at this offset a window that is closer than the distance to
+-- the channel
+abbrev pub NoneCloseAfter : ChannelTable → List ℕ → ℕ → ℕ → ℕ → Type 0
+NoneCloseAfter t list offset distance channel =
+    (longer : List ℕ) → IsWindow (2 * t.rounds + offset + 1) t.ids longer → take (2 * t.rounds + offset) longer ≡ list
+    → ¬ AreClose distance (Some channel) (channel_of t (part_at t.rounds offset longer))
 
 -- the place of identifier k of a list among the identifiers that the k before it lack
 abbrev pub place_of_last : ℕ → List ℕ → ℕ
@@ -27,7 +37,11 @@ pub record AreChannelsAfter (t : ChannelTable) (front channels : List ℕ) : Typ
       → (window : List ℕ) × IsWindow (2 * t.rounds + 1) t.ids window × (take (2 * t.rounds) window ≡ front)
       × (place_of_last (2 * t.rounds) window ≡ place)
 
--- the channel stands in the list at a place that is none of the gaps
-abbrev pub StandsOutside : List ℕ → List ℕ → ℕ → Type 0
-StandsOutside list gaps channel =
-    (place : ℕ) × (place < length list) × (¬ Contains gaps place) × (slice_index list place ≡ channel)
+-- a channel of the list differs from this one by less than the distance
+abbrev pub HasClose : List ℕ → ℕ → ℕ → Type 0
+HasClose list distance channel = (place : ℕ) × (place < length list) × (abs_diff channel (slice_index list place) < distance)
+
+-- such a channel stands in the list at a place that is none of the gaps
+abbrev pub HasCloseOutside : List ℕ → List ℕ → ℕ → ℕ → Type 0
+HasCloseOutside list gaps distance channel =
+    (place : ℕ) × (place < length list) × (¬ Contains gaps place) × (abs_diff channel (slice_index list place) < distance)

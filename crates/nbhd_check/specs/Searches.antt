@@ -1,14 +1,15 @@
 -- What a search for the least bad tuple finds.
 use Rattle.std.specs.Prelude.{◌≡◌, ℕ, ◌+◌, ◌*◌, ◌<◌, Bool, true, false, List, Option, MatchOption, slice_index_or}
 use Rattle.table_fill.specs.Tables.{ChannelTable}
-use Rattle.nbhd_check.specs.Proper.{NoneIsBad, IsLeastBad}
+use Rattle.nbhd_check.specs.declared.separation.Separation.{Separation}
+use Rattle.nbhd_check.specs.Apart.{NoneIsBad, IsLeastBad}
 
 -- what is found is the least number of a bad tuple from low on and below high; where nothing is, none of these is bad
-abbrev pub IsLeastIn : ChannelTable → ℕ → ℕ → Option ℕ → Type 0
-IsLeastIn t low high found =
-    MatchOption found (NoneIsBad t low high) (λ n. (n < high) × ((tuple : List ℕ) × IsLeastBad t low n tuple))
+abbrev pub IsLeastIn : ChannelTable → Separation → ℕ → ℕ → Option ℕ → Type 0
+IsLeastIn t s low high found =
+    MatchOption found (NoneIsBad t s low high) (λ n. (n < high) × ((tuple : List ℕ) × IsLeastBad t s low n tuple))
 
 -- where the tuples are cut into parts of len each, none of a part that is marked is bad
-abbrev pub AreGoodParts : ChannelTable → ℕ → List Bool → Type 0
-AreGoodParts t len marks =
-    (part : ℕ) → slice_index_or marks part false ≡ true → NoneIsBad t (part * len) (part * len + len)
+abbrev pub AreGoodParts : ChannelTable → Separation → ℕ → List Bool → Type 0
+AreGoodParts t s len marks =
+    (part : ℕ) → slice_index_or marks part false ≡ true → NoneIsBad t s (part * len) (part * len + len)

@@ -1,19 +1,29 @@
 -- What the judge says of a table.
-use Rattle.std.specs.Prelude.{◌≡◌, ℕ, ◌+◌, List, Some}
+use Rattle.std.specs.Prelude.{◌≡◌, ℕ, ◌+◌, ◌⊎◌, List, Some}
 use Rattle.win_index.specs.Arcs.{window_around}
 use Rattle.table_fill.specs.Tables.{ChannelTable, channel_of}
-use Rattle.nbhd_check.specs.Proper.{IsGoodEverywhere, IsLeastBad}
+use Rattle.nbhd_check.specs.declared.separation.Separation.{Separation}
+use Rattle.nbhd_check.specs.Apart.{AreClose, IsApartEverywhere, IsLeastBad}
 use Rattle.nbhd_check.specs.declared.verdict.Verdict.{Verdict}
 use Rattle.nbhd_check.specs.declared.verdict.Verdict.TheVariants.{Yes, No}
 
--- the ring is the least bad tuple of all, and the place and its right neighbour share the channel
-pub record IsWitness (t : ChannelTable) (ring : List ℕ) (place channel : ℕ) : Type 0 where
-  pub number : ℕ
-  pub least : IsLeastBad t 0 number ring
-  pub place_is : place ≡ t.rounds
-  pub here : channel_of t (window_around ring t.rounds place) ≡ Some channel
-  pub right : channel_of t (window_around ring t.rounds (place + 1)) ≡ Some channel
+-- how far the second place of a no is from place t: 1 where the neighbours there are closer than near, else 2
+abbrev pub IsStep : ChannelTable → Separation → List ℕ → ℕ → Type 0
+IsStep t s ring step =
+    let close = AreClose s.near (channel_of t (window_around ring t.rounds t.rounds)) (channel_of t (window_around ring t.rounds (t.rounds + 1))) in
+    (close × (step ≡ 1)) ⊎ ((¬ close) × (step ≡ 2))
 
-abbrev pub IsVerdict : ChannelTable → Verdict → Type 0
-IsVerdict t Yes = IsGoodEverywhere t
-IsVerdict t (No ring place channel) = IsWitness t ring.items place channel
+-- the ring is the least bad tuple of all, and the two places, with their channels, are the ones at which it breaks the separation
+pub record IsWitness (t : ChannelTable) (s : Separation) (ring : List ℕ) (places channels : ℕ × ℕ) : Type 0 where
+  pub number : ℕ
+  pub least : IsLeastBad t s 0 number ring
+  pub step : ℕ
+  pub step_is : IsStep t s ring step
+  pub first_place : places.0 ≡ t.rounds
+  pub second_place : places.1 ≡ t.rounds + step
+  pub first_channel : channel_of t (window_around ring t.rounds places.0) ≡ Some channels.0
+  pub second_channel : channel_of t (window_around ring t.rounds places.1) ≡ Some channels.1
+
+abbrev pub IsVerdict : ChannelTable → Separation → Verdict → Type 0
+IsVerdict t s Yes = IsApartEverywhere t s
+IsVerdict t s (No ring places channels) = IsWitness t s ring.items places channels

@@ -1,21 +1,32 @@
-// Channels in a list but for some places.
+// Close channels in a list but for some places.
 ghost use Rattle.std.specs.Prelude.{◌<◌, ◌↔◌, IsTrue, length, All, AllPairs, Contains};
-ghost use Rattle.nbhd_check.specs.Runs.{StandsOutside};
+ghost use Rattle.nbhd_check.specs.Runs.{HasClose, HasCloseOutside};
 
-// Whether the channel stands in the list outside the gaps, which are places in rising order.
-pub(crate) fn stands_outside(list: &[u16], gaps: &[usize], channel: u16) -> bool
+// Whether a channel that differs from this one by less than the distance stands in the list outside the gaps, which are
+// places in rising order.
+pub(crate) fn has_close_outside(list: &[u16], gaps: &[usize], distance: u32, channel: u16) -> bool
     requires rising { AllPairs (λ a b. a < b) gaps.now }
     requires inside { All (λ gap. gap < length list.now) gaps.now }
-    ensures { IsTrue result ↔ StandsOutside list.now gaps.now channel }
+    ensures { IsTrue result ↔ HasCloseOutside list.now gaps.now distance channel }
 {
     let mut from = 0;
     for gap in gaps {
-        if stands_in(&list[from..*gap], channel) {
+        if has_close(&list[from..*gap], distance, channel) {
             return true;
         }
         from = *gap + 1;
     }
-    stands_in(&list[from..], channel)
+    has_close(&list[from..], distance, channel)
+}
+
+// Whether such a channel stands in the list. Only the channel itself is closer than 1.
+fn has_close(list: &[u16], distance: u32, channel: u16) -> bool
+    ensures { IsTrue result ↔ HasClose list.now distance channel }
+{
+    if distance == 1 {
+        return stands_in(list, channel);
+    }
+    has_closer(list, distance, channel)
 }
 
 // Whether the channel stands in the list.
@@ -23,4 +34,15 @@ fn stands_in(list: &[u16], channel: u16) -> bool
     ensures { IsTrue result ↔ Contains list.now channel }
 {
     list.contains(&channel)
+}
+
+// Whether a channel of the list differs from this one by less than the distance. All are looked at, many at a time.
+fn has_closer(list: &[u16], distance: u32, channel: u16) -> bool
+    ensures { IsTrue result ↔ HasClose list.now distance channel }
+{
+    let mut found = false;
+    for other in list {
+        found |= u32::from(channel.abs_diff(*other)) < distance;
+    }
+    found
 }

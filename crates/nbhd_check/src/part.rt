@@ -2,45 +2,69 @@ ghost use Rattle.std.specs.Prelude.{◌≡◌, ℕ, List, ◌+◌, ◌-◌, ◌*
 ghost use Rattle.win_index.specs.declared.limits.TheConstants.{MAX_IDS};
 ghost use Rattle.win_index.specs.Windows.{IsWindow};
 ghost use Rattle.table_fill.specs.Tables.{windows_of};
-ghost use Rattle.nbhd_check.specs.Proper.{tuples, NoneIsBad, IsLeastBad};
+ghost use Rattle.nbhd_check.specs.Apart.{tuples, extra, NoneIsBad, IsLeastBad};
+ghost use Rattle.nbhd_check.specs.Counts.{AreFarFree};
 ghost use Rattle.nbhd_check.specs.Runs.{run_len};
 
 use crate::laws::numbers_of_windows;
-use crate::run::begins_a_bad_tuple;
+use crate::run::may_begin_bad_tuple;
+use crate::separation::Separation;
 use crate::tuple::least_bad_tuple;
 use table_fill::Table;
 use win_index::{MAX_WINDOW_LEN, count_of_windows};
 
-/// The least number from `low` on and below `high` of a bad tuple, which is a tuple whose first and last
-/// window have one channel, or `None` where none is bad.
-pub fn judge_part(table: &Table, low: u64, high: u64) -> Option<u64>
+/// The least number from `low` on and below `high` of a tuple that breaks the separation, or `None` where none does.
+/// A tuple has `2t+2` identifiers where far is 0, else `2t+3`. It breaks the separation where the channels of its first
+/// and its second window differ by less than near, or those of its first and its third one by less than far.
+pub fn judge_part(table: &Table, separation: Separation, low: u64, high: u64) -> Option<u64>
     requires order { low ≤ high }
-    requires within { high ≤ length (tuples table.now) }
-    ensures { MatchOption result (NoneIsBad table.now low high)
-        (λ n. (n < high) × ((tuple : List ℕ) × IsLeastBad table.now low n tuple)) }
+    requires within { high ≤ length (tuples table.now separation) }
+    ensures { MatchOption result (NoneIsBad table.now separation low high)
+        (λ n. (n < high) × ((tuple : List ℕ) × IsLeastBad table.now separation low n tuple)) }
+{
+    judge_from(table, separation, 0, low, high)
+}
+
+// The same where the windows before `far_from` are known to begin no tuple whose third window is too close.
+pub(crate) fn judge_from(
+    table: &Table,
+    separation: Separation,
+    far_from: u32,
+    low: u64,
+    high: u64,
+) -> Option<u64>
+    requires far { AreFarFree table.now separation.far far_from }
+    requires order { low ≤ high }
+    requires within { high ≤ length (tuples table.now separation) }
+    ensures { MatchOption result (NoneIsBad table.now separation low high)
+        (λ n. (n < high) × ((tuple : List ℕ) × IsLeastBad table.now separation low n tuple)) }
 {
     if low == high {
         return None;
     }
     let shape = table.shape();
     let level = shape.rounds();
-    let first = (low / run_len(table)) as u32;
+    let first = (low / run_len(table, separation)) as u32;
     let mut cells = [0; MAX_WINDOW_LEN];
     let window = &mut cells[..2 * level as usize + 1];
     shape.window(level, first, window);
-    scan_runs(table, window, first, low, high)
+    scan_runs(table, separation, far_from, window, first, low, high)
 }
 
-// How many tuples begin with one window.
-pub(crate) fn run_len(table: &Table) -> u64
-    ensures value { result ≡ run_len table.now }
-    ensures some { 0 < result }
-    ensures few { result ≤ MAX_IDS }
-    ensures all { length (tuples table.now) ≡ length (windows_of table.now) * result }
+// How many tuples begin with one window: none where a tuple has more identifiers than there are.
+pub(crate) fn run_len(table: &Table, separation: Separation) -> u64
+    ensures value { result ≡ run_len table.now separation }
+    ensures few { result ≤ MAX_IDS * MAX_IDS }
+    ensures all { length (tuples table.now separation) ≡ length (windows_of table.now) * result }
 {
     count_of_windows();
     let shape = table.shape();
-    u64::from(shape.ids()) - (2 * u64::from(shape.rounds()) + 1)
+    let free = u64::from(shape.ids()) - (2 * u64::from(shape.rounds()) + 1);
+    if separation.far == 0 {
+        free
+    } else {
+        free * (free - 1)
+    }
 }
 
 // How many windows there are.
@@ -52,19 +76,28 @@ pub(crate) fn window_count(table: &Table) -> u32
 }
 
 // The least number of a bad tuple, where the tuple with the number `low` begins with this window, whose number is `first`.
-fn scan_runs(table: &Table, window: &mut [u32], first: u32, low: u64, high: u64) -> Option<u64>
+fn scan_runs(
+    table: &Table,
+    separation: Separation,
+    far_from: u32,
+    window: &mut [u32],
+    first: u32,
+    low: u64,
+    high: u64,
+) -> Option<u64>
+    requires far { AreFarFree table.now separation.far far_from }
     requires order { low < high }
-    requires within { high ≤ length (tuples table.now) }
+    requires within { high ≤ length (tuples table.now separation) }
     requires window { IsWindow (2 * table.now.rounds + 1) table.now.ids window.old }
     requires item { slice_get (windows_of table.now) first ≡ Some window.old }
-    requires first { first ≡ low / run_len table.now }
-    ensures { MatchOption result (NoneIsBad table.now low high)
-        (λ n. (n < high) × ((tuple : List ℕ) × IsLeastBad table.now low n tuple)) }
+    requires first { first ≡ low / run_len table.now separation }
+    ensures { MatchOption result (NoneIsBad table.now separation low high)
+        (λ n. (n < high) × ((tuple : List ℕ) × IsLeastBad table.now separation low n tuple)) }
 {
     let shape = table.shape();
-    let last = ((high - 1) / run_len(table)) as u32;
+    let last = ((high - 1) / run_len(table, separation)) as u32;
     for number in first..last + 1 {
-        if let Some(found) = least_in_run(table, window, number, low, high) {
+        if let Some(found) = least_in_run(table, separation, far_from, window, number, low, high) {
             return Some(found);
         }
         shape.next_window(shape.rounds(), window);
@@ -73,22 +106,31 @@ fn scan_runs(table: &Table, window: &mut [u32], first: u32, low: u64, high: u64)
 }
 
 // The least number of a bad tuple that begins with this window.
-fn least_in_run(table: &Table, window: &[u32], number: u32, low: u64, high: u64) -> Option<u64>
+fn least_in_run(
+    table: &Table,
+    separation: Separation,
+    far_from: u32,
+    window: &[u32],
+    number: u32,
+    low: u64,
+    high: u64,
+) -> Option<u64>
+    requires far { AreFarFree table.now separation.far far_from }
     requires window { IsWindow (2 * table.now.rounds + 1) table.now.ids window.now }
     requires item { slice_get (windows_of table.now) number ≡ Some window.now }
-    requires within { high ≤ length (tuples table.now) }
-    requires begins { number * run_len table.now < high }
-    requires ends { low < number * run_len table.now + run_len table.now }
+    requires within { high ≤ length (tuples table.now separation) }
+    requires begins { number * run_len table.now separation < high }
+    requires ends { low < number * run_len table.now separation + run_len table.now separation }
     requires order { low < high }
-    ensures { let start = number * run_len table.now in
-        MatchOption result (NoneIsBad table.now (max low start) (min high (start + run_len table.now)))
-        (λ n. (n < high) × ((tuple : List ℕ) × IsLeastBad table.now (max low start) n tuple)) }
+    ensures { let start = number * run_len table.now separation in
+        MatchOption result (NoneIsBad table.now separation (max low start) (min high (start + run_len table.now separation)))
+        (λ n. (n < high) × ((tuple : List ℕ) × IsLeastBad table.now separation (max low start) n tuple)) }
 {
     numbers_of_windows();
-    if !begins_a_bad_tuple(table, window, number) {
+    if !may_begin_bad_tuple(table, separation, far_from, window, number) {
         return None;
     }
-    let free = run_len(table);
+    let free = run_len(table, separation);
     let start = u64::from(number) * free;
-    least_bad_tuple(table, low.max(start), high.min(start + free))
+    least_bad_tuple(table, separation, low.max(start), high.min(start + free))
 }

@@ -1,34 +1,136 @@
-// The tuples that begin with one window. Their second windows stand in one run of windows, but for a gap.
-ghost use Rattle.std.specs.Prelude.{◌≡◌, ◌+◌, ◌*◌, ◌↔◌, IsTrue, Some, drop, slice_get};
+// The tuples that begin with one window. Their second windows stand in one run of windows, but for a gap, and their third
+// windows, with each second one, in one run, but for two gaps.
+ghost use Rattle.std.specs.Prelude.{◌≡◌, ℕ, ◌+◌, ◌*◌, ◌<◌, ◌≤◌, [], ◌∷◌, ◌++◌, ◌↔◌, IsTrue, Some, Contains, length, drop, slice_get, slice_index};
+ghost use Rattle.std.specs.Bool.{OnFalse};
 ghost use Rattle.win_index.specs.Windows.{IsWindow};
 ghost use Rattle.table_fill.specs.Tables.{windows_of};
-ghost use Rattle.nbhd_check.specs.Runs.{BeginsBadTuple, AreChannelsAfter};
+ghost use Rattle.nbhd_check.specs.Counts.{AreFarFree, BeginsFarTuple};
+ghost use Rattle.nbhd_check.specs.Runs.{BeginsBadTuple, NoneCloseAfter, AreChannelsAfter};
 
-use crate::gaps::stands_outside;
+use crate::gaps::has_close_outside;
 use crate::laws::numbers_of_windows;
+use crate::separation::Separation;
 use table_fill::Table;
-use win_index::place_among_unused;
+use win_index::{MAX_TUPLE_LEN, place_among_unused};
 
-// Whether a tuple that begins with this window is bad. The gap is where the window's first identifier comes once more.
-pub(crate) fn begins_a_bad_tuple(table: &Table, window: &[u32], number: u32) -> bool
+// Whether a tuple that begins with this window may be bad: where not, none is. The windows before `far_from` are known to
+// begin none whose third window is too close.
+pub(crate) fn may_begin_bad_tuple(
+    table: &Table,
+    separation: Separation,
+    far_from: u32,
+    window: &[u32],
+    number: u32,
+) -> bool
+    requires far { AreFarFree table.now separation.far far_from }
     requires window { IsWindow (2 * table.now.rounds + 1) table.now.ids window.now }
     requires item { slice_get (windows_of table.now) number ≡ Some window.now }
-    ensures { IsTrue result ↔ BeginsBadTuple table.now window.now }
+    ensures { OnFalse result (¬ BeginsBadTuple table.now separation window.now) }
+{
+    numbers_of_windows();
+    let channel = table.entries()[number as usize];
+    may_be_close_next(table, window, separation.near, channel)
+        || may_begin_far_tuple(table, separation.far, far_from, window, number)
+}
+
+// Whether the third window of a tuple that begins with this window may be too close: where not, none is.
+fn may_begin_far_tuple(
+    table: &Table,
+    distance: u32,
+    far_from: u32,
+    window: &[u32],
+    number: u32,
+) -> bool
+    requires far { AreFarFree table.now distance far_from }
+    requires window { IsWindow (2 * table.now.rounds + 1) table.now.ids window.now }
+    requires item { slice_get (windows_of table.now) number ≡ Some window.now }
+    ensures { OnFalse result (¬ BeginsFarTuple table.now distance window.now) }
+{
+    numbers_of_windows();
+    if number < far_from {
+        return false;
+    }
+    let channel = table.entries()[number as usize];
+    may_be_close_at_two(table, window, distance, channel)
+}
+
+// Whether the second window of a list that begins with this window may be so close to the channel. The gap is where the
+// window's first identifier comes once more.
+fn may_be_close_next(table: &Table, window: &[u32], distance: u32, channel: u16) -> bool
+    requires window { IsWindow (2 * table.now.rounds + 1) table.now.ids window.now }
+    ensures { OnFalse result (NoneCloseAfter table.now window.now 1 distance channel) }
 {
     numbers_of_windows();
     let gap = place_among_unused(&window[1..], window[0]) as usize;
-    let channel = table.entries()[number as usize];
-    stands_outside(channels_after(table, window), &[gap], channel)
+    has_close_outside(channels_after(table, window, 1), &[gap], distance, channel)
 }
 
-// The channels of the windows that begin with all identifiers of this one but the first.
-fn channels_after<'a>(table: &'a Table, window: &[u32]) -> &'a [u16]
-    requires { IsWindow (2 * table.now.rounds + 1) table.now.ids window.now }
-    ensures { AreChannelsAfter table.now (drop 1 window.now) result.now }
+// Whether the third window of a list that begins with this window may be so close to the channel. No channel is where the
+// distance is 0.
+fn may_be_close_at_two(table: &Table, window: &[u32], distance: u32, channel: u16) -> bool
+    requires window { IsWindow (2 * table.now.rounds + 1) table.now.ids window.now }
+    ensures { OnFalse result ((id : ℕ) → id < table.now.ids → ¬ Contains window.now id
+        → NoneCloseAfter table.now (window.now ++ id ∷ []) 2 distance channel) }
+{
+    if distance == 0 {
+        return false;
+    }
+    for id in 0..table.shape().ids() {
+        if !stands_in(window, id) && may_be_close_with(table, window, id, distance, channel) {
+            return true;
+        }
+    }
+    false
+}
+
+// Whether the identifier stands in the list.
+fn stands_in(list: &[u32], id: u32) -> bool
+    ensures { IsTrue result ↔ Contains list.now id }
+{
+    list.contains(&id)
+}
+
+// The same for lists that begin with this window and this identifier.
+fn may_be_close_with(table: &Table, window: &[u32], id: u32, distance: u32, channel: u16) -> bool
+    requires window { IsWindow (2 * table.now.rounds + 1) table.now.ids window.now }
+    requires below { id < table.now.ids }
+    requires other { ¬ Contains window.now id }
+    ensures { OnFalse result (NoneCloseAfter table.now (window.now ++ id ∷ []) 2 distance channel) }
+{
+    let last = 2 * table.shape().rounds() as usize + 1;
+    let mut cells = [0; MAX_TUPLE_LEN];
+    cells[..last].copy_from_slice(window);
+    cells[last] = id;
+    may_be_close_second(table, &cells[..last + 1], distance, channel)
+}
+
+// Whether the window at offset two of a list that begins with this one, of 2t+2 identifiers, may be so close to the
+// channel. The gaps are where the first two identifiers come once more.
+fn may_be_close_second(table: &Table, list: &[u32], distance: u32, channel: u16) -> bool
+    requires list { IsWindow (2 * table.now.rounds + 2) table.now.ids list.now }
+    ensures { OnFalse result (NoneCloseAfter table.now list.now 2 distance channel) }
+{
+    numbers_of_windows();
+    let front = &list[2..];
+    let one = place_among_unused(front, list[0]) as usize;
+    let other = place_among_unused(front, list[1]) as usize;
+    has_close_outside(
+        channels_after(table, list, 2),
+        &[one.min(other), one.max(other)],
+        distance,
+        channel,
+    )
+}
+
+// The channels of the windows that begin with all identifiers of this list but for the first `offset`.
+fn channels_after<'a>(table: &'a Table, list: &[u32], offset: usize) -> &'a [u16]
+    requires some { 1 ≤ offset }
+    requires list { IsWindow (2 * table.now.rounds + offset) table.now.ids list.now }
+    ensures { AreChannelsAfter table.now (drop offset list.now) result.now }
 {
     numbers_of_windows();
     let shape = table.shape();
-    let front = &window[1..];
+    let front = &list[offset..];
     let start = shape.run_start(shape.rounds(), front) as usize;
     let count = shape.ids() as usize - front.len();
     &table.entries()[start..start + count]

@@ -3,13 +3,16 @@ mod walks;
 
 use crate::parts::{MOST_PARTS, least_by_parts};
 use crate::tuple::tuple_count;
-use crate::{Verdict, judge, judge_part};
+use crate::{Separation, Verdict, judge, judge_part};
 use std::alloc::{AllocError, Global};
 use std::process::Abort;
 use std::test::Fail;
 use std::thread::Threads;
 use table_fill::{Table, TableMaker};
 use win_index::Shape;
+
+// Neighbours' channels differ.
+const NEIGHBOURS: Separation = Separation { near: 1, far: 0 };
 
 // The table that gives each window its channel, of so many.
 fn table_of(
@@ -60,24 +63,26 @@ fn table_of_middles(
 fn least_in_parts<R: Abort + Threads + Sync>(
     rt: &R,
     table: &Table,
+    separation: Separation,
     len: u64,
     threads: u64,
 ) -> Option<u64> {
     let most = MOST_PARTS as u64;
-    let len = len.max(tuple_count(table).div_ceil(most));
-    assert!(rt; 0 < len && len <= 1 << 32 && tuple_count(table) <= most * len);
-    least_by_parts(rt, table, len, threads)
+    let count = tuple_count(table, separation);
+    let len = len.max(count.div_ceil(most));
+    assert!(rt; 0 < len && len <= 1 << 32 && count <= most * len);
+    least_by_parts(rt, table, separation, 0, len, threads)
 }
 
-// The ring of a no, with its place and its channel.
-fn found_in(verdict: &Verdict) -> Option<(&[u32], u32, u32)> {
+// The ring of a no, with its places and their channels.
+fn found_in(verdict: &Verdict) -> Option<(&[u32], (u32, u32), (u32, u32))> {
     match verdict {
         Verdict::Yes => None,
         Verdict::No {
             ring,
-            place,
-            channel,
-        } => Some((ring.as_slice(), *place, *channel)),
+            places,
+            channels,
+        } => Some((ring.as_slice(), *places, *channels)),
     }
 }
 
@@ -94,14 +99,14 @@ fn repeated_once(alloc: Global) -> Result<Vec<u32>, AllocError> {
 #[test]
 fn the_least_bad_tuple_of_many(rt: HostRuntime) -> Result<(), Fail> {
     let many = repeated_once(rt.alloc())?;
-    let rows: [(&[u32], Option<(&[u32], u32, u32)>); 3] = [
+    let rows: [(&[u32], Option<(&[u32], (u32, u32), (u32, u32))>); 3] = [
         (&[0, 1], None),
-        (&[0, 0], Some((&[0, 1], 0, 0))),
-        (&many, Some((&[32, 127], 0, 32))),
+        (&[0, 0], Some((&[0, 1], (0, 1), (0, 0)))),
+        (&many, Some((&[32, 127], (0, 1), (32, 32)))),
     ];
     for (channels, want) in rows {
         let table = table_of_identifiers(&rt, rt.alloc(), channels)?;
-        let verdict = judge(&rt, rt.alloc(), &table).map_err(|_| AllocError)?;
+        let verdict = judge(&rt, rt.alloc(), &table, NEIGHBOURS).map_err(|_| AllocError)?;
         assert_eq!(rt; found_in(&verdict), want, "{channels:?}");
     }
     Ok(())
@@ -110,7 +115,7 @@ fn the_least_bad_tuple_of_many(rt: HostRuntime) -> Result<(), Fail> {
 #[test]
 fn the_least_bad_tuple_of_a_part(rt: HostRuntime) -> Result<(), Fail> {
     let table = table_of_identifiers(&rt, rt.alloc(), &repeated_once(rt.alloc())?)?;
-    assert!(rt; table.shape().tuples() == 16_256);
+    assert!(rt; table.shape().tuples(1) == 16_256);
     let rows = [
         (0, 4190, None),
         (4190, 16_256, Some(4190)),
@@ -120,7 +125,11 @@ fn the_least_bad_tuple_of_a_part(rt: HostRuntime) -> Result<(), Fail> {
         (16_162, 16_256, None),
     ];
     for (low, high, want) in rows {
-        assert_eq!(rt; judge_part(&table, low, high), want, "{low} to {high}");
+        assert_eq!(rt;
+            judge_part(&table, NEIGHBOURS, low, high),
+            want,
+            "{low} to {high}"
+        );
     }
     Ok(())
 }
@@ -129,7 +138,7 @@ fn the_least_bad_tuple_of_a_part(rt: HostRuntime) -> Result<(), Fail> {
 #[test]
 fn bad_tuples_beside_the_gap(rt: HostRuntime) -> Result<(), Fail> {
     let table = table_of_identifiers(&rt, rt.alloc(), &[0, 1, 1, 3])?;
-    assert!(rt; table.shape().tuples() == 12);
+    assert!(rt; table.shape().tuples(1) == 12);
     let rows = [
         (0, 12, Some(4)),
         (0, 4, None),
@@ -140,7 +149,11 @@ fn bad_tuples_beside_the_gap(rt: HostRuntime) -> Result<(), Fail> {
         (12, 12, None),
     ];
     for (low, high, want) in rows {
-        assert_eq!(rt; judge_part(&table, low, high), want, "{low} to {high}");
+        assert_eq!(rt;
+            judge_part(&table, NEIGHBOURS, low, high),
+            want,
+            "{low} to {high}"
+        );
     }
     Ok(())
 }
@@ -149,7 +162,7 @@ fn bad_tuples_beside_the_gap(rt: HostRuntime) -> Result<(), Fail> {
 #[test]
 fn bad_tuples_of_one_round(rt: HostRuntime) -> Result<(), Fail> {
     let table = table_of_middles(&rt, rt.alloc(), 16, 1)?;
-    assert!(rt; table.shape().tuples() == 120);
+    assert!(rt; table.shape().tuples(1) == 120);
     let rows = [
         (0, 120, Some(0)),
         (1, 120, Some(105)),
@@ -158,7 +171,46 @@ fn bad_tuples_of_one_round(rt: HostRuntime) -> Result<(), Fail> {
         (106, 120, None),
     ];
     for (low, high, want) in rows {
-        assert_eq!(rt; judge_part(&table, low, high), want, "{low} to {high}");
+        assert_eq!(rt;
+            judge_part(&table, NEIGHBOURS, low, high),
+            want,
+            "{low} to {high}"
+        );
+    }
+    Ok(())
+}
+
+// The identifiers as channels, of so many.
+fn identifiers(alloc: Global, count: u32) -> Result<Vec<u32>, AllocError> {
+    let mut channels = Vec::new(alloc);
+    for channel in 0..count {
+        channels.push(channel)?;
+    }
+    Ok(channels)
+}
+
+// Places at distance two, neighbours that are not far enough apart, and a ring of three nodes, where both demands hold for
+// each pair. Where there are two identifiers, no ring has three nodes.
+#[test]
+fn channels_that_are_too_close(rt: HostRuntime) -> Result<(), Fail> {
+    let rows: [(u32, u32, u32, Option<(&[u32], (u32, u32), (u32, u32))>); 7] = [
+        (4, 1, 2, Some((&[0, 2, 1], (0, 2), (0, 1)))),
+        (2, 2, 0, Some((&[0, 1], (0, 1), (0, 1)))),
+        (2, 1, 1, None),
+        (4, 2, 1, Some((&[0, 1, 2], (0, 1), (0, 1)))),
+        (4, 1, 1, None),
+        (3, 1, 3, Some((&[0, 1, 2], (0, 2), (0, 2)))),
+        (4, 4, 0, Some((&[0, 1], (0, 1), (0, 1)))),
+    ];
+    for (ids, near, far, want) in rows {
+        let table = table_of_identifiers(&rt, rt.alloc(), &identifiers(rt.alloc(), ids)?)?;
+        let separation = Separation { near, far };
+        let verdict = judge(&rt, rt.alloc(), &table, separation).map_err(|_| AllocError)?;
+        assert_eq!(rt;
+            found_in(&verdict),
+            want,
+            "{ids} identifiers, near {near}, far {far}"
+        );
     }
     Ok(())
 }

@@ -1,103 +1,131 @@
 // Tuples one by one.
-ghost use Rattle.std.specs.Prelude.{◌≡◌, ℕ, List, ◌+◌, ◌*◌, ◌<◌, ◌≤◌, ◌↔◌, IsTrue, MatchOption, Some, length, slice_get};
+ghost use Rattle.std.specs.Prelude.{◌≡◌, ℕ, List, ◌+◌, ◌*◌, ◌<◌, ◌≤◌, ◌↔◌, ◌⊎◌, IsTrue, MatchOption, Some, length, slice_get};
+ghost use Rattle.win_index.specs.declared.limits.TheConstants.{MAX_EXTRA};
 ghost use Rattle.win_index.specs.Windows.{IsWindow};
 ghost use Rattle.win_index.specs.Arcs.{part_at};
 ghost use Rattle.table_fill.specs.Tables.{channel_of};
-ghost use Rattle.nbhd_check.specs.Proper.{tuples, IsBad, NoneIsBad, IsLeastBad};
+ghost use Rattle.nbhd_check.specs.Apart.{extra, tuples, AreClose, IsBad, NoneIsBad, IsLeastBad};
 
+use crate::separation::{Separation, extra_of};
 use table_fill::Table;
-use win_index::{MAX_TUPLE_LEN, rings_have_windows, tuples_are_rings};
+use win_index::MAX_TUPLE_LEN;
 
 // The least number from `low` on and below `high` of a bad tuple.
-pub(crate) fn least_bad_tuple(table: &Table, low: u64, high: u64) -> Option<u64>
+pub(crate) fn least_bad_tuple(
+    table: &Table,
+    separation: Separation,
+    low: u64,
+    high: u64,
+) -> Option<u64>
     requires order { low ≤ high }
-    requires within { high ≤ length (tuples table.now) }
-    ensures { MatchOption result (NoneIsBad table.now low high)
-        (λ n. (n < high) × ((tuple : List ℕ) × IsLeastBad table.now low n tuple)) }
+    requires within { high ≤ length (tuples table.now separation) }
+    ensures { MatchOption result (NoneIsBad table.now separation low high)
+        (λ n. (n < high) × ((tuple : List ℕ) × IsLeastBad table.now separation low n tuple)) }
 {
     if low == high {
         return None;
     }
     let mut cells = [0; MAX_TUPLE_LEN];
-    let tuple = &mut cells[..tuple_len(table)];
-    write_tuple(table, low, tuple);
-    scan(table, tuple, low, high)
+    let tuple = &mut cells[..tuple_len(table, separation)];
+    write_tuple(table, separation, low, tuple);
+    scan(table, separation, tuple, low, high)
 }
 
-// How many tuples there are.
-pub(crate) fn tuple_count(table: &Table) -> u64
-    ensures { result ≡ length (tuples table.now) }
+/// How many tuples the judge tests: of `2t+2` identifiers where far is 0, else of `2t+3`.
+pub fn tuple_count(table: &Table, separation: Separation) -> u64
+    ensures { result ≡ length (tuples table.now separation) }
 {
-    table.shape().tuples()
+    table.shape().tuples(extra_of(separation))
 }
 
 // How many identifiers a tuple has.
-pub(crate) fn tuple_len(table: &Table) -> usize
-    ensures length { result ≡ 2 * table.now.rounds + 2 }
+pub(crate) fn tuple_len(table: &Table, separation: Separation) -> usize
+    ensures length { result ≡ 2 * table.now.rounds + 1 + extra separation }
     ensures few { result ≤ MAX_TUPLE_LEN }
 {
-    2 * table.shape().rounds() as usize + 2
+    2 * table.shape().rounds() as usize + 1 + extra_of(separation) as usize
 }
 
 // Writes the tuple with this number.
-pub(crate) fn write_tuple(table: &Table, number: u64, out: &mut [u32])
-    requires below { number < length (tuples table.now) }
-    requires room { length out.old ≡ 2 * table.now.rounds + 2 }
-    ensures item { slice_get (tuples table.now) number ≡ Some out.new }
-    ensures tuple { IsWindow (2 * table.now.rounds + 2) table.now.ids out.new }
+pub(crate) fn write_tuple(table: &Table, separation: Separation, number: u64, out: &mut [u32])
+    requires below { number < length (tuples table.now separation) }
+    requires room { length out.old ≡ 2 * table.now.rounds + 1 + extra separation }
+    ensures item { slice_get (tuples table.now separation) number ≡ Some out.new }
+    ensures tuple { IsWindow (2 * table.now.rounds + 1 + extra separation) table.now.ids out.new }
 {
-    table.shape().tuple(number, out);
+    table.shape().tuple(extra_of(separation), number, out);
 }
 
 // The least number of a bad tuple, from the tuple with the number `low` on.
-fn scan(table: &Table, tuple: &mut [u32], low: u64, high: u64) -> Option<u64>
-    requires first { slice_get (tuples table.now) low ≡ Some tuple.old }
-    requires tuple { IsWindow (2 * table.now.rounds + 2) table.now.ids tuple.old }
-    requires within { high ≤ length (tuples table.now) }
-    ensures { MatchOption result (NoneIsBad table.now low high)
-        (λ n. (n < high) × ((tuple : List ℕ) × IsLeastBad table.now low n tuple)) }
+fn scan(
+    table: &Table,
+    separation: Separation,
+    tuple: &mut [u32],
+    low: u64,
+    high: u64,
+) -> Option<u64>
+    requires first { slice_get (tuples table.now separation) low ≡ Some tuple.old }
+    requires tuple { IsWindow (2 * table.now.rounds + 1 + extra separation) table.now.ids tuple.old }
+    requires within { high ≤ length (tuples table.now separation) }
+    ensures { MatchOption result (NoneIsBad table.now separation low high)
+        (λ n. (n < high) × ((tuple : List ℕ) × IsLeastBad table.now separation low n tuple)) }
 {
     let shape = table.shape();
     for number in low..high {
-        if is_bad(table, tuple) {
+        if is_bad(table, separation, tuple) {
             return Some(number);
         }
-        shape.after(tuple);
+        shape.after(extra_of(separation), tuple);
     }
     None
 }
 
-// Whether the first and the last window of a tuple have one channel.
-fn is_bad(table: &Table, tuple: &[u32]) -> bool
-    requires { IsWindow (2 * table.now.rounds + 2) table.now.ids tuple.now }
-    ensures { IsTrue result ↔ IsBad table.now tuple.now }
+// Whether a tuple is bad.
+fn is_bad(table: &Table, separation: Separation, tuple: &[u32]) -> bool
+    requires { IsWindow (2 * table.now.rounds + 1 + extra separation) table.now.ids tuple.now }
+    ensures { IsTrue result ↔ IsBad table.now separation tuple.now }
 {
-    first_channel(table, tuple) == last_channel(table, tuple)
+    is_close_next(table, separation, tuple) || is_close_at_two(table, separation, tuple)
 }
 
-// The channel of the first window of a tuple.
-pub(crate) fn first_channel(table: &Table, tuple: &[u32]) -> u32
-    requires { IsWindow (2 * table.now.rounds + 2) table.now.ids tuple.now }
-    ensures { channel_of table.now (part_at table.now.rounds 0 tuple.now) ≡ Some result }
+// Whether the first and the second window of a tuple are closer than near.
+pub(crate) fn is_close_next(table: &Table, separation: Separation, tuple: &[u32]) -> bool
+    requires { IsWindow (2 * table.now.rounds + 1 + extra separation) table.now.ids tuple.now }
+    ensures { IsTrue result ↔ AreClose separation.near (channel_of table.now (part_at table.now.rounds 0 tuple.now)) (channel_of table.now (part_at table.now.rounds 1 tuple.now)) }
 {
-    tuples_are_rings();
-    rings_have_windows();
-    let last = tuple.len() - 1;
-    channel_of_window(table, &tuple[..last])
+    let here = channel_from(table, separation, tuple, 0);
+    here.abs_diff(channel_from(table, separation, tuple, 1)) < separation.near
 }
 
-// The channel of the last window of a tuple.
-fn last_channel(table: &Table, tuple: &[u32]) -> u32
-    requires { IsWindow (2 * table.now.rounds + 2) table.now.ids tuple.now }
-    ensures { channel_of table.now (part_at table.now.rounds 1 tuple.now) ≡ Some result }
+// Whether the first and the third window of a tuple are closer than far.
+fn is_close_at_two(table: &Table, separation: Separation, tuple: &[u32]) -> bool
+    requires { IsWindow (2 * table.now.rounds + 1 + extra separation) table.now.ids tuple.now }
+    ensures { IsTrue result ↔ AreClose separation.far (channel_of table.now (part_at table.now.rounds 0 tuple.now)) (channel_of table.now (part_at table.now.rounds 2 tuple.now)) }
 {
-    tuples_are_rings();
-    rings_have_windows();
-    channel_of_window(table, &tuple[1..])
+    if separation.far == 0 {
+        return false;
+    }
+    let here = channel_from(table, separation, tuple, 0);
+    here.abs_diff(channel_from(table, separation, tuple, 2)) < separation.far
+}
+
+// The channel of the window that a tuple has from this offset on.
+pub(crate) fn channel_from(
+    table: &Table,
+    separation: Separation,
+    tuple: &[u32],
+    offset: usize,
+) -> u32
+    requires offset { offset ≤ extra separation }
+    requires tuple { IsWindow (2 * table.now.rounds + 1 + extra separation) table.now.ids tuple.now }
+    ensures { channel_of table.now (part_at table.now.rounds offset tuple.now) ≡ Some result }
+{
+    let len = 2 * table.shape().rounds() as usize + 1;
+    channel_of_window(table, &tuple[offset..offset + len])
 }
 
 // The channel of a window.
-fn channel_of_window(table: &Table, window: &[u32]) -> u32
+pub(crate) fn channel_of_window(table: &Table, window: &[u32]) -> u32
     requires { IsWindow (2 * table.now.rounds + 1) table.now.ids window.now }
     ensures { channel_of table.now window.now ≡ Some result }
 {

@@ -1,6 +1,8 @@
+use crate::far::far_free_windows;
 use crate::laws::tuples_suffice;
 use crate::parts::least_of_all;
-use crate::tuple::{first_channel, tuple_len, write_tuple};
+use crate::separation::Separation;
+use crate::tuple::{channel_from, is_close_next, tuple_len, write_tuple};
 use node_lang::OutOfMemory;
 use rayon::current_num_threads;
 use std::alloc::Global;
@@ -11,35 +13,42 @@ use win_index::{MAX_TUPLE_LEN, tuples_are_rings};
 /// The judge's answer.
 #[derive(Debug, PartialEq, Eq, Drop)]
 pub enum Verdict {
-    /// On every ring neighbours' channels differ.
+    /// On every ring channels are as far apart as the separation wants.
     Yes,
-    /// A place of a ring of `2t+2` nodes and its right neighbour share the channel.
+    /// At two places of a ring channels are closer.
     No {
         /// The identifiers from place 0 on.
         ring: Vec<u32>,
-        place: u32,
-        channel: u32,
+        /// The place `t` for `t` rounds, and its right neighbour or the one after that.
+        places: (u32, u32),
+        /// The channels there.
+        channels: (u32, u32),
     },
 }
 
-ghost use Rattle.std.specs.Prelude.{◌≡◌, ℕ, List, ◌↔◌, IfOk, OnErr};
-ghost use Rattle.nbhd_check.specs.Proper.{IsGoodEverywhere, IsLeastBad};
+ghost use Rattle.std.specs.Prelude.{◌≡◌, ℕ, List, ◌+◌, ◌*◌, ◌≤◌, ◌↔◌, ◌⊎◌, Option, IfOk, OnErr};
+ghost use Rattle.win_index.specs.Arcs.{part_at};
+ghost use Rattle.win_index.specs.Windows.{IsWindow};
+ghost use Rattle.table_fill.specs.Tables.{channel_of};
+ghost use Rattle.nbhd_check.specs.Apart.{extra, AreClose, IsBad, IsApartEverywhere, IsLeastBad};
 ghost use Rattle.nbhd_check.specs.Verdicts.{IsVerdict};
 
-/// Whether neighbours' channels differ on every ring of the table's shape. `No` has the least tuple
-/// whose first and last window share a channel, as a ring, and the place `t` for `t` rounds.
+/// Whether channels are as far apart as the separation wants on every ring of the table's shape, of at least `2t+3` nodes
+/// where far is not 0. `No` has the least tuple that breaks it, as a ring, and the places `t` and `t+1` for `t` rounds
+/// where these are too close, else `t` and `t+2`, with their channels. The answer is `Yes` where there is no such ring.
 /// `OutOfMemory` comes where memory for that ring was refused, so only where the answer is no.
 /// At most as many threads judge as there are processors.
 pub fn judge<R: Threads + Sync>(
     rt: &R,
     alloc: Global,
     table: &Table,
+    separation: Separation,
 ) -> Result<Verdict, OutOfMemory>
-    ensures verdict { IfOk result (IsVerdict table.now) }
-    ensures yes { IfOk result (λ verdict. (verdict ≡ Verdict.Yes) ↔ IsGoodEverywhere table.now) }
-    ensures memory { OnErr result (¬ IsGoodEverywhere table.now) }
+    ensures verdict { IfOk result (IsVerdict table.now separation) }
+    ensures yes { IfOk result (λ verdict. (verdict ≡ Verdict.Yes) ↔ IsApartEverywhere table.now separation) }
+    ensures memory { OnErr result (¬ IsApartEverywhere table.now separation) }
 {
-    judge_in(rt, alloc, table, current_num_threads(rt) as u64)
+    judge_in(rt, alloc, table, separation, current_num_threads(rt) as u64)
 }
 
 /// What `judge` answers, by at most so many threads. Where that is one or none, it is the
@@ -48,13 +57,14 @@ pub fn judge_with_workers<R: Threads + Sync>(
     rt: &R,
     alloc: Global,
     table: &Table,
+    separation: Separation,
     workers: u32,
 ) -> Result<Verdict, OutOfMemory>
-    ensures verdict { IfOk result (IsVerdict table.now) }
-    ensures yes { IfOk result (λ verdict. (verdict ≡ Verdict.Yes) ↔ IsGoodEverywhere table.now) }
-    ensures memory { OnErr result (¬ IsGoodEverywhere table.now) }
+    ensures verdict { IfOk result (IsVerdict table.now separation) }
+    ensures yes { IfOk result (λ verdict. (verdict ≡ Verdict.Yes) ↔ IsApartEverywhere table.now separation) }
+    ensures memory { OnErr result (¬ IsApartEverywhere table.now separation) }
 {
-    judge_in(rt, alloc, table, u64::from(workers))
+    judge_in(rt, alloc, table, separation, u64::from(workers))
 }
 
 // The answer on a table, by at most so many threads.
@@ -62,40 +72,65 @@ fn judge_in<R: Threads + Sync>(
     rt: &R,
     alloc: Global,
     table: &Table,
+    separation: Separation,
     threads: u64,
 ) -> Result<Verdict, OutOfMemory>
-    ensures verdict { IfOk result (IsVerdict table.now) }
-    ensures yes { IfOk result (λ verdict. (verdict ≡ Verdict.Yes) ↔ IsGoodEverywhere table.now) }
-    ensures memory { OnErr result (¬ IsGoodEverywhere table.now) }
+    ensures verdict { IfOk result (IsVerdict table.now separation) }
+    ensures yes { IfOk result (λ verdict. (verdict ≡ Verdict.Yes) ↔ IsApartEverywhere table.now separation) }
+    ensures memory { OnErr result (¬ IsApartEverywhere table.now separation) }
 {
     tuples_suffice();
-    match least_of_all(rt, table, threads) {
+    let far_from = far_free_windows(alloc, table, separation.far);
+    match least_of_all(rt, table, separation, far_from, threads) {
         None => Ok(Verdict::Yes),
-        Some(number) => no(alloc, table, number),
+        Some(number) => no(alloc, table, separation, number),
     }
 }
 
 // The answer that the tuple with this number is the least bad one.
-#[tactic(auto, using(crate::proofs::Tuples::bad_is_not_good))]
-fn no(alloc: Global, table: &Table, number: u64) -> Result<Verdict, OutOfMemory>
-    requires { (tuple : List ℕ) × IsLeastBad table.now 0 number tuple }
-    ensures verdict { IfOk result (IsVerdict table.now) }
-    ensures yes { IfOk result (λ verdict. (verdict ≡ Verdict.Yes) ↔ IsGoodEverywhere table.now) }
-    ensures memory { OnErr result (¬ IsGoodEverywhere table.now) }
+#[tactic(auto, using(crate::proofs::Tuples::bad_is_not_apart))]
+fn no(
+    alloc: Global,
+    table: &Table,
+    separation: Separation,
+    number: u64,
+) -> Result<Verdict, OutOfMemory>
+    requires { (tuple : List ℕ) × IsLeastBad table.now separation 0 number tuple }
+    ensures verdict { IfOk result (IsVerdict table.now separation) }
+    ensures yes { IfOk result (λ verdict. (verdict ≡ Verdict.Yes) ↔ IsApartEverywhere table.now separation) }
+    ensures memory { OnErr result (¬ IsApartEverywhere table.now separation) }
 {
     tuples_suffice();
     tuples_are_rings();
     let mut cells = [0; MAX_TUPLE_LEN];
-    let tuple = &mut cells[..tuple_len(table)];
-    write_tuple(table, number, tuple);
-    let channel = first_channel(table, tuple);
+    let tuple = &mut cells[..tuple_len(table, separation)];
+    write_tuple(table, separation, number, tuple);
+    let step = broken_step(table, separation, tuple);
+    let first = channel_from(table, separation, tuple, 0);
+    let second = channel_from(table, separation, tuple, step as usize);
     let ring = copied(alloc, tuple)?;
     let place = table.shape().rounds();
     Ok(Verdict::No {
         ring,
-        place,
-        channel,
+        places: (place, place + step),
+        channels: (first, second),
     })
+}
+
+// How far the second window of a bad tuple is from the first that it is too close to: 1 where the neighbours are, else 2.
+fn broken_step(table: &Table, separation: Separation, tuple: &[u32]) -> u32
+    requires tuple { IsWindow (2 * table.now.rounds + 1 + extra separation) table.now.ids tuple.now }
+    requires bad { IsBad table.now separation tuple.now }
+    ensures step { let channel_at : ℕ → Option ℕ = λ step. channel_of table.now (part_at table.now.rounds step tuple.now) in
+        let close = AreClose separation.near (channel_at 0) (channel_at 1) in
+        (close × (result ≡ 1)) ⊎ ((¬ close) × (result ≡ 2)) }
+    ensures few { result ≤ extra separation }
+{
+    if is_close_next(table, separation, tuple) {
+        1
+    } else {
+        2
+    }
 }
 
 fn copied(alloc: Global, list: &[u32]) -> Result<Vec<u32>, OutOfMemory>

@@ -1,20 +1,21 @@
 // The answer is the same for every number of parts and of threads.
 
-use super::{found_in, least_in_parts, table_of, table_of_identifiers};
-use crate::tuple::{tuple_count, write_tuple};
-use crate::{Verdict, judge, judge_with_workers};
+use super::{NEIGHBOURS, found_in, least_in_parts, table_of, table_of_identifiers};
+use crate::tuple::{tuple_count, tuple_len, write_tuple};
+use crate::{Separation, Verdict, judge, judge_with_workers};
 use std::alloc::{AllocError, Global};
 use std::process::Abort;
 use std::test::Fail;
 use std::thread::Threads;
 use table_fill::Table;
-use win_index::Shape;
+use win_index::{MAX_TUPLE_LEN, Shape};
 
-// The table of one round and five identifiers that gives each window a channel of its own.
-fn table_of_numbers(rt: &impl Abort, alloc: Global) -> Result<Table, Fail> {
-    let channels = numbers(alloc, 60)?;
-    let shape = Shape::new(5, 1).expect(rt, "a shape");
-    table_of(rt, alloc, shape, 60, &channels)
+// The table of one round that gives each window a channel of its own: its number.
+fn table_of_numbers(rt: &impl Abort, alloc: Global, ids: u32) -> Result<Table, Fail> {
+    let shape = Shape::new(ids, 1).expect(rt, "a shape");
+    assert!(rt; shape.rounds() == 1);
+    let count = shape.count(1);
+    table_of(rt, alloc, shape, count, &numbers(alloc, count)?)
 }
 
 // The numbers below `count`.
@@ -26,62 +27,77 @@ fn numbers(alloc: Global, count: u32) -> Result<Vec<u32>, AllocError> {
     Ok(list)
 }
 
-// The same table, but the second window of the tuple with this number has the channel of the first one.
+// The same table, but the last window of the tuple with this number has the channel of the first one.
 fn table_of_one_bad_tuple(
     rt: &impl Abort,
     alloc: Global,
     all: &Table,
+    separation: Separation,
     number: u64,
 ) -> Result<Table, Fail> {
     assert!(rt; all.shape().rounds() == 1);
-    assert!(rt; number < tuple_count(all));
-    let mut tuple = [0; 4];
-    write_tuple(all, number, &mut tuple);
+    assert!(rt; number < tuple_count(all, separation));
+    let mut cells = [0; MAX_TUPLE_LEN];
+    let tuple = &mut cells[..tuple_len(all, separation)];
+    write_tuple(all, separation, number, tuple);
     let first = all.channel_at(&tuple[..3]).expect(rt, "a window");
-    let second = all.channel_at(&tuple[1..]).expect(rt, "a window") as usize;
-    let mut channels = numbers(alloc, 60)?;
-    assert!(rt; second < channels.len());
-    channels[second] = first;
-    let shape = Shape::new(5, 1).expect(rt, "a shape");
-    table_of(rt, alloc, shape, 60, &channels)
+    let last = all
+        .channel_at(&tuple[tuple.len() - 3..])
+        .expect(rt, "a window") as usize;
+    let mut channels = numbers(alloc, all.channels())?;
+    assert!(rt; last < channels.len());
+    channels[last] = first;
+    table_of(rt, alloc, all.shape(), all.channels(), &channels)
 }
 
-// Each tuple in turn is the only bad one: the first, the last, those at the edges of parts and those beside gaps.
-#[test]
-fn one_bad_tuple_anywhere(rt: HostRuntime) -> Result<(), Fail> {
-    let all = table_of_numbers(&rt, rt.alloc())?;
-    assert_eq!(rt; least_in_parts(&rt, &all, 7, 3), None);
-    assert_eq!(rt; tuple_count(&all), 120);
-    for number in 0..120 {
-        let table = table_of_one_bad_tuple(&rt, rt.alloc(), &all, number)?;
-        for (len, threads) in [
-            (2, 64),
-            (7, 3),
-            (7, 1),
-            (60, 2),
-            (119, 5),
-            (120, 2),
-            (1 << 32, 9),
-        ] {
+// Each tuple of a table in turn is the only bad one: the first, the last, those at the edges of parts and those beside gaps.
+fn assert_one_bad_tuple<R: Abort + Threads + Sync>(
+    rt: &R,
+    alloc: Global,
+    all: &Table,
+    separation: Separation,
+) -> Result<(), Fail> {
+    let count = tuple_count(all, separation);
+    assert_eq!(rt; least_in_parts(rt, all, separation, 7, 3), None);
+    for number in 0..count {
+        let table = table_of_one_bad_tuple(rt, alloc, all, separation, number)?;
+        for (len, threads) in [(2, 64), (7, 3), (7, 1), (60, 2), (119, 5), (1 << 32, 9)] {
             assert_eq!(rt;
-                least_in_parts(&rt, &table, len, threads),
+                least_in_parts(rt, &table, separation, len, threads),
                 Some(number),
                 "{len} in a part, {threads} threads"
             );
         }
+        let verdict = judge(rt, alloc, &table, separation).map_err(|_| AllocError)?;
+        assert!(rt; verdict != Verdict::Yes, "{number}");
     }
     Ok(())
+}
+
+#[test]
+fn one_bad_tuple_anywhere(rt: HostRuntime) -> Result<(), Fail> {
+    let all = table_of_numbers(&rt, rt.alloc(), 5)?;
+    assert_eq!(rt; tuple_count(&all, NEIGHBOURS), 120);
+    assert_one_bad_tuple(&rt, rt.alloc(), &all, NEIGHBOURS)
+}
+
+#[test]
+fn one_far_tuple_anywhere(rt: HostRuntime) -> Result<(), Fail> {
+    let separation = Separation { near: 1, far: 1 };
+    let all = table_of_numbers(&rt, rt.alloc(), 6)?;
+    assert_eq!(rt; tuple_count(&all, separation), 720);
+    assert_one_bad_tuple(&rt, rt.alloc(), &all, separation)
 }
 
 // The least of all comes from an earlier part than other bad tuples do.
 #[test]
 fn many_bad_tuples(rt: HostRuntime) -> Result<(), Fail> {
     let table = table_of_identifiers(&rt, rt.alloc(), &[0, 1, 2, 3, 2, 1, 0, 0])?;
-    assert_eq!(rt; tuple_count(&table), 56);
+    assert_eq!(rt; tuple_count(&table, NEIGHBOURS), 56);
     for len in 1..60 {
         for threads in [0, 1, 2, 3, 64] {
             assert_eq!(rt;
-                least_in_parts(&rt, &table, len, threads),
+                least_in_parts(&rt, &table, NEIGHBOURS, len, threads),
                 Some(5),
                 "{len} in a part, {threads} threads"
             );
@@ -108,18 +124,20 @@ fn assert_no<R: Abort + Threads + Sync>(
     want: Option<&[u32]>,
 ) -> Result<(), Fail> {
     for workers in [0, 1, 2, 3, 4, 5, 64, u32::MAX] {
-        let verdict = judge_with_workers(rt, alloc, table, workers).map_err(|_| AllocError)?;
+        let verdict = judge_with_workers(rt, alloc, table, NEIGHBOURS, workers).map_err(
+            |_| AllocError,
+        )?;
         assert_eq!(rt; ring_of(&verdict), want, "{workers} workers");
     }
-    let verdict = judge(rt, alloc, table).map_err(|_| AllocError)?;
+    let verdict = judge(rt, alloc, table, NEIGHBOURS).map_err(|_| AllocError)?;
     assert_eq!(rt; ring_of(&verdict), want);
     Ok(())
 }
 
 // The identifiers of a no at place 0.
 fn ring_of(verdict: &Verdict) -> Option<&[u32]> {
-    let (ring, place, _) = found_in(verdict)?;
-    if place == 0 { Some(ring) } else { None }
+    let (ring, places, _) = found_in(verdict)?;
+    if places == (0, 1) { Some(ring) } else { None }
 }
 
 // 1,047,552 tuples, in runs of 1,023: a part has 65 runs.

@@ -2,7 +2,7 @@
 
 use super::{found_in, least_in_parts, table_of};
 use crate::tuple::{tuple_count, tuple_len, write_tuple};
-use crate::{Verdict, judge, judge_part};
+use crate::{Separation, Verdict, judge, judge_part};
 use std::alloc::{AllocError, Global};
 use std::process::Abort;
 use std::test::Fail;
@@ -18,7 +18,9 @@ struct Numbers {
 
 impl Numbers {
     // The next number below 128.
-    fn next(&mut self) -> u32 {
+    fn next(&mut self) -> u32
+        ensures { result < 128 }
+    {
         self.state = self
             .state
             .wrapping_mul(1_664_525)
@@ -41,12 +43,36 @@ fn random_table(
     table_of(rt, alloc, shape, 128, &channels)
 }
 
+// The places of a tuple that break the separation, and their channels.
+fn broken(table: &Table, separation: Separation, tuple: &[u32]) -> Option<((u32, u32), (u32, u32))>
+    requires { 2 * table.now.rounds + 2 ≤ length tuple.now }
+{
+    let place = table.shape().rounds();
+    let window = 2 * place as usize + 1;
+    let first = table.channel_at(&tuple[..window])?;
+    let second = table.channel_at(&tuple[1..window + 1])?;
+    if first.abs_diff(second) < separation.near {
+        return Some(((place, place + 1), (first, second)));
+    }
+    let third = table.channel_at(&tuple[2..])?;
+    if first.abs_diff(third) < separation.far {
+        return Some(((place, place + 2), (first, third)));
+    }
+    None
+}
+
+ghost use Rattle.std.specs.Prelude.{◌+◌, ◌*◌, ◌≤◌, length};
+
 // The number of the first bad tuple, and the tuple.
-fn first_bad_tuple(table: &Table, cells: &mut [u32; MAX_TUPLE_LEN]) -> Option<u64> {
-    let len = tuple_len(table);
-    for number in 0..tuple_count(table) {
-        write_tuple(table, number, &mut cells[..len]);
-        if table.channel_at(&cells[..len - 1]) == table.channel_at(&cells[1..len]) {
+fn first_bad_tuple(
+    table: &Table,
+    separation: Separation,
+    cells: &mut [u32; MAX_TUPLE_LEN],
+) -> Option<u64> {
+    let len = tuple_len(table, separation);
+    for number in 0..tuple_count(table, separation) {
+        write_tuple(table, separation, number, &mut cells[..len]);
+        if broken(table, separation, &cells[..len]).is_some() {
             return Some(number);
         }
     }
@@ -54,23 +80,31 @@ fn first_bad_tuple(table: &Table, cells: &mut [u32; MAX_TUPLE_LEN]) -> Option<u6
 }
 
 // Whether a table is good: the judge and its parts say so, or name the first bad tuple of a walk.
-fn is_good<R: Abort + Threads + Sync>(rt: &R, alloc: Global, table: &Table) -> Result<bool, Fail> {
+fn is_good<R: Abort + Threads + Sync>(
+    rt: &R,
+    alloc: Global,
+    table: &Table,
+    separation: Separation,
+) -> Result<bool, Fail> {
     let mut cells = [0; MAX_TUPLE_LEN];
-    let bad = first_bad_tuple(table, &mut cells);
-    assert_eq!(rt; judge_part(table, 0, tuple_count(table)), bad);
-    assert_eq!(rt; least_in_parts(rt, table, 5, 3), bad);
-    let verdict = judge(rt, alloc, table).map_err(|_| AllocError)?;
+    let bad = first_bad_tuple(table, separation, &mut cells);
+    assert_eq!(rt;
+        judge_part(table, separation, 0, tuple_count(table, separation)),
+        bad
+    );
+    assert_eq!(rt; least_in_parts(rt, table, separation, 5, 3), bad);
+    let verdict = judge(rt, alloc, table, separation).map_err(|_| AllocError)?;
     assert_eq!(rt; verdict == Verdict::Yes, bad.is_none());
-    if let Some((ring, place, channel)) = found_in(&verdict) {
-        assert_eq!(rt; ring, &cells[..tuple_len(table)]);
-        assert_eq!(rt; place, table.shape().rounds());
-        assert_eq!(rt; Some(channel), table.channel_at(&ring[1..]));
+    if let Some((ring, places, channels)) = found_in(&verdict) {
+        let tuple = &cells[..tuple_len(table, separation)];
+        assert_eq!(rt; ring, tuple);
+        assert_eq!(rt; broken(table, separation, tuple), Some((places, channels)));
     }
     Ok(bad.is_none())
 }
 
-// How many of ten tables of so many identifiers and rounds are good.
-fn good_of_ten<R: Abort + Threads + Sync>(
+// How many of thirty tables of so many identifiers and rounds are good, each for a separation of near 1 to 3 and far 0 to 3.
+fn good_of_thirty<R: Abort + Threads + Sync>(
     rt: &R,
     alloc: Global,
     ids: u32,
@@ -80,35 +114,40 @@ fn good_of_ten<R: Abort + Threads + Sync>(
     assert!(rt; rounds <= MAX_ROUNDS);
     let shape = Shape::new(ids, rounds).expect(rt, "a shape");
     let mut good = 0u32;
-    for _ in 0..10 {
+    for _ in 0..30 {
         let table = random_table(rt, alloc, shape, numbers)?;
-        good = good.saturating_add(u32::from(is_good(rt, alloc, &table)?));
+        let separation = Separation {
+            near: 1 + numbers.next() % 3,
+            far: numbers.next() % 4,
+        };
+        good = good.saturating_add(u32::from(is_good(rt, alloc, &table, separation)?));
     }
     Ok(good)
 }
 
-// A hundred tables.
+// Three hundred and thirty tables.
 #[test]
 fn the_judge_beside_a_walk(rt: HostRuntime) -> Result<(), Fail> {
     let shapes = [
         (2, 0),
+        (3, 0),
         (5, 0),
         (9, 0),
         (16, 0),
-        (24, 0),
         (4, 1),
         (5, 1),
         (6, 1),
-        (7, 1),
         (6, 2),
+        (7, 2),
+        (8, 3),
     ];
     let mut numbers = Numbers { state: 20_261_123 };
     let mut good = 0u32;
     for (ids, rounds) in shapes {
-        let ten = good_of_ten(&rt, rt.alloc(), ids, rounds, &mut numbers)?;
-        good = good.saturating_add(ten);
+        let some = good_of_thirty(&rt, rt.alloc(), ids, rounds, &mut numbers)?;
+        good = good.saturating_add(some);
     }
-    assert!(rt; 20 < good && good < 80, "{good} are good");
+    assert!(rt; 30 < good && good < 300, "{good} are good");
     Ok(())
 }
 
@@ -116,11 +155,11 @@ fn the_judge_beside_a_walk(rt: HostRuntime) -> Result<(), Fail> {
 fn the_tuple_after(rt: HostRuntime) {
     let shape = Shape::new(8, 1).expect(&rt, "a shape");
     let mut tuple = [0, 1, 2, 7];
-    assert_eq!(rt; shape.tuple_number(&tuple), Some(4));
-    assert!(rt; shape.after(&mut tuple));
+    assert_eq!(rt; shape.tuple_number(1, &tuple), Some(4));
+    assert!(rt; shape.after(1, &mut tuple));
     assert_eq!(rt; tuple, [0, 1, 3, 2]);
-    assert_eq!(rt; shape.tuple_number(&tuple), Some(5));
+    assert_eq!(rt; shape.tuple_number(1, &tuple), Some(5));
     tuple = [7, 6, 5, 4];
-    assert!(rt; !shape.after(&mut tuple));
+    assert!(rt; !shape.after(1, &mut tuple));
     assert_eq!(rt; tuple, [7, 6, 5, 4]);
 }

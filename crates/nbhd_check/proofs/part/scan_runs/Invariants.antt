@@ -1,7 +1,7 @@
 use Rattle.std.proofs.Common.{◌≡◌, ◌+◌, ◌*◌, ◌<◌, Some, min, slice_get}
 use Rattle.win_index.specs.Windows.{IsWindow}
 use Rattle.table_fill.specs.Tables.{windows_of}
-use Rattle.nbhd_check.specs.Proper.{NoneIsBad}
+use Rattle.nbhd_check.specs.Apart.{NoneIsBad}
 use Rattle.nbhd_check.specs.Runs.{run_len}
 use Rattle.nbhd_check.proofs.part.scan_runs.Given as goal
 
@@ -10,4 +10,4 @@ abbrev pub invariant-loop-number : goal.invariant-loop-number
 invariant-loop-number l =
     (l.number < l.last + 1 → slice_get (windows_of l.table) l.number ≡ Some l.window)
     × IsWindow (2 * l.table.rounds + 1) l.table.ids l.window
-    × NoneIsBad l.table l.low (min l.high (l.number * run_len l.table))
+    × NoneIsBad l.table l.separation l.low (min l.high (l.number * run_len l.table l.separation))

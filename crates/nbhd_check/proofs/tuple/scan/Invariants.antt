@@ -1,11 +1,11 @@
 use Rattle.std.proofs.Common.{◌≡◌, ◌+◌, ◌*◌, ◌<◌, Some, slice_get}
 use Rattle.win_index.specs.Windows.{IsWindow}
-use Rattle.nbhd_check.specs.Proper.{tuples, NoneIsBad}
+use Rattle.nbhd_check.specs.Apart.{extra, tuples, NoneIsBad}
 use Rattle.nbhd_check.proofs.tuple.scan.Given as goal
 
 -- the tuple is the next one to be looked at, and none before it is bad
 abbrev pub invariant-loop-number : goal.invariant-loop-number
 invariant-loop-number l =
-    (l.number < l.high → slice_get (tuples l.table) l.number ≡ Some l.tuple)
-    × IsWindow (2 * l.table.rounds + 2) l.table.ids l.tuple
-    × NoneIsBad l.table l.low l.number
+    (l.number < l.high → slice_get (tuples l.table l.separation) l.number ≡ Some l.tuple)
+    × IsWindow (2 * l.table.rounds + 1 + extra l.separation) l.table.ids l.tuple
+    × NoneIsBad l.table l.separation l.low l.number

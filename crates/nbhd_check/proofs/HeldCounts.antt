@@ -1,0 +1,134 @@
+-- Counts of the windows that hold an identifier.
+use Rattle.std.proofs.Common.{◌≡◌, ◌≢◌, ℕ, ◌+◌, ◌-◌, ◌*◌, ◌<◌, ◌≤◌, ◌⊎◌, Bool, true, false, ◌&&◌, ◌||◌, ◌==◌, eqb, ltb, nat_lt, cond, min, List, [], length, get_or, slice_get, count_by, Some, All, sym, ap, ◌∙◌, arith, refl, ⊎_elim}
+use Rattle.std.specs.Int.{abs_diff}
+use Rattle.std.specs.List.{range_with_len}
+use Rattle.std.proofs.lemmas.Bool.{false≢true, cases_lt, cases_order, lt-ltb, le-ltb, ne_eqb, eq-eqb}
+use Rattle.std.proofs.lemmas.Bool.Decides.{eqb_tells}
+use Rattle.std.proofs.lemmas.List.Sums.{count_by-le-length}
+use Rattle.std.proofs.lemmas.List.FromFn.{length-range_with_len}
+use Rattle.std.proofs.lemmas.List.{get_or_past}
+use Rattle.std.proofs.lemmas.Option.{get_or_from_slice_get}
+use Rattle.table_fill.specs.Tables.{ChannelTable, windows_of}
+use Rattle.nbhd_check.specs.Counts.{is_held, held_count}
+use Rattle.nbhd_check.proofs.Included.{count_sum, count_more}
+
+pub count_few : (t : ChannelTable) (first n x : ℕ) (passes : ℕ → Bool) → held_count t first n x passes ≤ n
+count_few t first n x passes =
+    omega (arith, count_by-le-length (λ k. passes (get_or t.entries k 0) && is_held t x k) (range_with_len first n), length-range_with_len first n)
+
+-- a channel below a limit is the one before it, or it is below that one
+one_step : (row e : ℕ) (h : Bool) → 1 ≤ row → cond (eqb row (e + 1) && h) 1 0 + cond (ltb e (row - 1) && h) 1 0 ≡ cond (ltb e row && h) 1 0
+one_step row e true some =
+    ⊎_elim
+    (λ (same : e + 1 ≡ row). rw (eq-eqb row (e + 1) (sym same), le-ltb e (row - 1) (omega arith), lt-ltb e row (omega arith)) refl)
+    (λ order. ⊎_elim
+    (λ (less : e + 1 < row). rw (ne_eqb row (e + 1) (λ q. omega (arith, q)), lt-ltb e (row - 1) (omega arith), lt-ltb e row (omega arith)) refl)
+    (λ (more : row < e + 1). rw (ne_eqb row (e + 1) (λ q. omega (arith, q)), le-ltb e (row - 1) (omega arith), le-ltb e row (omega arith)) refl)
+    order)
+    (cases_order (e + 1) row)
+one_step row e false some = none (eqb row (e + 1)) (ltb e (row - 1)) (ltb e row)
+  where
+    none : (a b c : Bool) → cond (a && false) 1 0 + cond (b && false) 1 0 ≡ cond (c && false) 1 0
+    none true true true = refl
+    none true true false = refl
+    none true false true = refl
+    none true false false = refl
+    none false true true = refl
+    none false true false = refl
+    none false false true = refl
+    none false false false = refl
+
+pub below_step :
+    (t : ChannelTable) (first n x row : ℕ) → 1 ≤ row
+    → held_count t first n x (λ channel. row == channel + 1) + held_count t first n x (λ channel. nat_lt channel (row - 1))
+    ≡ held_count t first n x (λ channel. nat_lt channel row)
+below_step t first n x row some =
+    count_sum (λ k. eqb row (get_or t.entries k 0 + 1) && is_held t x k) (λ k. ltb (get_or t.entries k 0) (row - 1) && is_held t x k)
+    (λ k. ltb (get_or t.entries k 0) row && is_held t x k) (range_with_len first n) (λ k. one_step row (get_or t.entries k 0) (is_held t x k) some)
+
+-- a channel below the upper limit is below the lower one, or it is close
+one_close : (channel distance low high e most : ℕ) (h : Bool) → 1 ≤ distance → e < most → low ≡ channel + 1 - distance
+    → high ≡ min (channel + distance) most
+    → cond (ltb e low && h) 1 0 + cond (ltb (abs_diff channel e) distance && h) 1 0 ≡ cond (ltb e high && h) 1 0
+one_close channel distance low high e most true some below low_is high_is =
+    ⊎_elim
+    (λ (less : e < low). rw (lt-ltb e low less, le-ltb (abs_diff channel e) distance (omega arith), lt-ltb e high (omega arith)) refl)
+    (λ (from : low ≤ e). ⊎_elim
+    (λ (inside : e < high). rw (le-ltb e low from, lt-ltb (abs_diff channel e) distance (omega arith), lt-ltb e high inside) refl)
+    (λ (past : high ≤ e). rw (le-ltb e low from, le-ltb (abs_diff channel e) distance (omega arith), le-ltb e high past) refl)
+    (cases_lt e high))
+    (cases_lt e low)
+one_close channel distance low high e most false some below low_is high_is = none (ltb e low) (ltb (abs_diff channel e) distance) (ltb e high)
+  where
+    none : (a b c : Bool) → cond (a && false) 1 0 + cond (b && false) 1 0 ≡ cond (c && false) 1 0
+    none true true true = refl
+    none true true false = refl
+    none true false true = refl
+    none true false false = refl
+    none false true true = refl
+    none false true false = refl
+    none false false true = refl
+    none false false false = refl
+
+pub close_of_sums :
+    (t : ChannelTable) (first n x channel distance low high most : ℕ) → 1 ≤ distance → ((k : ℕ) → get_or t.entries k 0 < most)
+    → low ≡ channel + 1 - distance → high ≡ min (channel + distance) most
+    → held_count t first n x (λ other. nat_lt other high) - held_count t first n x (λ other. nat_lt other low)
+    ≡ held_count t first n x (λ other. nat_lt (abs_diff channel other) distance)
+close_of_sums t first n x channel distance low high most some below low_is high_is =
+    let all = count_sum (λ k. ltb (get_or t.entries k 0) low && is_held t x k) (λ k. ltb (abs_diff channel (get_or t.entries k 0)) distance && is_held t x k)
+    (λ k. ltb (get_or t.entries k 0) high && is_held t x k) (range_with_len first n)
+    (λ k. one_close channel distance low high (get_or t.entries k 0) most (is_held t x k) some (below k) low_is high_is) in
+    omega arith
+
+-- the marks of a window: its second and its third identifier, and the number of identifiers
+one_mark : (a p q r : Bool) → (p && q ≡ false) → (p && r ≡ false) → (q && r ≡ false)
+    → cond (a && q) 1 0 + cond (a && r) 1 0 + cond (a && p) 1 0 ≡ cond (a && (p || (q || r))) 1 0
+one_mark true true true r none_pq none_pr none_qr = absurd (false≢true (sym none_pq))
+one_mark true true false true none_pq none_pr none_qr = absurd (false≢true (sym none_pr))
+one_mark true true false false none_pq none_pr none_qr = refl
+one_mark true false true true none_pq none_pr none_qr = absurd (false≢true (sym none_qr))
+one_mark true false true false none_pq none_pr none_qr = refl
+one_mark true false false true none_pq none_pr none_qr = refl
+one_mark true false false false none_pq none_pr none_qr = refl
+one_mark false p q r none_pq none_pr none_qr = refl
+
+not_both : (x y z : ℕ) → y ≢ z → (eqb x y && eqb x z) ≡ false
+not_both x y z other =
+    ⊎_elim
+    (λ (own : (eqb x y ≡ true) × (x ≡ y)).
+    ⊎_elim
+    (λ (also : (eqb x z ≡ true) × (x ≡ z)). absurd (other (sym own.1 ∙ also.1)))
+    (λ (no : (eqb x z ≡ false) × (x ≢ z)). rw (own.0, no.0) refl)
+    (eqb_tells x z))
+    (λ (no : (eqb x y ≡ false) × (x ≢ y)). rw no.0 refl)
+    (eqb_tells x y)
+
+-- one window more is counted in three cells of the row of its channel and one more
+pub window_counted :
+    (t : ChannelTable) (first number n x v channel : ℕ) (window : List ℕ) → first + n ≡ number
+    → slice_get (windows_of t) number ≡ Some window → channel ≡ get_or t.entries number 0 → get_or window 1 0 < t.ids → get_or window 2 0 < t.ids
+    → get_or window 1 0 ≢ get_or window 2 0
+    → held_count t first n x (λ other. v == other + 1) + cond (eqb v (channel + 1) && eqb x (get_or window 1 0)) 1 0
+    + cond (eqb v (channel + 1) && eqb x (get_or window 2 0)) 1 0 + cond (eqb v (channel + 1) && eqb x t.ids) 1 0
+    ≡ held_count t first (n + 1) x (λ other. v == other + 1)
+window_counted t first number n x v channel window here item own in_one in_two other =
+    let held = count_more (λ k. eqb v (get_or t.entries k 0 + 1) && is_held t x k) first n in
+    let read = get_or_from_slice_get (windows_of t) number window [] item in
+    let marks = one_mark (eqb v (channel + 1)) (eqb x t.ids) (eqb x (get_or window 1 0)) (eqb x (get_or window 2 0))
+    (not_both x t.ids (get_or window 1 0) (λ e. omega (arith, e))) (not_both x t.ids (get_or window 2 0) (λ e. omega (arith, e)))
+    (not_both x (get_or window 1 0) (get_or window 2 0) other) in
+    let last : cond {A = ℕ} (eqb v (get_or t.entries (first + n) 0 + 1) && is_held t x (first + n)) 1 0
+    ≡ cond {A = ℕ} (eqb v (channel + 1) && (eqb x t.ids || (eqb x (get_or window 1 0) || eqb x (get_or window 2 0)))) 1 0 =
+    ap (λ k. cond (eqb v (get_or t.entries k 0 + 1) && is_held t x k) 1 0) here
+    ∙ ap (λ e. cond (eqb v (e + 1) && is_held t x number) 1 0) (sym own)
+    ∙ ap (λ w. cond (eqb v (channel + 1) && (eqb x t.ids || (eqb x (get_or w 1 0) || eqb x (get_or w 2 0)))) 1 0) read in
+    omega (arith, held, marks, last)
+
+-- each entry of a table, and what is read past the last one, is a channel
+pub entries_below : (entries : List ℕ) (most : ℕ) → 1 ≤ most → All (λ c. c < most) entries → (k : ℕ) → get_or entries k 0 < most
+entries_below entries most some below k =
+    ⊎_elim
+    (λ (lt : k < length entries). below k 0 lt)
+    (λ (past : length entries ≤ k). omega (arith, get_or_past entries k 0 past))
+    (cases_lt k (length entries))

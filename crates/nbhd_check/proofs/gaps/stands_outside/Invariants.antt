@@ -1,8 +1,0 @@
-use Rattle.std.proofs.Common.{◌≤◌, length}
-use Rattle.nbhd_check.proofs.GapPlaces.{ArePassed, NoneBefore}
-use Rattle.nbhd_check.proofs.gaps.stands_outside.Given as goal
-
--- the gaps that were passed are before the rest of the list, and the channel stands nowhere else before it
-abbrev pub invariant-loop-gap : goal.invariant-loop-gap
-invariant-loop-gap l =
-    (l.from ≤ length l.list) × ArePassed l.gaps l.gap-index l.from × NoneBefore l.list l.gaps l.channel l.from

@@ -1,0 +1,17 @@
+use Rattle.std.proofs.Common.{◌≡◌, get_or, Some, sym, ap, ◌∙◌}
+use Rattle.std.proofs.lemmas.Bool.{OnFalse_at, OnFalse_from}
+use Rattle.table_fill.specs.Tables.{channel_of}
+use Rattle.nbhd_check.specs.Runs.{BeginsBadTuple}
+use Rattle.nbhd_check.proofs.Runs.{channel_at, none_begins}
+use Rattle.nbhd_check.proofs.run.may_begin_bad_tuple.Goals as goal
+
+pub returns-else-may_be_close_next : goal.returns-else-may_be_close_next
+returns-else-may_be_close_next c =
+    let table = c.args.table.now in
+    let window = c.args.window.now in
+    let channel = get_or c.entries.result.now c.args.number 0 in
+    let here : channel_of table window ≡ Some channel =
+    channel_at c.numbers_of_windows.ensures table c.args.number window c.requires.item ∙ ap (λ entries. Some (get_or entries c.args.number 0)) (sym c.entries.ensures.value) in
+    OnFalse_from c.may_begin_far_tuple.result (¬ BeginsBadTuple table c.args.separation window) (λ no.
+    none_begins c.numbers_of_windows.ensures table c.args.separation window channel here
+    (OnFalse_at c.if-may_be_close_next.false c.may_be_close_next.ensures) (OnFalse_at no c.may_begin_far_tuple.ensures))

@@ -1,0 +1,16 @@
+use Rattle.std.proofs.Common.{◌≡◌, get_or, Some, sym, ap, ◌∙◌}
+use Rattle.std.proofs.lemmas.Bool.{OnFalse_at, OnFalse_from}
+use Rattle.table_fill.specs.Tables.{channel_of}
+use Rattle.nbhd_check.specs.Counts.{BeginsFarTuple}
+use Rattle.nbhd_check.proofs.Runs.{channel_at, none_begins_far}
+use Rattle.nbhd_check.proofs.run.may_begin_far_tuple.Goals as goal
+
+pub returns : goal.returns
+returns c =
+    let table = c.args.table.now in
+    let window = c.args.window.now in
+    let channel = get_or c.entries.result.now c.args.number 0 in
+    let here : channel_of table window ≡ Some channel =
+    channel_at c.numbers_of_windows.ensures table c.args.number window c.requires.item ∙ ap (λ entries. Some (get_or entries c.args.number 0)) (sym c.entries.ensures.value) in
+    OnFalse_from c.may_be_close_at_two.result (¬ BeginsFarTuple table c.args.distance window) (λ no.
+    none_begins_far c.numbers_of_windows.ensures table c.args.distance channel window here (OnFalse_at no c.may_be_close_at_two.ensures))
