@@ -11,7 +11,7 @@ use Rattle.clap.proofs.CallerReads.{signed_reads}
 use Rattle.clap.proofs.WalkLemmas.{one_text-rows}
 use Rattle.option_values.specs.OptionLines.{HasValue, IsOneOf, is_option_line}
 use Rattle.option_values.specs.Laws.{OptionsHaveValues}
-use Rattle.task_words.specs.CommandLine.{command_line, ids_rule, ring_rule, workers_rule, segments_rule}
+use Rattle.task_words.specs.CommandLine.{command_line, ids_rule, ring_rule, workers_rule, segments_rule, near_rule, far_rule}
 use Rattle.task_words.specs.Options.{IsNumberGiven, IsTextGiven}
 use Rattle.task_words.specs.Words.{HasNumber}
 
@@ -43,6 +43,12 @@ workers_of_value values value = (value.0, value.2, value.3)
 
 segments_of_value : (values : List Row) → HasValue segments_rule values → IsNumberGiven values (codes "segments") 1 64
 segments_of_value values value = (value.0, value.2, value.3)
+
+near_of_value : (values : List Row) → HasValue near_rule values → IsNumberGiven values (codes "near") 1 4096
+near_of_value values value = (value.0, value.2, value.3)
+
+far_of_value : (values : List Row) → HasValue far_rule values → IsNumberGiven values (codes "far") 0 4096
+far_of_value values value = (value.0, value.2, value.3)
 
 ring_of_value : (values : List Row) → HasValue ring_rule values → IsTextGiven values (codes "ring")
 ring_of_value values value = (value.0, value.1)
@@ -83,6 +89,26 @@ ring_given name values (inr (inr (inr (inl (is, (ids, (ring, rest))))))) takes =
 ring_given name values (inr (inr (inr (inr (inl (is, (ids, (ring, rest)))))))) takes = ring_of_value values (ring refl)
 ring_given name values (inr (inr (inr (inr (inr (inl (is, rest))))))) takes = absurd (other_name takes_ring name _ refl takes is)
 ring_given name values (inr (inr (inr (inr (inr (inr none)))))) takes = absurd none
+
+pub near_given : (name : Text) (values : List Row) → IsOneOf command_line.subs name values → is_named (codes "judge") name ≡ true
+    → IsNumberGiven values (codes "near") 1 4096
+near_given name values (inl (is, rest)) takes = absurd (other_name (is_named (codes "judge")) name _ refl takes is)
+near_given name values (inr (inl (is, rest))) takes = absurd (other_name (is_named (codes "judge")) name _ refl takes is)
+near_given name values (inr (inr (inl (is, (ids, (workers, (near, rest))))))) takes = near_of_value values (near refl)
+near_given name values (inr (inr (inr (inl (is, rest))))) takes = absurd (other_name (is_named (codes "judge")) name _ refl takes is)
+near_given name values (inr (inr (inr (inr (inl (is, rest)))))) takes = absurd (other_name (is_named (codes "judge")) name _ refl takes is)
+near_given name values (inr (inr (inr (inr (inr (inl (is, rest))))))) takes = absurd (other_name (is_named (codes "judge")) name _ refl takes is)
+near_given name values (inr (inr (inr (inr (inr (inr none)))))) takes = absurd none
+
+pub far_given : (name : Text) (values : List Row) → IsOneOf command_line.subs name values → is_named (codes "judge") name ≡ true
+    → IsNumberGiven values (codes "far") 0 4096
+far_given name values (inl (is, rest)) takes = absurd (other_name (is_named (codes "judge")) name _ refl takes is)
+far_given name values (inr (inl (is, rest))) takes = absurd (other_name (is_named (codes "judge")) name _ refl takes is)
+far_given name values (inr (inr (inl (is, (ids, (workers, (near, (far, rest)))))))) takes = far_of_value values (far refl)
+far_given name values (inr (inr (inr (inl (is, rest))))) takes = absurd (other_name (is_named (codes "judge")) name _ refl takes is)
+far_given name values (inr (inr (inr (inr (inl (is, rest)))))) takes = absurd (other_name (is_named (codes "judge")) name _ refl takes is)
+far_given name values (inr (inr (inr (inr (inr (inl (is, rest))))))) takes = absurd (other_name (is_named (codes "judge")) name _ refl takes is)
+far_given name values (inr (inr (inr (inr (inr (inr none)))))) takes = absurd none
 
 -- ---- the number that a value is
 

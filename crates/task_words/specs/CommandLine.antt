@@ -6,7 +6,7 @@ use Rattle.clap.specs.declared.builder.command.Command.TheViews.{out-Command}
 use Rattle.clap.specs.declared.builder.action.ArgAction.TheVariants.{Set}
 use Rattle.clap.specs.declared.builder.value_parser.ValueParser.{ValueParser}
 use Rattle.clap.specs.declared.builder.value_parser.ValueParser.TheVariants.{String, Signed}
-use Rattle.task_words.specs.declared.limits.TheConstants.{MAX_COUNT}
+use Rattle.task_words.specs.declared.limits.TheConstants.{MAX_COUNT, MAX_DISTANCE}
 
 -- the option `--NAME`, given at most once, with one value, which has one name in help and is accepted by this parser
 abbrev pub option_rule : List ℕ → ValueParser → Rule
@@ -21,7 +21,7 @@ option_rule name parser = record (new_rule name) {
 abbrev pub required_rule : List ℕ → ValueParser → Rule
 required_rule name parser = record (option_rule name parser) { required = true }
 
--- an option whose value is a number from 1 to 64, and 1 where the words leave it out
+-- an option whose value is a number from 1 to MAX_COUNT, and 1 where the words leave it out
 abbrev pub count_rule : List ℕ → Rule
 count_rule name = record (option_rule name (Signed (pos 1) (pos MAX_COUNT))) { defaults = codes "1" ∷ [] }
 
@@ -41,6 +41,14 @@ workers_rule = count_rule (codes "workers")
 abbrev pub segments_rule : Rule
 segments_rule = count_rule (codes "segments")
 
+-- `--near P`: a number from 1 to MAX_DISTANCE, and 1 where the words leave it out
+abbrev pub near_rule : Rule
+near_rule = record (option_rule (codes "near") (Signed (pos 1) (pos MAX_DISTANCE))) { defaults = codes "1" ∷ [] }
+
+-- `--far Q`: a number from 0 to MAX_DISTANCE, and 0 where the words leave it out
+abbrev pub far_rule : Rule
+far_rule = record (option_rule (codes "far") (Signed (pos 0) (pos MAX_DISTANCE))) { defaults = codes "0" ∷ [] }
+
 -- a command of this name with these options
 abbrev pub command_of : List ℕ → List Rule → Shape
 command_of name options = record (new_app name).top { rules = options }
@@ -57,9 +65,9 @@ check_command = command_of (codes "check") (ids_rule ∷ [])
 abbrev pub table_command : Shape
 table_command = command_of (codes "table") (ids_rule ∷ workers_rule ∷ [])
 
--- `judge --ids M [--workers W]`
+-- `judge --ids M [--workers W] [--near P] [--far Q]`
 abbrev pub judge_command : Shape
-judge_command = command_of (codes "judge") (ids_rule ∷ workers_rule ∷ [])
+judge_command = command_of (codes "judge") (ids_rule ∷ workers_rule ∷ near_rule ∷ far_rule ∷ [])
 
 -- `run --ids M --ring A,B,.. [--segments S]`
 abbrev pub run_command : Shape

@@ -53,8 +53,9 @@ abbrev pub IsTaskFor : Text → List Row → Task → Type 0
 IsTaskFor name values (Check ids) = (name ≡ codes "check") × HasNumber values (codes "ids") ids
 IsTaskFor name values (Table ids workers) =
     (name ≡ codes "table") × HasNumber values (codes "ids") ids × HasNumber values (codes "workers") workers
-IsTaskFor name values (Judge ids workers) =
+IsTaskFor name values (Judge ids workers near far) =
     (name ≡ codes "judge") × HasNumber values (codes "ids") ids × HasNumber values (codes "workers") workers
+    × HasNumber values (codes "near") near × HasNumber values (codes "far") far
 IsTaskFor name values (Run ids ring segments) = (name ≡ codes "run") × HasNumber values (codes "ids") ids
     × HasRing values ring.items × HasNumber values (codes "segments") segments
 IsTaskFor name values (Plan ids ring workers) = (name ≡ codes "plan") × HasNumber values (codes "ids") ids

@@ -1,13 +1,13 @@
 //! The command line of the program: its commands and their options, with the texts of help.
 
-ghost use Rattle.std.specs.Prelude.{◌≡◌, IfOk, false};
+ghost use Rattle.std.specs.Prelude.{◌≡◌, IfOk, false, [], ◌∷◌, codes};
 ghost use Rattle.clap.specs.Words.{app_of, rule_of};
-ghost use Rattle.task_words.specs.CommandLine.{IsCommandOf, program, option_rule, count_rule, ids_rule, ring_rule, workers_rule, segments_rule};
+ghost use Rattle.task_words.specs.CommandLine.{IsCommandOf, command_of, program, option_rule, count_rule, ids_rule, ring_rule, workers_rule, segments_rule, near_rule, far_rule};
 ghost use Rattle.task_words.specs.CommandLine.{check_command, table_command, judge_command, run_command, plan_command};
 ghost use Rattle.task_words.specs.CommandLine.{audit_command, command_line};
 
 use crate::help;
-use crate::limits::MAX_COUNT;
+use crate::limits::{MAX_COUNT, MAX_DISTANCE};
 use clap::builder::ValueParser;
 use clap::{Arg, ArgAction, Command, value_parser};
 use std::alloc::{AllocError, Global};
@@ -58,9 +58,16 @@ fn table<'a>(alloc: Global) -> Result<Command<'a>, AllocError>
         .arg(workers(alloc))
 }
 
-// `judge --ids M [--workers W]`.
+// `judge --ids M [--workers W] [--near P] [--far Q]`.
 fn judge<'a>(alloc: Global) -> Result<Command<'a>, AllocError>
     ensures { IfOk result (IsCommandOf judge_command) }
+{
+    judge_by_workers(alloc)?.arg(near(alloc))?.arg(far(alloc))
+}
+
+// `judge` with its first two options.
+fn judge_by_workers<'a>(alloc: Global) -> Result<Command<'a>, AllocError>
+    ensures { IfOk result (IsCommandOf (command_of (codes "judge") (ids_rule ∷ workers_rule ∷ []))) }
 {
     Command::new(alloc, "judge")
         .about(help::JUDGE)
@@ -138,7 +145,29 @@ fn segments<'a>(alloc: Global) -> Arg<'a>
     count(alloc, "segments", "S").help(help::SEGMENTS)
 }
 
-// An option whose value is a number from 1 to 64, and 1 where the words leave it out.
+// `--near P`.
+fn near<'a>(alloc: Global) -> Arg<'a>
+    ensures rule { rule_of result ≡ near_rule }
+    ensures local { result.global ≡ false }
+{
+    let parser = value_parser!(u32).range(1..=i64::from(MAX_DISTANCE));
+    option(alloc, "near", "P", parser)
+        .default_value("1")
+        .help(help::NEAR)
+}
+
+// `--far Q`.
+fn far<'a>(alloc: Global) -> Arg<'a>
+    ensures rule { rule_of result ≡ far_rule }
+    ensures local { result.global ≡ false }
+{
+    let parser = value_parser!(u32).range(0..=i64::from(MAX_DISTANCE));
+    option(alloc, "far", "Q", parser)
+        .default_value("0")
+        .help(help::FAR)
+}
+
+// An option whose value is a number from 1 to `MAX_COUNT`, and 1 where the words leave it out.
 fn count<'a>(alloc: Global, name: &'a str, value_name: &'a str) -> Arg<'a>
     ensures rule { rule_of result ≡ count_rule name.entry.now }
     ensures local { result.global ≡ false }

@@ -43,7 +43,7 @@ pub(crate) const CHECK: &str = "Tells whether a program is accepted for M identi
 pub(crate) const TABLE: &str = "Prints the table of a program, one channel per window";
 
 pub(crate) const JUDGE: &str =
-    "Tells whether neighbours' channels differ on every ring, by a program's table";
+    "Tells whether channels are far enough apart on every ring, by a program's table";
 
 pub(crate) const RUN: &str = "Runs a program by messages on a ring, and prints the channels";
 
@@ -59,6 +59,10 @@ pub(crate) const RING: &str = "The ring's identifiers, each followed by its righ
 pub(crate) const WORKERS: &str = "How many threads work on the table, 1 to 64";
 
 pub(crate) const SEGMENTS: &str = "How many segments the ring is cut into, each a thread, 1 to 64";
+
+pub(crate) const NEAR: &str = "By how much neighbours' channels have to differ, 1 to 4096";
+
+pub(crate) const FAR: &str = "By how much the channels at distance two have to differ, 0 to 4096";
 
 /// What `check` reads and prints.
 pub(crate) const CHECK_DETAILS: &str = details!(
@@ -93,11 +97,13 @@ Exit status:
 /// What `judge` reads and prints.
 pub(crate) const JUDGE_DETAILS: &str = details!(
     "Standard input:  a program text
-Standard output: one line: yes, or no with a ring where two neighbours have one channel,
+Standard output: one line: yes, or no with a ring where two channels are too close,
                  or what is refused
 
 ",
-    "
+    "Without --near and --far, neighbours' channels have to differ. With --near 2 --far 1, for example,
+they have to differ by 2 or more, and the channels of a node's two neighbours have to differ as well.
+
 Exit status:
   0  yes
   1  no

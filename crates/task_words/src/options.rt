@@ -4,11 +4,11 @@ ghost use Rattle.std.specs.Prelude.{◌≡◌, ◌⊎◌, codes, IfOk, IfErr};
 ghost use Rattle.clap.specs.Words.{found_of, rows_of};
 ghost use Rattle.option_values.specs.OptionLines.{IsOneOf};
 ghost use Rattle.task_words.specs.CommandLine.{command_line};
-ghost use Rattle.task_words.specs.Counts.{IsCount};
+ghost use Rattle.task_words.specs.Counts.{IsCount, IsNear, IsFar};
 ghost use Rattle.task_words.specs.Options.{IsNumberGiven, IsTextGiven};
 ghost use Rattle.task_words.specs.Task.{IsRunnable, segments_of};
 ghost use Rattle.task_words.specs.Words.{HasNumber, HasRing, IsRingBad, IsRingName, IsTaskFor};
-ghost use Rattle.task_words.specs.declared.limits.TheConstants.{MAX_COUNT};
+ghost use Rattle.task_words.specs.declared.limits.TheConstants.{MAX_COUNT, MAX_DISTANCE};
 ghost use Rattle.task_words.specs.declared.words.WordsFault.TheVariants.{BadRing, OutOfMemory};
 
 use crate::ring_text::ring_of;
@@ -42,6 +42,8 @@ pub(crate) fn task_in(
         "judge" => Ok(Task::Judge {
             ids: ids_of(options),
             workers: count_of(options, "workers"),
+            near: near_of(options),
+            far: far_of(options),
         }),
         "run" => Ok(Task::Run {
             ids: ids_of(options),
@@ -79,6 +81,30 @@ fn count_of(options: &ArgMatches<'_>, option: &str) -> u32
         unreachable!()
     };
     count
+}
+
+// By how much neighbours' channels have to differ.
+fn near_of(options: &ArgMatches<'_>) -> u32
+    requires { IsNumberGiven (rows_of (found_of options.now)) (codes "near") 1 MAX_DISTANCE }
+    ensures number { HasNumber (rows_of (found_of options.now)) (codes "near") result }
+    ensures range { IsNear result }
+{
+    let Some(near) = options.get_one::<u32>("near") else {
+        unreachable!()
+    };
+    near
+}
+
+// By how much the channels of places at distance two have to differ.
+fn far_of(options: &ArgMatches<'_>) -> u32
+    requires { IsNumberGiven (rows_of (found_of options.now)) (codes "far") 0 MAX_DISTANCE }
+    ensures number { HasNumber (rows_of (found_of options.now)) (codes "far") result }
+    ensures range { IsFar result }
+{
+    let Some(far) = options.get_one::<u32>("far") else {
+        unreachable!()
+    };
+    far
 }
 
 // The identifiers of the ring's places; `BadRing` where the text is no ring text.

@@ -1,9 +1,9 @@
 //! The tasks that the program can be asked to do.
 
 ghost use Rattle.std.specs.Prelude.{◌↔◌, IsTrue};
-ghost use Rattle.task_words.specs.Counts.{IsCount};
+ghost use Rattle.task_words.specs.Counts.{IsCount, IsNear};
 
-use crate::limits::MAX_COUNT;
+use crate::limits::{MAX_COUNT, MAX_DISTANCE};
 
 /// What the words of a command ask for.
 #[derive(Debug, PartialEq, Eq, Drop)]
@@ -17,16 +17,20 @@ pub enum Task {
     Table {
         /// How many identifiers there are.
         ids: u32,
-        /// How many workers do it, 1 to 64.
+        /// How many workers do it, 1 to `MAX_COUNT`.
         workers: u32,
     },
-    /// Tells whether the channels of neighbours differ on every ring of identifiers below `ids`, by the
-    /// program text of the input.
+    /// Tells whether the channels of near places are far enough apart on every ring of identifiers below `ids`,
+    /// by the program text of the input.
     Judge {
         /// How many identifiers there are.
         ids: u32,
-        /// How many workers do it, 1 to 64.
+        /// How many workers do it, 1 to `MAX_COUNT`.
         workers: u32,
+        /// By how much neighbours' channels have to differ, 1 to `MAX_DISTANCE`.
+        near: u32,
+        /// By how much the channels of places at distance two have to differ, 0 to `MAX_DISTANCE`.
+        far: u32,
     },
     /// Runs the program text of the input on a ring, for identifiers below `ids`.
     Run {
@@ -34,7 +38,7 @@ pub enum Task {
         ids: u32,
         /// The identifiers of the ring's places, from place 0 on.
         ring: Vec<u32>,
-        /// In how many segments the ring is run. The report tells where they are not 1 to 64, or more than
+        /// In how many segments the ring is run. The report tells where they are not 1 to `MAX_COUNT`, or more than
         /// the ring has places.
         segments: u32,
     },
@@ -45,7 +49,7 @@ pub enum Task {
         ids: u32,
         /// The identifiers of the ring's places, from place 0 on.
         ring: Vec<u32>,
-        /// How many workers do it, 1 to 64.
+        /// How many workers do it, 1 to `MAX_COUNT`.
         workers: u32,
     },
     /// Tells whether the channels of neighbours differ on every ring, by the table text of the input.
@@ -62,7 +66,13 @@ impl Task {
     {
         match self {
             Task::Check { ids } => Some(*ids),
-            Task::Table { ids, workers: _ } | Task::Judge { ids, workers: _ } => Some(*ids),
+            Task::Table { ids, workers: _ }
+            | Task::Judge {
+                ids,
+                workers: _,
+                near: _,
+                far: _,
+            } => Some(*ids),
             Task::Run {
                 ids,
                 ring: _,
@@ -77,7 +87,8 @@ impl Task {
         }
     }
 
-    /// Whether the task can be done: where it names a number of workers, that is 1 to 64.
+    /// Whether the task can be done: where it names a number of workers, that is 1 to `MAX_COUNT`, and where
+    /// it names differences of channels, these are at most `MAX_DISTANCE`, and that of neighbours is at least 1.
     pub fn is_runnable(&self) -> bool
         ensures { IsTrue result ↔ IsRunnable self.now }
     {
@@ -89,7 +100,13 @@ impl Task {
                 segments: _,
             }
             | Task::Audit => true,
-            Task::Table { ids: _, workers } | Task::Judge { ids: _, workers } => is_count(*workers),
+            Task::Table { ids: _, workers } => is_count(*workers),
+            Task::Judge {
+                ids: _,
+                workers,
+                near,
+                far,
+            } => is_count(*workers) && is_near(*near) && *far <= MAX_DISTANCE,
             Task::Plan {
                 ids: _,
                 ring: _,
@@ -104,4 +121,11 @@ fn is_count(count: u32) -> bool
     ensures { IsTrue result ↔ IsCount count }
 {
     1 <= count && count <= MAX_COUNT
+}
+
+// Whether words can ask that neighbours' channels differ by so much.
+fn is_near(near: u32) -> bool
+    ensures { IsTrue result ↔ IsNear near }
+{
+    1 <= near && near <= MAX_DISTANCE
 }

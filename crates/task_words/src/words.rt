@@ -82,13 +82,14 @@ pub fn words_fault(alloc: Global, error: io::Error) -> WordsFault
     }
 }
 
-/// The task that the words after the program's name ask for, by the rules of `clap`: the name of a command,
-/// and its options in any order, each with one value. The commands are `check --ids M`,
-/// `table --ids M [--workers W]`, `judge --ids M [--workers W]`, `run --ids M --ring A,B,.. [--segments S]`,
-/// `plan --ids M --ring A,B,.. [--workers W]` and `audit`: `M` is a decimal number up to 4294967295, `W` and
-/// `S` are such numbers from 1 to 64, or 1 where the words don't say how many, and what stands after `--ring`
-/// is a ring text. `Usage` comes where `clap` refuses the words, `BadRing` where it takes them but the ring
-/// text is none, `Help` where they ask for help, and `OutOfMemory` where memory was refused.
+/// The task that the words after the program's name ask for, by the rules of `clap`: the name of a command, and its
+/// options in any order, each with one value. The commands are `check --ids M`, `table --ids M [--workers W]`,
+/// `judge --ids M [--workers W] [--near P] [--far Q]`, `run --ids M --ring A,B,.. [--segments S]`,
+/// `plan --ids M --ring A,B,.. [--workers W]` and `audit`. `M` is a decimal number up to 4294967295; `W` and `S` are such
+/// numbers from 1 to `MAX_COUNT`, or 1 where the words leave them out; `P` is one from 1 to `MAX_DISTANCE`, or 1, and `Q`
+/// one from 0 to `MAX_DISTANCE`, or 0; and what stands after `--ring` is a ring text. `Usage` comes where `clap` refuses
+/// the words, `BadRing` where it takes them but the ring text is none, `Help` where they ask for help, and `OutOfMemory`
+/// where memory was refused.
 pub fn task_of(alloc: Global, words: &[String]) -> Result<Task, WordsFault>
     ensures task { IfOk result (λ task. IsCommand (map string_bytes words.now) × IsTaskOf (map string_bytes words.now) task) }
     ensures runnable { IfOk result IsRunnable }

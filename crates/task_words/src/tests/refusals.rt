@@ -121,6 +121,14 @@ fn numbers_out_of_range_are_refused(rt: HostRuntime) {
     are_no_commands(&rt, "judge --ids 8 --workers 0|judge --ids 8 --workers 65");
     are_no_commands(
         &rt,
+        "judge --ids 8 --near 0|judge --ids 8 --near 4097|judge --ids 8 --far 4097",
+    );
+    are_no_commands(
+        &rt,
+        "table --ids 8 --near 1|judge --ids 8 --near 1 --near 1|judge --ids 8 --far -1",
+    );
+    are_no_commands(
+        &rt,
         "plan --ids 8 --ring 5 --workers 0|plan --ids 8 --ring 5 --workers 65",
     );
     are_no_commands(

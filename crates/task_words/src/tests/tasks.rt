@@ -45,16 +45,21 @@ fn tables_are_tasks(rt: HostRuntime) {
 #[test]
 fn judges_are_tasks(rt: HostRuntime) {
     let rows = [
-        ("judge --ids 8", 1),
-        ("judge --ids 8 --workers 64", 64),
-        ("judge --workers 02 --ids 008", 2),
+        ("judge --ids 8", 1, 1, 0),
+        ("judge --ids 8 --workers 64", 64, 1, 0),
+        ("judge --workers 02 --ids 008", 2, 1, 0),
+        ("judge --ids 8 --near 2 --far 1", 1, 2, 1),
+        ("judge --far 4096 --ids 8 --near 4096", 1, 4096, 4096),
+        ("judge --far=00 --near=+3 --ids=8", 1, 3, 0),
     ];
-    for (line, workers) in rows {
-        assert_eq!(rt;
-            asked(rt.alloc(), line),
-            Ok(Task::Judge { ids: 8, workers }),
-            "at {line}"
-        );
+    for (line, workers, near, far) in rows {
+        let task = Task::Judge {
+            ids: 8,
+            workers,
+            near,
+            far,
+        };
+        assert_eq!(rt; asked(rt.alloc(), line), Ok(task), "at {line}");
     }
 }
 
@@ -117,7 +122,12 @@ fn tasks_of_1_to_64_workers_can_be_done(rt: HostRuntime) {
     for (workers, can) in [(0, false), (1, true), (64, true), (65, false)] {
         let table = Task::Table { ids: 8, workers };
         assert_eq!(rt; table.is_runnable(), can, "{workers} workers");
-        let judge = Task::Judge { ids: 8, workers };
+        let judge = Task::Judge {
+            ids: 8,
+            workers,
+            near: 1,
+            far: 0,
+        };
         assert_eq!(rt; judge.is_runnable(), can, "{workers} workers");
         let plan = Task::Plan {
             ids: 8,
@@ -128,6 +138,26 @@ fn tasks_of_1_to_64_workers_can_be_done(rt: HostRuntime) {
     }
     assert!(rt; Task::Check { ids: 8 }.is_runnable());
     assert!(rt; Task::Audit.is_runnable());
+}
+
+#[test]
+fn judges_of_1_to_4096_and_0_to_4096_can_be_done(rt: HostRuntime) {
+    let rows = [
+        (0, 0, false),
+        (1, 0, true),
+        (4096, 4096, true),
+        (4097, 0, false),
+        (1, 4097, false),
+    ];
+    for (near, far, can) in rows {
+        let judge = Task::Judge {
+            ids: 8,
+            workers: 1,
+            near,
+            far,
+        };
+        assert_eq!(rt; judge.is_runnable(), can, "near {near} far {far}");
+    }
 }
 
 #[test]

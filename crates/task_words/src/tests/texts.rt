@@ -22,7 +22,7 @@ Usage: nbhd <COMMAND>
 Commands:
   check  Tells whether a program is accepted for M identifiers
   table  Prints the table of a program, one channel per window
-  judge  Tells whether neighbours' channels differ on every ring, by a program's table
+  judge  Tells whether channels are far enough apart on every ring, by a program's table
   run    Runs a program by messages on a ring, and prints the channels
   plan   Prints the channels of a ring's places, looked up in the table
   audit  Tells whether neighbours' channels differ on every ring, by a table text
@@ -70,6 +70,39 @@ Exit status:
   6  memory or a thread was refused
 ";
     assert_eq!(rt; text_of(rt.alloc(), "run --help")?.as_str(), expected);
+    Ok(())
+}
+
+#[test]
+fn help_of_a_judge(rt: HostRuntime) -> Result<(), Fail> {
+    let expected = "Tells whether channels are far enough apart on every ring, by a program's table
+
+Usage: nbhd judge [OPTIONS] --ids <M>
+
+Options:
+      --ids <M>      How many identifiers there are; they are 0 to M-1
+      --workers <W>  How many threads work on the table, 1 to 64 [default: 1]
+      --near <P>     By how much neighbours' channels have to differ, 1 to 4096 [default: 1]
+      --far <Q>      By how much the channels at distance two have to differ, 0 to 4096 [default: 0]
+  -h, --help         Print help
+
+Standard input:  a program text
+Standard output: one line: yes, or no with a ring where two channels are too close,
+                 or what is refused
+
+M is 2 to 1024 for 0 rounds, 4 to 162 for 1 round, 6 to 23 for 2, 8 to 12 for 3, 10 for 4 rounds.
+Without --near and --far, neighbours' channels have to differ. With --near 2 --far 1, for example,
+they have to differ by 2 or more, and the channels of a node's two neighbours have to differ as well.
+
+Exit status:
+  0  yes
+  1  no
+  2  the words are refused
+  3  the program is refused
+  5  reading or writing failed
+  6  memory or a thread was refused
+";
+    assert_eq!(rt; text_of(rt.alloc(), "judge --help")?.as_str(), expected);
     Ok(())
 }
 
