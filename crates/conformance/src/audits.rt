@@ -31,7 +31,17 @@ fn judged_alike<R: Abort + Threads + Wait + Sync>(
     ids: u32,
 ) -> Result<usize, Fail> {
     let text = done(rt, alloc, Task::Table { ids, workers: 1 }, program)?;
-    let judged = report_of(rt, alloc, Task::Judge { ids, workers: 1 }, program)?;
+    let judged = report_of(
+        rt,
+        alloc,
+        Task::Judge {
+            ids,
+            workers: 1,
+            near: 1,
+            far: 0,
+        },
+        program,
+    )?;
     let audited = report_of(rt, alloc, Task::Audit, &text)?;
     assert!(rt; audited == judged, "{ids} identifiers");
     Ok(text.len())

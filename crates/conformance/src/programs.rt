@@ -35,6 +35,13 @@ pub const LDB: &[u8] =
 /// No round: the identifier.
 pub const ID0: &[u8] = b"rounds 0\nchannels 2\nregisters 1\nstart\nr0 = id\nfinish r0\n";
 
+/// `ID0` with four channels.
+pub const ID0_OF_4: &[u8] = b"rounds 0\nchannels 4\nregisters 1\nstart\nr0 = id\nfinish r0\n";
+
+/// No round: twice the identifier.
+pub const TWICE_ID: &[u8] =
+    b"rounds 0\nchannels 7\nregisters 1\nstart\nr0 = id\nfinish shl(r0, 1)\n";
+
 /// No round: always 0.
 pub const ZERO: &[u8] = b"rounds 0\nchannels 1\nregisters 1\nstart\nr0 = id\nfinish 0\n";
 

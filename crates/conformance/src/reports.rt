@@ -2,7 +2,7 @@
 
 use crate::programs::{
     CV1, CV1_OF_11, CV1_OF_12, CV1_OF_14, CV1_OF_16, CV1_OF_THREE, CV1_SENDS_L, EIGHT_REGISTERS,
-    ID0, LDB, NOT_HEAD, RED, SHIFT4, TWO_REGISTERS, ZERO,
+    ID0, ID0_OF_4, LDB, NOT_HEAD, RED, SHIFT4, TWICE_ID, TWO_REGISTERS, ZERO,
 };
 use crate::texts::{full_tree, nested};
 use plan_print::engine::engine;
@@ -79,7 +79,12 @@ fn all_refuse<R: Abort + Threads + Wait + Sync>(
     let tasks = [
         Task::Check { ids },
         Task::Table { ids, workers: 1 },
-        Task::Judge { ids, workers: 1 },
+        Task::Judge {
+            ids,
+            workers: 1,
+            near: 1,
+            far: 0,
+        },
         Task::Run {
             ids,
             ring: [0, 1].to_vec(alloc)?,
@@ -358,8 +363,56 @@ fn judges(rt: HostRuntime) -> Result<(), Fail> {
         (RED, 8, "yes: 40320 tuples\n", Status::Done),
     ];
     for (text, ids, line, status) in rows {
-        let task = Task::Judge { ids, workers: 1 };
+        let task = Task::Judge {
+            ids,
+            workers: 1,
+            near: 1,
+            far: 0,
+        };
         reports(&rt, rt.alloc(), task, text, line, status)?;
+    }
+    Ok(())
+}
+
+// Row by row: the program, the identifiers, near and far, the line.
+#[test]
+fn judges_by_a_separation(rt: HostRuntime) -> Result<(), Fail> {
+    let rows: [(&[u8], u32, u32, u32, &str); 7] = [
+        (
+            ID0_OF_4,
+            4,
+            2,
+            1,
+            "no: ring 0 1 2 places 0 1 channels 0 1\n",
+        ),
+        (
+            ID0_OF_4,
+            4,
+            1,
+            2,
+            "no: ring 0 2 1 places 0 2 channels 0 1\n",
+        ),
+        (TWICE_ID, 4, 2, 1, "yes: 24 tuples\n"),
+        (ID0, 2, 2, 0, "no: ring 0 1 places 0 1 channels 0 1\n"),
+        (ID0, 2, 1, 1, "yes: 0 tuples\n"),
+        (CV1, 8, 1, 1, "no: ring 0 1 2 3 4 places 1 3 channels 1 1\n"),
+        (LDB, 8, 1, 0, "no: ring 0 1 2 3 place 1 channel 0\n"),
+    ];
+    for (text, ids, near, far, line) in rows {
+        let status = if line.starts_with("yes") {
+            Status::Done
+        } else {
+            Status::No
+        };
+        for workers in [1, 3] {
+            let task = Task::Judge {
+                ids,
+                workers,
+                near,
+                far,
+            };
+            reports(&rt, rt.alloc(), task, text, line, status)?;
+        }
     }
     Ok(())
 }
@@ -370,20 +423,70 @@ fn the_judge_of_64_identifiers(rt: HostRuntime) -> Result<(), Fail> {
     let task = Task::Judge {
         ids: 64,
         workers: 1,
+        near: 1,
+        far: 0,
     };
     let line = "yes: 15249024 tuples\n";
     reports(&rt, rt.alloc(), task, CV1_OF_12, line, Status::Done)
 }
 
-// Over three million windows: too many for a run that is not built.
 #[test]
 fn the_judge_of_four_rounds(rt: HostRuntime) -> Result<(), Fail> {
     let task = Task::Judge {
         ids: 10,
         workers: 4,
+        near: 1,
+        far: 0,
     };
     let line = "yes: 3628800 tuples\n";
     reports(&rt, rt.alloc(), task, SHIFT4, line, Status::Done)
+}
+
+// The bytes of 3,628,800 lines.
+#[test]
+fn each_number_of_workers_prints_the_table_of_four_rounds(rt: HostRuntime) -> Result<(), Fail> {
+    let one = done(
+        &rt,
+        rt.alloc(),
+        Task::Table {
+            ids: 10,
+            workers: 1,
+        },
+        SHIFT4,
+    )?;
+    for workers in [2, 64] {
+        let text = done(&rt, rt.alloc(), Task::Table { ids: 10, workers }, SHIFT4)?;
+        assert!(rt; text == one, "{workers} workers");
+    }
+    Ok(())
+}
+
+#[test]
+fn each_number_of_segments_runs_four_rounds(rt: HostRuntime) -> Result<(), Fail> {
+    for segments in 1..11 {
+        let ring = [0, 1, 2, 3, 4, 5, 6, 7, 8, 9].to_vec(rt.alloc())?;
+        let task = Task::Run {
+            ids: 10,
+            ring,
+            segments,
+        };
+        let line = "6 7 8 9 0 1 2 3 4 5\n";
+        reports(&rt, rt.alloc(), task, SHIFT4, line, Status::Done)?;
+    }
+    Ok(())
+}
+
+#[test]
+fn the_plan_of_four_rounds(rt: HostRuntime) -> Result<(), Fail> {
+    let ring = [0, 1, 2, 3, 4, 5, 6, 7, 8, 9].to_vec(rt.alloc())?;
+    let lines =
+        "   0    0    6\n   1    1    7\n   2    2    8\n   3    3    9\n   4    4    0\n   5    5    1\n   6    6    2\n   7    7    3\n   8    8    4\n   9    9    5\n";
+    let task = Task::Plan {
+        ids: 10,
+        ring,
+        workers: 4,
+    };
+    reports(&rt, rt.alloc(), task, SHIFT4, lines, Status::Done)
 }
 
 #[test]

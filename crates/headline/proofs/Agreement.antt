@@ -1,5 +1,6 @@
 -- That the judge's yes, which is about a table, is about the channels of global rounds.
-use Rattle.std.proofs.Common.{◌≡◌, ℕ, ◌+◌, ◌-◌, ◌*◌, ◌%◌, ◌<◌, ◌≤◌, ◌↔◌, List, length, map, slice_index, Some, arith, subst, sym, ◌∙◌, ap, ⊎_elim}
+use Rattle.std.proofs.Common.{◌≡◌, ℕ, ◌+◌, ◌-◌, ◌*◌, ◌%◌, ◌<◌, ◌≤◌, ◌↔◌, Option, List, length, map, slice_index, Some, arith, subst, sym, ◌∙◌, ap, ⊎_elim}
+use Rattle.std.specs.Int.{abs_diff}
 use Rattle.std.specs.List.{range_with_len}
 use Rattle.std.proofs.lemmas.Bool.{cases_lt}
 use Rattle.std.proofs.lemmas.Option.{same_Some, slice_get-get_or}
@@ -10,8 +11,9 @@ use Rattle.node_lang.specs.GlobalRounds.{right_of, channel_at, channels_of}
 use Rattle.win_index.specs.Ring.{IsRing}
 use Rattle.win_index.specs.Arcs.{arc, window_around}
 use Rattle.table_fill.specs.Tables.{ChannelTable, channel_of}
-use Rattle.nbhd_check.specs.Proper.{IsGoodEverywhere}
-use Rattle.headline.specs.Headline.{TableAgrees, RunAgrees, NeighboursDiffer}
+use Rattle.nbhd_check.specs.declared.separation.Separation.{Separation}
+use Rattle.nbhd_check.specs.Apart.{extra, AreApart, IsApartEverywhere}
+use Rattle.headline.specs.Headline.{TableAgrees, RunAgrees, ChannelsAreApart}
 
 -- places of an arc may be counted from one turn further
 turned : (x : List ℕ) (start count : ℕ) → arc x (length x + start) count ≡ arc x start count
@@ -21,39 +23,76 @@ turned x start count =
     ap (λ j. j % length x) sum ∙ add-mod_left (length x) (start + k) in
     λ i. map (λ k. slice_index x (further k i)) (range_with_len 0 count)
 
--- the window of the place after a place is that of its right neighbour
-window_after :
-    (x : List ℕ) (t place : ℕ) → place < length x → t ≤ length x → window_around x t (place + 1) ≡ window_around x t (right_of x place)
-window_after x t place lt short =
+-- places may be counted on for a turn
+window_at : (x : List ℕ) (t place : ℕ) → place < length x + length x → t ≤ length x → window_around x t place ≡ window_around x t (place % length x)
+window_at x t place lt short =
     let n = length x in
     ⊎_elim
-    (λ (inside : place + 1 < n). ap (window_around x t) (sym (mod-eq_of_lt inside)))
-    (λ (last : n ≤ place + 1).
-    let around : place + 1 ≡ n + 0 = omega arith in
-    let first : right_of x place ≡ 0 = ap (λ k. k % n) around ∙ add-mod_left n 0 ∙ mod-eq_of_lt (omega arith) in
-    let start : place + 1 + n - t ≡ n + (0 + n - t) = omega arith in
-    ap (λ k. arc x k (2 * t + 1)) start ∙ turned x (0 + n - t) (2 * t + 1) ∙ ap (window_around x t) (sym first))
-    (cases_lt (place + 1) n)
+    (λ (inside : place < n). ap (window_around x t) (sym (mod-eq_of_lt inside)))
+    (λ (outside : n ≤ place).
+    let k : ℕ = place - n in
+    let around : place ≡ n + k = omega arith in
+    let first : place % n ≡ k = ap (λ j. j % n) around ∙ add-mod_left n k ∙ mod-eq_of_lt (omega arith) in
+    let start : place + n - t ≡ n + (k + n - t) = omega arith in
+    ap (λ j. arc x j (2 * t + 1)) start ∙ turned x (k + n - t) (2 * t + 1) ∙ ap (window_around x t) (sym first))
+    (cases_lt place n)
 
--- a table that agrees with global rounds is good everywhere where neighbours differ, and only there
+-- the right neighbour's right neighbour is two places on
+two_right : (x : List ℕ) (i : ℕ) → i < length x → right_of x (right_of x i) ≡ (i + 2) % length x
+two_right x i lt =
+    let n = length x in
+    ⊎_elim
+    (λ (inside : i + 1 < n).
+    let one : right_of x i ≡ i + 1 = mod-eq_of_lt inside in
+    let sum : i + 1 + 1 ≡ i + 2 = omega arith in
+    ap (λ k. (k + 1) % n) one ∙ ap (λ k. k % n) sum)
+    (λ (last : n ≤ i + 1).
+    let around : i + 1 ≡ n + 0 = omega arith in
+    let further : i + 2 ≡ n + 1 = omega arith in
+    let one : right_of x i ≡ 0 = ap (λ k. k % n) around ∙ add-mod_left n 0 ∙ mod-eq_of_lt (omega arith) in
+    ap (λ k. (k + 1) % n) one ∙ sym (ap (λ k. k % n) further ∙ add-mod_left n 1))
+    (cases_lt (i + 1) n)
+
+-- what it says of two channels that they are apart
+apart_of : (distance : ℕ) (a b : Option ℕ) (c d : ℕ) → a ≡ Some c → b ≡ Some d → AreApart distance a b ↔ (distance ≤ abs_diff c d)
+apart_of distance a b c d first second = (
+  λ apart. subst (AreApart distance (Some c)) second (subst (λ o. AreApart distance o b) first apart),
+  λ apart. subst (λ o. AreApart distance o b) (sym first) (subst (AreApart distance (Some c)) (sym second) apart),
+)
+
+-- the channels of a table that agrees with global rounds are apart everywhere where those of global rounds are, and only there
 pub good_tables :
-    (p : ProgramTree) (m : ℕ) (table : ChannelTable) → table.ids ≡ m → table.rounds ≡ length p.steps → TableAgrees p m table
-    → IsGoodEverywhere table ↔ NeighboursDiffer p m
-good_tables p m table ids rounds agrees =
+    (p : ProgramTree) (m : ℕ) (s : Separation) (table : ChannelTable) → table.ids ≡ m → table.rounds ≡ length p.steps → TableAgrees p m table
+    → IsApartEverywhere table s ↔ ChannelsAreApart p m s
+good_tables p m s table ids rounds agrees =
     let t = length p.steps in
-    let right : (x : List ℕ) (i : ℕ) → IsRing m t x → i < length x → channel_of table (window_around x t (i + 1)) ≡ Some (channel_at p x (right_of x i)) =
+    let at' : (x : List ℕ) (r place : ℕ) → Option ℕ = λ x r place. channel_of table (window_around x r place) in
+    let one : (x : List ℕ) (i : ℕ) → IsRing m t x → i < length x → at' x t (i + 1) ≡ Some (channel_at p x (right_of x i)) =
     λ x i ring lt.
     let long = ring.long in
-    let inside : right_of x i < length x = mod-lt (i + 1) (omega arith) in
-    ap (channel_of table) (window_after x t i lt (omega arith)) ∙ agrees x (right_of x i) ring inside in
-    let shared = λ (x : List ℕ) (i r : ℕ). channel_of table (window_around x r i) ≡ channel_of table (window_around x r (i + 1)) in (
-      λ good x i ring lt same.
-          good x i (subst (λ (m : ℕ). IsRing m table.rounds x) (sym ids) (subst (λ (r : ℕ). IsRing m r x) (sym rounds) ring)) lt
-          (subst (shared x i) (sym rounds) (agrees x i ring lt ∙ ap Some same ∙ sym (right x i ring lt))),
-      λ differ x i ring lt same.
+    ap (channel_of table) (window_at x t (i + 1) (omega arith) (omega arith)) ∙ agrees x (right_of x i) ring (mod-lt (i + 1) (omega arith)) in
+    let two : (x : List ℕ) (i : ℕ) → IsRing m t x → i < length x → at' x t (i + 2) ≡ Some (channel_at p x (right_of x (right_of x i))) =
+    λ x i ring lt.
+    let long = ring.long in
+    ap (channel_of table) (window_at x t (i + 2) (omega arith) (omega arith)) ∙ agrees x ((i + 2) % length x) ring (mod-lt (i + 2) (omega arith))
+    ∙ ap (λ k. Some (channel_at p x k)) (sym (two_right x i lt)) in
+    let Apart : (x : List ℕ) (i r : ℕ) → Type 0 =
+    λ x i r. AreApart s.near (at' x r i) (at' x r (i + 1)) × AreApart s.far (at' x r i) (at' x r (i + 2)) in (
+      λ good x i ring long lt.
+          let on = subst (λ (m : ℕ). IsRing m table.rounds x) (sym ids) (subst (λ (r : ℕ). IsRing m r x) (sym rounds) ring) in
+          let apart : Apart x i table.rounds = good x i on (omega (arith, long, rounds)) lt in
+          let here : Apart x i t = subst (Apart x i) rounds apart in (
+            (apart_of s.near _ _ _ _ (agrees x i ring lt) (one x i ring lt)).0 here.0,
+            (apart_of s.far _ _ _ _ (agrees x i ring lt) (two x i ring lt)).0 here.1,
+          ),
+      λ apart x i ring long lt.
           let on = subst (λ (m : ℕ). IsRing m t x) ids (subst (λ (r : ℕ). IsRing table.ids r x) rounds ring) in
-          let here : shared x i t = subst (shared x i) rounds same in
-          differ x i on lt (same_Some _ _ (sym (agrees x i on lt) ∙ here ∙ right x i on lt)),
+          let here = apart x i on (omega (arith, long, rounds)) lt in
+          let there : Apart x i t = (
+            (apart_of s.near _ _ _ _ (agrees x i on lt) (one x i on lt)).1 here.0,
+            (apart_of s.far _ _ _ _ (agrees x i on lt) (two x i on lt)).1 here.1,
+          ) in
+          subst (Apart x i) (sym rounds) there,
     )
 
 -- the list of all channels of a ring has the channel of each place

@@ -1,11 +1,14 @@
 -- The headline: the table, the run by messages and global rounds give each place one channel, and the judge tells
--- whether neighbours' channels differ on every ring (Linial 1992).
-use Rattle.std.specs.Prelude.{◌≡◌, ◌≢◌, ◌↔◌, ℕ, ◌<◌, List, length, slice_get, Some}
+-- whether channels are far enough apart on every ring (Linial 1992; Griggs and Yeh 1992).
+use Rattle.std.specs.Prelude.{◌≡◌, ◌↔◌, ℕ, ◌+◌, ◌*◌, ◌<◌, ◌≤◌, List, length, slice_get, Some}
+use Rattle.std.specs.Int.{abs_diff}
 use Rattle.node_lang.specs.Term.{ProgramTree}
 use Rattle.node_lang.specs.GlobalRounds.{right_of, channel_at}
 use Rattle.win_index.specs.Ring.{IsRing}
 use Rattle.win_index.specs.Arcs.{window_around}
 use Rattle.table_fill.specs.Tables.{ChannelTable, channel_of}
+use Rattle.nbhd_check.specs.declared.separation.Separation.{Separation}
+use Rattle.nbhd_check.specs.Apart.{extra}
 use Rattle.nbhd_check.specs.Verdicts.{IsVerdict}
 use Rattle.nbhd_check.specs.declared.verdict.Verdict.{Verdict}
 use Rattle.nbhd_check.specs.declared.verdict.Verdict.TheVariants.{Yes}
@@ -22,16 +25,18 @@ pub record RunAgrees (p : ProgramTree) (ring channels : List ℕ) : Type 0 where
   pub size : length channels ≡ length ring
   pub at : (place : ℕ) → place < length ring → slice_get channels place ≡ Some (channel_at p ring place)
 
--- on every such ring the channels of neighbours differ
-abbrev pub NeighboursDiffer : ProgramTree → ℕ → Type 0
-NeighboursDiffer p m =
-    (ring : List ℕ) (place : ℕ) → IsRing m (length p.steps) ring → place < length ring
-    → channel_at p ring place ≢ channel_at p ring (right_of ring place)
+-- on every such ring, of 2t+3 and more nodes where far is not 0, channels differ by at least near at neighbours, and by at least
+-- far at distance two
+abbrev pub ChannelsAreApart : ProgramTree → ℕ → Separation → Type 0
+ChannelsAreApart p m s =
+    (ring : List ℕ) (place : ℕ) → IsRing m (length p.steps) ring → 2 * length p.steps + 1 + extra s ≤ length ring → place < length ring
+    → (s.near ≤ abs_diff (channel_at p ring place) (channel_at p ring (right_of ring place)))
+    × (s.far ≤ abs_diff (channel_at p ring place) (channel_at p ring (right_of ring (right_of ring place))))
 
--- the table and the run agree with global rounds, and the judge says yes exactly where neighbours differ; its no is
+-- the table and the run agree with global rounds, and the judge says yes exactly where channels are apart; its no is
 -- the least bad tuple
-pub record IsHeadline (p : ProgramTree) (m : ℕ) (ring channels : List ℕ) (table : ChannelTable) (verdict : Verdict) : Type 0 where
+pub record IsHeadline (p : ProgramTree) (m : ℕ) (s : Separation) (ring channels : List ℕ) (table : ChannelTable) (verdict : Verdict) : Type 0 where
   pub table_agrees : TableAgrees p m table
   pub run_agrees : RunAgrees p ring channels
-  pub yes : (verdict ≡ Yes) ↔ NeighboursDiffer p m
-  pub verdict_is : IsVerdict table verdict
+  pub yes : (verdict ≡ Yes) ↔ ChannelsAreApart p m s
+  pub verdict_is : IsVerdict table s verdict

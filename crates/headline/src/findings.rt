@@ -7,7 +7,7 @@ ghost use Rattle.ring_exec.specs.declared.message_run.RunFault.{RunFault};
 
 use crate::fault::FindingsFault;
 use lang_check::Plan;
-use nbhd_check::{Verdict, judge};
+use nbhd_check::{Separation, Verdict, judge};
 use ring_exec::{RunFault, run};
 use round_eval::Gate;
 use shared_memo::Memo;
@@ -24,30 +24,32 @@ pub struct Findings {
     pub table: Table,
     /// The channels of the ring's places, from place 0 on, as the run by messages gave them.
     pub channels: Vec<u32>,
-    /// Whether neighbours' channels differ on every ring, by the table.
+    /// Whether channels are far enough apart on every ring, by the table.
     pub verdict: Verdict,
 }
 
-/// The headline. For every accepted program, every ring and every number of workers and of segments: where the program
-/// is compiled, run and judged, the table's channel at each window of every ring and the run's channel at each place are
-/// the channel of synchronous rounds (Linial 1992), and the judge says yes exactly where the channels of neighbours
-/// differ on every ring. The ring has the plan's shape.
+/// The headline. For every accepted program, every ring, every separation and every number of workers and of segments:
+/// where the program is compiled, run and judged, the table's channel at each window of every ring and the run's channel
+/// at each place are the channel of synchronous rounds (Linial 1992), and the judge says yes exactly where channels
+/// differ by at least near at neighbours and far at distance two on every ring, of `2t+3` and more nodes where far is
+/// not 0. The ring has the plan's shape.
 ///
-/// `Table` comes where the table was not compiled, so with `WorkersOutOfRange` exactly where `workers` is not 1 to 64;
-/// else `Run` where the ring was not run, with `SegmentsOutOfRange` only where `segments` is not 1 to 64 or is above the
+/// `Table` comes where the table was not compiled, so with `WorkersOutOfRange` exactly where `workers` is not 1 to `MAX_THREADS`;
+/// else `Run` where the ring was not run, with `SegmentsOutOfRange` only where `segments` is not 1 to `MAX_THREADS` or is above the
 /// number of places; `OutOfMemory` where memory for the memo or for the judge's ring was refused.
 pub fn compile_run_and_judge<'a, R: Threads + Wait + Sync, G: Gate + Sync>(
     rt: &'a R,
     alloc: Global,
     plan: &'a Plan,
     ring: &'a Ring,
+    separation: Separation,
     workers: u32,
     segments: u32,
     gate: &'a G,
 ) -> Result<Findings, FindingsFault>
     requires ids { ring.now.ids ≡ plan.now.ids }
     requires rounds { ring.now.rounds ≡ length plan.now.program.steps }
-    ensures headline { IfOk result (λ found. IsHeadline plan.now.program plan.now.ids ring.now.places found.channels.items found.table found.verdict) }
+    ensures headline { IfOk result (λ found. IsHeadline plan.now.program plan.now.ids separation ring.now.places found.channels.items found.table found.verdict) }
     ensures in_range { OnOk result (IsWorkerCount workers × IsSegmentCount segments (length ring.now.places)) }
     ensures workers { IfErr result (λ fault. fault ≡ FindingsFault.Table FillFault.WorkersOutOfRange → ¬ IsWorkerCount workers) }
     ensures segments { IfErr result (λ fault. fault ≡ FindingsFault.Run RunFault.SegmentsOutOfRange
@@ -58,7 +60,7 @@ pub fn compile_run_and_judge<'a, R: Threads + Wait + Sync, G: Gate + Sync>(
         Ok(channels) => channels,
         Err(fault) => return Err(FindingsFault::Run(fault)),
     };
-    let Ok(verdict) = judge(rt, alloc, &table) else {
+    let Ok(verdict) = judge(rt, alloc, &table, separation) else {
         return Err(FindingsFault::OutOfMemory);
     };
     Ok(Findings {

@@ -2,7 +2,7 @@
 
 use crate::{FindingsFault, compile_run_and_judge};
 use lang_check::{Plan, accept};
-use nbhd_check::Verdict;
+use nbhd_check::{Separation, Verdict};
 use node_lang::parse;
 use ring_exec::RunFault;
 use round_eval::OpenGate;
@@ -20,6 +20,9 @@ const CV1: &[u8] =
 // The same without the bit.
 const LDB: &[u8] =
     b"rounds 1\nchannels 3\nregisters 1\nstart\nr0 = id\nround\nsend left 0\nsend right r0\nr0 = ldb(r0, L)\nfinish r0\n";
+
+// Neighbours' channels differ, and no more is wanted.
+const NEIGHBOURS_DIFFER: Separation = Separation { near: 1, far: 0 };
 
 // What was found: the table's channel around 7 5 1, the channels of the ring, and the judge's answer.
 #[derive(Debug, PartialEq, Eq, Drop)]
@@ -47,15 +50,23 @@ fn findings_of<R: Threads + Wait + Sync>(
     if plan.shape().rounds() != 1 || plan.shape().ids() != 8 {
         return None;
     }
-    Some(compile_run_and_judge(rt, alloc, &plan, &ring, workers, segments, &OpenGate).map(
-        |found| {
-            Found {
-                around: found.table.channel_at(&[7, 5, 1]),
-                channels: found.channels,
-                verdict: found.verdict,
-            }
-        },
-    ))
+    Some(compile_run_and_judge(
+        rt,
+        alloc,
+        &plan,
+        &ring,
+        NEIGHBOURS_DIFFER,
+        workers,
+        segments,
+        &OpenGate,
+    )
+    .map(|found| {
+        Found {
+            around: found.table.channel_at(&[7, 5, 1]),
+            channels: found.channels,
+            verdict: found.verdict,
+        }
+    }))
 }
 
 #[test]
@@ -78,8 +89,8 @@ fn a_program_that_does_not(rt: HostRuntime) -> Result<(), Fail> {
         channels: vec![in rt.alloc(); 1, 2, 1, 2].ok().ok_or("a list")?,
         verdict: Verdict::No {
             ring,
-            place: 1,
-            channel: 0,
+            places: (1, 2),
+            channels: (0, 0),
         },
     };
     let found = findings_of(&rt, rt.alloc(), LDB, 1, 4);

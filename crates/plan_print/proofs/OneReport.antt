@@ -10,27 +10,29 @@ use Rattle.table_text.specs.TableText.{table_text}
 use Rattle.table_text.specs.Faults.{IsFault}
 use Rattle.table_text.specs.Laws.{OneTableFault, TableTextsAreApart, TableTextsAreRead}
 use Rattle.lang_check.specs.Laws.{OneRefusal, AcceptedProgramsHaveNoRefusal}
-use Rattle.nbhd_check.specs.Laws.{OneWitness, GoodTablesHaveNoWitness}
+use Rattle.nbhd_check.specs.declared.separation.Separation.{Separation}
+use Rattle.nbhd_check.specs.Laws.{OneWitness, ApartTablesHaveNoWitness}
 use Rattle.task_words.specs.declared.task.Task.{Task}
 use Rattle.task_words.specs.declared.task.Task.TheVariants.{Check, Table, Judge, Run, Plan, Audit}
 use Rattle.plan_print.specs.declared.status.Status.{Status}
 use Rattle.plan_print.specs.declared.status.Status.TheVariants.{Done}
 use Rattle.task_words.specs.Task.{ids_of}
 use Rattle.plan_print.specs.Report as report
-use Rattle.plan_print.specs.Report.{Report, Says, IsJudgement, good, bad, IsAnswerOnRing, ring_fault, on_ring, IsRunAnswer, out_of_range, ran, IsAnswer, IsProgramReport, text_fault, check_fault, answered, IsAudit, table_fault, judged, IsReportFor}
+use Rattle.plan_print.specs.Report.{Report, Says, IsJudgement, neighbours_differ, good, bad, IsAnswerOnRing, ring_fault, on_ring, IsRunAnswer, out_of_range, ran, IsAnswer, IsProgramReport, text_fault, check_fault, answered, IsAudit, table_fault, judged, IsReportFor}
 use Rattle.plan_print.specs.Laws.{OneReport}
 
 -- two reports that say the same are one
 said_once : (bytes other : List ℕ) (status : Status) (r s : Report) → bytes ≡ other → Says bytes status r → Says other status s → r ≡ s
 said_once bytes other status r s same says says' = λ i. record { bytes = (says.0 ∙ same ∙ sym says'.0) i; status = (says.1 ∙ sym says'.1) i }
 
-one_judgement : OneWitness → GoodTablesHaveNoWitness → (t : ChannelTable) (r s : Report) → IsJudgement t r → IsJudgement t s → r ≡ s
-one_judgement one no_witness t r s (good is says) (good is' says') = said_once _ _ _ r s refl says says'
-one_judgement one no_witness t r s (good is says) (bad ring i c witness says') = absurd (no_witness t ring i c is witness)
-one_judgement one no_witness t r s (bad ring i c witness says) (good is says') = absurd (no_witness t ring i c is witness)
-one_judgement one no_witness t r s (bad ring i c witness says) (bad other j d witness' says') =
-    let same = one t ring other i j c d witness witness' in
-    said_once _ _ _ r s (λ k. report.bad_line (same.0 k) (same.1 k) (same.2 k)) says says'
+one_judgement : OneWitness → ApartTablesHaveNoWitness → (t : ChannelTable) (d : Separation) (r s : Report)
+    → IsJudgement t d r → IsJudgement t d s → r ≡ s
+one_judgement one no_witness t d r s (good is says) (good is' says') = said_once _ _ _ r s refl says says'
+one_judgement one no_witness t d r s (good is says) (bad ring i c witness says') = absurd (no_witness t d ring i c is witness)
+one_judgement one no_witness t d r s (bad ring i c witness says) (good is says') = absurd (no_witness t d ring i c is witness)
+one_judgement one no_witness t d r s (bad ring i c witness says) (bad other j e witness' says') =
+    let same = one t d ring other i j c e witness witness' in
+    said_once _ _ _ r s (λ k. report.no_line d (same.0 k) (same.1 k) (same.2 k)) says says'
 
 -- one answer on a list of identifiers, where one thing is said of a ring
 one_on_ring : OneRingFault → RingsHaveNoFault → (m t : ℕ) (x : List ℕ) (said : Report → Type 0) → ((r s : Report) → said r → said s → r ≡ s)
@@ -47,18 +49,18 @@ one_run p x segments r s (out_of_range out says) (ran within says') = absurd (ou
 one_run p x segments r s (ran within says) (out_of_range out says') = absurd (out within)
 one_run p x segments r s (ran within says) (ran within' says') = said_once _ _ _ r s refl says says'
 
-one_answer : OneRingFault → RingsHaveNoFault → OneWitness → GoodTablesHaveNoWitness
+one_answer : OneRingFault → RingsHaveNoFault → OneWitness → ApartTablesHaveNoWitness
     → (task : Task) (p : ProgramTree) (r s : Report) → IsAnswer task p r → IsAnswer task p s → r ≡ s
 one_answer one_fault no_fault one_witness no_witness (Check ids) p r s = said_once _ _ _ r s refl
 one_answer one_fault no_fault one_witness no_witness (Table ids workers) p r s = said_once _ _ _ r s refl
-one_answer one_fault no_fault one_witness no_witness (Judge ids workers) p r s = one_judgement one_witness no_witness _ r s
+one_answer one_fault no_fault one_witness no_witness (Judge ids workers near far) p r s = one_judgement one_witness no_witness _ _ r s
 one_answer one_fault no_fault one_witness no_witness (Run ids ring segments) p r s =
     one_on_ring one_fault no_fault _ _ _ (IsRunAnswer p ring.items segments) (one_run p ring.items segments) r s
 one_answer one_fault no_fault one_witness no_witness (Plan ids ring workers) p r s =
     one_on_ring one_fault no_fault _ _ _ (Says (report.place_lines p ring.items) Done) (λ r s. said_once _ _ _ r s refl) r s
 one_answer one_fault no_fault one_witness no_witness Audit p r s = λ answer other. absurd answer
 
-one_program_report : OneReading → OneTextFault → OneRefusal → AcceptedProgramsHaveNoRefusal → OneRingFault → RingsHaveNoFault → OneWitness → GoodTablesHaveNoWitness
+one_program_report : OneReading → OneTextFault → OneRefusal → AcceptedProgramsHaveNoRefusal → OneRingFault → RingsHaveNoFault → OneWitness → ApartTablesHaveNoWitness
     → (task : Task) (m : ℕ) (input : List ℕ) (r s : Report) → IsProgramReport task m input r → IsProgramReport task m input s → r ≡ s
 one_program_report one_reading one_text_fault one_refusal no_refusal one_fault no_fault one_witness no_witness task m input r s first second =
     elim first [
@@ -88,7 +90,7 @@ one_program_report one_reading one_text_fault one_refusal no_refusal one_fault n
 one_table : TableTextsAreApart → (t u : ChannelTable) (input : List ℕ) → IsTable t → IsTable u → input ≡ table_text t → input ≡ table_text u → t ≡ u
 one_table apart t u input is is' text text' = (apart t u [] is is' (sym text' ∙ text ∙ sym (append-nil (table_text t)))).0
 
-one_audit : OneTableFault → TableTextsAreApart → TableTextsAreRead → OneWitness → GoodTablesHaveNoWitness
+one_audit : OneTableFault → TableTextsAreApart → TableTextsAreRead → OneWitness → ApartTablesHaveNoWitness
     → (input : List ℕ) (r s : Report) → IsAudit input r → IsAudit input s → r ≡ s
 one_audit one_fault apart read one_witness no_witness input r s (table_fault f known fault says) (table_fault g known' fault' says') =
     said_once _ _ _ r s (ap report.table_fault_line (one_fault input f g known known' fault fault')) says says'
@@ -98,7 +100,7 @@ one_audit one_fault apart read one_witness no_witness input r s (judged t is tex
     absurd (known (read t f is (subst (λ x. IsFault x f) text fault)))
 one_audit one_fault apart read one_witness no_witness input r s (judged t is text answer) (judged u is' text' answer') =
     let same = one_table apart u t input is' is text' text in
-    one_judgement one_witness no_witness t r s answer (subst (λ x. IsJudgement x s) same answer')
+    one_judgement one_witness no_witness t neighbours_differ r s answer (subst (λ x. IsJudgement x neighbours_differ s) same answer')
 
 one_for : ((m : ℕ) (task : Task) (input : List ℕ) (r s : Report) → IsProgramReport task m input r → IsProgramReport task m input s → r ≡ s)
     → ((input : List ℕ) (r s : Report) → IsAudit input r → IsAudit input s → r ≡ s)
@@ -106,7 +108,7 @@ one_for : ((m : ℕ) (task : Task) (input : List ℕ) (r s : Report) → IsProgr
 one_for program audit None task input r s = audit input r s
 one_for program audit (Some m) task input r s = program m task input r s
 
-pub one_report : OneReading → OneTextFault → OneRefusal → AcceptedProgramsHaveNoRefusal → OneRingFault → RingsHaveNoFault → OneWitness → GoodTablesHaveNoWitness
+pub one_report : OneReading → OneTextFault → OneRefusal → AcceptedProgramsHaveNoRefusal → OneRingFault → RingsHaveNoFault → OneWitness → ApartTablesHaveNoWitness
     → OneTableFault → TableTextsAreApart → TableTextsAreRead → OneReport
 one_report one_reading one_text_fault one_refusal no_refusal one_fault no_fault one_witness no_witness one_table_fault apart read task =
     one_for (λ m t. one_program_report one_reading one_text_fault one_refusal no_refusal one_fault no_fault one_witness no_witness t m)

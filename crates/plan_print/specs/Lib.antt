@@ -27,6 +27,7 @@ pub use Rattle.win_index.specs.ShapeRange
 pub use Rattle.win_index.specs.ShapeFaults
 pub use Rattle.table_fill.specs.Tables
 pub use Rattle.table_fill.specs.ProgramTables
+pub use Rattle.nbhd_check.specs.Apart
 pub use Rattle.nbhd_check.specs.Proper
 pub use Rattle.nbhd_check.specs.Verdicts
 pub use Rattle.ring_exec.specs.SegmentCounts

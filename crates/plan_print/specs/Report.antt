@@ -1,5 +1,5 @@
 -- The report: the bytes and the status for a task and an input.
-use Rattle.std.specs.Prelude.{◌≡◌, ◌≢◌, ℕ, ◌+◌, ◌*◌, List, [], ◌∷◌, Option, Some, None, length, slice_index, codes}
+use Rattle.std.specs.Prelude.{◌≡◌, ◌≢◌, ◌==◌, ◌&&◌, if◌then◌else◌, ℕ, ◌+◌, ◌*◌, List, [], ◌∷◌, Option, Some, None, length, slice_index, codes}
 use Rattle.std.specs.List.{flat_map, range_with_len}
 use Rattle.std.specs.Fmt.{decimal}
 use Rattle.node_lang.specs.declared.fault.FaultKind.{FaultKind}
@@ -20,7 +20,8 @@ use Rattle.win_index.specs.RingFaults.{IsFirstFault}
 use Rattle.win_index.specs.Windows.{windows}
 use Rattle.table_fill.specs.ProgramTables.{table_of}
 use Rattle.table_fill.specs.Tables.{ChannelTable, IsTable}
-use Rattle.nbhd_check.specs.Proper.{tuples, IsGoodEverywhere}
+use Rattle.nbhd_check.specs.declared.separation.Separation.{Separation}
+use Rattle.nbhd_check.specs.Apart.{tuples, IsApartEverywhere}
 use Rattle.nbhd_check.specs.Verdicts.{IsWitness}
 use Rattle.ring_exec.specs.SegmentCounts.{IsSegmentCount}
 use Rattle.plan_print.specs.declared.status.Status.{Status}
@@ -90,7 +91,7 @@ accepted_line ids p =
     ∷ codes " bound " ∷ decimal (finish_bound p ids)
     ∷ codes " windows " ∷ decimal (length (windows (2 * length p.steps + 1) ids)) ∷ [])
 
--- the line of a table that is good everywhere, with the number of its tuples
+-- the line of a table whose channels are far enough apart everywhere, with the number of its tuples
 abbrev pub good_line : ℕ → List ℕ
 good_line count = line (codes "yes: " ∷ decimal count ∷ codes " tuples" ∷ [])
 
@@ -98,6 +99,17 @@ good_line count = line (codes "yes: " ∷ decimal count ∷ codes " tuples" ∷ 
 abbrev pub bad_line : List ℕ → ℕ → ℕ → List ℕ
 bad_line ring place channel =
     line (codes "no: ring " ∷ numbers_text ring ∷ codes " place " ∷ decimal place ∷ codes " channel " ∷ decimal channel ∷ [])
+
+-- the line of a ring on which the channels of two places are too close
+abbrev pub close_line : List ℕ → ℕ × ℕ → ℕ × ℕ → List ℕ
+close_line ring places channels =
+    line (codes "no: ring " ∷ numbers_text ring ∷ codes " places " ∷ decimal places.0 ∷ codes " " ∷ decimal places.1
+    ∷ codes " channels " ∷ decimal channels.0 ∷ codes " " ∷ decimal channels.1 ∷ [])
+
+-- the line of a no: where neighbours' channels only have to differ, it has the one channel of both places
+abbrev pub no_line : Separation → List ℕ → ℕ × ℕ → ℕ × ℕ → List ℕ
+no_line s ring places channels =
+    if (s.near == 1) && (s.far == 0) then bad_line ring places.0 channels.0 else close_line ring places channels
 
 -- the line of a place, with its identifier and its channel
 abbrev pub place_line : ℕ → ℕ → ℕ → List ℕ
@@ -109,10 +121,14 @@ abbrev pub place_lines : ProgramTree → List ℕ → List ℕ
 place_lines p places =
     flat_map (λ place. place_line place (slice_index places place) (channel_at p places place)) (range_with_len 0 (length places))
 
--- The judge's answer: the table is good everywhere, or this ring shows that it is not.
-pub data IsJudgement (t : ChannelTable) (r : Report) : Type 0 where
-  good : IsGoodEverywhere t → Says (good_line (length (tuples t))) Done r → IsJudgement t r
-  bad : (ring : List ℕ) (place channel : ℕ) → IsWitness t ring place channel → Says (bad_line ring place channel) No r → IsJudgement t r
+-- The judge's answer by a separation: the channels are that far apart everywhere, or this ring shows that they are not.
+pub data IsJudgement (t : ChannelTable) (s : Separation) (r : Report) : Type 0 where
+  good : IsApartEverywhere t s → Says (good_line (length (tuples t s))) Done r → IsJudgement t s r
+  bad : (ring : List ℕ) (places channels : ℕ × ℕ) → IsWitness t s ring places channels → Says (no_line s ring places channels) No r → IsJudgement t s r
+
+-- neighbours' channels differ, and no more is wanted
+abbrev pub neighbours_differ : Separation
+neighbours_differ = record { near = 1; far = 0 }
 
 -- The answer on a list of identifiers, for m identifiers and t rounds: what is wrong first with a list that is no ring, or what is said of a ring.
 pub data IsAnswerOnRing (m t : ℕ) (places : List ℕ) (said : Report → Type 0) (r : Report) : Type 0 where
@@ -129,7 +145,7 @@ pub data IsRunAnswer (p : ProgramTree) (places : List ℕ) (segments : ℕ) (r :
 abbrev pub IsAnswer : Task → ProgramTree → Report → Type 0
 IsAnswer (Check ids) p r = Says (accepted_line ids p) Done r
 IsAnswer (Table ids workers) p r = Says (table_text (table_of p ids)) Done r
-IsAnswer (Judge ids workers) p r = IsJudgement (table_of p ids) r
+IsAnswer (Judge ids workers near far) p r = IsJudgement (table_of p ids) (record { near = near; far = far }) r
 IsAnswer (Run ids places segments) p r = IsAnswerOnRing ids (length p.steps) places.items (IsRunAnswer p places.items segments) r
 IsAnswer (Plan ids places workers) p r = IsAnswerOnRing ids (length p.steps) places.items (Says (place_lines p places.items) Done) r
 IsAnswer Audit p r = ⊥
@@ -146,7 +162,7 @@ pub data IsProgramReport (task : Task) (m : ℕ) (input : List ℕ) (r : Report)
 -- The report of an audit on a table text: what is wrong first with a text that is not the text of a table, or the judge's answer on its table.
 pub data IsAudit (input : List ℕ) (r : Report) : Type 0 where
   table_fault : (f : TableFault) → f ≢ table.OutOfMemory → IsFault input f → Says (table_fault_line f) Refused r → IsAudit input r
-  judged : (t : ChannelTable) → IsTable t → input ≡ table_text t → IsJudgement t r → IsAudit input r
+  judged : (t : ChannelTable) → IsTable t → input ≡ table_text t → IsJudgement t neighbours_differ r → IsAudit input r
 
 -- the report of a task, for so many identifiers or for those of a table, on an input
 abbrev pub IsReportFor : Option ℕ → Task → List ℕ → Report → Type 0

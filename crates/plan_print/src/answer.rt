@@ -16,6 +16,7 @@ use crate::places::places_text;
 use crate::status::Status;
 use devices::fault::EngineFault;
 use lang_check::Plan;
+use nbhd_check::Separation;
 use ring_exec::{RunFault, run};
 use round_eval::OpenGate;
 use shared_memo::Memo;
@@ -51,7 +52,12 @@ pub(crate) fn answer_of<T: Threads + Wait + Sync>(
         Task::Table { ids: _, workers } => {
             Ok(Answer::Table(compiled(rt, alloc, plan, workers)?))
         }
-        Task::Judge { ids: _, workers } => judged(rt, alloc, plan, workers),
+        Task::Judge {
+            ids: _,
+            workers,
+            near,
+            far,
+        } => judged(rt, alloc, plan, Separation { near, far }, workers),
         Task::Run {
             ids: _,
             ring,
@@ -108,51 +114,54 @@ fn run_answer<T: Threads + Wait + Sync>(
     }
 }
 
-// The judge's answer on the table of an accepted program, by so many workers. More workers than one judge while the memo
-// is dropped.
+// The judge's answer on the table of an accepted program by a separation, by so many workers. More workers than one judge
+// while the memo is dropped.
 fn judged<T: Threads + Wait + Sync>(
     rt: &T,
     alloc: Global,
     plan: &Plan,
+    separation: Separation,
     workers: u32,
 ) -> Result<Answer, EngineFault>
     requires { IsCount workers }
-    ensures answer { IfOk result (λ r. IsJudgement (table_of plan.now.program plan.now.ids) (report_in r)) }
+    ensures answer { IfOk result (λ r. IsJudgement (table_of plan.now.program plan.now.ids) separation (report_in r)) }
     ensures fault { IfErr result IsTaskFault }
 {
     let memo = Memo::new(alloc, plan)?;
     let table = table_by(rt, alloc, plan, &memo, workers)?;
     if workers == 1 {
         drop(memo);
-        return judgement(rt, alloc, &table, workers);
+        return judgement(rt, alloc, &table, separation, workers);
     }
-    judgement_and_drop(rt, alloc, &table, workers, memo)
+    judgement_and_drop(rt, alloc, &table, separation, workers, memo)
 }
 
-// The judge's answer on a table, by so many workers, while a memo is dropped. That a thread may have a memo is shown here,
-// where few values are in scope.
+// The judge's answer on a table by a separation, by so many workers, while a memo is dropped. That a thread may have a memo
+// is shown here, where few values are in scope.
 fn judgement_and_drop<T: Threads + Sync>(
     rt: &T,
     alloc: Global,
     table: &Table,
+    separation: Separation,
     workers: u32,
     memo: Memo<'_>,
 ) -> Result<Answer, EngineFault>
-    ensures answer { IfOk result (λ r. IsJudgement table.now (report_in r)) }
+    ensures answer { IfOk result (λ r. IsJudgement table.now separation (report_in r)) }
     ensures fault { IfErr result (λ fault. fault ≡ EngineFault.Memory) }
 {
-    judgement_beside(rt, alloc, table, workers, memo)
+    judgement_beside(rt, alloc, table, separation, workers, memo)
 }
 
-// The judge's answer on a table, by so many workers, while this is dropped.
+// The judge's answer on a table by a separation, by so many workers, while this is dropped.
 fn judgement_beside<T: Threads + Sync, D: Send + Drop>(
     rt: &T,
     alloc: Global,
     table: &Table,
+    separation: Separation,
     workers: u32,
     dropped: D,
 ) -> Result<Answer, EngineFault>
-    ensures answer { IfOk result (λ r. IsJudgement table.now (report_in r)) }
+    ensures answer { IfOk result (λ r. IsJudgement table.now separation (report_in r)) }
     ensures fault { IfErr result (λ fault. fault ≡ EngineFault.Memory) }
 {
     let (_, answer) = join(
@@ -160,9 +169,9 @@ fn judgement_beside<T: Threads + Sync, D: Send + Drop>(
         move || drop(dropped),
         || -> Result<Answer, EngineFault>
             requires { IsSync T.row }
-            ensures answer { IfOk result (λ r. IsJudgement table.entry.now (report_in r)) }
+            ensures answer { IfOk result (λ r. IsJudgement table.entry.now separation (report_in r)) }
             ensures fault { IfErr result (λ fault. fault ≡ EngineFault.Memory) }
-        { judgement(rt, alloc, table, workers) },
+        { judgement(rt, alloc, table, separation, workers) },
     );
     answer
 }

@@ -25,7 +25,7 @@ use table_text::{LONGEST_TABLE_TEXT, write_table};
 use task_words::task::Task;
 
 /// Reads the input of a task, all of it or one byte more than the task's limit of a longer one, and
-/// writes its report; the answer is the report's status. A number of workers that the task names is 1 to 64;
+/// writes its report; the answer is the report's status. A number of workers that the task names is 1 to `MAX_COUNT`;
 /// of a number of segments that its ring can't be run in, the report tells.
 ///
 /// `Read` comes exactly where a read failed, `Write` exactly where a write failed or took no byte, `Memory`

@@ -5,6 +5,7 @@ ghost use Rattle.plan_print.specs.Lines.{line, numbers_text};
 ghost use Rattle.plan_print.specs.Report as report;
 
 use lang_check::{CheckFault, Plan};
+use nbhd_check::Separation;
 use node_lang::{FaultKind, TextFault};
 use std::alloc::{AllocError, Global};
 use std::fmt::Write;
@@ -126,7 +127,7 @@ pub(crate) fn accepted_line(alloc: Global, plan: &Plan) -> Result<String, AllocE
     )
 }
 
-// The line of a table that is good everywhere.
+// The line of a table whose channels are far enough apart everywhere.
 pub(crate) fn good_line(alloc: Global, tuples: u64) -> Result<String, AllocError>
     ensures { IfOk result (λ text. string_bytes text ≡ report.good_line tuples) }
 {
@@ -134,12 +135,7 @@ pub(crate) fn good_line(alloc: Global, tuples: u64) -> Result<String, AllocError
 }
 
 // The line of a ring on which a place and its right neighbour share a channel.
-pub(crate) fn bad_line(
-    alloc: Global,
-    ring: &[u32],
-    place: u32,
-    channel: u32,
-) -> Result<String, AllocError>
+fn bad_line(alloc: Global, ring: &[u32], place: u32, channel: u32) -> Result<String, AllocError>
     ensures { IfOk result (λ text. string_bytes text ≡ report.bad_line ring.now place channel) }
 {
     let mut text = String::new(alloc);
@@ -147,6 +143,44 @@ pub(crate) fn bad_line(
     write_numbers(&mut text, ring)?;
     write!(text, " place {place} channel {channel}\n")?;
     Ok(text)
+}
+
+// The line of a ring on which the channels of two places are too close.
+fn close_line(
+    alloc: Global,
+    ring: &[u32],
+    places: (u32, u32),
+    channels: (u32, u32),
+) -> Result<String, AllocError>
+    ensures { IfOk result (λ text. string_bytes text ≡ report.close_line ring.now places channels) }
+{
+    let mut text = String::new(alloc);
+    text.push_str("no: ring ")?;
+    write_numbers(&mut text, ring)?;
+    let (place, other_place) = places;
+    let (channel, other_channel) = channels;
+    write!(
+        text,
+        " places {place} {other_place} channels {channel} {other_channel}\n"
+    )?;
+    Ok(text)
+}
+
+// The line of a no. Where neighbours' channels only have to differ, it has the one channel of both places.
+pub(crate) fn no_line(
+    alloc: Global,
+    separation: Separation,
+    ring: &[u32],
+    places: (u32, u32),
+    channels: (u32, u32),
+) -> Result<String, AllocError>
+    ensures { IfOk result (λ text. string_bytes text ≡ report.no_line separation ring.now places channels) }
+{
+    if separation.near == 1 && separation.far == 0 {
+        bad_line(alloc, ring, places.0, channels.0)
+    } else {
+        close_line(alloc, ring, places, channels)
+    }
 }
 
 // Writes the line of a place, with its identifier and its channel.

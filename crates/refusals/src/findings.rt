@@ -1,7 +1,7 @@
 use crate::miss::Miss;
 use crate::plans::{plan_of, ring_for};
 use crate::tell::{given, surely, tell_numbers};
-use crate::verdicts::tell_verdict;
+use crate::verdicts::{NEIGHBOURS_DIFFER, tell_verdict};
 use conformance::programs::CV1;
 use headline::compile_run_and_judge;
 use round_eval::OpenGate;
@@ -19,11 +19,29 @@ pub(crate) fn do_findings<R: AllocGlobal + Print + Threads + Wait + Sync>(
     let plan = plan_of(alloc, CV1, 8)?;
     let ring = ring_for(alloc, &plan, &[5, 1, 3, 7])?;
     let gate = OpenGate;
-    let answer = compile_run_and_judge(rt, alloc, &plan, &ring, workers, segments, &gate);
+    let answer = compile_run_and_judge(
+        rt,
+        alloc,
+        &plan,
+        &ring,
+        NEIGHBOURS_DIFFER,
+        workers,
+        segments,
+        &gate,
+    );
     let findings = match given(rt, answer)? {
         Some(findings) => findings,
         None => {
-            let answer = compile_run_and_judge(rt, alloc, &plan, &ring, workers, segments, &gate);
+            let answer = compile_run_and_judge(
+                rt,
+                alloc,
+                &plan,
+                &ring,
+                NEIGHBOURS_DIFFER,
+                workers,
+                segments,
+                &gate,
+            );
             surely(answer)?
         }
     };

@@ -1,9 +1,12 @@
 use crate::miss::Miss;
 use crate::tables::table_of;
 use crate::tell::{given, surely, tell, tell_numbers};
-use nbhd_check::{Verdict, judge, judge_with_workers};
+use nbhd_check::{Separation, Verdict, judge, judge_with_workers};
 use std::sync::Wait;
 use std::thread::Threads;
+
+/// Neighbours' channels differ, and no more is wanted.
+pub(crate) const NEIGHBOURS_DIFFER: Separation = Separation { near: 1, far: 0 };
 
 /// `judge`: the verdict on the table of a program for this many identifiers: yes, or the ring, the place and the channel.
 pub(crate) fn do_judge<R: AllocGlobal + Print + Threads + Wait + Sync>(
@@ -13,9 +16,9 @@ pub(crate) fn do_judge<R: AllocGlobal + Print + Threads + Wait + Sync>(
 ) -> Result<(), Miss> {
     let alloc = rt.alloc();
     let table = table_of(rt, text, ids)?;
-    let verdict = match given(rt, judge(rt, alloc, &table))? {
+    let verdict = match given(rt, judge(rt, alloc, &table, NEIGHBOURS_DIFFER))? {
         Some(verdict) => verdict,
-        None => surely(judge(rt, alloc, &table))?,
+        None => surely(judge(rt, alloc, &table, NEIGHBOURS_DIFFER))?,
     };
     tell_verdict(rt, &verdict)
 }
@@ -29,9 +32,12 @@ pub(crate) fn do_judge_with_workers<R: AllocGlobal + Print + Threads + Wait + Sy
 ) -> Result<(), Miss> {
     let alloc = rt.alloc();
     let table = table_of(rt, text, ids)?;
-    let verdict = match given(rt, judge_with_workers(rt, alloc, &table, workers))? {
+    let verdict = match given(
+        rt,
+        judge_with_workers(rt, alloc, &table, NEIGHBOURS_DIFFER, workers),
+    )? {
         Some(verdict) => verdict,
-        None => surely(judge_with_workers(rt, alloc, &table, workers))?,
+        None => surely(judge_with_workers(rt, alloc, &table, NEIGHBOURS_DIFFER, workers))?,
     };
     tell_verdict(rt, &verdict)
 }
@@ -42,8 +48,8 @@ pub(crate) fn tell_verdict<R: Print>(rt: &R, verdict: &Verdict) -> Result<(), Mi
         Verdict::Yes => tell(rt, "yes"),
         Verdict::No {
             ring,
-            place,
-            channel,
+            places: (place, _),
+            channels: (channel, _),
         } => {
             tell(rt, "no")?;
             tell_numbers(rt, ring)?;

@@ -6,11 +6,11 @@ returns-clause-headline g c =
     let p = c.args.plan.now.program in
     let m = c.args.plan.now.ids in
     let compiled = c.in_ok-table.ensures in
-    let good = good_tables p m c.in_ok-table.table compiled.ids compiled.rounds compiled.agrees in
+    let good = good_tables p m c.args.separation c.in_ok-table.table compiled.ids compiled.rounds compiled.agrees in
     let yes = c.in-Ok-judge.ensures.yes in
     record {
       table_agrees = compiled.agrees;
       run_agrees = run_agrees p c.args.ring.now.places c.in-Ok.channels.items c.in-Ok.ensures.channels;
-      yes = (λ said. good.0 (yes.0 said), λ differ. yes.1 (good.1 differ));
+      yes = (λ said. good.0 (yes.0 said), λ apart. yes.1 (good.1 apart));
       verdict_is = c.in-Ok-judge.ensures.verdict;
     }

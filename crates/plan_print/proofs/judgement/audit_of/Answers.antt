@@ -7,8 +7,8 @@ use Rattle.plan_print.specs.Report.{table_fault, judged}
 use Rattle.plan_print.proofs.judgement.audit_of.Goals as goal
 
 -- The text is the text of a table.
-pub returns-in_ok-judge-in-Ok-clause-report : goal.returns-in_ok-judge-in-Ok-clause-report
-returns-in_ok-judge-in-Ok-clause-report g c =
+pub returns-in_ok-verdict-in-Ok-clause-report : goal.returns-in_ok-verdict-in-Ok-clause-report
+returns-in_ok-verdict-in-Ok-clause-report g c =
     let t : ChannelTable = c.in-Ok.table in
     let is : IsTable t = c.in-Ok.ensures.table.0 in
     let text : c.args.input.now ≡ table_text t = c.in-Ok.ensures.table.1 in
