@@ -1,5 +1,7 @@
 // The judge beside a plain walk over all tuples.
 
+ghost use Rattle.std.specs.Prelude.{◌+◌, ◌*◌, ◌≤◌, length};
+
 use super::{found_in, least_in_parts, table_of};
 use crate::tuple::{tuple_count, tuple_len, write_tuple};
 use crate::{Separation, Verdict, judge, judge_part};
@@ -18,9 +20,7 @@ struct Numbers {
 
 impl Numbers {
     // The next number below 128.
-    fn next(&mut self) -> u32
-        ensures { result < 128 }
-    {
+    fn next(&mut self) -> u32 {
         self.state = self
             .state
             .wrapping_mul(1_664_525)
@@ -60,8 +60,6 @@ fn broken(table: &Table, separation: Separation, tuple: &[u32]) -> Option<((u32,
     }
     None
 }
-
-ghost use Rattle.std.specs.Prelude.{◌+◌, ◌*◌, ◌≤◌, length};
 
 // The number of the first bad tuple, and the tuple.
 fn first_bad_tuple(
