@@ -6,7 +6,7 @@ use std::alloc::{AllocError, AllocFailed};
 /// What is wrong with a program text. The report names a kind by `N` and its number.
 #[derive(Clone, Copy, Debug, PartialEq, Eq)]
 pub enum FaultKind {
-    /// N1: the text is over 65,536 bytes.
+    /// N1: the text is over `LONGEST_TEXT` bytes.
     TooLong,
     /// N2: a byte over 127.
     NotAscii,

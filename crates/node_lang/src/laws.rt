@@ -13,7 +13,7 @@ pub fn reading_is_exact()
     ensures sound { law.ReadTextsAreReadable }
 {}
 
-/// The printed form of a program reads as that program, and is shorter than 65,536 bytes.
+/// The printed form of a program reads as that program, and is shorter than `LONGEST_TEXT` bytes.
 #[tactic(auto, using(crate::proofs::PrintedTokens::printed_reads, crate::proofs::PrintedTokens::printed_length))]
 pub fn printed_is_read_back()
     ensures reads { law.PrintedIsRead }

@@ -18,9 +18,9 @@ fn high_byte(text: &[u8]) -> Option<usize>
     text.iter().position(|byte| *byte > 127)
 }
 
-/// Reads a program text of at most 65,536 bytes.
+/// Reads a program text of at most `LONGEST_TEXT` bytes.
 ///
-/// A longer text is `TooLong` at 65,536, else a text with a byte over 127 is `NotAscii` at the first one. Else
+/// A longer text is `TooLong` at `LONGEST_TEXT`, else a text with a byte over 127 is `NotAscii` at the first one. Else
 /// the fault stands at the first place where the text can't go on: `BadWord` and `NumberTooLarge` at a
 /// token's first byte, `HeaderRange` at a number of the header, `Unexpected` at a token that cannot stand there,
 /// `TooDeep` and `TooManyNodes` at the first token of an expression node, `EndOfText` at the text's length.

@@ -12,11 +12,12 @@ use Rattle.unroll.specs.MakeFaults.{IsMakeFault}
 use Rattle.unroll.specs.declared.fault.MakeFault.{MakeFault}
 use Rattle.unroll.specs.declared.fault.MakeFault.TheVariants.{Missing, OutOfMemory}
 use Rattle.table_fill.specs.MissingBlocks.{IsMissingBlock}
+use Rattle.win_index.specs.declared.limits.TheConstants.{BLOCK_WINDOWS}
 
 pub below_is_block : (m level number low c : ℕ) → WindowOfNumber → IsBelow m level number low c → c < block_count m low
 below_is_block m level number low c window below =
     let k : ℕ = 2 * low + 1 in
-    let list : List ℕ = part (window_numbered m level (256 * number + below.place)) low below.is_part.offset in
+    let list : List ℕ = part (window_numbered m level (BLOCK_WINDOWS * number + below.place)) low below.is_part.offset in
     let there = window k m below.number list below.is_part.number_is in
     let lt = slice_get_within (windows k m) below.number list there in
     omega (arith, below.block_is, lt)

@@ -9,7 +9,7 @@ use Rattle.round_columns.specs.StackNeed.{most_columns}
 use Rattle.unroll.specs.BlockStates.{block_len, window_numbered}
 use Rattle.table_fill.specs.ProgramTables.{window_channel}
 
--- columns for the registers of the plan at 256 windows
+-- columns for the registers of the plan at BLOCK_WINDOWS windows
 abbrev pub IsStatesRoom : ProgramForIds → NodeStates → Type 0
 IsStatesRoom plan states = (states.registers ≡ length plan.program.start) × (length states.states ≡ BLOCK_WINDOWS)
 
@@ -23,5 +23,5 @@ pub record IsChannelRoom (plan : ProgramForIds) (work : Room) (states : NodeStat
 -- the channels of the windows of block b of the last level, each below the number of channels
 abbrev pub AreChannels : ProgramForIds → ℕ → List ℕ → Type 0
 AreChannels plan b channels = (i : ℕ) → i < block_len plan.ids (length plan.program.steps) b
-    → (slice_index channels i ≡ window_channel plan.program (window_numbered plan.ids (length plan.program.steps) (256 * b + i)))
+    → (slice_index channels i ≡ window_channel plan.program (window_numbered plan.ids (length plan.program.steps) (BLOCK_WINDOWS * b + i)))
     × (slice_index channels i < plan.program.channels)

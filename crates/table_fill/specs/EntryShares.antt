@@ -6,6 +6,7 @@ use Rattle.shared_memo.specs.PlanJobs.{IsKeyedBlock}
 use Rattle.unroll.specs.BlockStates.{MadeBlock, window_numbered}
 use Rattle.win_index.specs.Blocks.{block_count, window_count}
 use Rattle.table_fill.specs.ProgramTables.{window_channel}
+use Rattle.win_index.specs.declared.limits.TheConstants.{BLOCK_WINDOWS}
 
 -- the blocks of the last level, in order
 pub record AreLastBlocks (plan : ProgramForIds) (blocks : List (Bor MadeBlock)) : Type 0 where
@@ -20,5 +21,5 @@ AreEntries plan first entries = (i : ℕ) → i < length entries
 
 -- a share begins with this block and has so many windows: those of whole blocks, or all that are left
 pub record IsShare (plan : ProgramForIds) (first len : ℕ) : Type 0 where
-  pub within : 256 * first + len ≤ window_count plan.ids (length plan.program.steps)
-  pub ends_a_block : (len % 256 ≡ 0) ⊎ (256 * first + len ≡ window_count plan.ids (length plan.program.steps))
+  pub within : BLOCK_WINDOWS * first + len ≤ window_count plan.ids (length plan.program.steps)
+  pub ends_a_block : (len % BLOCK_WINDOWS ≡ 0) ⊎ (BLOCK_WINDOWS * first + len ≡ window_count plan.ids (length plan.program.steps))

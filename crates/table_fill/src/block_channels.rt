@@ -55,7 +55,7 @@ pub(crate) fn write_entries(channels: &[u32], block: &Block<'_>, entries: &mut [
     requires channels { AreChannels block.now.plan block.now.number channels.now }
     requires size { length entries.old ≡ block_len block.now.plan.ids (length block.now.plan.program.steps) block.now.number }
     ensures size { length entries.new ≡ length entries.old }
-    ensures entries { AreEntries block.now.plan (256 * block.now.number) entries.new }
+    ensures entries { AreEntries block.now.plan (BLOCK_WINDOWS * block.now.number) entries.new }
 {
     let limit = block.plan().program().channels();
     narrow(&channels[..entries.len()], limit, entries);

@@ -59,7 +59,7 @@ impl EntryColumns {
         requires size { length entries.old ≡ block_len self.old.ids (length self.old.program.steps) block.now.number }
         ensures same { self.new ≡ self.old }
         ensures size { length entries.new ≡ length entries.old }
-        ensures entries { AreEntries self.old (256 * block.now.number) entries.new }
+        ensures entries { AreEntries self.old (BLOCK_WINDOWS * block.now.number) entries.new }
     {
         put_block(block, &mut self.states);
         write_channels(

@@ -49,7 +49,7 @@ fn write_from<R: Threads + Sync>(
     requires share { IsShare plan.now first (length entries.old) }
     requires none_is_left { length columns.old ≡ 0 → length entries.old ≡ 0 }
     ensures size { length entries.new ≡ length entries.old }
-    ensures entries { AreEntries plan.now (256 * first) entries.new }
+    ensures entries { AreEntries plan.now (BLOCK_WINDOWS * first) entries.new }
 {
     if columns.is_empty() {
         return;
@@ -76,9 +76,9 @@ fn write_from<R: Threads + Sync>(
 fn share_len(windows: usize, shares: usize) -> usize
     requires { 0 < shares }
     ensures one { shares ≡ 1 → result ≡ windows }
-    ensures more { 1 < shares → result ≡ windows / 256 / shares * 256 }
+    ensures more { 1 < shares → result ≡ windows / BLOCK_WINDOWS / shares * BLOCK_WINDOWS }
     ensures within { result ≤ windows }
-    ensures ends_a_block { (result % 256 ≡ 0) ⊎ (result ≡ windows) }
+    ensures ends_a_block { (result % BLOCK_WINDOWS ≡ 0) ⊎ (result ≡ windows) }
 {
     let width = BLOCK_WINDOWS as usize;
     if shares == 1 {
@@ -109,20 +109,20 @@ fn write_both<R: Threads + Sync>(
     requires none_is_left { length others.old ≡ 0 → length back.old ≡ 0 }
     ensures front_size { length front.new ≡ length front.old }
     ensures back_size { length back.new ≡ length back.old }
-    ensures front { AreEntries plan.now (256 * first) front.new }
-    ensures back { AreEntries plan.now (256 * middle) back.new }
+    ensures front { AreEntries plan.now (BLOCK_WINDOWS * first) front.new }
+    ensures back { AreEntries plan.now (BLOCK_WINDOWS * middle) back.new }
 {
     join_mut(
         rt,
         &mut ||
             requires { AreLastBlocks own.now blocks.now × IsShare own.now first (length front.now) }
             ensures size { length front.exit.now ≡ length front.entry.now }
-            ensures entries { AreEntries own.entry.now (256 * first) front.exit.now }
+            ensures entries { AreEntries own.entry.now (BLOCK_WINDOWS * first) front.exit.now }
         { write_share(own, blocks, first, front) },
         &mut ||
             requires { IsSync R.row × All (λ c. c ≡ plan.now) others.now × AreLastBlocks plan.now blocks.now × IsShare plan.now middle (length back.now) × (length others.now ≡ 0 → length back.now ≡ 0) }
             ensures size { length back.exit.now ≡ length back.entry.now }
-            ensures entries { AreEntries plan.entry.now (256 * middle) back.exit.now }
+            ensures entries { AreEntries plan.entry.now (BLOCK_WINDOWS * middle) back.exit.now }
         { write_from(rt, plan, blocks, middle, others, back) },
     );
 }
@@ -132,7 +132,7 @@ fn write_share(columns: &mut EntryColumns, blocks: &[&Block<'_>], first: usize, 
     requires blocks { AreLastBlocks columns.old blocks.now }
     requires share { IsShare columns.old first (length share.old) }
     ensures size { length share.new ≡ length share.old }
-    ensures entries { AreEntries columns.old (256 * first) share.new }
+    ensures entries { AreEntries columns.old (BLOCK_WINDOWS * first) share.new }
 {
     let width = BLOCK_WINDOWS as usize;
     for i in 0..share.len().div_ceil(width) {

@@ -10,6 +10,7 @@ use Rattle.unroll.specs.MakeFaults.{IsMakeFault}
 use Rattle.unroll.specs.Parts.{KnowsPart, KnowsParts, KnowsBelow, IsMissingPart, IsMissingBlock}
 use Rattle.unroll.specs.declared.fault.MakeFault.{MakeFault}
 use Rattle.unroll.specs.declared.fault.MakeFault.TheVariants.{Missing, OutOfMemory}
+use Rattle.win_index.specs.declared.limits.TheConstants.{BLOCK_WINDOWS}
 
 some_kept : (old new : Option MadeBlock) → ((b : MadeBlock) → old ≡ Some b → new ≡ Some b) → IsSome old → IsSome new
 some_kept None new kept some = absurd (false≢true some)
@@ -40,7 +41,7 @@ window_at m r n window at' = get_or_from_slice_get (windows (2 * r + 1) m) n win
 -- what is missing for a window is missing for its block
 pub fault_of_block :
     (entries : Entries) (m r b place : ℕ) (window : List ℕ) (fault : MakeFault) → place < block_len m r b
-    → window_numbered m r (256 * b + place) ≡ window → IsMissingPart entries m r window fault → IsMakeFault entries m r b fault
+    → window_numbered m r (BLOCK_WINDOWS * b + place) ≡ window → IsMissingPart entries m r window fault → IsMakeFault entries m r b fault
 fault_of_block entries m r b place window (Missing low c) lt own missing = (
   record {
     one_lower = missing.0;
@@ -57,8 +58,8 @@ fault_of_block entries m r b place window OutOfMemory lt own missing = absurd mi
 -- a block that is missing for the last part of a window is missing for its block
 pub fault_of_last :
     (entries : Entries) (m low b place number : ℕ) (window : List ℕ) (fault : MakeFault) → place < block_len m (low + 1) b
-    → window_numbered m (low + 1) (256 * b + place) ≡ window → number_of (2 * low + 1) m (part window low 2) ≡ Some number
-    → IsMissingBlock entries low (number / 256) fault → IsMakeFault entries m (low + 1) b fault
+    → window_numbered m (low + 1) (BLOCK_WINDOWS * b + place) ≡ window → number_of (2 * low + 1) m (part window low 2) ≡ Some number
+    → IsMissingBlock entries low (number / BLOCK_WINDOWS) fault → IsMakeFault entries m (low + 1) b fault
 fault_of_last entries m low b place number window (Missing l c) lt own is missing =
     rw (missing.0, missing.1) (
       record {

@@ -13,6 +13,7 @@ use Rattle.unroll.specs.Parts.{KnowsPart, IsFirstPart, IsRun}
 use Rattle.unroll.specs.declared.run.FirstPart.{FirstPart}
 use Rattle.unroll.specs.declared.run.Run.{Run}
 use Rattle.unroll.proofs.Known.{still_known}
+use Rattle.win_index.specs.declared.limits.TheConstants.{BLOCK_WINDOWS}
 
 -- identifiers that stand before the last one of a front
 inside_front : (w : List ℕ) (n d len : ℕ) → d + len ≤ n → take len (drop d w) ≡ take len (drop d (take n w))
@@ -60,7 +61,7 @@ same_run plan entries low w v run same is =
 pub first_grows :
     (plan : ProgramForIds) (old new : Entries) (low : ℕ) (first : FirstPart) → Grows old new → IsFirstPart plan old low first
     → IsFirstPart plan new low first
-first_grows plan old new low first grows is = (is.0, λ n number. still_known old new low (n / 256) grows (is.1 n number))
+first_grows plan old new low first grows is = (is.0, λ n number. still_known old new low (n / BLOCK_WINDOWS) grows (is.1 n number))
 
 -- what a run says of the first parts of its windows
 module _ (plan : ProgramForIds) (entries : Entries) (low : ℕ) (w : List ℕ) (run : Run) (is : IsRun plan entries low w run) where
@@ -81,7 +82,7 @@ run_grows plan old new low w run grows is =
       first_is = first_grows plan old new low run.first grows is.first_is;
       own_is = is.own_is;
       own_cells = is.own_cells;
-      own_known = λ n number. still_known old new low (n / 256) grows (is.own_known n number);
+      own_known = λ n number. still_known old new low (n / BLOCK_WINDOWS) grows (is.own_known n number);
     }
 
 -- identifiers of a window that follow one another are a window

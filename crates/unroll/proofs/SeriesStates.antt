@@ -20,6 +20,7 @@ use Rattle.unroll.specs.declared.part_columns.PartColumns.{PartColumns}
 use Rattle.unroll.proofs.ColumnStates.{below_sum, held_more}
 use Rattle.unroll.proofs.Known.{still_known, knows_three, window_at}
 use Rattle.unroll.proofs.SameRun.{same_run, left_is, left_known, slice_window, last_front}
+use Rattle.win_index.specs.declared.limits.TheConstants.{BLOCK_WINDOWS}
 
 -- the last identifiers of a window one level above low are its last part
 last_part : (low : ℕ) (w : List ℕ) → length w ≡ 2 * low + 3 → part w low 2 ≡ drop 2 w
@@ -29,13 +30,13 @@ last_part low w size = take_all (2 * low + 1) (drop 2 w) (omega (arith, length-d
 -- index on: it begins as w does, it has the run of all its windows, and its last part stands there.
 pub record SeriesAt (plan : ProgramForIds) (entries : Entries) (low b place c index i : ℕ) (w : List ℕ) (run : Run) : Type 0 where
   pub next : List ℕ
-  pub next_at : slice_get (windows (2 * (low + 1) + 1) plan.ids) (256 * b + (place + i)) ≡ Some next
+  pub next_at : slice_get (windows (2 * (low + 1) + 1) plan.ids) (BLOCK_WINDOWS * b + (place + i)) ≡ Some next
   pub begins : take (2 * low + 2) w ≡ take (2 * low + 2) next
   pub window : IsWindow (2 * (low + 1) + 1) plan.ids next
-  pub numbered : window_numbered plan.ids (low + 1) (256 * b + (place + i)) ≡ next
+  pub numbered : window_numbered plan.ids (low + 1) (BLOCK_WINDOWS * b + (place + i)) ≡ next
   pub size : length next ≡ 2 * low + 3
   pub run_is : IsRun plan entries low next run
-  pub right_at : slice_get (windows (2 * low + 1) plan.ids) (256 * c + (index + i)) ≡ Some (part next low 2)
+  pub right_at : slice_get (windows (2 * low + 1) plan.ids) (BLOCK_WINDOWS * c + (index + i)) ≡ Some (part next low 2)
 
 -- the last part of a window stands in its run where the window's last identifier does among those that the others lack
 last_part_at :
@@ -61,8 +62,8 @@ right_at_place plan entries low at' w run run_is is = rw is.place_is at (last_pa
 module _ (number_of_window : NumberOfWindow) (windows_have_numbers : WindowsHaveNumbers) where
   pub series_at :
       (plan : ProgramForIds) (entries : Entries) (low b place c index count : ℕ) (w : List ℕ) (run : Run) → length w ≡ 2 * low + 3
-      → slice_get (windows (2 * (low + 1) + 1) plan.ids) (256 * b + place) ≡ Some w
-      → slice_get (windows (2 * low + 1) plan.ids) (256 * c + index) ≡ Some (part w low 2)
+      → slice_get (windows (2 * (low + 1) + 1) plan.ids) (BLOCK_WINDOWS * b + place) ≡ Some w
+      → slice_get (windows (2 * low + 1) plan.ids) (BLOCK_WINDOWS * c + index) ≡ Some (part w low 2)
       → IsSeries (2 * low + 1) plan.ids w count → IsRun plan entries low w run
       → (i : ℕ) → i < count → SeriesAt plan entries low b place c index i w run
   series_at plan entries low b place c index count w run size at' right_at series run_is i lt =
@@ -70,29 +71,29 @@ module _ (number_of_window : NumberOfWindow) (windows_have_numbers : WindowsHave
       let level : 2 * low + 1 + 2 ≡ 2 * (low + 1) + 1 = omega arith in
       let front : 2 * low + 1 + 1 ≡ 2 * low + 2 = omega arith in
       let long : 2 * (low + 1) + 1 ≡ 2 * low + 3 = omega arith in
-      let number : 256 * b + place + i ≡ 256 * b + (place + i) = omega arith in
-      let right_number : 256 * c + index + i ≡ 256 * c + (index + i) = omega arith in
-      let own : slice_get (windows (2 * low + 1 + 2) m) (256 * b + place) ≡ Some w =
-      subst (λ k. slice_get (windows k m) (256 * b + place) ≡ Some w) (sym level) at' in
-      let rest : slice_get (windows (2 * low + 1) m) (256 * c + index) ≡ Some (drop 2 w) = right_at ∙ ap Some (last_part low w size) in
-      let there = series (256 * b + place) (256 * c + index) i own rest lt in
+      let number : BLOCK_WINDOWS * b + place + i ≡ BLOCK_WINDOWS * b + (place + i) = omega arith in
+      let right_number : BLOCK_WINDOWS * c + index + i ≡ BLOCK_WINDOWS * c + (index + i) = omega arith in
+      let own : slice_get (windows (2 * low + 1 + 2) m) (BLOCK_WINDOWS * b + place) ≡ Some w =
+      subst (λ k. slice_get (windows k m) (BLOCK_WINDOWS * b + place) ≡ Some w) (sym level) at' in
+      let rest : slice_get (windows (2 * low + 1) m) (BLOCK_WINDOWS * c + index) ≡ Some (drop 2 w) = right_at ∙ ap Some (last_part low w size) in
+      let there = series (BLOCK_WINDOWS * b + place) (BLOCK_WINDOWS * c + index) i own rest lt in
       let next : List ℕ = there.0 in
-      let raised : slice_get (windows (2 * (low + 1) + 1) m) (256 * b + place + i) ≡ Some next =
-      subst (λ k. slice_get (windows k m) (256 * b + place + i) ≡ Some next) level there.1 in
-      let next_at : slice_get (windows (2 * (low + 1) + 1) m) (256 * b + (place + i)) ≡ Some next =
+      let raised : slice_get (windows (2 * (low + 1) + 1) m) (BLOCK_WINDOWS * b + place + i) ≡ Some next =
+      subst (λ k. slice_get (windows k m) (BLOCK_WINDOWS * b + place + i) ≡ Some next) level there.1 in
+      let next_at : slice_get (windows (2 * (low + 1) + 1) m) (BLOCK_WINDOWS * b + (place + i)) ≡ Some next =
       subst (λ n. slice_get (windows (2 * (low + 1) + 1) m) n ≡ Some next) number raised in
       let same_front : take (2 * low + 2) w ≡ take (2 * low + 2) next = subst (λ k. take k w ≡ take k next) front (sym there.2) in
-      let has = number_of_window (2 * (low + 1) + 1) m (256 * b + (place + i)) next next_at in
+      let has = number_of_window (2 * (low + 1) + 1) m (BLOCK_WINDOWS * b + (place + i)) next next_at in
       let is = (windows_have_numbers (2 * (low + 1) + 1) m next).0 (subst (λ o. IsSome o) (sym has) (λ _. true)) in
       let next_size : length next ≡ 2 * low + 3 = is.size ∙ long in
-      let last_at : slice_get (windows (2 * low + 1) m) (256 * c + index + i) ≡ Some (part next low 2) =
+      let last_at : slice_get (windows (2 * low + 1) m) (BLOCK_WINDOWS * c + index + i) ≡ Some (part next low 2) =
       there.3 ∙ ap Some (sym (last_part low next next_size)) in
       record {
         next = next;
         next_at = next_at;
         begins = same_front;
         window = is;
-        numbered = window_at m (low + 1) (256 * b + (place + i)) next next_at;
+        numbered = window_at m (low + 1) (BLOCK_WINDOWS * b + (place + i)) next next_at;
         size = next_size;
         run_is = same_run plan entries low w next run same_front run_is;
         right_at = subst (λ n. slice_get (windows (2 * low + 1) m) n ≡ Some (part next low 2)) right_number last_at;
@@ -100,27 +101,27 @@ module _ (number_of_window : NumberOfWindow) (windows_have_numbers : WindowsHave
 
   -- such a window stands further in its run by as many places
   pub further_place :
-      (plan : ProgramForIds) (entries : Entries) (low b place c index i at' : ℕ) (w : List ℕ) (run : Run) (stands : SeriesAt plan entries low b place c index i w run) → 256 * c + index ≡ run.start + at' → IsAtPlace (2 * low + 1) plan.ids run.places stands.next (at' + i)
+      (plan : ProgramForIds) (entries : Entries) (low b place c index i at' : ℕ) (w : List ℕ) (run : Run) (stands : SeriesAt plan entries low b place c index i w run) → BLOCK_WINDOWS * c + index ≡ run.start + at' → IsAtPlace (2 * low + 1) plan.ids run.places stands.next (at' + i)
   further_place plan entries low b place c index i at' w run stands start =
       let long : 2 * (low + 1) + 1 ≡ 2 * low + 1 + 2 = omega arith in
       let window : IsWindow (2 * low + 1 + 2) plan.ids stands.next = subst (λ k. IsWindow k plan.ids stands.next) long stands.window in
       let own = number_of_window (2 * low + 1) plan.ids _ (part stands.next low 2) (last_part_at plan entries low stands.next run stands.run_is window) in
-      let there = number_of_window (2 * low + 1) plan.ids (256 * c + (index + i)) (part stands.next low 2) stands.right_at in
-      let same = same_Some (run.start + place_in_run (2 * low + 1) stands.next (get_or stands.next (2 * low + 1 + 1) 0)) (256 * c + (index + i)) (sym own ∙ there) in
+      let there = number_of_window (2 * low + 1) plan.ids (BLOCK_WINDOWS * c + (index + i)) (part stands.next low 2) stands.right_at in
+      let same = same_Some (run.start + place_in_run (2 * low + 1) stands.next (get_or stands.next (2 * low + 1 + 1) 0)) (BLOCK_WINDOWS * c + (index + i)) (sym own ∙ there) in
       record { window_is = window; run_has = stands.run_is.places_are; place_is = omega (arith, same, start) }
 
   -- the parts of such a window are known where the block is that holds the last parts
   pub series_known :
-      (plan : ProgramForIds) (entries : Entries) (low b place c index i : ℕ) (w : List ℕ) (run : Run) → IsSome (entries low c) → index + i < 256
-      → SeriesAt plan entries low b place c index i w run → KnowsParts entries plan.ids low (window_numbered plan.ids (low + 1) (256 * b + (place + i)))
+      (plan : ProgramForIds) (entries : Entries) (low b place c index i : ℕ) (w : List ℕ) (run : Run) → IsSome (entries low c) → index + i < BLOCK_WINDOWS
+      → SeriesAt plan entries low b place c index i w run → KnowsParts entries plan.ids low (window_numbered plan.ids (low + 1) (BLOCK_WINDOWS * b + (place + i)))
   series_known plan entries low b place c index i w run known small stands =
       subst (KnowsParts entries plan.ids low) (sym stands.numbered)
       (knows_three entries plan.ids low stands.next (left_known plan entries low stands.next run stands.run_is) stands.run_is.own_known
       (λ number is.
-      let own = number_of_window (2 * low + 1) plan.ids (256 * c + (index + i)) (part stands.next low 2) stands.right_at in
-      let same : number ≡ 256 * c + (index + i) = same_Some number (256 * c + (index + i)) (sym is ∙ own) in
-      let sum : 256 * c + (index + i) ≡ c * 256 + (index + i) = omega arith in
-      let block : number / 256 ≡ c = ap (λ k. k / 256) (same ∙ sum) ∙ div-mul-add c 256 (index + i) small in
+      let own = number_of_window (2 * low + 1) plan.ids (BLOCK_WINDOWS * c + (index + i)) (part stands.next low 2) stands.right_at in
+      let same : number ≡ BLOCK_WINDOWS * c + (index + i) = same_Some number (BLOCK_WINDOWS * c + (index + i)) (sym is ∙ own) in
+      let sum : BLOCK_WINDOWS * c + (index + i) ≡ c * BLOCK_WINDOWS + (index + i) = omega arith in
+      let block : number / BLOCK_WINDOWS ≡ c = ap (λ k. k / BLOCK_WINDOWS) (same ∙ sum) ∙ div-mul-add c BLOCK_WINDOWS (index + i) small in
       subst (λ k. IsSome (entries low k)) (sym block) known))
 
 -- the parts of the first windows of a block, and then those of the windows of a series, for which a list holds what is sent from the right
@@ -135,7 +136,7 @@ pub hold_series :
 hold_series plan entries low b place c index count w run sent old now held are_sent left own right stands =
     let of_window = λ (d i : ℕ) (lt : i < count). ap (λ w. middle_state plan.program low (part w low d)) (sym (stands i lt).numbered) in
     record {
-      sizes = below_sum (λ i. length (window_numbered plan.ids (low + 1) (256 * b + i)) ≡ 2 * low + 3) place count held.sizes
+      sizes = below_sum (λ i. length (window_numbered plan.ids (low + 1) (BLOCK_WINDOWS * b + i)) ≡ 2 * low + 3) place count held.sizes
           (λ i lt. ap length (stands i lt).numbered ∙ (stands i lt).size);
       left = held_more ℕ 0 place count old.from_left.items now.from_left.items (λ i. run.first.sent)
           (λ i. to_right plan.program low (part_state plan low b 0 i)) held.left left
@@ -145,7 +146,7 @@ hold_series plan entries low b place c index count w run sent old now held are_s
       right = held_more ℕ 0 place count old.from_right.items now.from_right.items (λ i. get_or sent (index + i) 0)
           (λ i. to_left plan.program low (part_state plan low b 2 i)) held.right right
           (λ i lt. are_sent i lt ∙ ap (to_left plan.program low)
-          (ap (middle_state plan.program low) (window_at plan.ids low (256 * c + (index + i)) (part (stands i lt).next low 2) (stands i lt).right_at)
+          (ap (middle_state plan.program low) (window_at plan.ids low (BLOCK_WINDOWS * c + (index + i)) (part (stands i lt).next low 2) (stands i lt).right_at)
           ∙ of_window 2 i lt));
     }
 
@@ -171,14 +172,14 @@ written_same A none x first old now from most same written = rw same written
 -- the window after the last one of a series begins as the first one of its run does, where it begins as the last one
 pub later_window :
     (m low b place count : ℕ) (first w last later : List ℕ) → 1 ≤ count
-    → slice_get (windows (2 * (low + 1) + 1) m) (256 * b + (place + (count - 1))) ≡ Some last → take (2 * low + 2) w ≡ take (2 * low + 2) last
+    → slice_get (windows (2 * (low + 1) + 1) m) (BLOCK_WINDOWS * b + (place + (count - 1))) ≡ Some last → take (2 * low + 2) w ≡ take (2 * low + 2) last
     → take (2 * low + 2) w ≡ take (2 * low + 2) first → take (2 * low + 1 + 1) later ≡ take (2 * low + 1 + 1) last → IsNext (2 * low + 1 + 2) m last later
-    → (slice_get (windows (2 * (low + 1) + 1) m) (256 * b + (place + count)) ≡ Some later) × (take (2 * low + 2) later ≡ take (2 * low + 2) first)
+    → (slice_get (windows (2 * (low + 1) + 1) m) (BLOCK_WINDOWS * b + (place + count)) ≡ Some later) × (take (2 * low + 2) later ≡ take (2 * low + 2) first)
 later_window m low b place count first w last later some at' begins own same next =
     let long : 2 * low + 1 + 2 ≡ 2 * (low + 1) + 1 = omega arith in
     let front : 2 * low + 1 + 1 ≡ 2 * low + 2 = omega arith in
-    let n : ℕ = 256 * b + (place + (count - 1)) in
-    let sum : n + 1 ≡ 256 * b + (place + count) = omega (arith, some) in
+    let n : ℕ = BLOCK_WINDOWS * b + (place + (count - 1)) in
+    let sum : n + 1 ≡ BLOCK_WINDOWS * b + (place + count) = omega (arith, some) in
     let own_at = subst (λ k. slice_get (windows k m) n ≡ Some last) (sym long) at' in
     let follows = subst (λ k. slice_get (windows k m) (n + 1) ≡ Some later) long (next n own_at) in
     let alike = subst (λ k. take k later ≡ take k last) front same in
@@ -200,10 +201,10 @@ still_hold plan low b place most left own old now held lefts owns rights =
 -- the parts of the first windows of a block are known, and those of as many windows more
 pub knows_series :
     (old new : Entries) (m low b place count : ℕ) → Grows old new → KnowsBelow old m (low + 1) b place
-    → ((i : ℕ) → i < count → KnowsParts new m low (window_numbered m (low + 1) (256 * b + (place + i)))) → KnowsBelow new m (low + 1) b (place + count)
+    → ((i : ℕ) → i < count → KnowsParts new m low (window_numbered m (low + 1) (BLOCK_WINDOWS * b + (place + i)))) → KnowsBelow new m (low + 1) b (place + count)
 knows_series old new m low b place count grows before after =
     λ lower j one lt.
     let same : lower ≡ low = omega (arith, one) in
-    below_sum (λ i. KnowsParts new m lower (window_numbered m (low + 1) (256 * b + i))) place count
-    (λ i early n is. still_known old new lower (n / 256) grows (before lower i one early n is))
+    below_sum (λ i. KnowsParts new m lower (window_numbered m (low + 1) (BLOCK_WINDOWS * b + i))) place count
+    (λ i early n is. still_known old new lower (n / BLOCK_WINDOWS) grows (before lower i one early n is))
     (λ i late. rw same (after i late)) j lt

@@ -3,6 +3,7 @@ use Rattle.std.specs.Prelude.{◌≡◌, ℕ, ◌+◌, ◌*◌, ◌/◌, ◌<◌
 use Rattle.win_index.specs.Arcs.{part_at}
 use Rattle.win_index.specs.Windows.{number_of}
 use Rattle.unroll.specs.BlockStates.{window_numbered, block_len}
+use Rattle.win_index.specs.declared.limits.TheConstants.{BLOCK_WINDOWS}
 
 -- the 2r+1 identifiers of a window from place d on: for a window of level r+1 the first, the middle and the
 -- last of them, where d is 0, 1 and 2
@@ -22,5 +23,5 @@ pub record IsBelow (m r b low c : ℕ) : Type 0 where
   pub place : ℕ
   pub inside : place < block_len m r b
   pub number : ℕ
-  pub is_part : IsPartNumber m low (window_numbered m r (256 * b + place)) number
-  pub block_is : c ≡ number / 256
+  pub is_part : IsPartNumber m low (window_numbered m r (BLOCK_WINDOWS * b + place)) number
+  pub block_is : c ≡ number / BLOCK_WINDOWS

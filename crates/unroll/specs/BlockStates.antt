@@ -1,22 +1,23 @@
--- What a block holds: the states of windows of one level that follow one another, 256 at most.
+-- What a block holds: the states of windows of one level that follow one another, BLOCK_WINDOWS at most.
 use Rattle.std.specs.Prelude.{ℕ, ◌+◌, ◌-◌, ◌*◌, min, List, [], slice_index_or, refl}
 use Rattle.std.specs.Coded.{Coded, code_by, coded×, coded_ℕ}
 use Rattle.win_index.specs.Windows.{windows}
 use Rattle.win_index.specs.Blocks.{window_count}
 use Rattle.lang_check.specs.Plans.{ProgramForIds, plan_code}
 use Rattle.unroll.specs.Line.{middle_state}
+use Rattle.win_index.specs.declared.limits.TheConstants.{BLOCK_WINDOWS}
 
 -- the window of level r with number n
 abbrev pub window_numbered : ℕ → ℕ → ℕ → List ℕ
 window_numbered m r n = slice_index_or (windows (2 * r + 1) m) n []
 
--- how many windows block b of level r holds: those from number 256*b on, 256 at most
+-- how many windows block b of level r holds: those from number BLOCK_WINDOWS*b on, BLOCK_WINDOWS at most
 abbrev pub block_len : ℕ → ℕ → ℕ → ℕ
-block_len m r b = min 256 (window_count m r - 256 * b)
+block_len m r b = min BLOCK_WINDOWS (window_count m r - BLOCK_WINDOWS * b)
 
--- state i of block b of level r: that of the window with number 256*b + i
+-- state i of block b of level r: that of the window with number BLOCK_WINDOWS*b + i
 abbrev pub block_state : ProgramForIds → ℕ → ℕ → ℕ → List ℕ
-block_state plan r b i = middle_state plan.program r (window_numbered plan.ids r (256 * b + i))
+block_state plan r b i = middle_state plan.program r (window_numbered plan.ids r (BLOCK_WINDOWS * b + i))
 
 -- a block: its plan, its level and number, and who made it. Its states follow from the first three
 pub record MadeBlock : Type 0 where

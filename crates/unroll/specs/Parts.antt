@@ -12,20 +12,21 @@ use Rattle.unroll.specs.declared.run.FirstPart.{FirstPart}
 use Rattle.unroll.specs.declared.run.Run.{Run}
 use Rattle.unroll.specs.declared.fault.MakeFault.{MakeFault}
 use Rattle.unroll.specs.declared.fault.MakeFault.TheVariants.{Missing, OutOfMemory}
+use Rattle.win_index.specs.declared.limits.TheConstants.{BLOCK_WINDOWS}
 
 -- the blocks of the level low that hold the three parts of the window w are known
 abbrev pub KnowsParts : Entries → ℕ → ℕ → List ℕ → Type 0
-KnowsParts entries m low w = (n : ℕ) → IsPartNumber m low w n → IsSome (entries low (n / 256))
+KnowsParts entries m low w = (n : ℕ) → IsPartNumber m low w n → IsSome (entries low (n / BLOCK_WINDOWS))
 
 -- the block of the level low that holds the part of the window w from place d on is known
 abbrev pub KnowsPart : Entries → ℕ → ℕ → List ℕ → ℕ → Type 0
-KnowsPart entries m low w d = (n : ℕ) → number_of (2 * low + 1) m (part w low d) ≡ Some n → IsSome (entries low (n / 256))
+KnowsPart entries m low w d = (n : ℕ) → number_of (2 * low + 1) m (part w low d) ≡ Some n → IsSome (entries low (n / BLOCK_WINDOWS))
 
 -- the first part of a window: what its node sends to the right after as many rounds as the level low says, and its block is known
 abbrev pub IsFirstPart : ProgramForIds → Entries → ℕ → FirstPart → Type 0
 IsFirstPart plan entries low first =
     (first.sent ≡ to_right plan.program low (middle_state plan.program low (take (2 * low + 1) first.ids)))
-    × ((n : ℕ) → number_of (2 * low + 1) plan.ids (take (2 * low + 1) first.ids) ≡ Some n → IsSome (entries low (n / 256)))
+    × ((n : ℕ) → number_of (2 * low + 1) plan.ids (take (2 * low + 1) first.ids) ≡ Some n → IsSome (entries low (n / BLOCK_WINDOWS)))
 
 -- What the windows one level above low share that begin as w does, with all identifiers but the last: the number of the first window that
 -- begins as their last parts do, the places of these, their first part, and the state of their middle part. The blocks of these two are
@@ -42,12 +43,12 @@ pub record IsRun (plan : ProgramForIds) (entries : Entries) (low : ℕ) (w : Lis
 -- the parts of the first windows of block b of level r are known, as many windows as count
 abbrev pub KnowsBelow : Entries → ℕ → ℕ → ℕ → ℕ → Type 0
 KnowsBelow entries m r b count =
-    (low place : ℕ) → r ≡ low + 1 → place < count → KnowsParts entries m low (window_numbered m r (256 * b + place))
+    (low place : ℕ) → r ≡ low + 1 → place < count → KnowsParts entries m low (window_numbered m r (BLOCK_WINDOWS * b + place))
 
 -- a block is missing that holds a part of the window w of level r: no other fault comes
 abbrev pub IsMissingPart : Entries → ℕ → ℕ → List ℕ → MakeFault → Type 0
 IsMissingPart entries m r w (Missing low c) =
-    (r ≡ low + 1) × ((n : ℕ) × IsPartNumber m low w n × (c ≡ n / 256)) × (entries low c ≡ None)
+    (r ≡ low + 1) × ((n : ℕ) × IsPartNumber m low w n × (c ≡ n / BLOCK_WINDOWS)) × (entries low c ≡ None)
 IsMissingPart entries m r w OutOfMemory = ⊥
 
 -- the block with this number, of this level, is missing: no other fault comes

@@ -12,23 +12,23 @@ use Rattle.unroll.specs.BlockStates.{window_numbered}
 use Rattle.unroll.specs.Line.{middle_state}
 use Rattle.unroll.specs.declared.part_columns.PartColumns.{PartColumns}
 
--- columns for the registers of the plan at 256 windows
+-- columns for the registers of the plan at BLOCK_WINDOWS windows
 abbrev pub IsWide : ProgramForIds → NodeStates → Type 0
 IsWide plan columns = (columns.registers ≡ length plan.program.start) × (length columns.states ≡ BLOCK_WINDOWS)
 
--- the same of the states, and a message from each side at 256 windows
+-- the same of the states, and a message from each side at BLOCK_WINDOWS windows
 abbrev pub AreWide : ProgramForIds → PartColumns → Type 0
 AreWide plan parts = (length parts.from_left.items ≡ BLOCK_WINDOWS) × IsWide plan parts.own × (length parts.from_right.items ≡ BLOCK_WINDOWS)
 
 -- the state of the part from place d on of the window i of block b of the level above low
 abbrev pub part_state : ProgramForIds → ℕ → ℕ → ℕ → ℕ → List ℕ
-part_state plan low b d i = middle_state plan.program low (part (window_numbered plan.ids (low + 1) (256 * b + i)) low d)
+part_state plan low b d i = middle_state plan.program low (part (window_numbered plan.ids (low + 1) (BLOCK_WINDOWS * b + i)) low d)
 
 -- the parts of the first windows of block b of the level above low, as many as count: each window has two identifiers more than its
 -- parts, item i of the lists is what the node of the first part sends to the right in the next round, what that of the middle part
 -- holds, and what that of the last part sends to the left
 pub record HoldParts (plan : ProgramForIds) (low b count : ℕ) (parts : PartColumns) : Type 0 where
-  pub sizes : (i : ℕ) → i < count → length (window_numbered plan.ids (low + 1) (256 * b + i)) ≡ 2 * low + 3
+  pub sizes : (i : ℕ) → i < count → length (window_numbered plan.ids (low + 1) (BLOCK_WINDOWS * b + i)) ≡ 2 * low + 3
   pub left : (i : ℕ) → i < count → slice_index parts.from_left.items i ≡ to_right plan.program low (part_state plan low b 0 i)
   pub own : (i : ℕ) → i < count → slice_index_or parts.own.states i [] ≡ part_state plan low b 1 i
   pub right : (i : ℕ) → i < count → slice_index parts.from_right.items i ≡ to_left plan.program low (part_state plan low b 2 i)

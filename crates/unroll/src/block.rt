@@ -2,8 +2,8 @@ use lang_check::Plan;
 use round_eval::{row_at, width_of};
 use std::marker::Model;
 
-/// The states of up to 256 windows of one level of a plan, in the order of their numbers: block `b` holds
-/// those of the windows from number `256*b` on. Each is its window's state after as many rounds as the level
+/// The states of up to `BLOCK_WINDOWS` windows of one level of a plan, in the order of their numbers: block `b` holds
+/// those of the windows from number `BLOCK_WINDOWS * b` on. Each is its window's state after as many rounds as the level
 /// says. Below the last level it also holds what the middle of each window sends in the next round, from which blocks of
 /// the level above are made. A block names who made it, by any number. It is made by `make_block` alone.
 #[derive(Drop)]
@@ -68,7 +68,7 @@ impl<'a> Block<'a> {
         self.maker
     }
 
-    /// How many states it holds, at most 256.
+    /// How many states it holds, at most `BLOCK_WINDOWS`.
     pub fn len(&self) -> u32
         ensures { result ≡ block_len self.now.plan.ids self.now.level self.now.number }
     {
@@ -86,7 +86,7 @@ impl<'a> Block<'a> {
         &self.states
     }
 
-    /// The state of its `i`-th window, which has number `256*b + i` in block `b`: a cell for each register.
+    /// The state of its `i`-th window, which has number `BLOCK_WINDOWS * b + i` in block `b`: a cell for each register.
     pub fn state(&self, i: u32) -> &[u32]
         requires { i < block_len self.now.plan.ids self.now.level self.now.number }
         ensures value { result.now ≡ block_state self.now.plan self.now.level self.now.number i }

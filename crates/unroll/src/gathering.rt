@@ -30,7 +30,7 @@ pub(crate) fn len_of(shape: Shape, level: u32, number: u32) -> u32
     requires level { level ≤ shape.rounds }
     requires number { number < block_count shape.ids level }
     ensures value { result ≡ block_len shape.ids level number }
-    ensures few { result ≤ 256 }
+    ensures few { result ≤ BLOCK_WINDOWS }
 {
     (shape.count(level) - first_number(shape, level, number)).min(BLOCK_WINDOWS)
 }
@@ -48,7 +48,7 @@ pub(crate) fn gather<'s, S: Source<'s>>(
     requires plan { S.plan source.old ≡ plan.now }
     requires below { below < length plan.now.program.steps }
     requires number { number < block_count plan.now.ids (below + 1) }
-    requires first { slice_get (windows (2 * (below + 1) + 1) plan.now.ids) (256 * number) ≡ Some window.old }
+    requires first { slice_get (windows (2 * (below + 1) + 1) plan.now.ids) (BLOCK_WINDOWS * number) ≡ Some window.old }
     requires window { IsWindow (2 * below + 3) plan.now.ids window.old }
     requires wide { AreWide plan.now parts.old }
     ensures same_plan { S.plan source.new ≡ S.plan source.old }
@@ -101,7 +101,7 @@ fn gather_run<'s, S: Source<'s>>(
     requires number { number < block_count plan.now.ids (below + 1) }
     requires len { len ≡ block_len plan.now.ids (below + 1) number }
     requires from { from < len }
-    requires here { slice_get (windows (2 * (below + 1) + 1) plan.now.ids) (256 * number + from) ≡ Some window.now }
+    requires here { slice_get (windows (2 * (below + 1) + 1) plan.now.ids) (BLOCK_WINDOWS * number + from) ≡ Some window.now }
     requires window { IsWindow (2 * below + 3) plan.now.ids window.now }
     requires run { IsRun plan.now (S.entries source.old) below window.now run }
     requires given { IfSome given (λ b. IsEntry plan.now (S.entries source.old) below b.now.number b.now) }
@@ -113,7 +113,7 @@ fn gather_run<'s, S: Source<'s>>(
     ensures grows { Grows (S.entries source.old) (S.entries source.new) }
     ensures wide { AreWide plan.now parts.new }
     ensures later { IfOk result (λ r. (from < r.0) × (r.0 ≤ len)) }
-    ensures ended { IfOk result (λ r. r.0 < len → EndsAt plan.now.ids (below + 1) window.now (256 * number + (r.0 - 1))) }
+    ensures ended { IfOk result (λ r. r.0 < len → EndsAt plan.now.ids (below + 1) window.now (BLOCK_WINDOWS * number + (r.0 - 1))) }
     ensures block { IfOk result (λ r. IsEntry plan.now (S.entries source.new) below r.1.now.number r.1.now) }
     ensures states { IfOk result (λ r. HoldParts plan.now below number r.0 parts.new) }
     ensures known { IfOk result (λ r. KnowsBelow (S.entries source.new) plan.now.ids (below + 1) number r.0) }
@@ -156,7 +156,7 @@ fn gather_run<'s, S: Source<'s>>(
 fn first_number(shape: Shape, level: u32, number: u32) -> u32
     requires level { level ≤ shape.rounds }
     requires number { number < block_count shape.ids level }
-    ensures { result ≡ 256 * number }
+    ensures { result ≡ BLOCK_WINDOWS * number }
 {
     let _windows = shape.count(level);
     BLOCK_WINDOWS * number
@@ -252,7 +252,7 @@ pub(crate) fn start_states(
 )
     requires code { code.now ≡ plan.now }
     requires number { number < block_count plan.now.ids 0 }
-    requires first { slice_get (windows 1 plan.now.ids) (256 * number) ≡ Some window.old }
+    requires first { slice_get (windows 1 plan.now.ids) (BLOCK_WINDOWS * number) ≡ Some window.old }
     requires window { IsWindow 1 plan.now.ids window.old }
     requires room { (most_columns (terms plan.now.program) ≤ work.old.columns) × (work.old.width ≡ BLOCK_WINDOWS) }
     requires made { IsWide plan.now made.old }
@@ -270,11 +270,11 @@ pub(crate) fn start_states(
 // in place.
 fn put_ids(shape: Shape, number: u32, window: &mut [u32], ids: &mut [u32])
     requires number { number < block_count shape.ids 0 }
-    requires first { slice_get (windows 1 shape.ids) (256 * number) ≡ Some window.old }
+    requires first { slice_get (windows 1 shape.ids) (BLOCK_WINDOWS * number) ≡ Some window.old }
     requires window { IsWindow 1 shape.ids window.old }
     requires ids { length ids.old ≡ BLOCK_WINDOWS }
     ensures { (i : ℕ) → i < block_len shape.ids 0 number
-        → window_numbered shape.ids 0 (256 * number + i) ≡ slice_index ids.new i ∷ [] }
+        → window_numbered shape.ids 0 (BLOCK_WINDOWS * number + i) ≡ slice_index ids.new i ∷ [] }
 {
     for place in 0..len_of(shape, 0, number) as usize {
         ids[place] = window[0];

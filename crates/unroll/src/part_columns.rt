@@ -9,8 +9,8 @@ use round_eval::width_of;
 use std::alloc::Global;
 use win_index::BLOCK_WINDOWS;
 
-// Of up to 256 windows: what the node of the first part sends to the right in the next round, what the node of the middle
-// part holds, and what the node of the last part sends to the left.
+// Of up to `BLOCK_WINDOWS` windows: what the node of the first part sends to the right in the next round, what the node
+// of the middle part holds, and what the node of the last part sends to the left.
 #[derive(Drop)]
 pub(crate) struct PartColumns {
     pub(crate) from_left: Vec<u32>,
@@ -19,7 +19,7 @@ pub(crate) struct PartColumns {
 }
 
 impl PartColumns {
-    // Room for the parts of 256 windows.
+    // Room for the parts of `BLOCK_WINDOWS` windows.
     pub(crate) fn new(alloc: Global, plan: &Plan) -> Result<PartColumns, OutOfMemory>
         ensures { IfOk result (AreWide plan.now) }
     {
@@ -96,7 +96,7 @@ pub(crate) fn zeros(alloc: Global, len: usize) -> Result<Vec<u32>, OutOfMemory>
     vec![in alloc; 0; len].map_err(|_| OutOfMemory)
 }
 
-// Columns for the states of 256 windows.
+// Columns for the states of `BLOCK_WINDOWS` windows.
 pub(crate) fn wide_columns(alloc: Global, plan: &Plan) -> Result<Columns, OutOfMemory>
     ensures { IfOk result (IsWide plan.now) }
 {

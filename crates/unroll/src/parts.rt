@@ -58,10 +58,10 @@ pub(crate) fn numbered_block<'s, S: Source<'s>>(
     ensures same_plan { S.plan source.new ≡ S.plan source.old }
     ensures same_fixed { S.fixed source.new ≡ S.fixed source.old }
     ensures grows { Grows (S.entries source.old) (S.entries source.new) }
-    ensures block { IfOk result (λ r. IsEntry plan.now (S.entries source.new) level (number / 256) r.0.now) }
-    ensures place { IfOk result (λ r. r.1 ≡ number % 256) }
-    ensures inside { IfOk result (λ r. r.1 < block_len plan.now.ids level (number / 256)) }
-    ensures fault { IfErr result (IsMissingBlock (S.entries source.new) level (number / 256)) }
+    ensures block { IfOk result (λ r. IsEntry plan.now (S.entries source.new) level (number / BLOCK_WINDOWS) r.0.now) }
+    ensures place { IfOk result (λ r. r.1 ≡ number % BLOCK_WINDOWS) }
+    ensures inside { IfOk result (λ r. r.1 < block_len plan.now.ids level (number / BLOCK_WINDOWS)) }
+    ensures fault { IfErr result (IsMissingBlock (S.entries source.new) level (number / BLOCK_WINDOWS)) }
 {
     let place = number / BLOCK_WINDOWS;
     let Some(block) = known_block(plan, source, level, place, last) else {

@@ -1,6 +1,7 @@
--- Blocks: the windows of a level, 256 at a time. The last block of a level may hold fewer.
+-- Blocks: the windows of a level, BLOCK_WINDOWS at a time. The last block of a level may hold fewer.
 use Rattle.std.specs.Prelude.{ℕ, ◌+◌, ◌*◌, ◌/◌, ◌%◌, min, length}
 use Rattle.win_index.specs.Windows.{windows}
+use Rattle.win_index.specs.declared.limits.TheConstants.{BLOCK_WINDOWS}
 
 -- how many windows of level r there are
 abbrev pub window_count : ℕ → ℕ → ℕ
@@ -8,4 +9,4 @@ window_count m r = length (windows (2 * r + 1) m)
 
 -- how many blocks the windows of level r fill: the full ones, and one for the rest where there is a rest
 abbrev pub block_count : ℕ → ℕ → ℕ
-block_count m r = window_count m r / 256 + min 1 (window_count m r % 256)
+block_count m r = window_count m r / BLOCK_WINDOWS + min 1 (window_count m r % BLOCK_WINDOWS)

@@ -6,8 +6,8 @@ impl Shape {
     ghost use Rattle.win_index.specs.Blocks.{block_count};
     ghost use Rattle.win_index.specs.Jobs.{jobs_of, job_number as number_of_job};
 
-    /// How many blocks the windows of this level fill, 256 a block. Block `b` holds the windows from number
-    /// `256*b` on; the last block may hold fewer than 256.
+    /// How many blocks the windows of this level fill, `BLOCK_WINDOWS` a block. Block `b` holds the windows from number
+    /// `BLOCK_WINDOWS * b` on; the last block may hold fewer than `BLOCK_WINDOWS`.
     pub fn blocks(&self, level: u32) -> u32
         requires { level ≤ self.now.rounds }
         ensures value { result ≡ block_count self.now.ids level }

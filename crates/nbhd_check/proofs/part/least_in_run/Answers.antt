@@ -1,6 +1,7 @@
 use Rattle.std.proofs.Common.{◌*◌, ◌^◌, arith}
 use Rattle.std.proofs.lemmas.Bool.{OnFalse_at}
 use Rattle.std.proofs.lemmas.Nat.{mul-le}
+use Rattle.win_index.specs.declared.limits.TheConstants.{MAX_IDS}
 use Rattle.nbhd_check.proofs.Runs.{none_in_run}
 use Rattle.nbhd_check.proofs.part.least_in_run.Goals as goal
 
@@ -12,5 +13,5 @@ returns-then-not-may_begin_bad_tuple c =
 
 pub overflow_add-start : goal.overflow_add-start
 overflow_add-start c =
-    let all = mul-le c.from.result c.run_len-free.result (2 ^ 32) (1024 * 1024) (omega arith) (omega arith) in
+    let all = mul-le c.from.result c.run_len-free.result (2 ^ 32) (MAX_IDS * MAX_IDS) (omega arith) (omega arith) in
     omega (arith, all)

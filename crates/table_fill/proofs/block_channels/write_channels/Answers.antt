@@ -7,6 +7,7 @@ use Rattle.unroll.specs.Line.{middle_state}
 use Rattle.win_index.specs.Windows.{windows}
 use Rattle.table_fill.proofs.Programs.{numbered_is_window}
 use Rattle.table_fill.proofs.block_channels.write_channels.Goals as goal
+use Rattle.win_index.specs.declared.limits.TheConstants.{BLOCK_WINDOWS}
 
 pub returns-clause-channels : goal.returns-clause-channels
 returns-clause-channels c = λ i lt.
@@ -14,7 +15,7 @@ returns-clause-channels c = λ i lt.
     let p = plan.program in
     let m = plan.ids in
     let t = length p.steps in
-    let n = 256 * c.args.block.now.number + i in
+    let n = BLOCK_WINDOWS * c.args.block.now.number + i in
     let within : n < length (windows (2 * t + 1) m) = omega (arith, lt) in
     let is = numbered_is_window c.number_of_window.ensures c.windows_have_numbers.ensures m t n within in
     let bound = c.windows_are_within.ensures p m t (window_numbered m t n) is in

@@ -1,6 +1,7 @@
 use Rattle.std.proofs.Common.{◌≡◌, ◌*◌, ◌%◌, length, inl, inr, ⊎_elim, arith}
 use Rattle.table_fill.proofs.JoinedEntries.{joined_entries}
 use Rattle.table_fill.proofs.shares.+shares.Goals as goal
+use Rattle.win_index.specs.declared.limits.TheConstants.{BLOCK_WINDOWS}
 
 -- The windows after those of whole blocks begin with a block, and after all others there is none.
 pub write_from-returns-clause-entries : goal.write_from-returns-clause-entries
@@ -8,6 +9,6 @@ write_from-returns-clause-entries g t c =
     let both = c.write_both.ensures in
     let len = c.share_len-len.result in
     let after =
-    ⊎_elim (λ (whole : len % 256 ≡ 0). inl (omega (arith, whole, both.front_size)))
+    ⊎_elim (λ (whole : len % BLOCK_WINDOWS ≡ 0). inl (omega (arith, whole, both.front_size)))
     (λ (all : len ≡ length c.args.entries.now). inr (omega (arith, all, both.back_size))) c.share_len-len.ensures.ends_a_block in
-    joined_entries c.args.plan.now (256 * c.args.first) _ _ _ after both.front both.back
+    joined_entries c.args.plan.now (BLOCK_WINDOWS * c.args.first) _ _ _ after both.front both.back

@@ -6,6 +6,7 @@ use Rattle.std.proofs.lemmas.Slice.{take-put_mid_below, between-put_mid}
 use Rattle.std.proofs.lemmas.List.{get_or-take, get_or-drop, length-append, length-take, length-drop}
 use Rattle.std.proofs.lemmas.Option.{slice_get-get_or}
 use Rattle.table_fill.proofs.shares.write_share.Goals as goal
+use Rattle.win_index.specs.declared.limits.TheConstants.{BLOCK_WINDOWS}
 
 pub loop-i-preserved : goal.loop-i-preserved
 loop-i-preserved c =
@@ -18,7 +19,7 @@ loop-i-preserved c =
     let wrote = c.write_block.ensures in
     let xs = c.loop-i.share in
     let ys = c.write_block.new.entries in
-    let from = c.loop-i.i * 256 in
+    let from = c.loop-i.i * BLOCK_WINDOWS in
     let len = rw (keyed.0, keyed.1, keyed.2) at c.len.ensures in
     let within : from + c.len.result ≤ length xs = search rules in
     let size : length ys ≡ c.len.result = wrote.size ∙ simp (length-take, length-drop) (omega (arith, within)) in
@@ -44,6 +45,6 @@ loop-i-preserved c =
           ap (λ n. get_or written n 0) (sym place) ∙ sym (get_or-drop from written (k - from) 0)
           ∙ sym (get_or-take (from + c.len.result - from) (drop from written) (k - from) 0 (omega (arith, short)))
           ∙ ap (λ l. get_or l (k - from) 0) part in
-          let step : 256 * held.now.number + (k - from) ≡ 256 * c.args.first + k = omega (arith, number, above) in
+          let step : BLOCK_WINDOWS * held.now.number + (k - from) ≡ BLOCK_WINDOWS * c.args.first + k = omega (arith, number, above) in
           rw (same, ← step) (rw c.loop-i.invariant.plan at (wrote.entries (k - from) (omega (arith, size, short)))));
     }

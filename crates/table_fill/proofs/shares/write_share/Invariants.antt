@@ -2,6 +2,7 @@ use Rattle.std.proofs.Common.{◌≡◌, ℕ, ◌+◌, ◌*◌, ◌<◌, length,
 use Rattle.unroll.specs.BlockStates.{window_numbered}
 use Rattle.table_fill.specs.ProgramTables.{window_channel}
 use Rattle.table_fill.proofs.shares.write_share.Given as goal
+use Rattle.win_index.specs.declared.limits.TheConstants.{BLOCK_WINDOWS}
 
 -- the entries of the blocks so far are written
 abbrev pub invariant-loop-i : goal.invariant-loop-i
@@ -9,7 +10,7 @@ invariant-loop-i l =
     record {
       plan : l.columns ≡ l.fn.columns;
       size : length l.share ≡ length l.fn.share;
-      written : (k : ℕ) → k < 256 * l.i → k < length l.fn.share
-          → (slice_index l.share k ≡ window_channel l.fn.columns.program (window_numbered l.fn.columns.ids (length l.fn.columns.program.steps) (256 * l.first + k)))
+      written : (k : ℕ) → k < BLOCK_WINDOWS * l.i → k < length l.fn.share
+          → (slice_index l.share k ≡ window_channel l.fn.columns.program (window_numbered l.fn.columns.ids (length l.fn.columns.program.steps) (BLOCK_WINDOWS * l.first + k)))
           × (slice_index l.share k < l.fn.columns.program.channels);
     }

@@ -6,6 +6,7 @@ use Rattle.unroll.specs.Parts.{KnowsBelow}
 use Rattle.unroll.proofs.Known.{still_known, window_at, grows_both, fault_of_block, if_some_more}
 use Rattle.unroll.proofs.SameRun.{first_grows}
 use Rattle.unroll.proofs.gathering.gather.Goals as goal
+use Rattle.win_index.specs.declared.limits.TheConstants.{BLOCK_WINDOWS}
 
 pub returns-in_err-run-clause-fault : goal.returns-in_err-run-clause-fault
 returns-in_err-run-clause-fault g c =
@@ -14,7 +15,7 @@ returns-in_err-run-clause-fault g c =
     let b = c.args.number in
     let place = c.loop-run.place in
     let window = c.loop-run.window in
-    let own = window_at m (low + 1) (256 * b + place) window c.loop-run.invariant.here in
+    let own = window_at m (low + 1) (BLOCK_WINDOWS * b + place) window c.loop-run.invariant.here in
     let p = err_from_is_err_and c.from_residual.result c.from_residual.ensures.1 in
     rw (p.1, p.2)
     (fault_of_block (g.S.Source.entries c.start_run.new.source) m (low + 1) b place window c.in_err-run.field-0.0 c.loop-run.invariant.within
@@ -55,7 +56,7 @@ gather_run-requires g c κs =
                               level_is = is.level_is;
                               number_is = is.number_is;
                             }) before.last,
-                        (before.wide, (before.states, λ lower j one lt n is. still_known old new lower (n / 256) asked.grows (before.known lower j one lt n is))),
+                        (before.wide, (before.states, λ lower j one lt n is. still_known old new lower (n / BLOCK_WINDOWS) asked.grows (before.known lower j one lt n is))),
                       ),
                     ),
                   ),
@@ -96,9 +97,9 @@ loop-run-preserved g c =
     let fewer : after < c.len_of-len.result = omega (arith, went.later.1, c.if-after-len.false) in
     let within : after < block_len m (low + 1) b = omega (arith, len, fewer) in
     let end = went.ended fewer in
-    let sum : 256 * b + (after - 1) + 1 ≡ 256 * b + after = omega (arith, went.later.0) in
+    let sum : BLOCK_WINDOWS * b + (after - 1) + 1 ≡ BLOCK_WINDOWS * b + after = omega (arith, went.later.0) in
     let next = rw c.shape-shape.ensures.ids at c.next_run.ensures.next in
-    let follows = rw sum at (next (256 * b + (after - 1)) end.0 end.1 end.2 (omega (arith, within, sum))) in
+    let follows = rw sum at (next (BLOCK_WINDOWS * b + (after - 1)) end.0 end.1 end.2 (omega (arith, within, sum))) in
     record {
       within = within;
       same_plan = went.same_plan ∙ asked.same_plan ∙ before.same_plan;

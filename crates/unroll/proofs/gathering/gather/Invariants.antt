@@ -5,6 +5,7 @@ use Rattle.unroll.specs.Entries.{Grows, IsEntry}
 use Rattle.unroll.specs.Parts.{IsFirstPart, KnowsBelow}
 use Rattle.unroll.specs.WideColumns.{AreWide, HoldParts}
 use Rattle.unroll.proofs.gathering.gather.Given as goal
+use Rattle.win_index.specs.declared.limits.TheConstants.{BLOCK_WINDOWS}
 
 abbrev pub invariant-loop-run : goal.invariant-loop-run
 invariant-loop-run g l =
@@ -14,7 +15,7 @@ invariant-loop-run g l =
       same_fixed : g.S.Source.fixed l.source ≡ g.S.Source.fixed l.fn.source;
       grows : Grows (g.S.Source.entries l.fn.source) (g.S.Source.entries l.source);
       window : IsWindow (2 * l.below + 3) l.plan.ids l.window;
-      here : slice_get (windows (2 * (l.below + 1) + 1) l.plan.ids) (256 * l.number + l.place) ≡ Some l.window;
+      here : slice_get (windows (2 * (l.below + 1) + 1) l.plan.ids) (BLOCK_WINDOWS * l.number + l.place) ≡ Some l.window;
       first : IfSome l.first (IsFirstPart l.plan (g.S.Source.entries l.source) l.below);
       last : IfSome l.last (λ b. IsEntry l.plan (g.S.Source.entries l.source) l.below b.now.number b.now);
       wide : AreWide l.plan l.parts;

@@ -8,6 +8,7 @@ use Rattle.unroll.proofs.Known.{window_at, grows_both, fault_of_last}
 use Rattle.unroll.proofs.SameRun.{same_run, run_grows}
 use Rattle.unroll.proofs.SeriesStates.{series_at, series_known, hold_series, knows_series, still_written, still_hold, written_same, right_at_place, further_place, later_window}
 use Rattle.unroll.proofs.gathering.gather_run.Goals as goal
+use Rattle.win_index.specs.declared.limits.TheConstants.{BLOCK_WINDOWS}
 
 pub returns-in_err-block-clause-grows : goal.returns-in_err-block-clause-grows
 returns-in_err-block-clause-grows g c =
@@ -45,7 +46,7 @@ returns-then-place-len-clause-states g c =
     let run_is = same_run plan after low c.args.window.now w run (sym before.here.2) (run_grows plan (entries c.args.source.now) after low c.args.window.now run whole c.requires.run) in
     let size = before.here.3.window_is.size in
     let number = asked.block.number_is in
-    let start : 256 * block.number + index ≡ run.start + at' = omega (arith, asked.place, number) in
+    let start : BLOCK_WINDOWS * block.number + index ≡ run.start + at' = omega (arith, asked.place, number) in
     let right = rw (sym start) at (right_at_place plan after low at' w run run_is before.here.3) in
     let stands = series_at c.number_of_window.ensures c.windows_have_numbers.ensures plan after low b place block.number index count w run
     (omega (arith, size)) before.here.1 right (c.series-count.ensures.series (2 * low + 1) m w (omega arith) before.here.3) run_is in
@@ -83,7 +84,7 @@ returns-in_default-clause-states g c =
     let run_is = same_run plan after low c.args.window.now w run (sym before.here.2) (run_grows plan (entries c.args.source.now) after low c.args.window.now run whole c.requires.run) in
     let size = before.here.3.window_is.size in
     let number = asked.block.number_is in
-    let start : 256 * block.number + index ≡ run.start + at' = omega (arith, asked.place, number) in
+    let start : BLOCK_WINDOWS * block.number + index ≡ run.start + at' = omega (arith, asked.place, number) in
     let right = rw (sym start) at (right_at_place plan after low at' w run run_is before.here.3) in
     let stands = series_at c.number_of_window.ensures c.windows_have_numbers.ensures plan after low b place block.number index count w run
     (omega (arith, size)) before.here.1 right (c.series-count.ensures.series (2 * low + 1) m w (omega arith) before.here.3) run_is in
@@ -121,12 +122,12 @@ returns-then-place-len-clause-known g c =
     let run_is = same_run plan after low c.args.window.now w run (sym before.here.2) (run_grows plan (entries c.args.source.now) after low c.args.window.now run whole c.requires.run) in
     let size = before.here.3.window_is.size in
     let number = asked.block.number_is in
-    let start : 256 * block.number + index ≡ run.start + at' = omega (arith, asked.place, number) in
+    let start : BLOCK_WINDOWS * block.number + index ≡ run.start + at' = omega (arith, asked.place, number) in
     let right = rw (sym start) at (right_at_place plan after low at' w run run_is before.here.3) in
     let stands = series_at c.number_of_window.ensures c.windows_have_numbers.ensures plan after low b place block.number index count w run
     (omega (arith, size)) before.here.1 right (c.series-count.ensures.series (2 * low + 1) m w (omega arith) before.here.3) run_is in
     let few : index + count ≤ c.len.result = omega (arith, c.series-count.ensures.few, c.min.ensures, asked.inside, c.len.ensures) in
-    let small : c.len.result ≤ 256 = omega (arith, c.len.ensures) in
+    let small : c.len.result ≤ BLOCK_WINDOWS = omega (arith, c.len.ensures) in
     let there : IsSome (after low block.number) = rw (number, asked.block.known) refl in
     let known = knows_series (entries c.loop-block.source) after m low b place count asked.grows before.known
     (λ i lt. series_known c.number_of_window.ensures c.windows_have_numbers.ensures plan after low b place block.number index i w run there
@@ -154,12 +155,12 @@ returns-in_default-clause-known g c =
     let run_is = same_run plan after low c.args.window.now w run (sym before.here.2) (run_grows plan (entries c.args.source.now) after low c.args.window.now run whole c.requires.run) in
     let size = before.here.3.window_is.size in
     let number = asked.block.number_is in
-    let start : 256 * block.number + index ≡ run.start + at' = omega (arith, asked.place, number) in
+    let start : BLOCK_WINDOWS * block.number + index ≡ run.start + at' = omega (arith, asked.place, number) in
     let right = rw (sym start) at (right_at_place plan after low at' w run run_is before.here.3) in
     let stands = series_at c.number_of_window.ensures c.windows_have_numbers.ensures plan after low b place block.number index count w run
     (omega (arith, size)) before.here.1 right (c.series-count.ensures.series (2 * low + 1) m w (omega arith) before.here.3) run_is in
     let few : index + count ≤ c.len.result = omega (arith, c.series-count.ensures.few, c.min.ensures, asked.inside, c.len.ensures) in
-    let small : c.len.result ≤ 256 = omega (arith, c.len.ensures) in
+    let small : c.len.result ≤ BLOCK_WINDOWS = omega (arith, c.len.ensures) in
     let there : IsSome (after low block.number) = rw (number, asked.block.known) refl in
     let known = knows_series (entries c.loop-block.source) after m low b place count asked.grows before.known
     (λ i lt. series_known c.number_of_window.ensures c.windows_have_numbers.ensures plan after low b place block.number index i w run there
@@ -187,7 +188,7 @@ returns-in_default-clause-ended g c fewer =
     let run_is = same_run plan after low c.args.window.now w run (sym before.here.2) (run_grows plan (entries c.args.source.now) after low c.args.window.now run whole c.requires.run) in
     let size = before.here.3.window_is.size in
     let number = asked.block.number_is in
-    let start : 256 * block.number + index ≡ run.start + at' = omega (arith, asked.place, number) in
+    let start : BLOCK_WINDOWS * block.number + index ≡ run.start + at' = omega (arith, asked.place, number) in
     let right = rw (sym start) at (right_at_place plan after low at' w run run_is before.here.3) in
     let stands = series_at c.number_of_window.ensures c.windows_have_numbers.ensures plan after low b place block.number index count w run
     (omega (arith, size)) before.here.1 right (c.series-count.ensures.series (2 * low + 1) m w (omega arith) before.here.3) run_is in
@@ -198,7 +199,7 @@ returns-in_default-clause-ended g c fewer =
     let from : at' + (count - 1) ≡ at' + count - 1 = omega (arith, some) in
     let ends = c.in_default.ensures.last (2 * low + 1) m last.next (omega arith) (rw from at place_is) in
     let long : 2 * low + 1 + 2 ≡ 2 * (low + 1) + 1 = omega arith in
-    let sum : 256 * b + (place + (count - 1)) ≡ 256 * b + (place + count - 1) = omega (arith, some) in
+    let sum : BLOCK_WINDOWS * b + (place + (count - 1)) ≡ BLOCK_WINDOWS * b + (place + count - 1) = omega (arith, some) in
     let front : 2 * low + 2 ≡ 2 * (low + 1) + 1 - 1 = omega arith in (
       last.next,
       rw sum at last.next_at,
@@ -252,7 +253,7 @@ returns-in_err-block-clause-fault g c =
     let run_is = same_run plan now low c.args.window.now w run (sym before.here.2) (run_grows plan (entries c.args.source.now) now low c.args.window.now run before.grows c.requires.run) in
     let right = right_at_place plan now low c.loop-block.at w run run_is before.here.3 in
     let inside = slice_get_within (windows (2 * low + 1) m) (run.start + c.loop-block.at) (part w low 2) right in
-    let own = window_at m (low + 1) (256 * b + c.loop-block.place) w before.here.1 in
+    let own = window_at m (low + 1) (BLOCK_WINDOWS * b + c.loop-block.place) w before.here.1 in
     let number = c.number_of_window.ensures (2 * low + 1) m (run.start + c.loop-block.at) (part w low 2) right in
     let p = err_from_is_err_and c.from_residual.result c.from_residual.ensures.1 in
     rw (p.1, p.2)
@@ -323,7 +324,7 @@ loop-block-preserved g c =
     let run_is = same_run plan after low c.args.window.now w run (sym before.here.2) (run_grows plan (entries c.args.source.now) after low c.args.window.now run whole c.requires.run) in
     let size = before.here.3.window_is.size in
     let number = asked.block.number_is in
-    let start : 256 * block.number + index ≡ run.start + at' = omega (arith, asked.place, number) in
+    let start : BLOCK_WINDOWS * block.number + index ≡ run.start + at' = omega (arith, asked.place, number) in
     let right = rw (sym start) at (right_at_place plan after low at' w run run_is before.here.3) in
     let stands = series_at c.number_of_window.ensures c.windows_have_numbers.ensures plan after low b place block.number index count w run
     (omega (arith, size)) before.here.1 right (c.series-count.ensures.series (2 * low + 1) m w (omega arith) before.here.3) run_is in
@@ -338,7 +339,7 @@ loop-block-preserved g c =
     let long = rw (asked.block.plan_is, asked.block.level_is) at c.len.ensures in
     let held = hold_series plan after low b place block.number index count w run c.to_left.result.now c.loop-block.parts c.put_lasts.new.self
     before.states (λ i lt. sent (index + i) (omega (arith, lt, few, long))) left own c.put_lasts.ensures.right stands in
-    let small : c.len.result ≤ 256 = omega (arith, c.len.ensures) in
+    let small : c.len.result ≤ BLOCK_WINDOWS = omega (arith, c.len.ensures) in
     let there : IsSome (after low block.number) = rw (number, asked.block.known) refl in
     let known = knows_series (entries c.loop-block.source) after m low b place count asked.grows before.known
     (λ i lt. series_known c.number_of_window.ensures c.windows_have_numbers.ensures plan after low b place block.number index i w run there

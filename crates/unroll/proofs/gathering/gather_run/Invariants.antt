@@ -5,6 +5,7 @@ use Rattle.unroll.specs.Entries.{Grows, IsEntry}
 use Rattle.unroll.specs.Parts.{KnowsBelow}
 use Rattle.unroll.specs.WideColumns.{AreWide, AreWritten, HoldParts}
 use Rattle.unroll.proofs.gathering.gather_run.Given as goal
+use Rattle.win_index.specs.declared.limits.TheConstants.{BLOCK_WINDOWS}
 
 abbrev pub invariant-loop-block : goal.invariant-loop-block
 invariant-loop-block g l =
@@ -16,7 +17,7 @@ invariant-loop-block g l =
       same_plan : g.S.Source.plan l.source ≡ g.S.Source.plan l.fn.source;
       same_fixed : g.S.Source.fixed l.source ≡ g.S.Source.fixed l.fn.source;
       grows : Grows (g.S.Source.entries l.fn.source) (g.S.Source.entries l.source);
-      here : (w : List ℕ) × (slice_get (windows (2 * (l.below + 1) + 1) l.plan.ids) (256 * l.number + l.place) ≡ Some w)
+      here : (w : List ℕ) × (slice_get (windows (2 * (l.below + 1) + 1) l.plan.ids) (BLOCK_WINDOWS * l.number + l.place) ≡ Some w)
           × (take (2 * l.below + 2) w ≡ take (2 * l.below + 2) l.window) × IsAtPlace (2 * l.below + 1) l.plan.ids l.run.places w l.at;
       last : IfSome l.last (λ b. IsEntry l.plan (g.S.Source.entries l.source) l.below b.now.number b.now);
       wide : AreWide l.plan l.parts;
