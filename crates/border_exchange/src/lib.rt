@@ -16,9 +16,6 @@ pub use fault::PutFault;
 pub use seat::Seat;
 pub use totals::Totals;
 
-#[cfg(test)]
-mod tests;
-
 /// The side to which a message is sent.
 #[derive(Clone, Copy, Debug, PartialEq, Eq, Drop)]
 pub enum Side {

@@ -24,6 +24,3 @@ pub use printing::print;
 pub use program::Program;
 pub use text::parse;
 pub use tree::{BinOp, Expr, Round, UnOp};
-
-#[cfg(test)]
-mod tests;

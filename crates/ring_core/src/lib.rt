@@ -11,6 +11,3 @@ pub use laws::{one_run, segments_cover_the_ring};
 pub use machine::{RingEvent, World, replay};
 pub use message::Msg;
 pub use segment::{Segment, Strange};
-
-#[cfg(test)]
-mod tests;

@@ -21,6 +21,3 @@ pub use maker::BlockMaker;
 pub use making::make_block;
 pub use source::Source;
 pub use window::window_state;
-
-#[cfg(test)]
-mod tests;

@@ -21,6 +21,3 @@ pub use limits::{
 pub use ring::{Ring, RingFault};
 pub use series::RunPlaces;
 pub use shape::{Shape, ShapeFault, place_among_unused};
-
-#[cfg(test)]
-mod tests;

@@ -1,10 +1,10 @@
-//! Tests of what no clause says.
+//! Messages over one border.
 
 mod growth;
 mod row;
 mod threads;
 
-use crate::{Dated, Side};
+use border_exchange::{Dated, Side};
 
 // A message with a value.
 #[derive(Clone, Copy, Debug, PartialEq, Eq, Drop)]

@@ -1,9 +1,10 @@
-use crate::printing::print;
-use crate::text::parse;
+//! Program texts and their printed form.
+
+use node_lang::{parse, print};
 use std::alloc::{AllocError, Global};
 use std::test::Fail;
 
-/// What stands in front of the last expression of a program of one register that starts with 0.
+// What stands in front of the last expression of a program of one register that starts with 0.
 const HEAD: &str = "rounds 0\nchannels 1\nregisters 1\nstart\nr0 = 0\nfinish ";
 
 // The printed form of the program of a text, or none where one of the two calls refuses.

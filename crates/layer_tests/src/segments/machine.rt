@@ -1,11 +1,12 @@
 ghost use Rattle.std.specs.Prelude.{◌≡◌, ◌≤◌, IfOk, length};
 
-use super::{CV1, RED, plan_of, ring_of};
-use crate::machine::{RingEvent, World, replay};
+use super::ring_of;
 use border_exchange::Side;
 use lang_check::Plan;
+use ring_core::{RingEvent, World, replay};
 use std::alloc::Global;
 use std::test::Fail;
+use test_programs::{CV1, RED, plan_of};
 use win_index::Ring;
 
 // CV1 on the ring 5 1 3 7 in two segments, 5 1 and 3 7. Segment 0 advances at the third try, and then segment 1.
@@ -70,7 +71,7 @@ fn first_sent(world: &World<'_>, border: u32, side: Side) -> Option<(u32, u32)>
 #[test]
 fn a_segment_advances_once_both_neighbours_have_sent(rt: HostRuntime) -> Result<(), Fail> {
     let alloc = rt.alloc();
-    let plan = plan_of(alloc, CV1)?;
+    let plan = plan_of(alloc, CV1, 8)?;
     let ring = ring_of(alloc, &plan, &[5, 1, 3, 7])?;
     let opening = [(0, [5, 1].as_slice()), (0, [3, 7].as_slice())];
     let before = after(alloc, &plan, &ring, &EVENTS[..6])?;
@@ -91,7 +92,7 @@ fn a_segment_advances_once_both_neighbours_have_sent(rt: HostRuntime) -> Result<
 #[test]
 fn what_was_sent_stays_at_the_borders(rt: HostRuntime) -> Result<(), Fail> {
     let alloc = rt.alloc();
-    let plan = plan_of(alloc, CV1)?;
+    let plan = plan_of(alloc, CV1, 8)?;
     let ring = ring_of(alloc, &plan, &[5, 1, 3, 7])?;
     let counts = [
         [0, 0, 0, 0],
@@ -119,7 +120,7 @@ fn what_was_sent_stays_at_the_borders(rt: HostRuntime) -> Result<(), Fail> {
 #[test]
 fn events_that_are_not_enabled_change_nothing(rt: HostRuntime) -> Result<(), Fail> {
     let alloc = rt.alloc();
-    let plan = plan_of(alloc, CV1)?;
+    let plan = plan_of(alloc, CV1, 8)?;
     let ring = ring_of(alloc, &plan, &[5, 1, 3, 7])?;
     let events = [
         // no such segment
@@ -145,7 +146,7 @@ fn events_that_are_not_enabled_change_nothing(rt: HostRuntime) -> Result<(), Fai
 #[test]
 fn one_segment_is_its_own_neighbour(rt: HostRuntime) -> Result<(), Fail> {
     let alloc = rt.alloc();
-    let plan = plan_of(alloc, RED)?;
+    let plan = plan_of(alloc, RED, 8)?;
     let ring = ring_of(alloc, &plan, &[5, 1, 3, 7, 0, 2, 4, 6])?;
     let round = [
         RingEvent::SendRight(0),

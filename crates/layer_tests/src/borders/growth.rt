@@ -1,7 +1,7 @@
 ghost use Rattle.std.specs.Prelude.{◌≡◌, ◌<◌, ◌^◌};
 
 use super::{Note, to_the_right};
-use crate::{Border, PutFault, Seat, Side};
+use border_exchange::{Border, PutFault, Seat, Side};
 use std::alloc::Global;
 use std::marker::Brand;
 use std::sync::Wait;

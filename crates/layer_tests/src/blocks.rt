@@ -1,29 +1,9 @@
-use crate::block::Block;
-use crate::fault::MakeFault;
-use crate::making::make_block;
-use crate::source::Source;
-use crate::window::window_state;
-use lang_check::{Plan, accept};
-use node_lang::parse;
-use std::alloc::Global;
+//! States of windows, and blocks of them.
+
+use lang_check::Plan;
 use std::test::Fail;
-
-// One round of Cole and Vishkin (1986).
-const CV1: &[u8] =
-    b"rounds 1\nchannels 6\nregisters 1\nstart\nr0 = id\nround\nsend left 0\nsend right r0\nr0 = add(shl(ldb(r0, L), 1), bit(r0, ldb(r0, L)))\nfinish r0\n";
-
-// One round of Cole and Vishkin (1986), and two that take its channels down to four.
-const RED: &[u8] =
-    b"rounds 3\nchannels 4\nregisters 1\nstart\nr0 = id\nround\nsend left 0\nsend right r0\nr0 = add(shl(ldb(r0, L), 1), bit(r0, ldb(r0, L)))\nround\nsend left r0\nsend right r0\nr0 = min(if(eq(r0, 5), if(and(ne(L, 0), ne(R, 0)), 0, if(and(ne(L, 1), ne(R, 1)), 1, 2)), r0), 4)\nround\nsend left r0\nsend right r0\nr0 = min(if(eq(r0, 4), if(and(ne(L, 0), ne(R, 0)), 0, if(and(ne(L, 1), ne(R, 1)), 1, 2)), r0), 3)\nfinish r0\n";
-
-// Four rounds, in each of which a node takes what its left neighbour had.
-const SHIFT4: &[u8] =
-    b"rounds 4\nchannels 10\nregisters 1\nstart\nr0 = id\nround\nsend left 0\nsend right r0\nr0 = L\nround\nsend left 0\nsend right r0\nr0 = L\nround\nsend left 0\nsend right r0\nr0 = L\nround\nsend left 0\nsend right r0\nr0 = L\nfinish r0\n";
-
-// One round, in which the first register takes the second one and the second the sum of the first one and what
-// comes from the left.
-const SUM: &[u8] =
-    b"rounds 1\nchannels 64\nregisters 2\nstart\nr0 = id\nr1 = 0\nround\nsend left r1\nsend right r0\nr0 = r1\nr1 = add(r0, L)\nfinish r1\n";
+use test_programs::{CV1, RED, SHIFT4, TWO_REGISTERS, plan_of};
+use unroll::{Block, MakeFault, Source, make_block, window_state};
 
 // A source that knows the first of the blocks that are lent to it.
 #[derive(Drop)]
@@ -33,7 +13,7 @@ struct Lent<'s> {
     ghost of_plan: { All (λ b. b.plan ≡ plan.now) blocks.now },
 }
 
-ghost use Rattle.std.specs.Prelude.{◌≡◌, ◌==◌, ◌&&◌, Some, None, if◌then◌else◌, All, slice_get, IfOk};
+ghost use Rattle.std.specs.Prelude.{◌≡◌, ◌==◌, ◌&&◌, Some, None, if◌then◌else◌, All, slice_get};
 ghost use Rattle.std.specs.Option.{option_and_then};
 ghost use Rattle.unroll.specs.Entries.{Entries};
 
@@ -55,24 +35,15 @@ impl<'s> Source<'s> for Lent<'s> {
     }
 }
 
-// The plan of a program text for 8 identifiers.
-fn plan_of(alloc: Global, text: &[u8]) -> Result<Plan, Fail>
-    ensures { IfOk result (λ plan. plan.ids ≡ 8) }
-{
-    let program = parse(alloc, text).ok().ok_or("a program")?;
-    let plan = accept(program, 8).ok().ok_or("a plan")?;
-    Ok(plan)
-}
-
 #[test]
 fn windows_have_their_states(rt: HostRuntime) -> Result<(), Fail> {
     let table: [(&[u8], u32, u32, &[u32], &[u32]); 3] = [
         (CV1, 1, 325, &[7, 5, 1], &[2]),
-        (SUM, 1, 325, &[7, 5, 1], &[0, 12]),
+        (TWO_REGISTERS, 1, 325, &[7, 5, 1], &[0, 12]),
         (RED, 3, 26_256, &[5, 1, 3, 7, 0, 2, 4], &[1]),
     ];
     for (text, level, number, identifiers, want) in table {
-        let plan = plan_of(rt.alloc(), text)?;
+        let plan = plan_of(rt.alloc(), text, 8)?;
         let shape = plan.shape();
         assert!(rt; level <= shape.rounds() && number < shape.count(level));
         let mut cells = [0; 7];
@@ -89,8 +60,7 @@ fn windows_have_their_states(rt: HostRuntime) -> Result<(), Fail> {
 
 #[test]
 fn the_last_window_of_four_rounds(rt: HostRuntime) -> Result<(), Fail> {
-    let program = parse(rt.alloc(), SHIFT4).ok().ok_or("a program")?;
-    let plan = accept(program, 10).ok().ok_or("a plan")?;
+    let plan = plan_of(rt.alloc(), SHIFT4, 10)?;
     let shape = plan.shape();
     assert!(rt; shape.rounds() == 4);
     let count = shape.count(4);
@@ -107,7 +77,7 @@ fn the_last_window_of_four_rounds(rt: HostRuntime) -> Result<(), Fail> {
 
 #[test]
 fn the_last_block_of_a_level(rt: HostRuntime) -> Result<(), Fail> {
-    let plan = plan_of(rt.alloc(), CV1)?;
+    let plan = plan_of(rt.alloc(), CV1, 8)?;
     let shape = plan.shape();
     assert!(rt; shape.rounds() == 1 && shape.blocks(0) == 1 && shape.blocks(1) == 2);
     let mut nothing = Lent {
@@ -136,7 +106,7 @@ fn the_last_block_of_a_level(rt: HostRuntime) -> Result<(), Fail> {
 
 #[test]
 fn a_block_below_is_missing(rt: HostRuntime) -> Result<(), Fail> {
-    let plan = plan_of(rt.alloc(), RED)?;
+    let plan = plan_of(rt.alloc(), RED, 8)?;
     let shape = plan.shape();
     // the first window of block 26 of level 2 has number 6,656; its first part has number 332, in block 1
     for (level, number, missing) in [(1, 0, 0), (2, 0, 0), (2, 26, 1)] {

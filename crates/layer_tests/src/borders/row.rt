@@ -1,7 +1,7 @@
 ghost use Rattle.std.specs.Prelude.{◌≡◌};
 
 use super::{to_the_left, to_the_right};
-use crate::{Border, PutFault, Side};
+use border_exchange::{Border, PutFault, Side};
 use std::alloc::Global;
 use std::marker::Brand;
 use std::process::Abort;

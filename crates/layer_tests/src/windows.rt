@@ -1,7 +1,7 @@
-use crate::limits::MAX_ROUNDS;
-use crate::ring::{Ring, RingFault};
-use crate::shape::{Shape, ShapeFault};
+//! Windows, tuples, jobs and rings of small shapes.
+
 use std::test::Fail;
+use win_index::{MAX_ROUNDS, Ring, RingFault, Shape, ShapeFault};
 
 // A shape of 8 identifiers.
 fn shape_of_eight(rounds: u32) -> Option<Shape>
@@ -80,9 +80,8 @@ fn places_of_the_windows_of_a_run(rt: HostRuntime) -> Result<(), Fail> {
     assert_eq!(rt; window, [5, 1, 3]);
     assert_eq!(rt; shape.place_in_run(0, &window), 3);
     let places = shape.run_places(0, &window);
-    assert!(rt; places.first_gap == 5);
-    assert!(rt; places.second_gap == 1);
-    assert!(rt; places.end == 8);
+    // Eight places, with gaps at 1 and 5.
+    assert!(rt; places.rest(0) == 8);
     assert_eq!(rt; places.rest(3), 5);
     assert_eq!(rt; places.series(3, 256), 2);
     assert_eq!(rt; places.series(3, 1), 1);
@@ -106,9 +105,8 @@ fn two_gaps_side_by_side(rt: HostRuntime) -> Result<(), Fail> {
     assert_eq!(rt; window, [4, 5, 1, 0, 3]);
     assert_eq!(rt; shape.place_in_run(1, &window), 1);
     let places = shape.run_places(1, &window);
-    assert!(rt; places.first_gap == 2);
-    assert!(rt; places.second_gap == 3);
-    assert!(rt; places.end == 6);
+    // Six places, with gaps at 2 and 3.
+    assert!(rt; places.rest(0) == 6);
     assert_eq!(rt; places.series(1, 256), 1);
     assert_eq!(rt; places.after(1), Some(4));
     assert_eq!(rt; places.series(4, 256), 2);

@@ -1,0 +1,12 @@
+//! Program texts that several crates' tests use, and their plans. The first ones are the files of the folder `programs/`.
+#![tactic(auto)]
+
+mod plans;
+mod texts;
+
+pub use plans::plan_of;
+pub use texts::{
+    CV1, CV1_OF_11, CV1_OF_12, CV1_OF_14, CV1_OF_16, CV1_OF_THREE, CV1_SENDS_L, CV1_WITH_BLANKS,
+    EIGHT_REGISTERS, ID0, ID0_OF_4, LDB, NOT_HEAD, RED, SHIFT4, TWICE_ID, TWO_REGISTERS,
+    TWO_REGISTERS_OF_200, ZERO, ZERO_HEAD,
+};

@@ -1,0 +1,18 @@
+ghost use Rattle.std.specs.Prelude.{◌≡◌, IfOk};
+
+use lang_check::{Plan, accept};
+use node_lang::parse;
+use std::alloc::Global;
+
+/// The plan of a program text for this many identifiers, or the name of what there is none of. A text that is refused is
+/// parsed once more, since memory for it may have been refused the first time.
+pub fn plan_of(alloc: Global, text: &[u8], ids: u32) -> Result<Plan, &'static str>
+    ensures { IfOk result (λ plan. plan.ids ≡ ids) }
+{
+    let program = match parse(alloc, text) {
+        Err(_) => parse(alloc, text),
+        parsed => parsed,
+    };
+    let program = program.ok().ok_or("a program")?;
+    accept(program, ids).ok().ok_or("a plan")
+}
