@@ -1,27 +1,15 @@
 use crate::node::{channel, messages, start_state, step};
 use crate::rounds::plain_run;
 use crate::value::{View, value_of};
-use lang_check::{Plan, accept};
-use node_lang::{BinOp, Expr, UnOp, parse};
+use node_lang::{BinOp, Expr, UnOp};
 use std::alloc::{AllocError, Global};
 use std::test::Fail;
+use test_programs::{TWO_REGISTERS, plan_of};
 use win_index::Ring;
-
-// One round, in which the first register takes the second one and the second the sum of the first one and what
-// comes from the left.
-const SUM: &[u8] =
-    b"rounds 1\nchannels 64\nregisters 2\nstart\nr0 = id\nr1 = 0\nround\nsend left r1\nsend right r0\nr0 = r1\nr1 = add(r0, L)\nfinish r1\n";
 
 // One round that swaps two registers.
 const SWAP: &[u8] =
     b"rounds 1\nchannels 8\nregisters 2\nstart\nr0 = id\nr1 = 0\nround\nsend left r0\nsend right r1\nr0 = r1\nr1 = r0\nfinish r1\n";
-
-// The plan of a program text for 8 identifiers.
-fn plan_of(alloc: Global, text: &[u8]) -> Result<Plan, Fail> {
-    let program = parse(alloc, text).ok().ok_or("a program")?;
-    let plan = accept(program, 8).ok().ok_or("a plan")?;
-    Ok(plan)
-}
 
 // An operation of two numbers.
 fn two(alloc: Global, op: BinOp, a: u32, b: u32) -> Result<Expr, AllocError> {
@@ -91,7 +79,7 @@ fn not_and_if_have_their_values(rt: HostRuntime) -> Result<(), Fail> {
 
 #[test]
 fn a_node_of_two_registers_does_its_round(rt: HostRuntime) -> Result<(), Fail> {
-    let plan = plan_of(rt.alloc(), SUM)?;
+    let plan = plan_of(rt.alloc(), TWO_REGISTERS, 8)?;
     assert!(rt; plan.shape().ids() == 8 && plan.shape().rounds() == 1);
     assert!(rt; plan.program().registers() == 2);
     let mut registers = [9, 9];
@@ -106,8 +94,8 @@ fn a_node_of_two_registers_does_its_round(rt: HostRuntime) -> Result<(), Fail> {
 
 #[test]
 fn rings_of_two_registers_have_their_channels(rt: HostRuntime) -> Result<(), Fail> {
-    for (text, want) in [(SUM, [12, 6, 4, 10]), (SWAP, [5, 1, 3, 7])] {
-        let plan = plan_of(rt.alloc(), text)?;
+    for (text, want) in [(TWO_REGISTERS, [12, 6, 4, 10]), (SWAP, [5, 1, 3, 7])] {
+        let plan = plan_of(rt.alloc(), text, 8)?;
         let ids = vec![in rt.alloc(); 5, 1, 3, 7]?;
         let ring = Ring::new(plan.shape(), ids).ok().ok_or("a ring")?;
         let channels = plain_run(rt.alloc(), &plan, &ring).ok().ok_or("memory")?;

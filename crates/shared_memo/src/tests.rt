@@ -1,6 +1,6 @@
 //! Tests of what no clause says.
 
+mod blocks;
 mod desk;
 mod memo;
-mod plans;
 mod reader;

@@ -1,4 +1,3 @@
-use super::{CV1, plan_of};
 use crate::run;
 use lang_check::Plan;
 use round_eval::Gate;
@@ -8,6 +7,7 @@ use std::sync::atomic::AtomicU64;
 use std::sync::atomic::Ordering::SeqCst;
 use std::test::Fail;
 use std::thread::Threads;
+use test_programs::{CV1, plan_of};
 use win_index::Ring;
 
 // Looks at the counter of entered segments, at most.

@@ -1,4 +1,3 @@
-use super::{CV1, RED, plan_of};
 use crate::{RunFault, run};
 use lang_check::Plan;
 use round_eval::OpenGate;
@@ -6,6 +5,7 @@ use std::alloc::Global;
 use std::sync::Wait;
 use std::test::Fail;
 use std::thread::Threads;
+use test_programs::{CV1, RED, plan_of};
 use win_index::Ring;
 
 // No round: the channel of a place is its identifier.

@@ -1,6 +1,5 @@
 ghost use Rattle.std.specs.Prelude.{◌≡◌, ◌≤◌, length};
 
-use super::{RED, plan_of};
 use crate::border_name::{Blanks, BorderName};
 use crate::fault::SegmentFault;
 use crate::message_run::run_segments;
@@ -13,6 +12,7 @@ use std::marker::Brand;
 use std::sync::Wait;
 use std::test::Fail;
 use std::thread::Threads;
+use test_programs::{RED, plan_of};
 use win_index::Ring;
 
 // The fault of a run in eight segments, of which one is of another ring.

@@ -1,12 +1,13 @@
 ghost use Rattle.shared_memo.specs.Passes.{IsPassOf};
 
-use super::plans::{CV1, RED, block_of, has_block, plan_of};
+use super::blocks::{block_of, has_block};
 use crate::{Installed, Memo, Pass};
 use lang_check::Plan;
 use std::alloc::Global;
 use std::test::Fail;
 use std::thread;
 use std::thread::Threads;
+use test_programs::{CV1, RED, plan_of};
 use unroll::Block;
 
 // What became of a block that was handed in; where it came back, its maker.
@@ -62,7 +63,7 @@ fn two_hand_in(alloc: Global, plan: &Plan) -> Option<([Became; 2], [Option<u32>;
 
 #[test]
 fn the_first_block_stands(rt: HostRuntime) -> Result<(), Fail> {
-    let plan = plan_of(rt.alloc(), CV1)?;
+    let plan = plan_of(rt.alloc(), CV1, 8)?;
     assert_eq!(rt;
         two_hand_in(rt.alloc(), &plan),
         Some(([Became::Fresh, Became::Stood(2)], [Some(1); 3]))
@@ -85,8 +86,8 @@ fn after_another<'a>(
 
 #[test]
 fn a_block_of_another_plan_comes_back(rt: HostRuntime) -> Result<(), Fail> {
-    let plan = plan_of(rt.alloc(), CV1)?;
-    let other = plan_of(rt.alloc(), RED)?;
+    let plan = plan_of(rt.alloc(), CV1, 8)?;
+    let other = plan_of(rt.alloc(), RED, 8)?;
     assert_eq!(rt;
         after_another(rt.alloc(), &plan, &other),
         Some((Became::Refused(3), None))
@@ -121,7 +122,7 @@ fn learnt(alloc: Global, plan: &Plan) -> Option<[(bool, bool); 3]> {
 
 #[test]
 fn a_pass_learns_from_another(rt: HostRuntime) -> Result<(), Fail> {
-    let plan = plan_of(rt.alloc(), CV1)?;
+    let plan = plan_of(rt.alloc(), CV1, 8)?;
     assert_eq!(rt;
         learnt(rt.alloc(), &plan),
         Some([(true, false), (true, true), (false, true)])
@@ -151,7 +152,7 @@ fn makers_of_two<R: Threads + Sync>(
 
 #[test]
 fn two_threads_see_one_block(rt: HostRuntime) -> Result<(), Fail> {
-    let plan = plan_of(rt.alloc(), CV1)?;
+    let plan = plan_of(rt.alloc(), CV1, 8)?;
     let memo = Memo::new(rt.alloc(), &plan).ok().ok_or("a memo")?;
     let (one, two) = makers_of_two(&rt, rt.alloc(), &memo);
     assert!(rt; one == Some(1) || one == Some(2));

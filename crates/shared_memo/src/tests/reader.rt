@@ -1,8 +1,9 @@
-use super::plans::{CV1, block_of, has_block, plan_of};
+use super::blocks::{block_of, has_block};
 use crate::{Memo, Reader};
 use lang_check::Plan;
 use std::alloc::Global;
 use std::test::Fail;
+use test_programs::{CV1, plan_of};
 use unroll::Source;
 
 // Who made the block that a reader answers, if it answers one.
@@ -42,7 +43,7 @@ fn beside_a_stranger(alloc: Global, plan: &Plan) -> Option<([Option<u32>; 3], [b
 
 #[test]
 fn after_a_stranger_only_known_blocks_are_answered(rt: HostRuntime) -> Result<(), Fail> {
-    let plan = plan_of(rt.alloc(), CV1)?;
+    let plan = plan_of(rt.alloc(), CV1, 8)?;
     assert_eq!(rt;
         beside_a_stranger(rt.alloc(), &plan),
         Some(([None, Some(1), None], [true, false, true]))
@@ -69,7 +70,7 @@ fn found(alloc: Global, plan: &Plan) -> Option<[bool; 4]> {
 
 #[test]
 fn a_reader_finds_and_installs(rt: HostRuntime) -> Result<(), Fail> {
-    let plan = plan_of(rt.alloc(), CV1)?;
+    let plan = plan_of(rt.alloc(), CV1, 8)?;
     assert_eq!(rt; found(rt.alloc(), &plan), Some([true, false, true, false]));
     Ok(())
 }

@@ -1,9 +1,9 @@
-use super::{CV1, plan_of};
 use crate::cell::{Cells, Made, fill_cell};
 use crate::fault::WorkFault;
 use lang_check::Plan;
 use std::alloc::Global;
 use std::test::Fail;
+use test_programs::{CV1, plan_of};
 use unroll::MakeFault;
 
 // Cells that answer what they were told, and count how often they were to make a block. Where nothing was told of a

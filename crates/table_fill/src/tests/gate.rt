@@ -1,4 +1,3 @@
-use super::{CV1, plan_of};
 use crate::compile;
 use lang_check::Plan;
 use round_eval::Gate;
@@ -9,6 +8,7 @@ use std::sync::atomic::AtomicU64;
 use std::sync::atomic::Ordering::SeqCst;
 use std::test::Fail;
 use std::thread::Threads;
+use test_programs::{CV1, plan_of};
 
 // Looks at the counter of entered workers, at most.
 const TURNS: u64 = 1_000_000_000;

@@ -1,8 +1,8 @@
-use super::{CV1, plan_of};
 use crate::fill_core::{FillEvent, FillWorld, replay};
 use lang_check::Plan;
 use std::alloc::Global;
 use std::test::Fail;
+use test_programs::{CV1, plan_of};
 
 // CV1 for 8 identifiers has three jobs: block 0 of level 0, and blocks 0 and 1 of level 1.
 

@@ -1,7 +1,8 @@
-use super::{CV1, plan_of, table_by};
+use super::table_by;
 use crate::Table;
 use std::alloc::Global;
 use std::test::Fail;
+use test_programs::{CV1, plan_of};
 
 #[test]
 fn cv1_has_a_channel_at_each_window(rt: HostRuntime) -> Result<(), Fail> {

@@ -1,4 +1,3 @@
-use super::{CV1, plan_of};
 use crate::crew::fill_by_workers;
 use crate::fault::WorkFault;
 use crate::worker::{Fills, Leaves};
@@ -10,6 +9,7 @@ use std::alloc::Global;
 use std::sync::Wait;
 use std::test::Fail;
 use std::thread::Threads;
+use test_programs::{CV1, plan_of};
 
 // What becomes of a table by so many workers: no fault, or this one.
 fn fault_of<R: Threads + Wait + Sync>(
