@@ -1,9 +1,0 @@
-//! The program `nbhd` again, for a stored run whose answer is no.
-#![tactic(auto)]
-
-use plan_print::process::exit_status;
-use std::process::ExitCode;
-
-fn main(rt: HostRuntime) -> ExitCode {
-    ExitCode::from(exit_status(&rt))
-}
