@@ -4,6 +4,4 @@
 pub mod fault;
 pub mod input;
 pub mod output;
-#[cfg(test)]
-mod tests;
 pub mod watched;

@@ -10,8 +10,6 @@ mod places;
 pub mod process;
 mod report;
 pub mod status;
-#[cfg(test)]
-mod tests;
 
 pub use devices::{fault, input, output, watched};
 pub use table_text::{TableFault, read_table, write_table};

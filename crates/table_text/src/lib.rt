@@ -21,6 +21,3 @@ pub use laws::{
 pub use limits::LONGEST_TABLE_TEXT;
 pub use reading::read_table;
 pub use writing::write_table;
-
-#[cfg(test)]
-mod tests;

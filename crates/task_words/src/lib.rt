@@ -9,6 +9,4 @@ mod options;
 mod parsing;
 pub mod ring_text;
 pub mod task;
-#[cfg(test)]
-mod tests;
 pub mod words;

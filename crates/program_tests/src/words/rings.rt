@@ -1,6 +1,6 @@
-use crate::ring_text::ring_of;
-use crate::words::WordsFault;
 use std::test::Fail;
+use task_words::ring_text::ring_of;
+use task_words::words::WordsFault;
 
 #[test]
 fn ring_texts_are_read(rt: HostRuntime) -> Result<(), Fail> {

@@ -1,6 +1,6 @@
 //! The lines of numbers.
 
-use crate::lines::numbers_line;
+use plan_print::lines::numbers_line;
 use std::test::Fail;
 
 #[test]

@@ -1,9 +1,9 @@
 //! The texts of the faults, and the input and the output over memory.
 
-use crate::fault::{EngineFault, OutFault};
-use crate::input::read_input;
-use crate::output::send;
-use crate::watched::Watched;
+use devices::fault::{EngineFault, OutFault};
+use devices::input::read_input;
+use devices::output::send;
+use devices::watched::Watched;
 use std::test::Fail;
 
 #[test]

@@ -1,11 +1,11 @@
 //! Table texts that are read and written, and the faults of others.
 
 mod faults;
-mod tables;
+mod making;
+mod writing;
 
-use crate::fault::TableFault;
-use crate::reading::read_table;
 use std::alloc::Global;
+use table_text::{TableFault, read_table};
 
 /// The text of two identifiers and no rounds whose channels are the identifiers.
 const IDENTIFIERS: &[u8] = b"nbhd-table 1\nrounds 0 ids 2 channels 2\n0 : 0\n1 : 1\nend\n";

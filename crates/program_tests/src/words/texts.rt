@@ -1,7 +1,7 @@
 use super::asked;
-use crate::words::WordsFault;
 use std::alloc::Global;
 use std::test::Fail;
+use task_words::words::WordsFault;
 
 /// The text that the words of a line are answered with.
 fn text_of(alloc: Global, line: &str) -> Result<String, Fail> {

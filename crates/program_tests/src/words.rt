@@ -5,9 +5,9 @@ mod rings;
 mod tasks;
 mod texts;
 
-use crate::task::Task;
-use crate::words::{WordsFault, task_of};
 use std::alloc::{AllocError, Global};
+use task_words::task::Task;
+use task_words::words::{WordsFault, task_of};
 
 /// Which answer words have.
 #[derive(Clone, Copy, Debug, PartialEq, Eq)]

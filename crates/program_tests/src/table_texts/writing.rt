@@ -1,9 +1,8 @@
 use super::IDENTIFIERS;
-use crate::reading::read_table;
-use crate::writing::write_table;
 use devices::watched::Watched;
 use std::alloc::Global;
 use std::test::Fail;
+use table_text::{read_table, write_table};
 
 /// The text of four identifiers and one round, with one channel.
 const ONE_CHANNEL: &[u8] = b"nbhd-table 1\nrounds 1 ids 4 channels 1\n\

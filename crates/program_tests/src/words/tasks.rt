@@ -1,6 +1,6 @@
 use super::{Answer, answer_to, asked};
-use crate::task::Task;
 use std::test::Fail;
+use task_words::task::Task;
 
 const LARGEST: u32 = 4_294_967_295;
 

@@ -1,9 +1,9 @@
 use super::{Answer, answer_to};
-use crate::words::{WordsFault, words_fault};
 use std::io;
 use std::io::ErrorKind;
 use std::process::Abort;
 use std::test::Fail;
+use task_words::words::{WordsFault, words_fault};
 
 #[test]
 fn refusals_are_displayed(rt: HostRuntime) -> Result<(), Fail> {

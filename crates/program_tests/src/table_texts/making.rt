@@ -1,11 +1,11 @@
-//! The text of a table, over memory.
+//! The text of a table that was made entry by entry.
 
-use crate::write_table;
 use devices::watched::Watched;
 use std::alloc::Global;
 use std::process::Abort;
 use std::test::Fail;
 use table_fill::{Table, TableMaker};
+use table_text::write_table;
 use win_index::Shape;
 
 /// The table of two identifiers and no rounds that gives each identifier itself as its channel.

@@ -1,9 +1,8 @@
 use super::{IDENTIFIERS, fault_of};
-use crate::fault::TableFault;
-use crate::fault::TableFault::{ChannelTooLarge, Syntax, WrongWindow};
-use crate::limits::LONGEST_TABLE_TEXT;
 use std::alloc::{AllocError, Global};
 use std::test::Fail;
+use table_text::TableFault::{ChannelTooLarge, Syntax, WrongWindow};
+use table_text::{LONGEST_TABLE_TEXT, TableFault};
 
 #[test]
 fn a_text_that_stops_early(rt: HostRuntime) {
