@@ -1,26 +1,17 @@
 //! Reports of an audit: the verdict on a table text, and the faults of a text that is no table's.
 
-use crate::programs::{CV1, CV1_OF_12, ID0, LDB, RED, ZERO};
-use crate::reports::{done, report_of, reports};
+use crate::asking::{all_report, done, report_by};
 use plan_print::status::Status;
-use plan_print::task::Task;
 use std::alloc::{AllocError, Global};
 use std::process::Abort;
 use std::sync::Wait;
 use std::test::Fail;
 use std::thread::Threads;
+use test_programs::{CV1, CV1_OF_12, ID0, LDB, RED, ZERO};
 
 /// The text of the table of two identifiers and no rounds that gives each identifier itself as its channel.
 pub(crate) const TABLE_OF_IDENTIFIERS: &[u8] =
     b"nbhd-table 1\nrounds 0 ids 2 channels 2\n0 : 0\n1 : 1\nend\n";
-
-#[test]
-fn the_audit_of_identifiers(rt: HostRuntime) -> Result<(), Fail> {
-    assert_eq!(rt; TABLE_OF_IDENTIFIERS.len(), 55);
-    let line = "yes: 2 tuples\n";
-    let text = TABLE_OF_IDENTIFIERS;
-    reports(&rt, rt.alloc(), Task::Audit, text, line, Status::Done)
-}
 
 /// Audits the table text of a program: the line and the status are those of the judge on the program. The answer
 /// is the length of the table text.
@@ -30,19 +21,11 @@ fn judged_alike<R: Abort + Threads + Wait + Sync>(
     program: &[u8],
     ids: u32,
 ) -> Result<usize, Fail> {
-    let text = done(rt, alloc, Task::Table { ids, workers: 1 }, program)?;
-    let judged = report_of(
-        rt,
-        alloc,
-        Task::Judge {
-            ids,
-            workers: 1,
-            near: 1,
-            far: 0,
-        },
-        program,
-    )?;
-    let audited = report_of(rt, alloc, Task::Audit, &text)?;
+    let words = format!(in alloc; "table --ids {ids}")?;
+    let text = done(rt, alloc, &words, program)?;
+    let words = format!(in alloc; "judge --ids {ids}")?;
+    let judged = report_by(rt, alloc, &words, program)?;
+    let audited = report_by(rt, alloc, "audit", &text)?;
     assert!(rt; audited == judged, "{ids} identifiers");
     Ok(text.len())
 }
@@ -87,40 +70,58 @@ fn lines_that_are_no_lines_of_a_table(rt: HostRuntime) -> Result<(), Fail> {
     for (lines, fault) in rows {
         let text = text_of(rt.alloc(), lines)?;
         let line = format!(in rt.alloc(); "table fault {fault}\n")?;
-        let bytes = text.as_bytes();
-        reports(&rt, rt.alloc(), Task::Audit, bytes, &line, Status::Refused)?;
+        let row = ("audit", text.as_bytes(), line.as_str(), Status::Refused);
+        all_report(&rt, rt.alloc(), &[row])?;
     }
     Ok(())
 }
 
 #[test]
-fn table_texts_that_are_cut(rt: HostRuntime) -> Result<(), Fail> {
-    let rows = [(0, 0), (12, 0), (13, 13), (53, 51)];
-    for (length, offset) in rows {
-        let text = TABLE_OF_IDENTIFIERS.get(..length).unwrap_or(b"");
-        let line = format!(in rt.alloc(); "table fault A1 at {offset}\n")?;
-        reports(&rt, rt.alloc(), Task::Audit, text, &line, Status::Refused)?;
-    }
-    Ok(())
-}
-
-#[test]
-fn a_byte_after_the_end_of_a_table(rt: HostRuntime) -> Result<(), Fail> {
-    let mut text = TABLE_OF_IDENTIFIERS.to_vec(rt.alloc())?;
-    text.push(b'\n')?;
-    let line = "table fault A1 at 55\n";
-    reports(&rt, rt.alloc(), Task::Audit, &text, line, Status::Refused)
+fn verdicts_and_faults_of_table_texts(rt: HostRuntime) -> Result<(), Fail> {
+    let text = TABLE_OF_IDENTIFIERS;
+    assert_eq!(rt; text.len(), 55);
+    let mut longer = text.to_vec(rt.alloc())?;
+    longer.push(b'\n')?;
+    let rows: [(&str, &[u8], &str, Status); 7] = [
+        ("audit", text, "yes: 2 tuples\n", Status::Done),
+        (
+            "audit",
+            text.get(..0).unwrap_or(text),
+            "table fault A1 at 0\n",
+            Status::Refused,
+        ),
+        (
+            "audit",
+            text.get(..12).unwrap_or(text),
+            "table fault A1 at 0\n",
+            Status::Refused,
+        ),
+        (
+            "audit",
+            text.get(..13).unwrap_or(text),
+            "table fault A1 at 13\n",
+            Status::Refused,
+        ),
+        (
+            "audit",
+            text.get(..53).unwrap_or(text),
+            "table fault A1 at 51\n",
+            Status::Refused,
+        ),
+        ("audit", &longer, "table fault A1 at 55\n", Status::Refused),
+        ("audit", CV1, "table fault A1 at 0\n", Status::Refused),
+    ];
+    all_report(&rt, rt.alloc(), &rows)
 }
 
 #[test]
 fn a_table_text_that_is_too_long(rt: HostRuntime) -> Result<(), Fail> {
     let text = vec![in rt.alloc(); b' '; 134_217_729]?;
-    let line = "table fault A1 at 134217728\n";
-    reports(&rt, rt.alloc(), Task::Audit, &text, line, Status::Refused)
-}
-
-#[test]
-fn programs_are_no_table_texts(rt: HostRuntime) -> Result<(), Fail> {
-    let line = "table fault A1 at 0\n";
-    reports(&rt, rt.alloc(), Task::Audit, CV1, line, Status::Refused)
+    let row = (
+        "audit",
+        text.as_slice(),
+        "table fault A1 at 134217728\n",
+        Status::Refused,
+    );
+    all_report(&rt, rt.alloc(), &[row])
 }

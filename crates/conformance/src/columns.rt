@@ -1,8 +1,7 @@
 //! Tables that are filled by columns, beside the states of single windows.
 
-use crate::programs::{CV1, EIGHT_REGISTERS, RED, TWO_REGISTERS};
-use lang_check::{Plan, accept};
-use node_lang::{MAX_REGISTERS, parse};
+use lang_check::Plan;
+use node_lang::MAX_REGISTERS;
 use round_eval::{OpenGate, channel, width_of};
 use shared_memo::Memo;
 use std::alloc::Global;
@@ -10,6 +9,7 @@ use std::sync::Wait;
 use std::test::Fail;
 use std::thread::Threads;
 use table_fill::{Table, compile};
+use test_programs::{CV1, EIGHT_REGISTERS, RED, TWO_REGISTERS, plan_of};
 use unroll::window_state;
 use win_index::MAX_WINDOW_LEN;
 
@@ -45,8 +45,7 @@ fn tables_have_the_channels_of_single_windows(rt: HostRuntime) -> Result<(), Fai
         (EIGHT_REGISTERS, 40_320),
         (RED, 40_320),
     ] {
-        let program = parse(rt.alloc(), text)?;
-        let plan = accept(program, 8).ok().ok_or("a plan")?;
+        let plan = plan_of(rt.alloc(), text, 8)?;
         let table = table_of(&rt, rt.alloc(), &plan)?;
         for number in 0..windows {
             assert!(rt; has_its_channel(&plan, &table, number), "window {number}");

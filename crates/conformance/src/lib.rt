@@ -1,14 +1,18 @@
-//! Worked examples that cross the crates. The programs stand here as texts; the tests run them through the
-//! public calls.
+//! Worked examples that cross the crates, as tests through the public calls.
 #![tactic(auto)]
 
+#[cfg(test)]
+mod asking;
 #[cfg(test)]
 mod audits;
 #[cfg(test)]
 mod columns;
 #[cfg(test)]
+mod faults;
+#[cfg(test)]
+mod findings;
+#[cfg(test)]
 mod load;
-pub mod programs;
 #[cfg(test)]
 mod reports;
 #[cfg(test)]
@@ -19,5 +23,7 @@ mod slow_devices;
 mod slow_inputs;
 #[cfg(test)]
 mod slow_outputs;
+#[cfg(test)]
+mod tables;
 #[cfg(test)]
 mod texts;

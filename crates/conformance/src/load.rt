@@ -1,50 +1,23 @@
-//! Many threads, a thousand times: one answer. Four tests of 250 times each take less than a minute each.
+//! Many threads, many times: one answer.
 
-use crate::programs::{CV1, TWO_REGISTERS_OF_200};
-use crate::reports::done;
+use crate::asking::{done, report_of};
 use plan_print::lines::numbers_line;
 use plan_print::task::Task;
 use std::alloc::Global;
-use std::process::Abort;
-use std::sync::Wait;
 use std::test::Fail;
-use std::thread::Threads;
+use test_programs::{CV1, TWO_REGISTERS_OF_200};
 
-/// How often a test asks for its answer.
+/// How often a test asks for its answer; a test has a minute.
 const TIMES: u32 = 250;
 
-/// The table by 64 workers is that of one worker, each time.
-fn tables_agree<R: Abort + Threads + Wait + Sync>(rt: &R, alloc: Global) -> Result<(), Fail> {
-    let of_one = Task::Table { ids: 8, workers: 1 };
-    let one = done(rt, alloc, of_one, CV1)?;
+#[test]
+fn tables_by_64_workers_agree(rt: HostRuntime) -> Result<(), Fail> {
+    let one = done(&rt, rt.alloc(), "table --ids 8", CV1)?;
     for time in 0..TIMES {
-        let task = Task::Table {
-            ids: 8,
-            workers: 64,
-        };
-        assert!(rt; done(rt, alloc, task, CV1)? == one, "{time}");
+        let text = done(&rt, rt.alloc(), "table --ids 8 --workers 64", CV1)?;
+        assert!(rt; text == one, "{time}");
     }
     Ok(())
-}
-
-#[test]
-fn tables_1_to_250_agree(rt: HostRuntime) -> Result<(), Fail> {
-    tables_agree(&rt, rt.alloc())
-}
-
-#[test]
-fn tables_251_to_500_agree(rt: HostRuntime) -> Result<(), Fail> {
-    tables_agree(&rt, rt.alloc())
-}
-
-#[test]
-fn tables_501_to_750_agree(rt: HostRuntime) -> Result<(), Fail> {
-    tables_agree(&rt, rt.alloc())
-}
-
-#[test]
-fn tables_751_to_1000_agree(rt: HostRuntime) -> Result<(), Fail> {
-    tables_agree(&rt, rt.alloc())
 }
 
 /// Sixty-four identifiers below 100, each 37 more than the one before it.
@@ -67,8 +40,9 @@ fn sums(alloc: Global, ring: &[u32]) -> Result<Vec<u32>, Fail> {
     Ok(sums)
 }
 
-/// The run of 64 places in 64 segments gives the sums of neighbours, each time.
-fn runs_agree<R: Abort + Threads + Wait + Sync>(rt: &R, alloc: Global) -> Result<(), Fail> {
+#[test]
+fn runs_in_64_segments_agree(rt: HostRuntime) -> Result<(), Fail> {
+    let alloc = rt.alloc();
     let ring = identifiers(alloc)?;
     let line = numbers_line(alloc, &sums(alloc, &ring)?)?;
     for time in 0..TIMES {
@@ -77,28 +51,8 @@ fn runs_agree<R: Abort + Threads + Wait + Sync>(rt: &R, alloc: Global) -> Result
             ring: ring.to_vec(alloc)?,
             segments: 64,
         };
-        let report = done(rt, alloc, task, TWO_REGISTERS_OF_200)?;
+        let (report, _) = report_of(&rt, alloc, task, TWO_REGISTERS_OF_200)?;
         assert!(rt; report.as_slice() == line.as_bytes(), "{time}");
     }
     Ok(())
-}
-
-#[test]
-fn runs_1_to_250_agree(rt: HostRuntime) -> Result<(), Fail> {
-    runs_agree(&rt, rt.alloc())
-}
-
-#[test]
-fn runs_251_to_500_agree(rt: HostRuntime) -> Result<(), Fail> {
-    runs_agree(&rt, rt.alloc())
-}
-
-#[test]
-fn runs_501_to_750_agree(rt: HostRuntime) -> Result<(), Fail> {
-    runs_agree(&rt, rt.alloc())
-}
-
-#[test]
-fn runs_751_to_1000_agree(rt: HostRuntime) -> Result<(), Fail> {
-    runs_agree(&rt, rt.alloc())
 }

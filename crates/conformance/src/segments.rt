@@ -1,9 +1,6 @@
 //! Runs of a ring in segments, through the engine.
 
-use crate::programs::{CV1, RED, TWO_REGISTERS_OF_200};
-use crate::reports::{done, reports};
-use lang_check::accept;
-use node_lang::parse;
+use crate::asking::{report_of, reports};
 use plan_print::lines::numbers_line;
 use plan_print::status::Status;
 use plan_print::task::Task;
@@ -13,12 +10,12 @@ use std::process::Abort;
 use std::sync::Wait;
 use std::test::Fail;
 use std::thread::Threads;
+use test_programs::{CV1, RED, TWO_REGISTERS_OF_200, plan_of};
 use win_index::Ring;
 
 /// The line of a plain run of a program on a ring of identifiers below `ids`.
 fn plain_line(alloc: Global, text: &[u8], ids: u32, ring: &[u32]) -> Result<String, Fail> {
-    let program = parse(alloc, text)?;
-    let plan = accept(program, ids).ok().ok_or("a plan")?;
+    let plan = plan_of(alloc, text, ids)?;
     let ring = Ring::new(plan.shape(), ring.to_vec(alloc)?)
         .ok()
         .ok_or("a ring")?;
@@ -43,7 +40,8 @@ fn runs_are_plain<R: Abort + Threads + Wait + Sync>(
             ring: ring.to_vec(alloc)?,
             segments: *segments,
         };
-        if done(rt, alloc, task, text)?.as_slice() != line.as_bytes() {
+        let (report, status) = report_of(rt, alloc, task, text)?;
+        if status != Status::Done || report.as_slice() != line.as_bytes() {
             return Ok(false);
         }
     }
@@ -78,27 +76,6 @@ fn three_rounds_on_eight_and_ten_places(rt: HostRuntime) -> Result<(), Fail> {
             runs_are_plain(&rt, rt.alloc(), RED, ids, ring, numbers)?,
             "{ids} places"
         );
-    }
-    Ok(())
-}
-
-#[test]
-fn each_number_of_segments_prints_the_same_channels(rt: HostRuntime) -> Result<(), Fail> {
-    for segments in [1, 3, 8] {
-        let ring = [5, 1, 3, 7, 0, 2, 4, 6].to_vec(rt.alloc())?;
-        let task = Task::Run {
-            ids: 8,
-            ring,
-            segments,
-        };
-        reports(
-            &rt,
-            rt.alloc(),
-            task,
-            RED,
-            "1 0 3 1 0 3 2 3\n",
-            Status::Done,
-        )?;
     }
     Ok(())
 }

@@ -1,6 +1,5 @@
 //! Inputs that come a few bytes a call, and reads that fail.
 
-use crate::programs::CV1;
 use crate::slow_devices::{SlowReader, SlowWriter};
 use plan_print::engine::engine;
 use plan_print::fault::EngineFault;
@@ -14,6 +13,7 @@ use std::process::Abort;
 use std::sync::Wait;
 use std::test::Fail;
 use std::thread::Threads;
+use test_programs::CV1;
 
 /// The report of the run that these tests make.
 pub(crate) const REPORT: &[u8] = b"2 4 3 5\n";

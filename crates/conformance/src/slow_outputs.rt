@@ -1,8 +1,7 @@
 //! Outputs that take a few bytes a call, and writes that fail.
 
+use crate::asking::done;
 use crate::audits::TABLE_OF_IDENTIFIERS;
-use crate::programs::{CV1, CV1_OF_12, ID0};
-use crate::reports::done;
 use crate::slow_devices::{SlowReader, SlowWriter};
 use crate::slow_inputs::{REPORT, outcome_of, outcome_of_run};
 use plan_print::fault::{EngineFault, OutFault};
@@ -16,6 +15,7 @@ use std::io::ErrorKind;
 use std::process::Abort;
 use std::test::Fail;
 use table_fill::Table;
+use test_programs::{CV1, CV1_OF_12, ID0};
 
 #[test]
 fn a_write_that_fails_at_each_call(rt: HostRuntime) -> Result<(), Fail> {
@@ -152,11 +152,7 @@ fn stops_at<R: Abort>(rt: &R, alloc: Global, table: &Table, text: &[u8], bytes: 
 // The text goes out in chunks of at most 65,536 bytes, so one of more than 131,072 bytes has two edges or more.
 #[test]
 fn a_long_table_whose_write_fails_at_each_edge_of_a_chunk(rt: HostRuntime) -> Result<(), Fail> {
-    let task = Task::Table {
-        ids: 24,
-        workers: 1,
-    };
-    let text = done(&rt, rt.alloc(), task, CV1_OF_12)?;
+    let text = done(&rt, rt.alloc(), "table --ids 24", CV1_OF_12)?;
     assert!(rt; text.len() > 131_072 && text.len() < 196_608);
     let table = read_table(rt.alloc(), &text).ok().ok_or("a table")?;
     let mut edges = 0u32;

@@ -1,11 +1,9 @@
 //! Program texts that parse, and their printed form. Those that don't parse stand in the reports.
 
-use crate::programs::{
-    CV1, CV1_WITH_BLANKS, EIGHT_REGISTERS, ID0, LDB, NOT_HEAD, RED, ZERO, ZERO_HEAD,
-};
 use node_lang::{parse, print};
 use std::alloc::{AllocError, Global};
 use std::test::Fail;
+use test_programs::{CV1, CV1_WITH_BLANKS, EIGHT_REGISTERS, ID0, LDB, RED, ZERO, ZERO_HEAD};
 
 /// `not` nested this many times, with 0 in the middle.
 pub(crate) fn nested(alloc: Global, depth: usize) -> Result<Vec<u8>, AllocError> {

@@ -6,6 +6,3 @@ mod findings;
 
 pub use fault::FindingsFault;
 pub use findings::{Findings, compile_run_and_judge};
-
-#[cfg(test)]
-mod tests;

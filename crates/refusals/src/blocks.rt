@@ -4,9 +4,9 @@ ghost use Rattle.shared_memo.specs.PlanJobs.{IsKey};
 use crate::miss::Miss;
 use crate::plans::{has_block, plan_of};
 use crate::tell::{beside, given, surely, tell, tell_numbers};
-use conformance::programs::CV1;
 use lang_check::Plan;
 use shared_memo::{Memo, Reader};
+use test_programs::CV1;
 use unroll::{Block, BlockMaker, MakeFault, make_block};
 
 /// `make_block`: how many states the second block of level 1 has, with the first of them; and without blocks below,

@@ -5,9 +5,9 @@ ghost use Rattle.round_columns.specs.StackNeed.{most_columns};
 use crate::miss::Miss;
 use crate::plans::plan_of;
 use crate::tell::{given, surely, tell_numbers};
-use conformance::programs::{CV1, LDB};
 use lang_check::Plan;
 use round_columns::{Code, Columns, Work, channel_columns, step_columns};
+use test_programs::{CV1, LDB};
 
 /// `Code::new`: how many columns the expressions of two programs hold.
 pub(crate) fn do_code<R: AllocGlobal + Print>(rt: &R) -> Result<(), Miss> {

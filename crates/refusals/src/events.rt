@@ -1,9 +1,9 @@
 use crate::miss::Miss;
 use crate::plans::plan_of;
 use crate::tell::{given, surely};
-use conformance::programs::CV1;
 use lang_check::Plan;
 use table_fill::fill_core::{FillEvent, FillWorld, replay};
+use test_programs::CV1;
 
 /// Two workers fill three cells.
 const FILLED: [FillEvent; 10] = [

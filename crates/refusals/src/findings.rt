@@ -2,11 +2,11 @@ use crate::miss::Miss;
 use crate::plans::{plan_of, ring_for};
 use crate::tell::{given, surely, tell_numbers};
 use crate::verdicts::{NEIGHBOURS_DIFFER, tell_verdict};
-use conformance::programs::CV1;
 use headline::compile_run_and_judge;
 use round_eval::OpenGate;
 use std::sync::Wait;
 use std::thread::Threads;
+use test_programs::CV1;
 
 /// `compile_run_and_judge`: the channels of four places of a program for eight identifiers, and the verdict on its table,
 /// by so many workers and segments.

@@ -1,8 +1,8 @@
 use crate::miss::Miss;
 use crate::tell::{given, surely, tell};
-use conformance::programs::CV1;
 use devices::input::read_input;
 use devices::watched::Watched;
+use test_programs::CV1;
 
 /// `read_input`: a program's text as it was read.
 pub(crate) fn do_read_input<R: AllocGlobal + Print>(rt: &R) -> Result<(), Miss> {

@@ -1,10 +1,10 @@
 use crate::miss::Miss;
 use crate::plans::ring_for;
 use crate::tell::{beside, given, surely, tell, tell_numbers};
-use conformance::programs::{CV1, CV1_WITH_BLANKS};
 use lang_check::accept;
 use node_lang::{Program, parse, print};
 use round_eval::plain_run;
+use test_programs::{CV1, CV1_WITH_BLANKS};
 
 /// `parse`: the channels of a run of the program that was parsed, on the eight identifiers in their order.
 pub(crate) fn do_parse<R: AllocGlobal + Print>(rt: &R) -> Result<(), Miss> {

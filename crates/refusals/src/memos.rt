@@ -4,9 +4,9 @@ ghost use Rattle.shared_memo.specs.Passes.{IsPassOf};
 use crate::miss::Miss;
 use crate::plans::{has_block, plan_of};
 use crate::tell::{beside, given, surely, tell};
-use conformance::programs::{CV1, RED};
 use lang_check::Plan;
 use shared_memo::{Installed, Memo, Pass, Reader};
+use test_programs::{CV1, RED};
 use unroll::{Block, make_block};
 
 /// `Memo::new` and `Memo::pass`: two passes hand in the same block, made by 1 and by 2, and look at it; then one hands

@@ -1,6 +1,5 @@
 use crate::miss::Miss;
 use crate::tell::{beside, given, surely};
-use conformance::programs::CV1;
 use devices::watched::Watched;
 use plan_print::engine::engine;
 use plan_print::lines::numbers_line;
@@ -10,6 +9,7 @@ use std::io;
 use std::sync::Wait;
 use std::thread::Threads;
 use task_words::task::Task;
+use test_programs::CV1;
 
 /// `engine`: the report of a run on four places in so many segments, and its status.
 pub(crate) fn do_run_report<R: AllocGlobal + Print + Threads + Wait + Sync>(

@@ -1,8 +1,8 @@
 use crate::miss::Miss;
 use crate::plans::{plan_of, ring_for};
 use crate::tell::{given, surely, tell_numbers};
-use conformance::programs::CV1;
 use round_eval::plain_run;
+use test_programs::CV1;
 
 /// `plain_run`: the channels of four places.
 pub(crate) fn do_plain_run<R: AllocGlobal + Print>(rt: &R) -> Result<(), Miss> {

@@ -16,9 +16,9 @@ use crate::tables::{do_compile, do_table_maker};
 use crate::texts::{do_read_table, do_write_table};
 use crate::verdicts::{do_judge, do_judge_with_workers};
 use crate::words::{do_ring_of, do_task_of, do_words_fault};
-use conformance::programs::{CV1, CV1_OF_12, LDB, RED};
 use std::sync::Wait;
 use std::thread::Threads;
+use test_programs::{CV1, CV1_OF_12, LDB, RED};
 
 /// A ring of eight places.
 const EIGHT: [u32; 8] = [5, 1, 3, 7, 0, 2, 4, 6];

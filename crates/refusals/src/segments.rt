@@ -3,9 +3,9 @@ ghost use Rattle.std.specs.Prelude.{◌≡◌, ◌≤◌, IfOk, length};
 use crate::miss::Miss;
 use crate::plans::{plan_of, ring_for};
 use crate::tell::{given, surely, tell_numbers};
-use conformance::programs::CV1;
 use lang_check::Plan;
 use ring_core::{RingEvent, Segment, World, replay};
+use test_programs::CV1;
 use win_index::Ring;
 
 /// Segment 0 advances at the third try, and then segment 1.

@@ -1,12 +1,12 @@
 use crate::miss::Miss;
 use crate::plans::plan_of;
 use crate::tell::{beside, given, surely, tell_numbers};
-use conformance::programs::CV1;
 use round_eval::OpenGate;
 use shared_memo::Memo;
 use std::sync::Wait;
 use std::thread::Threads;
 use table_fill::{Table, TableMaker, compile};
+use test_programs::CV1;
 use win_index::Shape;
 
 /// `TableMaker::new`: the numbers of rounds, identifiers and channels of a table that gives each of two identifiers

@@ -1,13 +1,13 @@
 use crate::miss::Miss;
 use crate::tables::table_of;
 use crate::tell::{given, surely, tell_numbers};
-use conformance::programs::ID0;
 use devices::watched::Watched;
 use std::io;
 use std::sync::Wait;
 use std::thread::Threads;
 use table_fill::Table;
 use table_text::{TableFault, read_table, write_table};
+use test_programs::ID0;
 
 /// The text of the table of two identifiers that gives each itself as its channel.
 const TABLE: &[u8] = b"nbhd-table 1\nrounds 0 ids 2 channels 2\n0 : 0\n1 : 1\nend\n";

@@ -1,9 +1,7 @@
-//! Tests of what no clause says.
+//! What is found of a program and a ring in one call.
 
-use crate::{FindingsFault, compile_run_and_judge};
-use lang_check::{Plan, accept};
+use headline::{FindingsFault, compile_run_and_judge};
 use nbhd_check::{Separation, Verdict};
-use node_lang::parse;
 use ring_exec::RunFault;
 use round_eval::OpenGate;
 use std::alloc::Global;
@@ -11,15 +9,8 @@ use std::sync::Wait;
 use std::test::Fail;
 use std::thread::Threads;
 use table_fill::FillFault;
+use test_programs::{CV1, LDB, plan_of};
 use win_index::Ring;
-
-// One round of Cole and Vishkin (1986).
-const CV1: &[u8] =
-    b"rounds 1\nchannels 6\nregisters 1\nstart\nr0 = id\nround\nsend left 0\nsend right r0\nr0 = add(shl(ldb(r0, L), 1), bit(r0, ldb(r0, L)))\nfinish r0\n";
-
-// The same without the bit.
-const LDB: &[u8] =
-    b"rounds 1\nchannels 3\nregisters 1\nstart\nr0 = id\nround\nsend left 0\nsend right r0\nr0 = ldb(r0, L)\nfinish r0\n";
 
 // Neighbours' channels differ, and no more is wanted.
 const NEIGHBOURS_DIFFER: Separation = Separation { near: 1, far: 0 };
@@ -32,10 +23,6 @@ struct Found {
     verdict: Verdict,
 }
 
-fn plan_of(alloc: Global, text: &[u8]) -> Option<Plan> {
-    accept(parse(alloc, text).ok()?, 8).ok()
-}
-
 // What is found of a program of one round for 8 identifiers, on the ring 5 1 3 7.
 fn findings_of<R: Threads + Wait + Sync>(
     rt: &R,
@@ -44,7 +31,7 @@ fn findings_of<R: Threads + Wait + Sync>(
     workers: u32,
     segments: u32,
 ) -> Option<Result<Found, FindingsFault>> {
-    let plan = plan_of(alloc, text)?;
+    let plan = plan_of(alloc, text, 8).ok()?;
     let ids = vec![in alloc; 5, 1, 3, 7].ok()?;
     let ring = Ring::new(plan.shape(), ids).ok()?;
     if plan.shape().rounds() != 1 || plan.shape().ids() != 8 {
