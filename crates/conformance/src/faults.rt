@@ -23,7 +23,12 @@ fn all_refuse<R: Abort + Threads + Wait + Sync>(
 ) -> Result<(), Fail> {
     let tasks = [
         Task::Check { ids },
-        Task::Table { ids, workers: 1 },
+        Task::Table {
+            ids,
+            workers: 1,
+            near: 1,
+            far: 0,
+        },
         Task::Judge {
             ids,
             workers: 1,

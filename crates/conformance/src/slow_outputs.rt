@@ -4,6 +4,7 @@ use crate::asking::done;
 use crate::audits::TABLE_OF_IDENTIFIERS;
 use crate::slow_devices::{SlowReader, SlowWriter};
 use crate::slow_inputs::{REPORT, outcome_of, outcome_of_run};
+use nbhd_check::Separation;
 use plan_print::fault::{EngineFault, OutFault};
 use plan_print::output::send;
 use plan_print::status::Status;
@@ -60,10 +61,15 @@ fn a_report_of_which_no_byte_is_taken(rt: HostRuntime) -> Result<(), Fail> {
 
 #[test]
 fn a_table_report_whose_write_fails_at_each_call(rt: HostRuntime) -> Result<(), Fail> {
-    for call in 1..56usize {
+    for call in 1..69usize {
         let reader = SlowReader::new(ID0, usize::MAX);
         let writer = SlowWriter::failing_at(call, ErrorKind::Other, rt.alloc(), 1);
-        let task = Task::Table { ids: 2, workers: 1 };
+        let task = Task::Table {
+            ids: 2,
+            workers: 1,
+            near: 1,
+            far: 0,
+        };
         let outcome = outcome_of(&rt, rt.alloc(), task, reader, writer);
         assert_eq!(rt; outcome.answer, Err(EngineFault::Write), "call {call}");
         let front = TABLE_OF_IDENTIFIERS.get(..call.saturating_sub(1));
@@ -81,7 +87,8 @@ fn written<R: Abort>(
     writer: SlowWriter,
 ) -> (Result<(), OutFault>, Vec<u8>) {
     let mut writer = Watched::new(writer);
-    let answer = write_table(alloc, table, &mut writer);
+    let separation = Separation { near: 1, far: 0 };
+    let answer = write_table(alloc, table, separation, &mut writer);
     assert_eq!(rt; writer.failed(), answer == Err(OutFault::Write));
     (answer, writer.into_device().into_taken())
 }
@@ -89,15 +96,15 @@ fn written<R: Abort>(
 #[test]
 fn a_table_whose_write_fails_at_each_call(rt: HostRuntime) -> Result<(), Fail> {
     let text = TABLE_OF_IDENTIFIERS;
-    let table = read_table(rt.alloc(), text).ok().ok_or("a table")?;
+    let (table, _) = read_table(rt.alloc(), text).ok().ok_or("a table")?;
     for kind in [ErrorKind::Interrupted, ErrorKind::Other] {
-        for call in 1..56usize {
+        for call in 1..69usize {
             let writer = SlowWriter::failing_at(call, kind, rt.alloc(), 1);
             let (answer, taken) = written(&rt, rt.alloc(), &table, writer);
             assert_eq!(rt; answer, Err(OutFault::Write), "call {call}");
             assert_eq!(rt; Some(taken.as_slice()), text.get(..call.saturating_sub(1)));
         }
-        let writer = SlowWriter::failing_at(56, kind, rt.alloc(), 1);
+        let writer = SlowWriter::failing_at(69, kind, rt.alloc(), 1);
         let (answer, taken) = written(&rt, rt.alloc(), &table, writer);
         assert_eq!(rt; answer, Ok(()));
         assert_eq!(rt; taken.as_slice(), text);
@@ -107,7 +114,7 @@ fn a_table_whose_write_fails_at_each_call(rt: HostRuntime) -> Result<(), Fail> {
 
 #[test]
 fn a_table_of_which_no_byte_is_taken(rt: HostRuntime) -> Result<(), Fail> {
-    let table = read_table(rt.alloc(), TABLE_OF_IDENTIFIERS)
+    let (table, _) = read_table(rt.alloc(), TABLE_OF_IDENTIFIERS)
         .ok()
         .ok_or("a table")?;
     let writer = SlowWriter::new(rt.alloc(), 0);
@@ -154,7 +161,7 @@ fn stops_at<R: Abort>(rt: &R, alloc: Global, table: &Table, text: &[u8], bytes: 
 fn a_long_table_whose_write_fails_at_each_edge_of_a_chunk(rt: HostRuntime) -> Result<(), Fail> {
     let text = done(&rt, rt.alloc(), "table --ids 24", CV1_OF_12)?;
     assert!(rt; text.len() > 131_072 && text.len() < 196_608);
-    let table = read_table(rt.alloc(), &text).ok().ok_or("a table")?;
+    let (table, _) = read_table(rt.alloc(), &text).ok().ok_or("a table")?;
     let mut edges = 0u32;
     let mut before = 0;
     for call in 1..9usize {

@@ -17,10 +17,10 @@ fn line_of(text: &[u8], number: usize) -> Option<&[u8]> {
 #[test]
 fn the_table_of_identifiers(rt: HostRuntime) -> Result<(), Fail> {
     let text = done(&rt, rt.alloc(), "table --ids 2", ID0)?;
-    assert_eq!(rt; text.len(), 55);
+    assert_eq!(rt; text.len(), 68);
     assert_eq!(rt;
         text.as_slice(),
-        b"nbhd-table 1\nrounds 0 ids 2 channels 2\n0 : 0\n1 : 1\nend\n".as_slice()
+        b"nbhd-table 2\nrounds 0 ids 2 channels 2 near 1 far 0\n0 : 0\n1 : 1\nend\n".as_slice()
     );
     Ok(())
 }
@@ -29,9 +29,12 @@ fn the_table_of_identifiers(rt: HostRuntime) -> Result<(), Fail> {
 fn lines_of_tables(rt: HostRuntime) -> Result<(), Fail> {
     let cv1 = done(&rt, rt.alloc(), "table --ids 8", CV1)?;
     let red = done(&rt, rt.alloc(), "table --ids 8", RED)?;
-    let rows: [(&[u8], usize, Option<&[u8]>); 8] = [
-        (&cv1, 1, Some(b"nbhd-table 1")),
-        (&cv1, 2, Some(b"rounds 1 ids 8 channels 6")),
+    let apart = done(&rt, rt.alloc(), "table --ids 8 --near 2 --far 1", CV1)?;
+    let rows: [(&[u8], usize, Option<&[u8]>); 10] = [
+        (&cv1, 1, Some(b"nbhd-table 2")),
+        (&cv1, 2, Some(b"rounds 1 ids 8 channels 6 near 1 far 0")),
+        (&apart, 2, Some(b"rounds 1 ids 8 channels 6 near 2 far 1")),
+        (&apart, 3, Some(b"0 1 2 : 1")),
         (&cv1, 3, Some(b"0 1 2 : 1")),
         (&cv1, 328, Some(b"7 5 1 : 2")),
         (&cv1, 338, Some(b"7 6 5 : 0")),

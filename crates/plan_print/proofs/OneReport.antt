@@ -1,24 +1,24 @@
 -- A task and an input have at most one report: nothing that a report tells has two values.
-use Rattle.std.proofs.Common.{◌≡◌, ℕ, List, [], Option, Some, None, ap, subst, sym, ◌∙◌, refl, append-nil}
+use Rattle.std.proofs.Common.{◌≡◌, ℕ, List, [], ap, subst, sym, ◌∙◌, refl, append-nil}
 use Rattle.node_lang.specs.Term.{ProgramTree}
 use Rattle.node_lang.specs.Laws.{OneReading, OneTextFault}
 use Rattle.win_index.specs.Laws.{OneRingFault, RingsHaveNoFault}
+use Rattle.node_lang.specs.Grammar.{Reads}
 use Rattle.lang_check.specs.Acceptance.{IsAccepted}
 use Rattle.lang_check.specs.Refusals.{IsFirstRefusal}
-use Rattle.table_fill.specs.Tables.{ChannelTable, IsTable}
-use Rattle.table_text.specs.TableText.{table_text}
+use Rattle.table_fill.specs.Tables.{ChannelTable}
+use Rattle.table_text.specs.TableText.{Written, written, text_of}
+use Rattle.table_text.specs.Texts.{IsTextOf}
 use Rattle.table_text.specs.Faults.{IsFault}
 use Rattle.table_text.specs.Laws.{OneTableFault, TableTextsAreApart, TableTextsAreRead}
 use Rattle.lang_check.specs.Laws.{OneRefusal, AcceptedProgramsHaveNoRefusal}
 use Rattle.nbhd_check.specs.declared.separation.Separation.{Separation}
 use Rattle.nbhd_check.specs.Laws.{OneWitness, ApartTablesHaveNoWitness}
 use Rattle.task_words.specs.declared.task.Task.{Task}
-use Rattle.task_words.specs.declared.task.Task.TheVariants.{Check, Table, Judge, Run, Plan, Audit}
+use Rattle.task_words.specs.declared.task.Task.TheVariants.{Check, Table, Judge, Run, Plan, Audit, Migrate}
 use Rattle.plan_print.specs.declared.status.Status.{Status}
-use Rattle.plan_print.specs.declared.status.Status.TheVariants.{Done}
-use Rattle.task_words.specs.Task.{ids_of}
 use Rattle.plan_print.specs.Report as report
-use Rattle.plan_print.specs.Report.{Report, Says, IsJudgement, neighbours_differ, good, bad, IsAnswerOnRing, ring_fault, on_ring, IsRunAnswer, out_of_range, ran, IsAnswer, IsProgramReport, text_fault, check_fault, answered, IsAudit, table_fault, judged, IsReportFor}
+use Rattle.plan_print.specs.Report.{Report, Says, IsJudgement, good, bad, IsAnswerOnRing, ring_fault, on_ring, IsRunAnswer, out_of_range, ran, IsTableText, IsProgramRefusal, text_fault, check_fault, IsProgramReport, program_refused, answered, IsTableRefusal, IsTableReport, table_refused, of_table, IsReport}
 use Rattle.plan_print.specs.Laws.{OneReport}
 
 -- two reports that say the same are one
@@ -49,67 +49,87 @@ one_run p x segments r s (out_of_range out says) (ran within says') = absurd (ou
 one_run p x segments r s (ran within says) (out_of_range out says') = absurd (out within)
 one_run p x segments r s (ran within says) (ran within' says') = said_once _ _ _ r s refl says says'
 
-one_answer : OneRingFault → RingsHaveNoFault → OneWitness → ApartTablesHaveNoWitness
-    → (task : Task) (p : ProgramTree) (r s : Report) → IsAnswer task p r → IsAnswer task p s → r ≡ s
-one_answer one_fault no_fault one_witness no_witness (Check ids) p r s = said_once _ _ _ r s refl
-one_answer one_fault no_fault one_witness no_witness (Table ids workers) p r s = said_once _ _ _ r s refl
-one_answer one_fault no_fault one_witness no_witness (Judge ids workers near far) p r s = one_judgement one_witness no_witness _ _ r s
-one_answer one_fault no_fault one_witness no_witness (Run ids ring segments) p r s =
-    one_on_ring one_fault no_fault _ _ _ (IsRunAnswer p ring.items segments) (one_run p ring.items segments) r s
-one_answer one_fault no_fault one_witness no_witness (Plan ids ring workers) p r s =
-    one_on_ring one_fault no_fault _ _ _ (Says (report.place_lines p ring.items) Done) (λ r s. said_once _ _ _ r s refl) r s
-one_answer one_fault no_fault one_witness no_witness Audit p r s = λ answer other. absurd answer
+one_table_text : (t : ChannelTable) (d : Separation) (r s : Report) → IsTableText t d r → IsTableText t d s → r ≡ s
+one_table_text t d r s says says' = said_once _ _ _ r s refl says says'
 
-one_program_report : OneReading → OneTextFault → OneRefusal → AcceptedProgramsHaveNoRefusal → OneRingFault → RingsHaveNoFault → OneWitness → ApartTablesHaveNoWitness
-    → (task : Task) (m : ℕ) (input : List ℕ) (r s : Report) → IsProgramReport task m input r → IsProgramReport task m input s → r ≡ s
-one_program_report one_reading one_text_fault one_refusal no_refusal one_fault no_fault one_witness no_witness task m input r s first second =
-    elim first [
-      | text_fault k i none faults says ↦ elim second [
-        | text_fault l j none' faults' says' ↦
-            let same = one_text_fault input k l i j faults faults' in
-            said_once _ _ _ r s (λ n. report.text_fault_line (same.0 n) (same.1 n)) says says'
-        | check_fault p f reads refused says' ↦ absurd (none p reads)
-        | answered p reads accepted answer ↦ absurd (none p reads)
-      ]
-      | check_fault p f reads refused says ↦ elim second [
-        | text_fault k i none faults says' ↦ absurd (none p reads)
-        | check_fault q g reads' refused' says' ↦
-            let refused'' = subst (λ h. IsFirstRefusal m h g) (one_reading input q p reads' reads) refused' in
-            said_once _ _ _ r s (ap report.check_fault_line (one_refusal m p f g refused refused'')) says says'
-        | answered q reads' accepted answer ↦ absurd (no_refusal m p f (subst (IsAccepted m) (one_reading input q p reads' reads) accepted) refused)
-      ]
-      | answered p reads accepted answer ↦ elim second [
-        | text_fault k i none faults says' ↦ absurd (none p reads)
-        | check_fault q f reads' refused says' ↦ absurd (no_refusal m q f (subst (IsAccepted m) (one_reading input p q reads reads') accepted) refused)
-        | answered q reads' accepted' answer' ↦
-            one_answer one_fault no_fault one_witness no_witness task p r s answer (subst (λ h. IsAnswer task h s) (one_reading input q p reads' reads) answer')
-      ]
-    ]
+one_program_refusal : OneTextFault → OneReading → OneRefusal → (m : ℕ) (input : List ℕ) (r s : Report)
+    → IsProgramRefusal m input r → IsProgramRefusal m input s → r ≡ s
+one_program_refusal one_text_fault one_reading one_refusal m input r s (text_fault k i none faults says) (text_fault l j none' faults' says') =
+    let same = one_text_fault input k l i j faults faults' in
+    said_once _ _ _ r s (λ n. report.text_fault_line (same.0 n) (same.1 n)) says says'
+one_program_refusal one_text_fault one_reading one_refusal m input r s (text_fault k i none faults says) (check_fault p f reads refused says') =
+    absurd (none p reads)
+one_program_refusal one_text_fault one_reading one_refusal m input r s (check_fault p f reads refused says) (text_fault k i none faults says') =
+    absurd (none p reads)
+one_program_refusal one_text_fault one_reading one_refusal m input r s (check_fault p f reads refused says) (check_fault q g reads' refused' says') =
+    let refused'' = subst (λ h. IsFirstRefusal m h g) (one_reading input q p reads' reads) refused' in
+    said_once _ _ _ r s (ap report.check_fault_line (one_refusal m p f g refused refused'')) says says'
 
--- a text is the text of one table
-one_table : TableTextsAreApart → (t u : ChannelTable) (input : List ℕ) → IsTable t → IsTable u → input ≡ table_text t → input ≡ table_text u → t ≡ u
-one_table apart t u input is is' text text' = (apart t u [] is is' (sym text' ∙ text ∙ sym (append-nil (table_text t)))).0
+-- a program that is accepted is not refused
+accepted_or_refused : OneReading → AcceptedProgramsHaveNoRefusal → (m : ℕ) (input : List ℕ) (r : Report) (p : ProgramTree)
+    → Reads input p → IsAccepted m p → IsProgramRefusal m input r → ⊥
+accepted_or_refused one_reading no_refusal m input r p reads accepted (text_fault k i none faults says) = none p reads
+accepted_or_refused one_reading no_refusal m input r p reads accepted (check_fault q f reads' refused says) =
+    no_refusal m q f (subst (IsAccepted m) (one_reading input p q reads reads') accepted) refused
 
-one_audit : OneTableFault → TableTextsAreApart → TableTextsAreRead → OneWitness → ApartTablesHaveNoWitness
-    → (input : List ℕ) (r s : Report) → IsAudit input r → IsAudit input s → r ≡ s
-one_audit one_fault apart read one_witness no_witness input r s (table_fault f known fault says) (table_fault g known' fault' says') =
-    said_once _ _ _ r s (ap report.table_fault_line (one_fault input f g known known' fault fault')) says says'
-one_audit one_fault apart read one_witness no_witness input r s (table_fault f known fault says) (judged t is text answer) =
-    absurd (known (read t f is (subst (λ x. IsFault x f) text fault)))
-one_audit one_fault apart read one_witness no_witness input r s (judged t is text answer) (table_fault f known fault says) =
-    absurd (known (read t f is (subst (λ x. IsFault x f) text fault)))
-one_audit one_fault apart read one_witness no_witness input r s (judged t is text answer) (judged u is' text' answer') =
-    let same = one_table apart u t input is' is text' text in
-    one_judgement one_witness no_witness t neighbours_differ r s answer (subst (λ x. IsJudgement x neighbours_differ s) same answer')
+-- one report on a program text, where there is one answer on each program
+one_program_report : OneReading → OneTextFault → OneRefusal → AcceptedProgramsHaveNoRefusal → (m : ℕ) (answer : ProgramTree → Report → Type 0)
+    → ((p : ProgramTree) (r s : Report) → answer p r → answer p s → r ≡ s)
+    → (input : List ℕ) (r s : Report) → IsProgramReport m answer input r → IsProgramReport m answer input s → r ≡ s
+one_program_report one_reading one_text_fault one_refusal no_refusal m answer once input r s (program_refused first) (program_refused second) =
+    one_program_refusal one_text_fault one_reading one_refusal m input r s first second
+one_program_report one_reading one_text_fault one_refusal no_refusal m answer once input r s (program_refused first) (answered p reads accepted said) =
+    absurd (accepted_or_refused one_reading no_refusal m input r p reads accepted first)
+one_program_report one_reading one_text_fault one_refusal no_refusal m answer once input r s (answered p reads accepted said) (program_refused second) =
+    absurd (accepted_or_refused one_reading no_refusal m input s p reads accepted second)
+one_program_report one_reading one_text_fault one_refusal no_refusal m answer once input r s (answered p reads accepted said) (answered q reads' accepted' said') =
+    once p r s said (subst (λ h. answer h s) (one_reading input q p reads' reads) said')
 
-one_for : ((m : ℕ) (task : Task) (input : List ℕ) (r s : Report) → IsProgramReport task m input r → IsProgramReport task m input s → r ≡ s)
-    → ((input : List ℕ) (r s : Report) → IsAudit input r → IsAudit input s → r ≡ s)
-    → (ids : Option ℕ) (task : Task) (input : List ℕ) (r s : Report) → IsReportFor ids task input r → IsReportFor ids task input s → r ≡ s
-one_for program audit None task input r s = audit input r s
-one_for program audit (Some m) task input r s = program m task input r s
+one_table_refusal : OneTableFault → (input : List ℕ) (r s : Report) → IsTableRefusal input r → IsTableRefusal input s → r ≡ s
+one_table_refusal one_fault input r s first second =
+    said_once _ _ _ r s (ap report.table_fault_line (one_fault input first.what second.what first.known second.known first.fault second.fault)) first.says second.says
+
+-- a table text is not refused
+told_or_refused : TableTextsAreRead → (input : List ℕ) (r : Report) (t : ChannelTable) (d : Separation) → IsTextOf input t d → IsTableRefusal input r → ⊥
+told_or_refused read input r t d told refused =
+    refused.known (read (written told.0 t d) refused.what told.1 (subst (λ x. IsFault x refused.what) told.2 refused.fault))
+
+-- a text tells one table and one separation
+one_telling : TableTextsAreApart → (input : List ℕ) (t u : ChannelTable) (d e : Separation) → IsTextOf input t d → IsTextOf input u e → (t ≡ u) × (d ≡ e)
+one_telling apart input t u d e told told' =
+    let v = written told.0 t d in
+    let w = written told'.0 u e in
+    let same = (apart v w [] told.1 told'.1 (sym told'.2 ∙ told.2 ∙ sym (append-nil (text_of v)))).0 in
+    (ap (λ (x : Written). x.table) same, ap (λ (x : Written). x.separation) same)
+
+-- one report on a table text, where there is one answer on each table and separation
+one_table_report : OneTableFault → TableTextsAreApart → TableTextsAreRead → (answer : ChannelTable → Separation → Report → Type 0)
+    → ((t : ChannelTable) (d : Separation) (r s : Report) → answer t d r → answer t d s → r ≡ s)
+    → (input : List ℕ) (r s : Report) → IsTableReport answer input r → IsTableReport answer input s → r ≡ s
+one_table_report one_fault apart read answer once input r s (table_refused first) (table_refused second) = one_table_refusal one_fault input r s first second
+one_table_report one_fault apart read answer once input r s (table_refused first) (of_table t d told said) = absurd (told_or_refused read input r t d told first)
+one_table_report one_fault apart read answer once input r s (of_table t d told said) (table_refused second) = absurd (told_or_refused read input s t d told second)
+one_table_report one_fault apart read answer once input r s (of_table t d told said) (of_table u e told' said') =
+    let same = one_telling apart input u t e d told' told in
+    once t d r s said (subst (λ x. answer t x s) same.1 (subst (λ x. answer x e s) same.0 said'))
 
 pub one_report : OneReading → OneTextFault → OneRefusal → AcceptedProgramsHaveNoRefusal → OneRingFault → RingsHaveNoFault → OneWitness → ApartTablesHaveNoWitness
     → OneTableFault → TableTextsAreApart → TableTextsAreRead → OneReport
 one_report one_reading one_text_fault one_refusal no_refusal one_fault no_fault one_witness no_witness one_table_fault apart read task =
-    one_for (λ m t. one_program_report one_reading one_text_fault one_refusal no_refusal one_fault no_fault one_witness no_witness t m)
-    (one_audit one_table_fault apart read one_witness no_witness) (ids_of task) task
+    go task
+  where
+    of_program : (m : ℕ) (answer : ProgramTree → Report → Type 0) → ((p : ProgramTree) (r s : Report) → answer p r → answer p s → r ≡ s)
+        → (input : List ℕ) (r s : Report) → IsProgramReport m answer input r → IsProgramReport m answer input s → r ≡ s
+    of_program = one_program_report one_reading one_text_fault one_refusal no_refusal
+
+    judged_once : (t : ChannelTable) (d : Separation) (r s : Report) → IsJudgement t d r → IsJudgement t d s → r ≡ s
+    judged_once = one_judgement one_witness no_witness
+
+    go : (task : Task) (input : List ℕ) (r s : Report) → IsReport task input r → IsReport task input s → r ≡ s
+    go (Check ids) = of_program ids _ (λ p r s. said_once _ _ _ r s refl)
+    go (Table ids workers near far) = of_program ids _ (λ p. one_table_text _ _)
+    go (Judge ids workers near far) = of_program ids _ (λ p. judged_once _ _)
+    go (Run ids ring segments) = of_program ids _ (λ p. one_on_ring one_fault no_fault _ _ _ _ (one_run p ring.items segments))
+    go (Plan ids ring workers) = of_program ids _ (λ p. one_on_ring one_fault no_fault _ _ _ _ (λ r s. said_once _ _ _ r s refl))
+    go Audit = one_table_report one_table_fault apart read IsJudgement judged_once
+    go Migrate = one_table_report one_table_fault apart read IsTableText one_table_text

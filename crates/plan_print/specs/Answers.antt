@@ -9,4 +9,4 @@ use Rattle.plan_print.specs.declared.status.Status.TheVariants.{Done}
 -- what is to be written, and the status
 abbrev pub report_in : Answer → Report
 report_in (Text text status) = record { bytes = string_bytes text; status = status }
-report_in (Table table) = record { bytes = table_text table; status = Done }
+report_in (Table table separation) = record { bytes = table_text table separation; status = Done }

@@ -5,17 +5,22 @@ use Rattle.devices.specs.declared.fault.EngineFault.{EngineFault}
 use Rattle.devices.specs.declared.fault.EngineFault.TheVariants.{Read, Write}
 use Rattle.plan_print.specs.declared.status.Status.{Status}
 use Rattle.task_words.specs.declared.task.Task.{Task}
-use Rattle.task_words.specs.declared.task.Task.TheVariants.{Audit}
+use Rattle.task_words.specs.declared.task.Task.TheVariants.{Check, Table, Judge, Run, Plan, Audit, Migrate}
 use Rattle.node_lang.specs.declared.limits.TheConstants.{LONGEST_TEXT}
 use Rattle.table_text.specs.declared.limits.TheConstants.{LONGEST_TABLE_TEXT}
 use Rattle.devices.specs.Input.{GivesInput}
 use Rattle.devices.specs.Output.{AppendsFront}
 use Rattle.plan_print.specs.Report.{Report, IsReport}
 
--- the most bytes that the input of a task may have: those of a table text for an audit, and of a program text for another task
+-- the most bytes that the input of a task may have: those of a program text, or of a table text for a task on such a text
 abbrev pub limit_of : Task → ℕ
+limit_of (Check ids) = LONGEST_TEXT
+limit_of (Table ids workers near far) = LONGEST_TEXT
+limit_of (Judge ids workers near far) = LONGEST_TEXT
+limit_of (Run ids ring segments) = LONGEST_TEXT
+limit_of (Plan ids ring workers) = LONGEST_TEXT
 limit_of Audit = LONGEST_TABLE_TEXT
-limit_of _ = LONGEST_TEXT
+limit_of Migrate = LONGEST_TABLE_TEXT
 
 -- The input was read, and the report of the task on it was written whole; the status is the report's.
 pub record WritesReport (task : Task) (unread left before after : Option (List ℕ)) (status : Status) : Type 0 where

@@ -1,6 +1,7 @@
 pub mod ExitCodes
 pub mod Lines
 pub use Rattle.table_text.specs.TableText
+pub use Rattle.table_text.specs.Texts
 pub mod Report
 pub mod Laws
 pub use Rattle.task_words.specs.Decimal

@@ -1,5 +1,5 @@
 -- The report: the bytes and the status for a task and an input.
-use Rattle.std.specs.Prelude.{◌≡◌, ◌≢◌, ◌==◌, ◌&&◌, if◌then◌else◌, ℕ, ◌+◌, ◌*◌, List, [], ◌∷◌, Option, Some, None, length, slice_index, codes}
+use Rattle.std.specs.Prelude.{◌≡◌, ◌≢◌, ◌==◌, ◌&&◌, if◌then◌else◌, ℕ, ◌+◌, ◌*◌, List, [], ◌∷◌, length, slice_index, codes}
 use Rattle.std.specs.List.{flat_map, range_with_len}
 use Rattle.std.specs.Fmt.{decimal}
 use Rattle.node_lang.specs.declared.fault.FaultKind.{FaultKind}
@@ -19,7 +19,7 @@ use Rattle.lang_check.specs.Refusals.{IsFirstRefusal}
 use Rattle.win_index.specs.RingFaults.{IsFirstFault}
 use Rattle.win_index.specs.Windows.{windows}
 use Rattle.table_fill.specs.ProgramTables.{table_of}
-use Rattle.table_fill.specs.Tables.{ChannelTable, IsTable}
+use Rattle.table_fill.specs.Tables.{ChannelTable}
 use Rattle.nbhd_check.specs.declared.separation.Separation.{Separation}
 use Rattle.nbhd_check.specs.Apart.{tuples, IsApartEverywhere}
 use Rattle.nbhd_check.specs.Verdicts.{IsWitness}
@@ -27,12 +27,12 @@ use Rattle.ring_exec.specs.SegmentCounts.{IsSegmentCount}
 use Rattle.plan_print.specs.declared.status.Status.{Status}
 use Rattle.plan_print.specs.declared.status.Status.TheVariants.{Done, No, Words, Refused, RingRefused}
 use Rattle.task_words.specs.declared.task.Task.{Task}
-use Rattle.task_words.specs.declared.task.Task.TheVariants.{Check, Table, Judge, Run, Plan, Audit}
-use Rattle.task_words.specs.Task.{ids_of}
+use Rattle.task_words.specs.declared.task.Task.TheVariants.{Check, Table, Judge, Run, Plan, Audit, Migrate}
 use Rattle.plan_print.specs.Lines.{line, numbers_text, right_aligned}
 use Rattle.table_text.specs.declared.fault.TableFault.{TableFault}
 use Rattle.table_text.specs.declared.fault.TableFault.TheVariants as table
 use Rattle.table_text.specs.TableText.{table_text}
+use Rattle.table_text.specs.Texts.{IsTextOf}
 use Rattle.table_text.specs.Faults.{IsFault}
 
 pub record Report : Type 0 where
@@ -126,10 +126,6 @@ pub data IsJudgement (t : ChannelTable) (s : Separation) (r : Report) : Type 0 w
   good : IsApartEverywhere t s → Says (good_line (length (tuples t s))) Done r → IsJudgement t s r
   bad : (ring : List ℕ) (places channels : ℕ × ℕ) → IsWitness t s ring places channels → Says (no_line s ring places channels) No r → IsJudgement t s r
 
--- neighbours' channels differ, and no more is wanted
-abbrev pub neighbours_differ : Separation
-neighbours_differ = record { near = 1; far = 0 }
-
 -- The answer on a list of identifiers, for m identifiers and t rounds: what is wrong first with a list that is no ring, or what is said of a ring.
 pub data IsAnswerOnRing (m t : ℕ) (places : List ℕ) (said : Report → Type 0) (r : Report) : Type 0 where
   ring_fault : (f : RingFault) → IsFirstFault m t places f → Says (ring_fault_line f) RingRefused r → IsAnswerOnRing m t places said r
@@ -140,35 +136,44 @@ pub data IsRunAnswer (p : ProgramTree) (places : List ℕ) (segments : ℕ) (r :
   out_of_range : (¬ IsSegmentCount segments (length places)) → Says segments_fault_line Words r → IsRunAnswer p places segments r
   ran : IsSegmentCount segments (length places) → Says (line (numbers_text (channels_of p places) ∷ [])) Done r → IsRunAnswer p places segments r
 
--- the answer of a task on a program that is accepted; it is the same whatever the number of workers, and whatever the number of segments
--- that a ring can be run in; an audit is of no program
-abbrev pub IsAnswer : Task → ProgramTree → Report → Type 0
-IsAnswer (Check ids) p r = Says (accepted_line ids p) Done r
-IsAnswer (Table ids workers) p r = Says (table_text (table_of p ids)) Done r
-IsAnswer (Judge ids workers near far) p r = IsJudgement (table_of p ids) (record { near = near; far = far }) r
-IsAnswer (Run ids places segments) p r = IsAnswerOnRing ids (length p.steps) places.items (IsRunAnswer p places.items segments) r
-IsAnswer (Plan ids places workers) p r = IsAnswerOnRing ids (length p.steps) places.items (Says (place_lines p places.items) Done) r
-IsAnswer Audit p r = ⊥
+-- the answer that is the text of a table and a separation
+abbrev pub IsTableText : ChannelTable → Separation → Report → Type 0
+IsTableText t s r = Says (table_text t s) Done r
 
--- The report of a task for m identifiers on a program text: the fault of a text that reads as no program, or the first refusal of the program
--- that it reads as, or the task's answer on that program.
-pub data IsProgramReport (task : Task) (m : ℕ) (input : List ℕ) (r : Report) : Type 0 where
+-- What is wrong with a program text for m identifiers: the fault of a text that reads as no program, or the first refusal of the program
+-- that it reads as.
+pub data IsProgramRefusal (m : ℕ) (input : List ℕ) (r : Report) : Type 0 where
   text_fault : (k : FaultKind) (offset : ℕ) → ((p : ProgramTree) → ¬ Reads input p) → FaultsAt input k offset →
-      Says (text_fault_line k offset) Refused r → IsProgramReport task m input r
+      Says (text_fault_line k offset) Refused r → IsProgramRefusal m input r
   check_fault : (p : ProgramTree) (f : CheckFault) → Reads input p → IsFirstRefusal m p f →
-      Says (check_fault_line f) Refused r → IsProgramReport task m input r
-  answered : (p : ProgramTree) → Reads input p → IsAccepted m p → IsAnswer task p r → IsProgramReport task m input r
+      Says (check_fault_line f) Refused r → IsProgramRefusal m input r
 
--- The report of an audit on a table text: what is wrong first with a text that is not the text of a table, or the judge's answer on its table.
-pub data IsAudit (input : List ℕ) (r : Report) : Type 0 where
-  table_fault : (f : TableFault) → f ≢ table.OutOfMemory → IsFault input f → Says (table_fault_line f) Refused r → IsAudit input r
-  judged : (t : ChannelTable) → IsTable t → input ≡ table_text t → IsJudgement t neighbours_differ r → IsAudit input r
+-- The report of a task on a program text for m identifiers: what is wrong with it, or the task's answer on the accepted program.
+pub data IsProgramReport (m : ℕ) (answer : ProgramTree → Report → Type 0) (input : List ℕ) (r : Report) : Type 0 where
+  program_refused : IsProgramRefusal m input r → IsProgramReport m answer input r
+  answered : (p : ProgramTree) → Reads input p → IsAccepted m p → answer p r → IsProgramReport m answer input r
 
--- the report of a task, for so many identifiers or for those of a table, on an input
-abbrev pub IsReportFor : Option ℕ → Task → List ℕ → Report → Type 0
-IsReportFor None task input r = IsAudit input r
-IsReportFor (Some m) task input r = IsProgramReport task m input r
+-- what is wrong first with a text that is not the text of a table and a separation
+pub record IsTableRefusal (input : List ℕ) (r : Report) : Type 0 where
+  pub what : TableFault
+  pub known : what ≢ table.OutOfMemory
+  pub fault : IsFault input what
+  pub says : Says (table_fault_line what) Refused r
 
--- the report of a task on an input
+-- The report of a task on a table text: what is wrong with it, or the task's answer on the table and the separation that it tells.
+pub data IsTableReport (answer : ChannelTable → Separation → Report → Type 0) (input : List ℕ) (r : Report) : Type 0 where
+  table_refused : IsTableRefusal input r → IsTableReport answer input r
+  of_table : (t : ChannelTable) (s : Separation) → IsTextOf input t s → answer t s r → IsTableReport answer input r
+
+-- The report of a task on an input. The tasks with a number of identifiers are on a program text, the others on a table text. The report
+-- is the same whatever the number of workers, and whatever the number of segments that a ring can be run in.
 abbrev pub IsReport : Task → List ℕ → Report → Type 0
-IsReport task input r = IsReportFor (ids_of task) task input r
+IsReport (Check ids) input r = IsProgramReport ids (λ p. Says (accepted_line ids p) Done) input r
+IsReport (Table ids workers near far) input r = IsProgramReport ids (λ p. IsTableText (table_of p ids) (record { near = near; far = far })) input r
+IsReport (Judge ids workers near far) input r = IsProgramReport ids (λ p. IsJudgement (table_of p ids) (record { near = near; far = far })) input r
+IsReport (Run ids places segments) input r =
+    IsProgramReport ids (λ p. IsAnswerOnRing ids (length p.steps) places.items (IsRunAnswer p places.items segments)) input r
+IsReport (Plan ids places workers) input r =
+    IsProgramReport ids (λ p. IsAnswerOnRing ids (length p.steps) places.items (Says (place_lines p places.items) Done)) input r
+IsReport Audit input r = IsTableReport IsJudgement input r
+IsReport Migrate input r = IsTableReport IsTableText input r

@@ -1,13 +1,12 @@
 //! The answers of the tasks on a program that is accepted.
 
-ghost use Rattle.std.specs.Prelude.{◌≡◌, Some, length, IfOk, IfErr};
+ghost use Rattle.std.specs.Prelude.{◌≡◌, length, IfOk, IfErr};
 ghost use Rattle.table_fill.specs.ProgramTables.{table_of};
 ghost use Rattle.task_words.specs.Counts.{IsCount};
-ghost use Rattle.task_words.specs.Task.{ids_of, IsRunnable};
 ghost use Rattle.plan_print.specs.Engine.{IsTaskFault};
 ghost use Rattle.plan_print.specs.Answers.{report_in};
 ghost use Rattle.plan_print.specs.Report as report;
-ghost use Rattle.plan_print.specs.Report.{Says, IsAnswer, IsJudgement, IsRunAnswer};
+ghost use Rattle.plan_print.specs.Report.{Says, IsAnswerOnRing, IsJudgement, IsRunAnswer, IsTableText};
 ghost use Rattle.std.specs.Thread.{IsSync};
 
 use crate::judgement::judgement;
@@ -25,60 +24,36 @@ use std::marker::Send;
 use std::sync::Wait;
 use std::thread::{Threads, join};
 use table_fill::{FillFault, Table, compile};
-use task_words::task::Task;
 use win_index::{Ring, RingFault};
 
-// A report before it is written: its text and its status, or the table whose text it is.
+// A report before it is written: its text and its status, or the table and the separation whose text it is.
 #[derive(Drop)]
 pub(crate) enum Answer {
     Text(String, Status),
-    Table(Table),
+    Table(Table, Separation),
 }
 
-// A task's answer on the program of a plan.
-pub(crate) fn answer_of<T: Threads + Wait + Sync>(
+// The answer of a check.
+pub(crate) fn check_answer(alloc: Global, plan: &Plan) -> Result<Answer, EngineFault>
+    ensures answer { IfOk result (λ r. Says (report.accepted_line plan.now.ids plan.now.program) Status.Done (report_in r)) }
+    ensures fault { IfErr result (λ fault. fault ≡ EngineFault.Memory) }
+{
+    Ok(Answer::Text(accepted_line(alloc, plan)?, Status::Done))
+}
+
+// The answer that is the table of an accepted program, filled by so many workers, with a separation.
+pub(crate) fn table_answer<T: Threads + Wait + Sync>(
     rt: &T,
     alloc: Global,
-    task: Task,
     plan: &Plan,
+    separation: Separation,
+    workers: u32,
 ) -> Result<Answer, EngineFault>
-    requires ids { ids_of task ≡ Some plan.now.ids }
-    requires runnable { IsRunnable task }
-    ensures answer { IfOk result (λ r. IsAnswer task plan.now.program (report_in r)) }
+    requires { IsCount workers }
+    ensures answer { IfOk result (λ r. IsTableText (table_of plan.now.program plan.now.ids) separation (report_in r)) }
     ensures fault { IfErr result IsTaskFault }
 {
-    match task {
-        Task::Check { ids: _ } => Ok(Answer::Text(accepted_line(alloc, plan)?, Status::Done)),
-        Task::Table { ids: _, workers } => {
-            Ok(Answer::Table(compiled(rt, alloc, plan, workers)?))
-        }
-        Task::Judge {
-            ids: _,
-            workers,
-            near,
-            far,
-        } => judged(rt, alloc, plan, Separation { near, far }, workers),
-        Task::Run {
-            ids: _,
-            ring,
-            segments,
-        } => match Ring::new(plan.shape(), ring) {
-            Ok(ring) => run_answer(rt, alloc, plan, &ring, segments),
-            Err((_ids, fault)) => ring_refusal(alloc, fault),
-        },
-        Task::Plan {
-            ids: _,
-            ring,
-            workers,
-        } => match Ring::new(plan.shape(), ring) {
-            Ok(ring) => {
-                let table = compiled(rt, alloc, plan, workers)?;
-                Ok(Answer::Text(places_text(alloc, plan, &table, &ring)?, Status::Done))
-            }
-            Err((_ids, fault)) => ring_refusal(alloc, fault),
-        },
-        Task::Audit => unreachable!(),
-    }
+    Ok(Answer::Table(compiled(rt, alloc, plan, workers)?, separation))
 }
 
 // The answer on a list of identifiers that is no ring.
@@ -89,8 +64,26 @@ fn ring_refusal(alloc: Global, fault: RingFault) -> Result<Answer, EngineFault>
     Ok(Answer::Text(ring_fault_line(alloc, fault)?, Status::RingRefused))
 }
 
+// The answer of a run of a list of identifiers in segments.
+pub(crate) fn run_answer<T: Threads + Wait + Sync>(
+    rt: &T,
+    alloc: Global,
+    plan: &Plan,
+    ids: Vec<u32>,
+    segments: u32,
+) -> Result<Answer, EngineFault>
+    ensures answer { IfOk result (λ r. IsAnswerOnRing plan.now.ids (length plan.now.program.steps) ids.items
+        (IsRunAnswer plan.now.program ids.items segments) (report_in r)) }
+    ensures fault { IfErr result IsTaskFault }
+{
+    match Ring::new(plan.shape(), ids) {
+        Ok(ring) => channels_answer(rt, alloc, plan, &ring, segments),
+        Err((_ids, fault)) => ring_refusal(alloc, fault),
+    }
+}
+
 // The answer of a run of a ring in segments.
-fn run_answer<T: Threads + Wait + Sync>(
+fn channels_answer<T: Threads + Wait + Sync>(
     rt: &T,
     alloc: Global,
     plan: &Plan,
@@ -114,9 +107,31 @@ fn run_answer<T: Threads + Wait + Sync>(
     }
 }
 
+// The answer of a plan for a list of identifiers, through the table that so many workers fill.
+pub(crate) fn plan_answer<T: Threads + Wait + Sync>(
+    rt: &T,
+    alloc: Global,
+    plan: &Plan,
+    ids: Vec<u32>,
+    workers: u32,
+) -> Result<Answer, EngineFault>
+    requires { IsCount workers }
+    ensures answer { IfOk result (λ r. IsAnswerOnRing plan.now.ids (length plan.now.program.steps) ids.items
+        (Says (report.place_lines plan.now.program ids.items) Status.Done) (report_in r)) }
+    ensures fault { IfErr result IsTaskFault }
+{
+    match Ring::new(plan.shape(), ids) {
+        Ok(ring) => {
+            let table = compiled(rt, alloc, plan, workers)?;
+            Ok(Answer::Text(places_text(alloc, plan, &table, &ring)?, Status::Done))
+        }
+        Err((_ids, fault)) => ring_refusal(alloc, fault),
+    }
+}
+
 // The judge's answer on the table of an accepted program by a separation, by so many workers. More workers than one judge
 // while the memo is dropped.
-fn judged<T: Threads + Wait + Sync>(
+pub(crate) fn judged<T: Threads + Wait + Sync>(
     rt: &T,
     alloc: Global,
     plan: &Plan,

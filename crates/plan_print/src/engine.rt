@@ -78,7 +78,7 @@ fn write_answer<W: Write>(
             send(writer, text.as_bytes())?;
             Ok(status)
         }
-        Answer::Table(table) => match write_table(alloc, &table, writer) {
+        Answer::Table(table, separation) => match write_table(alloc, &table, separation, writer) {
             Ok(()) => Ok(Status::Done),
             Err(OutFault::Write) => Err(EngineFault::Write),
             Err(OutFault::Memory) => Err(EngineFault::Memory),
@@ -91,7 +91,29 @@ fn limit(task: &Task) -> usize
     ensures { result ≡ limit_of task.now }
 {
     match task {
-        Task::Audit => LONGEST_TABLE_TEXT,
-        _ => LONGEST_TEXT,
+        Task::Check { ids: _ }
+        | Task::Table {
+            ids: _,
+            workers: _,
+            near: _,
+            far: _,
+        }
+        | Task::Judge {
+            ids: _,
+            workers: _,
+            near: _,
+            far: _,
+        }
+        | Task::Run {
+            ids: _,
+            ring: _,
+            segments: _,
+        }
+        | Task::Plan {
+            ids: _,
+            ring: _,
+            workers: _,
+        } => LONGEST_TEXT,
+        Task::Audit | Task::Migrate => LONGEST_TABLE_TEXT,
     }
 }

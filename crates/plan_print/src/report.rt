@@ -1,22 +1,28 @@
-//! The report of a task: a program text is read, the program is accepted, and the task is done on it; an audit is of
-//! a table text.
+//! The report of a task: a program text is read, the program is accepted, and the task is done on it; or a table text is read,
+//! and the task is done on the table and the separation that it tells.
 
-ghost use Rattle.std.specs.Prelude.{◌≡◌, Some, IfOk, IfErr};
+ghost use Rattle.std.specs.Prelude.{◌≡◌, IfOk, IfErr};
+ghost use Rattle.node_lang.specs.Grammar.{Reads};
+ghost use Rattle.lang_check.specs.Acceptance.{IsAccepted};
+ghost use Rattle.table_text.specs.Texts.{IsTextOf};
 ghost use Rattle.plan_print.specs.Engine.{IsTaskFault};
 ghost use Rattle.plan_print.specs.Answers.{report_in};
-ghost use Rattle.plan_print.specs.Report.{IsReport, IsProgramReport};
-ghost use Rattle.task_words.specs.Task.{ids_of, IsRunnable};
+ghost use Rattle.plan_print.specs.Report.{IsReport, IsProgramRefusal, IsTableRefusal};
+ghost use Rattle.task_words.specs.Task.{IsRunnable};
 
-use crate::answer::{Answer, answer_of};
-use crate::judgement::audit_of;
-use crate::lines::{check_fault_line, text_fault_line};
+use crate::answer::{Answer, check_answer, judged, plan_answer, run_answer, table_answer};
+use crate::judgement::audited;
+use crate::lines::{check_fault_line, table_fault_line, text_fault_line};
 use crate::status::Status;
 use devices::fault::EngineFault;
-use lang_check::accept;
+use lang_check::{Plan, accept};
+use nbhd_check::Separation;
 use node_lang::{FaultKind, TextFault, parse};
 use std::alloc::Global;
 use std::sync::Wait;
 use std::thread::Threads;
+use table_fill::Table;
+use table_text::{TableFault, read_table};
 use task_words::task::Task;
 
 // A task's report on an input.
@@ -30,32 +36,65 @@ pub(crate) fn report_of<T: Threads + Wait + Sync>(
     ensures report { IfOk result (λ r. IsReport task input.now (report_in r)) }
     ensures fault { IfErr result IsTaskFault }
 {
-    match task.ids() {
-        Some(ids) => program_report(rt, alloc, task, ids, input),
-        None => audit_of(rt, alloc, input),
+    match task {
+        Task::Check { ids } => match accepted(alloc, input, ids)? {
+            Ok(plan) => check_answer(alloc, &plan),
+            Err(refusal) => Ok(refusal),
+        },
+        Task::Table {
+            ids,
+            workers,
+            near,
+            far,
+        } => match accepted(alloc, input, ids)? {
+            Ok(plan) => table_answer(rt, alloc, &plan, Separation { near, far }, workers),
+            Err(refusal) => Ok(refusal),
+        },
+        Task::Judge {
+            ids,
+            workers,
+            near,
+            far,
+        } => match accepted(alloc, input, ids)? {
+            Ok(plan) => judged(rt, alloc, &plan, Separation { near, far }, workers),
+            Err(refusal) => Ok(refusal),
+        },
+        Task::Run {
+            ids,
+            ring,
+            segments,
+        } => match accepted(alloc, input, ids)? {
+            Ok(plan) => run_answer(rt, alloc, &plan, ring, segments),
+            Err(refusal) => Ok(refusal),
+        },
+        Task::Plan { ids, ring, workers } => match accepted(alloc, input, ids)? {
+            Ok(plan) => plan_answer(rt, alloc, &plan, ring, workers),
+            Err(refusal) => Ok(refusal),
+        },
+        Task::Audit => match table_in(alloc, input)? {
+            Ok((table, separation)) => audited(rt, alloc, &table, separation),
+            Err(refusal) => Ok(refusal),
+        },
+        Task::Migrate => match table_in(alloc, input)? {
+            Ok((table, separation)) => Ok(Answer::Table(table, separation)),
+            Err(refusal) => Ok(refusal),
+        },
     }
 }
 
-// The report of a task for so many identifiers on a program text.
-fn program_report<T: Threads + Wait + Sync>(
-    rt: &T,
-    alloc: Global,
-    task: Task,
-    ids: u32,
-    input: &[u8],
-) -> Result<Answer, EngineFault>
-    requires ids { ids_of task ≡ Some ids }
-    requires runnable { IsRunnable task }
-    ensures report { IfOk result (λ r. IsProgramReport task ids input.now (report_in r)) }
-    ensures fault { IfErr result IsTaskFault }
+// The plan of the program text for so many identifiers, or the report of what is refused.
+fn accepted(alloc: Global, input: &[u8], ids: u32) -> Result<Result<Plan, Answer>, EngineFault>
+    ensures plan { IfOk result (λ told. IfOk told (λ plan. (plan.ids ≡ ids) × Reads input.now plan.program × IsAccepted ids plan.program)) }
+    ensures refusal { IfOk result (λ told. IfErr told (λ r. IsProgramRefusal ids input.now (report_in r))) }
+    ensures fault { IfErr result (λ fault. fault ≡ EngineFault.Memory) }
 {
     match parse(alloc, input) {
         Ok(program) => match accept(program, ids) {
-            Ok(plan) => answer_of(rt, alloc, task, &plan),
-            Err((_program, fault)) => Ok(Answer::Text(
+            Ok(plan) => Ok(Ok(plan)),
+            Err((_program, fault)) => Ok(Err(Answer::Text(
                 check_fault_line(alloc, fault)?,
                 Status::Refused,
-            )),
+            ))),
         },
         Err(
             TextFault {
@@ -63,6 +102,19 @@ fn program_report<T: Threads + Wait + Sync>(
                 offset: _,
             },
         ) => Err(EngineFault::Memory),
-        Err(fault) => Ok(Answer::Text(text_fault_line(alloc, fault)?, Status::Refused)),
+        Err(fault) => Ok(Err(Answer::Text(text_fault_line(alloc, fault)?, Status::Refused))),
+    }
+}
+
+// The table and the separation of the table text, or the report of what is refused.
+fn table_in(alloc: Global, input: &[u8]) -> Result<Result<(Table, Separation), Answer>, EngineFault>
+    ensures table { IfOk result (λ told. IfOk told (λ read. IsTextOf input.now read.0 read.1)) }
+    ensures refusal { IfOk result (λ told. IfErr told (λ r. IsTableRefusal input.now (report_in r))) }
+    ensures fault { IfErr result (λ fault. fault ≡ EngineFault.Memory) }
+{
+    match read_table(alloc, input) {
+        Ok((table, separation)) => Ok(Ok((table, separation))),
+        Err(TableFault::OutOfMemory) => Err(EngineFault::Memory),
+        Err(fault) => Ok(Err(Answer::Text(table_fault_line(alloc, fault)?, Status::Refused))),
     }
 }

@@ -27,12 +27,7 @@ pub(crate) fn do_table_report<R: AllocGlobal + Print + Threads + Wait + Sync>(
     rt: &R,
     workers: u32,
 ) -> Result<(), Miss> {
-    let ids = 8;
-    do_report(
-        rt,
-        Task::Table { ids, workers },
-        Task::Table { ids, workers },
-    )
+    do_report(rt, table_task(workers), table_task(workers))
 }
 
 /// `numbers_line`: the line of four numbers.
@@ -67,6 +62,16 @@ fn do_report<R: AllocGlobal + Print + Threads + Wait + Sync>(
         }
     };
     tell_status(rt, status)
+}
+
+// The task of the table for eight identifiers by so many workers.
+fn table_task(workers: u32) -> Task {
+    Task::Table {
+        ids: 8,
+        workers,
+        near: 1,
+        far: 0,
+    }
 }
 
 // The task of a run on four places.

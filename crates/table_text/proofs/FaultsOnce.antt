@@ -2,8 +2,10 @@
 use Rattle.std.proofs.Common.{◌≡◌, ◌≢◌, ◌⊎◌, inl, inr, ℕ, ◌+◌, ◌*◌, ◌<◌, ◌≤◌, List, [], length, drop, refl, sym, ap, subst, ◌∙◌, arith}
 use Rattle.std.proofs.lemmas.Bool.{cases_order}
 use Rattle.win_index.specs.Laws.{NumberOfWindow, WindowsHaveNumbers}
-use Rattle.table_fill.specs.Tables.{ChannelTable, IsBegun, IsTable, windows_of}
-use Rattle.table_text.specs.TableText.{title_then, end_then, lines_then, table_text}
+use Rattle.table_fill.specs.Tables.{ChannelTable, IsBegun, windows_of}
+use Rattle.table_text.specs.declared.version.Version.{Version}
+use Rattle.table_text.specs.TableText.{Written, title_then, end_then, lines_then, text_of}
+use Rattle.table_text.specs.Texts.{IsBegunText, IsWritten}
 use Rattle.table_text.specs.LineForms.{HasTitle, HasSizes, IsEntry, HasEntry, HasEnd}
 use Rattle.table_text.specs.Faults.{IsWithin, IsMalformed, no_title, no_sizes, no_entry, no_end, bytes_after, IsNextWindow, IsFault}
 use Rattle.table_text.specs.Laws.{OneTableFault, TableTextsAreShort, TableTextsAreRead}
@@ -11,7 +13,7 @@ use Rattle.table_text.specs.declared.limits.TheConstants.{LONGEST_TABLE_TEXT}
 use Rattle.table_text.specs.declared.fault.TableFault.{TableFault}
 use Rattle.table_text.specs.declared.fault.TableFault.TheVariants.{Syntax, WrongWindow, ChannelTooLarge, OutOfMemory}
 use Rattle.table_text.proofs.Headers.{title_once}
-use Rattle.table_text.proofs.TablesOnce.{HasLine, entry_once, sizes_of, lines_once, lines_next, tables_once, table_next, line_entry}
+use Rattle.table_text.proofs.TablesOnce.{HasLine, begun_of, entry_once, sizes_of, lines_once, lines_next, tables_once, table_next, line_entry}
 
 -- the fault is one of form, at the offset of the rest
 abbrev IsAt : List ℕ → List ℕ → TableFault → Type 0
@@ -36,9 +38,9 @@ data IsBadEnd (text rest : List ℕ) (f : TableFault) : Type 0 where
 -- where a text that is not too long stops to be the text of a table
 data Stops (text : List ℕ) (f : TableFault) : Type 0 where
   at_title : (¬ HasTitle text) → IsAt text text f → Stops text f
-  at_sizes : (rest : List ℕ) → text ≡ title_then rest → (¬ HasSizes rest) → IsAt text rest f → Stops text f
-  at_entry : (t : ChannelTable) (rest : List ℕ) → IsWithin text t rest → IsBadNext text t rest f → Stops text f
-  at_end : (t : ChannelTable) (rest : List ℕ) → IsTable t → text ≡ lines_then t rest → IsBadEnd text rest f → Stops text f
+  at_sizes : (version : Version) (rest : List ℕ) → text ≡ title_then version rest → (¬ HasSizes version rest) → IsAt text rest f → Stops text f
+  at_entry : (w : Written) (rest : List ℕ) → IsWithin text w rest → IsBadNext text w.table rest f → Stops text f
+  at_end : (w : Written) (rest : List ℕ) → IsWritten w → text ≡ lines_then w rest → IsBadEnd text rest f → Stops text f
 
 at_once : (text rest : List ℕ) (f g : TableFault) → IsAt text rest f → IsAt text rest g → f ≡ g
 at_once text rest (Syntax m) (Syntax n) p q = ap Syntax (omega (arith, p, q))
@@ -86,22 +88,25 @@ bad_end_once text rest f g (more_bytes more is some at) (more_bytes more' is' so
     at_once text more f g at (subst (λ l. IsAt text l g) (ap (drop 4) (sym is' ∙ is)) at')
 
 -- the lines of a begun table begin with both of the first lines
-lines_title : (text : List ℕ) (t : ChannelTable) (rest : List ℕ) → text ≡ lines_then t rest → HasTitle text
+lines_title : (text : List ℕ) (w : Written) (rest : List ℕ) → text ≡ lines_then w rest → HasTitle text
 unfolding lines_then
-lines_title text t rest same = (_, same)
+lines_title text w rest same = (w.version, _, same)
 
-lines_sizes : (text second : List ℕ) (t : ChannelTable) (rest : List ℕ) → IsBegun t → text ≡ title_then second → text ≡ lines_then t rest → HasSizes second
+lines_sizes : (text : List ℕ) (version : Version) (second : List ℕ) (w : Written) (rest : List ℕ) → IsBegunText w → text ≡ title_then version second
+    → text ≡ lines_then w rest → HasSizes version second
 unfolding lines_then
-lines_sizes text second t rest begun title same =
-    (t.rounds, t.ids, t.channels, _, sizes_of t begun, title_once second _ (sym title ∙ same))
+lines_sizes text version second w rest begun title same =
+    let t = w.table in
+    let one = title_once version w.version second _ (sym title ∙ same) in
+    subst (λ v. HasSizes v second) (sym one.0) (t.rounds, t.ids, t.channels, w.separation, _, sizes_of t begun.begun, begun.told, one.1)
 
 -- a line without its form
 malformed_stops : (text rest : List ℕ) (f : TableFault) → IsMalformed text rest → IsAt text rest f → Stops text f
 malformed_stops text rest f (no_title same none) at = at_title (subst (λ l. ¬ HasTitle l) same none) (subst (λ l. IsAt text l f) same at)
-malformed_stops text rest f (no_sizes title none) at = at_sizes rest title none at
-malformed_stops text rest f (no_entry t within none) at = at_entry t rest within (no_form none at)
-malformed_stops text rest f (no_end t table same none) at = at_end t rest table same (no_last_line none at)
-malformed_stops text rest f (bytes_after t table same some) at = at_end t (end_then rest) table same (more_bytes rest refl some at)
+malformed_stops text rest f (no_sizes version title none) at = at_sizes version rest title none at
+malformed_stops text rest f (no_entry w within none) at = at_entry w rest within (no_form none at)
+malformed_stops text rest f (no_end w is same none) at = at_end w rest is same (no_last_line none at)
+malformed_stops text rest f (bytes_after w is same some) at = at_end w (end_then rest) is same (more_bytes rest refl some at)
 
 -- a text within the limit stops where its fault is
 fault_stops : (text : List ℕ) (f : TableFault) → f ≢ OutOfMemory → length text ≤ LONGEST_TABLE_TEXT → IsFault text f → Stops text f
@@ -116,55 +121,61 @@ fault_stops text (ChannelTooLarge line) some short fault =
 fault_stops text OutOfMemory some short fault = absurd (some refl)
 
 -- a text stops at one place where the lines of two begun tables begin it
-entries_stop : NumberOfWindow → WindowsHaveNumbers → (text : List ℕ) (t u : ChannelTable) (x y : List ℕ) (f g : TableFault) → IsWithin text t x
-    → IsWithin text u y → IsBadNext text t x f → IsBadNext text u y g → (length t.entries ≡ length u.entries) ⊎ ((length t.entries < length u.entries) ⊎ (length u.entries < length t.entries))
+entries_stop : NumberOfWindow → WindowsHaveNumbers → (text : List ℕ) (v w : Written) (x y : List ℕ) (f g : TableFault) → IsWithin text v x
+    → IsWithin text w y → IsBadNext text v.table x f → IsBadNext text w.table y g
+    → (length v.table.entries ≡ length w.table.entries) ⊎ ((length v.table.entries < length w.table.entries) ⊎ (length w.table.entries < length v.table.entries))
     → f ≡ g
-entries_stop number have text t u x y f g p q bad bad' (inl size) =
-    let one = lines_once t u x y p.begun q.begun (sym p.before ∙ q.before) size in
-    let moved = subst (λ l. IsBadNext text t l g) (sym one.1) (subst (λ v. IsBadNext text v y g) (sym one.0) bad') in
-    bad_next_once text t x f g bad moved
-entries_stop number have text t u x y f g p q bad bad' (inr (inl less)) =
-    absurd (no_bad_next number have text t x f p.begun (lines_next t u x y p.begun q.begun (sym p.before ∙ q.before) less) bad)
-entries_stop number have text t u x y f g p q bad bad' (inr (inr more)) =
-    absurd (no_bad_next number have text u y g q.begun (lines_next u t y x q.begun p.begun (sym q.before ∙ p.before) more) bad')
+entries_stop number have text v w x y f g p q bad bad' (inl size) =
+    let one = lines_once v w x y p.begun q.begun (sym p.before ∙ q.before) size in
+    let moved = subst (λ l. IsBadNext text v.table l g) (sym one.1) (subst (λ u. IsBadNext text u.table y g) (sym one.0) bad') in
+    bad_next_once text v.table x f g bad moved
+entries_stop number have text v w x y f g p q bad bad' (inr (inl less)) =
+    absurd (no_bad_next number have text v.table x f p.begun.begun (lines_next v w x y p.begun q.begun (sym p.before ∙ q.before) less) bad)
+entries_stop number have text v w x y f g p q bad bad' (inr (inr more)) =
+    absurd (no_bad_next number have text w.table y g q.begun.begun (lines_next w v y x q.begun p.begun (sym q.before ∙ p.before) more) bad')
 
 -- a text does not stop within the lines of a table
-within_table : NumberOfWindow → WindowsHaveNumbers → (text : List ℕ) (t u : ChannelTable) (x y : List ℕ) (f : TableFault) → IsWithin text t x
-    → IsBadNext text t x f → IsTable u → text ≡ lines_then u y → ⊥
-within_table number have text t u x y f p bad table same =
-    no_bad_next number have text t x f p.begun (table_next t u x y p.begun table (sym p.before ∙ same) p.more) bad
+within_table : NumberOfWindow → WindowsHaveNumbers → (text : List ℕ) (v w : Written) (x y : List ℕ) (f : TableFault) → IsWithin text v x
+    → IsBadNext text v.table x f → IsWritten w → text ≡ lines_then w y → ⊥
+within_table number have text v w x y f p bad is same =
+    no_bad_next number have text v.table x f p.begun.begun (table_next v w x y p.begun is (sym p.before ∙ same) p.more) bad
 
-ends_once : (text : List ℕ) (t u : ChannelTable) (x y : List ℕ) (f g : TableFault) → IsTable t → IsTable u → text ≡ lines_then t x → text ≡ lines_then u y
+ends_once : (text : List ℕ) (v w : Written) (x y : List ℕ) (f g : TableFault) → IsWritten v → IsWritten w → text ≡ lines_then v x → text ≡ lines_then w y
     → IsBadEnd text x f → IsBadEnd text y g → f ≡ g
-ends_once text t u x y f g p q same same' bad bad' =
-    let one = tables_once t u x y p q (sym same ∙ same') in
+ends_once text v w x y f g p q same same' bad bad' =
+    let one = tables_once v w x y p q (sym same ∙ same') in
     bad_end_once text x f g bad (subst (λ l. IsBadEnd text l g) (sym one.1) bad')
+
+-- a text stops at its second line in one way
+sizes_stop : (text : List ℕ) (v w : Version) (x y : List ℕ) (f g : TableFault) → text ≡ title_then v x → text ≡ title_then w y → IsAt text x f → IsAt text y g
+    → f ≡ g
+sizes_stop text v w x y f g title title' at at' =
+    at_once text x f g at (subst (λ l. IsAt text l g) (sym (title_once v w x y (sym title ∙ title')).1) at')
 
 stops_once : NumberOfWindow → WindowsHaveNumbers → (text : List ℕ) (f g : TableFault) → Stops text f → Stops text g → f ≡ g
 stops_once number have text f g (at_title none at) (at_title none' at') = at_once text text f g at at'
-stops_once number have text f g (at_title none at) (at_sizes rest title none' at') = absurd (none (rest, title))
-stops_once number have text f g (at_title none at) (at_entry t rest within bad) = absurd (none (lines_title text t rest within.before))
-stops_once number have text f g (at_title none at) (at_end t rest table same bad) = absurd (none (lines_title text t rest same))
-stops_once number have text f g (at_sizes rest title none at) (at_title none' at') = absurd (none' (rest, title))
-stops_once number have text f g (at_sizes rest title none at) (at_sizes rest' title' none' at') =
-    at_once text rest f g at (subst (λ l. IsAt text l g) (title_once rest' rest (sym title' ∙ title)) at')
-stops_once number have text f g (at_sizes second title none at) (at_entry t rest within bad) =
-    absurd (none (lines_sizes text second t rest within.begun title within.before))
-stops_once number have text f g (at_sizes second title none at) (at_end t rest table same bad) =
-    absurd (none (lines_sizes text second t rest table.begun title same))
-stops_once number have text f g (at_entry t rest within bad) (at_title none at) = absurd (none (lines_title text t rest within.before))
-stops_once number have text f g (at_entry t rest within bad) (at_sizes second title none at) =
-    absurd (none (lines_sizes text second t rest within.begun title within.before))
-stops_once number have text f g (at_entry t x within bad) (at_entry u y within' bad') =
-    entries_stop number have text t u x y f g within within' bad bad' (cases_order (length t.entries) (length u.entries))
-stops_once number have text f g (at_entry t x within bad) (at_end u y table same bad') =
-    absurd (within_table number have text t u x y f within bad table same)
-stops_once number have text f g (at_end t rest table same bad) (at_title none at) = absurd (none (lines_title text t rest same))
-stops_once number have text f g (at_end t rest table same bad) (at_sizes second title none at) =
-    absurd (none (lines_sizes text second t rest table.begun title same))
-stops_once number have text f g (at_end u y table same bad') (at_entry t x within bad) =
-    absurd (within_table number have text t u x y g within bad table same)
-stops_once number have text f g (at_end t x table same bad) (at_end u y table' same' bad') = ends_once text t u x y f g table table' same same' bad bad'
+stops_once number have text f g (at_title none at) (at_sizes version rest title none' at') = absurd (none (version, rest, title))
+stops_once number have text f g (at_title none at) (at_entry w rest within bad) = absurd (none (lines_title text w rest within.before))
+stops_once number have text f g (at_title none at) (at_end w rest is same bad) = absurd (none (lines_title text w rest same))
+stops_once number have text f g (at_sizes version rest title none at) (at_title none' at') = absurd (none' (version, rest, title))
+stops_once number have text f g (at_sizes v x title none at) (at_sizes w y title' none' at') = sizes_stop text v w x y f g title title' at at'
+stops_once number have text f g (at_sizes version second title none at) (at_entry w rest within bad) =
+    absurd (none (lines_sizes text version second w rest within.begun title within.before))
+stops_once number have text f g (at_sizes version second title none at) (at_end w rest is same bad) =
+    absurd (none (lines_sizes text version second w rest (begun_of w is) title same))
+stops_once number have text f g (at_entry w rest within bad) (at_title none at) = absurd (none (lines_title text w rest within.before))
+stops_once number have text f g (at_entry w rest within bad) (at_sizes version second title none at) =
+    absurd (none (lines_sizes text version second w rest within.begun title within.before))
+stops_once number have text f g (at_entry v x within bad) (at_entry w y within' bad') =
+    entries_stop number have text v w x y f g within within' bad bad' (cases_order (length v.table.entries) (length w.table.entries))
+stops_once number have text f g (at_entry v x within bad) (at_end w y is same bad') =
+    absurd (within_table number have text v w x y f within bad is same)
+stops_once number have text f g (at_end w rest is same bad) (at_title none at) = absurd (none (lines_title text w rest same))
+stops_once number have text f g (at_end w rest is same bad) (at_sizes version second title none at) =
+    absurd (none (lines_sizes text version second w rest (begun_of w is) title same))
+stops_once number have text f g (at_end w y is same bad') (at_entry v x within bad) =
+    absurd (within_table number have text v w x y g within bad is same)
+stops_once number have text f g (at_end v x is same bad) (at_end w y is' same' bad') = ends_once text v w x y f g is is' same same' bad bad'
 
 -- the last line of a table is not wrong
 good_end : (text rest : List ℕ) (f : TableFault) → rest ≡ end_then [] → IsBadEnd text rest f → ⊥
@@ -172,13 +183,14 @@ good_end text rest f is (no_last_line none at) = none ([], is)
 good_end text rest f is (more_bytes more is' some at) = some (ap (drop 4) (sym is' ∙ is))
 
 -- the text of a table does not stop
-never_stops : NumberOfWindow → WindowsHaveNumbers → (text : List ℕ) (u : ChannelTable) (f : TableFault) → IsTable u → text ≡ lines_then u (end_then [])
+never_stops : NumberOfWindow → WindowsHaveNumbers → (text : List ℕ) (w : Written) (f : TableFault) → IsWritten w → text ≡ lines_then w (end_then [])
     → Stops text f → ⊥
-never_stops number have text u f table same (at_title none at) = none (lines_title text u (end_then []) same)
-never_stops number have text u f table same (at_sizes second title none at) = none (lines_sizes text second u (end_then []) table.begun title same)
-never_stops number have text u f table same (at_entry t x within bad) = within_table number have text t u x (end_then []) f within bad table same
-never_stops number have text u f table same (at_end t x table' same' bad) =
-    good_end text x f (tables_once t u x (end_then []) table' table (sym same' ∙ same)).1 bad
+never_stops number have text w f is same (at_title none at) = none (lines_title text w (end_then []) same)
+never_stops number have text w f is same (at_sizes version second title none at) =
+    none (lines_sizes text version second w (end_then []) (begun_of w is) title same)
+never_stops number have text w f is same (at_entry v x within bad) = within_table number have text v w x (end_then []) f within bad is same
+never_stops number have text w f is same (at_end v x is' same' bad) =
+    good_end text x f (tables_once v w x (end_then []) is' is (sym same' ∙ same)).1 bad
 
 -- the fault of the length, or one within it
 fault_cases : (text : List ℕ) (f : TableFault) → IsFault text f
@@ -210,10 +222,10 @@ memory_or_not (ChannelTooLarge line) = inr (λ same. cc)
 memory_or_not OutOfMemory = inl refl
 
 pub texts_read : NumberOfWindow → WindowsHaveNumbers → TableTextsAreShort → TableTextsAreRead
-unfolding table_text
-texts_read number have short t f table fault =
+unfolding text_of
+texts_read number have short w f is fault =
     elim (memory_or_not f) [
       | inl same ↦ same
       | inr some ↦
-          absurd (never_stops number have (table_text t) t f table refl (fault_stops (table_text t) f some (short t table) fault))
+          absurd (never_stops number have (text_of w) w f is refl (fault_stops (text_of w) f some (short w is) fault))
     ]

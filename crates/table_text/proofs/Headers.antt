@@ -1,10 +1,13 @@
 -- Numbers after their names, and the first two lines of a table text.
-use Rattle.std.proofs.Common.{◌≡◌, ℕ, ◌^◌, ◌<◌, List, [], ◌∷◌, ◌++◌, sym, ◌∙◌, arith}
+use Rattle.std.proofs.Common.{◌≡◌, ℕ, ◌^◌, ◌<◌, List, [], ◌∷◌, ◌++◌, get_or, refl, sym, ap, ◌∙◌, arith}
 use Rattle.std.specs.Prelude.{codes}
 use Rattle.std.specs.Fmt.{decimal}
 use Rattle.std.proofs.lemmas.List.{append_cancel_left}
-use Rattle.table_text.specs.TableText.{title_then, sizes_then}
-use Rattle.table_text.specs.LineForms.{AreSizes, HasSizes}
+use Rattle.nbhd_check.specs.declared.separation.Separation.{Separation}
+use Rattle.table_text.specs.declared.version.Version.{Version}
+use Rattle.table_text.specs.declared.version.Version.TheVariants.{One, Two}
+use Rattle.table_text.specs.TableText.{title_then, counts_then, counts_end, distances_then, sizes_then}
+use Rattle.table_text.specs.LineForms.{AreSizes, IsTold, HasSizes}
 use Rattle.table_text.proofs.NumberTexts.{number_once}
 
 -- what follows a name is one number
@@ -38,25 +41,76 @@ pub after_ids : (ids other : ℕ) (x y : List ℕ) → ids < 2 ^ 32 → other < 
 after_ids ids other x y p q same = field_once (codes "ids ") 32 ids other x y (omega arith) p q same
 
 -- what follows the third one
-pub after_channels : (channels other : ℕ) (x y : List ℕ) → channels < 2 ^ 32 → other < 2 ^ 32
-    → codes "channels " ++ (decimal channels ++ 10 ∷ x) ≡ codes "channels " ++ (decimal other ++ 10 ∷ y) → (channels ≡ other) × (x ≡ y)
-after_channels channels other x y p q same = field_once (codes "channels ") 10 channels other x y (omega arith) p q same
+pub after_channels : (end channels other : ℕ) (x y : List ℕ) → end < 48 → channels < 2 ^ 32 → other < 2 ^ 32
+    → codes "channels " ++ (decimal channels ++ end ∷ x) ≡ codes "channels " ++ (decimal other ++ end ∷ y) → (channels ≡ other) × (x ≡ y)
+after_channels end channels other x y small p q same = field_once (codes "channels ") end channels other x y small p q same
 
--- the second line has one rounds number, one number of identifiers and one of channels
-pub sizes_once : (r i k s j l : ℕ) (x y : List ℕ) → Fit r i k → Fit s j l → sizes_then r i k x ≡ sizes_then s j l y
+-- the second line begins with one number of rounds, one of identifiers and one of channels
+pub counts_once : (end r i k s j l : ℕ) (x y : List ℕ) → end < 48 → Fit r i k → Fit s j l → counts_then r i k end x ≡ counts_then s j l end y
     → (r ≡ s) × (i ≡ j) × (k ≡ l) × (x ≡ y)
-sizes_once r i k s j l x y p q same =
+counts_once end r i k s j l x y small p q same =
     let rounds = after_rounds r s _ _ p.rounds_fit q.rounds_fit same in
     let ids = after_ids i j _ _ p.ids_fit q.ids_fit rounds.1 in
-    let channels = after_channels k l x y p.channels_fit q.channels_fit ids.1 in
+    let channels = after_channels end k l x y small p.channels_fit q.channels_fit ids.1 in
     (rounds.0, ids.0, channels.0, channels.1)
 
--- where the second line is one of sizes, its numbers are those
-pub sizes_are : (text : List ℕ) (r i k : ℕ) (rest : List ℕ) → Fit r i k → text ≡ sizes_then r i k rest → HasSizes text → AreSizes r i k
-sizes_are text r i k rest fit same has =
-    let one = sizes_once r i k has.0 has.1 has.2 rest has.3 fit (sizes_fit has.0 has.1 has.2 has.4) (sym same ∙ has.5) in
-    rw (one.0, one.1, one.2) has.4
+pub counts_end_small : (version : Version) → counts_end version < 48
+counts_end_small One = omega arith
+counts_end_small Two = omega arith
 
--- the first line ends at one place
-pub title_once : (x y : List ℕ) → title_then x ≡ title_then y → x ≡ y
-title_once x y same = append_cancel_left (codes "nbhd-table 1" ++ 10 ∷ []) x y same
+-- what follows near
+pub after_near : (near other : ℕ) (x y : List ℕ) → near < 2 ^ 32 → other < 2 ^ 32
+    → codes "near " ++ (decimal near ++ 32 ∷ x) ≡ codes "near " ++ (decimal other ++ 32 ∷ y) → (near ≡ other) × (x ≡ y)
+after_near near other x y p q same = field_once (codes "near ") 32 near other x y (omega arith) p q same
+
+-- what follows far
+pub after_far : (far other : ℕ) (x y : List ℕ) → far < 2 ^ 32 → other < 2 ^ 32
+    → codes "far " ++ (decimal far ++ 10 ∷ x) ≡ codes "far " ++ (decimal other ++ 10 ∷ y) → (far ≡ other) × (x ≡ y)
+after_far far other x y p q same = field_once (codes "far ") 10 far other x y (omega arith) p q same
+
+-- two distances that stand in one text are the same
+pub two_once : (near far near' far' : ℕ) (x y : List ℕ) → near < 2 ^ 32 → far < 2 ^ 32 → near' < 2 ^ 32 → far' < 2 ^ 32
+    → distances_then Two (record { near = near; far = far }) x ≡ distances_then Two (record { near = near'; far = far' }) y
+    → (near ≡ near') × (far ≡ far') × (x ≡ y)
+two_once near far near' far' x y p q p' q' same =
+    let first = after_near near near' _ _ p p' same in
+    let second = after_far far far' x y q q' first.1 in
+    (first.0, second.0, second.1)
+
+-- a text of one version tells one separation
+pub distances_once : (version : Version) (s u : Separation) (x y : List ℕ) → IsTold version s → IsTold version u
+    → distances_then version s x ≡ distances_then version u y → (s ≡ u) × (x ≡ y)
+distances_once One s u x y p q same = (p ∙ sym q, same)
+distances_once Two s u x y p q same =
+    let one = two_once s.near s.far u.near u.far x y (omega (arith, p.small_near)) (omega (arith, p.small_far)) (omega (arith, q.small_near))
+    (omega (arith, q.small_far)) same in
+    (λ i. record { near = one.0 i; far = one.1 i }, one.2)
+
+-- where the second line is one of sizes, its first numbers are those of a table, and what follows them tells a separation
+pub sizes_are : (version : Version) (text : List ℕ) (r i k : ℕ) (rest : List ℕ) → Fit r i k → text ≡ counts_then r i k (counts_end version) rest
+    → HasSizes version text → AreSizes r i k × (s : Separation) × (after : List ℕ) × IsTold version s × (rest ≡ distances_then version s after)
+sizes_are version text r i k rest fit same has =
+    let one = counts_once (counts_end version) r i k has.0 has.1 has.2 rest _ (counts_end_small version) fit (sizes_fit has.0 has.1 has.2 has.5)
+    (sym same ∙ has.7) in
+    (rw (one.0, one.1, one.2) has.5, has.3, has.4, has.6, one.3)
+
+-- the second line says one thing
+pub sizes_once : (version : Version) (r i k r' i' k' : ℕ) (s s' : Separation) (x y : List ℕ) → Fit r i k → Fit r' i' k' → IsTold version s → IsTold version s'
+    → sizes_then version r i k s x ≡ sizes_then version r' i' k' s' y → (r ≡ r') × (i ≡ i') × (k ≡ k') × (s ≡ s') × (x ≡ y)
+sizes_once version r i k r' i' k' s s' x y p q told told' same =
+    let one = counts_once (counts_end version) r i k r' i' k' _ _ (counts_end_small version) p q same in
+    let more = distances_once version s s' x y told told' one.3 in
+    (one.0, one.1, one.2, more.0, more.1)
+
+-- the byte at place 11 of a title is the digit of its version
+digits_differ : (x y : List ℕ) → title_then One x ≡ title_then Two y → ⊥
+digits_differ x y same =
+    let digit : 49 ≡ 50 = ap (λ l. get_or l 11 0) same in
+    omega (arith, digit)
+
+-- the first line names one version, and ends at one place
+pub title_once : (v w : Version) (x y : List ℕ) → title_then v x ≡ title_then w y → (v ≡ w) × (x ≡ y)
+title_once One One x y same = (refl, append_cancel_left (codes "nbhd-table 1" ++ 10 ∷ []) x y same)
+title_once One Two x y same = absurd (digits_differ x y same)
+title_once Two One x y same = absurd (digits_differ y x (sym same))
+title_once Two Two x y same = (refl, append_cancel_left (codes "nbhd-table 2" ++ 10 ∷ []) x y same)

@@ -1,10 +1,13 @@
 -- The lines of a begun table, and one line more.
-use Rattle.std.proofs.Common.{◌≡◌, ℕ, ◌<◌, ◌≤◌, List, [], ◌∷◌, ◌++◌, Some, length, slice_get, sym, ap, ◌∙◌, arith, length-append}
+use Rattle.std.proofs.Common.{◌≡◌, ℕ, ◌<◌, ◌≤◌, List, [], ◌∷◌, ◌++◌, Some, length, slice_get, ◌+◌, sym, ap, ◌∙◌, arith, length-append}
 use Rattle.std.specs.Prelude.{codes}
 use Rattle.std.specs.Fmt.{decimal}
 use Rattle.std.proofs.lemmas.List.Elements.{All-push}
 use Rattle.table_fill.specs.Tables.{ChannelTable, IsBegun, windows_of}
-use Rattle.table_text.specs.TableText.{title_then, sizes_then, ids_then, entry_then, entries_then, end_then, lines_then}
+use Rattle.nbhd_check.specs.declared.separation.Separation.{Separation}
+use Rattle.table_text.specs.declared.version.Version.{Version}
+use Rattle.table_text.specs.declared.version.Version.TheVariants.{One, Two}
+use Rattle.table_text.specs.TableText.{Written, written, title_then, counts_then, counts_end, distances_then, sizes_then, ids_then, entry_then, entries_then, end_then, head_then, lines_then}
 use Rattle.table_text.specs.Faults.{IsMalformed, no_title, no_sizes, no_entry, no_end, bytes_after}
 
 -- a table with one entry more
@@ -19,13 +22,13 @@ entries_more [] channels window channel rest next = absurd (cc)
 entries_more (w ∷ windows) [] window channel rest next = ap (λ x. entry_then x channel rest) (cc)
 entries_more (w ∷ windows) (c ∷ channels) window channel rest next = ap (entry_then w c) (entries_more windows channels window channel rest next)
 
-pub lines_more : (t : ChannelTable) (text here window : List ℕ) (channel : ℕ) (rest : List ℕ)
-    → text ≡ lines_then t here → slice_get (windows_of t) (length t.entries) ≡ Some window → here ≡ entry_then window channel rest
-    → text ≡ lines_then (with_entry t channel) rest
+pub lines_more : (version : Version) (t : ChannelTable) (s : Separation) (text here window : List ℕ) (channel : ℕ) (rest : List ℕ)
+    → text ≡ lines_then (written version t s) here → slice_get (windows_of t) (length t.entries) ≡ Some window → here ≡ entry_then window channel rest
+    → text ≡ lines_then (written version (with_entry t channel) s) rest
 unfolding lines_then
-lines_more t text here window channel rest read next line =
-    read ∙ ap (λ l. title_then (sizes_then t.rounds t.ids t.channels (entries_then (windows_of t) t.entries l))) line
-    ∙ ap (λ l. title_then (sizes_then t.rounds t.ids t.channels l)) (sym (entries_more (windows_of t) t.entries window channel rest next))
+lines_more version t s text here window channel rest read next line =
+    read ∙ ap (λ l. head_then (written version t s) (entries_then (windows_of t) t.entries l)) line
+    ∙ ap (λ l. head_then (written version t s) l) (sym (entries_more (windows_of t) t.entries window channel rest next))
 
 -- a begun table with one entry more
 pub begun_more : (t : ChannelTable) (channel : ℕ) → IsBegun t → length t.entries < length (windows_of t) → channel < t.channels
@@ -55,22 +58,43 @@ entries_length (w ∷ windows) (c ∷ channels) rest =
     let more = entries_then windows channels rest in
     omega (arith, entries_length windows channels rest, field_length (codes ": ") c 10 more, ids_length w (codes ": " ++ (decimal c ++ 10 ∷ more)))
 
-sizes_length : (rounds ids channels : ℕ) (rest : List ℕ) → length rest ≤ length (sizes_then rounds ids channels rest)
-sizes_length rounds ids channels rest =
-    let third = codes "channels " ++ (decimal channels ++ 10 ∷ rest) in
+counts_length : (rounds ids channels end : ℕ) (rest : List ℕ) → length rest ≤ length (counts_then rounds ids channels end rest)
+counts_length rounds ids channels end rest =
+    let third = codes "channels " ++ (decimal channels ++ end ∷ rest) in
     let second = codes "ids " ++ (decimal ids ++ 32 ∷ third) in
-    omega (arith, field_length (codes "channels ") channels 10 rest, field_length (codes "ids ") ids 32 third, field_length (codes "rounds ") rounds 32 second)
+    omega (arith, field_length (codes "channels ") channels end rest, field_length (codes "ids ") ids 32 third, field_length (codes "rounds ") rounds 32 second)
 
-lines_length : (t : ChannelTable) (rest : List ℕ) → length rest ≤ length (lines_then t rest)
+distances_length : (version : Version) (s : Separation) (rest : List ℕ) → length rest ≤ length (distances_then version s rest)
+distances_length One s rest = omega arith
+distances_length Two s rest =
+    let second = codes "far " ++ (decimal s.far ++ 10 ∷ rest) in
+    omega (arith, field_length (codes "far ") s.far 10 rest, field_length (codes "near ") s.near 32 second)
+
+sizes_length : (version : Version) (rounds ids channels : ℕ) (s : Separation) (rest : List ℕ)
+    → length rest ≤ length (sizes_then version rounds ids channels s rest)
+sizes_length version rounds ids channels s rest =
+    omega (arith, distances_length version s rest, counts_length rounds ids channels (counts_end version) (distances_then version s rest))
+
+pub title_length : (version : Version) (rest : List ℕ) → length (title_then version rest) ≡ 13 + length rest
+title_length One rest = omega arith
+title_length Two rest = omega arith
+
+lines_length : (w : Written) (rest : List ℕ) → length rest ≤ length (lines_then w rest)
 unfolding lines_then
-lines_length t rest =
+lines_length w rest =
+    let t = w.table in
     let entries = entries_then (windows_of t) t.entries rest in
-    omega (arith, entries_length (windows_of t) t.entries rest, sizes_length t.rounds t.ids t.channels entries)
+    omega (
+      arith,
+      entries_length (windows_of t) t.entries rest,
+      sizes_length w.version t.rounds t.ids t.channels w.separation entries,
+      title_length w.version (sizes_then w.version t.rounds t.ids t.channels w.separation entries),
+    )
 
 -- the rest with which a line without its form begins is no longer than the text
 pub rest_within : (text rest : List ℕ) → IsMalformed text rest → length rest ≤ length text
 rest_within text rest (no_title same none) = omega (arith, ap length same)
-rest_within text rest (no_sizes same none) = omega (arith, ap length same)
-rest_within text rest (no_entry t within none) = omega (arith, ap length within.before, lines_length t rest)
-rest_within text rest (no_end t table same none) = omega (arith, ap length same, lines_length t rest)
-rest_within text rest (bytes_after t table same more) = omega (arith, ap length same, lines_length t (end_then rest))
+rest_within text rest (no_sizes version same none) = omega (arith, ap length same, title_length version rest)
+rest_within text rest (no_entry w within none) = omega (arith, ap length within.before, lines_length w rest)
+rest_within text rest (no_end w is same none) = omega (arith, ap length same, lines_length w rest)
+rest_within text rest (bytes_after w is same more) = omega (arith, ap length same, lines_length w (end_then rest))

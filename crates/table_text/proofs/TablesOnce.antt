@@ -6,9 +6,12 @@ use Rattle.std.proofs.lemmas.List.{append_cancel_left}
 use Rattle.std.proofs.lemmas.List.Elements.{All-head, All-tail}
 use Rattle.win_index.specs.Windows.{windows, IsWindow}
 use Rattle.win_index.specs.Laws.{NumberOfWindow, WindowsHaveNumbers}
-use Rattle.table_fill.specs.Tables.{ChannelTable, IsBegun, IsTable, windows_of}
-use Rattle.table_text.specs.TableText.{ids_then, entry_then, entries_then, lines_then}
-use Rattle.table_text.specs.LineForms.{AreSizes, IsEntry}
+use Rattle.table_fill.specs.Tables.{ChannelTable, IsBegun, windows_of}
+use Rattle.nbhd_check.specs.declared.separation.Separation.{Separation}
+use Rattle.table_text.specs.declared.version.Version.{Version}
+use Rattle.table_text.specs.TableText.{Written, ids_then, entry_then, entries_then, sizes_then, lines_then}
+use Rattle.table_text.specs.LineForms.{AreSizes, IsTold, IsEntry}
+use Rattle.table_text.specs.Texts.{IsBegunText, IsWritten}
 use Rattle.table_text.proofs.IdTexts.{Fits32, ids_once}
 use Rattle.table_text.proofs.Headers.{field_once, sizes_fit, sizes_once, title_once}
 
@@ -91,56 +94,85 @@ sizes_of t begun =
       few_channels = begun.few_channels;
     }
 
--- two begun tables whose lines begin one text have the same numbers
-header_once : (t u : ChannelTable) (x y : List ℕ) → IsBegun t → IsBegun u → lines_then t x ≡ lines_then u y
-    → (t.rounds ≡ u.rounds) × (t.ids ≡ u.ids) × (t.channels ≡ u.channels)
-    × (entries_then (windows_of t) t.entries x ≡ entries_then (windows_of u) u.entries y)
+-- a table is a begun one
+pub begun_of : (w : Written) → IsWritten w → IsBegunText w
+begun_of w is = record { begun = is.table.begun; told = is.told }
+
+-- what both begin with, where the lines of two begun tables begin one text, and what follows it
+pub record HaveOneHead (v w : Written) (x y : List ℕ) : Type 0 where
+  pub version : v.version ≡ w.version
+  pub rounds : v.table.rounds ≡ w.table.rounds
+  pub ids : v.table.ids ≡ w.table.ids
+  pub channels : v.table.channels ≡ w.table.channels
+  pub separation : v.separation ≡ w.separation
+  pub entries : entries_then (windows_of v.table) v.table.entries x ≡ entries_then (windows_of w.table) w.table.entries y
+
+sizes_same : (version : Version) (t u : ChannelTable) (r s : Separation) (x y : List ℕ) → IsBegun t → IsBegun u → IsTold version r → IsTold version s
+    → sizes_then version t.rounds t.ids t.channels r x ≡ sizes_then version u.rounds u.ids u.channels s y
+    → (t.rounds ≡ u.rounds) × (t.ids ≡ u.ids) × (t.channels ≡ u.channels) × (r ≡ s) × (x ≡ y)
+sizes_same version t u r s x y p q told told' same =
+    sizes_once version t.rounds t.ids t.channels u.rounds u.ids u.channels r s x y (sizes_fit t.rounds t.ids t.channels (sizes_of t p))
+    (sizes_fit u.rounds u.ids u.channels (sizes_of u q)) told told' same
+
+pub header_once : (v w : Written) (x y : List ℕ) → IsBegunText v → IsBegunText w → lines_then v x ≡ lines_then w y → HaveOneHead v w x y
 unfolding lines_then
-header_once t u x y p q same =
-    sizes_once t.rounds t.ids t.channels u.rounds u.ids u.channels _ _ (sizes_fit t.rounds t.ids t.channels (sizes_of t p))
-    (sizes_fit u.rounds u.ids u.channels (sizes_of u q)) (title_once _ _ same)
+header_once v w x y p q same =
+    let title = title_once v.version w.version _ _ same in
+    let moved = title.1 ∙ ap (λ version. sizes_then version w.table.rounds w.table.ids w.table.channels w.separation
+    (entries_then (windows_of w.table) w.table.entries y)) (sym title.0) in
+    let told = subst (λ version. IsTold version w.separation) (sym title.0) q.told in
+    let one = sizes_same v.version v.table w.table v.separation w.separation _ _ p.begun q.begun p.told told moved in
+    record { version = title.0; rounds = one.0; ids = one.1; channels = one.2; separation = one.3; entries = one.4 }
+
+-- two begun tables whose lines begin one text have the same windows
+pub same_windows : (v w : Written) (x y : List ℕ) → HaveOneHead v w x y → windows_of v.table ≡ windows_of w.table
+same_windows v w x y head = λ i. windows (2 * head.rounds i + 1) (head.ids i)
 
 entries_fit : (t : ChannelTable) → IsBegun t → All Fits32 t.entries
 entries_fit t begun = λ i d within. omega (arith, begun.below i d within, begun.few_channels)
 
 -- with as many entries they are one table
-pub lines_once : (t u : ChannelTable) (x y : List ℕ) → IsBegun t → IsBegun u → lines_then t x ≡ lines_then u y
-    → length t.entries ≡ length u.entries → (t ≡ u) × (x ≡ y)
-lines_once t u x y p q same size =
-    let header = header_once t u x y p q same in
-    let ws : windows_of t ≡ windows_of u = λ i. windows (2 * header.0 i + 1) (header.1 i) in
-    let entries = entries_once (windows_of t) t.entries u.entries x y (entries_fit t p) (entries_fit u q) size p.size
-    (header.3 ∙ ap (λ w. entries_then w u.entries y) (sym ws)) in
-    (λ i. record { ids = header.1 i; rounds = header.0 i; channels = header.2 i; entries = entries.0 i }, entries.1)
+pub lines_once : (v w : Written) (x y : List ℕ) → IsBegunText v → IsBegunText w → lines_then v x ≡ lines_then w y
+    → length v.table.entries ≡ length w.table.entries → (v ≡ w) × (x ≡ y)
+lines_once v w x y p q same size =
+    let t = v.table in
+    let u = w.table in
+    let head = header_once v w x y p q same in
+    let ws = same_windows v w x y head in
+    let entries = entries_once (windows_of t) t.entries u.entries x y (entries_fit t p.begun) (entries_fit u q.begun) size p.begun.size
+    (head.entries ∙ ap (λ l. entries_then l u.entries y) (sym ws)) in (
+      λ i. record {
+        version = head.version i;
+        table = record { ids = head.ids i; rounds = head.rounds i; channels = head.channels i; entries = entries.0 i };
+        separation = head.separation i;
+      },
+      entries.1,
+    )
 
 -- where the second has more entries, the next line follows the lines of the first
-pub lines_next : (t u : ChannelTable) (x y : List ℕ) → IsBegun t → IsBegun u → lines_then t x ≡ lines_then u y
-    → length t.entries < length u.entries → HasLine (windows_of t) (length t.entries) t.channels x
-lines_next t u x y p q same less =
-    let header = header_once t u x y p q same in
-    let ws : windows_of t ≡ windows_of u = λ i. windows (2 * header.0 i + 1) (header.1 i) in
-    let below = subst (λ n. All (λ c. c < n) u.entries) (sym header.2) q.below in
-    entries_next (windows_of t) t.entries u.entries x y t.channels (omega (arith, p.few_channels)) p.below below less
-    (omega (arith, q.size, ap length ws)) (header.3 ∙ ap (λ w. entries_then w u.entries y) (sym ws))
-
--- two begun tables whose lines begin one text have the same windows
-pub same_windows : (t u : ChannelTable) (x y : List ℕ) → IsBegun t → IsBegun u → lines_then t x ≡ lines_then u y → windows_of t ≡ windows_of u
-same_windows t u x y p q same =
-    let header = header_once t u x y p q same in
-    λ i. windows (2 * header.0 i + 1) (header.1 i)
+pub lines_next : (v w : Written) (x y : List ℕ) → IsBegunText v → IsBegunText w → lines_then v x ≡ lines_then w y
+    → length v.table.entries < length w.table.entries → HasLine (windows_of v.table) (length v.table.entries) v.table.channels x
+lines_next v w x y p q same less =
+    let t = v.table in
+    let u = w.table in
+    let head = header_once v w x y p q same in
+    let ws = same_windows v w x y head in
+    let below = subst (λ n. All (λ c. c < n) u.entries) (sym head.channels) q.begun.below in
+    entries_next (windows_of t) t.entries u.entries x y t.channels (omega (arith, p.begun.few_channels)) p.begun.below below less
+    (omega (arith, q.begun.size, ap length ws)) (head.entries ∙ ap (λ l. entries_then l u.entries y) (sym ws))
 
 -- two tables whose lines begin one text are one
-pub tables_once : (t u : ChannelTable) (x y : List ℕ) → IsTable t → IsTable u → lines_then t x ≡ lines_then u y → (t ≡ u) × (x ≡ y)
-tables_once t u x y p q same =
-    let count = ap length (same_windows t u x y p.begun q.begun same) in
-    lines_once t u x y p.begun q.begun same (p.size ∙ count ∙ sym q.size)
+pub tables_once : (v w : Written) (x y : List ℕ) → IsWritten v → IsWritten w → lines_then v x ≡ lines_then w y → (v ≡ w) × (x ≡ y)
+tables_once v w x y p q same =
+    let count = ap length (same_windows v w x y (header_once v w x y (begun_of v p) (begun_of w q) same)) in
+    lines_once v w x y (begun_of v p) (begun_of w q) same (p.table.size ∙ count ∙ sym q.table.size)
 
 -- where the lines of a table begin a text, the next line follows those of a begun table that wants an entry more
-pub table_next : (t u : ChannelTable) (x y : List ℕ) → IsBegun t → IsTable u → lines_then t x ≡ lines_then u y
-    → length t.entries < length (windows_of t) → HasLine (windows_of t) (length t.entries) t.channels x
-table_next t u x y p q same more =
-    let count = ap length (same_windows t u x y p q.begun same) in
-    lines_next t u x y p q.begun same (omega (arith, more, count, q.size))
+pub table_next : (v w : Written) (x y : List ℕ) → IsBegunText v → IsWritten w → lines_then v x ≡ lines_then w y
+    → length v.table.entries < length (windows_of v.table) → HasLine (windows_of v.table) (length v.table.entries) v.table.channels x
+table_next v w x y p q same more =
+    let count = ap length (same_windows v w x y (header_once v w x y p (begun_of w q) same)) in
+    lines_next v w x y p (begun_of w q) same (omega (arith, more, count, q.table.size))
 
 -- the list at a place among the windows is a window
 pub window_at : NumberOfWindow → WindowsHaveNumbers → (k m n : ℕ) (window : List ℕ) → slice_get (windows k m) n ≡ Some window

@@ -12,10 +12,15 @@ use Rattle.win_index.specs.Falling.{falling}
 use Rattle.win_index.specs.Windows.{IsWindow}
 use Rattle.win_index.specs.Laws.{CountOfWindows, NumberOfWindow, WindowsHaveNumbers}
 use Rattle.table_fill.specs.Tables.{ChannelTable, IsBegun, windows_of}
-use Rattle.table_text.specs.TableText.{title_then, sizes_then, ids_then, entry_then, entries_then, end_then, lines_then, table_text}
-use Rattle.table_text.specs.LineForms.{AreSizes}
+use Rattle.nbhd_check.specs.declared.separation.Separation.{Separation}
+use Rattle.table_text.specs.declared.version.Version.{Version}
+use Rattle.table_text.specs.declared.version.Version.TheVariants.{One, Two}
+use Rattle.table_text.specs.TableText.{Written, counts_then, counts_end, distances_then, ids_then, entry_then, entries_then, end_then, head_then, lines_then, text_of}
+use Rattle.table_text.specs.LineForms.{AreSizes, IsTold}
+use Rattle.table_text.specs.Texts.{IsBegunText}
 use Rattle.table_text.specs.Laws.{TableTextsAreShort}
-use Rattle.table_text.proofs.TablesOnce.{sizes_of, window_at}
+use Rattle.table_text.proofs.TablesOnce.{begun_of, sizes_of, window_at}
+use Rattle.table_text.proofs.TableLines.{title_length}
 
 falling_le : (k m n : ℕ) → m ≤ n → falling m k ≤ falling n k
 falling_le zero m n less = omega arith
@@ -95,29 +100,69 @@ entries_short (w ∷ ws) (c ∷ cs) rest short small =
     let line = All-head IsShort w ws short c (entries_then ws cs rest) (All-head (λ n. n < 10 ^ 4) c cs small) in
     omega (arith, line, entries_short ws cs rest (All-tail IsShort w ws short) (All-tail (λ n. n < 10 ^ 4) c cs small))
 
--- the first two lines have at most 45 bytes
-pub header_short : (rounds ids channels : ℕ) (rest : List ℕ) → AreSizes rounds ids channels
-    → length (title_then (sizes_then rounds ids channels rest)) ≤ 45 + length rest
-header_short rounds ids channels rest are =
-    let third = codes "channels " ++ (decimal channels ++ 10 ∷ rest) in
+counts_short : (rounds ids channels end : ℕ) (rest : List ℕ) → AreSizes rounds ids channels
+    → length (counts_then rounds ids channels end rest) ≤ 32 + length rest
+counts_short rounds ids channels end rest are =
+    let third = codes "channels " ++ (decimal channels ++ end ∷ rest) in
     let second = codes "ids " ++ (decimal ids ++ 32 ∷ third) in
     let few_rounds = length-decimal-le 1 rounds (omega arith) (omega (arith, are.few_rounds)) (omega (arith, are.few_rounds)) in
     let few_ids = length-decimal-le 4 ids (omega arith) (omega (arith, are.shape.ids.few)) (omega (arith, are.shape.ids.few)) in
     let few_channels = length-decimal-le 4 channels (omega arith) (omega (arith, are.few_channels)) (omega (arith, are.few_channels)) in
-    omega (arith, few_rounds, few_ids, few_channels, length-append (decimal rounds) (32 ∷ second), length-append (decimal ids) (32 ∷ third), length-append (decimal channels) (10 ∷ rest))
+    omega (arith, few_rounds, few_ids, few_channels, length-append (decimal rounds) (32 ∷ second), length-append (decimal ids) (32 ∷ third), length-append (decimal channels) (end ∷ rest))
 
-lines_short : CountOfWindows → NumberOfWindow → WindowsHaveNumbers → (t : ChannelTable) (rest : List ℕ) → IsBegun t
-    → length (lines_then t rest) ≤ 45 + (most_of_line * length t.entries + length rest)
-unfolding lines_then
-lines_short count number have t rest begun =
-    let small = ids_below t.channels (10 ^ 4) t.entries (omega (arith, begun.few_channels)) begun.below in
+-- two distances of at most d digits each
+two_short : (d : ℕ) (s : Separation) (rest : List ℕ) → 0 < d → 10 ^ d < 2 ^ 64 → s.near < 10 ^ d → s.far < 10 ^ d
+    → length (distances_then Two s rest) ≤ 11 + (2 * d + length rest)
+two_short d s rest some fits near far =
+    let second = codes "far " ++ (decimal s.far ++ 10 ∷ rest) in
     omega (
       arith,
-      header_short t.rounds t.ids t.channels (entries_then (windows_of t) t.entries rest) (sizes_of t begun),
-      entries_short (windows_of t) t.entries rest (short_windows count number have t begun) small,
+      length-decimal-le d s.near some near (omega (arith, near, fits)),
+      length-decimal-le d s.far some far (omega (arith, far, fits)),
+      length-append (decimal s.near) (32 ∷ second),
+      length-append (decimal s.far) (10 ∷ rest),
+    )
+
+distances_short : (version : Version) (s : Separation) (rest : List ℕ) → IsTold version s → length (distances_then version s rest) ≤ 19 + length rest
+distances_short One s rest told = omega arith
+distances_short Two s rest told =
+    let short = two_short 4 s rest (omega arith) (omega arith) (omega (arith, told.small_near)) (omega (arith, told.small_far)) in
+    omega (arith, short)
+
+-- the first two lines have at most 64 bytes
+head_short : (w : Written) (rest : List ℕ) → IsBegunText w → length (head_then w rest) ≤ 64 + length rest
+head_short w rest begun =
+    let t = w.table in
+    omega (
+      arith,
+      title_length w.version (counts_then t.rounds t.ids t.channels (counts_end w.version) (distances_then w.version w.separation rest)),
+      counts_short t.rounds t.ids t.channels (counts_end w.version) (distances_then w.version w.separation rest) (sizes_of t begun.begun),
+      distances_short w.version w.separation rest begun.told,
+    )
+
+-- in version 2 they have at most 76, whatever near and far are
+pub any_head_short : (t : ChannelTable) (s : Separation) (rest : List ℕ) → IsBegun t → s.near < 2 ^ 32 → s.far < 2 ^ 32
+    → length (head_then (record { version = Two; table = t; separation = s }) rest) ≤ 76 + length rest
+any_head_short t s rest begun near far =
+    omega (
+      arith,
+      counts_short t.rounds t.ids t.channels 32 (distances_then Two s rest) (sizes_of t begun),
+      two_short 10 s rest (omega arith) (omega arith) (omega (arith, near)) (omega (arith, far)),
+    )
+
+lines_short : CountOfWindows → NumberOfWindow → WindowsHaveNumbers → (w : Written) (rest : List ℕ) → IsBegunText w
+    → length (lines_then w rest) ≤ 64 + (most_of_line * length w.table.entries + length rest)
+unfolding lines_then
+lines_short count number have w rest begun =
+    let t = w.table in
+    let small = ids_below t.channels (10 ^ 4) t.entries (omega (arith, begun.begun.few_channels)) begun.begun.below in
+    omega (
+      arith,
+      head_short w (entries_then (windows_of t) t.entries rest) begun,
+      entries_short (windows_of t) t.entries rest (short_windows count number have t begun.begun) small,
     )
 
 pub texts_short : CountOfWindows → NumberOfWindow → WindowsHaveNumbers → TableTextsAreShort
-unfolding table_text
-texts_short count number have t table =
-    omega (arith, lines_short count number have t (end_then []) table.begun, table.begun.size, table.begun.shape.few_windows)
+unfolding text_of
+texts_short count number have w is =
+    omega (arith, lines_short count number have w (end_then []) (begun_of w is), is.table.size, is.table.begun.shape.few_windows)

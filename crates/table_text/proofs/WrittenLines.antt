@@ -3,7 +3,9 @@ use Rattle.std.proofs.Common.{◌≡◌, ℕ, zero, suc, ◌+◌, ◌<◌, ◌�
 use Rattle.std.specs.Fmt.{decimal}
 use Rattle.std.proofs.lemmas.List.{take_more, take_all, length-take-le}
 use Rattle.table_fill.specs.Tables.{ChannelTable, windows_of}
-use Rattle.table_text.specs.TableText.{title_then, sizes_then, ids_then, entry_then, entries_then, end_then, lines_then, table_text}
+use Rattle.nbhd_check.specs.declared.separation.Separation.{Separation}
+use Rattle.table_text.specs.declared.version.Version.TheVariants.{Two}
+use Rattle.table_text.specs.TableText.{written, ids_then, entry_then, entries_then, end_then, head_then, lines_then, text_of, table_text}
 use Rattle.table_text.proofs.TableLines.{lines_more}
 use Rattle.table_text.specs.Pieces.{id_text, channel_text}
 use Rattle.table_text.proofs.TextsApart.{ids_append, lines_append}
@@ -29,17 +31,18 @@ front_of t n = record t { entries = take n t.entries }
 
 -- one line more
 pub front_more :
-    (t : ChannelTable) (n channel : ℕ) (window text line : List ℕ) → n < length t.entries → slice_get (windows_of t) n ≡ Some window
-    → text ≡ lines_then (front_of t n) [] → channel ≡ get_or t.entries n 0 → line ≡ entry_then window channel []
-    → text ++ line ≡ lines_then (front_of t (n + 1)) []
-front_more t n channel window text line lt next written is wrote =
+    (t : ChannelTable) (s : Separation) (n channel : ℕ) (window text line : List ℕ) → n < length t.entries → slice_get (windows_of t) n ≡ Some window
+    → text ≡ lines_then (written Two (front_of t n) s) [] → channel ≡ get_or t.entries n 0 → line ≡ entry_then window channel []
+    → text ++ line ≡ lines_then (written Two (front_of t (n + 1)) s) []
+front_more t s n channel window text line lt next told is wrote =
     let size : length (take n t.entries) ≡ n = length-take-le n t.entries (omega arith) in
-    let more = lines_more (front_of t n) (lines_then (front_of t n) (entry_then window channel [])) (entry_then window channel []) window channel []
+    let lines = lines_then (written Two (front_of t n) s) (entry_then window channel []) in
+    let more = lines_more Two (front_of t n) s lines (entry_then window channel []) window channel []
     refl (ap (slice_get (windows_of t)) size ∙ next) refl in
-    (λ i. written i ++ wrote i)
-    ∙ lines_append (front_of t n) [] (entry_then window channel [])
+    (λ i. told i ++ wrote i)
+    ∙ lines_append (written Two (front_of t n) s) [] (entry_then window channel [])
     ∙ more
-    ∙ ap (λ entries. lines_then (record t { entries = entries }) [])
+    ∙ ap (λ entries. lines_then (written Two (record t { entries = entries }) s) [])
     (ap (λ c. take n t.entries ++ c ∷ []) is ∙ sym (take_more t.entries n 0 lt))
 
 -- the lines of the first entries, and then those of the others
@@ -52,11 +55,12 @@ entries_split (suc n) [] (c ∷ cs) rest enough = absurd (omega arith)
 entries_split (suc n) (w ∷ ws) (c ∷ cs) rest enough = ap (entry_then w c) (entries_split n ws cs rest (omega arith))
 
 -- the text of a table begins with the lines of its first entries
-pub lines_front : (t : ChannelTable) (n : ℕ) → length t.entries ≤ length (windows_of t) → (more : List ℕ) × (lines_then (front_of t n) [] ++ more ≡ table_text t)
-unfolding table_text lines_then
-lines_front t n enough =
+pub lines_front : (t : ChannelTable) (s : Separation) (n : ℕ) → length t.entries ≤ length (windows_of t)
+    → (more : List ℕ) × (lines_then (written Two (front_of t n) s) [] ++ more ≡ table_text t s)
+unfolding text_of lines_then
+lines_front t s n enough =
     let more = entries_then (drop n (windows_of t)) (drop n t.entries) (end_then []) in (
       more,
-      lines_append (front_of t n) [] more
-          ∙ ap (λ lines. title_then (sizes_then t.rounds t.ids t.channels lines)) (sym (entries_split n (windows_of t) t.entries (end_then []) enough)),
+      lines_append (written Two (front_of t n) s) [] more
+          ∙ ap (head_then (written Two t s)) (sym (entries_split n (windows_of t) t.entries (end_then []) enough)),
     )

@@ -1,30 +1,32 @@
--- What is wrong first with a text that is not the text of a table.
+-- What is wrong first with a text that is not the text of a table and a separation.
 use Rattle.std.specs.Prelude.{◌≡◌, ◌≢◌, ◌⊎◌, ℕ, ◌+◌, ◌*◌, ◌<◌, ◌≤◌, List, [], Some, length, slice_get}
-use Rattle.table_fill.specs.Tables.{ChannelTable, IsBegun, IsTable, windows_of}
-use Rattle.table_text.specs.TableText.{title_then, end_then, lines_then}
+use Rattle.table_fill.specs.Tables.{ChannelTable, windows_of}
+use Rattle.table_text.specs.declared.version.Version.{Version}
+use Rattle.table_text.specs.TableText.{Written, title_then, end_then, lines_then}
+use Rattle.table_text.specs.Texts.{IsBegunText, IsWritten}
 use Rattle.table_text.specs.LineForms.{HasTitle, HasSizes, IsEntry, HasEntry, HasEnd}
 use Rattle.table_text.specs.declared.limits.TheConstants.{LONGEST_TABLE_TEXT}
 use Rattle.table_text.specs.declared.fault.TableFault.{TableFault}
 use Rattle.table_text.specs.declared.fault.TableFault.TheVariants.{Syntax, WrongWindow, ChannelTooLarge, OutOfMemory}
 
 -- the text begins with the lines of a begun table that wants an entry more, and the rest follows them
-pub record IsWithin (text : List ℕ) (t : ChannelTable) (rest : List ℕ) : Type 0 where
-  pub begun : IsBegun t
-  pub before : text ≡ lines_then t rest
-  pub more : length t.entries < length (windows_of t)
+pub record IsWithin (text : List ℕ) (w : Written) (rest : List ℕ) : Type 0 where
+  pub begun : IsBegunText w
+  pub before : text ≡ lines_then w rest
+  pub more : length w.table.entries < length (windows_of w.table)
 
 -- the first line of the text that does not have its form begins with the rest
 pub data IsMalformed (text rest : List ℕ) : Type 0 where
   no_title : rest ≡ text → (¬ HasTitle rest) → IsMalformed text rest
-  no_sizes : text ≡ title_then rest → (¬ HasSizes rest) → IsMalformed text rest
-  no_entry : (t : ChannelTable) → IsWithin text t rest → (¬ HasEntry (2 * t.rounds + 1) rest) → IsMalformed text rest
-  no_end : (t : ChannelTable) → IsTable t → text ≡ lines_then t rest → (¬ HasEnd rest) → IsMalformed text rest
-  bytes_after : (t : ChannelTable) → IsTable t → text ≡ lines_then t (end_then rest) → rest ≢ [] → IsMalformed text rest
+  no_sizes : (version : Version) → text ≡ title_then version rest → (¬ HasSizes version rest) → IsMalformed text rest
+  no_entry : (w : Written) → IsWithin text w rest → (¬ HasEntry (2 * w.table.rounds + 1) rest) → IsMalformed text rest
+  no_end : (w : Written) → IsWritten w → text ≡ lines_then w rest → (¬ HasEnd rest) → IsMalformed text rest
+  bytes_after : (w : Written) → IsWritten w → text ≡ lines_then w (end_then rest) → rest ≢ [] → IsMalformed text rest
 
--- after the lines of the begun table t comes a line of these identifiers and this channel
-abbrev pub HasNext : List ℕ → ChannelTable → List ℕ → ℕ → Type 0
-HasNext text t ids channel =
-    (here : List ℕ) × (rest : List ℕ) × IsWithin text t here × IsEntry (2 * t.rounds + 1) here ids channel rest
+-- after the lines of a begun table comes a line of these identifiers and this channel
+abbrev pub HasNext : List ℕ → Written → List ℕ → ℕ → Type 0
+HasNext text w ids channel =
+    (here : List ℕ) × (rest : List ℕ) × IsWithin text w here × IsEntry (2 * w.table.rounds + 1) here ids channel rest
 
 -- the identifiers are the next window of the begun table t
 abbrev pub IsNextWindow : ChannelTable → List ℕ → Type 0
@@ -38,10 +40,10 @@ IsFault text (Syntax offset) =
     ⊎ ((length text ≤ LONGEST_TABLE_TEXT) × (rest : List ℕ) × IsMalformed text rest × (offset + length rest ≡ length text))
 IsFault text (WrongWindow line) =
     (length text ≤ LONGEST_TABLE_TEXT)
-    × (t : ChannelTable) × (ids : List ℕ) × (channel : ℕ) × HasNext text t ids channel × (¬ IsNextWindow t ids)
-    × (line ≡ length t.entries + 3)
+    × (w : Written) × (ids : List ℕ) × (channel : ℕ) × HasNext text w ids channel × (¬ IsNextWindow w.table ids)
+    × (line ≡ length w.table.entries + 3)
 IsFault text (ChannelTooLarge line) =
     (length text ≤ LONGEST_TABLE_TEXT)
-    × (t : ChannelTable) × (ids : List ℕ) × (channel : ℕ) × HasNext text t ids channel × IsNextWindow t ids
-    × (t.channels ≤ channel) × (line ≡ length t.entries + 3)
+    × (w : Written) × (ids : List ℕ) × (channel : ℕ) × HasNext text w ids channel × IsNextWindow w.table ids
+    × (w.table.channels ≤ channel) × (line ≡ length w.table.entries + 3)
 IsFault text OutOfMemory = length text ≤ LONGEST_TABLE_TEXT

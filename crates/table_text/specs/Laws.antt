@@ -1,24 +1,24 @@
 -- The statements of the laws of this crate, one definition each.
 use Rattle.std.specs.Prelude.{◌≡◌, ◌≢◌, ℕ, ◌≤◌, List, [], ◌++◌, length}
-use Rattle.table_fill.specs.Tables.{ChannelTable, IsTable}
-use Rattle.table_text.specs.TableText.{table_text}
+use Rattle.table_text.specs.TableText.{Written, text_of}
+use Rattle.table_text.specs.Texts.{IsWritten}
 use Rattle.table_text.specs.Faults.{IsFault}
 use Rattle.table_text.specs.declared.limits.TheConstants.{LONGEST_TABLE_TEXT}
 use Rattle.table_text.specs.declared.fault.TableFault.{TableFault}
 use Rattle.table_text.specs.declared.fault.TableFault.TheVariants.{OutOfMemory}
 
--- where the text of a table is the text of another one or begins it, the tables are one, and so are the texts
+-- where one table text is another one or begins it, both have one version, one table and one separation, and are one text
 abbrev pub TableTextsAreApart : Type 0
 TableTextsAreApart =
-    (t u : ChannelTable) (more : List ℕ) → IsTable t → IsTable u → table_text u ≡ table_text t ++ more → (t ≡ u) × (more ≡ [])
+    (v w : Written) (more : List ℕ) → IsWritten v → IsWritten w → text_of w ≡ text_of v ++ more → (v ≡ w) × (more ≡ [])
 
--- the text of a table is within the limit
+-- a table text is within the limit
 abbrev pub TableTextsAreShort : Type 0
-TableTextsAreShort = (t : ChannelTable) → IsTable t → length (table_text t) ≤ LONGEST_TABLE_TEXT
+TableTextsAreShort = (w : Written) → IsWritten w → length (text_of w) ≤ LONGEST_TABLE_TEXT
 
--- the text of a table has no fault but want of memory
+-- a table text has no fault but want of memory
 abbrev pub TableTextsAreRead : Type 0
-TableTextsAreRead = (t : ChannelTable) (fault : TableFault) → IsTable t → IsFault (table_text t) fault → fault ≡ OutOfMemory
+TableTextsAreRead = (w : Written) (fault : TableFault) → IsWritten w → IsFault (text_of w) fault → fault ≡ OutOfMemory
 
 -- a text has at most one fault, want of memory aside
 abbrev pub OneTableFault : Type 0

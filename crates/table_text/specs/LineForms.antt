@@ -3,6 +3,9 @@ use Rattle.std.specs.Prelude.{◌≡◌, ℕ, ◌^◌, ◌<◌, ◌≤◌, List,
 use Rattle.node_lang.specs.declared.limits.TheConstants.{MAX_CHANNELS}
 use Rattle.win_index.specs.declared.limits.TheConstants.{MAX_ROUNDS}
 use Rattle.win_index.specs.ShapeRange.{IsShape}
+use Rattle.nbhd_check.specs.declared.separation.Separation.{Separation}
+use Rattle.table_text.specs.declared.version.Version.{Version}
+use Rattle.table_text.specs.declared.version.Version.TheVariants.{One, Two}
 use Rattle.table_text.specs.TableText.{title_then, sizes_then, entry_then, end_then}
 
 -- the numbers of rounds, of identifiers and of channels of a table
@@ -12,15 +15,26 @@ pub record AreSizes (rounds ids channels : ℕ) : Type 0 where
   pub some_channels : 1 ≤ channels
   pub few_channels : channels ≤ MAX_CHANNELS
 
--- the text begins with the first line
-abbrev pub HasTitle : List ℕ → Type 0
-HasTitle text = (rest : List ℕ) × (text ≡ title_then rest)
+-- near is 1 to MAX_CHANNELS, and far 0 to MAX_CHANNELS
+pub record IsSeparation (s : Separation) : Type 0 where
+  pub some_near : 1 ≤ s.near
+  pub small_near : s.near ≤ MAX_CHANNELS
+  pub small_far : s.far ≤ MAX_CHANNELS
 
--- the text begins with a line of sizes
-abbrev pub HasSizes : List ℕ → Type 0
-HasSizes text =
-    (rounds : ℕ) × (ids : ℕ) × (channels : ℕ) × (rest : List ℕ) × AreSizes rounds ids channels
-    × (text ≡ sizes_then rounds ids channels rest)
+-- a text of this version tells the separation: version 1 that of near 1 and far 0 alone, version 2 each
+abbrev pub IsTold : Version → Separation → Type 0
+IsTold One s = s ≡ record { near = 1; far = 0 }
+IsTold Two s = IsSeparation s
+
+-- the text begins with the first line of a version
+abbrev pub HasTitle : List ℕ → Type 0
+HasTitle text = (version : Version) × (rest : List ℕ) × (text ≡ title_then version rest)
+
+-- the text begins with the second line of this version
+abbrev pub HasSizes : Version → List ℕ → Type 0
+HasSizes version text =
+    (rounds : ℕ) × (ids : ℕ) × (channels : ℕ) × (s : Separation) × (rest : List ℕ) × AreSizes rounds ids channels
+    × IsTold version s × (text ≡ sizes_then version rounds ids channels s rest)
 
 -- the text begins with the line of as many identifiers as width and of a channel, each a number below 2^32, and
 -- the rest follows that line

@@ -3,7 +3,9 @@ use Rattle.std.specs.Prelude.{◌≡◌, ℕ, List, [], ◌∷◌, ◌++◌, tak
 use Rattle.std.specs.Io.KnownBytes.{Appends}
 use Rattle.std.specs.List.{range_with_len}
 use Rattle.std.specs.Fmt.{decimal}
+use Rattle.table_fill.specs.Tables.{ChannelTable}
 use Rattle.table_text.specs.declared.piece.Piece.{Piece}
+use Rattle.table_text.specs.declared.piece.Pieces.{Pieces}
 use Rattle.table_text.specs.declared.front.Front.{Front}
 use Rattle.table_text.specs.declared.chunk.Chunk.{Chunk}
 
@@ -26,6 +28,13 @@ channel_text channel = codes ": " ++ (decimal channel ++ 10 ∷ [])
 -- each piece has the text of its place
 abbrev pub AreTexts : (ℕ → List ℕ) → List Piece → Type 0
 AreTexts text pieces = map piece_text pieces ≡ map text (range_with_len 0 (length pieces))
+
+-- the pieces are those of all identifiers and of all channels of the table
+pub record ArePieces (t : ChannelTable) (pieces : Pieces) : Type 0 where
+  pub ids : AreTexts id_text pieces.ids.items
+  pub all_ids : length pieces.ids.items ≡ t.ids
+  pub channels : AreTexts channel_text pieces.channels.items
+  pub all_channels : length pieces.channels.items ≡ t.channels
 
 -- the bytes that a chunk holds
 abbrev pub held : Chunk → List ℕ

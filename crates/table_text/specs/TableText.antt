@@ -1,17 +1,44 @@
--- The one text of a table, version 1: each definition is a part of the text together with what follows it. A number
--- is in decimal without leading zeros, single blanks (byte 32) part the words, and byte 10 ends each line.
+-- The one text of a table and a separation in each of two versions: each definition is a part of the text together with what
+-- follows it. A number is in decimal without leading zeros, single blanks (byte 32) part the words, and byte 10 ends each line.
 use Rattle.std.specs.Prelude.{ℕ, List, [], ◌∷◌, ◌++◌, codes}
 use Rattle.std.specs.Fmt.{decimal}
 use Rattle.table_fill.specs.Tables.{ChannelTable, windows_of}
+use Rattle.nbhd_check.specs.declared.separation.Separation.{Separation}
+use Rattle.table_text.specs.declared.version.Version.{Version}
+use Rattle.table_text.specs.declared.version.Version.TheVariants.{One, Two}
+
+-- what a table text tells: a table and its separation, in one of the versions
+pub record Written : Type 0 where
+  pub version : Version
+  pub table : ChannelTable
+  pub separation : Separation
+
+abbrev pub written : Version → ChannelTable → Separation → Written
+written version t s = record { version = version; table = t; separation = s }
 
 -- the line of the version
-abbrev pub title_then : List ℕ → List ℕ
-title_then rest = codes "nbhd-table 1" ++ 10 ∷ rest
+abbrev pub title_then : Version → List ℕ → List ℕ
+title_then One rest = codes "nbhd-table 1" ++ 10 ∷ rest
+title_then Two rest = codes "nbhd-table 2" ++ 10 ∷ rest
 
--- the line of the numbers of rounds, identifiers and channels
-abbrev pub sizes_then : ℕ → ℕ → ℕ → List ℕ → List ℕ
-sizes_then rounds ids channels rest =
-    codes "rounds " ++ (decimal rounds ++ 32 ∷ (codes "ids " ++ (decimal ids ++ 32 ∷ (codes "channels " ++ (decimal channels ++ 10 ∷ rest)))))
+-- the numbers of rounds, of identifiers and of channels, and the byte that stands after them
+abbrev pub counts_then : ℕ → ℕ → ℕ → ℕ → List ℕ → List ℕ
+counts_then rounds ids channels end rest =
+    codes "rounds " ++ (decimal rounds ++ 32 ∷ (codes "ids " ++ (decimal ids ++ 32 ∷ (codes "channels " ++ (decimal channels ++ end ∷ rest)))))
+
+-- the byte after the number of channels: it ends the line in version 1, and near and far follow it in version 2
+abbrev pub counts_end : Version → ℕ
+counts_end One = 10
+counts_end Two = 32
+
+-- near and far, which version 1 leaves out
+abbrev pub distances_then : Version → Separation → List ℕ → List ℕ
+distances_then One s rest = rest
+distances_then Two s rest = codes "near " ++ (decimal s.near ++ 32 ∷ (codes "far " ++ (decimal s.far ++ 10 ∷ rest)))
+
+-- the line of the numbers of rounds, identifiers and channels, in version 2 of near and far too
+abbrev pub sizes_then : Version → ℕ → ℕ → ℕ → Separation → List ℕ → List ℕ
+sizes_then version rounds ids channels s rest = counts_then rounds ids channels (counts_end version) (distances_then version s rest)
 
 -- identifiers, each before a blank
 abbrev pub ids_then : List ℕ → List ℕ → List ℕ
@@ -32,10 +59,18 @@ entries_then (window ∷ windows) (channel ∷ channels) rest = entry_then windo
 abbrev pub end_then : List ℕ → List ℕ
 end_then rest = codes "end" ++ 10 ∷ rest
 
--- the first two lines of a table, and a line for each of its entries
-unfoldable pub lines_then : ChannelTable → List ℕ → List ℕ
-lines_then t rest = title_then (sizes_then t.rounds t.ids t.channels (entries_then (windows_of t) t.entries rest))
+-- the first two lines
+abbrev pub head_then : Written → List ℕ → List ℕ
+head_then w rest = title_then w.version (sizes_then w.version w.table.rounds w.table.ids w.table.channels w.separation rest)
+
+-- the first two lines, and a line for each entry of the table
+unfoldable pub lines_then : Written → List ℕ → List ℕ
+lines_then w rest = head_then w (entries_then (windows_of w.table) w.table.entries rest)
 
 -- those lines, the last line, and nothing after it
-unfoldable pub table_text : ChannelTable → List ℕ
-table_text t = lines_then t (end_then [])
+unfoldable pub text_of : Written → List ℕ
+text_of w = lines_then w (end_then [])
+
+-- the text of a table and a separation, which is that of version 2
+abbrev pub table_text : ChannelTable → Separation → List ℕ
+table_text t s = text_of (written Two t s)

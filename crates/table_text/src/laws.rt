@@ -2,12 +2,12 @@ ghost use Rattle.table_text.specs.Laws as law;
 
 use win_index::{count_of_windows, number_of_window, windows_have_numbers};
 
-/// Different tables have different texts, and no table's text begins that of another.
+/// Different pairs of a table and a separation have different texts, and no table text of either version begins another one.
 pub fn table_texts_are_apart()
     ensures { law.TableTextsAreApart }
 {}
 
-/// The text of a table is within the limit.
+/// A table text of either version is within the limit.
 pub fn table_texts_are_short()
     ensures { law.TableTextsAreShort }
 {
@@ -16,7 +16,7 @@ pub fn table_texts_are_short()
     windows_have_numbers();
 }
 
-/// The text of a table has no fault but want of memory.
+/// A table text of either version has no fault but want of memory.
 pub fn table_texts_are_read()
     ensures { law.TableTextsAreRead }
 {

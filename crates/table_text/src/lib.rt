@@ -1,4 +1,4 @@
-//! The text of a table: reading and writing it.
+//! The text of a table and its separation: reading and writing it.
 #![tactic(auto)]
 
 mod chunk;
@@ -12,6 +12,7 @@ mod piece;
 mod pieces;
 mod reading;
 mod storing;
+mod version;
 mod writing;
 
 pub use fault::TableFault;

@@ -2,20 +2,31 @@
 
 ghost use Rattle.std.specs.Prelude.{◌≡◌, ◌≢◌, ◌<◌, ◌≤◌, ◌^◌, ℕ, List, ◌∷◌, ◌++◌, length, MatchOption, IfSome, IfNone};
 ghost use Rattle.std.specs.Fmt.{decimal};
-ghost use Rattle.table_text.specs.TableText.{title_then, sizes_then, end_then};
-ghost use Rattle.table_text.specs.LineForms.{HasTitle, AreSizes, HasSizes, IsEntry, HasEntry, HasEnd};
+ghost use Rattle.nbhd_check.specs.declared.separation.Separation.{Separation};
+ghost use Rattle.table_text.specs.TableText.{title_then, counts_then, counts_end, distances_then, sizes_then, end_then};
+ghost use Rattle.table_text.specs.LineForms.{HasTitle, AreSizes, IsTold, HasSizes, IsEntry, HasEntry, HasEnd};
 ghost use Rattle.table_text.specs.Fronts.{IsLine};
 
 use crate::numbers::{number_before, numbers_in};
+use crate::version::Version;
+use nbhd_check::Separation;
 use node_lang::MAX_CHANNELS;
 use win_index::{MAX_ROUNDS, MAX_WINDOW_LEN, Shape};
 
-// The numbers of the second line.
+// The first numbers of the second line.
 #[derive(Clone, Copy)]
 struct Counts {
     rounds: u32,
     ids: u32,
     channels: u32,
+}
+
+// What the second line says.
+#[derive(Clone, Copy)]
+pub(crate) struct Header {
+    pub(crate) shape: Shape,
+    pub(crate) channels: u32,
+    pub(crate) separation: Separation,
 }
 
 // The first line of a text where the line of a window is wanted.
@@ -36,11 +47,17 @@ fn after<'a>(text: &'a [u8], beginning: &[u8]) -> Option<&'a [u8]>
     text.strip_prefix(beginning)
 }
 
-// What follows the first line of a table text.
-pub(crate) fn after_title(text: &[u8]) -> Option<&[u8]>
-    ensures { MatchOption result (¬ HasTitle text.now) (λ rest. text.now ≡ title_then rest.now) }
+// The version that the first line of a table text names, and what follows that line.
+pub(crate) fn after_title(text: &[u8]) -> Option<(Version, &[u8])>
+    ensures { MatchOption result (¬ HasTitle text.now) (λ read. text.now ≡ title_then read.0 read.1.now) }
 {
-    after(text, b"nbhd-table 1\n")
+    if let Some(rest) = after(text, b"nbhd-table 1\n") {
+        return Some((Version::One, rest));
+    }
+    let Some(rest) = after(text, b"nbhd-table 2\n") else {
+        return None;
+    };
+    Some((Version::Two, rest))
 }
 
 // What follows the last line of a table text.
@@ -67,12 +84,13 @@ fn field<'a>(text: &'a [u8], name: &[u8], end: u8) -> Option<(u32, &'a [u8])>
     Some((value, rest))
 }
 
-// The numbers of the second line, and what follows it.
-fn three_counts(text: &[u8]) -> Option<(Counts, &[u8])>
-    ensures counts { IfSome result (λ read. text.now ≡ sizes_then read.0.rounds read.0.ids read.0.channels read.1.now) }
+// The first three numbers of the second line, the last of them before the byte `end`, and what follows that byte.
+fn three_counts(text: &[u8], end: u8) -> Option<(Counts, &[u8])>
+    requires { end < 48 }
+    ensures counts { IfSome result (λ read. text.now ≡ counts_then read.0.rounds read.0.ids read.0.channels end read.1.now) }
     ensures fit { IfSome result (λ read. (read.0.rounds < 2 ^ 32) × (read.0.ids < 2 ^ 32) × (read.0.channels < 2 ^ 32)) }
     ensures none { IfNone result ((rounds ids channels : ℕ) (rest : List ℕ) → rounds < 2 ^ 32 → ids < 2 ^ 32
-        → channels < 2 ^ 32 → text.now ≡ sizes_then rounds ids channels rest → ⊥) }
+        → channels < 2 ^ 32 → text.now ≡ counts_then rounds ids channels end rest → ⊥) }
 {
     let Some((rounds, rest)) = field(text, b"rounds ", b' ') else {
         return None;
@@ -80,7 +98,7 @@ fn three_counts(text: &[u8]) -> Option<(Counts, &[u8])>
     let Some((ids, rest)) = field(rest, b"ids ", b' ') else {
         return None;
     };
-    let Some((channels, rest)) = field(rest, b"channels ", b'\n') else {
+    let Some((channels, rest)) = field(rest, b"channels ", end) else {
         return None;
     };
     let counts = Counts {
@@ -91,15 +109,12 @@ fn three_counts(text: &[u8]) -> Option<(Counts, &[u8])>
     Some((counts, rest))
 }
 
-// The shape and the number of channels of the second line, and what follows it.
-pub(crate) fn sizes(text: &[u8]) -> Option<(Shape, u32, &[u8])>
-    ensures range { IfSome result (λ read. AreSizes read.0.rounds read.0.ids read.1) }
-    ensures sizes { IfSome result (λ read. text.now ≡ sizes_then read.0.rounds read.0.ids read.1 read.2.now) }
-    ensures none { IfNone result (¬ HasSizes text.now) }
+// The shape of these numbers of rounds and identifiers, where they and the number of channels are those of a table.
+fn shape_of(counts: Counts) -> Option<Shape>
+    ensures shape { IfSome result (λ shape. (shape.ids ≡ counts.ids) × (shape.rounds ≡ counts.rounds)) }
+    ensures range { IfSome result (λ _. AreSizes counts.rounds counts.ids counts.channels) }
+    ensures none { IfNone result (¬ AreSizes counts.rounds counts.ids counts.channels) }
 {
-    let Some((counts, rest)) = three_counts(text) else {
-        return None;
-    };
     if counts.rounds > MAX_ROUNDS {
         return None;
     }
@@ -112,7 +127,79 @@ pub(crate) fn sizes(text: &[u8]) -> Option<(Shape, u32, &[u8])>
     let Ok(shape) = Shape::new(counts.ids, counts.rounds) else {
         return None;
     };
-    Some((shape, counts.channels, rest))
+    Some(shape)
+}
+
+// The last two numbers of the second line of version 2, and what follows the line.
+fn two_distances(text: &[u8]) -> Option<(Separation, &[u8])>
+    ensures told { IfSome result (λ read. IsTold Version.Two read.0) }
+    ensures distances { IfSome result (λ read. text.now ≡ distances_then Version.Two read.0 read.1.now) }
+    ensures none { IfNone result ((s : Separation) (rest : List ℕ) → IsTold Version.Two s → text.now ≡ distances_then Version.Two s rest → ⊥) }
+{
+    let Some((near, rest)) = field(text, b"near ", b' ') else {
+        return None;
+    };
+    let Some((far, rest)) = field(rest, b"far ", b'\n') else {
+        return None;
+    };
+    if near < 1 {
+        return None;
+    }
+    if near > MAX_CHANNELS {
+        return None;
+    }
+    if far > MAX_CHANNELS {
+        return None;
+    }
+    Some((Separation { near, far }, rest))
+}
+
+// The separation that a text of this version tells behind the numbers of the table, and what follows the second line.
+fn separation_in(version: Version, text: &[u8]) -> Option<(Separation, &[u8])>
+    ensures told { IfSome result (λ read. IsTold version read.0) }
+    ensures distances { IfSome result (λ read. text.now ≡ distances_then version read.0 read.1.now) }
+    ensures none { IfNone result ((s : Separation) (rest : List ℕ) → IsTold version s → text.now ≡ distances_then version s rest → ⊥) }
+{
+    match version {
+        Version::One => Some((Separation { near: 1, far: 0 }, text)),
+        Version::Two => two_distances(text),
+    }
+}
+
+// The byte that stands after the number of channels.
+fn counts_end(version: Version) -> u8
+    ensures end { result ≡ counts_end version }
+    ensures below { result < 48 }
+{
+    match version {
+        Version::One => b'\n',
+        Version::Two => b' ',
+    }
+}
+
+// What the second line of a text of this version says, and what follows it.
+pub(crate) fn sizes(version: Version, text: &[u8]) -> Option<(Header, &[u8])>
+    ensures range { IfSome result (λ read. AreSizes read.0.shape.rounds read.0.shape.ids read.0.channels) }
+    ensures told { IfSome result (λ read. IsTold version read.0.separation) }
+    ensures sizes { IfSome result (λ read. text.now ≡ sizes_then version read.0.shape.rounds read.0.shape.ids
+        read.0.channels read.0.separation read.1.now) }
+    ensures none { IfNone result (¬ HasSizes version text.now) }
+{
+    let Some((counts, distances)) = three_counts(text, counts_end(version)) else {
+        return None;
+    };
+    let Some(shape) = shape_of(counts) else {
+        return None;
+    };
+    let Some((separation, rest)) = separation_in(version, distances) else {
+        return None;
+    };
+    let header = Header {
+        shape,
+        channels: counts.channels,
+        separation,
+    };
+    Some((header, rest))
 }
 
 // Reads the identifiers of a line into the cells; its channel, and what follows the line.

@@ -8,3 +8,10 @@ pub(crate) struct Piece {
     pub(crate) len: usize,
     pub(crate) ghost short: { len ≤ 8 },
 }
+
+// The pieces of all identifiers and of all channels of a table.
+#[derive(Drop)]
+pub(crate) struct Pieces {
+    pub(crate) ids: Vec<Piece>,
+    pub(crate) channels: Vec<Piece>,
+}

@@ -2,17 +2,27 @@
 ghost use Rattle.std.specs.Prelude.{◌≡◌, ◌<◌, ◌≤◌, [], All, length, IfOk};
 ghost use Rattle.node_lang.specs.declared.limits.TheConstants.{MAX_CHANNELS};
 ghost use Rattle.win_index.specs.declared.limits.TheConstants.{MAX_IDS};
-ghost use Rattle.table_text.specs.Pieces.{piece_text, front_text, id_text, channel_text, AreTexts};
+ghost use Rattle.table_text.specs.Pieces.{piece_text, front_text, id_text, channel_text, AreTexts, ArePieces};
 ghost use Rattle.table_text.specs.TableText.{ids_then};
 
 use crate::front::{FRONT_LEN, Front};
-use crate::piece::Piece;
+use crate::piece::{Piece, Pieces};
 use crate::storing::write_at;
 use std::alloc::{AllocError, Global};
+use table_fill::Table;
 use win_index::MAX_WINDOW_LEN;
 
+// The pieces of which the lines of a table are made.
+pub(crate) fn pieces_of(alloc: Global, table: &Table) -> Result<Pieces, AllocError>
+    ensures { IfOk result (ArePieces table.now) }
+{
+    let ids = id_pieces(alloc, table.shape().ids())?;
+    let channels = channel_pieces(alloc, table.channels())?;
+    Ok(Pieces { ids, channels })
+}
+
 // An identifier and a blank, for each identifier below this number.
-pub(crate) fn id_pieces(alloc: Global, ids: u32) -> Result<Vec<Piece>, AllocError>
+fn id_pieces(alloc: Global, ids: u32) -> Result<Vec<Piece>, AllocError>
     requires { ids ≤ MAX_IDS }
     ensures texts { IfOk result (λ pieces. AreTexts id_text pieces.items) }
     ensures count { IfOk result (λ pieces. length pieces.items ≡ ids) }
@@ -25,7 +35,7 @@ pub(crate) fn id_pieces(alloc: Global, ids: u32) -> Result<Vec<Piece>, AllocErro
 }
 
 // What follows the identifiers of a line, for each channel below this number.
-pub(crate) fn channel_pieces(alloc: Global, channels: u32) -> Result<Vec<Piece>, AllocError>
+fn channel_pieces(alloc: Global, channels: u32) -> Result<Vec<Piece>, AllocError>
     requires { channels ≤ MAX_CHANNELS }
     ensures texts { IfOk result (λ pieces. AreTexts channel_text pieces.items) }
     ensures count { IfOk result (λ pieces. length pieces.items ≡ channels) }

@@ -5,17 +5,20 @@ ghost use Rattle.std.specs.Io.KnownBytes.{Appends, Keeps};
 ghost use Rattle.devices.specs.Output.{AppendsFront};
 ghost use Rattle.devices.specs.Watched.{device_of, has_failed};
 ghost use Rattle.win_index.specs.Windows.{windows, IsWindow};
-ghost use Rattle.table_text.specs.TableText.{title_then, sizes_then, ids_then, lines_then, table_text};
-ghost use Rattle.table_text.specs.Pieces.{held, front_text, piece_text, id_text, channel_text, AreTexts, Tells};
+ghost use Rattle.nbhd_check.specs.declared.separation.Separation.{Separation};
+ghost use Rattle.table_text.specs.declared.version.Version.TheVariants.{Two};
+ghost use Rattle.table_text.specs.TableText.{written, head_then, ids_then, lines_then, table_text};
+ghost use Rattle.table_text.specs.Pieces.{held, front_text, piece_text, id_text, AreTexts, ArePieces, Tells};
 
 use crate::chunk::Chunk;
 use crate::front::{FRONT_LEN, Front};
 use crate::limits::CHUNK_LEN;
-use crate::piece::Piece;
-use crate::pieces::{channel_pieces, front_of, id_pieces, piece_of};
+use crate::piece::{Piece, Pieces};
+use crate::pieces::{front_of, piece_of, pieces_of};
 use crate::storing::{empty_chunk, send_held, store, store_first, store_front};
 use devices::fault::{EngineFault, OutFault};
 use devices::watched::Watched;
+use nbhd_check::Separation;
 use std::alloc::{AllocError, Global};
 use std::io::Write;
 use table_fill::Table;
@@ -24,66 +27,70 @@ use win_index::{MAX_WINDOW_LEN, Shape};
 // Room for a front, the piece of an identifier and that of a channel.
 const LINE_LEN: usize = FRONT_LEN + 16;
 
-/// Writes the text of a table: a line with the version, a line with the numbers of rounds, identifiers
-/// and channels, a line for each window and its channel in the windows' order, and the line `end`.
+/// Writes the text of a table and a separation, in version 2: a line with the version, a line with the numbers of rounds,
+/// identifiers and channels, near and far, a line for each window and its channel in the windows' order, and the line `end`.
 ///
 /// `Write` comes exactly where a write failed or took no byte; a front of the text was then written.
 /// `Memory` comes where memory was refused; nothing was then written.
 pub fn write_table<W: Write>(
     alloc: Global,
     table: &Table,
+    separation: Separation,
     writer: &mut Watched<W>,
 ) -> Result<(), OutFault>
     requires { has_failed writer.old ≡ false }
     ensures ok { OnOk result (Appends (W.contents (device_of writer.old))
-        (W.contents (device_of writer.new)) (table_text table.now)) }
+        (W.contents (device_of writer.new)) (table_text table.now separation)) }
     ensures front { IsErrOf result OutFault.Write → AppendsFront (W.contents (device_of writer.old))
-        (W.contents (device_of writer.new)) (table_text table.now) }
+        (W.contents (device_of writer.new)) (table_text table.now separation) }
     ensures no_memory { IsErrOf result OutFault.Memory → Keeps (W.contents (device_of writer.old)) (W.contents (device_of writer.new)) }
     ensures failed { IsErrOf result OutFault.Write ↔ IsTrue (has_failed writer.new) }
 {
-    let text = first_lines(alloc, table)?;
-    let ids = id_pieces(alloc, table.shape().ids())?;
-    let ends = channel_pieces(alloc, table.channels())?;
+    let text = first_lines(alloc, table, separation)?;
+    let pieces = pieces_of(alloc, table)?;
     let mut chunk = empty_chunk(alloc)?;
     store_first(&mut chunk, text.as_bytes());
-    match write_lines(writer, &mut chunk, &ids, &ends, table) {
+    match write_lines(writer, &mut chunk, &pieces, table, separation) {
         Ok(()) => Ok(()),
         Err(_) => Err(OutFault::Write),
     }
 }
 
 // The lines above those of the windows.
-fn first_lines(alloc: Global, table: &Table) -> Result<String, AllocError>
-    ensures { IfOk result (λ text. string_bytes text ≡ title_then (sizes_then table.now.rounds table.now.ids table.now.channels [])) }
+fn first_lines(alloc: Global, table: &Table, separation: Separation) -> Result<String, AllocError>
+    ensures head { IfOk result (λ text. string_bytes text ≡ head_then (written Two table.now separation) []) }
+    ensures short { IfOk result (λ text. length (string_bytes text) ≤ CHUNK_LEN) }
 {
     let shape = table.shape();
     let rounds = shape.rounds();
     let ids = shape.ids();
     let channels = table.channels();
-    format!(in alloc; "nbhd-table 1\nrounds {rounds} ids {ids} channels {channels}\n")
+    let near = separation.near;
+    let far = separation.far;
+    format!(in alloc;
+        "nbhd-table 2\nrounds {rounds} ids {ids} channels {channels} near {near} far {far}\n"
+    )
 }
 
 // Writes the lines of all windows and the last line, behind the first two lines, which the chunk holds.
 fn write_lines<W: Write>(
     writer: &mut Watched<W>,
     chunk: &mut Chunk,
-    ids: &[Piece],
-    ends: &[Piece],
+    pieces: &Pieces,
     table: &Table,
+    separation: Separation,
 ) -> Result<(), EngineFault>
     requires working { has_failed writer.old ≡ false }
-    requires first { held chunk.old ≡ title_then (sizes_then table.now.rounds table.now.ids table.now.channels []) }
-    requires ids { AreTexts id_text ids.now × (length ids.now ≡ table.now.ids) }
-    requires ends { AreTexts channel_text ends.now × (length ends.now ≡ table.now.channels) }
+    requires first { held chunk.old ≡ head_then (written Two table.now separation) [] }
+    requires pieces { ArePieces table.now pieces.now }
     ensures ok { OnOk result (Appends (W.contents (device_of writer.old))
-        (W.contents (device_of writer.new)) (table_text table.now)) }
+        (W.contents (device_of writer.new)) (table_text table.now separation)) }
     ensures err { OnErr result (AppendsFront (W.contents (device_of writer.old))
-        (W.contents (device_of writer.new)) (table_text table.now)) }
+        (W.contents (device_of writer.new)) (table_text table.now separation)) }
     ensures fault { IfErr result (λ fault. fault ≡ EngineFault.Write) }
     ensures failed { IsErrOf result EngineFault.Write ↔ IsTrue (has_failed writer.new) }
 {
-    write_entries(writer, chunk, ids, ends, table)?;
+    write_entries(writer, chunk, pieces, table, separation)?;
     store(chunk, piece_of(b"end\n"));
     send_held(chunk, writer)
 }
@@ -93,19 +100,18 @@ fn write_lines<W: Write>(
 fn write_entries<W: Write>(
     writer: &mut Watched<W>,
     chunk: &mut Chunk,
-    ids: &[Piece],
-    ends: &[Piece],
+    pieces: &Pieces,
     table: &Table,
+    separation: Separation,
 ) -> Result<(), EngineFault>
     requires working { has_failed writer.old ≡ false }
-    requires first { held chunk.old ≡ title_then (sizes_then table.now.rounds table.now.ids table.now.channels []) }
-    requires ids { AreTexts id_text ids.now × (length ids.now ≡ table.now.ids) }
-    requires ends { AreTexts channel_text ends.now × (length ends.now ≡ table.now.channels) }
+    requires first { held chunk.old ≡ head_then (written Two table.now separation) [] }
+    requires pieces { ArePieces table.now pieces.now }
     ensures ok { OnOk result (Tells (W.contents (device_of writer.old)) (W.contents (device_of writer.new))
-        (held chunk.new) (lines_then table.now [])) }
+        (held chunk.new) (lines_then (written Two table.now separation) [])) }
     ensures room { OnOk result (chunk.new.filled + 8 ≤ CHUNK_LEN) }
     ensures err { OnErr result (AppendsFront (W.contents (device_of writer.old))
-        (W.contents (device_of writer.new)) (table_text table.now)) }
+        (W.contents (device_of writer.new)) (table_text table.now separation)) }
     ensures fault { IfErr result (λ fault. fault ≡ EngineFault.Write) }
     ensures failed { IsErrOf result EngineFault.Write ↔ IsTrue (has_failed writer.new) }
 {
@@ -115,6 +121,8 @@ fn write_entries<W: Write>(
     let mut cells = [0u32; MAX_WINDOW_LEN];
     let window = &mut cells[..2 * level as usize + 1];
     shape.window(level, 0, window);
+    let ids: &[Piece] = &pieces.ids;
+    let ends: &[Piece] = &pieces.channels;
     let mut front = front_of(ids, &window[..2 * level as usize]);
     for number in 0..count {
         make_room(chunk, writer)?;

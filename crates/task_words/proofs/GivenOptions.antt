@@ -13,6 +13,7 @@ use Rattle.option_values.specs.OptionLines.{HasValue, IsOneOf, is_option_line}
 use Rattle.option_values.specs.Laws.{OptionsHaveValues}
 use Rattle.task_words.specs.CommandLine.{command_line, ids_rule, ring_rule, workers_rule, segments_rule, near_rule, far_rule}
 use Rattle.task_words.specs.Options.{IsNumberGiven, IsTextGiven}
+use Rattle.task_words.specs.declared.limits.TheConstants.{MAX_COUNT, MAX_DISTANCE}
 use Rattle.task_words.specs.Words.{HasNumber}
 
 -- ---- the options of each command
@@ -22,6 +23,9 @@ is_named other name = bytes_eq name other
 
 abbrev pub takes_workers : Text → Bool
 takes_workers name = is_named (codes "table") name || (is_named (codes "judge") name || is_named (codes "plan") name)
+
+abbrev pub takes_near : Text → Bool
+takes_near name = is_named (codes "table") name || is_named (codes "judge") name
 
 abbrev pub takes_ring : Text → Bool
 takes_ring name = is_named (codes "run") name || is_named (codes "plan") name
@@ -38,16 +42,16 @@ other_name test name other fails passes is =
 ids_of_value : (values : List Row) → HasValue ids_rule values → IsNumberGiven values (codes "ids") 0 4294967295
 ids_of_value values value = (value.0, value.2, value.3)
 
-workers_of_value : (values : List Row) → HasValue workers_rule values → IsNumberGiven values (codes "workers") 1 64
+workers_of_value : (values : List Row) → HasValue workers_rule values → IsNumberGiven values (codes "workers") 1 MAX_COUNT
 workers_of_value values value = (value.0, value.2, value.3)
 
-segments_of_value : (values : List Row) → HasValue segments_rule values → IsNumberGiven values (codes "segments") 1 64
+segments_of_value : (values : List Row) → HasValue segments_rule values → IsNumberGiven values (codes "segments") 1 MAX_COUNT
 segments_of_value values value = (value.0, value.2, value.3)
 
-near_of_value : (values : List Row) → HasValue near_rule values → IsNumberGiven values (codes "near") 1 4096
+near_of_value : (values : List Row) → HasValue near_rule values → IsNumberGiven values (codes "near") 1 MAX_DISTANCE
 near_of_value values value = (value.0, value.2, value.3)
 
-far_of_value : (values : List Row) → HasValue far_rule values → IsNumberGiven values (codes "far") 0 4096
+far_of_value : (values : List Row) → HasValue far_rule values → IsNumberGiven values (codes "far") 0 MAX_DISTANCE
 far_of_value values value = (value.0, value.2, value.3)
 
 ring_of_value : (values : List Row) → HasValue ring_rule values → IsTextGiven values (codes "ring")
@@ -60,26 +64,29 @@ ids_given name values (inr (inr (inl (is, (ids, rest))))) takes = ids_of_value v
 ids_given name values (inr (inr (inr (inl (is, (ids, rest)))))) takes = ids_of_value values (ids refl)
 ids_given name values (inr (inr (inr (inr (inl (is, (ids, rest))))))) takes = ids_of_value values (ids refl)
 ids_given name values (inr (inr (inr (inr (inr (inl (is, rest))))))) takes = absurd (other_name takes_ids name _ refl takes is)
-ids_given name values (inr (inr (inr (inr (inr (inr none)))))) takes = absurd none
+ids_given name values (inr (inr (inr (inr (inr (inr (inl (is, rest)))))))) takes = absurd (other_name takes_ids name _ refl takes is)
+ids_given name values (inr (inr (inr (inr (inr (inr (inr none))))))) takes = absurd none
 
-pub workers_given : (name : Text) (values : List Row) → IsOneOf command_line.subs name values → takes_workers name ≡ true → IsNumberGiven values (codes "workers") 1 64
+pub workers_given : (name : Text) (values : List Row) → IsOneOf command_line.subs name values → takes_workers name ≡ true → IsNumberGiven values (codes "workers") 1 MAX_COUNT
 workers_given name values (inl (is, rest)) takes = absurd (other_name takes_workers name _ refl takes is)
 workers_given name values (inr (inl (is, (ids, (workers, rest))))) takes = workers_of_value values (workers refl)
 workers_given name values (inr (inr (inl (is, (ids, (workers, rest)))))) takes = workers_of_value values (workers refl)
 workers_given name values (inr (inr (inr (inl (is, rest))))) takes = absurd (other_name takes_workers name _ refl takes is)
 workers_given name values (inr (inr (inr (inr (inl (is, (ids, (ring, (workers, rest))))))))) takes = workers_of_value values (workers refl)
 workers_given name values (inr (inr (inr (inr (inr (inl (is, rest))))))) takes = absurd (other_name takes_workers name _ refl takes is)
-workers_given name values (inr (inr (inr (inr (inr (inr none)))))) takes = absurd none
+workers_given name values (inr (inr (inr (inr (inr (inr (inl (is, rest)))))))) takes = absurd (other_name takes_workers name _ refl takes is)
+workers_given name values (inr (inr (inr (inr (inr (inr (inr none))))))) takes = absurd none
 
 pub segments_given : (name : Text) (values : List Row) → IsOneOf command_line.subs name values → is_named (codes "run") name ≡ true
-    → IsNumberGiven values (codes "segments") 1 64
+    → IsNumberGiven values (codes "segments") 1 MAX_COUNT
 segments_given name values (inl (is, rest)) takes = absurd (other_name (is_named (codes "run")) name _ refl takes is)
 segments_given name values (inr (inl (is, rest))) takes = absurd (other_name (is_named (codes "run")) name _ refl takes is)
 segments_given name values (inr (inr (inl (is, rest)))) takes = absurd (other_name (is_named (codes "run")) name _ refl takes is)
 segments_given name values (inr (inr (inr (inl (is, (ids, (ring, (segments, rest)))))))) takes = segments_of_value values (segments refl)
 segments_given name values (inr (inr (inr (inr (inl (is, rest)))))) takes = absurd (other_name (is_named (codes "run")) name _ refl takes is)
 segments_given name values (inr (inr (inr (inr (inr (inl (is, rest))))))) takes = absurd (other_name (is_named (codes "run")) name _ refl takes is)
-segments_given name values (inr (inr (inr (inr (inr (inr none)))))) takes = absurd none
+segments_given name values (inr (inr (inr (inr (inr (inr (inl (is, rest)))))))) takes = absurd (other_name (is_named (codes "run")) name _ refl takes is)
+segments_given name values (inr (inr (inr (inr (inr (inr (inr none))))))) takes = absurd none
 
 pub ring_given : (name : Text) (values : List Row) → IsOneOf command_line.subs name values → takes_ring name ≡ true → IsTextGiven values (codes "ring")
 ring_given name values (inl (is, rest)) takes = absurd (other_name takes_ring name _ refl takes is)
@@ -88,27 +95,30 @@ ring_given name values (inr (inr (inl (is, rest)))) takes = absurd (other_name t
 ring_given name values (inr (inr (inr (inl (is, (ids, (ring, rest))))))) takes = ring_of_value values (ring refl)
 ring_given name values (inr (inr (inr (inr (inl (is, (ids, (ring, rest)))))))) takes = ring_of_value values (ring refl)
 ring_given name values (inr (inr (inr (inr (inr (inl (is, rest))))))) takes = absurd (other_name takes_ring name _ refl takes is)
-ring_given name values (inr (inr (inr (inr (inr (inr none)))))) takes = absurd none
+ring_given name values (inr (inr (inr (inr (inr (inr (inl (is, rest)))))))) takes = absurd (other_name takes_ring name _ refl takes is)
+ring_given name values (inr (inr (inr (inr (inr (inr (inr none))))))) takes = absurd none
 
-pub near_given : (name : Text) (values : List Row) → IsOneOf command_line.subs name values → is_named (codes "judge") name ≡ true
-    → IsNumberGiven values (codes "near") 1 4096
-near_given name values (inl (is, rest)) takes = absurd (other_name (is_named (codes "judge")) name _ refl takes is)
-near_given name values (inr (inl (is, rest))) takes = absurd (other_name (is_named (codes "judge")) name _ refl takes is)
+pub near_given : (name : Text) (values : List Row) → IsOneOf command_line.subs name values → takes_near name ≡ true
+    → IsNumberGiven values (codes "near") 1 MAX_DISTANCE
+near_given name values (inl (is, rest)) takes = absurd (other_name takes_near name _ refl takes is)
+near_given name values (inr (inl (is, (ids, (workers, (near, rest)))))) takes = near_of_value values (near refl)
 near_given name values (inr (inr (inl (is, (ids, (workers, (near, rest))))))) takes = near_of_value values (near refl)
-near_given name values (inr (inr (inr (inl (is, rest))))) takes = absurd (other_name (is_named (codes "judge")) name _ refl takes is)
-near_given name values (inr (inr (inr (inr (inl (is, rest)))))) takes = absurd (other_name (is_named (codes "judge")) name _ refl takes is)
-near_given name values (inr (inr (inr (inr (inr (inl (is, rest))))))) takes = absurd (other_name (is_named (codes "judge")) name _ refl takes is)
-near_given name values (inr (inr (inr (inr (inr (inr none)))))) takes = absurd none
+near_given name values (inr (inr (inr (inl (is, rest))))) takes = absurd (other_name takes_near name _ refl takes is)
+near_given name values (inr (inr (inr (inr (inl (is, rest)))))) takes = absurd (other_name takes_near name _ refl takes is)
+near_given name values (inr (inr (inr (inr (inr (inl (is, rest))))))) takes = absurd (other_name takes_near name _ refl takes is)
+near_given name values (inr (inr (inr (inr (inr (inr (inl (is, rest)))))))) takes = absurd (other_name takes_near name _ refl takes is)
+near_given name values (inr (inr (inr (inr (inr (inr (inr none))))))) takes = absurd none
 
-pub far_given : (name : Text) (values : List Row) → IsOneOf command_line.subs name values → is_named (codes "judge") name ≡ true
-    → IsNumberGiven values (codes "far") 0 4096
-far_given name values (inl (is, rest)) takes = absurd (other_name (is_named (codes "judge")) name _ refl takes is)
-far_given name values (inr (inl (is, rest))) takes = absurd (other_name (is_named (codes "judge")) name _ refl takes is)
+pub far_given : (name : Text) (values : List Row) → IsOneOf command_line.subs name values → takes_near name ≡ true
+    → IsNumberGiven values (codes "far") 0 MAX_DISTANCE
+far_given name values (inl (is, rest)) takes = absurd (other_name takes_near name _ refl takes is)
+far_given name values (inr (inl (is, (ids, (workers, (near, (far, rest))))))) takes = far_of_value values (far refl)
 far_given name values (inr (inr (inl (is, (ids, (workers, (near, (far, rest)))))))) takes = far_of_value values (far refl)
-far_given name values (inr (inr (inr (inl (is, rest))))) takes = absurd (other_name (is_named (codes "judge")) name _ refl takes is)
-far_given name values (inr (inr (inr (inr (inl (is, rest)))))) takes = absurd (other_name (is_named (codes "judge")) name _ refl takes is)
-far_given name values (inr (inr (inr (inr (inr (inl (is, rest))))))) takes = absurd (other_name (is_named (codes "judge")) name _ refl takes is)
-far_given name values (inr (inr (inr (inr (inr (inr none)))))) takes = absurd none
+far_given name values (inr (inr (inr (inl (is, rest))))) takes = absurd (other_name takes_near name _ refl takes is)
+far_given name values (inr (inr (inr (inr (inl (is, rest)))))) takes = absurd (other_name takes_near name _ refl takes is)
+far_given name values (inr (inr (inr (inr (inr (inl (is, rest))))))) takes = absurd (other_name takes_near name _ refl takes is)
+far_given name values (inr (inr (inr (inr (inr (inr (inl (is, rest)))))))) takes = absurd (other_name takes_near name _ refl takes is)
+far_given name values (inr (inr (inr (inr (inr (inr (inr none))))))) takes = absurd none
 
 -- ---- the number that a value is
 

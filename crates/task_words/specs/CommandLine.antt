@@ -1,4 +1,4 @@
--- The command line of the program, as `clap` reads it: one of six commands, then its options in any order, each with one value.
+-- The command line of the program, as `clap` reads it: one of seven commands, then its options in any order, each with one value.
 use Rattle.std.specs.Prelude.{◌≡◌, ℕ, List, [], ◌∷◌, Some, true, false, codes, pos}
 use Rattle.clap.specs.Words.{App, Rule, Shape, new_app, new_rule, shape_of}
 use Rattle.clap.specs.declared.builder.command.Command.{Command}
@@ -61,9 +61,9 @@ IsCommandOf shape command = (shape_of command ≡ shape) × ((out-Command comman
 abbrev pub check_command : Shape
 check_command = command_of (codes "check") (ids_rule ∷ [])
 
--- `table --ids M [--workers W]`
+-- `table --ids M [--workers W] [--near P] [--far Q]`
 abbrev pub table_command : Shape
-table_command = command_of (codes "table") (ids_rule ∷ workers_rule ∷ [])
+table_command = command_of (codes "table") (ids_rule ∷ workers_rule ∷ near_rule ∷ far_rule ∷ [])
 
 -- `judge --ids M [--workers W] [--near P] [--far Q]`
 abbrev pub judge_command : Shape
@@ -81,6 +81,10 @@ plan_command = command_of (codes "plan") (ids_rule ∷ ring_rule ∷ workers_rul
 abbrev pub audit_command : Shape
 audit_command = command_of (codes "audit") []
 
+-- `migrate`
+abbrev pub migrate_command : Shape
+migrate_command = command_of (codes "migrate") []
+
 -- the program, before its commands: the words are those after its name, and one command is wanted
 abbrev pub program : App
 program = record {
@@ -88,9 +92,9 @@ program = record {
   subs = [];
 }
 
--- the words after the program's name: the name of one of the six commands, and its options
+-- the words after the program's name: the name of one of the seven commands, and its options
 abbrev pub command_line : App
 command_line = record {
   top = record program.top { is_leaf = false };
-  subs = check_command ∷ table_command ∷ judge_command ∷ run_command ∷ plan_command ∷ audit_command ∷ [];
+  subs = check_command ∷ table_command ∷ judge_command ∷ run_command ∷ plan_command ∷ audit_command ∷ migrate_command ∷ [];
 }

@@ -1,33 +1,26 @@
 -- What a task says of itself.
-use Rattle.std.specs.Prelude.{ℕ, Option, Some, None, ⊤}
+use Rattle.std.specs.Prelude.{ℕ, ⊤}
 use Rattle.task_words.specs.declared.task.Task.{Task}
-use Rattle.task_words.specs.declared.task.Task.TheVariants.{Check, Table, Judge, Run, Plan, Audit}
+use Rattle.task_words.specs.declared.task.Task.TheVariants.{Check, Table, Judge, Run, Plan, Audit, Migrate}
 use Rattle.task_words.specs.Counts.{IsCount, IsNear, IsFar}
-
--- the number of identifiers that it is for; none of an audit, whose table says it
-abbrev pub ids_of : Task → Option ℕ
-ids_of (Check ids) = Some ids
-ids_of (Table ids workers) = Some ids
-ids_of (Judge ids workers near far) = Some ids
-ids_of (Run ids ring segments) = Some ids
-ids_of (Plan ids ring workers) = Some ids
-ids_of Audit = None
 
 -- the number of segments that its ring is run in: one, where it names no number
 abbrev pub segments_of : Task → ℕ
 segments_of (Check ids) = 1
-segments_of (Table ids workers) = 1
+segments_of (Table ids workers near far) = 1
 segments_of (Judge ids workers near far) = 1
 segments_of (Run ids ring segments) = segments
 segments_of (Plan ids ring workers) = 1
 segments_of Audit = 1
+segments_of Migrate = 1
 
 -- A task that can be done: where it names a number of workers, that is in its range, and so are the differences of channels
 -- that it names. A run in any number of segments can be done, since its report tells where the number is out of range.
 abbrev pub IsRunnable : Task → Type 0
 IsRunnable (Check ids) = ⊤
-IsRunnable (Table ids workers) = IsCount workers
+IsRunnable (Table ids workers near far) = IsCount workers × IsNear near × IsFar far
 IsRunnable (Judge ids workers near far) = IsCount workers × IsNear near × IsFar far
 IsRunnable (Run ids ring segments) = ⊤
 IsRunnable (Plan ids ring workers) = IsCount workers
 IsRunnable Audit = ⊤
+IsRunnable Migrate = ⊤

@@ -8,7 +8,7 @@ use Rattle.task_words.specs.CommandLine.{command_line}
 use Rattle.task_words.specs.Decimal.{IsNumber, number_in}
 use Rattle.task_words.specs.RingText.{IsRingText, ring_in}
 use Rattle.task_words.specs.declared.task.Task.{Task}
-use Rattle.task_words.specs.declared.task.Task.TheVariants.{Check, Table, Judge, Run, Plan, Audit}
+use Rattle.task_words.specs.declared.task.Task.TheVariants.{Check, Table, Judge, Run, Plan, Audit, Migrate}
 
 -- `clap` takes the words: no kind of fault is in them
 abbrev pub IsCommand : List Text → Type 0
@@ -51,8 +51,9 @@ HasBadRing words = IsCommand words × (name : Text) × (values : List Row) × Is
 -- the task for which the command of this name asks, with these values of its options
 abbrev pub IsTaskFor : Text → List Row → Task → Type 0
 IsTaskFor name values (Check ids) = (name ≡ codes "check") × HasNumber values (codes "ids") ids
-IsTaskFor name values (Table ids workers) =
+IsTaskFor name values (Table ids workers near far) =
     (name ≡ codes "table") × HasNumber values (codes "ids") ids × HasNumber values (codes "workers") workers
+    × HasNumber values (codes "near") near × HasNumber values (codes "far") far
 IsTaskFor name values (Judge ids workers near far) =
     (name ≡ codes "judge") × HasNumber values (codes "ids") ids × HasNumber values (codes "workers") workers
     × HasNumber values (codes "near") near × HasNumber values (codes "far") far
@@ -61,6 +62,7 @@ IsTaskFor name values (Run ids ring segments) = (name ≡ codes "run") × HasNum
 IsTaskFor name values (Plan ids ring workers) = (name ≡ codes "plan") × HasNumber values (codes "ids") ids
     × HasRing values ring.items × HasNumber values (codes "workers") workers
 IsTaskFor name values Audit = name ≡ codes "audit"
+IsTaskFor name values Migrate = name ≡ codes "migrate"
 
 -- the task for which the words ask
 abbrev pub IsTaskOf : List Text → Task → Type 0

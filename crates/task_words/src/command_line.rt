@@ -4,7 +4,7 @@ ghost use Rattle.std.specs.Prelude.{◌≡◌, IfOk, false, [], ◌∷◌, codes
 ghost use Rattle.clap.specs.Words.{app_of, rule_of};
 ghost use Rattle.task_words.specs.CommandLine.{IsCommandOf, command_of, program, option_rule, count_rule, ids_rule, ring_rule, workers_rule, segments_rule, near_rule, far_rule};
 ghost use Rattle.task_words.specs.CommandLine.{check_command, table_command, judge_command, run_command, plan_command};
-ghost use Rattle.task_words.specs.CommandLine.{audit_command, command_line};
+ghost use Rattle.task_words.specs.CommandLine.{audit_command, migrate_command, command_line};
 
 use crate::help;
 use crate::limits::{MAX_COUNT, MAX_DISTANCE};
@@ -12,7 +12,7 @@ use clap::builder::ValueParser;
 use clap::{Arg, ArgAction, Command, value_parser};
 use std::alloc::{AllocError, Global};
 
-// The words after the program's name: one of the six commands, and its options.
+// The words after the program's name: one of the seven commands, and its options.
 pub(crate) fn command_line<'a>(alloc: Global) -> Result<Command<'a>, AllocError>
     ensures { IfOk result (λ line. app_of line ≡ command_line) }
 {
@@ -22,7 +22,8 @@ pub(crate) fn command_line<'a>(alloc: Global) -> Result<Command<'a>, AllocError>
         .subcommand(judge(alloc)?)?
         .subcommand(run(alloc)?)?
         .subcommand(plan(alloc)?)?
-        .subcommand(audit(alloc))
+        .subcommand(audit(alloc))?
+        .subcommand(migrate(alloc))
 }
 
 // The program before its commands.
@@ -47,9 +48,16 @@ fn check<'a>(alloc: Global) -> Result<Command<'a>, AllocError>
         .arg(ids(alloc))
 }
 
-// `table --ids M [--workers W]`.
+// `table --ids M [--workers W] [--near P] [--far Q]`.
 fn table<'a>(alloc: Global) -> Result<Command<'a>, AllocError>
     ensures { IfOk result (IsCommandOf table_command) }
+{
+    table_by_workers(alloc)?.arg(near(alloc))?.arg(far(alloc))
+}
+
+// `table` with its first two options.
+fn table_by_workers<'a>(alloc: Global) -> Result<Command<'a>, AllocError>
+    ensures { IfOk result (IsCommandOf (command_of (codes "table") (ids_rule ∷ workers_rule ∷ []))) }
 {
     Command::new(alloc, "table")
         .about(help::TABLE)
@@ -107,6 +115,15 @@ fn audit<'a>(alloc: Global) -> Command<'a>
     Command::new(alloc, "audit")
         .about(help::AUDIT)
         .after_help(help::AUDIT_DETAILS)
+}
+
+// `migrate`.
+fn migrate<'a>(alloc: Global) -> Command<'a>
+    ensures { IsCommandOf migrate_command result }
+{
+    Command::new(alloc, "migrate")
+        .about(help::MIGRATE)
+        .after_help(help::MIGRATE_DETAILS)
 }
 
 // `--ids M`.

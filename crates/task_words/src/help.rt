@@ -50,7 +50,9 @@ pub(crate) const RUN: &str = "Runs a program by messages on a ring, and prints t
 pub(crate) const PLAN: &str = "Prints the channels of a ring's places, looked up in the table";
 
 pub(crate) const AUDIT: &str =
-    "Tells whether neighbours' channels differ on every ring, by a table text";
+    "Tells whether channels are far enough apart on every ring, by a table text";
+
+pub(crate) const MIGRATE: &str = "Prints a table text of any version in the newest one";
 
 pub(crate) const IDS: &str = "How many identifiers there are; they are 0 to M-1";
 
@@ -85,7 +87,8 @@ pub(crate) const TABLE_DETAILS: &str = details!(
 Standard output: the table text, or one line: what is refused
 
 ",
-    "
+    "The text also tells near and far, by which `nbhd audit` judges the table.
+
 Exit status:
   0  the table is printed
   2  the words are refused
@@ -149,8 +152,11 @@ Exit status:
 
 /// What `audit` reads and prints.
 pub(crate) const AUDIT_DETAILS: &str = "Standard input:  a table text, as `nbhd table` prints it
-Standard output: one line: yes, or no with a ring where two neighbours have one channel,
+Standard output: one line: yes, or no with a ring where two channels are too close,
                  or what is refused
+
+How far apart channels have to be is told by near and far of the text; a text of version 1 has near 1
+and far 0: neighbours' channels have to differ.
 
 Exit status:
   0  yes
@@ -159,3 +165,14 @@ Exit status:
   3  the table text is refused
   5  reading or writing failed
   6  memory or a thread was refused";
+
+/// What `migrate` reads and prints.
+pub(crate) const MIGRATE_DETAILS: &str = "Standard input:  a table text of version 1 or 2
+Standard output: the text of the same table, near and far in version 2, or one line: what is refused
+
+Exit status:
+  0  the text is printed
+  2  the words are refused
+  3  the table text is refused
+  5  reading or writing failed
+  6  memory was refused";

@@ -38,6 +38,8 @@ pub(crate) fn task_in(
         "table" => Ok(Task::Table {
             ids: ids_of(options),
             workers: count_of(options, "workers"),
+            near: near_of(options),
+            far: far_of(options),
         }),
         "judge" => Ok(Task::Judge {
             ids: ids_of(options),
@@ -56,6 +58,7 @@ pub(crate) fn task_in(
             workers: count_of(options, "workers"),
         }),
         "audit" => Ok(Task::Audit),
+        "migrate" => Ok(Task::Migrate),
         _ => unreachable!(),
     }
 }

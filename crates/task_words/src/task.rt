@@ -13,12 +13,16 @@ pub enum Task {
         /// How many identifiers there are.
         ids: u32,
     },
-    /// Makes the table of the program text of the input for identifiers below `ids`.
+    /// Makes the table of the program text of the input for identifiers below `ids`. Its text tells the separation too.
     Table {
         /// How many identifiers there are.
         ids: u32,
         /// How many workers do it, 1 to `MAX_COUNT`.
         workers: u32,
+        /// By how much neighbours' channels have to differ, 1 to `MAX_DISTANCE`.
+        near: u32,
+        /// By how much the channels of places at distance two have to differ, 0 to `MAX_DISTANCE`.
+        far: u32,
     },
     /// Tells whether the channels of near places are far enough apart on every ring of identifiers below `ids`,
     /// by the program text of the input.
@@ -52,40 +56,15 @@ pub enum Task {
         /// How many workers do it, 1 to `MAX_COUNT`.
         workers: u32,
     },
-    /// Tells whether the channels of neighbours differ on every ring, by the table text of the input.
+    /// Tells whether the channels of near places are far enough apart on every ring, by the table text of the input.
     Audit,
+    /// Writes the table and the separation of the table text of the input in the newest version.
+    Migrate,
 }
 
 impl Task {
-    ghost use Rattle.std.specs.Prelude.{◌≡◌, ◌↔◌, IsTrue};
-    ghost use Rattle.task_words.specs.Task.{ids_of, IsRunnable};
-
-    /// How many identifiers there are; none of an audit, whose table says it.
-    pub fn ids(&self) -> Option<u32>
-        ensures { result ≡ ids_of self.now }
-    {
-        match self {
-            Task::Check { ids } => Some(*ids),
-            Task::Table { ids, workers: _ }
-            | Task::Judge {
-                ids,
-                workers: _,
-                near: _,
-                far: _,
-            } => Some(*ids),
-            Task::Run {
-                ids,
-                ring: _,
-                segments: _,
-            }
-            | Task::Plan {
-                ids,
-                ring: _,
-                workers: _,
-            } => Some(*ids),
-            Task::Audit => None,
-        }
-    }
+    ghost use Rattle.std.specs.Prelude.{◌↔◌, IsTrue};
+    ghost use Rattle.task_words.specs.Task.{IsRunnable};
 
     /// Whether the task can be done: where it names a number of workers, that is 1 to `MAX_COUNT`, and where
     /// it names differences of channels, these are at most `MAX_DISTANCE`, and that of neighbours is at least 1.
@@ -99,9 +78,15 @@ impl Task {
                 ring: _,
                 segments: _,
             }
-            | Task::Audit => true,
-            Task::Table { ids: _, workers } => is_count(*workers),
-            Task::Judge {
+            | Task::Audit
+            | Task::Migrate => true,
+            Task::Table {
+                ids: _,
+                workers,
+                near,
+                far,
+            }
+            | Task::Judge {
                 ids: _,
                 workers,
                 near,

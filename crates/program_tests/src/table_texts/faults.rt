@@ -1,4 +1,4 @@
-use super::{IDENTIFIERS, fault_of};
+use super::{IDENTIFIERS, IDENTIFIERS_2, fault_of};
 use std::alloc::{AllocError, Global};
 use std::test::Fail;
 use table_text::TableFault::{ChannelTooLarge, Syntax, WrongWindow};
@@ -6,37 +6,80 @@ use table_text::{LONGEST_TABLE_TEXT, TableFault};
 
 #[test]
 fn a_text_that_stops_early(rt: HostRuntime) {
-    let rows = [(0, 0), (12, 0), (13, 13), (39, 39), (53, 51), (54, 51)];
-    for (bytes, offset) in rows {
-        let fault = fault_of(rt.alloc(), &IDENTIFIERS[..bytes]);
+    let rows = [
+        (IDENTIFIERS, 0, 0),
+        (IDENTIFIERS, 12, 0),
+        (IDENTIFIERS, 13, 13),
+        (IDENTIFIERS, 39, 39),
+        (IDENTIFIERS, 53, 51),
+        (IDENTIFIERS, 54, 51),
+        (IDENTIFIERS_2, 12, 0),
+        (IDENTIFIERS_2, 13, 13),
+        (IDENTIFIERS_2, 51, 13),
+        (IDENTIFIERS_2, 52, 52),
+        (IDENTIFIERS_2, 66, 64),
+        (IDENTIFIERS_2, 67, 64),
+    ];
+    for (text, bytes, offset) in rows {
+        let fault = fault_of(rt.alloc(), &text[..bytes]);
         assert_eq!(rt; fault, Some(Syntax(offset)), "{bytes} bytes");
     }
 }
 
-// The fault of a text of five lines, the second to the fourth of which are these.
-fn fault_with(alloc: Global, lines: [&str; 3]) -> Result<Option<TableFault>, AllocError> {
-    let [second, third, fourth] = lines;
-    let text = format!(in alloc; "nbhd-table 1\n{second}\n{third}\n{fourth}\nend\n")?;
+// The fault of a text of five lines, the first four of which are these.
+fn fault_with(alloc: Global, lines: [&str; 4]) -> Result<Option<TableFault>, AllocError> {
+    let [first, second, third, fourth] = lines;
+    let text = format!(in alloc; "{first}\n{second}\n{third}\n{fourth}\nend\n")?;
     Ok(fault_of(alloc, text.as_bytes()))
+}
+
+#[test]
+fn a_first_line_without_its_form(rt: HostRuntime) -> Result<(), Fail> {
+    let rows = [
+        "nbhd-table 3",
+        "nbhd-table 0",
+        "nbhd-table 02",
+        "nbhd-table 2 ",
+        "nbhd-table",
+        "Nbhd-table 2",
+    ];
+    let second = "rounds 0 ids 2 channels 2 near 1 far 0";
+    for first in rows {
+        let fault = fault_with(rt.alloc(), [first, second, "0 : 0", "1 : 1"])?;
+        assert_eq!(rt; fault, Some(Syntax(0)), "{first}");
+    }
+    Ok(())
 }
 
 #[test]
 fn a_second_line_without_its_form(rt: HostRuntime) -> Result<(), Fail> {
     let rows = [
-        "rounds 0 ids 1 channels 2",
-        "rounds 0 ids 1025 channels 2",
-        "rounds 1 ids 163 channels 2",
-        "rounds 4 ids 9 channels 2",
-        "rounds 4 ids 11 channels 2",
-        "rounds 5 ids 12 channels 2",
-        "rounds 0 ids 2 channels 0",
-        "rounds 0 ids 2 channels 4097",
-        "rounds 0 ids 2 channels 02",
-        "rounds 0 ids 2  channels 2",
+        ("nbhd-table 1", "rounds 0 ids 1 channels 2"),
+        ("nbhd-table 1", "rounds 0 ids 1025 channels 2"),
+        ("nbhd-table 1", "rounds 1 ids 163 channels 2"),
+        ("nbhd-table 1", "rounds 4 ids 9 channels 2"),
+        ("nbhd-table 1", "rounds 4 ids 11 channels 2"),
+        ("nbhd-table 1", "rounds 5 ids 12 channels 2"),
+        ("nbhd-table 1", "rounds 0 ids 2 channels 0"),
+        ("nbhd-table 1", "rounds 0 ids 2 channels 4097"),
+        ("nbhd-table 1", "rounds 0 ids 2 channels 02"),
+        ("nbhd-table 1", "rounds 0 ids 2  channels 2"),
+        ("nbhd-table 1", "rounds 0 ids 2 channels 2 near 1 far 0"),
+        ("nbhd-table 2", "rounds 0 ids 2 channels 2"),
+        ("nbhd-table 2", "rounds 0 ids 2 channels 2 near 1"),
+        ("nbhd-table 2", "rounds 0 ids 2 channels 2 near 0 far 0"),
+        ("nbhd-table 2", "rounds 0 ids 2 channels 2 near 4097 far 0"),
+        ("nbhd-table 2", "rounds 0 ids 2 channels 2 near 1 far 4097"),
+        ("nbhd-table 2", "rounds 0 ids 2 channels 2 near 01 far 0"),
+        ("nbhd-table 2", "rounds 0 ids 2 channels 2 near 1 far 00"),
+        ("nbhd-table 2", "rounds 0 ids 2 channels 2 far 0 near 1"),
+        ("nbhd-table 2", "rounds 0 ids 2 channels 2 near 1 far 0 "),
+        ("nbhd-table 2", "rounds 0 ids 1 channels 2 near 1 far 0"),
+        ("nbhd-table 2", "rounds 0 ids 2 channels 4097 near 1 far 0"),
     ];
-    for second in rows {
-        let fault = fault_with(rt.alloc(), [second, "0 : 0", "1 : 1"])?;
-        assert_eq!(rt; fault, Some(Syntax(13)), "{second}");
+    for (first, second) in rows {
+        let fault = fault_with(rt.alloc(), [first, second, "0 : 0", "1 : 1"])?;
+        assert_eq!(rt; fault, Some(Syntax(13)), "{first} {second}");
     }
     Ok(())
 }
@@ -55,15 +98,15 @@ fn a_line_of_a_window_with_a_fault(rt: HostRuntime) -> Result<(), Fail> {
         ("0 : 0", "1 : 2", ChannelTooLarge(4)),
     ];
     for (third, fourth, fault) in rows {
-        let lines = ["rounds 0 ids 2 channels 2", third, fourth];
+        let lines = ["nbhd-table 1", "rounds 0 ids 2 channels 2", third, fourth];
         assert_eq!(rt; fault_with(rt.alloc(), lines)?, Some(fault), "{third}");
     }
     Ok(())
 }
 
-// The fault of the text of the identifiers with these bytes after it.
-fn fault_before(alloc: Global, more: &[u8]) -> Result<Option<TableFault>, AllocError> {
-    let mut text = Vec::from_slice(alloc, IDENTIFIERS)?;
+// The fault of a text with these bytes after it.
+fn fault_before(alloc: Global, text: &[u8], more: &[u8]) -> Result<Option<TableFault>, AllocError> {
+    let mut text = Vec::from_slice(alloc, text)?;
     text.extend_from_slice(more)?;
     Ok(fault_of(alloc, &text))
 }
@@ -71,8 +114,10 @@ fn fault_before(alloc: Global, more: &[u8]) -> Result<Option<TableFault>, AllocE
 #[test]
 fn bytes_after_the_end(rt: HostRuntime) -> Result<(), Fail> {
     for more in ["\n", "e", "end\n"] {
-        let fault = fault_before(rt.alloc(), more.as_bytes())?;
+        let fault = fault_before(rt.alloc(), IDENTIFIERS, more.as_bytes())?;
         assert_eq!(rt; fault, Some(Syntax(55)));
+        let fault = fault_before(rt.alloc(), IDENTIFIERS_2, more.as_bytes())?;
+        assert_eq!(rt; fault, Some(Syntax(68)));
     }
     Ok(())
 }

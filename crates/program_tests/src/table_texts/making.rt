@@ -1,6 +1,7 @@
 //! The text of a table that was made entry by entry.
 
 use devices::watched::Watched;
+use nbhd_check::Separation;
 use std::alloc::Global;
 use std::process::Abort;
 use std::test::Fail;
@@ -21,11 +22,14 @@ fn table_of_identifiers(rt: &impl Abort, alloc: Global) -> Result<Table, Fail> {
 #[test]
 fn a_table_is_written(rt: HostRuntime) -> Result<(), Fail> {
     let table = table_of_identifiers(&rt, rt.alloc())?;
-    let mut writer = Watched::new(Vec::new(rt.alloc()));
-    write_table(rt.alloc(), &table, &mut writer)?;
-    assert_eq!(rt;
-        writer.into_device().as_slice(),
-        b"nbhd-table 1\nrounds 0 ids 2 channels 2\n0 : 0\n1 : 1\nend\n".as_slice()
-    );
+    let rows = [(1, 0, "near 1 far 0"), (4096, 7, "near 4096 far 7")];
+    for (near, far, distances) in rows {
+        let mut writer = Watched::new(Vec::new(rt.alloc()));
+        write_table(rt.alloc(), &table, Separation { near, far }, &mut writer)?;
+        let text = format!(in rt.alloc();
+            "nbhd-table 2\nrounds 0 ids 2 channels 2 {distances}\n0 : 0\n1 : 1\nend\n"
+        )?;
+        assert_eq!(rt; writer.into_device().as_slice(), text.as_bytes());
+    }
     Ok(())
 }

@@ -75,7 +75,7 @@ fn words_with_a_missing_option_are_refused(rt: HostRuntime) {
 fn words_with_a_stray_word_are_refused(rt: HostRuntime) {
     are_no_commands(
         &rt,
-        "check 8|check --ids 8 8|audit 8|audit audit|run --ids 8 5,1,3,7",
+        "check 8|check --ids 8 8|audit 8|audit audit|migrate audit|run --ids 8 5,1,3,7",
     );
     are_no_commands(&rt, "check --idz 8|check -ids 8|table --ids 8 --worker 1");
 }
@@ -94,7 +94,10 @@ fn options_of_another_command_are_refused(rt: HostRuntime) {
         &rt,
         "run --ids 8 --ring 5,1,3,7 --workers 1|plan --ids 8 --ring 5 --segments 1",
     );
-    are_no_commands(&rt, "audit --ids 8|audit --workers 1");
+    are_no_commands(
+        &rt,
+        "audit --ids 8|audit --workers 1|migrate --ids 8|migrate --near 1",
+    );
 }
 
 #[test]
@@ -125,7 +128,11 @@ fn numbers_out_of_range_are_refused(rt: HostRuntime) {
     );
     are_no_commands(
         &rt,
-        "table --ids 8 --near 1|judge --ids 8 --near 1 --near 1|judge --ids 8 --far -1",
+        "table --ids 8 --near 0|table --ids 8 --near 4097|table --ids 8 --far 4097",
+    );
+    are_no_commands(
+        &rt,
+        "plan --ids 8 --ring 5 --near 1|judge --ids 8 --near 1 --near 1|judge --ids 8 --far -1",
     );
     are_no_commands(
         &rt,

@@ -27,18 +27,23 @@ fn checks_are_tasks(rt: HostRuntime) {
 #[test]
 fn tables_are_tasks(rt: HostRuntime) {
     let rows = [
-        ("table --ids 8", 1),
-        ("table --ids 8 --workers 1", 1),
-        ("table --workers 64 --ids 8", 64),
-        ("table --workers=02 --ids 08", 2),
-        ("table --ids +8 --workers +3", 3),
+        ("table --ids 8", 1, 1, 0),
+        ("table --ids 8 --workers 1", 1, 1, 0),
+        ("table --workers 64 --ids 8", 64, 1, 0),
+        ("table --workers=02 --ids 08", 2, 1, 0),
+        ("table --ids +8 --workers +3", 3, 1, 0),
+        ("table --ids 8 --near 2 --far 1", 1, 2, 1),
+        ("table --far 4096 --ids 8 --near 4096", 1, 4096, 4096),
+        ("table --far=00 --near=+3 --ids=8", 1, 3, 0),
     ];
-    for (line, workers) in rows {
-        assert_eq!(rt;
-            asked(rt.alloc(), line),
-            Ok(Task::Table { ids: 8, workers }),
-            "at {line}"
-        );
+    for (line, workers, near, far) in rows {
+        let task = Task::Table {
+            ids: 8,
+            workers,
+            near,
+            far,
+        };
+        assert_eq!(rt; asked(rt.alloc(), line), Ok(task), "at {line}");
     }
 }
 
@@ -104,14 +109,15 @@ fn plans_are_tasks(rt: HostRuntime) -> Result<(), Fail> {
 }
 
 #[test]
-fn an_audit_is_a_task(rt: HostRuntime) {
+fn an_audit_and_a_migration_are_tasks(rt: HostRuntime) {
     assert_eq!(rt; asked(rt.alloc(), "audit"), Ok(Task::Audit));
+    assert_eq!(rt; asked(rt.alloc(), "migrate"), Ok(Task::Migrate));
 }
 
 #[test]
 fn help_is_asked_for(rt: HostRuntime) {
     let lines =
-        "--help|-h|help|help run|help audit|run --help|run -h|audit --help|run --ids 8 --help|check --ids 8 -h";
+        "--help|-h|help|help run|help audit|help migrate|run --help|run -h|audit --help|run --ids 8 --help|check --ids 8 -h";
     for line in lines.split('|') {
         assert_eq!(rt; answer_to(rt.alloc(), line), Answer::Help, "at {line}");
     }
@@ -120,7 +126,12 @@ fn help_is_asked_for(rt: HostRuntime) {
 #[test]
 fn tasks_of_1_to_64_workers_can_be_done(rt: HostRuntime) {
     for (workers, can) in [(0, false), (1, true), (64, true), (65, false)] {
-        let table = Task::Table { ids: 8, workers };
+        let table = Task::Table {
+            ids: 8,
+            workers,
+            near: 1,
+            far: 0,
+        };
         assert_eq!(rt; table.is_runnable(), can, "{workers} workers");
         let judge = Task::Judge {
             ids: 8,
@@ -138,10 +149,11 @@ fn tasks_of_1_to_64_workers_can_be_done(rt: HostRuntime) {
     }
     assert!(rt; Task::Check { ids: 8 }.is_runnable());
     assert!(rt; Task::Audit.is_runnable());
+    assert!(rt; Task::Migrate.is_runnable());
 }
 
 #[test]
-fn judges_of_1_to_4096_and_0_to_4096_can_be_done(rt: HostRuntime) {
+fn tables_and_judges_of_1_to_4096_and_0_to_4096_can_be_done(rt: HostRuntime) {
     let rows = [
         (0, 0, false),
         (1, 0, true),
@@ -157,6 +169,13 @@ fn judges_of_1_to_4096_and_0_to_4096_can_be_done(rt: HostRuntime) {
             far,
         };
         assert_eq!(rt; judge.is_runnable(), can, "near {near} far {far}");
+        let table = Task::Table {
+            ids: 8,
+            workers: 1,
+            near,
+            far,
+        };
+        assert_eq!(rt; table.is_runnable(), can, "near {near} far {far}");
     }
 }
 

@@ -20,13 +20,14 @@ and judges whether neighbours' channels differ on every oriented ring.
 Usage: nbhd <COMMAND>
 
 Commands:
-  check  Tells whether a program is accepted for M identifiers
-  table  Prints the table of a program, one channel per window
-  judge  Tells whether channels are far enough apart on every ring, by a program's table
-  run    Runs a program by messages on a ring, and prints the channels
-  plan   Prints the channels of a ring's places, looked up in the table
-  audit  Tells whether neighbours' channels differ on every ring, by a table text
-  help   Print this message or the help of the given subcommand(s)
+  check    Tells whether a program is accepted for M identifiers
+  table    Prints the table of a program, one channel per window
+  judge    Tells whether channels are far enough apart on every ring, by a program's table
+  run      Runs a program by messages on a ring, and prints the channels
+  plan     Prints the channels of a ring's places, looked up in the table
+  audit    Tells whether channels are far enough apart on every ring, by a table text
+  migrate  Prints a table text of any version in the newest one
+  help     Print this message or the help of the given subcommand(s)
 
 Options:
   -h, --help  Print help
@@ -108,7 +109,7 @@ Exit status:
 
 #[test]
 fn help_of_an_audit(rt: HostRuntime) -> Result<(), Fail> {
-    let expected = "Tells whether neighbours' channels differ on every ring, by a table text
+    let expected = "Tells whether channels are far enough apart on every ring, by a table text
 
 Usage: nbhd audit
 
@@ -116,8 +117,11 @@ Options:
   -h, --help  Print help
 
 Standard input:  a table text, as `nbhd table` prints it
-Standard output: one line: yes, or no with a ring where two neighbours have one channel,
+Standard output: one line: yes, or no with a ring where two channels are too close,
                  or what is refused
+
+How far apart channels have to be is told by near and far of the text; a text of version 1 has near 1
+and far 0: neighbours' channels have to differ.
 
 Exit status:
   0  yes
@@ -136,7 +140,7 @@ const REFUSED: [(&str, &str); 4] = [
     (
         "",
         "error: 'nbhd' requires a subcommand but one was not provided
-  [subcommands: check, table, judge, run, plan, audit, help]
+  [subcommands: check, table, judge, run, plan, audit, migrate, help]
 
 Usage: nbhd <COMMAND>
 
@@ -183,7 +187,7 @@ fn words_are_refused_with_the_way_to_call_it(rt: HostRuntime) -> Result<(), Fail
 
 #[test]
 fn both_ways_to_ask_for_help_give_one_text(rt: HostRuntime) -> Result<(), Fail> {
-    for name in ["check", "table", "judge", "run", "plan", "audit"] {
+    for name in ["check", "table", "judge", "run", "plan", "audit", "migrate"] {
         let word = format!(in rt.alloc(); "help {name}")?;
         let long = format!(in rt.alloc(); "{name} --help")?;
         let short = format!(in rt.alloc(); "{name} -h")?;

@@ -1,28 +1,21 @@
-use Rattle.std.proofs.Common.{arith}
-use Rattle.std.proofs.lemmas.Bool.{false≢true}
-use Rattle.table_text.proofs.Headers.{sizes_are}
+use Rattle.std.proofs.Common.{ap, ◌∙◌}
+use Rattle.table_text.specs.TableText.{counts_then}
+use Rattle.table_text.proofs.Headers.{Fit, sizes_are}
 use Rattle.table_text.proofs.lines.sizes.Goals as goal
 
-pub returns-then-counts-gt-MAX_ROUNDS-clause-none : goal.returns-then-counts-gt-MAX_ROUNDS-clause-none
-returns-then-counts-gt-MAX_ROUNDS-clause-none c has =
+pub returns-in_default-shape_of-clause-none : goal.returns-in_default-shape_of-clause-none
+returns-in_default-shape_of-clause-none c has =
+    let counts = c.in-Some.counts in
     let fit = c.in-Some.ensures.fit in
-    let are = sizes_are c.args.text.now _ _ _ _ (record { rounds_fit = fit.0; ids_fit = fit.1; channels_fit = fit.2 }) c.in-Some.ensures.counts has in
-    omega (arith, are.few_rounds, c.if-counts-gt-MAX_ROUNDS.true)
+    let fits : Fit counts.rounds counts.ids counts.channels = record { rounds_fit = fit.0; ids_fit = fit.1; channels_fit = fit.2 } in
+    let end = ap (λ e. counts_then counts.rounds counts.ids counts.channels e c.in-Some.distances.now) c.counts_end.ensures.end in
+    c.in_default-shape_of.ensures.none (sizes_are c.args.version c.args.text.now _ _ _ _ fits (c.in-Some.ensures.counts ∙ end) has).0
 
-pub returns-then-counts-lt1-clause-none : goal.returns-then-counts-lt1-clause-none
-returns-then-counts-lt1-clause-none c has =
+pub returns-in_default-separation_in-clause-none : goal.returns-in_default-separation_in-clause-none
+returns-in_default-separation_in-clause-none c has =
+    let counts = c.in-Some.counts in
     let fit = c.in-Some.ensures.fit in
-    let are = sizes_are c.args.text.now _ _ _ _ (record { rounds_fit = fit.0; ids_fit = fit.1; channels_fit = fit.2 }) c.in-Some.ensures.counts has in
-    omega (arith, are.some_channels, c.if-counts-lt1.true)
-
-pub returns-then-counts-gt-MAX_CHANNELS-clause-none : goal.returns-then-counts-gt-MAX_CHANNELS-clause-none
-returns-then-counts-gt-MAX_CHANNELS-clause-none c has =
-    let fit = c.in-Some.ensures.fit in
-    let are = sizes_are c.args.text.now _ _ _ _ (record { rounds_fit = fit.0; ids_fit = fit.1; channels_fit = fit.2 }) c.in-Some.ensures.counts has in
-    omega (arith, are.few_channels, c.if-counts-gt-MAX_CHANNELS.true)
-
-pub returns-in_default-new-clause-none : goal.returns-in_default-new-clause-none
-returns-in_default-new-clause-none c has =
-    let fit = c.in-Some.ensures.fit in
-    let are = sizes_are c.args.text.now _ _ _ _ (record { rounds_fit = fit.0; ids_fit = fit.1; channels_fit = fit.2 }) c.in-Some.ensures.counts has in
-    false≢true (c.in_default-new.ensures.exact.1 are.shape)
+    let fits : Fit counts.rounds counts.ids counts.channels = record { rounds_fit = fit.0; ids_fit = fit.1; channels_fit = fit.2 } in
+    let end = ap (λ e. counts_then counts.rounds counts.ids counts.channels e c.in-Some.distances.now) c.counts_end.ensures.end in
+    let are = sizes_are c.args.version c.args.text.now _ _ _ _ fits (c.in-Some.ensures.counts ∙ end) has in
+    c.in_default-separation_in.ensures.none are.1 are.2 are.3 are.4

@@ -1,4 +1,4 @@
-use Rattle.std.proofs.Common.{◌≡◌, ◌∷◌, [], ◌++◌, length, ap, sym, ◌∙◌, ◌+◌, length-append, subst}
+use Rattle.std.proofs.Common.{◌∷◌, [], length, ap, sym, ◌∙◌, ◌+◌, length-append, subst}
 use Rattle.table_text.specs.Pieces.{channel_text, AreTexts}
 use Rattle.table_text.proofs.PieceTexts.{texts_more}
 use Rattle.table_text.proofs.pieces.channel_pieces.Goals as goal

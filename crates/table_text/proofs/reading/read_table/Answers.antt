@@ -1,20 +1,25 @@
-use Rattle.std.proofs.Common.{◌≡◌, List, ℕ, [], append-nil, sym, subst, ◌∙◌}
+use Rattle.std.proofs.Common.{◌≡◌, List, ℕ, [], append-nil, sym, ap, subst, ◌∙◌}
 use Rattle.std.specs.Prelude.{Result, Ok, Err, MatchResult, IfOk, IfErr}
-use Rattle.table_fill.specs.Tables.{ChannelTable, IsTable}
-use Rattle.table_text.specs.TableText.{table_text}
+use Rattle.table_fill.specs.Tables.{ChannelTable}
+use Rattle.nbhd_check.specs.declared.separation.Separation.{Separation}
+use Rattle.table_text.specs.TableText.{Written, written, text_of}
+use Rattle.table_text.specs.Texts.{IsTextOf}
 use Rattle.table_text.specs.Faults.{IsFault}
 use Rattle.table_text.specs.Laws.{TableTextsAreApart, TableTextsAreRead}
 use Rattle.table_text.specs.declared.fault.TableFault.{TableFault}
 use Rattle.table_text.specs.declared.fault.TableFault.TheVariants.{OutOfMemory}
 use Rattle.table_text.proofs.reading.read_table.Goals as goal
 
--- what answers the text of a table by a table or a fault answers that table, or want of memory
-answers_table : TableTextsAreApart → TableTextsAreRead → (text : List ℕ) (r : Result ChannelTable TableFault)
-    → IfOk r (λ table. IsTable table × (text ≡ table_text table)) → IfErr r (IsFault text) → (t : ChannelTable) → IsTable t → text ≡ table_text t
-    → MatchResult r (λ table. table ≡ t) (λ fault. fault ≡ OutOfMemory)
-answers_table apart read text (Ok table) ok err t is same =
-    (apart table t [] ok.0 is (sym same ∙ ok.1 ∙ sym (append-nil (table_text table)))).0
-answers_table apart read text (Err fault) ok err t is same = read t fault is (subst (λ l. IsFault l fault) same err)
+-- what answers a table text by a table and a separation or by a fault answers those of the text, or want of memory
+answers_table : TableTextsAreApart → TableTextsAreRead → (text : List ℕ) (r : Result (ChannelTable × Separation) TableFault)
+    → IfOk r (λ read. IsTextOf text read.0 read.1) → IfErr r (IsFault text) → (t : ChannelTable) (s : Separation) → IsTextOf text t s
+    → MatchResult r (λ read. (read.0 ≡ t) × (read.1 ≡ s)) (λ fault. fault ≡ OutOfMemory)
+answers_table apart read text (Ok told) ok err t s is =
+    let v = written ok.0 told.0 told.1 in
+    let w = written is.0 t s in
+    let one = (apart v w [] ok.1 is.1 (sym is.2 ∙ ok.2 ∙ sym (append-nil (text_of v)))).0 in
+    (ap (λ (x : Written). x.table) one, ap (λ (x : Written). x.separation) one)
+answers_table apart read text (Err fault) ok err t s is = read (written is.0 t s) fault is.1 (subst (λ l. IsFault l fault) is.2 err)
 
 pub returns-clause-read : goal.returns-clause-read
 returns-clause-read c =

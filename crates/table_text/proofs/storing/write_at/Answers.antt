@@ -1,4 +1,4 @@
-use Rattle.std.proofs.Common.{arith, rules}
+use Rattle.std.proofs.Common.{arith}
 use Rattle.table_text.proofs.WrittenChunks.{put_front}
 use Rattle.table_text.proofs.storing.write_at.Goals as goal
 

@@ -1,4 +1,3 @@
-use Rattle.std.proofs.Common.{rules}
 use Rattle.table_text.specs.Pieces.{held}
 use Rattle.table_text.proofs.WrittenChunks.{tells_sent}
 use Rattle.table_text.proofs.writing.make_room.Goals as goal

@@ -1,13 +1,11 @@
-use Rattle.std.proofs.Common.{◌≡◌, ◌+◌, ◌*◌, ◌<◌, ◌≤◌, [], ◌++◌, length, take, get_or, refl, sym, ap, ◌∙◌, subst, arith, rules, append_assoc}
-use Rattle.std.proofs.lemmas.List.{take_all, take_more}
+use Rattle.std.proofs.Common.{◌≡◌, ◌*◌, ◌<◌, [], ◌++◌, length, get_or, refl, ap, ◌∙◌, subst, arith, rules}
 use Rattle.std.proofs.lemmas.Result.{on_err_weaker}
 use Rattle.std.proofs.KnownBytes.{Appends-nil}
-use Rattle.devices.specs.Watched.{device_of}
 use Rattle.table_fill.specs.Tables.{windows_of}
 use Rattle.table_text.specs.TableText.{lines_then, entry_then}
-use Rattle.table_text.specs.Pieces.{held, piece_text, id_text, channel_text, Tells}
+use Rattle.table_text.specs.Pieces.{held, piece_text, id_text, channel_text, AreTexts, Tells}
 use Rattle.table_text.proofs.PieceTexts.{piece_at}
-use Rattle.table_text.proofs.WrittenLines.{front_of, front_more, lines_front, line_of_run}
+use Rattle.table_text.proofs.WrittenLines.{front_more, lines_front, line_of_run}
 use Rattle.table_text.proofs.WrittenChunks.{tells_more, tells_front, on_err}
 use Rattle.table_text.proofs.writing.write_entries.Goals as goal
 
@@ -35,15 +33,17 @@ loop-number-preserved g c =
     let last = get_or window (2 * t.rounds) 0 in
     let line = entry_then window channel [] in
     let own = c.loop-number.invariant.window in
+    let ids : AreTexts id_text c.deref-ids.result.now = search rules in
+    let ends : AreTexts channel_text c.deref-ends.result.now = search rules in
     let last_text : piece_text c.index-ids-window.result ≡ id_text last =
-    rw level at (ap piece_text c.index-ids-window.is ∙ piece_at id_text c.args.ids.now (get_or window (2 * c.rounds-level.result) 0) _ c.requires.ids.0 (search rules)) in
-    let end_text = ap piece_text c.index-ends-entry.is ∙ piece_at channel_text c.args.ends.now channel _ c.requires.ends.0 (search rules) in
+    rw level at (ap piece_text c.index-ids-window.is ∙ piece_at id_text c.deref-ids.result.now (get_or window (2 * c.rounds-level.result) 0) _ ids (search rules)) in
+    let end_text = ap piece_text c.index-ends-entry.is ∙ piece_at channel_text c.deref-ends.result.now channel _ ends (search rules) in
     let stored : held c.store_line.new.chunk ≡ held c.make_room.new.chunk ++ line =
     c.store_line.ensures ∙ ap (λ text. held c.make_room.new.chunk ++ text)
     ((λ i. c.loop-number.invariant.front i ++ (last_text i ++ end_text i)) ∙ line_of_run (2 * t.rounds) window channel own.size) in
     let before = c.in_ok-make_room.ensures.ok _ _ c.loop-number.invariant.told in
     let more = tells_more _ _ _ (held c.store_line.new.chunk) line _ before stored in
-    let lines = front_more t n c.entry.result window _ line (omega (arith, size, within)) (c.loop-number.invariant.next within) refl c.entry.ensures.value refl in
+    let lines = front_more t c.args.separation n c.entry.result window _ line (omega (arith, size, within)) (c.loop-number.invariant.next within) refl c.entry.ensures.value refl in
     record {
       next = search rules;
       window = search rules;
@@ -55,11 +55,11 @@ loop-number-preserved g c =
 pub returns-in_err-make_room-clause-err : goal.returns-in_err-make_room-clause-err
 returns-in_err-make_room-clause-err g c =
     let t = c.args.table.now in
-    let front = lines_front t c.loop-number.number (search rules) in
+    let front = lines_front t c.args.separation c.loop-number.number (search rules) in
     on_err c.from_residual.result (tells_front _ _ _ _ _ _ front.0 c.loop-number.invariant.told c.in_err-make_room.ensures.err front.1)
 
 pub returns-clause-err : goal.returns-clause-err
 returns-clause-err g c =
     let t = c.args.table.now in
-    let front = lines_front t c.loop-number.number (search rules) in
+    let front = lines_front t c.args.separation c.loop-number.number (search rules) in
     on_err_weaker c.make_room-2.result (λ failed. tells_front _ _ _ _ _ _ front.0 c.loop-number.invariant.told failed front.1) c.make_room-2.ensures.err

@@ -1,7 +1,8 @@
 use Rattle.std.proofs.Common.{◌≡◌, ◌+◌, ◌*◌, ◌<◌, [], Some, false, length, take, slice_get}
 use Rattle.win_index.specs.Windows.{windows, IsWindow}
+use Rattle.table_text.specs.declared.version.Version.TheVariants.{Two}
 use Rattle.devices.specs.Watched.{device_of, has_failed}
-use Rattle.table_text.specs.TableText.{ids_then, lines_then}
+use Rattle.table_text.specs.TableText.{written, ids_then, lines_then}
 use Rattle.table_text.specs.Pieces.{held, front_text, Tells}
 use Rattle.table_text.proofs.writing.write_entries.Given as goal
 
@@ -14,5 +15,5 @@ invariant-loop-number g l =
       front : front_text l.front ≡ ids_then (take (2 * l.table.rounds) l.window) [];
       working : has_failed l.writer ≡ false;
       told : Tells (g.W.Write.contents (device_of l.initial.writer)) (g.W.Write.contents (device_of l.writer)) (held l.chunk)
-          (lines_then (record l.table { entries = take l.number l.table.entries }) []);
+          (lines_then (written Two (record l.table { entries = take l.number l.table.entries }) l.fn.separation) []);
     }

@@ -2,7 +2,7 @@ use Rattle.std.proofs.Common.{ap₂, ◌≡◌, ◌∙◌}
 use Rattle.std.proofs.lemmas.Result.{IfOk-weaker}
 use Rattle.clap.specs.Words.{App, AddsSubcommand, Shape, app_of, with_subcommand}
 use Rattle.clap.specs.declared.builder.command.Command.{Command}
-use Rattle.task_words.specs.CommandLine.{IsCommandOf, check_command, table_command, judge_command, run_command, plan_command, audit_command}
+use Rattle.task_words.specs.CommandLine.{IsCommandOf, check_command, table_command, judge_command, run_command, plan_command, audit_command, migrate_command}
 use Rattle.task_words.proofs.command_line.command_line.Goals as goal
 
 -- what the command was and what was added to it
@@ -18,4 +18,5 @@ returns c =
     let third = added _ _ _ _ judge_command second c.in_ok-judge.ensures c.in_ok-subcommand-3.ensures in
     let fourth = added _ _ _ _ run_command third c.in_ok-run.ensures c.in_ok-subcommand-4.ensures in
     let fifth = added _ _ _ _ plan_command fourth c.in_ok-plan.ensures c.in_ok-subcommand-5.ensures in
-    IfOk-weaker c.subcommand-6.result _ _ (λ line adds. added _ _ line _ audit_command fifth c.audit.ensures adds) c.subcommand-6.ensures
+    let sixth = added _ _ _ _ audit_command fifth c.audit.ensures c.in_ok-subcommand-6.ensures in
+    IfOk-weaker c.subcommand-7.result _ _ (λ line adds. added _ _ line _ migrate_command sixth c.migrate.ensures adds) c.subcommand-7.ensures

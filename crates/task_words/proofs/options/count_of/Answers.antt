@@ -1,5 +1,6 @@
 use Rattle.std.proofs.Common.{◌≡◌, arith, subst}
 use Rattle.clap.specs.Words.{found_of, rows_of}
+use Rattle.task_words.specs.declared.limits.TheConstants.{MAX_COUNT}
 use Rattle.task_words.proofs.GivenOptions.{number_read}
 use Rattle.task_words.specs.Counts.{IsCount}
 use Rattle.task_words.specs.Words.{HasNumber}
@@ -7,17 +8,17 @@ use Rattle.task_words.proofs.options.count_of.Goals as goal
 
 pub unreachable-requires : goal.unreachable-requires
 unreachable-requires c =
-    let read = number_read (found_of c.args.options.now) c.args.option.now c.get_one.result 1 64 (omega arith) c.get_one.ensures.value c.requires in
+    let read = number_read (found_of c.args.options.now) c.args.option.now c.get_one.result 1 MAX_COUNT (omega arith) c.get_one.ensures.value c.requires in
     c.in_default.not-Some read.0 read.1
 
 pub returns-clause-number : goal.returns-clause-number
 returns-clause-number c =
-    let read = number_read (found_of c.args.options.now) c.args.option.now c.get_one.result 1 64 (omega arith) c.get_one.ensures.value c.requires in
+    let read = number_read (found_of c.args.options.now) c.args.option.now c.get_one.result 1 MAX_COUNT (omega arith) c.get_one.ensures.value c.requires in
     let same : read.0 ≡ c.in-Some.count = grind arith in
     subst (λ n. HasNumber (rows_of (found_of c.args.options.now)) c.args.option.now n) same read.2
 
 pub returns-clause-range : goal.returns-clause-range
 returns-clause-range c =
-    let read = number_read (found_of c.args.options.now) c.args.option.now c.get_one.result 1 64 (omega arith) c.get_one.ensures.value c.requires in
+    let read = number_read (found_of c.args.options.now) c.args.option.now c.get_one.result 1 MAX_COUNT (omega arith) c.get_one.ensures.value c.requires in
     let same : read.0 ≡ c.in-Some.count = grind arith in
     subst (λ n. IsCount n) same (record { some = read.3; few = read.4 })
