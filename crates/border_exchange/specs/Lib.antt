@@ -3,4 +3,5 @@
 pub mod SeatState
 pub mod InRounds
 pub mod SideMessages
+pub mod BorderContents
 pub mod SideShares

@@ -1,14 +1,16 @@
 // What a border keeps under its lock.
-ghost use Rattle.std.specs.Prelude.{◌≡◌, ◌+◌, ◌^◌, ◌<◌, ◌∷◌, ◌++◌, [], OnOk, OnErr, IfErr, IfSome, length};
+ghost use Rattle.std.specs.Prelude.{◌≡◌, ◌+◌, ◌^◌, ◌<◌, ◌≤◌, ◌↔◌, [], IsTrue, true, false, Err, OnOk, OnErr, IfErr, IfOk, IfSome, length, slice_get};
 ghost use Rattle.border_exchange.specs.InRounds.{AreInRounds};
+ghost use Rattle.border_exchange.specs.BorderContents.{messages_of, with_message, IsNext};
 ghost use Rattle.border_exchange.specs.declared.Side.TheVariants.{Rightward, Leftward};
-ghost use Rattle.border_exchange.specs.declared.fault.PutFault.TheVariants.{OutOfMemory as NoRoom};
+ghost use Rattle.border_exchange.specs.declared.fault.PutFault.TheVariants.{Closed, Misplaced, OutOfMemory as NoRoom};
 
 use crate::seat::Seat;
 use crate::side_list::SideList;
 use crate::{Dated, PutFault, Side, Totals};
 use node_lang::OutOfMemory;
 use std::alloc::Global;
+use std::marker::Model;
 use std::sync::ledger::{Book, Ledger};
 
 /// The lists of both sides, and whether the border was closed.
@@ -17,8 +19,18 @@ pub(crate) struct Lists<M: Dated, R: Ledger, L: Ledger> {
     rightward: SideList<M, R>,
     leftward: SideList<M, L>,
     closed: bool,
-    ghost to_the_right: { rightward.side ≡ Rightward },
-    ghost to_the_left: { leftward.side ≡ Leftward },
+}
+
+impl<M: Dated, R: Ledger, L: Ledger> Model for Lists<M, R, L> {
+    ghost use Rattle.std.specs.Prelude.{◌≡◌};
+    ghost use Rattle.border_exchange.specs.BorderContents.{BorderContents};
+    ghost use Rattle.border_exchange.specs.declared.Side.TheVariants.{Rightward, Leftward};
+
+    ghost Value = { BorderContents M };
+
+    ghost view = { λ b. record { rightward = b.rightward.messages; leftward = b.leftward.messages; closed = b.closed } };
+
+    ghost invariant = { λ b. (b.rightward.side ≡ Rightward) × (b.leftward.side ≡ Leftward) };
 }
 
 impl<M: Dated + Copy, R: Ledger, L: Ledger> Lists<M, R, L> {
@@ -28,6 +40,7 @@ impl<M: Dated + Copy, R: Ledger, L: Ledger> Lists<M, R, L> {
         left: Book<L>,
     ) -> Result<Lists<M, R, L>, OutOfMemory>
         requires { (right.total ≡ 0) × (left.total ≡ 0) }
+        ensures { IfOk result (λ lists. lists ≡ record { rightward = []; leftward = []; closed = false }) }
     {
         Ok(Lists {
             rightward: SideList::new(alloc, Side::Rightward, right)?,
@@ -37,8 +50,7 @@ impl<M: Dated + Copy, R: Ledger, L: Ledger> Lists<M, R, L> {
     }
 
     fn len(&self, side: Side) -> usize
-        ensures right { side ≡ Rightward → result ≡ length self.now.rightward.messages }
-        ensures left { side ≡ Leftward → result ≡ length self.now.leftward.messages }
+        ensures { result ≡ length (messages_of self.now side) }
     {
         match side {
             Side::Rightward => self.rightward.len(),
@@ -46,14 +58,18 @@ impl<M: Dated + Copy, R: Ledger, L: Ledger> Lists<M, R, L> {
         }
     }
 
-    /// Whether a taker of this side and round has to wait.
-    pub(crate) fn lacks(&self, side: Side, round: u32) -> bool {
+    /// Whether a taker of this side and round has to wait: the border is open, and its list of that side ends before
+    /// that round.
+    pub(crate) fn lacks(&self, side: Side, round: u32) -> bool
+        ensures { IsTrue result ↔ ((self.now.closed ≡ false) × (length (messages_of self.now side) ≤ round)) }
+    {
         !self.closed && self.len(side) <= round as usize
     }
 
     /// A copy of the message of this side and round, where there is one.
     pub(crate) fn get(&self, side: Side, round: u32) -> Option<M>
-        ensures { IfSome result (λ m. (M.side_of m ≡ side) × (M.round_of m ≡ round)) }
+        ensures found { result ≡ slice_get (messages_of self.now side) round }
+        ensures dated { IfSome result (λ m. (M.side_of m ≡ side) × (M.round_of m ≡ round)) }
     {
         match side {
             Side::Rightward => self.rightward.get(round),
@@ -61,7 +77,10 @@ impl<M: Dated + Copy, R: Ledger, L: Ledger> Lists<M, R, L> {
         }
     }
 
-    pub(crate) fn close(&mut self) {
+    /// Takes no more messages from now on.
+    pub(crate) fn close(&mut self)
+        ensures { self.new ≡ record self.old { closed = true } }
+    {
         self.closed = true;
     }
 
@@ -69,10 +88,13 @@ impl<M: Dated + Copy, R: Ledger, L: Ledger> Lists<M, R, L> {
     pub(crate) fn put(&mut self, seat: &mut Seat<R, L>, message: M) -> Result<(), (M, PutFault)>
         requires { seat.old.puts < 2 ^ 24 }
         ensures put { OnOk result (seat.new ≡ record seat.old { puts = seat.old.puts + 1 }) }
-        ensures placed { OnOk result ((M.side_of message ≡ seat.old.side) × (M.round_of message ≡ seat.old.puts)) }
+        ensures appended { OnOk result (self.new ≡ with_message self.old seat.old.side message) }
+        ensures placed { OnOk result (IsNext M.side_of M.round_of self.old seat.old message) }
         ensures refused { IfErr result (λ e. e.0 ≡ message) }
-        ensures unchanged { OnErr result (seat.new ≡ seat.old) }
-        ensures no_room { IfErr result (λ e. e.1 ≡ NoRoom → (M.side_of message ≡ seat.old.side) × (M.round_of message ≡ seat.old.puts)) }
+        ensures unchanged { OnErr result ((self.new ≡ self.old) × (seat.new ≡ seat.old)) }
+        ensures closed { (result ≡ Err (message, Closed)) ↔ (self.old.closed ≡ true) }
+        ensures misplaced { IfErr result (λ e. e.1 ≡ Misplaced → ¬ IsNext M.side_of M.round_of self.old seat.old message) }
+        ensures no_room { IfErr result (λ e. e.1 ≡ NoRoom → IsNext M.side_of M.round_of self.old seat.old message) }
     {
         if self.closed {
             return Err((message, PutFault::Closed));

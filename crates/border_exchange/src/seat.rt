@@ -90,6 +90,11 @@ impl<R: Ledger, L: Ledger> Seat<R, L> {
         ensures refused { IfErr result (λ m. m ≡ message) }
         ensures unchanged { OnErr result (self.new ≡ self.old) }
         ensures sides { (rightward.new.side ≡ Rightward) × (leftward.new.side ≡ Leftward) }
+        ensures to_the_right { OnOk result (self.old.side ≡ Rightward → (rightward.new.messages ≡ rightward.old.messages ++ message ∷ [])
+            × (leftward.new.messages ≡ leftward.old.messages)) }
+        ensures to_the_left { OnOk result (self.old.side ≡ Leftward → (rightward.new.messages ≡ rightward.old.messages)
+            × (leftward.new.messages ≡ leftward.old.messages ++ message ∷ [])) }
+        ensures kept { OnErr result ((rightward.new ≡ rightward.old) × (leftward.new ≡ leftward.old)) }
     {
         match &mut self.share {
             SideShare::Rightward(share) => rightward.append(share, message)?,
