@@ -1,5 +1,5 @@
--- A reader or a writer with a note that tells whether a call of it failed.
-use Rattle.std.specs.Prelude.{◌≡◌, Bool, true, Result, MatchResult}
+-- A reader or a writer with a note that tells how often it was called, and whether a call of it failed.
+use Rattle.std.specs.Prelude.{◌≡◌, ℕ, Bool, true, Result, MatchResult}
 use Rattle.devices.specs.declared.watched.Watched.{Watched}
 
 -- the reader or the writer itself
@@ -9,6 +9,10 @@ device_of watched = watched.device
 -- whether a read or a write of it failed
 abbrev pub has_failed : {D : Type 0} → Watched D → Bool
 has_failed watched = watched.failed
+
+-- how many reads and writes it was asked for; the count stops at the greatest `usize`
+abbrev pub calls_of : {D : Type 0} → Watched D → ℕ
+calls_of watched = watched.calls
 
 -- a call that failed is noted, and one that did not leaves the note as it was
 abbrev pub Notes : {T E : Type 0} → Result T E → Bool → Bool → Type 0

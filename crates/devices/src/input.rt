@@ -1,8 +1,8 @@
 //! Reading the input.
 
-ghost use Rattle.std.specs.Prelude.{◌≡◌, ◌<◌, ◌⊎◌, ◌↔◌, false, IsTrue, IfOk, IfErr, OnErr, IsErrOf};
+ghost use Rattle.std.specs.Prelude.{◌≡◌, ◌+◌, ◌<◌, ◌≤◌, ◌⊎◌, ◌↔◌, false, IsTrue, IfOk, IfErr, OnErr, IsErrOf};
 ghost use Rattle.devices.specs.Input.{GivesInput, TakesFront};
-ghost use Rattle.devices.specs.Watched.{device_of, has_failed};
+ghost use Rattle.devices.specs.Watched.{device_of, has_failed, calls_of};
 
 use crate::fault::EngineFault;
 use crate::watched::Watched;
@@ -28,6 +28,7 @@ pub fn read_input<R: Read>(
         (R.remaining (device_of reader.new)) limit) }
     ensures faults { IfErr result (λ fault. (fault ≡ EngineFault.Read) ⊎ (fault ≡ EngineFault.Memory)) }
     ensures failed { IsErrOf result EngineFault.Read ↔ IsTrue (has_failed reader.new) }
+    ensures asked { calls_of reader.new ≤ calls_of reader.old + (limit + 1) }
 {
     let mut input = Vec::new(alloc);
     let mut chunk = [0u8; CHUNK];

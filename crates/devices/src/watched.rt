@@ -1,29 +1,32 @@
-//! A reader or a writer with a note that tells whether a call of it failed.
+//! A reader or a writer with a note that tells how often it was called, and whether a call of it failed.
 
-ghost use Rattle.std.specs.Prelude.{◌≡◌, ◌<◌, false, length, IfOk, IfErr};
+ghost use Rattle.std.specs.Prelude.{◌≡◌, ◌+◌, ◌<◌, false, length, min, IfOk, IfErr};
 ghost use Rattle.std.specs.Io.{ReadsAtMost, WritesAtMost};
 ghost use Rattle.std.specs.Io.KnownBytes.{ReadConsumes, WriteAppends};
-ghost use Rattle.devices.specs.Watched.{device_of, has_failed, Notes};
+ghost use Rattle.devices.specs.Watched.{device_of, has_failed, calls_of, Notes};
 
 use crate::fault::EngineFault;
 use std::io::{Read, Write};
 
-/// A reader or a writer with a note that tells whether a read or a write of it failed.
+/// A reader or a writer with a note that tells how many reads and writes it was asked for, and whether one of them failed.
 #[derive(Drop)]
 pub struct Watched<D> {
     device: D,
     failed: bool,
+    calls: usize,
 }
 
 impl<D> Watched<D> {
-    /// A device of which no call has failed yet.
+    /// A device that was not called yet.
     pub fn new(device: D) -> Watched<D>
         ensures device { device_of result ≡ device }
         ensures working { has_failed result ≡ false }
+        ensures uncalled { calls_of result ≡ 0 }
     {
         Watched {
             device,
             failed: false,
+            calls: 0,
         }
     }
 
@@ -34,30 +37,43 @@ impl<D> Watched<D> {
         self.failed
     }
 
+    /// How many reads and writes the device was asked for. The count stops at the greatest `usize`.
+    pub fn calls(&self) -> usize
+        ensures { result ≡ calls_of self.now }
+    {
+        self.calls
+    }
+
     /// The device, without the note.
     pub fn into_device(self) -> D
         ensures { result ≡ device_of self }
     {
-        let Watched { device, failed: _ } = self;
+        let Watched {
+            device,
+            failed: _,
+            calls: _,
+        } = self;
         device
     }
 }
 
 impl<R: Read> Watched<R> {
     /// Reads into `buffer` once, and says how many bytes came: 0 only at the end of what the device
-    /// has, or where `buffer` is empty. An error of the device is noted, and is `Read`.
+    /// has, or where `buffer` is empty. An error of the device is noted, and is `Read`. No call has failed before.
     pub fn read(&mut self, buffer: &mut [u8]) -> Result<usize, EngineFault>
+        requires working { has_failed self.old ≡ false }
         ensures bound { ReadsAtMost result buffer.new }
         ensures bytes { ReadConsumes (R.remaining (device_of self.old))
             (R.remaining (device_of self.new)) result buffer.new }
         ensures fault { IfErr result (λ fault. fault ≡ EngineFault.Read) }
         ensures noted { Notes result (has_failed self.old) (has_failed self.new) }
+        ensures counted { calls_of self.new ≡ min (calls_of self.old + 1) usize.MAX }
     {
-        let Watched { device, failed } = self;
-        match device.read(buffer) {
+        self.calls = self.calls.saturating_add(1);
+        match self.device.read(buffer) {
             Ok(count) => Ok(count),
             Err(_) => {
-                *failed = true;
+                self.failed = true;
                 Err(EngineFault::Read)
             }
         }
@@ -67,20 +83,22 @@ impl<R: Read> Watched<R> {
 impl<W: Write> Watched<W> {
     /// Writes from the front of `bytes` once, and says how many were taken: 0 only where `bytes` is
     /// empty. An error of the device is noted, and so is an answer of 0 at bytes that are not empty;
-    /// both are `Write`, and nothing was written.
+    /// both are `Write`, and nothing was written. No call has failed before.
     pub fn write(&mut self, bytes: &[u8]) -> Result<usize, EngineFault>
+        requires working { has_failed self.old ≡ false }
         ensures bound { WritesAtMost result bytes.now }
         ensures some { IfOk result (λ taken. 0 < length bytes.now → 0 < taken) }
         ensures bytes { WriteAppends (W.contents (device_of self.old))
             (W.contents (device_of self.new)) result bytes.now }
         ensures fault { IfErr result (λ fault. fault ≡ EngineFault.Write) }
         ensures noted { Notes result (has_failed self.old) (has_failed self.new) }
+        ensures counted { calls_of self.new ≡ min (calls_of self.old + 1) usize.MAX }
     {
-        let Watched { device, failed } = self;
-        match device.write(bytes) {
+        self.calls = self.calls.saturating_add(1);
+        match self.device.write(bytes) {
             Ok(taken) if taken > 0 || bytes.is_empty() => Ok(taken),
             _ => {
-                *failed = true;
+                self.failed = true;
                 Err(EngineFault::Write)
             }
         }

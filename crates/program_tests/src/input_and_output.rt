@@ -32,6 +32,7 @@ fn a_short_input_is_read_whole(rt: HostRuntime) -> Result<(), Fail> {
         b"start".as_slice()
     );
     assert!(rt; !reader.failed());
+    assert_eq!(rt; reader.calls(), 2);
     assert!(rt; reader.into_device().is_empty());
     Ok(())
 }

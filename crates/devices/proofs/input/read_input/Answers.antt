@@ -24,4 +24,5 @@ reads-preserved g c =
       turns = grind (arith, common_steps);
       bounded = grind (arith, common_steps);
       working = search rules;
+      asked = search rules;
     }

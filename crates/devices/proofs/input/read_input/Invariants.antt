@@ -8,4 +8,5 @@ invariant-reads g l = record {
   turns : l._turn ≤ length l.input.items;
   bounded : length l.input.items ≤ l.limit + 1;
   working : l.reader.failed ≡ false;
+  asked : l.reader.calls ≤ l.initial.reader.calls + l._turn;
 }
