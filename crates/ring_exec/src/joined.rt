@@ -1,4 +1,7 @@
 // What the segments of a run came to.
+ghost use Rattle.std.specs.Prelude.{◌≡◌, Some};
+ghost use Rattle.ring_exec.specs.Faults.{blamed};
+
 use crate::fault::SegmentFault;
 use crate::runner::Outcome;
 use ring_core::Segment;
@@ -43,7 +46,10 @@ impl<'a> Joined<'a> {
     }
 
     // Takes the fault of a segment in place of one of a segment after it. A refused thread counts first.
-    pub(crate) fn blame(&mut self, fault: SegmentFault) {
+    pub(crate) fn blame(&mut self, fault: SegmentFault)
+        ensures fault { self.new.fault ≡ Some (blamed self.old.fault fault) }
+        ensures segments { self.new.segments ≡ self.old.segments }
+    {
         if self.fault != Some(SegmentFault::NoThread) {
             self.fault = Some(fault);
         }

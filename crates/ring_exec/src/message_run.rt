@@ -1,6 +1,7 @@
 // A run by messages.
 ghost use Rattle.std.specs.Prelude.{◌≡◌, ◌↔◌, IfOk, OnOk, IfErr, length};
 ghost use Rattle.node_lang.specs.GlobalRounds.{channels_of};
+ghost use Rattle.ring_exec.specs.Faults.{run_fault_of};
 ghost use Rattle.ring_exec.specs.SegmentCounts.{IsSegmentCount};
 
 use crate::border_name::{Blanks, BorderName};
@@ -24,13 +25,13 @@ use win_index::Ring;
 /// Why a run gives no channels.
 #[derive(Clone, Copy, Debug, PartialEq, Eq, Drop)]
 pub enum RunFault {
-    /// E1: not 1 to `MAX_SEGMENTS` segments, or more than the ring has places.
+    /// Not 1 to `MAX_SEGMENTS` segments, or more than the ring has places.
     SegmentsOutOfRange,
-    /// E2: memory for a segment, a border, a message or the channels was refused.
+    /// Memory for a segment, a border, a message or the channels was refused.
     OutOfMemory,
-    /// E3: a message came that its segment did not need, or a segment ended too soon.
+    /// A message came that its segment did not need, or a segment ended too soon.
     Stranger,
-    /// E4: the start of a thread was refused.
+    /// The start of a thread was refused.
     NoThread,
 }
 
@@ -67,7 +68,8 @@ pub fn run<'a, R: Threads + Wait + Sync, G: Gate + Sync>(
 
 // The fault of a run that comes to a segment's fault.
 fn run_fault(fault: SegmentFault) -> RunFault
-    ensures { ¬ (result ≡ RunFault.SegmentsOutOfRange) }
+    ensures same { result ≡ run_fault_of fault }
+    ensures range { ¬ (result ≡ RunFault.SegmentsOutOfRange) }
 {
     match fault {
         SegmentFault::OutOfMemory => RunFault::OutOfMemory,

@@ -4,6 +4,7 @@
 pub mod Tables
 pub mod ProgramTables
 pub mod Workers
+pub mod Faults
 pub mod Filled
 pub mod ChannelRoom
 pub mod EntryShares

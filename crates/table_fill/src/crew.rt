@@ -1,9 +1,10 @@
-ghost use Rattle.std.specs.Prelude.{◌≡◌, ◌+◌, ◌≤◌, IfOk, IfSome, vec_len, vec_capacity, All};
+ghost use Rattle.std.specs.Prelude.{◌≡◌, ◌+◌, ◌<◌, ◌≤◌, IfOk, IfErr, IfSome, IsTrue, vec_len, vec_capacity, All};
 ghost use Rattle.shared_memo.specs.Passes.{IsPassOf};
 ghost use Rattle.shared_memo.specs.Tickets.{told, IsTicketOf};
 ghost use Rattle.table_fill.specs.Workers.{IsWorkerCount};
+ghost use Rattle.table_fill.specs.Faults.{first_fault, crew_answer};
 
-use crate::fault::WorkFault;
+use crate::fault::{CrewFault, WorkFault};
 use crate::worker::{Fills, Leaves, Worker};
 use round_eval::Gate;
 use shared_memo::{Desk, Memo, Pass, Ticket};
@@ -23,9 +24,10 @@ pub(crate) fn fill_memo<'a, R: Threads + Wait + Sync, G: Gate + Sync>(
     memo: &Memo<'a>,
     workers: u32,
     gate: &G,
-) -> Result<Option<Pass<'a>>, WorkFault>
+) -> Result<Option<Pass<'a>>, CrewFault>
     requires { IsWorkerCount workers }
-    ensures { IfOk result (λ left. IfSome left (IsPassOf memo.now)) }
+    ensures left { IfOk result (λ left. IfSome left (IsPassOf memo.now)) }
+    ensures alone { IfErr result (λ fault. fault ≡ CrewFault.NoThread → 1 < workers) }
 {
     fill_by_workers(rt, alloc, memo, workers, gate)
 }
@@ -38,12 +40,13 @@ pub(crate) fn fill_by_workers<R: Threads + Wait + Sync, M: Leaves + Sync, G: Gat
     memo: &M,
     workers: u32,
     gate: &G,
-) -> Result<Option<M::Left>, WorkFault>
+) -> Result<Option<M::Left>, CrewFault>
     requires { IsWorkerCount workers }
-    ensures { IfOk result (λ left. IfSome left (M.IsLeft memo.now)) }
+    ensures left { IfOk result (λ left. IfSome left (M.IsLeft memo.now)) }
+    ensures alone { IfErr result (λ fault. fault ≡ CrewFault.NoThread → 1 < workers) }
 {
     let Ok((desk, mut tickets)) = Desk::new(alloc, memo.total(), workers) else {
-        return Err(WorkFault::OutOfMemory);
+        return Err(CrewFault::Work(WorkFault::OutOfMemory));
     };
     if workers > 1 {
         fill_at(rt, alloc, memo, &desk, tickets, gate)?;
@@ -63,12 +66,12 @@ fn fill_at<R: Threads + Wait + Sync, M: Fills + Sync, G: Gate + Sync>(
     desk: &Desk,
     tickets: Vec<Ticket>,
     gate: &G,
-) -> Answer
+) -> Result<(), CrewFault>
     requires tickets { All (λ t. IsTicketOf desk.now t × (told t ≡ 0)) tickets.items }
     requires jobs { desk.now.total ≡ M.jobs memo.now }
 {
     let Ok(handles) = Vec::with_capacity(alloc, tickets.len()) else {
-        return Err(WorkFault::OutOfMemory);
+        return Err(CrewFault::Work(WorkFault::OutOfMemory));
     };
     let crew = crew_of(alloc, memo, desk, tickets, gate)?;
     run_all(rt, crew, handles)
@@ -112,13 +115,13 @@ fn run_all<'d, 'm, 'g, R: Threads + Wait + Sync, M: Fills + Sync, G: Gate + Sync
     rt: &R,
     crew: Vec<Worker<'d, 'm, 'g, M, G>>,
     handles: Vec<JoinHandle<Answer>>,
-) -> Answer
+) -> Result<(), CrewFault>
     requires { vec_len handles + vec_len crew ≤ vec_capacity handles }
 {
     thread::scope(
         thread::scope_env(),
         rt,
-        |scope| -> Answer
+        |scope| -> Result<(), CrewFault>
             requires { vec_len handles + vec_len crew ≤ vec_capacity handles }
         { run_in_scope(rt, scope, crew, handles) },
     )
@@ -139,32 +142,44 @@ fn run_in_scope<
     scope: &Scope<'s, E>,
     crew: Vec<Worker<'d, 'm, 'g, M, G>>,
     mut handles: Vec<JoinHandle<Answer>>,
-) -> Answer
+) -> Result<(), CrewFault>
     requires { vec_len handles + vec_len crew ≤ vec_capacity handles }
 {
     let started = start_all(scope, crew, &mut handles);
-    let joined = join_all(rt, handles);
-    started?;
-    joined
+    answer_of(started, join_all(rt, handles))
 }
 
-// Starts workers up to the first start that is refused.
+// What a crew answers whose workers were all started or not, and that answered this: a refused start counts first.
+fn answer_of(started: bool, joined: Answer) -> Result<(), CrewFault>
+    ensures { result ≡ crew_answer started joined }
+{
+    if !started {
+        return Err(CrewFault::NoThread);
+    }
+    match joined {
+        Ok(()) => Ok(()),
+        Err(fault) => Err(CrewFault::Work(fault)),
+    }
+}
+
+// Starts workers up to the first start that is refused, and tells whether all were started.
 fn start_all<'s, 'd: 's, 'm: 's, 'g: 's, E, M: Fills + Sync + 's, G: Gate + Sync + 's>(
     scope: &Scope<'s, E>,
     crew: Vec<Worker<'d, 'm, 'g, M, G>>,
     handles: &mut Vec<JoinHandle<Answer>>,
-) -> Answer
+) -> bool
     requires { vec_len handles.old + vec_len crew ≤ vec_capacity handles.old }
+    ensures { IsTrue result → vec_len handles.new ≡ vec_len handles.old + vec_len crew.entry }
 {
     for worker in crew {
         let Some(handle) = start_one(scope, worker) else {
-            return Err(WorkFault::NoThread);
+            return false;
         };
         let Ok(()) = handles.push(handle) else {
             unreachable!()
         };
     }
-    Ok(())
+    true
 }
 
 // Starts one worker in a thread, or answers `None` where that was refused.
@@ -179,10 +194,17 @@ fn start_one<'s, 'd: 's, 'm: 's, 'g: 's, E, M: Fills + Sync + 's, G: Gate + Sync
 fn join_all<R: Threads>(rt: &R, handles: Vec<JoinHandle<Answer>>) -> Answer {
     let mut lowest = Ok(());
     for handle in handles {
-        let answer = handle.join(rt);
-        if lowest.is_ok() {
-            lowest = answer;
-        }
+        lowest = earlier(lowest, handle.join(rt));
     }
     lowest
+}
+
+// The first answer where it is a fault, else the second.
+fn earlier(first: Answer, second: Answer) -> Answer
+    ensures { result ≡ first_fault first second }
+{
+    match first {
+        Ok(()) => second,
+        Err(fault) => Err(fault),
+    }
 }

@@ -1,4 +1,6 @@
-ghost use Rattle.std.specs.Prelude.{◌≢◌};
+ghost use Rattle.std.specs.Prelude.{◌≡◌, ◌≢◌};
+ghost use Rattle.table_fill.specs.Faults.{fill_fault_of};
+ghost use Rattle.table_fill.specs.declared.fault.CrewFault.TheVariants.{Work};
 
 /// Why no table was compiled.
 #[derive(Clone, Copy, Debug, PartialEq, Eq)]
@@ -13,21 +15,36 @@ pub enum FillFault {
     NoThread,
 }
 
-// Why a memo was not filled. The number of workers is in its range by then.
+// Why a worker did not fill its cells.
 #[derive(Clone, Copy, Debug, PartialEq, Eq)]
 pub(crate) enum WorkFault {
     OutOfMemory,
     Stranger,
+}
+
+// Why a memo was not filled. The number of workers is in its range by then.
+#[derive(Clone, Copy, Debug, PartialEq, Eq)]
+pub(crate) enum CrewFault {
+    Work(WorkFault),
     NoThread,
 }
 
+impl From<WorkFault> for CrewFault {
+    ghost from_gives = { λ work fault. fault ≡ Work work };
+
+    fn from(fault: WorkFault) -> CrewFault {
+        CrewFault::Work(fault)
+    }
+}
+
 // The same fault for the caller.
-pub(crate) fn fill_fault(fault: WorkFault) -> FillFault
-    ensures { result ≢ FillFault.WorkersOutOfRange }
+pub(crate) fn fill_fault(fault: CrewFault) -> FillFault
+    ensures same { result ≡ fill_fault_of fault }
+    ensures range { result ≢ FillFault.WorkersOutOfRange }
 {
     match fault {
-        WorkFault::OutOfMemory => FillFault::OutOfMemory,
-        WorkFault::Stranger => FillFault::Stranger,
-        WorkFault::NoThread => FillFault::NoThread,
+        CrewFault::Work(WorkFault::OutOfMemory) => FillFault::OutOfMemory,
+        CrewFault::Work(WorkFault::Stranger) => FillFault::Stranger,
+        CrewFault::NoThread => FillFault::NoThread,
     }
 }

@@ -4,8 +4,8 @@ ghost use Rattle.shared_memo.specs.Passes.{IsPassOf, IsPassOf-prop};
 use shared_memo::{Memo, Pass, Stranger};
 use unroll::{Block, Source};
 
-// A source of blocks that looks into a memo, through a pass of its own. After it has met a stranger it is asked for no
-// further block.
+// A source of blocks that looks into a memo through a pass of its own, and marks that it met a stranger. It goes on to look
+// after that: what the pass knows is always found.
 #[derive(Drop)]
 pub(crate) struct OwnReader<'s, 'a> {
     pub(crate) memo: &'s Memo<'a>,

@@ -1,5 +1,5 @@
 use crate::crew::fill_by_workers;
-use crate::fault::WorkFault;
+use crate::fault::{CrewFault, WorkFault};
 use crate::worker::{Fills, Leaves};
 use crate::{FillFault, compile};
 use lang_check::Plan;
@@ -95,7 +95,7 @@ fn the_fault_of_the_lowest_worker_counts(rt: HostRuntime) -> Result<(), Fail> {
     for (of_workers, fault) in rows {
         let answers = Answers { of_workers };
         let answer = fill_by_workers(&rt, rt.alloc(), &answers, 4, &OpenGate);
-        assert_eq!(rt; answer.err(), fault);
+        assert_eq!(rt; answer.err(), fault.map(CrewFault::Work));
     }
     Ok(())
 }
