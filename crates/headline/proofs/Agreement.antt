@@ -3,7 +3,7 @@ use Rattle.std.proofs.Common.{◌≡◌, ℕ, ◌+◌, ◌-◌, ◌*◌, ◌%◌
 use Rattle.std.specs.Int.{abs_diff}
 use Rattle.std.specs.List.{range_with_len}
 use Rattle.std.proofs.lemmas.Bool.{cases_lt}
-use Rattle.std.proofs.lemmas.Option.{same_Some, slice_get-get_or}
+use Rattle.std.proofs.lemmas.Option.{slice_get-get_or}
 use Rattle.std.proofs.lemmas.List.FromFn.{length-map-range_with_len, get_or-map-range_with_len}
 use Rattle.std.proofs.Math.Nat.{add-mod_left, mod-eq_of_lt, mod-lt}
 use Rattle.node_lang.specs.Term.{ProgramTree}
@@ -12,7 +12,7 @@ use Rattle.win_index.specs.Ring.{IsRing}
 use Rattle.win_index.specs.Arcs.{arc, window_around}
 use Rattle.table_fill.specs.Tables.{ChannelTable, channel_of}
 use Rattle.nbhd_check.specs.declared.separation.Separation.{Separation}
-use Rattle.nbhd_check.specs.Apart.{extra, AreApart, IsApartEverywhere}
+use Rattle.nbhd_check.specs.Apart.{AreApart, IsApartEverywhere}
 use Rattle.headline.specs.Headline.{TableAgrees, RunAgrees, ChannelsAreApart}
 
 -- places of an arc may be counted from one turn further

@@ -8,7 +8,8 @@ ghost use Rattle.ring_exec.specs.declared.message_run.RunFault.{RunFault};
 use crate::fault::FindingsFault;
 use lang_check::Plan;
 use nbhd_check::{Separation, Verdict, judge};
-use ring_exec::{RunFault, run};
+use node_lang::MAX_THREADS;
+use ring_exec::{MAX_SEGMENTS, RunFault, run};
 use round_eval::Gate;
 use shared_memo::Memo;
 use std::alloc::Global;
@@ -34,9 +35,10 @@ pub struct Findings {
 /// differ by at least near at neighbours and far at distance two on every ring, of `2t+3` and more nodes where far is
 /// not 0. The ring has the plan's shape.
 ///
-/// `Table` comes where the table was not compiled, so with `WorkersOutOfRange` exactly where `workers` is not 1 to `MAX_THREADS`;
-/// else `Run` where the ring was not run, with `SegmentsOutOfRange` only where `segments` is not 1 to `MAX_THREADS` or is above the
-/// number of places; `OutOfMemory` where memory for the memo or for the judge's ring was refused.
+/// `Table` with `WorkersOutOfRange` comes exactly where `workers` is not 1 to `MAX_THREADS`, which is tested first, and `Run` with
+/// `SegmentsOutOfRange` exactly where else `segments` is not 1 to `MAX_SEGMENTS` or is above the number of places. Then `Table`
+/// comes where the table was not compiled, `Run` where the ring was not run, and `OutOfMemory` where memory for the memo or for
+/// the judge's ring was refused.
 pub fn compile_run_and_judge<'a, R: Threads + Wait + Sync, G: Gate + Sync>(
     rt: &'a R,
     alloc: Global,
@@ -51,10 +53,11 @@ pub fn compile_run_and_judge<'a, R: Threads + Wait + Sync, G: Gate + Sync>(
     requires rounds { ring.now.rounds ≡ length plan.now.program.steps }
     ensures headline { IfOk result (λ found. IsHeadline plan.now.program plan.now.ids separation ring.now.places found.channels.items found.table found.verdict) }
     ensures in_range { OnOk result (IsWorkerCount workers × IsSegmentCount segments (length ring.now.places)) }
-    ensures workers { IfErr result (λ fault. fault ≡ FindingsFault.Table FillFault.WorkersOutOfRange → ¬ IsWorkerCount workers) }
-    ensures segments { IfErr result (λ fault. fault ≡ FindingsFault.Run RunFault.SegmentsOutOfRange
-        → ¬ IsSegmentCount segments (length ring.now.places)) }
+    ensures workers { IfErr result (λ fault. (fault ≡ FindingsFault.Table FillFault.WorkersOutOfRange) ↔ (¬ IsWorkerCount workers)) }
+    ensures segments { IfErr result (λ fault. (fault ≡ FindingsFault.Run RunFault.SegmentsOutOfRange)
+        ↔ (IsWorkerCount workers × ¬ IsSegmentCount segments (length ring.now.places))) }
 {
+    in_range(ring, workers, segments)?;
     let table = compiled(rt, alloc, plan, workers, gate)?;
     let channels = match run(rt, alloc, plan, ring, segments, gate) {
         Ok(channels) => channels,
@@ -68,6 +71,22 @@ pub fn compile_run_and_judge<'a, R: Threads + Wait + Sync, G: Gate + Sync>(
         channels,
         verdict,
     })
+}
+
+// Whether a table can be compiled by so many workers, and the ring be run in so many segments.
+fn in_range(ring: &Ring, workers: u32, segments: u32) -> Result<(), FindingsFault>
+    ensures ok { OnOk result (IsWorkerCount workers × IsSegmentCount segments (length ring.now.places)) }
+    ensures workers { IfErr result (λ fault. (fault ≡ FindingsFault.Table FillFault.WorkersOutOfRange) ↔ (¬ IsWorkerCount workers)) }
+    ensures segments { IfErr result (λ fault. (fault ≡ FindingsFault.Run RunFault.SegmentsOutOfRange)
+        ↔ (IsWorkerCount workers × ¬ IsSegmentCount segments (length ring.now.places))) }
+{
+    if workers < 1 || workers > MAX_THREADS {
+        return Err(FindingsFault::Table(FillFault::WorkersOutOfRange));
+    }
+    if segments < 1 || segments > MAX_SEGMENTS || segments > ring.len() {
+        return Err(FindingsFault::Run(RunFault::SegmentsOutOfRange));
+    }
+    Ok(())
 }
 
 // The table of a plan's program, with a memo of its own.

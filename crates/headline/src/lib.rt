@@ -3,6 +3,8 @@
 
 mod fault;
 mod findings;
+mod laws;
 
 pub use fault::FindingsFault;
 pub use findings::{Findings, compile_run_and_judge};
+pub use laws::program_tables_are_apart;

@@ -2,3 +2,4 @@ mod Joined
 pub mod Aligned
 pub mod Workers
 mod OneReport
+mod ToldRounds

@@ -66,7 +66,7 @@ one_program_refusal one_text_fault one_reading one_refusal m input r s (check_fa
     said_once _ _ _ r s (ap report.check_fault_line (one_refusal m p f g refused refused'')) says says'
 
 -- a program that is accepted is not refused
-accepted_or_refused : OneReading → AcceptedProgramsHaveNoRefusal → (m : ℕ) (input : List ℕ) (r : Report) (p : ProgramTree)
+pub accepted_or_refused : OneReading → AcceptedProgramsHaveNoRefusal → (m : ℕ) (input : List ℕ) (r : Report) (p : ProgramTree)
     → Reads input p → IsAccepted m p → IsProgramRefusal m input r → ⊥
 accepted_or_refused one_reading no_refusal m input r p reads accepted (text_fault k i none faults says) = none p reads
 accepted_or_refused one_reading no_refusal m input r p reads accepted (check_fault q f reads' refused says) =

@@ -1,8 +1,8 @@
 -- What the engine does to its reader and its writer.
-use Rattle.std.specs.Prelude.{◌≡◌, ◌≢◌, ℕ, List, Option}
+use Rattle.std.specs.Prelude.{◌≡◌, ◌≢◌, ◌⊎◌, ℕ, List, Option, ⊤}
 use Rattle.std.specs.Io.KnownBytes.{Appends}
 use Rattle.devices.specs.declared.fault.EngineFault.{EngineFault}
-use Rattle.devices.specs.declared.fault.EngineFault.TheVariants.{Read, Write}
+use Rattle.devices.specs.declared.fault.EngineFault.TheVariants.{Read, Write, Thread, Stranger}
 use Rattle.plan_print.specs.declared.status.Status.{Status}
 use Rattle.task_words.specs.declared.task.Task.{Task}
 use Rattle.task_words.specs.declared.task.Task.TheVariants.{Check, Table, Judge, Run, Plan, Audit, Migrate}
@@ -38,6 +38,20 @@ pub record WritesFront (task : Task) (unread left before after : Option (List �
   pub report : Report
   pub is_report : IsReport task input report
   pub written : AppendsFront before after report.bytes
+
+-- the task names a number of workers or of segments
+abbrev pub HasWorkers : Task → Type 0
+HasWorkers (Check ids) = ⊥
+HasWorkers (Table ids workers near far) = ⊤
+HasWorkers (Judge ids workers near far) = ⊤
+HasWorkers (Run ids ring segments) = ⊤
+HasWorkers (Plan ids ring workers) = ⊤
+HasWorkers Audit = ⊥
+HasWorkers Migrate = ⊥
+
+-- the fault is of a worker or of a segment: the start of its thread was refused, or it met a stranger
+abbrev pub IsWorkerFault : EngineFault → Type 0
+IsWorkerFault fault = (fault ≡ Thread) ⊎ (fault ≡ Stranger)
 
 -- The fault is of the task itself: no read and no write failed.
 abbrev pub IsTaskFault : EngineFault → Type 0

@@ -1,8 +1,70 @@
--- The law of this crate.
-use Rattle.std.specs.Prelude.{◌≡◌, ℕ, List}
+-- The laws of this crate: what a report tells of global rounds, and that a task and an input have one report.
+use Rattle.std.specs.Prelude.{◌≡◌, ◌↔◌, ℕ, ◌<◌, List, [], ◌∷◌, Vec, Some, length}
+use Rattle.std.specs.declared.alloc.Global.{Global}
+use Rattle.node_lang.specs.Term.{ProgramTree}
+use Rattle.node_lang.specs.Grammar.{Reads}
+use Rattle.node_lang.specs.GlobalRounds.{channel_at, channels_of}
+use Rattle.win_index.specs.Ring.{IsRing}
+use Rattle.win_index.specs.Arcs.{window_around}
+use Rattle.lang_check.specs.Acceptance.{IsAccepted}
+use Rattle.table_fill.specs.Tables.{channel_of}
+use Rattle.table_fill.specs.ProgramTables.{table_of}
+use Rattle.ring_exec.specs.SegmentCounts.{IsSegmentCount}
+use Rattle.headline.specs.Headline.{ChannelsAreApart}
+use Rattle.table_text.specs.TableText.{table_text}
 use Rattle.task_words.specs.declared.task.Task.{Task}
-use Rattle.plan_print.specs.Report.{Report, IsReport}
+use Rattle.task_words.specs.declared.task.Task.TheVariants.{Table, Judge, Run, Plan}
+use Rattle.plan_print.specs.declared.status.Status.TheVariants.{Done, No}
+use Rattle.plan_print.specs.Lines.{line, numbers_text}
+use Rattle.plan_print.specs.Report.{Report, Says, place_lines, IsReport}
 
 -- two reports of a task on an input are one
 abbrev pub OneReport : Type 0
 OneReport = (task : Task) (input : List ℕ) (r s : Report) → IsReport task input r → IsReport task input s → r ≡ s
+
+-- the text reads as the program, which is accepted for m identifiers
+abbrev pub IsAcceptedText : List ℕ → ℕ → ProgramTree → Type 0
+IsAcceptedText input m p = Reads input p × IsAccepted m p
+
+-- the report of a judge on a program that is accepted has the status of a yes exactly where on every ring the channels of global rounds are
+-- as far apart as it asks, and that of a no exactly where they are not
+abbrev pub JudgeTellsRounds : Type 0
+JudgeTellsRounds =
+    (m workers near far : ℕ) (input : List ℕ) (p : ProgramTree) (r : Report) → IsAcceptedText input m p → IsReport (Judge m workers near far) input r
+    → ((r.status ≡ Done) ↔ ChannelsAreApart p m (record { near = near; far = far }))
+    × ((r.status ≡ No) ↔ (¬ ChannelsAreApart p m (record { near = near; far = far })))
+
+-- the report of a run on a ring, in a number of segments in its range, is the line of the channels of global rounds
+abbrev pub RunTellsRounds : Type 0
+RunTellsRounds =
+    (m segments : ℕ) (ring : Vec ℕ Global) (input : List ℕ) (p : ProgramTree) (r : Report) → IsAcceptedText input m p
+    → IsRing m (length p.steps) ring.items → IsSegmentCount segments (length ring.items) → IsReport (Run m ring segments) input r
+    → Says (line (numbers_text (channels_of p ring.items) ∷ [])) Done r
+
+-- the report of a plan on a ring has a line for each place, with the channel of global rounds
+abbrev pub PlanTellsRounds : Type 0
+PlanTellsRounds =
+    (m workers : ℕ) (ring : Vec ℕ Global) (input : List ℕ) (p : ProgramTree) (r : Report) → IsAcceptedText input m p
+    → IsRing m (length p.steps) ring.items → IsReport (Plan m ring workers) input r → Says (place_lines p ring.items) Done r
+
+-- the report of a table is the text of a table that has, at the window of each place of every ring, the channel of global rounds
+abbrev pub TableTellsRounds : Type 0
+TableTellsRounds =
+    (m workers near far : ℕ) (input : List ℕ) (p : ProgramTree) (r : Report) → IsAcceptedText input m p → IsReport (Table m workers near far) input r
+    → Says (table_text (table_of p m) (record { near = near; far = far })) Done r
+    × ((ring : List ℕ) (place : ℕ) → IsRing m (length p.steps) ring → place < length ring
+    → channel_of (table_of p m) (window_around ring (length p.steps) place) ≡ Some (channel_at p ring place))
+
+-- a report is one for every number of workers
+abbrev pub SameForWorkers : Type 0
+SameForWorkers =
+    (m v w near far : ℕ) (ring : Vec ℕ Global) (input : List ℕ) (r : Report)
+    → (IsReport (Table m v near far) input r → IsReport (Table m w near far) input r)
+    × (IsReport (Judge m v near far) input r → IsReport (Judge m w near far) input r)
+    × (IsReport (Plan m ring v) input r → IsReport (Plan m ring w) input r)
+
+-- the report of a run is one for every number of segments in its range
+abbrev pub SameForSegments : Type 0
+SameForSegments =
+    (m g h : ℕ) (ring : Vec ℕ Global) (input : List ℕ) (r : Report) → IsSegmentCount g (length ring.items) → IsSegmentCount h (length ring.items)
+    → IsReport (Run m ring g) input r → IsReport (Run m ring h) input r

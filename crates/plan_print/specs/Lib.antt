@@ -32,5 +32,6 @@ pub use Rattle.nbhd_check.specs.Apart
 pub use Rattle.nbhd_check.specs.Proper
 pub use Rattle.nbhd_check.specs.Verdicts
 pub use Rattle.ring_exec.specs.SegmentCounts
+pub use Rattle.headline.specs.Headline
 pub mod Engine
 pub mod Answers

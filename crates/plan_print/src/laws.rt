@@ -1,16 +1,21 @@
-//! The law of this crate.
+//! The laws of this crate.
 
-ghost use Rattle.plan_print.specs.Laws.{OneReport};
+ghost use Rattle.plan_print.specs.Laws as law;
 
+use headline::program_tables_are_apart;
 use lang_check::one_refusal;
 use nbhd_check::one_witness;
 use node_lang::{one_reading, one_text_fault};
+use table_fill::table_has_the_channels_of_rounds;
 use table_text::{one_table_fault, table_texts_are_apart, table_texts_are_read};
 use win_index::one_ring_fault;
 
-/// A task and an input have at most one report.
+/// A task and an input have at most one report, which is the same for every number of workers, and for every number of
+/// segments in its range.
 pub fn one_report()
-    ensures { OneReport }
+    ensures one { law.OneReport }
+    ensures workers { law.SameForWorkers }
+    ensures segments { law.SameForSegments }
 {
     one_reading();
     one_text_fault();
@@ -20,4 +25,21 @@ pub fn one_report()
     one_table_fault();
     table_texts_are_apart();
     table_texts_are_read();
+}
+
+/// What the reports on a program that is accepted tell of synchronous rounds on rings (Linial 1992): the status of a judge,
+/// whether their channels are apart on every ring; the line of a run and the lines of a plan, their channels on the ring; a
+/// table, their channels at the windows of every ring.
+pub fn reports_tell_rounds()
+    ensures judge { law.JudgeTellsRounds }
+    ensures run { law.RunTellsRounds }
+    ensures plan { law.PlanTellsRounds }
+    ensures table { law.TableTellsRounds }
+{
+    one_reading();
+    one_refusal();
+    one_ring_fault();
+    one_witness();
+    table_has_the_channels_of_rounds();
+    program_tables_are_apart();
 }

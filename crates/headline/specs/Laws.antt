@@ -1,0 +1,11 @@
+-- The law of this crate.
+use Rattle.std.specs.Prelude.{◌↔◌, ℕ}
+use Rattle.node_lang.specs.Term.{ProgramTree}
+use Rattle.table_fill.specs.ProgramTables.{table_of}
+use Rattle.nbhd_check.specs.declared.separation.Separation.{Separation}
+use Rattle.nbhd_check.specs.Apart.{IsApartEverywhere}
+use Rattle.headline.specs.Headline.{ChannelsAreApart}
+
+-- the table of a program keeps a separation on every ring exactly where the channels of global rounds do
+abbrev pub ProgramTablesAreApart : Type 0
+ProgramTablesAreApart = (p : ProgramTree) (m : ℕ) (s : Separation) → IsApartEverywhere (table_of p m) s ↔ ChannelsAreApart p m s

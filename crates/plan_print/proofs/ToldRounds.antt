@@ -1,0 +1,84 @@
+-- What a report tells of global rounds.
+use Rattle.std.proofs.Common.{◌≡◌, ℕ, List, [], ◌∷◌, subst, sym, ◌∙◌}
+use Rattle.std.specs.Prelude.{◌↔◌, length}
+use Rattle.node_lang.specs.Term.{ProgramTree}
+use Rattle.node_lang.specs.GlobalRounds.{channels_of}
+use Rattle.node_lang.specs.Laws.{OneReading}
+use Rattle.win_index.specs.Laws.{RingsHaveNoFault}
+use Rattle.win_index.specs.Ring.{IsRing}
+use Rattle.lang_check.specs.Laws.{AcceptedProgramsHaveNoRefusal}
+use Rattle.table_fill.specs.Laws.{TableHasTheChannelsOfRounds}
+use Rattle.table_fill.specs.ProgramTables.{table_of}
+use Rattle.nbhd_check.specs.declared.separation.Separation.{Separation}
+use Rattle.nbhd_check.specs.Laws.{ApartTablesHaveNoWitness}
+use Rattle.headline.specs.Headline.{ChannelsAreApart}
+use Rattle.headline.specs.Laws.{ProgramTablesAreApart}
+use Rattle.ring_exec.specs.SegmentCounts.{IsSegmentCount}
+use Rattle.plan_print.specs.declared.status.Status.TheVariants.{Done, No}
+use Rattle.plan_print.specs.Lines.{line, numbers_text}
+use Rattle.plan_print.specs.Report.{Report, Says, IsJudgement, good, bad, IsAnswerOnRing, ring_fault, on_ring, IsRunAnswer, out_of_range, ran, IsProgramReport, program_refused, answered}
+use Rattle.plan_print.specs.Laws.{IsAcceptedText, JudgeTellsRounds, RunTellsRounds, PlanTellsRounds, TableTellsRounds, SameForWorkers, SameForSegments}
+use Rattle.plan_print.proofs.OneReport.{accepted_or_refused}
+
+-- the report on a program that is accepted is an answer on that program
+answer_on : OneReading → AcceptedProgramsHaveNoRefusal → (m : ℕ) (answer : ProgramTree → Report → Type 0) (input : List ℕ) (p : ProgramTree) (r : Report)
+    → IsAcceptedText input m p → IsProgramReport m answer input r → answer p r
+answer_on one_reading no_refusal m answer input p r text (program_refused refused) =
+    absurd (accepted_or_refused one_reading no_refusal m input r p text.0 text.1 refused)
+answer_on one_reading no_refusal m answer input p r text (answered q reads accepted said) =
+    subst (λ h. answer h r) (one_reading input q p reads text.0) said
+
+-- a judgement by a table tells whether the channels of global rounds are apart
+judgement_tells : ApartTablesHaveNoWitness → ProgramTablesAreApart → (p : ProgramTree) (m : ℕ) (s : Separation) (r : Report) → IsJudgement (table_of p m) s r
+    → ((r.status ≡ Done) ↔ ChannelsAreApart p m s) × ((r.status ≡ No) ↔ (¬ ChannelsAreApart p m s))
+judgement_tells no_witness tables p m s r (good apart says) =
+    let rounds = (tables p m s).0 apart in (
+      (λ done. rounds, λ are. says.1),
+      (λ no. absurd (let both : Done ≡ No = sym says.1 ∙ no in cc), λ not. absurd (not rounds)),
+    )
+judgement_tells no_witness tables p m s r (bad ring places channels witness says) =
+    let not : ¬ ChannelsAreApart p m s = λ are. no_witness (table_of p m) s ring places channels ((tables p m s).1 are) witness in (
+      (λ done. absurd (let both : No ≡ Done = sym says.1 ∙ done in cc), λ are. absurd (not are)),
+      (λ no. not, λ n. says.1),
+    )
+
+pub judge_tells : OneReading → AcceptedProgramsHaveNoRefusal → ApartTablesHaveNoWitness → ProgramTablesAreApart → JudgeTellsRounds
+judge_tells one_reading no_refusal no_witness tables m workers near far input p r text is =
+    judgement_tells no_witness tables p m (record { near = near; far = far }) r (answer_on one_reading no_refusal m _ input p r text is)
+
+-- what is said on a ring
+on_this_ring : RingsHaveNoFault → (m t : ℕ) (places : List ℕ) (said : Report → Type 0) (r : Report) → IsRing m t places → IsAnswerOnRing m t places said r → said r
+on_this_ring no_fault m t places said r ring (ring_fault f first says) = absurd (no_fault m t places f ring first)
+on_this_ring no_fault m t places said r ring (on_ring is says) = says
+
+run_in_range : (p : ProgramTree) (places : List ℕ) (segments : ℕ) (r : Report) → IsSegmentCount segments (length places) → IsRunAnswer p places segments r
+    → Says (line (numbers_text (channels_of p places) ∷ [])) Done r
+run_in_range p places segments r within (out_of_range out says) = absurd (out within)
+run_in_range p places segments r within (ran is says) = says
+
+pub run_tells : OneReading → AcceptedProgramsHaveNoRefusal → RingsHaveNoFault → RunTellsRounds
+run_tells one_reading no_refusal no_fault m segments ring input p r text is_ring within is =
+    run_in_range p ring.items segments r within
+    (on_this_ring no_fault m (length p.steps) ring.items _ r is_ring (answer_on one_reading no_refusal m _ input p r text is))
+
+pub plan_tells : OneReading → AcceptedProgramsHaveNoRefusal → RingsHaveNoFault → PlanTellsRounds
+plan_tells one_reading no_refusal no_fault m workers ring input p r text is_ring is =
+    on_this_ring no_fault m (length p.steps) ring.items _ r is_ring (answer_on one_reading no_refusal m _ input p r text is)
+
+pub table_tells : OneReading → AcceptedProgramsHaveNoRefusal → TableHasTheChannelsOfRounds → TableTellsRounds
+table_tells one_reading no_refusal has m workers near far input p r text is =
+    (answer_on one_reading no_refusal m _ input p r text is, has p m)
+
+pub same_for_workers : SameForWorkers
+same_for_workers m v w near far ring input r = (λ is. is, λ is. is, λ is. is)
+
+-- an answer of a run in one number of segments is one in another
+run_in_others : (m t : ℕ) (p : ProgramTree) (places : List ℕ) (g h : ℕ) (r : Report) → IsSegmentCount g (length places) → IsSegmentCount h (length places)
+    → IsAnswerOnRing m t places (IsRunAnswer p places g) r → IsAnswerOnRing m t places (IsRunAnswer p places h) r
+run_in_others m t p places g h r within within' (ring_fault f first says) = ring_fault f first says
+run_in_others m t p places g h r within within' (on_ring is said) = on_ring is (ran within' (run_in_range p places g r within said))
+
+pub same_for_segments : SameForSegments
+same_for_segments m g h ring input r within within' (program_refused refused) = program_refused refused
+same_for_segments m g h ring input r within within' (answered p reads accepted said) =
+    answered p reads accepted (run_in_others m (length p.steps) p ring.items g h r within within' said)
