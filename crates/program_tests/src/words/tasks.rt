@@ -24,48 +24,39 @@ fn checks_are_tasks(rt: HostRuntime) {
     }
 }
 
-#[test]
-fn tables_are_tasks(rt: HostRuntime) {
-    let rows = [
-        ("table --ids 8", 1, 1, 0),
-        ("table --ids 8 --workers 1", 1, 1, 0),
-        ("table --workers 64 --ids 8", 64, 1, 0),
-        ("table --workers=02 --ids 08", 2, 1, 0),
-        ("table --ids +8 --workers +3", 3, 1, 0),
-        ("table --ids 8 --near 2 --far 1", 1, 2, 1),
-        ("table --far 4096 --ids 8 --near 4096", 1, 4096, 4096),
-        ("table --far=00 --near=+3 --ids=8", 1, 3, 0),
-    ];
-    for (line, workers, near, far) in rows {
-        let task = Task::Table {
-            ids: 8,
-            workers,
-            near,
-            far,
-        };
-        assert_eq!(rt; asked(rt.alloc(), line), Ok(task), "at {line}");
-    }
-}
+/// Options of a table and of a judge, with the numbers of workers, near and far that they give for eight identifiers.
+const BY_WORKERS: [(&str, u32, u32, u32); 8] = [
+    ("--ids 8", 1, 1, 0),
+    ("--ids 8 --workers 1", 1, 1, 0),
+    ("--workers 64 --ids 8", 64, 1, 0),
+    ("--workers=02 --ids 008", 2, 1, 0),
+    ("--ids +8 --workers +3", 3, 1, 0),
+    ("--ids 8 --near 2 --far 1", 1, 2, 1),
+    ("--far 4096 --ids 8 --near 4096", 1, 4096, 4096),
+    ("--far=00 --near=+3 --ids=8", 1, 3, 0),
+];
 
 #[test]
-fn judges_are_tasks(rt: HostRuntime) {
-    let rows = [
-        ("judge --ids 8", 1, 1, 0),
-        ("judge --ids 8 --workers 64", 64, 1, 0),
-        ("judge --workers 02 --ids 008", 2, 1, 0),
-        ("judge --ids 8 --near 2 --far 1", 1, 2, 1),
-        ("judge --far 4096 --ids 8 --near 4096", 1, 4096, 4096),
-        ("judge --far=00 --near=+3 --ids=8", 1, 3, 0),
-    ];
-    for (line, workers, near, far) in rows {
-        let task = Task::Judge {
+fn tables_and_judges_are_tasks(rt: HostRuntime) -> Result<(), Fail> {
+    for (options, workers, near, far) in BY_WORKERS {
+        let line = format!(in rt.alloc(); "table {options}")?;
+        let table = Task::Table {
             ids: 8,
             workers,
             near,
             far,
         };
-        assert_eq!(rt; asked(rt.alloc(), line), Ok(task), "at {line}");
+        assert_eq!(rt; asked(rt.alloc(), &line), Ok(table), "at {line}");
+        let line = format!(in rt.alloc(); "judge {options}")?;
+        let judge = Task::Judge {
+            ids: 8,
+            workers,
+            near,
+            far,
+        };
+        assert_eq!(rt; asked(rt.alloc(), &line), Ok(judge), "at {line}");
     }
+    Ok(())
 }
 
 #[test]
