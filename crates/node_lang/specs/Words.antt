@@ -105,8 +105,3 @@ word_token word = if list_all is_digit word then number_token word
 abbrev pub mark_token : ℕ → Token
 mark_token b = if b == 40 then token.Open else if b == 41 then token.Close
     else if b == 44 then token.Comma else if b == 61 then token.Equals else token.Unknown
-
--- the register that a token names, or 0
-abbrev pub register_of : Token → ℕ
-register_of (token.Register j) = j
-register_of _ = 0

@@ -15,7 +15,7 @@ mod tree;
 mod words;
 
 pub use fault::{FaultKind, TextFault};
-pub use laws::{one_reading, one_text_fault, printed_is_read_back, reading_is_exact};
+pub use laws::{first_fault, one_reading, one_text_fault, printed_is_read_back, reading_is_exact};
 pub use limits::{
     LONGEST_TEXT, MAX_CHANNELS, MAX_DEPTH, MAX_NODES, MAX_REGISTERS, MAX_ROUNDS, MAX_THREADS,
 };
