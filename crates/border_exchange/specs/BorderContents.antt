@@ -1,6 +1,5 @@
 -- What a border holds under its lock.
-use Rattle.std.specs.Prelude.{◌≡◌, ℕ, Bool, List, [], ◌∷◌, ◌++◌, length}
-use Rattle.border_exchange.specs.SeatState.{SeatState}
+use Rattle.std.specs.Prelude.{Bool, List, [], ◌∷◌, ◌++◌}
 use Rattle.border_exchange.specs.declared.Side.{Side}
 use Rattle.border_exchange.specs.declared.Side.TheVariants.{Rightward, Leftward}
 
@@ -19,10 +18,3 @@ messages_of b Leftward = b.leftward
 abbrev pub with_message : {M : Type 0} → BorderContents M → Side → M → BorderContents M
 with_message b Rightward m = record b { rightward = b.rightward ++ m ∷ [] }
 with_message b Leftward m = record b { leftward = b.leftward ++ m ∷ [] }
-
--- the message is the next one of the seat: it is of the seat's side, and its round is the number of the seat's puts and that of the
--- messages on that side
-pub record IsNext {M : Type 0} (side_of : M → Side) (round_of : M → ℕ) (b : BorderContents M) (seat : SeatState) (m : M) : Type 0 where
-  pub side : side_of m ≡ seat.side
-  pub puts : round_of m ≡ seat.puts
-  pub count : round_of m ≡ length (messages_of b seat.side)

@@ -1,8 +1,9 @@
 // A border between two neighbours.
 ghost use Rattle.std.specs.Prelude.{◌≡◌, ◌+◌, ◌^◌, ◌<◌, OnOk, OnErr, IfErr, IfOk, IfSome, length};
 ghost use Rattle.border_exchange.specs.InRounds.{AreInRounds};
+ghost use Rattle.border_exchange.specs.SeatState.{IsNext};
 ghost use Rattle.border_exchange.specs.declared.Side.TheVariants.{Rightward, Leftward};
-ghost use Rattle.border_exchange.specs.declared.fault.PutFault.TheVariants.{OutOfMemory as NoRoom};
+ghost use Rattle.border_exchange.specs.declared.fault.PutFault.TheVariants.{Misplaced, OutOfMemory as NoRoom};
 
 use crate::lists::Lists;
 use crate::seat::Seat;
@@ -59,10 +60,11 @@ impl<M: Dated + Copy, R: Ledger, L: Ledger> Border<M, R, L> {
     ) -> Result<(), (M, PutFault)>
         requires { seat.old.puts < 2 ^ 24 }
         ensures put { OnOk result (seat.new ≡ record seat.old { puts = seat.old.puts + 1 }) }
-        ensures placed { OnOk result ((M.side_of message ≡ seat.old.side) × (M.round_of message ≡ seat.old.puts)) }
+        ensures placed { OnOk result (IsNext M.side_of M.round_of seat.old message) }
         ensures refused { IfErr result (λ e. e.0 ≡ message) }
         ensures unchanged { OnErr result (seat.new ≡ seat.old) }
-        ensures no_room { IfErr result (λ e. e.1 ≡ NoRoom → (M.side_of message ≡ seat.old.side) × (M.round_of message ≡ seat.old.puts)) }
+        ensures misplaced { IfErr result (λ e. e.1 ≡ Misplaced → ¬ IsNext M.side_of M.round_of seat.old message) }
+        ensures no_room { IfErr result (λ e. e.1 ≡ NoRoom → IsNext M.side_of M.round_of seat.old message) }
     {
         let outcome = self.lists.lock(rt).put(seat, message);
         self.moved.notify_all();
@@ -90,7 +92,6 @@ impl<M: Dated + Copy, R: Ledger, L: Ledger> Border<M, R, L> {
     /// All messages, by the border's two seats: on each side as many as its seat has put, and message `k` is of that
     /// side and of round `k`.
     pub fn settle(self, right: Seat<R, L>, left: Seat<R, L>) -> Totals<M>
-        requires whole { (R.parts ≡ 1) × (L.parts ≡ 1) }
         requires sides { (right.side ≡ Rightward) × (left.side ≡ Leftward) }
         ensures counted { (length result.rightward.items ≡ right.puts) × (length result.leftward.items ≡ left.puts) }
         ensures rightward { AreInRounds M.side_of M.round_of Rightward result.rightward.items }

@@ -1,7 +1,8 @@
 // What a border keeps under its lock.
 ghost use Rattle.std.specs.Prelude.{◌≡◌, ◌+◌, ◌^◌, ◌<◌, ◌≤◌, ◌↔◌, [], IsTrue, true, false, Err, OnOk, OnErr, IfErr, IfOk, IfSome, length, slice_get};
 ghost use Rattle.border_exchange.specs.InRounds.{AreInRounds};
-ghost use Rattle.border_exchange.specs.BorderContents.{messages_of, with_message, IsNext};
+ghost use Rattle.border_exchange.specs.BorderContents.{messages_of, with_message};
+ghost use Rattle.border_exchange.specs.SeatState.{IsNext};
 ghost use Rattle.border_exchange.specs.declared.Side.TheVariants.{Rightward, Leftward};
 ghost use Rattle.border_exchange.specs.declared.fault.PutFault.TheVariants.{Closed, Misplaced, OutOfMemory as NoRoom};
 
@@ -39,7 +40,8 @@ impl<M: Dated + Copy, R: Ledger, L: Ledger> Lists<M, R, L> {
         right: Book<R>,
         left: Book<L>,
     ) -> Result<Lists<M, R, L>, OutOfMemory>
-        requires { (right.total ≡ 0) × (left.total ≡ 0) }
+        requires empty { (right.total ≡ 0) × (left.total ≡ 0) }
+        requires whole { (R.parts ≡ 1) × (L.parts ≡ 1) }
         ensures { IfOk result (λ lists. lists ≡ record { rightward = []; leftward = []; closed = false }) }
     {
         Ok(Lists {
@@ -89,19 +91,18 @@ impl<M: Dated + Copy, R: Ledger, L: Ledger> Lists<M, R, L> {
         requires { seat.old.puts < 2 ^ 24 }
         ensures put { OnOk result (seat.new ≡ record seat.old { puts = seat.old.puts + 1 }) }
         ensures appended { OnOk result (self.new ≡ with_message self.old seat.old.side message) }
-        ensures placed { OnOk result (IsNext M.side_of M.round_of self.old seat.old message) }
+        ensures placed { OnOk result (IsNext M.side_of M.round_of seat.old message) }
         ensures refused { IfErr result (λ e. e.0 ≡ message) }
         ensures unchanged { OnErr result ((self.new ≡ self.old) × (seat.new ≡ seat.old)) }
         ensures closed { (result ≡ Err (message, Closed)) ↔ (self.old.closed ≡ true) }
-        ensures misplaced { IfErr result (λ e. e.1 ≡ Misplaced → ¬ IsNext M.side_of M.round_of self.old seat.old message) }
-        ensures no_room { IfErr result (λ e. e.1 ≡ NoRoom → IsNext M.side_of M.round_of self.old seat.old message) }
+        ensures misplaced { IfErr result (λ e. e.1 ≡ Misplaced → ¬ IsNext M.side_of M.round_of seat.old message) }
+        ensures no_room { IfErr result (λ e. e.1 ≡ NoRoom → IsNext M.side_of M.round_of seat.old message) }
     {
         if self.closed {
             return Err((message, PutFault::Closed));
         }
-        let side = message.side();
-        let round = message.round();
-        if side != seat.side() || round != seat.puts() || round as usize != self.len(side) {
+        seat.audit(&mut self.rightward, &mut self.leftward);
+        if message.side() != seat.side() || message.round() != seat.puts() {
             return Err((message, PutFault::Misplaced));
         }
         match seat.append(&mut self.rightward, &mut self.leftward, message) {
@@ -112,7 +113,6 @@ impl<M: Dated + Copy, R: Ledger, L: Ledger> Lists<M, R, L> {
 
     /// The messages of both sides, on each as many as its seat has put.
     pub(crate) fn settle(self, right: Seat<R, L>, left: Seat<R, L>) -> Totals<M>
-        requires whole { (R.parts ≡ 1) × (L.parts ≡ 1) }
         requires sides { (right.side ≡ Rightward) × (left.side ≡ Leftward) }
         ensures counted { (length result.rightward.items ≡ right.puts) × (length result.leftward.items ≡ left.puts) }
         ensures rightward { AreInRounds M.side_of M.round_of Rightward result.rightward.items }

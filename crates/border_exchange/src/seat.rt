@@ -73,6 +73,23 @@ impl<R: Ledger, L: Ledger> Seat<R, L> {
         self.puts
     }
 
+    /// Shows that the seat has put as many messages as there are on its side.
+    pub(crate) fn audit<M: Dated + Copy>(
+        &mut self,
+        rightward: &mut SideList<M, R>,
+        leftward: &mut SideList<M, L>,
+    )
+        ensures seat { self.new ≡ self.old }
+        ensures lists { (rightward.new ≡ rightward.old) × (leftward.new ≡ leftward.old) }
+        ensures right { self.old.side ≡ Rightward → self.old.puts ≡ length rightward.old.messages }
+        ensures left { self.old.side ≡ Leftward → self.old.puts ≡ length leftward.old.messages }
+    {
+        match &mut self.share {
+            SideShare::Rightward(share) => rightward.audit(share),
+            SideShare::Leftward(share) => leftward.audit(share),
+        }
+    }
+
     /// Appends the message to the list of the seat's side and counts it. Where the list can't grow the message comes
     /// back and the seat is as before.
     pub(crate) fn append<M: Dated + Copy>(

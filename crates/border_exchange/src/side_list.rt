@@ -8,7 +8,8 @@ use std::alloc::Global;
 use std::marker::Model;
 use std::sync::ledger::{Book, Ledger, Share};
 
-/// A list of messages, of which number `k` is of this side and of round `k`. The book has counted them.
+/// A list of messages, of which number `k` is of this side and of round `k`. The book, of which there is one share, has
+/// counted them.
 #[derive(Drop)]
 pub(crate) struct SideList<M: Dated, L: Ledger> {
     side: Side,
@@ -25,7 +26,7 @@ impl<M: Dated, L: Ledger> Model for SideList<M, L> {
 
     ghost view = { λ w. record { side = w.side; messages = w.messages.items } };
 
-    ghost invariant = { λ w. (w.book.total ≡ length w.messages.items) × AreInRounds M.side_of M.round_of w.side w.messages.items };
+    ghost invariant = { λ w. (w.book.total ≡ length w.messages.items) × AreInRounds M.side_of M.round_of w.side w.messages.items × (L.parts ≡ 1) };
 }
 
 impl<M: Dated + Copy, L: Ledger> SideList<M, L> {
@@ -34,7 +35,8 @@ impl<M: Dated + Copy, L: Ledger> SideList<M, L> {
         side: Side,
         book: Book<L>,
     ) -> Result<SideList<M, L>, OutOfMemory>
-        requires { book.total ≡ 0 }
+        requires empty { book.total ≡ 0 }
+        requires whole { L.parts ≡ 1 }
         ensures { IfOk result (λ w. w ≡ record { side = side; messages = [] }) }
     {
         Ok(SideList {
@@ -58,6 +60,16 @@ impl<M: Dated + Copy, L: Ledger> SideList<M, L> {
         self.messages.get(round as usize).copied()
     }
 
+    /// Shows that the side's one share has counted as many messages as there are.
+    pub(crate) fn audit(&mut self, share: &mut Share<L>)
+        requires { share.old.parts ≡ 1 }
+        ensures counted { share.old.amount ≡ length self.old.messages }
+        ensures list { self.new ≡ self.old }
+        ensures share { (share.new.amount ≡ share.old.amount) × (share.new.parts ≡ share.old.parts) }
+    {
+        self.book.audit(share);
+    }
+
     /// Appends a message, and counts it in the book and in the share. Where the list can't grow the message comes
     /// back and nothing else changes.
     pub(crate) fn append(&mut self, share: &mut Share<L>, message: M) -> Result<(), M>
@@ -79,7 +91,7 @@ impl<M: Dated + Copy, L: Ledger> SideList<M, L> {
 
     /// The messages, which are as many as the side's one share has counted.
     pub(crate) fn settle(self, share: Share<L>) -> Vec<M>
-        requires { share.parts ≡ L.parts }
+        requires { share.parts ≡ 1 }
         ensures items { result.items ≡ self.messages }
         ensures counted { length result.items ≡ share.amount }
         ensures dated { AreInRounds M.side_of M.round_of self.side result.items }

@@ -105,6 +105,66 @@ fn put_and_take<R: Ledger + Send + Sync, L: Ledger + Send + Sync, W: Threads + W
     ))
 }
 
+// Closes the border after puts of every round, once both takers are about to take. Answers whether they came and all was put.
+fn put_for_two<R: Ledger, L: Ledger, W: Wait>(
+    rt: &W,
+    border: &Border<Note, R, L>,
+    mut seat: Seat<R, L>,
+    about: &AtomicU64,
+) -> bool {
+    let mut done = comes_to(about, 2);
+    for round in 0..ROUNDS {
+        if seat.puts() >= ROUNDS {
+            done = false;
+            break;
+        }
+        let message = to_the_right(round, round + 5);
+        done &= border.put(rt, &mut seat, message).is_ok();
+    }
+    border.close(rt);
+    done
+}
+
+// Takes the message of each round beside another taker, and answers whether each was the one put.
+fn take_beside<R: Ledger, L: Ledger, W: Wait>(
+    rt: &W,
+    border: &Border<Note, R, L>,
+    about: &AtomicU64,
+) -> bool {
+    about.fetch_add(1, SeqCst);
+    for round in 0..ROUNDS {
+        let message = to_the_right(round, round + 5);
+        if border.take(rt, Side::Rightward, round) != Some(message) {
+            return false;
+        }
+    }
+    true
+}
+
+// One thread puts and two take the same messages: whether each did all that it had to.
+fn put_and_take_twice<R: Ledger + Send + Sync, L: Ledger + Send + Sync, W: Threads + Wait + Sync>(
+    rt: &W,
+    alloc: Global,
+    right: Blank,
+    left: Blank,
+) -> Option<(bool, (bool, bool))>
+    requires right { (right.name ≡ R.name) × (right.parts ≡ R.parts) × (right.parts ≡ 1) }
+    requires left { (left.name ≡ L.name) × (left.parts ≡ L.parts) × (left.parts ≡ 1) }
+{
+    let (border, seat, _other) = Border::<Note, R, L>::new(alloc, right, left).ok()?;
+    let counter = AtomicU64::new(0);
+    let (lent, about) = (&border, &counter);
+    Some(thread::join(
+        rt,
+        || put_for_two(rt, lent, seat, about),
+        || thread::join(
+            rt,
+            || take_beside(rt, lent, about),
+            || take_beside(rt, lent, about),
+        ),
+    ))
+}
+
 // Closes the border once a taker is about to take. Answers whether it came.
 fn close_late<R: Ledger, L: Ledger, W: Wait>(
     rt: &W,
@@ -150,6 +210,12 @@ fn close_and_take<R: Ledger + Send + Sync, L: Ledger + Send + Sync, W: Threads +
 fn a_taker_waits_for_a_put(rt: HostRuntime) {
     let done = put_and_take::<Brand, Brand, _>(&rt, rt.alloc(), Blank::new(1), Blank::new(1));
     assert_eq!(rt; done, Some((true, true)));
+}
+
+#[test]
+fn two_takers_wait_at_one_border(rt: HostRuntime) {
+    let done = put_and_take_twice::<Brand, Brand, _>(&rt, rt.alloc(), Blank::new(1), Blank::new(1));
+    assert_eq!(rt; done, Some((true, (true, true))));
 }
 
 #[test]
