@@ -3,7 +3,7 @@ ghost use Rattle.std.specs.Prelude.{◌≡◌, ◌↔◌, IfOk, IfErr, OnOk, len
 ghost use Rattle.table_fill.specs.Workers.{IsWorkerCount};
 ghost use Rattle.ring_exec.specs.SegmentCounts.{IsSegmentCount};
 ghost use Rattle.headline.specs.Headline.{IsHeadline, TableAgrees};
-ghost use Rattle.ring_exec.specs.declared.message_run.RunFault.{RunFault};
+ghost use Rattle.ring_exec.specs.declared.fault.RunFault.{RunFault};
 
 use crate::fault::FindingsFault;
 use lang_check::Plan;

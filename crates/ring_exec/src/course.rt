@@ -1,9 +1,10 @@
 // The course of a run: which segments run, and which are yet to run.
-ghost use Rattle.std.specs.Prelude.{◌≡◌, ℕ};
+ghost use Rattle.std.specs.Prelude.{◌≡◌, ℕ, Some};
+ghost use Rattle.ring_exec.specs.declared.fault.CourseFault.TheVariants.{NoThread};
 
 use crate::border_name::{Blanks, BorderName};
 use crate::end::{Edge, End, new_border};
-use crate::fault::SegmentFault;
+use crate::fault::{CourseFault, SegmentFault};
 use crate::joined::Joined;
 use crate::runner::{Outcome, Runner, Shared};
 use ring_core::{Msg, Segment};
@@ -99,12 +100,12 @@ fn start_next<
     left: End<Msg<'a>, B>,
     threads: &mut Vec<JoinHandle<Outcome<'a>>>,
     blanks: Blanks,
-) -> Result<Edge<Msg<'a>, N>, SegmentFault>
+) -> Result<Edge<Msg<'a>, N>, CourseFault>
     requires right { (blanks.right.name ≡ N.rightward) × (blanks.right.parts ≡ 1) }
     requires left { (blanks.left.name ≡ N.leftward) × (blanks.left.parts ≡ 1) }
 {
     let Some(segment) = waiting.pop() else {
-        return Err(SegmentFault::Stranger);
+        return Err(CourseFault::Segment(SegmentFault::Stranger));
     };
     let (right, next) = new_border::<Msg<'a>, N>(shared.alloc, blanks)?;
     let runner = Runner {
@@ -115,11 +116,11 @@ fn start_next<
         right,
     };
     let Some(thread) = start_one(scope, runner) else {
-        return Err(SegmentFault::NoThread);
+        return Err(CourseFault::NoThread);
     };
     if threads.push(thread).is_err() {
         next.closer.close(shared.rt);
-        return Err(SegmentFault::OutOfMemory);
+        return Err(CourseFault::Segment(SegmentFault::OutOfMemory));
     }
     Ok(next)
 }
@@ -143,7 +144,9 @@ fn start_one<
 // Runs the last segment in this thread, and joins the threads of the others.
 pub(crate) fn ended<'a, R: Threads + Wait, G: Gate, B: BorderName, L: BorderName>(
     course: Course<'a, R, G, B, L>,
-) -> Joined<'a> {
+) -> Joined<'a>
+    ensures { result.fault ≡ Some NoThread → course.entry.joined.fault ≡ Some NoThread }
+{
     let Course {
         shared,
         index,

@@ -1,10 +1,14 @@
 // Borders between neighbouring segments.
-ghost use Rattle.std.specs.Prelude.{◌≡◌};
+ghost use Rattle.std.specs.Prelude.{◌≡◌, ◌≤◌, ◌⊎◌, IfErr};
+ghost use Rattle.border_exchange.specs.SeatState.{IsNext};
+ghost use Rattle.node_lang.specs.declared.limits.TheConstants.{MAX_ROUNDS};
+ghost use Rattle.ring_exec.specs.declared.end.Stop.TheVariants.{Fault};
+ghost use Rattle.ring_exec.specs.declared.fault.SegmentFault.TheVariants.{Stranger};
 
 use crate::border_name::{Blanks, BorderName, LeftLedger, RightLedger};
 use crate::fault::SegmentFault;
 use border_exchange::{Border, Dated, PutFault, Seat, Side};
-use node_lang::MAX_ROUNDS;
+use node_lang::{MAX_ROUNDS, OutOfMemory};
 use std::alloc::Global;
 use std::sync::{Arc, Wait};
 
@@ -25,7 +29,10 @@ pub(crate) struct End<M: Dated, N: BorderName> {
 
 impl<M: Dated + Copy, N: BorderName> End<M, N> {
     // Puts a message. A seat that has put in as many rounds as a plan may have is not of this run.
-    pub(crate) fn put<R: Wait>(&mut self, rt: &R, message: M) -> Result<(), Stop> {
+    pub(crate) fn put<R: Wait>(&mut self, rt: &R, message: M) -> Result<(), Stop>
+        ensures { IfErr result (λ stop. stop ≡ Fault Stranger
+            → (MAX_ROUNDS ≤ self.old.seat.puts) ⊎ (¬ IsNext M.side_of M.round_of self.old.seat message)) }
+    {
         if self.seat.puts() >= MAX_ROUNDS {
             return Err(Stop::Fault(SegmentFault::Stranger));
         }
@@ -62,17 +69,21 @@ pub(crate) struct Edge<M: Dated, N: BorderName> {
 pub(crate) fn new_border<M: Dated + Copy, N: BorderName>(
     alloc: Global,
     blanks: Blanks,
-) -> Result<(End<M, N>, Edge<M, N>), SegmentFault>
+) -> Result<(End<M, N>, Edge<M, N>), OutOfMemory>
     requires right { (blanks.right.name ≡ N.rightward) × (blanks.right.parts ≡ 1) }
     requires left { (blanks.left.name ≡ N.leftward) × (blanks.left.parts ≡ 1) }
 {
     let Blanks { right, left } = blanks;
     let (border, right_seat, left_seat) = Border::new(alloc, right, left)?;
     let Ok(here) = Arc::new(alloc, border) else {
-        return Err(SegmentFault::OutOfMemory);
+        return Err(OutOfMemory);
     };
-    let there = Arc::try_clone(&here)?;
-    let closer = Arc::try_clone(&here)?;
+    let Ok(there) = Arc::try_clone(&here) else {
+        return Err(OutOfMemory);
+    };
+    let Ok(closer) = Arc::try_clone(&here) else {
+        return Err(OutOfMemory);
+    };
     let here = End {
         border: here,
         seat: right_seat,

@@ -1,8 +1,9 @@
 // What the segments of a run came to.
-ghost use Rattle.std.specs.Prelude.{◌≡◌, Some};
+ghost use Rattle.std.specs.Prelude.{◌≡◌, None, Some, IfOk, IfErr};
 ghost use Rattle.ring_exec.specs.Faults.{blamed};
+ghost use Rattle.ring_exec.specs.declared.fault.CourseFault.TheVariants.{NoThread};
 
-use crate::fault::SegmentFault;
+use crate::fault::{CourseFault, SegmentFault};
 use crate::runner::Outcome;
 use ring_core::Segment;
 use std::alloc::Global;
@@ -11,12 +12,14 @@ use std::alloc::Global;
 #[derive(Drop)]
 pub(crate) struct Joined<'a> {
     segments: Vec<Segment<'a>>,
-    fault: Option<SegmentFault>,
+    fault: Option<CourseFault>,
 }
 
 impl<'a> Joined<'a> {
     // Nothing so far, with room for so many segments.
-    pub(crate) fn new(alloc: Global, segments: u32) -> Result<Joined<'a>, SegmentFault> {
+    pub(crate) fn new(alloc: Global, segments: u32) -> Result<Joined<'a>, SegmentFault>
+        ensures { IfOk result (λ joined. joined.fault ≡ None) }
+    {
         let segments = Vec::with_capacity(alloc, segments as usize)?;
         Ok(Joined {
             segments,
@@ -25,20 +28,24 @@ impl<'a> Joined<'a> {
     }
 
     // Adds what a segment came to. All that were added before come after it on the ring.
-    pub(crate) fn add(mut self, outcome: Outcome<'a>) -> Joined<'a> {
+    pub(crate) fn add(mut self, outcome: Outcome<'a>) -> Joined<'a>
+        ensures { result.fault ≡ Some NoThread → self.entry.fault ≡ Some NoThread }
+    {
         match outcome {
             Ok(segment) => {
                 if self.segments.push(segment).is_err() {
-                    self.blame(SegmentFault::OutOfMemory);
+                    self.blame(CourseFault::Segment(SegmentFault::OutOfMemory));
                 }
             }
-            Err(fault) => self.blame(fault),
+            Err(fault) => self.blame(CourseFault::Segment(fault)),
         }
         self
     }
 
     // The segments that came back, where none had a fault.
-    pub(crate) fn into_segments(self) -> Result<Vec<Segment<'a>>, SegmentFault> {
+    pub(crate) fn into_segments(self) -> Result<Vec<Segment<'a>>, CourseFault>
+        ensures { IfErr result (λ fault. self.entry.fault ≡ Some fault) }
+    {
         match self.fault {
             None => Ok(self.segments),
             Some(fault) => Err(fault),
@@ -46,11 +53,11 @@ impl<'a> Joined<'a> {
     }
 
     // Takes the fault of a segment in place of one of a segment after it. A refused thread counts first.
-    pub(crate) fn blame(&mut self, fault: SegmentFault)
+    pub(crate) fn blame(&mut self, fault: CourseFault)
         ensures fault { self.new.fault ≡ Some (blamed self.old.fault fault) }
         ensures segments { self.new.segments ≡ self.old.segments }
     {
-        if self.fault != Some(SegmentFault::NoThread) {
+        if self.fault != Some(CourseFault::NoThread) {
             self.fault = Some(fault);
         }
     }

@@ -13,8 +13,9 @@ mod message_run;
 mod relay;
 mod runner;
 
+pub use fault::RunFault;
 pub use limits::MAX_SEGMENTS;
-pub use message_run::{RunFault, run};
+pub use message_run::run;
 pub use ring_core::{Msg, Segment, Strange};
 
 #[cfg(test)]

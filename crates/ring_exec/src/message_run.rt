@@ -1,19 +1,19 @@
 // A run by messages.
-ghost use Rattle.std.specs.Prelude.{◌≡◌, ◌↔◌, IfOk, OnOk, IfErr, length};
+ghost use Rattle.std.specs.Prelude.{◌≡◌, ◌+◌, ◌-◌, ◌<◌, ◌↔◌, ℕ, IfOk, OnOk, IfErr, IfSome, IsErrOf, length, vec_len, slice_get};
 ghost use Rattle.node_lang.specs.GlobalRounds.{channels_of};
-ghost use Rattle.ring_exec.specs.Faults.{run_fault_of};
 ghost use Rattle.ring_exec.specs.SegmentCounts.{IsSegmentCount};
 
 use crate::border_name::{Blanks, BorderName};
-use crate::course::Course;
+use crate::course::{Course, ended};
 use crate::end::new_border;
-use crate::fault::SegmentFault;
+use crate::fault::{CourseFault, RunFault, run_fault};
 use crate::gathering::gather;
 use crate::joined::Joined;
 use crate::limits::MAX_SEGMENTS;
 use crate::relay::run_all;
 use crate::runner::Shared;
 use lang_check::Plan;
+use node_lang::OutOfMemory;
 use ring_core::{Msg, Segment};
 use round_eval::Gate;
 use std::alloc::Global;
@@ -22,25 +22,12 @@ use std::sync::Wait;
 use std::thread::Threads;
 use win_index::Ring;
 
-/// Why a run gives no channels.
-#[derive(Clone, Copy, Debug, PartialEq, Eq, Drop)]
-pub enum RunFault {
-    /// Not 1 to `MAX_SEGMENTS` segments, or more than the ring has places.
-    SegmentsOutOfRange,
-    /// Memory for a segment, a border, a message or the channels was refused.
-    OutOfMemory,
-    /// A message came that its segment did not need, or a segment ended too soon.
-    Stranger,
-    /// The start of a thread was refused.
-    NoThread,
-}
-
 /// The channels of a ring after all rounds of a plan, in the order of the places. The ring is cut into segments, each
 /// runs in a thread of its own, the last one in the caller's, and neighbours exchange messages at borders. The gate is
 /// told of each round of each segment, before the segment sends. The ring has the plan's shape.
 ///
 /// `SegmentsOutOfRange` comes first, where the number of segments is not 1 to `MAX_SEGMENTS` or is above the number of places; then
-/// `NoThread`, where the start of a thread was refused; else the fault of the lowest segment that has one. All threads
+/// `NoThread`, where the start of a thread was refused, so not for a single segment; else the fault of the lowest segment that has one. All threads
 /// have ended before any answer.
 pub fn run<'a, R: Threads + Wait + Sync, G: Gate + Sync>(
     rt: &'a R,
@@ -55,6 +42,7 @@ pub fn run<'a, R: Threads + Wait + Sync, G: Gate + Sync>(
     ensures channels { IfOk result (λ channels. channels.items ≡ channels_of plan.now.program ring.now.places) }
     ensures in_range { OnOk result (IsSegmentCount segments (length ring.now.places)) }
     ensures out_of_range { IfErr result (λ fault. (fault ≡ RunFault.SegmentsOutOfRange) ↔ (¬ IsSegmentCount segments (length ring.now.places))) }
+    ensures alone { IsErrOf result RunFault.NoThread → 1 < segments }
 {
     if segments == 0 || segments > MAX_SEGMENTS || segments > ring.len() {
         return Err(RunFault::SegmentsOutOfRange);
@@ -66,18 +54,6 @@ pub fn run<'a, R: Threads + Wait + Sync, G: Gate + Sync>(
     }
 }
 
-// The fault of a run that comes to a segment's fault.
-fn run_fault(fault: SegmentFault) -> RunFault
-    ensures same { result ≡ run_fault_of fault }
-    ensures range { ¬ (result ≡ RunFault.SegmentsOutOfRange) }
-{
-    match fault {
-        SegmentFault::OutOfMemory => RunFault::OutOfMemory,
-        SegmentFault::Stranger => RunFault::Stranger,
-        SegmentFault::NoThread => RunFault::NoThread,
-    }
-}
-
 // The run whose last border has the name L.
 fn run_named<'a, R: Threads + Wait + Sync, G: Gate + Sync, L: BorderName + Send + Sync + 'a>(
     shared: Shared<'a, R, G>,
@@ -85,20 +61,22 @@ fn run_named<'a, R: Threads + Wait + Sync, G: Gate + Sync, L: BorderName + Send 
     ring: &'a Ring,
     segments: u32,
     blanks: Blanks,
-) -> Result<Vec<u32>, SegmentFault>
+) -> Result<Vec<u32>, CourseFault>
     requires ids { ring.now.ids ≡ plan.now.ids }
     requires rounds { ring.now.rounds ≡ length plan.now.program.steps }
     requires range { IsSegmentCount segments (length ring.now.places) }
     requires right { (blanks.right.name ≡ L.rightward) × (blanks.right.parts ≡ 1) }
     requires left { (blanks.left.name ≡ L.leftward) × (blanks.left.parts ≡ 1) }
-    ensures { IfOk result (λ channels. channels.items ≡ channels_of plan.now.program ring.now.places) }
+    ensures channels { IfOk result (λ channels. channels.items ≡ channels_of plan.now.program ring.now.places) }
+    ensures alone { IfErr result (λ fault. fault ≡ CourseFault.NoThread → 1 < segments) }
 {
     let waiting = waiting_segments(shared.alloc, plan, ring, segments)?;
     run_segments::<R, G, L>(shared, plan, ring, segments, waiting, blanks)
 }
 
 // The run of these segments, the first one last. That they are those of the plan and the ring is found once they have
-// ended. What is taken here is taken before the first thread starts.
+// ended. What is taken here is taken before the first thread starts. A single segment runs in this thread, and none is
+// started.
 pub(crate) fn run_segments<
     'a,
     R: Threads + Wait + Sync,
@@ -111,11 +89,12 @@ pub(crate) fn run_segments<
     segments: u32,
     waiting: Vec<Segment<'a>>,
     blanks: Blanks,
-) -> Result<Vec<u32>, SegmentFault>
+) -> Result<Vec<u32>, CourseFault>
     requires range { IsSegmentCount segments (length ring.now.places) }
     requires right { (blanks.right.name ≡ L.rightward) × (blanks.right.parts ≡ 1) }
     requires left { (blanks.left.name ≡ L.leftward) × (blanks.left.parts ≡ 1) }
-    ensures { IfOk result (λ channels. channels.items ≡ channels_of plan.now.program ring.now.places) }
+    ensures channels { IfOk result (λ channels. channels.items ≡ channels_of plan.now.program ring.now.places) }
+    ensures alone { IfErr result (λ fault. fault ≡ CourseFault.NoThread → 1 < segments) }
 {
     let alloc = shared.alloc;
     let mut channels = vec![in alloc; 0; ring.len() as usize]?;
@@ -131,7 +110,12 @@ pub(crate) fn run_segments<
         threads,
         joined,
     };
-    let found = run_all(course, segments).into_segments()?;
+    let joined = if segments == 1 {
+        ended(course)
+    } else {
+        run_all(course, segments)
+    };
+    let found = joined.into_segments()?;
     gather(plan, ring, segments, found, &mut channels)?;
     Ok(channels)
 }
@@ -142,16 +126,21 @@ fn waiting_segments<'a>(
     plan: &'a Plan,
     ring: &'a Ring,
     segments: u32,
-) -> Result<Vec<Segment<'a>>, SegmentFault>
+) -> Result<Vec<Segment<'a>>, OutOfMemory>
     requires ids { ring.now.ids ≡ plan.now.ids }
     requires rounds { ring.now.rounds ≡ length plan.now.program.steps }
     requires range { IsSegmentCount segments (length ring.now.places) }
+    ensures count { IfOk result (λ waiting. vec_len waiting ≡ segments) }
+    ensures opening { IfOk result (λ waiting. (i : ℕ) → IfSome (slice_get waiting.items i)
+        (λ s. s ≡ record { plan = plan.now; ring = ring.now; segments = segments; index = segments - 1 - i; round = 0 })) }
 {
-    let mut waiting = Vec::with_capacity(alloc, segments as usize)?;
+    let Ok(mut waiting) = Vec::with_capacity(alloc, segments as usize) else {
+        return Err(OutOfMemory);
+    };
     for started in 0..segments {
         let segment = Segment::new(alloc, plan, ring, segments, segments - 1 - started)?;
         if waiting.push(segment).is_err() {
-            return Err(SegmentFault::OutOfMemory);
+            return Err(OutOfMemory);
         }
     }
     Ok(waiting)

@@ -1,22 +1,25 @@
-use crate::fault::SegmentFault;
+use crate::fault::{CourseFault, SegmentFault};
 use crate::joined::Joined;
 use std::alloc::Global;
 use std::test::Fail;
 
 // The fault of a run whose segments had these, from the last to the first.
-fn fault_after(alloc: Global, faults: &[SegmentFault]) -> Option<Option<SegmentFault>> {
+fn fault_after(alloc: Global, faults: &[CourseFault]) -> Option<Option<CourseFault>> {
     let mut joined = Joined::new(alloc, 0).ok()?;
     for fault in faults {
-        joined = joined.add(Err(*fault));
+        match fault {
+            CourseFault::Segment(fault) => joined = joined.add(Err(*fault)),
+            CourseFault::NoThread => joined.blame(CourseFault::NoThread),
+        }
     }
     Some(joined.into_segments().err())
 }
 
 #[test]
 fn the_fault_of_the_lowest_segment_counts(rt: HostRuntime) -> Result<(), Fail> {
-    let memory = SegmentFault::OutOfMemory;
-    let stranger = SegmentFault::Stranger;
-    let thread = SegmentFault::NoThread;
+    let memory = CourseFault::Segment(SegmentFault::OutOfMemory);
+    let stranger = CourseFault::Segment(SegmentFault::Stranger);
+    let thread = CourseFault::NoThread;
     let rows = [
         ([memory, stranger], stranger),
         ([stranger, memory], memory),

@@ -7,7 +7,7 @@ use std::sync::atomic::AtomicU64;
 use std::sync::atomic::Ordering::SeqCst;
 use std::test::Fail;
 use std::thread::Threads;
-use test_programs::{CV1, plan_of};
+use test_programs::{CV1, RED, plan_of};
 use win_index::Ring;
 
 // Looks at the counter of entered segments, at most.
@@ -109,5 +109,21 @@ fn two_segments_run_at_once(rt: HostRuntime) -> Result<(), Fail> {
     };
     assert_eq!(rt; seen, both);
     assert_eq!(rt; channels.as_slice(), [2, 4, 3, 5].as_slice());
+    Ok(())
+}
+
+#[test]
+fn the_gate_is_told_of_each_of_three_rounds(rt: HostRuntime) -> Result<(), Fail> {
+    let plan = plan_of(rt.alloc(), RED, 8)?;
+    let ids = vec![in rt.alloc(); 5, 1, 3, 7, 0, 2, 4, 6]?;
+    let (channels, seen) = seen_by_two(&rt, rt.alloc(), &plan, ids).ok_or("channels")?;
+    let both = Seen {
+        late: false,
+        entered: 2,
+        times: [3, 3],
+        rounds: [3, 3],
+    };
+    assert_eq!(rt; seen, both);
+    assert_eq!(rt; channels.as_slice(), [1, 0, 3, 1, 0, 3, 2, 3].as_slice());
     Ok(())
 }

@@ -1,11 +1,12 @@
 ghost use Rattle.std.specs.Prelude.{◌≡◌, ◌≤◌, length};
 
 use crate::border_name::{Blanks, BorderName};
-use crate::fault::SegmentFault;
+use crate::end::{Edge, new_border};
+use crate::fault::{CourseFault, SegmentFault};
 use crate::message_run::run_segments;
-use crate::runner::Shared;
+use crate::runner::{Runner, Shared};
 use lang_check::Plan;
-use ring_core::Segment;
+use ring_core::{Msg, Segment};
 use round_eval::{Gate, OpenGate};
 use std::alloc::Global;
 use std::marker::Brand;
@@ -23,7 +24,7 @@ fn fault_by_names<'a, R: Threads + Wait + Sync, G: Gate + Sync, L: BorderName + 
     other: &'a Ring,
     stranger: u32,
     blanks: Blanks,
-) -> Option<Option<SegmentFault>>
+) -> Option<Option<CourseFault>>
     requires ids { (ring.now.ids ≡ plan.now.ids) × (other.now.ids ≡ plan.now.ids) }
     requires rounds { (ring.now.rounds ≡ length plan.now.program.steps) × (other.now.rounds ≡ length plan.now.program.steps) }
     requires places { (8 ≤ length ring.now.places) × (8 ≤ length other.now.places) }
@@ -46,7 +47,7 @@ fn fault_with_stranger<R: Threads + Wait + Sync>(
     alloc: Global,
     plan: &Plan,
     stranger: u32,
-) -> Option<Option<SegmentFault>> {
+) -> Option<Option<CourseFault>> {
     let ids = (vec![in alloc; 5, 1, 3, 7, 0, 2, 4, 6]).ok()?;
     let ring = Ring::new(plan.shape(), ids).ok()?;
     let ids = (vec![in alloc; 1, 3, 7, 0, 2, 4, 6, 5]).ok()?;
@@ -63,12 +64,61 @@ fn fault_with_stranger<R: Threads + Wait + Sync>(
     fault_by_names::<R, OpenGate, Brand>(shared, plan, &ring, &other, stranger, Blanks::new())
 }
 
+// What a segment alone comes to whose border is closed: its fault, or how many rounds it has done.
+fn end_at_closed_border<'a, R: Wait, L: BorderName + 'a>(
+    rt: &'a R,
+    alloc: Global,
+    segment: Segment<'a>,
+    blanks: Blanks,
+) -> Option<Result<u32, SegmentFault>>
+    requires right { (blanks.right.name ≡ L.rightward) × (blanks.right.parts ≡ 1) }
+    requires left { (blanks.left.name ≡ L.leftward) × (blanks.left.parts ≡ 1) }
+{
+    let (right, Edge { end: left, closer }) = new_border::<Msg<'a>, L>(alloc, blanks).ok()?;
+    closer.close(rt);
+    let gate = OpenGate;
+    let runner = Runner {
+        shared: Shared {
+            rt,
+            alloc,
+            gate: &gate,
+        },
+        index: 0,
+        segment,
+        left,
+        right,
+    };
+    Some(match runner.run() {
+        Ok(segment) => Ok(segment.round()),
+        Err(fault) => Err(fault),
+    })
+}
+
+// The same for a ring in one segment, where it can be made.
+fn end_of_one<R: Wait>(rt: &R, alloc: Global, plan: &Plan) -> Option<Result<u32, SegmentFault>> {
+    let ids = (vec![in alloc; 5, 1, 3, 7, 0, 2, 4, 6]).ok()?;
+    let ring = Ring::new(plan.shape(), ids).ok()?;
+    let segment = Segment::new(alloc, plan, &ring, 1, 0).ok()?;
+    end_at_closed_border::<R, Brand>(rt, alloc, segment, Blanks::new())
+}
+
+#[test]
+fn a_closed_border_is_no_fault_of_a_segment(rt: HostRuntime) -> Result<(), Fail> {
+    let plan = plan_of(rt.alloc(), RED, 8)?;
+    let end = end_of_one(&rt, rt.alloc(), &plan);
+    assert!(rt; end == Some(Ok(0)));
+    Ok(())
+}
+
 #[test]
 fn a_run_with_a_stranger_ends(rt: HostRuntime) -> Result<(), Fail> {
     let plan = plan_of(rt.alloc(), RED, 8)?;
     for stranger in 0..8 {
         let fault = fault_with_stranger(&rt, rt.alloc(), &plan, stranger);
-        assert!(rt; fault == Some(Some(SegmentFault::Stranger)), "{stranger}");
+        assert!(rt;
+            fault == Some(Some(CourseFault::Segment(SegmentFault::Stranger))),
+            "{stranger}"
+        );
     }
     let fault = fault_with_stranger(&rt, rt.alloc(), &plan, 8);
     assert!(rt; fault == Some(None));
