@@ -4,6 +4,10 @@ use Rattle.unroll.specs.BlockStates.{MadeBlock}
 use Rattle.shared_memo.specs.declared.reader.Reader.{Reader}
 use Rattle.shared_memo.specs.Passes.{known, LearnsAt, KnowsSame}
 
+-- whether the reader has met a stranger
+abbrev pub met_stranger : Reader → Bool
+met_stranger r = r.stranger
+
 -- a reader before and after it was asked for the block of a level and a number; `found` says whether it answered one
 pub record Asks (level number : ℕ) (found : Bool) (old new : Reader) : Type 0 where
   -- nothing but this block is learnt, and nothing where none is answered
@@ -12,7 +16,7 @@ pub record Asks (level number : ℕ) (found : Bool) (old new : Reader) : Type 0 
   -- a block that was known is answered
   pub known_found : (b : MadeBlock) → known old.pass.now level number ≡ Some b → found ≡ true
   -- the mark of a stranger stays once it is set, and an answer leaves it as it was
-  pub mark_stays : old.stranger ≡ true → new.stranger ≡ true
-  pub mark_as_was : found ≡ true → new.stranger ≡ old.stranger
+  pub mark_stays : met_stranger old ≡ true → met_stranger new ≡ true
+  pub mark_as_was : found ≡ true → met_stranger new ≡ met_stranger old
   -- where the mark was set, a block that was not known is not answered
-  pub only_known : old.stranger ≡ true → known old.pass.now level number ≡ None → found ≡ false
+  pub only_known : met_stranger old ≡ true → known old.pass.now level number ≡ None → found ≡ false
