@@ -1,8 +1,11 @@
-ghost use Rattle.std.specs.Prelude.{◌≡◌, IfErr};
+ghost use Rattle.std.specs.Prelude.{◌≡◌, IfOk, IfErr, IsTrue, OnOk, true, is_some};
 ghost use Rattle.lang_check.specs.Plans.{ProgramForIds};
 ghost use Rattle.shared_memo.specs.declared.memo.Memo.{Memo};
+ghost use Rattle.shared_memo.specs.Passes.{known};
 ghost use Rattle.shared_memo.specs.PlanJobs.{IsKey};
 ghost use Rattle.table_fill.specs.MissingBlocks.{IsMissingBlock};
+ghost use Rattle.table_fill.specs.declared.cell.Made.TheVariants.{Fresh};
+ghost use Rattle.unroll.specs.Entries.{Entries, Grows};
 
 use crate::cell_maker::CellMaker;
 use crate::fault::WorkFault;
@@ -29,11 +32,16 @@ pub(crate) trait Cells {
     // What no call changes.
     ghost fixed: { Self → Fixed };
 
+    // The blocks that are known to stand in their cells.
+    ghost entries: { Self → Entries };
+
     // Whether it finds the block of a level and a number.
     fn finds(&mut self, level: u32, number: u32) -> bool
         requires { IsKey (plan self.old) level number }
         ensures plan { plan self.new ≡ plan self.old }
-        ensures same_fixed { fixed self.new ≡ fixed self.old };
+        ensures same_fixed { fixed self.new ≡ fixed self.old }
+        ensures grows { Grows (entries self.old) (entries self.new) }
+        ensures found { IsTrue result → is_some (entries self.new level number) ≡ true };
 
     // Makes the block of a level and a number and installs it, or names a block of a lower level that is missing.
     fn make(
@@ -46,6 +54,8 @@ pub(crate) trait Cells {
         requires { IsKey (plan self.old) level number }
         ensures plan { plan self.new ≡ plan self.old }
         ensures same_fixed { fixed self.new ≡ fixed self.old }
+        ensures grows { Grows (entries self.old) (entries self.new) }
+        ensures fresh { IfOk result (λ made. made ≡ Fresh → is_some (entries self.new level number) ≡ true) }
         ensures missing { IfErr result (IsMissingBlock (plan self.old) level) };
 
     // Whether it met a block in another's place.
@@ -58,6 +68,8 @@ impl<'s, 'a> Cells for CellMaker<'s, 'a> {
     ghost Fixed = { Memo };
 
     ghost fixed = { λ c. c.reader.memo.now };
+
+    ghost entries = { λ c. known c.reader.pass };
 
     fn finds(&mut self, level: u32, number: u32) -> bool {
         self.reader.block(level, number).is_some()
@@ -102,6 +114,8 @@ pub(crate) fn fill_cell<C: Cells>(
     requires { IsKey (C.plan cells.old) level number }
     ensures plan { C.plan cells.new ≡ C.plan cells.old }
     ensures same_fixed { C.fixed cells.new ≡ C.fixed cells.old }
+    ensures grows { Grows (C.entries cells.old) (C.entries cells.new) }
+    ensures known { OnOk result (is_some (C.entries cells.new level number) ≡ true) }
 {
     if cells.finds(level, number) {
         return Ok(());

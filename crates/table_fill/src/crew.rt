@@ -1,7 +1,8 @@
 ghost use Rattle.std.specs.Prelude.{◌≡◌, ◌+◌, ◌<◌, ◌≤◌, IfOk, IfErr, IfSome, IsTrue, vec_len, vec_capacity, All};
+ghost use Rattle.node_lang.specs.declared.limits.TheConstants.{MAX_THREADS};
 ghost use Rattle.shared_memo.specs.Passes.{IsPassOf};
-ghost use Rattle.shared_memo.specs.Tickets.{told, IsTicketOf};
-ghost use Rattle.table_fill.specs.Workers.{IsWorkerCount};
+ghost use Rattle.shared_memo.specs.Tickets.{numbers_of, IsFreshTicketOf};
+ghost use Rattle.table_fill.specs.Workers.{AreNumbered, IsWorkerCount};
 ghost use Rattle.table_fill.specs.Faults.{first_fault, crew_answer};
 
 use crate::fault::{CrewFault, WorkFault};
@@ -52,10 +53,10 @@ pub(crate) fn fill_by_workers<R: Threads + Wait + Sync, M: Leaves + Sync, G: Gat
         fill_at(rt, alloc, memo, &desk, tickets, gate)?;
         return Ok(None);
     }
-    let Some(ticket) = tickets.pop() else {
+    let Some(mut ticket) = tickets.pop() else {
         unreachable!()
     };
-    Ok(Some(memo.work_alone(alloc, &desk, ticket, gate, 0)?))
+    Ok(Some(memo.work_alone(alloc, &desk, &mut ticket, gate, 0)?))
 }
 
 // Makes a worker of each ticket, and runs each in a thread of its own.
@@ -67,8 +68,9 @@ fn fill_at<R: Threads + Wait + Sync, M: Fills + Sync, G: Gate + Sync>(
     tickets: Vec<Ticket>,
     gate: &G,
 ) -> Result<(), CrewFault>
-    requires tickets { All (λ t. IsTicketOf desk.now t × (told t ≡ 0)) tickets.items }
-    requires jobs { desk.now.total ≡ M.jobs memo.now }
+    requires tickets { All (IsFreshTicketOf desk.now) tickets.items }
+    requires jobs { numbers_of desk.now ≡ M.jobs memo.now }
+    requires few { vec_len tickets ≤ MAX_THREADS }
 {
     let Ok(handles) = Vec::with_capacity(alloc, tickets.len()) else {
         return Err(CrewFault::Work(WorkFault::OutOfMemory));
@@ -77,7 +79,7 @@ fn fill_at<R: Threads + Wait + Sync, M: Fills + Sync, G: Gate + Sync>(
     run_all(rt, crew, handles)
 }
 
-// A worker for each ticket, numbered from 0.
+// A worker for each ticket, numbered from 0 in the order of the tickets.
 fn crew_of<'d, 'm, 'g, M: Fills, G: Gate>(
     alloc: Global,
     memo: &'m M,
@@ -85,17 +87,18 @@ fn crew_of<'d, 'm, 'g, M: Fills, G: Gate>(
     tickets: Vec<Ticket>,
     gate: &'g G,
 ) -> Result<Vec<Worker<'d, 'm, 'g, M, G>>, WorkFault>
-    requires tickets { All (λ t. IsTicketOf desk.now t × (told t ≡ 0)) tickets.items }
-    requires jobs { desk.now.total ≡ M.jobs memo.now }
-    ensures { IfOk result (λ crew. vec_len crew ≡ vec_len tickets) }
+    requires tickets { All (IsFreshTicketOf desk.now) tickets.items }
+    requires jobs { numbers_of desk.now ≡ M.jobs memo.now }
+    requires few { vec_len tickets ≤ MAX_THREADS }
+    ensures count { IfOk result (λ crew. vec_len crew ≡ vec_len tickets) }
+    ensures numbers { IfOk result (λ crew. AreNumbered crew.items (λ worker. worker.number)) }
 {
     let Ok(mut crew) = Vec::with_capacity(alloc, tickets.len()) else {
         return Err(WorkFault::OutOfMemory);
     };
-    let mut number: u32 = 0;
     for ticket in tickets {
         let worker = Worker {
-            number,
+            number: crew.len() as u32,
             alloc,
             memo,
             desk,
@@ -105,7 +108,6 @@ fn crew_of<'d, 'm, 'g, M: Fills, G: Gate>(
         if crew.push(worker).is_err() {
             return Err(WorkFault::OutOfMemory);
         }
-        number = number.wrapping_add(1);
     }
     Ok(crew)
 }

@@ -1,5 +1,5 @@
 ghost use Rattle.std.specs.Prelude.{◌≡◌, IfSome, IsTrue};
-ghost use Rattle.shared_memo.specs.Passes.{known, IsPassOf};
+ghost use Rattle.shared_memo.specs.Passes.{known, memo_plan, IsPassOf};
 ghost use Rattle.table_fill.specs.Filled.{KnowsAll};
 ghost use Rattle.unroll.specs.Entries.{Grows};
 
@@ -11,7 +11,7 @@ pub(crate) fn look_at_all<'a>(memo: &Memo<'a>, pass: &mut Pass<'a>) -> bool
     requires { IsPassOf memo.now pass.old }
     ensures pass { IsPassOf memo.now pass.new }
     ensures kept { Grows (known pass.old) (known pass.new) }
-    ensures known { IsTrue result → KnowsAll memo.now.plan.now (known pass.new) }
+    ensures known { IsTrue result → KnowsAll (memo_plan memo.now) (known pass.new) }
 {
     let shape = memo.plan().shape();
     for level in 0..shape.rounds() + 1 {

@@ -1,7 +1,7 @@
 // A worker's own reader of a memo.
 ghost use Rattle.shared_memo.specs.Passes.{IsPassOf, IsPassOf-prop};
 
-use shared_memo::{Memo, Pass, Stranger};
+use shared_memo::{Memo, Pass, found_in};
 use unroll::{Block, Source};
 
 // A source of blocks that looks into a memo through a pass of its own, and marks that it met a stranger. It goes on to look
@@ -27,10 +27,7 @@ impl<'s, 'a> Source<'s> for OwnReader<'s, 'a> {
     ghost fixed = { λ r. r.memo.now };
 
     fn block(&mut self, level: u32, number: u32) -> Option<&'s Block<'s>> {
-        match self.memo.look(&mut self.pass, level, number) {
-            Ok(found) => return found,
-            Err(Stranger) => self.stranger = true,
-        }
-        None
+        let looked = self.memo.look(&mut self.pass, level, number);
+        found_in(looked, &mut self.stranger)
     }
 }

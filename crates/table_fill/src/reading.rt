@@ -1,7 +1,7 @@
 ghost use Rattle.std.specs.Prelude.{◌≡◌, ◌<◌, ◌≤◌, [], length, vec_len, vec_capacity, All, IfOk};
 ghost use Rattle.unroll.specs.Entries.{Grows};
 ghost use Rattle.shared_memo.specs.PlanJobs.{IsKey, IsKeyedBlock};
-ghost use Rattle.shared_memo.specs.Passes.{known, IsPassOf};
+ghost use Rattle.shared_memo.specs.Passes.{known, memo_plan, IsPassOf};
 ghost use Rattle.table_fill.specs.Filled.{KnowsAll};
 ghost use Rattle.table_fill.specs.ProgramTables.{table_of};
 ghost use Rattle.table_fill.specs.EntryShares.{AreLastBlocks};
@@ -107,12 +107,12 @@ fn known_block<'s, 'a>(
     number: u32,
 ) -> &'s Block<'a>
     requires pass { IsPassOf memo.now pass.old }
-    requires known { KnowsAll memo.now.plan.now (known pass.old) }
-    requires key { IsKey memo.now.plan.now level number }
+    requires known { KnowsAll (memo_plan memo.now) (known pass.old) }
+    requires key { IsKey (memo_plan memo.now) level number }
     ensures pass { IsPassOf memo.now pass.new }
     ensures kept { Grows (known pass.old) (known pass.new) }
-    ensures known { KnowsAll memo.now.plan.now (known pass.new) }
-    ensures block { IsKeyedBlock memo.now.plan.now level number result.now }
+    ensures known { KnowsAll (memo_plan memo.now) (known pass.new) }
+    ensures block { IsKeyedBlock (memo_plan memo.now) level number result.now }
 {
     match memo.look(pass, level, number) {
         Ok(Some(block)) => block,
@@ -126,7 +126,7 @@ pub(crate) fn no_blocks<'s, 'a>(
     memo: &'s Memo<'a>,
 ) -> Result<Vec<&'s Block<'a>>, OutOfMemory>
     ensures none { IfOk result (λ blocks. blocks.items ≡ []) }
-    ensures room { IfOk result (λ blocks. block_count memo.now.plan.now.ids (length memo.now.plan.now.program.steps) ≤ vec_capacity blocks) }
+    ensures room { IfOk result (λ blocks. block_count (memo_plan memo.now).ids (length (memo_plan memo.now).program.steps) ≤ vec_capacity blocks) }
 {
     let shape = memo.plan().shape();
     Vec::with_capacity(alloc, shape.blocks(shape.rounds()) as usize).map_err(|_| OutOfMemory)
@@ -139,13 +139,13 @@ pub(crate) fn last_blocks<'s, 'a>(
     mut blocks: Vec<&'s Block<'a>>,
 ) -> Vec<&'s Block<'a>>
     requires pass { IsPassOf memo.now pass.old }
-    requires known { KnowsAll memo.now.plan.now (known pass.old) }
+    requires known { KnowsAll (memo_plan memo.now) (known pass.old) }
     requires none { blocks.items ≡ [] }
-    requires room { block_count memo.now.plan.now.ids (length memo.now.plan.now.program.steps) ≤ vec_capacity blocks }
+    requires room { block_count (memo_plan memo.now).ids (length (memo_plan memo.now).program.steps) ≤ vec_capacity blocks }
     ensures pass { IsPassOf memo.now pass.new }
     ensures kept { Grows (known pass.old) (known pass.new) }
-    ensures known { KnowsAll memo.now.plan.now (known pass.new) }
-    ensures blocks { AreLastBlocks memo.now.plan.now result.items }
+    ensures known { KnowsAll (memo_plan memo.now) (known pass.new) }
+    ensures blocks { AreLastBlocks (memo_plan memo.now) result.items }
 {
     let shape = memo.plan().shape();
     let level = shape.rounds();

@@ -1,7 +1,8 @@
-ghost use Rattle.std.specs.Prelude.{◌≡◌, ℕ, ◌≤◌, ◌^◌, IfOk};
-ghost use Rattle.shared_memo.specs.Passes.{IsPassOf};
+ghost use Rattle.std.specs.Prelude.{◌≡◌, ℕ, ◌≤◌, ◌^◌, List, IfOk};
+ghost use Rattle.shared_memo.specs.Passes.{known, memo_plan, IsPassOf};
 ghost use Rattle.shared_memo.specs.PlanJobs.{job_count};
-ghost use Rattle.shared_memo.specs.Tickets.{told, IsTicketOf};
+ghost use Rattle.table_fill.specs.Filled.{AreKnown};
+ghost use Rattle.shared_memo.specs.Tickets.{drawn, numbers_of, IsFreshTicketOf};
 
 use crate::cell::fill_cell;
 use crate::cell_maker::CellMaker;
@@ -11,6 +12,7 @@ use round_eval::Gate;
 use shared_memo::{Desk, Memo, Pass, Ticket};
 use std::alloc::Global;
 use unroll::BlockMaker;
+use win_index::jobs_have_numbers;
 
 // What workers fill, job by job.
 pub(crate) trait Fills {
@@ -30,8 +32,8 @@ pub(crate) trait Fills {
         gate: &G,
         number: u32,
     ) -> Result<(), WorkFault>
-        requires ticket { IsTicketOf desk.now ticket × (told ticket ≡ 0) }
-        requires total { desk.now.total ≡ jobs self.now };
+        requires ticket { IsFreshTicketOf desk.now ticket }
+        requires total { numbers_of desk.now ≡ jobs self.now };
 }
 
 // What workers fill where one without others leaves what it knows.
@@ -41,22 +43,26 @@ pub(crate) trait Leaves: Fills {
     // Whether a worker of this may leave that.
     ghost IsLeft: { Self → Self.Left → Type 0 };
 
-    // Works, and answers what the worker knows.
+    // Whether these jobs are known to be filled.
+    ghost KnowsJobs: { Self.Left → List ℕ → Type 0 };
+
+    // Works, and answers what the worker knows: each job that it has drawn is filled.
     fn work_alone<G: Gate>(
         &self,
         alloc: Global,
         desk: &Desk,
-        ticket: Ticket,
+        ticket: &mut Ticket,
         gate: &G,
         number: u32,
     ) -> Result<Self::Left, WorkFault>
-        requires ticket { IsTicketOf desk.now ticket × (told ticket ≡ 0) }
-        requires total { desk.now.total ≡ Self.jobs self.now }
-        ensures { IfOk result (IsLeft self.now) };
+        requires ticket { IsFreshTicketOf desk.now ticket.old }
+        requires total { numbers_of desk.now ≡ Self.jobs self.now }
+        ensures left { IfOk result (IsLeft self.now) }
+        ensures filled { IfOk result (λ left. KnowsJobs left (drawn ticket.new)) };
 }
 
 impl<'a> Fills for Memo<'a> {
-    ghost jobs = { λ m. job_count m.plan.now };
+    ghost jobs = { λ m. job_count (memo_plan m) };
 
     fn total(&self) -> u32 {
         self.plan().shape().jobs()
@@ -66,11 +72,11 @@ impl<'a> Fills for Memo<'a> {
         &self,
         alloc: Global,
         desk: &Desk,
-        ticket: Ticket,
+        mut ticket: Ticket,
         gate: &G,
         number: u32,
     ) -> Result<(), WorkFault> {
-        let _pass = self.work_alone(alloc, desk, ticket, gate, number)?;
+        let _pass = self.work_alone(alloc, desk, &mut ticket, gate, number)?;
         Ok(())
     }
 }
@@ -80,11 +86,13 @@ impl<'a> Leaves for Memo<'a> {
 
     ghost IsLeft = { IsPassOf };
 
+    ghost KnowsJobs = { λ pass jobs. AreKnown pass.plan.now (known pass) jobs };
+
     fn work_alone<G: Gate>(
         &self,
         alloc: Global,
         desk: &Desk,
-        mut ticket: Ticket,
+        ticket: &mut Ticket,
         gate: &G,
         number: u32,
     ) -> Result<Pass<'a>, WorkFault> {
@@ -94,6 +102,7 @@ impl<'a> Leaves for Memo<'a> {
         let Ok(blocks) = BlockMaker::new(alloc, self.plan()) else {
             return Err(WorkFault::OutOfMemory);
         };
+        jobs_have_numbers();
         let shape = self.plan().shape();
         let reader = OwnReader {
             memo: self,
@@ -101,7 +110,7 @@ impl<'a> Leaves for Memo<'a> {
             stranger: false,
         };
         let mut cells = CellMaker { reader, blocks };
-        while let Some(job) = desk.draw(&mut ticket) {
+        while let Some(job) = desk.draw(ticket) {
             gate.entered(number, job);
             let (level, block) = shape.job(job);
             fill_cell(alloc, &mut cells, number, level, block)?;
@@ -119,8 +128,8 @@ pub(crate) struct Worker<'d, 'm, 'g, M: Fills, G: Gate> {
     pub desk: &'d Desk,
     pub gate: &'g G,
     pub ticket: Ticket,
-    pub ghost ticket_of: { IsTicketOf desk.now ticket × (told ticket ≡ 0) },
-    pub ghost total: { desk.now.total ≡ M.jobs memo.now },
+    pub ghost ticket_of: { IsFreshTicketOf desk.now ticket },
+    pub ghost total: { numbers_of desk.now ≡ M.jobs memo.now },
 }
 
 impl<'d, 'm, 'g, M: Fills, G: Gate> Worker<'d, 'm, 'g, M, G> {

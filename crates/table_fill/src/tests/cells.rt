@@ -1,3 +1,5 @@
+ghost use Rattle.std.specs.Prelude.{Some};
+
 use crate::cell::{Cells, Made, fill_cell};
 use crate::fault::WorkFault;
 use lang_check::Plan;
@@ -6,14 +8,15 @@ use std::test::Fail;
 use test_programs::{CV1, plan_of};
 use unroll::MakeFault;
 
-// Cells that answer what they were told, and count how often they were to make a block. Where nothing was told of a
-// block that is made, the first block of level 0 is missing above that level.
+// Cells that answer what they were told, and count how often they were to make a block. Above level 0 the first block of
+// that level is missing so many times, and always where nothing was told of a block that is made.
 #[derive(Drop)]
 struct Told<'a> {
     plan: &'a Plan,
     found: bool,
     made: Option<Made>,
     stranger: bool,
+    missing: u32,
     makes: u32,
 }
 
@@ -23,6 +26,8 @@ impl<'a> Cells for Told<'a> {
     ghost Fixed = { Unit {0} };
 
     ghost fixed = { λ cells. tt };
+
+    ghost entries = { λ cells level number. Some (record { plan = cells.plan.now; level = level; number = number; maker = 0 }) };
 
     fn finds(&mut self, _level: u32, _number: u32) -> bool {
         self.found
@@ -36,10 +41,11 @@ impl<'a> Cells for Told<'a> {
         _number: u32,
     ) -> Result<Made, MakeFault> {
         self.makes = self.makes.saturating_add(1);
+        let is_above = level > 0 && self.plan.shape().blocks(0) > 0;
         match self.made {
-            Some(made) => Ok(made),
-            None if level > 0 && self.plan.shape().blocks(0) > 0 => Err(MakeFault::Missing(0, 0)),
-            None => Ok(Made::Fresh),
+            Some(made) if !is_above || self.makes > self.missing => Ok(made),
+            _ if is_above => Err(MakeFault::Missing(0, 0)),
+            _ => Ok(Made::Fresh),
         }
     }
 
@@ -72,6 +78,7 @@ fn a_worker_that_meets_a_stranger_says_so(rt: HostRuntime) -> Result<(), Fail> {
             found,
             made,
             stranger: met,
+            missing: 0,
             makes: 0,
         };
         let answer = fill_cell(rt.alloc(), &mut told, 0, 1, 0);
@@ -79,5 +86,26 @@ fn a_worker_that_meets_a_stranger_says_so(rt: HostRuntime) -> Result<(), Fail> {
         // Once a block in another's place was met, none is made again.
         assert!(rt; !met || told.makes == 1);
     }
+    Ok(())
+}
+
+#[test]
+fn a_worker_makes_a_missing_block_and_tries_again(rt: HostRuntime) -> Result<(), Fail> {
+    let plan = plan_of(rt.alloc(), CV1, 8)?;
+    let shape = plan.shape();
+    assert!(rt; shape.rounds() == 1);
+    assert!(rt; shape.blocks(1) == 2);
+    let mut told = Told {
+        plan: &plan,
+        found: false,
+        made: Some(Made::Fresh),
+        stranger: false,
+        missing: 1,
+        makes: 0,
+    };
+    let answer = fill_cell(rt.alloc(), &mut told, 0, 1, 0);
+    assert_eq!(rt; answer.err(), None);
+    // The block, the one below it, and the block once more.
+    assert!(rt; told.makes == 3);
     Ok(())
 }

@@ -1,7 +1,11 @@
+ghost use Rattle.std.specs.Prelude.{All, IfSome};
+ghost use Rattle.shared_memo.specs.Tickets.{IsFreshTicketOf};
+
 use crate::compile;
+use crate::worker::{Fills, Leaves};
 use lang_check::Plan;
 use round_eval::Gate;
-use shared_memo::Memo;
+use shared_memo::{Desk, Memo, Ticket};
 use std::alloc::Global;
 use std::sync::Wait;
 use std::sync::atomic::AtomicU64;
@@ -102,6 +106,114 @@ fn seen_by_two<R: Threads + Wait + Sync>(rt: &R, alloc: Global, plan: &Plan) -> 
     let first = memo.look(&mut pass, 1, 0).ok()??.maker();
     let second = memo.look(&mut pass, 1, 1).ok()??.maker();
     Some(gate.seen([u64::from(first), u64::from(second)]))
+}
+
+// Notes of each job that a worker alone is told of whether its cell is empty yet.
+#[derive(Drop)]
+struct Lookout<'m, 'a> {
+    alloc: Global,
+    memo: &'m Memo<'a>,
+    told: AtomicU64,
+    empty: AtomicU64,
+    numbers: AtomicU64,
+}
+
+impl<'m, 'a> Lookout<'m, 'a> {
+    // Whether there is such a job, and its cell is empty.
+    fn is_empty(&self, job: u32) -> bool {
+        let shape = self.memo.plan().shape();
+        if job >= shape.jobs() {
+            return false;
+        }
+        let (level, number) = shape.job(job);
+        let Ok(mut pass) = self.memo.pass(self.alloc) else {
+            return false;
+        };
+        matches!(self.memo.look(&mut pass, level, number), Ok(None))
+    }
+}
+
+impl<'m, 'a> Gate for Lookout<'m, 'a> {
+    fn entered(&self, who: u32, what: u32) {
+        self.told.fetch_add(1, SeqCst);
+        self.numbers.fetch_add(u64::from(who), SeqCst);
+        if self.is_empty(what) {
+            self.empty.fetch_add(1, SeqCst);
+        }
+    }
+}
+
+// Takes a ticket off.
+fn taken(desk: &Desk, mut tickets: Vec<Ticket>) -> Option<Ticket>
+    requires { All (IsFreshTicketOf desk.now) tickets.items }
+    ensures { IfSome result (IsFreshTicketOf desk.now) }
+{
+    tickets.pop()
+}
+
+// A worker alone, with this number, fills a new memo: how often the gate was told, with how many empty cells, and the numbers
+// that it was told of added up.
+fn seen_alone(alloc: Global, plan: &Plan, number: u32) -> Option<[u64; 3]> {
+    let memo = Memo::new(alloc, plan).ok()?;
+    let gate = Lookout {
+        alloc,
+        memo: &memo,
+        told: AtomicU64::new(0),
+        empty: AtomicU64::new(0),
+        numbers: AtomicU64::new(0),
+    };
+    let (desk, tickets) = Desk::new(alloc, memo.total(), 1).ok()?;
+    let mut ticket = taken(&desk, tickets)?;
+    memo.work_alone(alloc, &desk, &mut ticket, &gate, number)
+        .ok()?;
+    Some([
+        gate.told.load(SeqCst),
+        gate.empty.load(SeqCst),
+        gate.numbers.load(SeqCst),
+    ])
+}
+
+#[test]
+fn the_gate_is_told_before_a_job_is_done(rt: HostRuntime) -> Result<(), Fail> {
+    let plan = plan_of(rt.alloc(), CV1, 8)?;
+    assert_eq!(rt; seen_alone(rt.alloc(), &plan, 7), Some([3, 3, 21]));
+    Ok(())
+}
+
+// Adds up the numbers of the workers, and one for each time that it was told.
+#[derive(Drop)]
+struct Numbers(AtomicU64);
+
+impl Gate for Numbers {
+    fn entered(&self, who: u32, _what: u32) {
+        self.0.fetch_add(1000 * u64::from(who) + 1, SeqCst);
+    }
+}
+
+// The sum of the numbers of a worker alone, told of three jobs, and the makers of two blocks.
+fn numbers_of_one<R: Threads + Wait + Sync>(
+    rt: &R,
+    alloc: Global,
+    plan: &Plan,
+) -> Option<(u64, [u32; 2])> {
+    let shape = plan.shape();
+    if shape.rounds() != 1 || shape.blocks(1) != 2 {
+        return None;
+    }
+    let memo = Memo::new(alloc, plan).ok()?;
+    let mut pass = memo.pass(alloc).ok()?;
+    let gate = Numbers(AtomicU64::new(0));
+    compile(rt, alloc, plan, &memo, &mut pass, 1, &gate).ok()?;
+    let first = memo.look(&mut pass, 1, 0).ok()??.maker();
+    let second = memo.look(&mut pass, 1, 1).ok()??.maker();
+    Some((gate.0.load(SeqCst), [first, second]))
+}
+
+#[test]
+fn a_worker_alone_has_the_number_0(rt: HostRuntime) -> Result<(), Fail> {
+    let plan = plan_of(rt.alloc(), CV1, 8)?;
+    assert_eq!(rt; numbers_of_one(&rt, rt.alloc(), &plan), Some((3, [0, 0])));
+    Ok(())
 }
 
 #[test]

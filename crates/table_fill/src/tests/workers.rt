@@ -42,6 +42,15 @@ struct Answers {
     of_workers: [Option<WorkFault>; 4],
 }
 
+impl Answers {
+    fn answer(&self, number: u32) -> Result<(), WorkFault> {
+        match self.of_workers.get(number as usize) {
+            Some(Some(fault)) => Err(*fault),
+            _ => Ok(()),
+        }
+    }
+}
+
 impl Fills for Answers {
     ghost jobs = { λ _. 0 };
 
@@ -57,10 +66,7 @@ impl Fills for Answers {
         _gate: &G,
         number: u32,
     ) -> Result<(), WorkFault> {
-        match self.of_workers.get(number as usize) {
-            Some(Some(fault)) => Err(*fault),
-            _ => Ok(()),
-        }
+        self.answer(number)
     }
 }
 
@@ -69,15 +75,17 @@ impl Leaves for Answers {
 
     ghost IsLeft = { λ _ _. Unit {0} };
 
+    ghost KnowsJobs = { λ _ _. Unit {0} };
+
     fn work_alone<G: Gate>(
         &self,
-        alloc: Global,
-        desk: &Desk,
-        ticket: Ticket,
-        gate: &G,
+        _alloc: Global,
+        _desk: &Desk,
+        _ticket: &mut Ticket,
+        _gate: &G,
         number: u32,
     ) -> Result<(), WorkFault> {
-        self.work(alloc, desk, ticket, gate, number)
+        self.answer(number)
     }
 }
 

@@ -1,4 +1,5 @@
 use Rattle.std.proofs.Common.{◌≡◌}
+use Rattle.unroll.specs.Entries.{Grows}
 use Rattle.table_fill.proofs.cell.+fill_cell.Given as goal
 
 abbrev pub decreases-fill_cell : goal.decreases-fill_cell
@@ -8,4 +9,5 @@ abbrev pub invariant-loop-attempt : goal.invariant-loop-attempt
 invariant-loop-attempt g l = record {
   plan : g.C.Cells.plan l.cells ≡ g.C.Cells.plan l.fn.cells;
   same_fixed : g.C.Cells.fixed l.cells ≡ g.C.Cells.fixed l.fn.cells;
+  grows : Grows (g.C.Cells.entries l.fn.cells) (g.C.Cells.entries l.cells);
 }

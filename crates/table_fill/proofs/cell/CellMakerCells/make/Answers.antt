@@ -7,3 +7,7 @@ returns-in-Err-clause-missing c =
     let fault = rw c.args.self.now.one_plan at c.in-Err.ensures.fault in
     missing_is_block c.window_of_number.ensures c.args.self.now.reader.pass.plan.now (known c.make.new.source.pass) c.args.level
     c.args.number c.in-Err.fault c.requires.0 fault
+
+pub returns-clause-grows : goal.returns-clause-grows
+returns-clause-grows c =
+    record { kept = λ level number b was. c.keep.ensures.learns.kept level number b (c.make.ensures.grows.kept level number b was) }

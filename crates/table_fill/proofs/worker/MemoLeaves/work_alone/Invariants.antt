@@ -1,5 +1,7 @@
 use Rattle.std.proofs.Common.{◌≡◌, ◌-◌, length}
+use Rattle.shared_memo.specs.Passes.{known}
 use Rattle.shared_memo.specs.Tickets.{drawn, told, IsTicketOf}
+use Rattle.table_fill.specs.Filled.{AreKnown}
 use Rattle.table_fill.proofs.worker.MemoLeaves.work_alone.Given as goal
 
 abbrev pub invariant-loop-job : goal.invariant-loop-job
@@ -8,6 +10,7 @@ invariant-loop-job g l = record {
   untold : told l.ticket ≡ 0;
   same_plan : l.cells.reader.pass.plan.now ≡ l.self.plan.now;
   same_memo : l.cells.reader.memo.now ≡ l.self;
+  filled : AreKnown l.self.plan.now (known l.cells.reader.pass) (drawn l.ticket);
 }
 
 abbrev pub decreases-loop-job : goal.decreases-loop-job
