@@ -1,8 +1,6 @@
 -- When a refusal of words comes, and the exit status after it.
-use Rattle.std.specs.Prelude.{◌≡◌, ◌≢◌, ◌⊎◌, ℕ, Result, Err, String, codes, string_bytes}
+use Rattle.std.specs.Prelude.{◌≡◌, ℕ, Result, Err, String, codes, string_bytes}
 use Rattle.std.specs.declared.alloc.Global.{Global}
-use Rattle.std.specs.declared.io.ErrorKind.{ErrorKind}
-use Rattle.std.specs.declared.io.ErrorKind.TheVariants as kind
 use Rattle.task_words.specs.declared.words.WordsFault.{WordsFault}
 use Rattle.task_words.specs.declared.words.WordsFault.TheVariants.{Usage, BadRing, OutOfMemory, Help}
 
@@ -18,11 +16,9 @@ IsUsage result = (text : String Global) × (result ≡ Err (Usage text))
 abbrev pub IsHelp : {T : Type 0} → Result T WordsFault → Type 0
 IsHelp result = (text : String Global) × (result ≡ Err (Help text))
 
--- the answer where the words could not be had, by the kind of the error: memory was refused, for the words or for the text of the
--- refusal; or else a word is not UTF-8
-abbrev pub IsRefusalAt : ErrorKind → WordsFault → Type 0
-IsRefusalAt error fault = (fault ≡ OutOfMemory)
-    ⊎ ((error ≢ kind.OutOfMemory) × (text : String Global) × (fault ≡ Usage text) × (string_bytes text ≡ codes "nbhd: words are not UTF-8\n"))
+-- the refusal says that a word is not UTF-8
+abbrev pub IsNotUtf8 : WordsFault → Type 0
+IsNotUtf8 fault = (text : String Global) × (fault ≡ Usage text) × (string_bytes text ≡ codes "nbhd: words are not UTF-8\n")
 
 -- the exit status after words that are refused, or that ask for help
 abbrev pub words_fault_code : WordsFault → ℕ

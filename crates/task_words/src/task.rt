@@ -63,8 +63,8 @@ pub enum Task {
 }
 
 impl Task {
-    ghost use Rattle.std.specs.Prelude.{◌↔◌, IsTrue};
-    ghost use Rattle.task_words.specs.Task.{IsRunnable};
+    ghost use Rattle.std.specs.Prelude.{◌≡◌, ◌↔◌, IsTrue};
+    ghost use Rattle.task_words.specs.Task.{IsRunnable, segments_of};
 
     /// Whether the task can be done: where it names a number of workers, that is 1 to `MAX_COUNT`, and where
     /// it names differences of channels, these are at most `MAX_DISTANCE`, and that of neighbours is at least 1.
@@ -97,6 +97,20 @@ impl Task {
                 ring: _,
                 workers,
             } => is_count(*workers),
+        }
+    }
+
+    /// In how many segments its ring is run: one, where it names no number.
+    pub fn segments(&self) -> u32
+        ensures { result ≡ segments_of self.now }
+    {
+        match self {
+            Task::Run {
+                ids: _,
+                ring: _,
+                segments,
+            } => *segments,
+            _ => 1,
         }
     }
 }

@@ -1,10 +1,10 @@
 //! The words of the command line.
 
-ghost use Rattle.std.specs.Prelude.{◌≡◌, ◌↔◌, map, IsOk, IsErrOf, IfOk, string_bytes};
+ghost use Rattle.std.specs.Prelude.{◌≡◌, ◌≢◌, ◌↔◌, map, IsOk, IsErrOf, IfOk, string_bytes};
 ghost use Rattle.task_words.specs.Counts.{IsCount};
 ghost use Rattle.task_words.specs.Task.{IsRunnable, segments_of};
 ghost use Rattle.task_words.specs.Words.{IsCommand, AsksForHelp, IsRefused, HasBadRing, IsTaskOf};
-ghost use Rattle.task_words.specs.WordsFault.{MemoryAside, IsUsage, IsHelp, IsRefusalAt};
+ghost use Rattle.task_words.specs.WordsFault.{MemoryAside, IsUsage, IsHelp, IsNotUtf8};
 ghost use Rattle.task_words.specs.declared.words.WordsFault.TheVariants.{OutOfMemory};
 ghost use Rattle.std.specs.IoError.{error_kind};
 
@@ -71,7 +71,8 @@ impl<T: Drop> From<AllocFailed<T>> for WordsFault {
 /// The answer where the words could not be had from the environment: memory was refused, or else a word is
 /// not UTF-8, which is `Usage` with a text of one line.
 pub fn words_fault(alloc: Global, error: io::Error) -> WordsFault
-    ensures { IsRefusalAt (error_kind error) result }
+    ensures memory { error_kind error ≡ ErrorKind.OutOfMemory → result ≡ WordsFault.OutOfMemory }
+    ensures not_utf8 { result ≢ WordsFault.OutOfMemory → IsNotUtf8 result }
 {
     match error.kind() {
         ErrorKind::OutOfMemory => WordsFault::OutOfMemory,
