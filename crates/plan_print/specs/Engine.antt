@@ -1,8 +1,8 @@
 -- What the engine does to its reader and its writer.
-use Rattle.std.specs.Prelude.{◌≡◌, ◌≢◌, ◌⊎◌, ℕ, List, Option, ⊤}
+use Rattle.std.specs.Prelude.{◌≡◌, ◌≢◌, ◌<◌, ℕ, List, Option, ⊤}
 use Rattle.std.specs.Io.KnownBytes.{Appends}
 use Rattle.devices.specs.declared.fault.EngineFault.{EngineFault}
-use Rattle.devices.specs.declared.fault.EngineFault.TheVariants.{Read, Write, Thread, Stranger}
+use Rattle.devices.specs.declared.fault.EngineFault.TheVariants.{Read, Write, Memory, Thread, Stranger}
 use Rattle.plan_print.specs.declared.status.Status.{Status}
 use Rattle.task_words.specs.declared.task.Task.{Task}
 use Rattle.task_words.specs.declared.task.Task.TheVariants.{Check, Table, Judge, Run, Plan, Audit, Migrate}
@@ -39,20 +39,25 @@ pub record WritesFront (task : Task) (unread left before after : Option (List �
   pub is_report : IsReport task input report
   pub written : AppendsFront before after report.bytes
 
--- the task names a number of workers or of segments
-abbrev pub HasWorkers : Task → Type 0
-HasWorkers (Check ids) = ⊥
-HasWorkers (Table ids workers near far) = ⊤
-HasWorkers (Judge ids workers near far) = ⊤
-HasWorkers (Run ids ring segments) = ⊤
-HasWorkers (Plan ids ring workers) = ⊤
-HasWorkers Audit = ⊥
-HasWorkers Migrate = ⊥
+-- the number of workers or of segments that the task names, or 0
+abbrev pub crew_of : Task → ℕ
+crew_of (Check ids) = 0
+crew_of (Table ids workers near far) = workers
+crew_of (Judge ids workers near far) = workers
+crew_of (Run ids ring segments) = segments
+crew_of (Plan ids ring workers) = workers
+crew_of Audit = 0
+crew_of Migrate = 0
 
--- the fault is of a worker or of a segment: the start of its thread was refused, or it met a stranger
-abbrev pub IsWorkerFault : EngineFault → Type 0
-IsWorkerFault fault = (fault ≡ Thread) ⊎ (fault ≡ Stranger)
+-- a task with so many workers or segments may have the fault: only two or more are started in threads, and only a worker or a
+-- segment meets a stranger
+abbrev pub MayHave : ℕ → EngineFault → Type 0
+MayHave crew Read = ⊤
+MayHave crew Write = ⊤
+MayHave crew Memory = ⊤
+MayHave crew Thread = 1 < crew
+MayHave crew Stranger = 0 < crew
 
 -- The fault is of the task itself: no read and no write failed.
-abbrev pub IsTaskFault : EngineFault → Type 0
-IsTaskFault fault = (fault ≢ Read) × (fault ≢ Write)
+abbrev pub IsTaskFault : ℕ → EngineFault → Type 0
+IsTaskFault crew fault = MayHave crew fault × (fault ≢ Read) × (fault ≢ Write)

@@ -5,6 +5,7 @@ use Rattle.plan_print.specs.declared.status.Status.TheVariants.{Done, No, Words,
 use Rattle.devices.specs.declared.fault.EngineFault.{EngineFault}
 use Rattle.devices.specs.FaultCodes.{engine_fault_code}
 use Rattle.task_words.specs.declared.words.WordsFault.{WordsFault}
+use Rattle.task_words.specs.declared.words.WordsFault.TheVariants.{Usage, BadRing, OutOfMemory, Help}
 use Rattle.task_words.specs.WordsFault.{words_fault_code}
 
 -- after a report
@@ -19,6 +20,13 @@ exit_code RingRefused = 4
 abbrev pub answer_code : Result Status EngineFault → ℕ
 answer_code (Ok status) = exit_code status
 answer_code (Err fault) = engine_fault_code fault
+
+-- the status after words that give no task: that of their refusal, and after help that of writing it
+abbrev pub IsStatusAfter : WordsFault → ℕ → Type 0
+IsStatusAfter (Help text) status = (answer : Result Status EngineFault) × (status ≡ answer_code answer)
+IsStatusAfter (Usage text) status = status ≡ words_fault_code (Usage text)
+IsStatusAfter BadRing status = status ≡ words_fault_code BadRing
+IsStatusAfter OutOfMemory status = status ≡ words_fault_code OutOfMemory
 
 -- the status is one after an answer of the engine, or after words that are refused
 abbrev pub IsExitStatus : ℕ → Type 0

@@ -35,3 +35,4 @@ pub use Rattle.ring_exec.specs.SegmentCounts
 pub use Rattle.headline.specs.Headline
 pub mod Engine
 pub mod Answers
+pub mod ToldFaults

@@ -3,7 +3,9 @@
 ghost use Rattle.std.specs.Prelude.{◌≡◌, length, IfOk, IfErr};
 ghost use Rattle.table_fill.specs.ProgramTables.{table_of};
 ghost use Rattle.task_words.specs.Counts.{IsCount};
+ghost use Rattle.shared_memo.specs.Passes.{memo_plan};
 ghost use Rattle.plan_print.specs.Engine.{IsTaskFault};
+ghost use Rattle.plan_print.specs.ToldFaults.{fill_fault_told, run_fault_told};
 ghost use Rattle.plan_print.specs.Answers.{report_in};
 ghost use Rattle.plan_print.specs.Report as report;
 ghost use Rattle.plan_print.specs.Report.{Says, IsAnswerOnRing, IsJudgement, IsRunAnswer, IsTableText};
@@ -51,7 +53,7 @@ pub(crate) fn table_answer<T: Threads + Wait + Sync>(
 ) -> Result<Answer, EngineFault>
     requires { IsCount workers }
     ensures answer { IfOk result (λ r. IsTableText (table_of plan.now.program plan.now.ids) separation (report_in r)) }
-    ensures fault { IfErr result IsTaskFault }
+    ensures fault { IfErr result (IsTaskFault workers) }
 {
     Ok(Answer::Table(compiled(rt, alloc, plan, workers)?, separation))
 }
@@ -74,7 +76,7 @@ pub(crate) fn run_answer<T: Threads + Wait + Sync>(
 ) -> Result<Answer, EngineFault>
     ensures answer { IfOk result (λ r. IsAnswerOnRing plan.now.ids (length plan.now.program.steps) ids.items
         (IsRunAnswer plan.now.program ids.items segments) (report_in r)) }
-    ensures fault { IfErr result IsTaskFault }
+    ensures fault { IfErr result (IsTaskFault segments) }
 {
     match Ring::new(plan.shape(), ids) {
         Ok(ring) => channels_answer(rt, alloc, plan, &ring, segments),
@@ -93,17 +95,26 @@ fn channels_answer<T: Threads + Wait + Sync>(
     requires ids { ring.now.ids ≡ plan.now.ids }
     requires rounds { ring.now.rounds ≡ length plan.now.program.steps }
     ensures answer { IfOk result (λ r. IsRunAnswer plan.now.program ring.now.places segments (report_in r)) }
-    ensures fault { IfErr result IsTaskFault }
+    ensures fault { IfErr result (IsTaskFault segments) }
 {
     match run(rt, alloc, plan, ring, segments, &OpenGate) {
         Ok(channels) => Ok(Answer::Text(numbers_line(alloc, &channels)?, Status::Done)),
-        Err(RunFault::SegmentsOutOfRange) => Ok(Answer::Text(
-            segments_fault_line(alloc)?,
-            Status::Words,
-        )),
-        Err(RunFault::OutOfMemory) => Err(EngineFault::Memory),
-        Err(RunFault::NoThread) => Err(EngineFault::Thread),
-        Err(RunFault::Stranger) => Err(EngineFault::Stranger),
+        Err(fault) => match fault_of_run(fault) {
+            Some(fault) => Err(fault),
+            None => Ok(Answer::Text(segments_fault_line(alloc)?, Status::Words)),
+        },
+    }
+}
+
+// The engine's fault where a run has this one, or `None` where the report tells of it.
+fn fault_of_run(fault: RunFault) -> Option<EngineFault>
+    ensures { result ≡ run_fault_told fault }
+{
+    match fault {
+        RunFault::SegmentsOutOfRange => None,
+        RunFault::OutOfMemory => Some(EngineFault::Memory),
+        RunFault::Stranger => Some(EngineFault::Stranger),
+        RunFault::NoThread => Some(EngineFault::Thread),
     }
 }
 
@@ -118,7 +129,7 @@ pub(crate) fn plan_answer<T: Threads + Wait + Sync>(
     requires { IsCount workers }
     ensures answer { IfOk result (λ r. IsAnswerOnRing plan.now.ids (length plan.now.program.steps) ids.items
         (Says (report.place_lines plan.now.program ids.items) Status.Done) (report_in r)) }
-    ensures fault { IfErr result IsTaskFault }
+    ensures fault { IfErr result (IsTaskFault workers) }
 {
     match Ring::new(plan.shape(), ids) {
         Ok(ring) => {
@@ -140,7 +151,7 @@ pub(crate) fn judged<T: Threads + Wait + Sync>(
 ) -> Result<Answer, EngineFault>
     requires { IsCount workers }
     ensures answer { IfOk result (λ r. IsJudgement (table_of plan.now.program plan.now.ids) separation (report_in r)) }
-    ensures fault { IfErr result IsTaskFault }
+    ensures fault { IfErr result (IsTaskFault workers) }
 {
     let memo = Memo::new(alloc, plan)?;
     let table = table_by(rt, alloc, plan, &memo, workers)?;
@@ -200,7 +211,7 @@ fn compiled<T: Threads + Wait + Sync>(
 ) -> Result<Table, EngineFault>
     requires { IsCount workers }
     ensures table { IfOk result (λ table. table ≡ table_of plan.now.program plan.now.ids) }
-    ensures fault { IfErr result IsTaskFault }
+    ensures fault { IfErr result (IsTaskFault workers) }
 {
     let memo = Memo::new(alloc, plan)?;
     table_by(rt, alloc, plan, &memo, workers)
@@ -215,17 +226,29 @@ fn table_by<T: Threads + Wait + Sync>(
     memo: &Memo<'_>,
     workers: u32,
 ) -> Result<Table, EngineFault>
-    requires memo { memo.now.plan.now ≡ plan.now }
+    requires memo { memo_plan memo.now ≡ plan.now }
     requires workers { IsCount workers }
     ensures table { IfOk result (λ table. table ≡ table_of plan.now.program plan.now.ids) }
-    ensures fault { IfErr result IsTaskFault }
+    ensures fault { IfErr result (IsTaskFault workers) }
 {
     let mut pass = memo.pass(alloc)?;
     match compile(rt, alloc, plan, memo, &mut pass, workers, &OpenGate) {
         Ok(table) => Ok(table),
-        Err(FillFault::OutOfMemory) => Err(EngineFault::Memory),
-        Err(FillFault::NoThread) => Err(EngineFault::Thread),
-        Err(FillFault::Stranger) => Err(EngineFault::Stranger),
-        Err(FillFault::WorkersOutOfRange) => unreachable!(),
+        Err(fault) => match fault_of_filling(fault) {
+            Some(fault) => Err(fault),
+            None => unreachable!(),
+        },
+    }
+}
+
+// The engine's fault where a filling has this one, or `None` where the number of workers is out of range.
+fn fault_of_filling(fault: FillFault) -> Option<EngineFault>
+    ensures { result ≡ fill_fault_told fault }
+{
+    match fault {
+        FillFault::WorkersOutOfRange => None,
+        FillFault::OutOfMemory => Some(EngineFault::Memory),
+        FillFault::Stranger => Some(EngineFault::Stranger),
+        FillFault::NoThread => Some(EngineFault::Thread),
     }
 }

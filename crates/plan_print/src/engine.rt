@@ -7,7 +7,7 @@ ghost use Rattle.devices.specs.Input.{TakesFront};
 ghost use Rattle.devices.specs.Output.{AppendsFront};
 ghost use Rattle.devices.specs.Watched.{device_of, has_failed, calls_of};
 ghost use Rattle.plan_print.specs.Answers.{report_in};
-ghost use Rattle.plan_print.specs.Engine.{limit_of, WritesReport, WritesFront, HasWorkers, IsWorkerFault};
+ghost use Rattle.plan_print.specs.Engine.{limit_of, WritesReport, WritesFront, crew_of, MayHave};
 
 use crate::answer::Answer;
 use crate::report::report_of;
@@ -25,12 +25,13 @@ use table_text::{LONGEST_TABLE_TEXT, write_table};
 use task_words::task::Task;
 
 /// Reads the input of a task, all of it or one byte more than the task's limit of a longer one, in at most as
-/// many reads as that limit and one, and writes its report; the answer is the report's status. A number of workers that the task names is 1 to `MAX_COUNT`;
-/// of a number of segments that its ring can't be run in, the report tells.
+/// many reads as that limit and one, and writes its report; the answer is the report's status. A number of workers that
+/// the task names is 1 to `MAX_COUNT`; of a number of segments that its ring can't be run in, the report tells.
 ///
 /// `Read` comes exactly where a read failed, `Write` exactly where a write failed or took no byte, `Memory`
 /// where memory was refused, `Thread` where the start of a thread was, and `Stranger` where a worker or a
-/// segment had that fault; both come only for a task that names a number of workers or segments. After `Write` a front of the report was written, after each other fault nothing.
+/// segment had that fault. `Thread` comes only for a task with two or more workers or segments, `Stranger` only for one
+/// that names their number. After `Write` a prefix of the report was written, after each other fault nothing.
 pub fn engine<T: Threads + Wait + Sync, R: Read, W: Write>(
     rt: &T,
     alloc: Global,
@@ -51,7 +52,7 @@ pub fn engine<T: Threads + Wait + Sync, R: Read, W: Write>(
         → Keeps (W.contents (device_of writer.old)) (W.contents (device_of writer.new))) }
     ensures taken { OnErr result (TakesFront (R.remaining (device_of reader.old)) (R.remaining (device_of reader.new)) (limit_of task)) }
     ensures asked { calls_of reader.new ≤ calls_of reader.old + (limit_of task + 1) }
-    ensures workers { IfErr result (λ fault. IsWorkerFault fault → HasWorkers task) }
+    ensures crew { IfErr result (MayHave (crew_of task)) }
     ensures reader_failed { IsErrOf result EngineFault.Read ↔ IsTrue (has_failed reader.new) }
     ensures writer_failed { IsErrOf result EngineFault.Write ↔ IsTrue (has_failed writer.new) }
 {
@@ -73,7 +74,7 @@ fn write_answer<W: Write>(
     ensures unwritten { IfErr result (λ fault. fault ≢ EngineFault.Write
         → Keeps (W.contents (device_of writer.old)) (W.contents (device_of writer.new))) }
     ensures fault { IfErr result (λ fault. fault ≢ EngineFault.Read) }
-    ensures own { IfErr result (λ fault. ¬ IsWorkerFault fault) }
+    ensures own { IfErr result (MayHave 0) }
     ensures failed { IsErrOf result EngineFault.Write ↔ IsTrue (has_failed writer.new) }
 {
     match answer {

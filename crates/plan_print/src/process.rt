@@ -1,7 +1,9 @@
 //! The program `nbhd` as a process: its words, its standard input and its standard output are handed to the engine.
 
-ghost use Rattle.std.specs.Prelude.{◌≡◌, IfOk};
-ghost use Rattle.plan_print.specs.ExitCodes.{answer_code, IsExitStatus};
+ghost use Rattle.std.specs.Prelude.{◌≡◌, ◌↔◌, false, IsTrue, IfOk, IfErr, OnOk, IsErrOf};
+ghost use Rattle.std.specs.Io.KnownBytes.{Appends};
+ghost use Rattle.devices.specs.Watched.{device_of, has_failed};
+ghost use Rattle.plan_print.specs.ExitCodes.{answer_code, IsExitStatus, IsStatusAfter};
 ghost use Rattle.task_words.specs.Task.{IsRunnable};
 ghost use Rattle.task_words.specs.WordsFault.{words_fault_code};
 
@@ -10,6 +12,7 @@ use crate::status::{Status, code_of};
 use devices::fault::EngineFault;
 use devices::output::send;
 use devices::watched::Watched;
+use std::io::Write;
 use std::rt::Env;
 use std::sync::Wait;
 use std::thread::Threads;
@@ -24,9 +27,24 @@ pub fn exit_status<T: AllocGlobal + Env + Input + Print + Eprint + Threads + Wai
 ) -> u8
     ensures { IsExitStatus result }
 {
-    match asked(rt) {
+    status_after(rt, asked(rt))
+}
+
+// Does the task, or tells why the words give none; the answer is the exit status.
+fn status_after<T: AllocGlobal + Input + Print + Eprint + Threads + Wait + Sync>(
+    rt: &T,
+    asked: Result<Task, WordsFault>,
+) -> u8
+    requires { IfOk asked IsRunnable }
+    ensures status { IsExitStatus result }
+    ensures refused { IfErr asked (λ fault. IsStatusAfter fault result) }
+{
+    match asked {
         Ok(task) => ended(rt, done(rt, task)),
-        Err(WordsFault::Help(text)) => ended(rt, shown(rt, &text)),
+        Err(WordsFault::Help(text)) => {
+            let mut writer = Watched::new(io::writer(rt));
+            ended(rt, shown(&mut writer, &text))
+        }
         Err(fault) => refused(rt, &fault),
     }
 }
@@ -66,10 +84,13 @@ fn ended<T: Eprint>(rt: &T, answer: Result<Status, EngineFault>) -> u8
     code_of(answer)
 }
 
-// Writes a text to the standard output.
-fn shown<T: Print>(rt: &T, text: &str) -> Result<Status, EngineFault> {
-    let mut writer = Watched::new(io::writer(rt));
-    send(&mut writer, text.as_bytes())?;
+// Writes a text.
+fn shown<W: Write>(writer: &mut Watched<W>, text: &str) -> Result<Status, EngineFault>
+    requires { has_failed writer.old ≡ false }
+    ensures done { OnOk result (Appends (W.contents (device_of writer.old)) (W.contents (device_of writer.new)) text.now) }
+    ensures failed { IsErrOf result EngineFault.Write ↔ IsTrue (has_failed writer.new) }
+{
+    send(writer, text.as_bytes())?;
     Ok(Status::Done)
 }
 

@@ -5,7 +5,7 @@ ghost use Rattle.std.specs.Prelude.{◌≡◌, IfOk, IfErr};
 ghost use Rattle.node_lang.specs.Grammar.{Reads};
 ghost use Rattle.lang_check.specs.Acceptance.{IsAccepted};
 ghost use Rattle.table_text.specs.Texts.{IsTextOf};
-ghost use Rattle.plan_print.specs.Engine.{IsTaskFault, HasWorkers, IsWorkerFault};
+ghost use Rattle.plan_print.specs.Engine.{crew_of, IsTaskFault};
 ghost use Rattle.plan_print.specs.Answers.{report_in};
 ghost use Rattle.plan_print.specs.Report.{IsReport, IsProgramRefusal, IsTableRefusal};
 ghost use Rattle.task_words.specs.Task.{IsRunnable};
@@ -34,8 +34,7 @@ pub(crate) fn report_of<T: Threads + Wait + Sync>(
 ) -> Result<Answer, EngineFault>
     requires { IsRunnable task }
     ensures report { IfOk result (λ r. IsReport task input.now (report_in r)) }
-    ensures fault { IfErr result IsTaskFault }
-    ensures workers { IfErr result (λ fault. IsWorkerFault fault → HasWorkers task) }
+    ensures fault { IfErr result (IsTaskFault (crew_of task)) }
 {
     match task {
         Task::Check { ids } => match accepted(alloc, input, ids)? {

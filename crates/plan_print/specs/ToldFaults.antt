@@ -1,0 +1,22 @@
+-- The engine's fault where a filling or a run has one. No public contract cites this file.
+use Rattle.std.specs.Prelude.{Option, None, Some}
+use Rattle.devices.specs.declared.fault.EngineFault.{EngineFault}
+use Rattle.devices.specs.declared.fault.EngineFault.TheVariants as engine
+use Rattle.ring_exec.specs.declared.fault.RunFault.{RunFault}
+use Rattle.ring_exec.specs.declared.fault.RunFault.TheVariants as run
+use Rattle.table_fill.specs.declared.fault.FillFault.{FillFault}
+use Rattle.table_fill.specs.declared.fault.FillFault.TheVariants as fill
+
+-- none where the report tells that the number of segments is out of range
+abbrev pub run_fault_told : RunFault → Option EngineFault
+run_fault_told run.SegmentsOutOfRange = None
+run_fault_told run.OutOfMemory = Some engine.Memory
+run_fault_told run.Stranger = Some engine.Stranger
+run_fault_told run.NoThread = Some engine.Thread
+
+-- none where the number of workers is out of range, which no task's is
+abbrev pub fill_fault_told : FillFault → Option EngineFault
+fill_fault_told fill.WorkersOutOfRange = None
+fill_fault_told fill.OutOfMemory = Some engine.Memory
+fill_fault_told fill.Stranger = Some engine.Stranger
+fill_fault_told fill.NoThread = Some engine.Thread
