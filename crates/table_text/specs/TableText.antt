@@ -13,6 +13,7 @@ pub record Written : Type 0 where
   pub table : ChannelTable
   pub separation : Separation
 
+-- a table and a separation, in this version
 abbrev pub written : Version → ChannelTable → Separation → Written
 written version t s = record { version = version; table = t; separation = s }
 
