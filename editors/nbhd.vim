@@ -1,4 +1,5 @@
 " Vim syntax file: node programs of nbhd. The words are those of docs/LANGUAGE.md.
+" Copy it into ~/.vim/syntax/ and say :setlocal syntax=nbhd in a program.
 if exists("b:current_syntax")
   finish
 endif
