@@ -1,4 +1,4 @@
--- Upper bounds of the values of a program, by its text and the number m of identifiers alone.
+-- Upper bounds of the values of a program, from its text and the number m of identifiers alone.
 use Rattle.std.specs.Prelude.{ℕ, zero, suc, ◌+◌, ◌-◌, ◌*◌, ◌/◌, ◌^◌, ◌≤◌, nat_lt, min, max, Option, Some, None, List, [], map, length, slice_get, slice_index, if◌then◌else◌}
 use Rattle.node_lang.specs.declared.tree.BinOp.{BinOp}
 use Rattle.node_lang.specs.declared.tree.BinOp.TheVariants.{And, Or, Xor, Shl, Shr, Add, Sub, Min, Max, Ldb, Bit, Eq, Ne, Lt, Le}
@@ -6,7 +6,7 @@ use Rattle.node_lang.specs.Term.{Term, Literal, Identifier, LeftMessage, RightMe
 use Rattle.node_lang.specs.Operations.{top}
 use Rattle.node_lang.specs.Value.{Env}
 
--- how often x can be halved, up to n times, before nothing is left
+-- how often x can be halved before it is 0, at most n times
 abbrev pub halvings : ℕ → ℕ → ℕ
 halvings zero x = 0
 halvings (suc n) zero = 0
@@ -16,22 +16,22 @@ halvings (suc n) (suc x) = suc (halvings n (suc x / 2))
 unfoldable pub bits : ℕ → ℕ
 bits x = halvings x x
 
--- the number that an expression is, where it is a number in the text
+-- the number of a literal; other expressions have none
 abbrev pub written_number : Term → Option ℕ
 written_number (Literal n) = Some n
 written_number _ = None
 
--- a shift to the left by a written number below 32, and any other one
+-- the bound of a shift to the left, by a literal or by any other expression
 abbrev pub shl_bound : Option ℕ → ℕ → ℕ
 shl_bound (Some k) a = if nat_lt k 32 then min (a * 2 ^ k) top else top
 shl_bound None a = top
 
--- a shift to the right by a written number, and any other one
+-- the bound of a shift to the right, by a literal or by any other expression
 abbrev pub shr_bound : Option ℕ → ℕ → ℕ
 shr_bound (Some k) a = a / 2 ^ k
 shr_bound None a = a
 
--- the bound of an operation by those of its operands, and by the number that is written as its second operand
+-- the bound of an operation from those of its operands, and from the literal that its second operand is, if it is one
 abbrev pub binary_bound : BinOp → Option ℕ → ℕ → ℕ → ℕ
 binary_bound And written a b = min a b
 binary_bound Or written a b = 2 ^ bits (max a b) - 1
@@ -49,7 +49,7 @@ binary_bound Ne written a b = 1
 binary_bound Lt written a b = 1
 binary_bound Le written a b = 1
 
--- the bound of an expression by the bounds of what it may read; that of `not` is the largest value
+-- the bound of an expression from the bounds of what it may read; that of `not` is the largest value
 abbrev pub bound : Term → Env → ℕ
 bound (Literal n) env = n
 bound Identifier env = env.id

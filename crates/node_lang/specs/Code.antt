@@ -1,4 +1,4 @@
--- A code for program trees, by which a proof tells the values of `Program` apart. No contract cites it.
+-- An injective code of program trees, which the model of `Program` asks for. No contract cites it.
 use Rattle.std.specs.Prelude.{◌≡◌, ℕ, zero, suc, List, [], ◌∷◌, refl, slice_index_or}
 use Rattle.std.proofs.Common.{sym, ◌∙◌, ap}
 use Rattle.std.specs.Coded.{Coded, code_by, coded×, coded_ℕ, coded_list}

@@ -12,7 +12,7 @@ pub record IsFirstHighByte (text : List ℕ) (offset : ℕ) : Type 0 where
   pub high : 128 ≤ slice_index text offset
   pub before : All (λ b. b < 128) (take offset text)
 
--- this fault is the one of the text
+-- the fault of a text, and its offset
 pub data FaultsAt (text : List ℕ) : FaultKind → ℕ → Type 0 where
   too_long : LONGEST_TEXT < length text → FaultsAt text kind.TooLong LONGEST_TEXT
   not_ascii : (offset : ℕ) → length text ≤ LONGEST_TEXT → IsFirstHighByte text offset → FaultsAt text kind.NotAscii offset

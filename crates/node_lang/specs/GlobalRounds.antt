@@ -4,7 +4,7 @@ use Rattle.std.specs.List.{range_with_len}
 use Rattle.node_lang.specs.Term.{ProgramTree}
 use Rattle.node_lang.specs.Node.{start, to_left, to_right, next, channel}
 
--- the places of a node's neighbours; places are taken modulo the ring's length
+-- the places of a node's neighbours, modulo the ring's length
 abbrev pub left_of : List ℕ → ℕ → ℕ
 left_of x i = (i + length x - 1) % length x
 

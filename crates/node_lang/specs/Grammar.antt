@@ -1,4 +1,5 @@
--- The grammar: the tokens that spell an expression, a round and a program. Each definition puts them in front of the tokens after them.
+-- The grammar: the tokens of an expression, of a round and of a program. Each definition prepends them to the tokens
+-- that follow.
 use Rattle.std.specs.Prelude.{◌≡◌, ℕ, ◌+◌, ◌<◌, ◌≤◌, List, [], ◌∷◌, length, All}
 use Rattle.node_lang.specs.declared.limits.TheConstants.{LONGEST_TEXT}
 use Rattle.node_lang.specs.declared.token.Token.{Token}
@@ -7,7 +8,7 @@ use Rattle.node_lang.specs.Term.{Term, Literal, Identifier, LeftMessage, RightMe
 use Rattle.node_lang.specs.Lexemes.{tokens_of}
 use Rattle.node_lang.specs.Limits.{IsWithinLimits}
 
--- the tokens of an expression, then these
+-- the tokens of an expression, then `more`
 abbrev pub spelled : Term → List Token → List Token
 spelled (Literal n) more = token.Number n ∷ more
 spelled Identifier more = token.Id ∷ more
@@ -19,12 +20,12 @@ spelled (Binary o a b) more = token.Binary o ∷ token.Open ∷ spelled a (token
 spelled (Conditional c a b) more =
     token.If ∷ token.Open ∷ spelled c (token.Comma ∷ spelled a (token.Comma ∷ spelled b (token.Close ∷ more)))
 
--- assignments to the registers from j on
+-- the assignments to the registers from j on, then `more`
 abbrev pub assigned : ℕ → List Term → List Token → List Token
 assigned j [] more = more
 assigned j (e ∷ es) more = token.Register j ∷ token.Equals ∷ spelled e (assigned (j + 1) es more)
 
--- a round
+-- a round, then `more`
 abbrev pub block : Step → List Token → List Token
 block s more = token.Round ∷ token.Send ∷ token.Left ∷ spelled s.left
     (token.Send ∷ token.Right ∷ spelled s.right (assigned 0 s.next more))
@@ -33,7 +34,7 @@ abbrev pub blocks : List Step → List Token → List Token
 blocks [] more = more
 blocks (s ∷ ss) more = block s (blocks ss more)
 
--- what follows the header
+-- the tokens after the header
 abbrev pub body : ProgramTree → List Token
 body p = assigned 0 p.start (blocks p.steps (token.Finish ∷ spelled p.finish []))
 

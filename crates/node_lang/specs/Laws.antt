@@ -15,11 +15,11 @@ use Rattle.node_lang.specs.Viable.{FirstFault}
 abbrev pub OneReading : Type 0
 OneReading = (text : List ℕ) (p q : ProgramTree) → Reads text p → Reads text q → p ≡ q
 
--- reading a text from the left answers the program that it reads as, with the number of its nodes and nothing left
+-- reading a text from the left returns the program that it reads as, its number of nodes, and no lexemes left
 abbrev pub ReadableTextsAreRead : Type 0
 ReadableTextsAreRead = (text : List ℕ) (p : ProgramTree) → Reads text p → program 0 (lexemes_of text) ≡ Got p (sum_by size (terms p)) []
 
--- and a short ASCII text reads as the program that is answered
+-- conversely, a short ASCII text reads as the program that is returned
 abbrev pub ReadTextsAreReadable : Type 0
 ReadTextsAreReadable = (text : List ℕ) (p : ProgramTree) (nodes : ℕ) (left : List Lexeme) → length text ≤ LONGEST_TEXT → All (λ b. b < 128) text →
     program 0 (lexemes_of text) ≡ Got p nodes left → Reads text p

@@ -3,7 +3,8 @@ use Rattle.std.specs.Prelude.{ℕ, ◌+◌, ◌==◌, Bool, true, false, List, [
 use Rattle.node_lang.specs.declared.token.Token.{Token}
 use Rattle.node_lang.specs.Words.{is_blank, is_word_byte, word_token, mark_token}
 
--- A token, and how many bytes of the text there are from its first byte on. So its offset is the text's length less `from`.
+-- A token and the number of bytes from its first byte to the end of the text. Its offset is the text's length less
+-- `from`.
 pub record Lexeme : Type 0 where
   pub from : ℕ
   pub token : Token
@@ -15,24 +16,24 @@ blanked inside [] = []
 blanked true (b ∷ bs) = if b == 10 then 10 ∷ blanked false bs else (32 ∷ blanked true bs)
 blanked false (b ∷ bs) = if b == 35 then 32 ∷ blanked true bs else (b ∷ blanked false bs)
 
--- the word that a text begins with, which may be empty, and the lexemes after it
+-- the word at the start of a text, which may be empty, and the lexemes after it
 pub record Split : Type 0 where
   pub word : List ℕ
   pub rest : List Lexeme
 
--- the lexemes of a text of `count` bytes that begins with this word, which may be empty, and these lexemes after it
+-- the lexemes of a text of `count` bytes: that of the word at its start, which may be empty, and those after it
 abbrev pub joined : ℕ → List ℕ → List Lexeme → List Lexeme
 joined count [] rest = rest
 joined count (b ∷ bs) rest = record { from = count; token = word_token (b ∷ bs) } ∷ rest
 
--- a byte in front of a text of `count` bytes
+-- the split of a text with one more byte in front of `count` others
 abbrev pub put_before : ℕ → ℕ → Split → Split
 put_before b count after =
     if is_word_byte b then record { word = b ∷ after.word; rest = after.rest }
     else if is_blank b then record { word = []; rest = joined count after.word after.rest }
     else record { word = []; rest = record { from = count + 1; token = mark_token b } ∷ joined count after.word after.rest }
 
--- a text without comments
+-- the split of a text without comments
 abbrev pub split_of : List ℕ → Split
 split_of [] = record { word = []; rest = [] }
 split_of (b ∷ bs) = put_before b (length bs) (split_of bs)

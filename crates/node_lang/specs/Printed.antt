@@ -5,14 +5,14 @@ use Rattle.std.specs.Fmt.{decimal}
 use Rattle.node_lang.specs.Term.{Term, Literal, Identifier, LeftMessage, RightMessage, RegisterValue, Unary, Binary, Conditional, Step, ProgramTree}
 use Rattle.node_lang.specs.Words.{unary_name, binary_name}
 
--- the name of an expression's operation; the others have none
+-- the name of an expression's operation, or an empty name
 abbrev pub operation_name : Term → List ℕ
 operation_name (Unary o a) = unary_name o
 operation_name (Binary o a b) = binary_name o
 operation_name (Conditional c a b) = codes "if"
 operation_name _ = []
 
--- an expression: a comma and one blank part the operands, and no other blanks stand in it
+-- an expression: its operands are separated by a comma and one blank, with no other blanks in it
 abbrev pub printed_expression : Term → List ℕ
 printed_expression (Literal n) = decimal n
 printed_expression Identifier = codes "id"
@@ -34,7 +34,7 @@ abbrev pub assignment_lines : ℕ → List Term → List ℕ
 assignment_lines j [] = []
 assignment_lines j (e ∷ es) = assignment_line j e ++ assignment_lines (j + 1) es
 
--- what a round sends to one side
+-- the message of a round to one side
 abbrev pub send_line : List ℕ → Term → List ℕ
 send_line side e = codes "send " ++ (side ++ (codes " " ++ (printed_expression e ++ codes "\n")))
 
@@ -43,12 +43,12 @@ abbrev pub round_lines : Step → List ℕ
 round_lines s = codes "round\n"
     ++ (send_line (codes "left") s.left ++ (send_line (codes "right") s.right ++ assignment_lines 0 s.next))
 
--- what stands before the first assignment
+-- the lines of the header
 abbrev pub header_lines : ProgramTree → List ℕ
 header_lines p = codes "rounds " ++ (decimal (length p.steps) ++ (codes "\nchannels " ++ (decimal p.channels
     ++ (codes "\nregisters " ++ (decimal (length p.start) ++ codes "\nstart\n")))))
 
--- the channel
+-- the line of the channel
 abbrev pub finish_line : Term → List ℕ
 finish_line e = codes "finish " ++ (printed_expression e ++ codes "\n")
 

@@ -1,4 +1,4 @@
--- How a text is read from the left: each reading answers a tree, or the fault at which it stops.
+-- Reading a text from the left: each reader returns a tree, or the fault at which it stops.
 use Rattle.std.specs.Prelude.{◌&&◌, ◌++◌, ℕ, zero, suc, ◌+◌, ◌==◌, Bool, true, false, nat_le, List, [], ◌∷◌, Option, Some, None, if◌then◌else◌}
 use Rattle.node_lang.specs.declared.limits.TheConstants.{MAX_CHANNELS, MAX_DEPTH, MAX_NODES, MAX_REGISTERS, MAX_ROUNDS}
 use Rattle.node_lang.specs.declared.fault.FaultKind.{FaultKind}
@@ -8,17 +8,18 @@ use Rattle.node_lang.specs.declared.token.Token.TheVariants as token
 use Rattle.node_lang.specs.Term.{Term, Literal, Identifier, LeftMessage, RightMessage, RegisterValue, Unary, Binary, Conditional, Step, ProgramTree}
 use Rattle.node_lang.specs.Lexemes.{Lexeme}
 
--- What was read, the expression nodes so far and the lexemes that are left; or a fault, with the number of bytes from it to the text's end.
+-- What was read, with the number of expression nodes so far and the lexemes left; or a fault, with the number of bytes
+-- from it to the end of the text.
 pub data Read (A : Type 0) : Type 0 where
   Got : A → ℕ → List Lexeme → Read A
   Fault : FaultKind → ℕ → Read A
 
--- reading goes on with what was read
+-- passes what was read to the next reader, or the fault on
 abbrev pub go_on : {A B : Type 0} → Read A → (A → ℕ → List Lexeme → Read B) → Read B
 go_on (Got a nodes left) next = next a nodes left
 go_on (Fault k from) next = Fault k from
 
--- a way of reading, by the nodes so far and the lexemes that are left
+-- a reader, from the number of nodes so far and the lexemes left
 abbrev pub Reader : Type 0 → Type 0
 Reader A = ℕ → List Lexeme → Read A
 
@@ -36,7 +37,7 @@ done a nodes left = Got a nodes left
 abbrev pub refuse : {A : Type 0} → FaultKind → Lexeme → ℕ → List Lexeme → Read A
 refuse k l nodes left = Fault k l.from
 
--- a token, where it is one of the language
+-- passes a token of the language, and refuses any other
 abbrev pub lawful : Token → Lexeme → Reader Lexeme
 lawful token.LargeNumber l = refuse kind.NumberTooLarge l
 lawful token.Unknown l = refuse kind.BadWord l
@@ -47,7 +48,7 @@ abbrev pub next : Reader Lexeme
 next nodes [] = Fault kind.EndOfText 0
 next nodes (l ∷ ls) = lawful l.token l nodes ls
 
--- whether two tokens are the same; names of operations, which are never wanted, are not compared
+-- whether two tokens are the same; operations are never expected, and so are not compared
 abbrev pub same_token : Token → Token → Bool
 same_token (token.Register i) (token.Register j) = i == j
 same_token token.Rounds token.Rounds = true
@@ -65,18 +66,18 @@ same_token token.Comma token.Comma = true
 same_token token.Equals token.Equals = true
 same_token _ _ = false
 
--- this token
+-- expects this token
 abbrev pub exactly : Token → Reader (Unit {0})
 exactly t = do
   l ← next
   if same_token l.token t then done tt else refuse kind.Unexpected l
 
--- an expression node with this many levels left
+-- counts an expression node with this many levels left
 abbrev pub node : ℕ → ℕ → Reader (Unit {0})
 node levels from nodes left = if levels == 0 then Fault kind.TooDeep from
     else if nat_le MAX_NODES nodes then Fault kind.TooManyNodes from else Got tt (nodes + 1) left
 
--- operands in parentheses, each read so
+-- operands in parentheses, each by the given reader
 unfoldable pub one_of : Reader Term → Reader Term
 one_of operand = do
   exactly token.Open
@@ -104,7 +105,7 @@ three_of operand = do
   exactly token.Close
   done (c, a, b)
 
--- what follows this token in an expression, or none where it begins none
+-- the rest of an expression that begins with this token; none if no expression does
 abbrev pub after : Reader Term → Token → Option (Reader Term)
 after operand (token.Number n) = Some (done (Literal n))
 after operand token.Id = Some (done Identifier)
@@ -121,7 +122,7 @@ abbrev pub begun : ℕ → Lexeme → Option (Reader Term) → Reader Term
 begun levels l None = refuse kind.Unexpected l
 begun levels l (Some more) = node levels l.from >> more
 
--- an expression with this many levels left, whose operands are read so
+-- an expression with this many levels left, with the given reader for its operands
 abbrev pub level : ℕ → Reader Term → Reader Term
 level levels operand = do
   l ← next
@@ -163,18 +164,18 @@ header = do
   exactly token.Start
   done (record { rounds = rounds; channels = channels; registers = registers })
 
--- the fault of a token that cannot stand where it stands
+-- the fault of a token that is not expected
 abbrev pub fault_of : Token → FaultKind
 fault_of token.LargeNumber = kind.NumberTooLarge
 fault_of token.Unknown = kind.BadWord
 fault_of _ = kind.Unexpected
 
--- the end of the text
+-- expects the end of the text
 abbrev pub end : Reader (Unit {0})
 end nodes [] = Got tt nodes []
 end nodes (l ∷ ls) = Fault (fault_of l.token) l.from
 
--- so many parts from the j-th on, after those that were read
+-- `count` parts from the j-th on, appended to those read before
 abbrev pub each : {A : Type 0} → (ℕ → ℕ → List Lexeme → Read A) → ℕ → ℕ → List A → ℕ → List Lexeme → Read (List A)
 each part zero j parts nodes left = Got parts nodes left
 each part (suc count) j parts nodes left = go_on (part j nodes left) (λ a n l. each part count (j + 1) (parts ++ (a ∷ [])) n l)

@@ -1,4 +1,5 @@
--- The first fault of a program text, without a way of reading: the first place at which the tokens up to it can't begin a program of the language.
+-- The first fault of a program text, defined without a parser: the first place where the tokens up to it are no prefix
+-- of a program.
 use Rattle.std.specs.Prelude.{◌≡◌, ◌≢◌, ◌⊎◌, ℕ, zero, suc, ◌+◌, ◌<◌, ◌≤◌, List, [], ◌∷◌, ◌++◌, length, map, All, sum_by}
 use Rattle.node_lang.specs.declared.limits.TheConstants.{MAX_CHANNELS, MAX_DEPTH, MAX_NODES, MAX_REGISTERS, MAX_ROUNDS}
 use Rattle.node_lang.specs.declared.fault.FaultKind.{FaultKind}
@@ -9,18 +10,18 @@ use Rattle.node_lang.specs.Term.{Term, Literal, Identifier, LeftMessage, RightMe
 use Rattle.node_lang.specs.Lexemes.{Lexeme}
 use Rattle.node_lang.specs.Grammar.{spelling}
 
--- the tree of a program of any size: each round has an assignment for each register
+-- a program of any size: each round has an assignment for each register
 abbrev pub IsProgram : ProgramTree → Type 0
 IsProgram p = All (λ s. length s.next ≡ length p.start) p.steps
 
--- some list extends these tokens to those of a program
+-- the tokens are a prefix of a program
 pub record IsViable (tokens : List Token) : Type 0 where
   pub program : ProgramTree
   pub more : List Token
   pub each_register : IsProgram program
   pub spells : tokens ++ more ≡ spelling program
 
--- these tokens are those of a program
+-- the tokens are a whole program
 pub record IsWhole (tokens : List Token) : Type 0 where
   pub program : ProgramTree
   pub each_register : IsProgram program
@@ -35,11 +36,11 @@ pub record Mark : Type 0 where
 abbrev pub node : Token → ℕ → Mark
 node t depth = record { token = t; depth = depth }
 
--- a token that begins none
+-- a token that begins no node
 abbrev pub plain : Token → Mark
 plain t = node t 0
 
--- the tokens of an expression whose root has this depth, then these
+-- the marks of an expression whose root has this depth, then `more`
 abbrev pub marked : Term → ℕ → List Mark → List Mark
 marked (Literal n) d more = node (token.Number n) d ∷ more
 marked Identifier d more = node token.Id d ∷ more
@@ -52,7 +53,7 @@ marked (Binary o a b) d more = node (token.Binary o) d ∷ plain token.Open
 marked (Conditional c a b) d more = node token.If d ∷ plain token.Open
     ∷ marked c (d + 1) (plain token.Comma ∷ marked a (d + 1) (plain token.Comma ∷ marked b (d + 1) (plain token.Close ∷ more)))
 
--- assignments to the registers from j on
+-- the marks of assignments to the registers from j on, then `more`
 abbrev pub marked_assignments : ℕ → List Term → List Mark → List Mark
 marked_assignments j [] more = more
 marked_assignments j (e ∷ es) more =
@@ -63,13 +64,13 @@ marked_blocks [] more = more
 marked_blocks (s ∷ ss) more = plain token.Round ∷ plain token.Send ∷ plain token.Left ∷ marked s.left 1
     (plain token.Send ∷ plain token.Right ∷ marked s.right 1 (marked_assignments 0 s.next (marked_blocks ss more)))
 
--- a whole program
+-- the marks of a whole program
 abbrev pub marks : ProgramTree → List Mark
 marks p = plain token.Rounds ∷ plain (token.Number (length p.steps)) ∷ plain token.Channels ∷ plain (token.Number p.channels)
     ∷ plain token.Registers ∷ plain (token.Number (length p.start)) ∷ plain token.Start
     ∷ marked_assignments 0 p.start (marked_blocks p.steps (plain token.Finish ∷ marked p.finish 1 []))
 
--- the tokens alone
+-- the tokens of marks
 abbrev pub unmarked : List Mark → List Token
 unmarked ms = map (λ m. m.token) ms
 
@@ -78,7 +79,7 @@ abbrev pub one_at : ℕ → ℕ
 one_at zero = 0
 one_at (suc d) = 1
 
--- how many nodes begin at these tokens
+-- the number of nodes that begin at these marks
 abbrev pub nodes_at : List Mark → ℕ
 nodes_at ms = sum_by (λ m. one_at m.depth) ms
 
@@ -93,7 +94,7 @@ pub record BeginsNode (before : List Token) (met : Token) (depth nodes : ℕ) : 
   pub is_node : 0 < depth
   pub nodes_are : nodes_at marks_before ≡ nodes
 
--- a number that is not from low to high
+-- a number that is not in the range from low to high
 abbrev pub IsOutside : ℕ → ℕ → ℕ → Type 0
 IsOutside low high n = (n < low) ⊎ (high < n)
 
@@ -104,7 +105,7 @@ pub data IsOutOfRange : List Token → Token → Type 0 where
   registers : (t c k : ℕ) → IsOutside 1 MAX_REGISTERS k →
       IsOutOfRange (token.Rounds ∷ token.Number t ∷ token.Channels ∷ token.Number c ∷ token.Registers ∷ []) (token.Number k)
 
--- A fault of this kind stands at the token after these. A node that is too deep and one too many is too deep.
+-- The token after these has a fault of this kind. A node that is both too deep and one too many is too deep.
 pub data Stands (before : List Token) (met : Token) : FaultKind → Type 0 where
   unknown : met ≡ token.Unknown → Stands before met kind.BadWord
   large : met ≡ token.LargeNumber → Stands before met kind.NumberTooLarge
@@ -114,8 +115,8 @@ pub data Stands (before : List Token) (met : Token) : FaultKind → Type 0 where
   too_deep : (depth nodes : ℕ) → MAX_DEPTH < depth → BeginsNode before met depth nodes → Stands before met kind.TooDeep
   too_many : (depth nodes : ℕ) → depth ≤ MAX_DEPTH → MAX_NODES ≤ nodes → BeginsNode before met depth nodes → Stands before met kind.TooManyNodes
 
--- The first fault of these lexemes after these tokens, with the number of bytes from it to the text's end: the fault at the next token,
--- or the first one after it, if none stands there; at the end, that the tokens are no program.
+-- The first fault of the lexemes after these tokens, with the number of bytes from it to the end of the text: the fault
+-- of the next token, or else the first one after it; at the end of the text, that the tokens are no whole program.
 abbrev pub FirstFault : List Token → List Lexeme → FaultKind → ℕ → Type 0
 FirstFault before [] k from = (k ≡ kind.EndOfText) × (from ≡ 0) × (IsWhole before → ⊥)
 FirstFault before (l ∷ ls) k from =

@@ -40,7 +40,7 @@ binary_name op.Ne = codes "ne"
 binary_name op.Lt = codes "lt"
 binary_name op.Le = codes "le"
 
--- the word that a token is spelled as; the others are no fixed words
+-- the spelling of a token; empty for the tokens that are no fixed words
 abbrev pub word_of : Token → List ℕ
 word_of token.Rounds = codes "rounds"
 word_of token.Channels = codes "channels"
@@ -59,7 +59,7 @@ word_of (token.Unary o) = unary_name o
 word_of (token.Binary o) = binary_name o
 word_of _ = []
 
--- the words that are no names of operations
+-- the words that are not names of operations
 abbrev pub keywords : List Token
 keywords = token.Rounds ∷ token.Channels ∷ token.Registers ∷ token.Start ∷ token.Round ∷ token.Send ∷ token.Left
     ∷ token.Right ∷ token.Finish ∷ token.Id ∷ token.FromLeft ∷ token.FromRight ∷ []
@@ -71,16 +71,16 @@ operations = token.Unary Not ∷ token.Binary op.And ∷ token.Binary op.Or ∷ 
     ∷ token.Binary op.Ldb ∷ token.Binary op.Bit ∷ token.Binary op.Eq ∷ token.Binary op.Ne ∷ token.Binary op.Lt
     ∷ token.Binary op.Le ∷ token.If ∷ []
 
--- the token among these that is spelled as this word
+-- the token among these that has this spelling
 abbrev pub named : List Token → List ℕ → Option Token
 named tokens word = find (λ t. bytes_eq word (word_of t)) tokens
 
--- the number that digits spell, after the number n
+-- the number of decimal digits that follow those of n
 abbrev pub read_on : ℕ → List ℕ → ℕ
 read_on n [] = n
 read_on n (d ∷ ds) = read_on (10 * n + (d - 48)) ds
 
--- the token that a run of digits is
+-- the token of a run of digits
 abbrev pub number_token : List ℕ → Token
 number_token word = if nat_lt (read_on 0 word) (2 ^ 32) then token.Number (read_on 0 word) else token.LargeNumber
 
@@ -89,19 +89,19 @@ abbrev pub register_named : List ℕ → Option Token
 register_named (r ∷ d ∷ []) = if (r == 114) && is_digit d then Some (token.Register (d - 48)) else None
 register_named _ = None
 
--- the first token of these, or none of the language's
+-- the first token that is given, or the unknown one
 abbrev pub or_unknown : Option Token → Option Token → Option Token → Token
 or_unknown (Some t) _ _ = t
 or_unknown None (Some t) _ = t
 or_unknown None None (Some t) = t
 or_unknown None None None = token.Unknown
 
--- the token that a word is
+-- the token of a word
 unfoldable pub word_token : List ℕ → Token
 word_token word = if list_all is_digit word then number_token word
     else or_unknown (register_named word) (named keywords word) (named operations word)
 
--- the token that any other byte is
+-- the token of any other byte
 abbrev pub mark_token : ℕ → Token
 mark_token b = if b == 40 then token.Open else if b == 41 then token.Close
     else if b == 44 then token.Comma else if b == 61 then token.Equals else token.Unknown

@@ -3,32 +3,32 @@ ghost use Rattle.node_lang.specs.declared.fault.FaultKind.TheVariants.{OutOfMemo
 
 use std::alloc::{AllocError, AllocFailed};
 
-/// What is wrong with a program text. The report names a kind by `N` and its number.
+/// Why a program text is refused. A report names each kind by `N` and its number.
 #[derive(Clone, Copy, Debug, PartialEq, Eq)]
 pub enum FaultKind {
     /// N1: the text is over `LONGEST_TEXT` bytes.
     TooLong,
     /// N2: a byte over 127.
     NotAscii,
-    /// N3: a byte or a word that begins no token.
+    /// N3: a byte or a word that is not a token.
     BadWord,
     /// N4: a number over 4,294,967,295.
     NumberTooLarge,
-    /// N5: a number of the header is out of its range.
+    /// N5: a number of the header that is out of range.
     HeaderRange,
-    /// N6: a token that cannot stand there.
+    /// N6: an unexpected token.
     Unexpected,
-    /// N7: an expression node of depth 65.
+    /// N7: an expression node of depth 65, one over `MAX_DEPTH`.
     TooDeep,
-    /// N8: the 4,097th expression node.
+    /// N8: the 4,097th expression node, one over `MAX_NODES`.
     TooManyNodes,
-    /// N9: the text ends where a token is wanted.
+    /// N9: the text ends where a token is expected.
     EndOfText,
-    /// N10: memory was refused.
+    /// N10: memory could not be allocated.
     OutOfMemory,
 }
 
-/// A fault of a program text, and its place: the offset of a byte, counted from 0.
+/// A fault of a program text and its byte offset, counted from 0.
 #[derive(Clone, Copy, Debug, PartialEq, Eq)]
 pub struct TextFault {
     pub kind: FaultKind,

@@ -7,7 +7,7 @@ ghost use Rattle.node_lang.specs.Parsing.{lexemes_left};
 use crate::token::Token;
 use crate::words::{is_blank, is_word_byte, mark_token, token_of};
 
-// A token, where it begins, and where the text goes on after it.
+// A token with its start and end offsets.
 #[derive(Clone, Copy)]
 pub(crate) struct Placed {
     pub(crate) token: Token,
@@ -15,7 +15,7 @@ pub(crate) struct Placed {
     pub(crate) end: usize,
 }
 
-// How many bytes of a word stand at the front.
+// The length of the word at the start of the text; 0 if there is none.
 fn word_len(text: &[u8]) -> usize
     ensures value { result ≡ prefix_len word_byte text.now }
     ensures within { result ≤ length text.now }
@@ -23,7 +23,7 @@ fn word_len(text: &[u8]) -> usize
     text.iter().take_while(|byte| is_word_byte(**byte)).count()
 }
 
-// How many bytes there are up to the next line feed, or the end.
+// The number of bytes before the next line feed, or before the end.
 fn line_len(text: &[u8]) -> usize
     ensures value { result ≡ prefix_len (λ b. not (b == 10)) text.now }
     ensures within { result ≤ length text.now }
@@ -31,7 +31,7 @@ fn line_len(text: &[u8]) -> usize
     text.iter().take_while(|byte| **byte != b'\n').count()
 }
 
-// Where the first token begins, after blanks and comments, or the text's length.
+// The offset of the first token, after blanks and comments, or the text's length.
 #[tactic(auto, using(crate::proofs::Placing::after_blank, crate::proofs::Placing::after_comment))]
 fn token_start(text: &[u8]) -> usize
     ensures within { result ≤ length text.now }
@@ -53,7 +53,7 @@ fn token_start(text: &[u8]) -> usize
     at
 }
 
-// The token at the front, and its length.
+// The token at the start of the text, and its length.
 #[tactic(auto, using(crate::proofs::Placing::word_token_first, crate::proofs::Placing::mark_token_first))]
 fn token_at(text: &[u8]) -> (Token, usize)
     requires some { 0 < length text.now }
@@ -70,7 +70,7 @@ fn token_at(text: &[u8]) -> (Token, usize)
     (token_of(&text[..len]), len)
 }
 
-// The first token, or none where only blanks and comments are left.
+// The first token, or `None` if only blanks and comments are left.
 #[tactic(auto, using(crate::proofs::Placing::all_skipped))]
 fn first_token(text: &[u8]) -> Option<Placed>
     ensures token { IfSome result (λ f. lexemes_of text.now
@@ -91,7 +91,7 @@ fn first_token(text: &[u8]) -> Option<Placed>
     })
 }
 
-// The first token from this place on; the places of the answer are those of the whole text.
+// The first token at or after `at`, with offsets in the whole text.
 #[tactic(auto, using(crate::proofs::Placing::placed_after, crate::proofs::Placing::none_after))]
 pub(crate) fn token_from(text: &[u8], at: usize) -> Option<Placed>
     requires { at ≤ length text.now }

@@ -1,4 +1,4 @@
-//! The node language: its tree, its texts, and the definitions of what a program means.
+//! The node language: its syntax trees, its texts, and the definitions of what a program means.
 #![tactic(auto)]
 
 mod fault;

@@ -1,3 +1,3 @@
-/// The allocator refused memory. It is the one such error of all crates of the workspace.
+/// Memory could not be allocated. All crates of the workspace share this error.
 #[derive(Clone, Copy, Debug, PartialEq, Eq)]
 pub struct OutOfMemory;

@@ -9,7 +9,7 @@ use crate::token::Token;
 use crate::tree::{Expr, Round};
 use std::alloc::{AllocFailed, Global};
 
-// The numbers of a program's first lines.
+// The numbers of a program's header.
 #[derive(Clone, Copy)]
 struct Header {
     rounds: u32,
@@ -17,7 +17,7 @@ struct Header {
     registers: u32,
 }
 
-// A program text, read from the left: the place that is reached, and the expression nodes so far.
+// A parser of a program text, with its position and the number of expression nodes so far.
 #[derive(Drop)]
 pub(crate) struct Parser<'a> {
     pub(crate) alloc: Global,
@@ -34,7 +34,7 @@ impl<'a> Parser<'a> {
     ghost use Rattle.node_lang.specs.Reading.{Counts, assign, assigns, end, exactly, expression, header, next, node, number, one_of, operand, program, round, rounds, same_token, three_of, two_of};
     ghost use Rattle.node_lang.specs.Parsing.{Gives};
 
-    // The next token and its place.
+    // Returns the next token and its offset.
     fn next(&mut self) -> Result<(Token, usize), TextFault>
         ensures reads { Gives (λ t. record { from = length self.old.text.now - t.1; token = t.0 }) self.old self.new result next }
         ensures place { IfOk result (λ t. t.1 ≤ length self.old.text.now) }
@@ -53,7 +53,7 @@ impl<'a> Parser<'a> {
         }
     }
 
-    // Takes this token.
+    // Consumes the next token, which must be this one.
     #[tactic(auto, using(crate::proofs::Parsing::same_token_is))]
     fn expect(&mut self, token: Token) -> Result<(), TextFault>
         requires { same_token token token ≡ true }
@@ -66,7 +66,8 @@ impl<'a> Parser<'a> {
         Ok(())
     }
 
-    // Counts an expression node with this many levels left, at this place; the answer is how many are left for an operand.
+    // Counts an expression node at `offset` with `levels` levels left, and returns the number of
+    // levels left for its operands.
     #[tactic(auto, using(crate::proofs::Parsing::operand_is))]
     fn count_node(&mut self, levels: u32, offset: usize) -> Result<u32, TextFault>
         requires { offset ≤ length self.old.text.now }
@@ -84,7 +85,7 @@ impl<'a> Parser<'a> {
         Ok(levels - 1)
     }
 
-    // An expression of at most this many levels.
+    // Parses an expression of at most `levels` levels.
     #[cycle(expr)]
     #[tactic(auto, unfolding(crate::specs::Reading::expression))]
     fn expr(&mut self, levels: u32) -> Result<Expr, TextFault>
@@ -122,7 +123,7 @@ impl<'a> Parser<'a> {
         Ok(leaf)
     }
 
-    // One operand in parentheses.
+    // Parses one operand in parentheses.
     #[cycle(expr)]
     #[tactic(auto, unfolding(crate::specs::Reading::one_of))]
     fn one(&mut self, levels: u32) -> Result<Expr, TextFault>
@@ -134,7 +135,7 @@ impl<'a> Parser<'a> {
         Ok(a)
     }
 
-    // Two operands in parentheses.
+    // Parses two operands in parentheses.
     #[cycle(expr)]
     #[tactic(auto, unfolding(crate::specs::Reading::two_of))]
     fn two(&mut self, levels: u32) -> Result<(Expr, Expr), TextFault>
@@ -148,7 +149,7 @@ impl<'a> Parser<'a> {
         Ok((a, b))
     }
 
-    // Three operands in parentheses.
+    // Parses three operands in parentheses.
     #[cycle(expr)]
     #[tactic(auto, unfolding(crate::specs::Reading::three_of))]
     fn three(&mut self, levels: u32) -> Result<(Expr, Expr, Expr), TextFault>
@@ -164,7 +165,7 @@ impl<'a> Parser<'a> {
         Ok((c, a, b))
     }
 
-    // A number of the header, from low to high.
+    // Parses a number of the header, from `low` to `high`.
     fn number(&mut self, low: u32, high: u32) -> Result<u32, TextFault>
         ensures { Gives (λ n. n) self.old self.new result (number low high) }
     {
@@ -178,7 +179,7 @@ impl<'a> Parser<'a> {
         Ok(number)
     }
 
-    // What stands before the first assignment.
+    // Parses the header, up to and including `start`.
     #[tactic(auto, unfolding(crate::specs::Reading::header))]
     fn header(&mut self) -> Result<Header, TextFault>
         ensures { Gives (λ h. record { rounds = h.rounds; channels = h.channels; registers = h.registers }) self.old self.new result header }
@@ -197,7 +198,7 @@ impl<'a> Parser<'a> {
         })
     }
 
-    // The end of the text.
+    // Checks that the text ends here.
     fn end(&mut self) -> Result<(), TextFault>
         ensures { Gives (λ _. tt) self.old self.new result end }
     {
@@ -212,7 +213,7 @@ impl<'a> Parser<'a> {
         Err(TextFault::at(kind, extra.start))
     }
 
-    // The assignment to one register.
+    // Parses the assignment to a register.
     #[tactic(auto, unfolding(crate::specs::Reading::assign))]
     fn assign(&mut self, register: u32) -> Result<Expr, TextFault>
         ensures { Gives term_of self.old self.new result (assign register) }
@@ -222,7 +223,7 @@ impl<'a> Parser<'a> {
         self.expr(MAX_DEPTH)
     }
 
-    // An assignment to each register.
+    // Parses an assignment to each register.
     #[tactic(auto, unfolding(crate::specs::Reading::assigns))]
     fn assigns(&mut self, registers: u32) -> Result<Vec<Expr>, TextFault>
         ensures { Gives (λ v. map term_of v.items) self.old self.new result (assigns registers) }
@@ -235,7 +236,6 @@ impl<'a> Parser<'a> {
         Ok(expressions)
     }
 
-    // A round.
     #[tactic(auto, unfolding(crate::specs::Reading::round))]
     fn round(&mut self, registers: u32) -> Result<Round, TextFault>
         ensures { Gives step_of self.old self.new result (round registers) }
@@ -251,7 +251,6 @@ impl<'a> Parser<'a> {
         Ok(Round { left, right, next })
     }
 
-    // The rounds.
     #[tactic(auto, unfolding(crate::specs::Reading::rounds))]
     fn rounds(&mut self, count: u32, registers: u32) -> Result<Vec<Round>, TextFault>
         ensures { Gives (λ v. map step_of v.items) self.old self.new result (rounds count registers) }
@@ -264,7 +263,7 @@ impl<'a> Parser<'a> {
         Ok(steps)
     }
 
-    // A whole program, up to the end of the text.
+    // Parses a whole program, up to the end of the text.
     #[tactic(auto, unfolding(crate::specs::Reading::program))]
     pub(crate) fn whole(&mut self) -> Result<Program, TextFault>
         ensures { Gives (λ p. p) self.old self.new result program }

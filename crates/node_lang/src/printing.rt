@@ -10,7 +10,7 @@ use crate::tree::{BinOp, Expr, Round, UnOp};
 use std::alloc::{AllocError, Global};
 use std::fmt::Write;
 
-// The name of an expression's operation: one line per operation of the language.
+// The name of each operation, one line each.
 macro_rules! names {
     (
         $expression:expr;
@@ -31,7 +31,7 @@ macro_rules! names {
     };
 }
 
-// The name of the operation of an expression, or nothing where it has none.
+// The name of the expression's operation, or an empty string if it has none.
 fn operation_name(expression: &Expr) -> &'static str
     ensures { result.now ≡ name_of (term_of expression.now) }
 {
@@ -60,7 +60,6 @@ fn operation_name(expression: &Expr) -> &'static str
     }
 }
 
-// Appends an expression.
 fn write_expression(text: &mut String, expression: &Expr) -> Result<(), AllocError>
     ensures { OnOk result (string_bytes text.new ≡ string_bytes text.old ++ printed_expression (term_of expression.now)) }
 {
@@ -98,7 +97,6 @@ fn write_expression(text: &mut String, expression: &Expr) -> Result<(), AllocErr
     Ok(())
 }
 
-// Appends the assignment of an expression to a register.
 fn write_assignment(text: &mut String, register: usize, expression: &Expr) -> Result<(), AllocError>
     ensures { OnOk result (string_bytes text.new ≡ string_bytes text.old ++ assignment_line register (term_of expression.now)) }
 {
@@ -117,7 +115,7 @@ fn write_assignments(text: &mut String, expressions: &[Expr]) -> Result<(), Allo
     Ok(())
 }
 
-// Appends what a round sends to one side, `left` or `right`.
+// Appends the message of a round to one side, `left` or `right`.
 fn write_send(text: &mut String, side: &str, expression: &Expr) -> Result<(), AllocError>
     ensures { OnOk result (string_bytes text.new ≡ string_bytes text.old ++ send_line side.now (term_of expression.now)) }
 {
@@ -126,7 +124,6 @@ fn write_send(text: &mut String, side: &str, expression: &Expr) -> Result<(), Al
     text.push_str("\n")
 }
 
-// Appends a round.
 fn write_round(text: &mut String, round: &Round) -> Result<(), AllocError>
     ensures { OnOk result (string_bytes text.new ≡ string_bytes text.old ++ round_lines (step_of round.now)) }
 {
@@ -137,7 +134,6 @@ fn write_round(text: &mut String, round: &Round) -> Result<(), AllocError>
     Ok(())
 }
 
-// Appends rounds one after the other.
 fn write_rounds(text: &mut String, rounds: &[Round]) -> Result<(), AllocError>
     ensures { OnOk result (string_bytes text.new ≡ string_bytes text.old ++ flat_map round_lines (map step_of rounds.now)) }
 {
@@ -147,7 +143,6 @@ fn write_rounds(text: &mut String, rounds: &[Round]) -> Result<(), AllocError>
     Ok(())
 }
 
-// Appends a program.
 fn write_program(text: &mut String, program: &Program) -> Result<(), AllocError>
     ensures { OnOk result (string_bytes text.new ≡ string_bytes text.old ++ printed program.now) }
 {
@@ -165,12 +160,13 @@ fn write_program(text: &mut String, program: &Program) -> Result<(), AllocError>
     text.push_str("\n")
 }
 
-/// The one printed form of a program, in lines that end with a line feed: `rounds T`, `channels C`, `registers K`,
-/// `start` and the lines `rJ = e`, per round `round`, `send left e`, `send right e` and the lines `rJ = e`, then
-/// `finish e`. Numbers are decimal without leading zeros; in an expression a comma and one blank part the operands,
-/// and no other blanks stand.
+/// Prints a program in its canonical form, in lines that end with a line feed: `rounds T`,
+/// `channels C`, `registers K`, `start` and the lines `rJ = e`; per round `round`, `send left e`,
+/// `send right e` and the lines `rJ = e`; then `finish e`. Numbers are decimal without leading
+/// zeros, and the operands in an expression are separated by a comma and one blank, with no other
+/// blanks in it.
 ///
-/// Refuses where memory is refused alone: `OutOfMemory` at 0.
+/// Fails only if memory is refused, with `OutOfMemory` at offset 0.
 pub fn print(alloc: Global, program: &Program) -> Result<String, TextFault>
     ensures text { IfOk result (λ text. string_bytes text ≡ printed program.now) }
     ensures fault { IfErr result (λ f. f ≡ record { kind = kind.OutOfMemory; offset = 0 }) }

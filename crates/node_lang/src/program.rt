@@ -6,9 +6,10 @@ ghost use Rattle.node_lang.specs.Limits.{IsWithinLimits};
 use crate::tree::{Expr, Round};
 use std::marker::Model;
 
-/// A program of the node language, made by `parse` alone. It has at most `MAX_ROUNDS` rounds, 1 to `MAX_CHANNELS` channels
-/// and 1 to `MAX_REGISTERS` registers, an expression for each register in `start` and in each round, at most `MAX_NODES`
-/// expression nodes, and no expression of a depth over `MAX_DEPTH`. An expression names registers 0 to 9.
+/// A program of the node language, made by `parse` alone. It has at most `MAX_ROUNDS` rounds, 1 to
+/// `MAX_CHANNELS` channels and 1 to `MAX_REGISTERS` registers, an expression for each register in
+/// `start` and in each round, at most `MAX_NODES` expression nodes, and no expression deeper than
+/// `MAX_DEPTH`. The registers that its expressions name are 0 to 9.
 #[derive(Drop)]
 pub struct Program {
     pub(crate) channels: u32,
@@ -28,7 +29,7 @@ impl Model for Program {
 }
 
 impl Program {
-    /// The number of rounds, at most `MAX_ROUNDS`.
+    /// Returns the number of rounds, at most `MAX_ROUNDS`.
     pub fn rounds(&self) -> u32
         ensures value { result ≡ length self.now.steps }
         ensures limits { IsWithinLimits self.now }
@@ -36,7 +37,7 @@ impl Program {
         self.steps.len() as u32
     }
 
-    /// The number of channels, 1 to `MAX_CHANNELS`.
+    /// Returns the number of channels, 1 to `MAX_CHANNELS`.
     pub fn channels(&self) -> u32
         ensures value { result ≡ self.now.channels }
         ensures limits { IsWithinLimits self.now }
@@ -44,7 +45,7 @@ impl Program {
         self.channels
     }
 
-    /// The number of registers, 1 to `MAX_REGISTERS`.
+    /// Returns the number of registers, 1 to `MAX_REGISTERS`.
     pub fn registers(&self) -> u32
         ensures value { result ≡ length self.now.start }
         ensures limits { IsWithinLimits self.now }
@@ -52,7 +53,7 @@ impl Program {
         self.start.len() as u32
     }
 
-    /// What each register holds before the first round.
+    /// Returns the expression of each register before the first round.
     pub fn start(&self) -> &[Expr]
         ensures value { map term_of result.now ≡ self.now.start }
         ensures limits { IsWithinLimits self.now }
@@ -60,7 +61,7 @@ impl Program {
         &self.start
     }
 
-    /// The rounds in order, each with an expression for each register.
+    /// Returns the rounds in order, each with an expression for each register.
     #[tactic(auto, using(crate::proofs::Assigned::each_assigned))]
     pub fn steps(&self) -> &[Round]
         ensures value { map step_of result.now ≡ self.now.steps }
@@ -70,7 +71,7 @@ impl Program {
         &self.steps
     }
 
-    /// The expression of the channel.
+    /// Returns the expression of the channel.
     pub fn finish(&self) -> &Expr
         ensures value { term_of result.now ≡ self.now.finish }
         ensures limits { IsWithinLimits self.now }

@@ -10,7 +10,7 @@ use crate::parser::Parser;
 use crate::program::Program;
 use std::alloc::Global;
 
-// The first byte over 127.
+// The index of the first byte over 127.
 fn high_byte(text: &[u8]) -> Option<usize>
     ensures found { IfSome result (IsFirstHighByte text.now) }
     ensures none { IfNone result (All (λ b. b < 128) text.now) }
@@ -18,13 +18,14 @@ fn high_byte(text: &[u8]) -> Option<usize>
     text.iter().position(|byte| *byte > 127)
 }
 
-/// Reads a program text of at most `LONGEST_TEXT` bytes.
+/// Parses a program text of at most `LONGEST_TEXT` bytes.
 ///
-/// A longer text is `TooLong` at `LONGEST_TEXT`, else a text with a byte over 127 is `NotAscii` at the first one. Else
-/// the fault stands at the first place where the text can't go on: `BadWord` and `NumberTooLarge` at a
-/// token's first byte, `HeaderRange` at a number of the header, `Unexpected` at a token that cannot stand there,
-/// `TooDeep` and `TooManyNodes` at the first token of an expression node, `EndOfText` at the text's length.
-/// `OutOfMemory`, at 0, may stand in place of any answer but `TooLong` and `NotAscii`.
+/// A longer text is `TooLong` at offset `LONGEST_TEXT`. In any other text, a byte over 127 is
+/// `NotAscii` at the first such byte. Otherwise the fault is at the first place where the text is
+/// no longer a prefix of a program: `BadWord` and `NumberTooLarge` at a token's first byte,
+/// `HeaderRange` at a number of the header, `Unexpected` at a token that is not allowed there,
+/// `TooDeep` and `TooManyNodes` at the first token of an expression node, and `EndOfText` at the
+/// text's length. `OutOfMemory`, at offset 0, can replace any result but `TooLong` and `NotAscii`.
 pub fn parse(alloc: Global, text: &[u8]) -> Result<Program, TextFault>
     ensures program { IfOk result (Reads text.now) }
     ensures none { IfErr result (λ f. f.kind ≢ kind.OutOfMemory → (p : ProgramTree) → Reads text.now p → ⊥) }

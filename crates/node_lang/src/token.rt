@@ -1,6 +1,6 @@
 use crate::tree::{BinOp, UnOp};
 
-/// A token of a program text, or what stands in a token's place and is none.
+/// A token of a program text, or an error in the place of one.
 #[derive(Clone, Copy, PartialEq, Eq)]
 pub enum Token {
     Number(u32),
@@ -26,6 +26,6 @@ pub enum Token {
     Equals,
     /// A number over 4,294,967,295.
     LargeNumber,
-    /// A byte or a word that begins no token.
+    /// A byte or a word that is not a token.
     Unknown,
 }

@@ -1,10 +1,10 @@
-/// An operation of one operand.
+/// A unary operation.
 #[derive(Clone, Copy, Debug, PartialEq, Eq)]
 pub enum UnOp {
     Not,
 }
 
-/// An operation of two operands, by its name in a program text.
+/// A binary operation, by its name in a program text.
 #[derive(Clone, Copy, Debug, PartialEq, Eq)]
 pub enum BinOp {
     And,
@@ -16,7 +16,7 @@ pub enum BinOp {
     Sub,
     Min,
     Max,
-    /// The least index of a bit in which the operands differ.
+    /// The least index of a bit in which the operands differ, or 0 if they are equal.
     Ldb,
     Bit,
     Eq,
@@ -25,24 +25,24 @@ pub enum BinOp {
     Le,
 }
 
-/// An expression of the node language. Its values are whole numbers below 2^32.
+/// An expression of the node language. Its values are integers below 2^32.
 #[derive(Drop)]
 pub enum Expr {
     Number(u32),
     /// The node's own identifier, `id`.
     Id,
-    /// What the left neighbour sent right in this round, `L`.
+    /// The message that the left neighbour sent in this round, `L`.
     FromLeft,
-    /// What the right neighbour sent left in this round, `R`.
+    /// The message that the right neighbour sent in this round, `R`.
     FromRight,
     Register(u32),
     One(UnOp, Box<Expr>),
     Two(BinOp, Box<Expr>, Box<Expr>),
-    /// `if`: the second where the first is not 0, else the third.
+    /// `if(c, a, b)`: `a` if `c` is not 0, else `b`.
     Choose(Box<Expr>, Box<Expr>, Box<Expr>),
 }
 
-/// A round: what a node sends to its left and to its right, and what each register holds next.
+/// A round: the message to each side, and the next value of each register.
 #[derive(Drop)]
 pub struct Round {
     pub left: Expr,

@@ -30,7 +30,7 @@ fn is_number(word: &[u8]) -> bool
     word.iter().all(|byte| is_digit(*byte))
 }
 
-// The token of each of these words: one line per word.
+// The token of a word, one line per word.
 macro_rules! words {
     ($word:expr; $($name:literal => $token:expr,)*) => {
         match $word {
@@ -40,7 +40,7 @@ macro_rules! words {
     };
 }
 
-// The operation of a name: one line per operation of the language.
+// The operation with this name, one line per operation of the language.
 fn operation(word: &[u8]) -> Option<Token>
     ensures { result ≡ named operations word.now }
 {
@@ -84,7 +84,7 @@ fn keyword(word: &[u8]) -> Option<Token>
     }
 }
 
-// `r` and one digit.
+// A register: `r` and one digit.
 fn register(word: &[u8]) -> Option<Token>
     ensures { result ≡ register_named word.now }
 {
@@ -94,7 +94,7 @@ fn register(word: &[u8]) -> Option<Token>
     }
 }
 
-// The value of digits, where it is below 2^32.
+// The value of a decimal number, or `None` if it is 2^32 or more.
 #[tactic(auto, using(crate::proofs::Numbers::read_more, crate::proofs::Numbers::too_large, crate::proofs::Numbers::all_read))]
 fn number(digits: &[u8]) -> Option<u32>
     ensures { SomeIff result (read_on 0 digits.now < 2 ^ 32) (read_on 0 digits.now) }
@@ -124,7 +124,7 @@ pub(crate) fn token_of(word: &[u8]) -> Token
         .unwrap_or(Token::Unknown)
 }
 
-// The token that a byte is which is neither blank nor part of a word.
+// The token of a byte that is neither blank nor part of a word.
 pub(crate) fn mark_token(byte: u8) -> Token
     ensures { result ≡ mark byte }
 {
