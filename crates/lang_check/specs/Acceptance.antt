@@ -1,4 +1,4 @@
--- Which programs are accepted for m identifiers, and which refusal comes first.
+-- Acceptance of programs for m identifiers.
 use Rattle.std.specs.Prelude.{◌≡◌, ℕ, ◌<◌, nat_le, Bool, false, Option, None, length, find, flat_map}
 use Rattle.std.specs.List.{list_any}
 use Rattle.node_lang.specs.Term.{ProgramTree, terms}
@@ -10,11 +10,11 @@ use Rattle.lang_check.specs.Occurrences.{registers_read, reads_identifier, reads
 abbrev pub first_missing_register : ProgramTree → Option ℕ
 first_missing_register p = find (λ j. nat_le (length p.start) j) (flat_map registers_read (terms p))
 
--- whether the identifier is read anywhere but at the start
+-- whether the identifier is read outside the start
 abbrev pub reads_id_outside_start : ProgramTree → Bool
 reads_id_outside_start p = list_any reads_identifier (terms_after_start p)
 
--- whether a message is read anywhere but in the assignments of a round
+-- whether a message is read outside the assignments of a round
 abbrev pub reads_message_outside_step : ProgramTree → Bool
 reads_message_outside_step p = list_any reads_message (terms_outside_assignments p)
 

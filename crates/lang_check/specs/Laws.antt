@@ -9,15 +9,16 @@ use Rattle.lang_check.specs.Acceptance.{IsAccepted}
 use Rattle.lang_check.specs.Refusals.{IsFirstRefusal}
 use Rattle.lang_check.specs.declared.acceptance.CheckFault.{CheckFault}
 
--- a number has at most k binary digits where it is below 2^k, and only there
+-- a number has at most k binary digits if and only if it is below 2^k
 abbrev pub BinaryDigits : Type 0
 BinaryDigits = (x k : ℕ) → (bits x ≤ k) ↔ (x < 2 ^ k)
 
--- what a node with an identifier below m holds before the first round is within its bounds
+-- the registers of a node with an identifier below m are within their bounds before the first round
 abbrev pub StartIsWithin : Type 0
 StartIsWithin = (p : ProgramTree) (m id : ℕ) → id < m → IsWithin (rounds.start p id) (register_bounds p m 0)
 
--- where three nodes in a row are within the bounds of r rounds, the one in the middle is within those of one round more after it
+-- if three neighbouring nodes are within the bounds of r rounds, the middle one is within those of r+1 rounds after one
+-- more
 abbrev pub NextIsWithin : Type 0
 NextIsWithin =
     (p : ProgramTree) (m r : ℕ) (left own right : List ℕ) → IsWithin left (register_bounds p m r)
@@ -30,13 +31,14 @@ RegistersAreWithin =
     (p : ProgramTree) (m : ℕ) (x : List ℕ) → IsRing m (length p.steps) x → (r i : ℕ) → r ≤ length p.steps
     → i < length x → IsWithin (state p x r i) (register_bounds p m r)
 
--- where the registers are within the bounds of all rounds of an accepted program, the channel is below the number of channels
+-- if the registers are within the bounds of all rounds of an accepted program, the channel is below the number of
+-- channels
 abbrev pub AcceptedChannelsAreBelow : Type 0
 AcceptedChannelsAreBelow =
     (p : ProgramTree) (m : ℕ) (registers : List ℕ) → IsAccepted m p
     → IsWithin registers (register_bounds p m (length p.steps)) → rounds.channel p registers < p.channels
 
--- on every ring of an accepted program, each channel is below the number of channels
+-- on every ring, each channel of an accepted program is below the number of channels
 abbrev pub ChannelsAreBelow : Type 0
 ChannelsAreBelow =
     (p : ProgramTree) (m : ℕ) (x : List ℕ) → IsAccepted m p → IsRing m (length p.steps) x → (i : ℕ) → i < length x

@@ -1,4 +1,4 @@
--- What stands beside the bounds of expressions while they are computed.
+-- The bounds of what an expression may read, as the code holds them.
 use Rattle.node_lang.specs.Value.{Env}
 use Rattle.lang_check.specs.declared.bounds.Limits.{Limits}
 

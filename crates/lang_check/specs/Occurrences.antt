@@ -27,15 +27,15 @@ reads_message (Binary o a b) = reads_message a || reads_message b
 reads_message (Conditional c a b) = reads_message c || (reads_message a || reads_message b)
 reads_message _ = false
 
--- the expressions of a program but for those of its start, in reading order
+-- the expressions of a program outside its start, in reading order
 abbrev pub terms_after_start : ProgramTree → List Term
 terms_after_start p = step_terms p.steps ++ p.finish ∷ []
 
--- what is sent in the rounds
+-- the expressions sent in the rounds
 abbrev pub sent_terms : List Step → List Term
 sent_terms [] = []
 sent_terms (s ∷ ss) = s.left ∷ s.right ∷ sent_terms ss
 
--- the expressions of a program but for the assignments of its rounds, in reading order
+-- the expressions of a program outside the assignments of its rounds, in reading order
 abbrev pub terms_outside_assignments : ProgramTree → List Term
 terms_outside_assignments p = p.start ++ (sent_terms p.steps ++ p.finish ∷ [])

@@ -9,7 +9,7 @@ use Rattle.lang_check.specs.Acceptance.{first_missing_register, reads_id_outside
 use Rattle.lang_check.specs.declared.acceptance.CheckFault.{CheckFault}
 use Rattle.lang_check.specs.declared.acceptance.CheckFault.TheVariants.{IdsOutOfRange, TooManyWindows, RegisterOutOfRange, IdOutsideStart, MessageOutsideStep, ChannelBound}
 
--- each refusal stands where those before it do not
+-- each refusal comes first only if those before it do not hold
 abbrev pub IsFirstRefusal : ℕ → ProgramTree → CheckFault → Type 0
 IsFirstRefusal m p IdsOutOfRange = IsFirstShapeFault m (length p.steps) shape.IdsOutOfRange
 IsFirstRefusal m p TooManyWindows = IsFirstShapeFault m (length p.steps) shape.TooManyWindows

@@ -21,18 +21,19 @@ pub enum CheckFault {
     IdsOutOfRange,
     /// X2: more than `MAX_WINDOWS` windows of level `t`.
     TooManyWindows,
-    /// C1: the first register number in reading order that is not below the number of registers.
+    /// C1: an expression reads this register, which the program does not have; it is the first such
+    /// register in reading order.
     RegisterOutOfRange(u32),
     /// C2: `id` is read outside the assignments of `start`.
     IdOutsideStart,
     /// C3: `L` or `R` is read outside the assignments of a round.
     MessageOutsideStep,
-    /// C4: the bound of the channels, which is the number of channels or more.
+    /// C4: the bound of the channels is this number, which is not below the number of channels.
     ChannelBound(u32),
 }
 
-/// The plan of a program for `ids` identifiers, or the program and its first refusal, in the order of
-/// `CheckFault`.
+/// Accepts a program for `ids` identifiers. Returns its plan, or the program and its first refusal,
+/// in the order of `CheckFault`.
 pub fn accept(program: Program, ids: u32) -> Result<Plan, (Program, CheckFault)>
     ensures ok { IfOk result (λ plan. (plan.program ≡ program) × (plan.ids ≡ ids)) }
     ensures exact { IsOk result ↔ IsAccepted ids program }
@@ -53,7 +54,7 @@ pub fn accept(program: Program, ids: u32) -> Result<Plan, (Program, CheckFault)>
     }
 }
 
-// The bound of the channels, or the first refusal that does not come from the number of identifiers.
+// The bound of the channels, or the first refusal of C1 to C4.
 fn channel_bound(program: &Program, ids: u32) -> Result<u32, CheckFault>
     ensures ok { IsShape ids (length program.now.steps)
         → IfOk result (λ bound. IsAccepted ids program.now × (bound ≡ finish_bound program.now ids)) }

@@ -5,8 +5,7 @@ ghost use Rattle.lang_check.specs.Limits.{env_of};
 
 use node_lang::{BinOp, Expr, UnOp};
 
-// The bounds of what an expression may read: of the identifier, of what comes from the left and from the
-// right, and of the registers.
+// The bounds of what an expression may read: the identifier, both messages and the registers.
 #[derive(Clone, Copy)]
 pub(crate) struct Limits<'a> {
     pub(crate) id: u32,
@@ -15,8 +14,8 @@ pub(crate) struct Limits<'a> {
     pub(crate) registers: &'a [u32],
 }
 
-// One line per operation: how its bound follows from those of its operands, and from the number that is
-// written as its second operand.
+// The bound of each operation, one line each, from those of its operands and from the literal that
+// its second operand is, if it is one.
 macro_rules! bounds {
     (
         $expression:expr, $limits:expr, $written:ident;
@@ -50,7 +49,6 @@ macro_rules! bounds {
     };
 }
 
-// The bound of an expression.
 pub(crate) fn bound_of(expression: &Expr, limits: Limits<'_>) -> u32
     ensures { result ≡ bounds.bound (term_of expression.now) (env_of limits.entry) }
 {
@@ -79,14 +77,14 @@ pub(crate) fn bound_of(expression: &Expr, limits: Limits<'_>) -> u32
     )
 }
 
-// A register that is not there holds 0.
+// The bound of a register, or 0 if it does not exist.
 fn limit_or_zero(registers: &[u32], register: u32) -> u32
     ensures { result ≡ slice_index registers.now register }
 {
     registers.get(register as usize).copied().unwrap_or(0)
 }
 
-// The number that an expression is, where it is one.
+// The number of a literal, or `None` for any other expression.
 fn written_number(expression: &Expr) -> Option<u32>
     ensures { result ≡ bounds.written_number (term_of expression.now) }
 {
@@ -119,7 +117,7 @@ fn shr_bound(written: Option<u32>, a: u32) -> u32
     }
 }
 
-// The largest number with as many binary digits as x.
+// The largest number with as many binary digits as `x`.
 #[tactic(auto, using(crate::proofs::Bits::shifted))]
 fn all_ones(x: u32) -> u32
     ensures { result ≡ 2 ^ bounds.bits x - 1 }
@@ -132,7 +130,7 @@ fn all_ones(x: u32) -> u32
     }
 }
 
-// The number of binary digits.
+// The number of binary digits of `x`; 0 has none.
 #[tactic(auto, using(crate::proofs::Bits::counted))]
 fn bits(x: u32) -> u32
     ensures value { result ≡ bounds.bits x }

@@ -3,7 +3,6 @@ ghost use Rattle.node_lang.specs.Term.{term_of, step_of};
 
 use node_lang::{Expr, Program, Round};
 
-// Whether the two programs are equal.
 pub(crate) fn same_program(a: &Program, b: &Program) -> bool
     ensures { IsTrue result ↔ (a.now ≡ b.now) }
 {
@@ -13,7 +12,6 @@ pub(crate) fn same_program(a: &Program, b: &Program) -> bool
         && same_term(a.finish(), b.finish())
 }
 
-// Whether the two expressions are equal.
 fn same_term(a: &Expr, b: &Expr) -> bool
     ensures { IsTrue result ↔ (term_of a.now ≡ term_of b.now) }
 {
@@ -32,7 +30,6 @@ fn same_term(a: &Expr, b: &Expr) -> bool
     }
 }
 
-// Whether the two lists of expressions are equal.
 fn same_terms(a: &[Expr], b: &[Expr]) -> bool
     ensures { IsTrue result ↔ (map term_of a.now ≡ map term_of b.now) }
 {
@@ -47,14 +44,12 @@ fn same_terms(a: &[Expr], b: &[Expr]) -> bool
     true
 }
 
-// Whether the two rounds are equal.
 fn same_round(a: &Round, b: &Round) -> bool
     ensures { IsTrue result ↔ (step_of a.now ≡ step_of b.now) }
 {
     same_term(&a.left, &b.left) && same_term(&a.right, &b.right) && same_terms(&a.next, &b.next)
 }
 
-// Whether the two lists of rounds are equal.
 fn same_rounds(a: &[Round], b: &[Round]) -> bool
     ensures { IsTrue result ↔ (map step_of a.now ≡ map step_of b.now) }
 {

@@ -1,5 +1,5 @@
-//! Which programs are accepted for a number of identifiers: bounds of values by the text alone, the refusals in
-//! order, and plans, which are accepted programs.
+//! Acceptance of programs for a number of identifiers: bounds of values from the text alone, the
+//! refusals in order, and plans, which are accepted programs.
 #![tactic(auto)]
 
 mod acceptance;

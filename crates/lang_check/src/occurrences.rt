@@ -5,7 +5,7 @@ ghost use Rattle.lang_check.specs.Occurrences.{registers_read, reads_identifier,
 
 use node_lang::{Expr, Round};
 
-// The first register number of `count` or more that an expression reads.
+// The first register that the expression reads and that is not below `count`.
 #[tactic(auto, using(crate::proofs::OccurrenceLemmas::joined))]
 pub(crate) fn missing_in_term(count: u32, expression: &Expr) -> Option<u32>
     ensures { result ≡ find (λ j. nat_le count j) (registers_read (term_of expression.now)) }
@@ -28,7 +28,7 @@ pub(crate) fn missing_in_term(count: u32, expression: &Expr) -> Option<u32>
     }
 }
 
-// The same for expressions one after another.
+// The same for a list of expressions.
 pub(crate) fn missing_in_terms(count: u32, expressions: &[Expr]) -> Option<u32>
     ensures { result ≡ find (λ j. nat_le count j) (flat_map registers_read (map term_of expressions.now)) }
 {
@@ -39,7 +39,7 @@ pub(crate) fn missing_in_terms(count: u32, expressions: &[Expr]) -> Option<u32>
     found
 }
 
-// The same for rounds, in reading order.
+// The same for a list of rounds, in reading order.
 pub(crate) fn missing_in_rounds(count: u32, rounds: &[Round]) -> Option<u32>
     ensures { result ≡ find (λ j. nat_le count j) (flat_map registers_read (step_terms (map step_of rounds.now))) }
 {
@@ -108,14 +108,14 @@ pub(crate) fn any_uses_message(expressions: &[Expr]) -> bool
         .any(|expression| uses_message(expression))
 }
 
-// Whether what is sent in a round reads a message.
+// Whether an expression sent in the round reads a message.
 fn send_uses_message(round: &Round) -> bool
     ensures { result ≡ list_any reads_message (sent_terms (step_of round.now ∷ [])) }
 {
     uses_message(&round.left) || uses_message(&round.right)
 }
 
-// Whether what is sent in one of the rounds reads a message.
+// Whether an expression sent in one of the rounds reads a message.
 pub(crate) fn sends_use_message(rounds: &[Round]) -> bool
     ensures { result ≡ list_any (λ r. list_any reads_message (sent_terms (step_of r ∷ []))) rounds.now }
 {

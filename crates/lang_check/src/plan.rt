@@ -3,8 +3,8 @@ use node_lang::Program;
 use std::marker::Model;
 use win_index::Shape;
 
-/// A program that was accepted, the shape that it was accepted for, and the bound of its channels. It is
-/// made by `accept` alone.
+/// An accepted program, with the shape that it was accepted for and the bound of its channels. Only
+/// `accept` makes plans.
 #[derive(Drop)]
 pub struct Plan {
     pub(crate) program: Program,
@@ -33,7 +33,7 @@ impl Plan {
     ghost use Rattle.node_lang.specs.Bounds.{finish_bound};
     ghost use Rattle.lang_check.specs.Acceptance.{IsAccepted};
 
-    /// The program.
+    /// Returns the program.
     pub fn program(&self) -> &Program
         ensures value { result.now ≡ self.now.program }
         ensures accepted { IsAccepted self.now.ids self.now.program }
@@ -41,7 +41,7 @@ impl Plan {
         &self.program
     }
 
-    /// The number of identifiers, and the program's number of rounds.
+    /// Returns the shape: the number of identifiers and the program's number of rounds.
     pub fn shape(&self) -> Shape
         ensures ids { result.ids ≡ self.now.ids }
         ensures rounds { result.rounds ≡ length self.now.program.steps }
@@ -50,7 +50,7 @@ impl Plan {
         self.shape
     }
 
-    /// The bound of the channels, which is below the number of channels.
+    /// Returns the bound of the channels, which is below the number of channels.
     pub fn bound(&self) -> u32
         ensures value { result ≡ finish_bound self.now.program self.now.ids }
         ensures accepted { IsAccepted self.now.ids self.now.program }
@@ -58,7 +58,7 @@ impl Plan {
         self.bound
     }
 
-    /// The number of channels, 1 to `MAX_CHANNELS`.
+    /// Returns the number of channels, 1 to `MAX_CHANNELS`.
     pub fn channels(&self) -> u32
         ensures value { result ≡ self.now.program.channels }
         ensures accepted { IsAccepted self.now.ids self.now.program }
@@ -66,7 +66,7 @@ impl Plan {
         self.program.channels()
     }
 
-    /// Whether the two plans have equal programs and one shape.
+    /// Returns whether the two plans have equal programs and the same shape.
     pub fn same(&self, other: &Plan) -> bool
         ensures { IsTrue result ↔ (self.now ≡ other.now) }
     {

@@ -6,7 +6,7 @@ ghost use Rattle.lang_check.specs.Limits.{env_of};
 use crate::bounds::{Limits, bound_of};
 use node_lang::{Expr, MAX_REGISTERS, Program, Round};
 
-// The bound of the channels of a program for this number of identifiers.
+// The bound of the channels of a program with this number of identifiers.
 #[tactic(auto, unfolding(node_lang::specs::Bounds::finish_bound))]
 pub(crate) fn finish_bound(program: &Program, ids: u32) -> u32
     ensures { result ≡ bounds.finish_bound program.now ids }
@@ -29,7 +29,7 @@ fn last_bounds(program: &Program, ids: u32, registers: &mut [u32])
     }
 }
 
-// Writes the bounds of the registers after a round over those from before it.
+// Replaces the bounds of the registers before a round by those after it.
 fn round_bounds(round: &Round, ids: u32, registers: &mut [u32])
     requires each { length registers.old ≡ length round.now.next.items }
     requires few { length registers.old ≤ MAX_REGISTERS }
@@ -48,7 +48,7 @@ fn round_bounds(round: &Round, ids: u32, registers: &mut [u32])
     );
 }
 
-// Writes the bound of each expression into the cell of its place; all of them read the same limits.
+// Writes the bound of each expression to the cell at its index, all from the same limits.
 fn assign_bounds(expressions: &[Expr], limits: Limits<'_>, out: &mut [u32])
     requires { length out.old ≡ length expressions.now }
     ensures { out.new ≡ map (λ e. bounds.bound e (env_of limits.entry)) (map term_of expressions.now) }

@@ -8,8 +8,8 @@ use std::test::Fail;
 
 const TOP: u32 = 4_294_967_295;
 
-// Expressions, and their bounds for six identifiers, at most 10 from the left and 20 from the right, and registers of
-// at most 1 and 9.
+// Expressions and their bounds, for six identifiers, messages of at most 10 from the left and 20
+// from the right, and registers of at most 1 and 9.
 const BOUNDS: [(&str, u32); 36] = [
     ("7", 7),
     ("id", 5),
@@ -49,14 +49,14 @@ const BOUNDS: [(&str, u32); 36] = [
     ("if(9, 3, id)", 5),
 ];
 
-// A program of no rounds with two channels and one register, which ends in this expression.
+// A program without rounds, with two channels and one register, that finishes with this expression.
 fn ends_in(alloc: Global, finish: &str) -> Result<Program, Fail> {
     let text = format!(in alloc; "rounds 0 channels 2 registers 1 start r0 = id finish {finish}")?;
     let program = parse(alloc, text.as_bytes()).ok().ok_or("a program")?;
     Ok(program)
 }
 
-// One round of Cole and Vishkin (1986) with this number of channels, where this is sent to the right.
+// One round of Cole and Vishkin (1986) with this number of channels and this message to the right.
 fn cv1(alloc: Global, channels: u32, sent: &str) -> Result<Program, Fail> {
     let head = format!(in alloc; "rounds 1 channels {channels} registers 1 start r0 = id")?;
     let round = "r0 = add(shl(ldb(r0, L), 1), bit(r0, ldb(r0, L)))";
@@ -65,7 +65,7 @@ fn cv1(alloc: Global, channels: u32, sent: &str) -> Result<Program, Fail> {
     Ok(program)
 }
 
-// The plan of the program whose nodes send what they hold.
+// The plan of that program whose nodes send their register.
 fn cv1_plan(alloc: Global, channels: u32, ids: u32) -> Result<Plan, Fail> {
     let program = cv1(alloc, channels, "r0")?;
     let plan = accept(program, ids).ok().ok_or("a plan")?;
