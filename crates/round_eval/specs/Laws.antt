@@ -6,8 +6,8 @@ use Rattle.node_lang.specs.Node.{to_left, to_right}
 use Rattle.node_lang.specs.GlobalRounds.{left_of, right_of, state}
 use Rattle.round_eval.specs.Rows.{row_after, rows, stretch}
 
--- a stretch of places of a ring does its part of a global round as a row between what the two places beside it send.
--- All places are such a stretch, closed on itself: its last place stands to the left of place 0
+-- in a global round, consecutive places of a ring step as a row between the messages of the two places beside it. The
+-- whole ring is such a stretch, closed on itself: its last place is to the left of place 0
 abbrev pub StretchesAreRows : Type 0
 StretchesAreRows =
     (p : ProgramTree) (x : List ℕ) (r first count : ℕ) → first + count ≤ length x
@@ -15,13 +15,13 @@ StretchesAreRows =
     ≡ row_after p r (to_right p r (state p x r (left_of x first))) (stretch p x r first count)
     (to_left p r (state p x r (right_of x (first + count - 1))))
 
--- cells that are written behind n rows are one row more
+-- cells written after n rows are one row more
 abbrev pub RowsAreWritten : Type 0
 RowsAreWritten =
     (width n : ℕ) (before cells after : List ℕ) → n * width ≤ length before → length cells ≡ width
     → rows width (n + 1) (take (n * width) before ++ (cells ++ after)) ≡ rows width n before ++ cells ∷ []
 
--- the rows of cells, each by its place
+-- the rows of cells are their parts of a row's width, by index
 abbrev pub RowsAreTaken : Type 0
 RowsAreTaken =
     (width n : ℕ) (cells : List ℕ) → rows width n cells ≡ map (λ i. take width (drop (i * width) cells)) (range_with_len 0 n)

@@ -1,4 +1,4 @@
--- What a view shows to an expression.
+-- What an expression sees in a view.
 use Rattle.node_lang.specs.Value.{Env}
 use Rattle.round_eval.specs.declared.value.View.{View}
 

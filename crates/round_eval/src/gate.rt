@@ -1,11 +1,11 @@
-/// Who watches a run: it is told of each step of work that begins, and answers nothing. A gate of a test may
-/// wait before it returns.
+/// An observer of a run, which is called when a step of work begins. A gate in a test may wait
+/// before it returns.
 pub trait Gate {
-    /// Worker or segment `who` begins with job or round `what`.
+    /// Called when worker or segment `who` begins job or round `what`.
     fn entered(&self, who: u32, what: u32);
 }
 
-/// The gate that does nothing.
+/// A gate that does nothing.
 #[derive(Clone, Copy, Debug, PartialEq, Eq)]
 pub struct OpenGate;
 

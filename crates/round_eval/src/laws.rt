@@ -1,19 +1,19 @@
 ghost use Rattle.round_eval.specs.Laws as law;
 
-/// A stretch of places of a ring does its part of a global round as a row between what the two places beside it
-/// send; so do all places, closed on themselves.
+/// In a global round, consecutive places of a ring step as a row of nodes between the messages of
+/// the two places beside it; the whole ring steps as a row that is closed on itself.
 #[tactic(auto, using(crate::proofs::GlobalRounds::stretches))]
 pub fn stretches_are_rows()
     ensures { law.StretchesAreRows }
 {}
 
-/// Cells that are written behind `n` rows are one row more.
+/// Cells written after `n` rows add one row.
 #[tactic(auto, using(crate::proofs::RowLemmas::rows_written))]
 pub fn rows_are_written()
     ensures { law.RowsAreWritten }
 {}
 
-/// The rows of cells are the cells a row's width at a time.
+/// The rows of a list of cells are its consecutive parts of a row's width.
 #[tactic(auto, using(crate::proofs::RowLemmas::rows_taken))]
 pub fn rows_are_taken()
     ensures { law.RowsAreTaken }

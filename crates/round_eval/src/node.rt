@@ -5,8 +5,8 @@ ghost use Rattle.node_lang.specs.Bounds.{register_bounds, IsWithin};
 use crate::value::{View, assign, value_of};
 use lang_check::{Plan, accepted_channels_are_below};
 
-/// Writes what a node with the identifier `id` holds before the first round into `out`, which has a
-/// cell for each register.
+/// Writes the registers of a node with the identifier `id` before the first round to `out`, which
+/// has a cell for each register.
 pub fn start_state(plan: &Plan, id: u32, out: &mut [u32])
     requires id { id < plan.now.ids }
     requires cells { length out.old ≡ length plan.now.program.start }
@@ -22,7 +22,8 @@ pub fn start_state(plan: &Plan, id: u32, out: &mut [u32])
     assign(program.start(), view, out);
 }
 
-/// What a node with these registers sends in a round, to its left and to its right. Rounds count from 0.
+/// Returns the messages of a node with these registers in a round, to its left and to its right.
+/// Rounds count from 0.
 pub fn messages(plan: &Plan, round: u32, own: &[u32]) -> (u32, u32)
     requires round { round < length plan.now.program.steps }
     requires cells { length own.now ≡ length plan.now.program.start }
@@ -35,9 +36,9 @@ pub fn messages(plan: &Plan, round: u32, own: &[u32]) -> (u32, u32)
     )
 }
 
-/// Writes what a node with these registers holds after a round into `out`: `l` is what its left
-/// neighbour sent right in that round, `r` what its right neighbour sent left. All assignments read the
-/// same registers. Rounds count from 0.
+/// Writes the registers of a node after a round to `out`: `l` is the message of its left neighbour
+/// in that round, `r` that of its right neighbour. All assignments read the registers `own`. Rounds
+/// count from 0.
 #[tactic(auto, unfolding(node_lang::specs::Node::next))]
 pub fn step(plan: &Plan, round: u32, own: &[u32], l: u32, r: u32, out: &mut [u32])
     requires round { round < length plan.now.program.steps }
@@ -53,8 +54,8 @@ pub fn step(plan: &Plan, round: u32, own: &[u32], l: u32, r: u32, out: &mut [u32
     );
 }
 
-/// The channel of a node with these registers. It is below the number of channels where each register is
-/// within its bound after the last round.
+/// Returns the channel of a node with these registers. It is below the number of channels if each
+/// register is within its bound after the last round.
 #[tactic(auto, unfolding(node_lang::specs::Node::channel))]
 pub fn channel(plan: &Plan, own: &[u32]) -> u32
     requires { length own.now ≡ length plan.now.program.start }
@@ -67,7 +68,7 @@ pub fn channel(plan: &Plan, own: &[u32]) -> u32
     value_of(program.finish(), reading_messages(own, 0, 0))
 }
 
-/// What a node with these registers sends to its left in a round. Rounds count from 0.
+/// Returns the message of a node with these registers to its left in a round. Rounds count from 0.
 #[tactic(auto, unfolding(node_lang::specs::Node::to_left))]
 pub fn sent_to_left(plan: &Plan, round: u32, own: &[u32]) -> u32
     requires { round < length plan.now.program.steps }
@@ -80,7 +81,7 @@ pub fn sent_to_left(plan: &Plan, round: u32, own: &[u32]) -> u32
     )
 }
 
-/// What a node with these registers sends to its right in a round.
+/// Returns the message of a node with these registers to its right in a round. Rounds count from 0.
 #[tactic(auto, unfolding(node_lang::specs::Node::to_right))]
 pub fn sent_to_right(plan: &Plan, round: u32, own: &[u32]) -> u32
     requires { round < length plan.now.program.steps }
@@ -93,7 +94,7 @@ pub fn sent_to_right(plan: &Plan, round: u32, own: &[u32]) -> u32
     )
 }
 
-// A node that reads its registers and what came from its left and from its right.
+// What an expression reads in a round: the registers and both messages.
 fn reading_messages(registers: &[u32], left: u32, right: u32) -> View<'_>
     ensures id { result.id ≡ 0 }
     ensures left { result.left ≡ left }

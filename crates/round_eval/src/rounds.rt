@@ -10,8 +10,8 @@ use node_lang::OutOfMemory;
 use std::alloc::Global;
 use win_index::{MAX_IDS, Ring};
 
-/// The channels of a ring after all rounds of a plan, in the order of the places: in each round all nodes
-/// send, and then all of them step. The ring has the plan's shape.
+/// Runs all rounds of a plan on a ring of its shape, and returns the channels in the order of the
+/// places. In each round all nodes send, and then all of them step.
 pub fn plain_run(alloc: Global, plan: &Plan, ring: &Ring) -> Result<Vec<u32>, OutOfMemory>
     requires ids { ring.now.ids ≡ plan.now.ids }
     requires rounds { ring.now.rounds ≡ length plan.now.program.steps }
@@ -26,14 +26,14 @@ pub fn plain_run(alloc: Global, plan: &Plan, ring: &Ring) -> Result<Vec<u32>, Ou
     Ok(channels)
 }
 
-// A list of zeros.
 fn zeros(alloc: Global, len: usize) -> Result<Vec<u32>, OutOfMemory>
     ensures { IfOk result (λ cells. length cells.items ≡ len) }
 {
     vec![in alloc; 0; len].map_err(|_| OutOfMemory)
 }
 
-// Writes the channels of the nodes of a ring after all rounds. The others have a row for each node.
+// Writes the channels of a ring after all rounds. `states` and `next` are scratch, with a row of
+// registers for each node.
 fn run_rounds(plan: &Plan, ids: &[u32], states: &mut [u32], next: &mut [u32], channels: &mut [u32])
     requires below { All (λ id. id < plan.now.ids) ids.now }
     requires some { 2 ≤ length ids.now }
@@ -55,7 +55,6 @@ fn run_rounds(plan: &Plan, ids: &[u32], states: &mut [u32], next: &mut [u32], ch
     channel_all(plan, states, channels);
 }
 
-// Writes the channel of each node of a row.
 #[tactic(auto, using(std::proofs::lemmas::Nat::row_fits))]
 fn channel_all(plan: &Plan, states: &[u32], channels: &mut [u32])
     requires { length channels.old * length plan.now.program.start ≤ length states.now }

@@ -1,4 +1,5 @@
-// Rows of nodes. Their registers stand row by row in one list, a cell for each register.
+// Rows of nodes. Their registers are one list, the cells of each node after those of the node
+// before.
 ghost use Rattle.std.specs.Prelude.{◌≡◌, ℕ, ◌+◌, ◌*◌, ◌<◌, ◌≤◌, map, length, slice_index_or, All, [], ◌∷◌, ◌++◌};
 ghost use Rattle.node_lang.specs.Node as rounds;
 ghost use Rattle.round_eval.specs.Rows.{row_after, rows};
@@ -8,7 +9,7 @@ use lang_check::Plan;
 use node_lang::{MAX_REGISTERS, MAX_ROUNDS};
 use win_index::MAX_IDS;
 
-/// The number of registers of a plan's program, as the width of a row.
+/// Returns the number of registers of a plan's program, which is the width of a row of cells.
 pub fn width_of(plan: &Plan) -> usize
     ensures value { result ≡ length plan.now.program.start }
     ensures some { 1 ≤ result }
@@ -19,7 +20,8 @@ pub fn width_of(plan: &Plan) -> usize
     program.registers() as usize
 }
 
-/// The cells of one row, where each row has this width. With the rows before it they are one row more.
+/// Returns the cells of the row at `place`, for rows of this width. Appended to the rows before it,
+/// they are one row more.
 #[tactic(auto, using(crate::proofs::RowLemmas::row_is, crate::proofs::RowLemmas::rows_more))]
 pub fn row_at(cells: &[u32], width: usize, place: usize) -> &[u32]
     requires { place * width + width ≤ length cells.now }
@@ -30,7 +32,7 @@ pub fn row_at(cells: &[u32], width: usize, place: usize) -> &[u32]
     &cells[place * width..place * width + width]
 }
 
-/// Writes what each node of a row holds before the first round, by their identifiers.
+/// Writes the registers of each node of a row before the first round, from their identifiers.
 #[tactic(auto, using(std::proofs::lemmas::Nat::row_fits))]
 pub fn start_of_row(plan: &Plan, ids: &[u32], states: &mut [u32])
     requires below { All (λ id. id < plan.now.ids) ids.now }
@@ -44,8 +46,8 @@ pub fn start_of_row(plan: &Plan, ids: &[u32], states: &mut [u32])
     }
 }
 
-/// Writes what each node of a row of this many nodes holds after a round into `out`: `from_left` was sent to the
-/// first of them in that round, `from_right` to the last one. Rounds count from 0.
+/// Writes the registers of each node of a row after a round to `out`: `from_left` is the message to
+/// the first node in that round, `from_right` the one to the last. Rounds count from 0.
 #[tactic(auto, using(std::proofs::lemmas::Nat::row_fits))]
 pub fn round_of_row(
     plan: &Plan,

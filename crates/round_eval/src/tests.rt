@@ -26,7 +26,7 @@ fn choose(alloc: Global, c: u32, a: u32, b: u32) -> Result<Expr, AllocError> {
     Ok(Expr::Choose(c, a, b))
 }
 
-// The value of an expression at a node that knows nothing.
+// The value of an expression that can read nothing but zeros.
 fn value(expression: &Expr) -> u32 {
     let view = View {
         id: 0,
