@@ -1,4 +1,4 @@
--- Command lines whose subcommands have plain options, and what it is that such an option has a value.
+-- Command lines whose subcommands have plain options, and when such an option has a value.
 use Rattle.std.specs.Prelude.{◌≡◌, ◌⊎◌, ◌&&◌, ◌||◌, Bool, true, false, not, List, [], ◌∷◌, Some, ⊤, nat_lt, codes}
 use Rattle.std.specs.List.{list_all, list_any}
 use Rattle.std.specs.Option.{option_map_or}

@@ -1,4 +1,5 @@
-//! Where `clap` takes the words of a command line, the options of the subcommand that was met have their values.
+//! If `clap` accepts the words of a command line, the options of the given subcommand have their
+//! values.
 #![tactic(auto)]
 
 mod laws;
