@@ -1,4 +1,4 @@
--- The exit status after a fault of the engine.
+-- Exit statuses after faults of the engine.
 use Rattle.std.specs.Prelude.{ℕ}
 use Rattle.devices.specs.declared.fault.EngineFault.{EngineFault}
 use Rattle.devices.specs.declared.fault.EngineFault.TheVariants.{Read, Write, Memory, Thread, Stranger}

@@ -1,4 +1,4 @@
--- A reader or a writer with a note that tells how often it was called, and whether a call of it failed.
+-- A reader or a writer with the count of its calls, and a note of a failed one.
 use Rattle.std.specs.Prelude.{◌≡◌, ℕ, Bool, true, Result, MatchResult}
 use Rattle.devices.specs.declared.watched.Watched.{Watched}
 
@@ -14,6 +14,6 @@ has_failed watched = watched.failed
 abbrev pub calls_of : {D : Type 0} → Watched D → ℕ
 calls_of watched = watched.calls
 
--- a call that failed is noted, and one that did not leaves the note as it was
+-- a failed call is noted, and any other leaves the note as it was
 abbrev pub Notes : {T E : Type 0} → Result T E → Bool → Bool → Type 0
 Notes result old new = MatchResult result (λ _. new ≡ old) (λ _. new ≡ true)

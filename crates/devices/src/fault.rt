@@ -1,4 +1,4 @@
-//! Why no whole report was written.
+//! Faults of the engine and of its output.
 
 ghost use Rattle.std.specs.Prelude.{◌≡◌};
 ghost use Rattle.devices.specs.declared.fault.EngineFault.TheVariants.{Memory};
@@ -8,7 +8,7 @@ use node_lang::OutOfMemory;
 use std::alloc::AllocError;
 use thiserror::Error;
 
-/// Why no whole report was written.
+/// Why a report was not written completely.
 #[derive(Clone, Copy, Debug, PartialEq, Eq, Error)]
 pub enum EngineFault {
     /// A read of the input failed.
@@ -23,7 +23,8 @@ pub enum EngineFault {
     /// The start of a thread was refused.
     #[error("nbhd: no thread")]
     Thread,
-    /// What threads share held another's part, or none where one was put.
+    /// A cell or a border that threads share held an unexpected value, or nothing where a value was
+    /// put.
     #[error("nbhd: stranger")]
     Stranger,
 }
@@ -31,7 +32,7 @@ pub enum EngineFault {
 impl EngineFault {
     ghost use Rattle.devices.specs.FaultCodes.{engine_fault_code};
 
-    /// The exit status of the process: 5 after a failed read or write, else 6.
+    /// Returns the exit status of the process: 5 after a failed read or write, else 6.
     pub fn code(self) -> u8
         ensures { result ≡ engine_fault_code self }
     {
@@ -58,7 +59,7 @@ impl From<OutOfMemory> for EngineFault {
     }
 }
 
-/// Why a table's text did not go out whole.
+/// Why a table text was not written completely.
 #[derive(Clone, Copy, Debug, PartialEq, Eq, Error)]
 pub enum OutFault {
     /// A write failed, or took no byte.

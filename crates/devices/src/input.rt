@@ -9,12 +9,14 @@ use crate::watched::Watched;
 use std::alloc::Global;
 use std::io::Read;
 
-/// How many bytes are asked for in one read at most.
+/// The maximum number of bytes requested in one read.
 const CHUNK: usize = 4096;
 
-/// Reads the whole input, or its first `limit + 1` bytes where it is longer, in at most `limit + 1`
-/// reads. `Read` comes exactly where a read failed, and `Memory` where memory was refused; up to
-/// `limit + 1` bytes were then taken from the reader.
+/// Reads the whole input, or the first `limit + 1` bytes of a longer one, in at most `limit + 1`
+/// reads.
+///
+/// Fails with `Read` exactly if a read failed, and with `Memory` if memory was refused; in both
+/// cases up to `limit + 1` bytes were taken from the reader.
 pub fn read_input<R: Read>(
     alloc: Global,
     reader: &mut Watched<R>,

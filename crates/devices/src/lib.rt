@@ -1,4 +1,4 @@
-//! The reader of the input and the writer of the report, and what is noted of them.
+//! The reader of the input and the writer of the report, with a note of their calls and failures.
 #![tactic(auto)]
 
 pub mod fault;

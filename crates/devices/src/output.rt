@@ -9,8 +9,10 @@ use crate::fault::EngineFault;
 use crate::watched::Watched;
 use std::io::Write;
 
-/// Writes all the bytes. `Write` comes exactly where a write failed or took no byte; a front of the
-/// bytes was then written, and nothing else.
+/// Writes all the bytes.
+///
+/// Fails with `Write` exactly if a write failed or took no byte; a prefix of the bytes was then
+/// written, and nothing else.
 pub fn send<W: Write>(writer: &mut Watched<W>, bytes: &[u8]) -> Result<(), EngineFault>
     requires { has_failed writer.old ≡ false }
     ensures ok { OnOk result (Appends (W.contents (device_of writer.old))

@@ -1,4 +1,4 @@
-//! A reader or a writer with a note that tells how often it was called, and whether a call of it failed.
+//! Readers and writers that count their calls and note a failed one.
 
 ghost use Rattle.std.specs.Prelude.{◌≡◌, ◌+◌, ◌<◌, false, length, min, IfOk, IfErr};
 ghost use Rattle.std.specs.Io.{ReadsAtMost, WritesAtMost};
@@ -8,7 +8,7 @@ ghost use Rattle.devices.specs.Watched.{device_of, has_failed, calls_of, Notes};
 use crate::fault::EngineFault;
 use std::io::{Read, Write};
 
-/// A reader or a writer with a note that tells how many reads and writes it was asked for, and whether one of them failed.
+/// A reader or a writer that counts its reads and writes, and notes whether one of them failed.
 #[derive(Drop)]
 pub struct Watched<D> {
     device: D,
@@ -17,7 +17,7 @@ pub struct Watched<D> {
 }
 
 impl<D> Watched<D> {
-    /// A device that was not called yet.
+    /// Wraps a device that was not called yet.
     pub fn new(device: D) -> Watched<D>
         ensures device { device_of result ≡ device }
         ensures working { has_failed result ≡ false }
@@ -30,21 +30,21 @@ impl<D> Watched<D> {
         }
     }
 
-    /// Whether a read or a write of the device failed.
+    /// Returns whether a read or a write of the device failed.
     pub fn failed(&self) -> bool
         ensures { result ≡ has_failed self.now }
     {
         self.failed
     }
 
-    /// How many reads and writes the device was asked for. The count stops at the greatest `usize`.
+    /// Returns the number of reads and writes of the device. The count stops at `usize::MAX`.
     pub fn calls(&self) -> usize
         ensures { result ≡ calls_of self.now }
     {
         self.calls
     }
 
-    /// The device, without the note.
+    /// Returns the device, without the note.
     pub fn into_device(self) -> D
         ensures { result ≡ device_of self }
     {
@@ -58,8 +58,10 @@ impl<D> Watched<D> {
 }
 
 impl<R: Read> Watched<R> {
-    /// Reads into `buffer` once, and says how many bytes came: 0 only at the end of what the device
-    /// has, or where `buffer` is empty. An error of the device is noted, and is `Read`. No call has failed before.
+    /// Reads into `buffer` once and returns the number of bytes read: 0 only at the end of what the
+    /// device has, or if `buffer` is empty.
+    ///
+    /// An error of the device is noted, and returned as `Read`. No call may have failed before.
     pub fn read(&mut self, buffer: &mut [u8]) -> Result<usize, EngineFault>
         requires working { has_failed self.old ≡ false }
         ensures bound { ReadsAtMost result buffer.new }
@@ -81,9 +83,11 @@ impl<R: Read> Watched<R> {
 }
 
 impl<W: Write> Watched<W> {
-    /// Writes from the front of `bytes` once, and says how many were taken: 0 only where `bytes` is
-    /// empty. An error of the device is noted, and so is an answer of 0 at bytes that are not empty;
-    /// both are `Write`, and nothing was written. No call has failed before.
+    /// Writes from the start of `bytes` once and returns the number of bytes taken: 0 only if
+    /// `bytes` is empty.
+    ///
+    /// An error of the device is noted and returned as `Write`, and so is an answer of 0 to bytes
+    /// that are not empty; nothing was written then. No call may have failed before.
     pub fn write(&mut self, bytes: &[u8]) -> Result<usize, EngineFault>
         requires working { has_failed self.old ≡ false }
         ensures bound { WritesAtMost result bytes.now }
