@@ -3,10 +3,10 @@ use Rattle.std.specs.Prelude.{ℕ, ◌+◌, ◌*◌, ◌/◌, ◌%◌, min, leng
 use Rattle.win_index.specs.Windows.{windows}
 use Rattle.win_index.specs.declared.limits.TheConstants.{BLOCK_WINDOWS}
 
--- how many windows of level r there are
+-- the number of windows of level r
 abbrev pub window_count : ℕ → ℕ → ℕ
 window_count m r = length (windows (2 * r + 1) m)
 
--- how many blocks the windows of level r fill: the full ones, and one for the rest where there is a rest
+-- the number of blocks of level r: the full ones, and one more if windows are left
 abbrev pub block_count : ℕ → ℕ → ℕ
 block_count m r = window_count m r / BLOCK_WINDOWS + min 1 (window_count m r % BLOCK_WINDOWS)

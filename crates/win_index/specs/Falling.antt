@@ -1,4 +1,4 @@
--- How many windows there are, as a product.
+-- The number of windows as a product.
 use Rattle.std.specs.Prelude.{ℕ, zero, suc, ◌-◌, ◌*◌}
 
 -- m (m-1) .. (m-k+1), a product of k numbers

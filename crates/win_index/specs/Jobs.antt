@@ -15,6 +15,6 @@ jobs_of m t = flat_map (level_jobs m) (range_with_len 0 (t + 1))
 abbrev pub is_job : ℕ → ℕ → ℕ × ℕ → Bool
 is_job level block job = (job.0 == level) && (job.1 == block)
 
--- the number of the job for a block of a level is its position among the jobs; where there is no such block there is none
+-- the number of the job for a block of a level: its position among the jobs, or none if there is no such block
 unfoldable pub job_number : ℕ → ℕ → ℕ → ℕ → Option ℕ
 job_number m t level block = position (is_job level block) (jobs_of m t)

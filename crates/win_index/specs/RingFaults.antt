@@ -1,4 +1,4 @@
--- What is wrong first with a list that is no ring.
+-- The first fault of a list that is no ring.
 use Rattle.std.specs.Prelude.{◌≡◌, ℕ, ◌+◌, ◌*◌, ◌<◌, ◌≤◌, List, length, take, slice_index}
 use Rattle.win_index.specs.Windows.{IsWindow}
 use Rattle.win_index.specs.declared.ring.RingFault.{RingFault}
@@ -13,7 +13,7 @@ pub record HasRingLength (m t : ℕ) (x : List ℕ) : Type 0 where
 abbrev pub HasNoFaultBefore : ℕ → ℕ → List ℕ → Type 0
 HasNoFaultBefore p m x = IsWindow p m (take p x)
 
--- the length is judged first, then each place in order: an identifier that is too large, then one that stood before
+-- the length is checked first, then each place in order: an identifier that is too large, then one that occurs before
 abbrev pub IsFirstFault : ℕ → ℕ → List ℕ → RingFault → Type 0
 IsFirstFault m t x TooShort = length x < 2 * t + 2
 IsFirstFault m t x TooLong = (2 * t + 2 ≤ length x) × (m < length x)

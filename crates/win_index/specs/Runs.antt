@@ -1,46 +1,47 @@
--- Runs: the windows that share all identifiers but the last stand together, in the order of their last identifiers.
+-- Runs: the windows with a common prefix, all identifiers but the last. They are consecutive, in the order of their
+-- last identifiers.
 use Rattle.std.specs.Prelude.{◌≡◌, ℕ, ◌+◌, ◌-◌, ◌<◌, ◌≤◌, List, take, drop, set, length, slice_index, slice_get, Some}
 use Rattle.win_index.specs.Windows.{unused, windows, IsWindow}
 use Rattle.win_index.specs.declared.series.RunPlaces.{RunPlaces}
 
--- The windows of length k+1 below m that begin with the k identifiers of the front stand from number `first` on, as many as the front lacks
--- identifiers, each at the place of its last identifier among these.
+-- The windows of length k+1 below m with this prefix of k identifiers are those from number `first` on, as many as the
+-- prefix lacks identifiers, each at the position of its last identifier among these.
 pub record IsRunStart (k m : ℕ) (front : List ℕ) (first : ℕ) : Type 0 where
   pub within : first + (m - k) ≤ length (windows (k + 1) m)
   pub each : (window : List ℕ) → IsWindow (k + 1) m window → take k window ≡ front
       → slice_get (windows (k + 1) m) (first + length (unused (slice_index window k) front)) ≡ Some window
 
--- No window of length k below m that has the same numbers but for the last has a larger one there.
+-- No window of length k below m with the same prefix has a larger last number.
 abbrev pub IsLastOfRun : ℕ → ℕ → List ℕ → Type 0
 IsLastOfRun k m window = (x : ℕ) → IsWindow k m (set window (k - 1) x) → x ≤ slice_index window (k - 1)
 
--- the last window of length k below m that has the same numbers as this one but for the last
+-- the last window of length k below m with the same prefix as this one, all numbers but the last
 pub record IsEndOfSame (k m : ℕ) (window last : List ℕ) : Type 0 where
   pub last_is : IsWindow k m last
   pub same : take (k - 1) last ≡ take (k - 1) window
   pub none_larger : IsLastOfRun k m last
 
--- A series of windows of length k+2 below m, as many as count: they follow one another and share all identifiers but the last, and their last
--- parts, the windows of length k without the first two identifiers, follow one another too.
+-- A series of `count` windows of length k+2 below m: they are consecutive and share all identifiers but the last, and
+-- their suffixes, the windows of length k without the first two identifiers, are consecutive too.
 abbrev pub IsSeries : ℕ → ℕ → List ℕ → ℕ → Type 0
 IsSeries k m first count =
     (n low j : ℕ) → slice_get (windows (k + 2) m) n ≡ Some first → slice_get (windows k m) low ≡ Some (drop 2 first) → j < count
     → (window : List ℕ) × (slice_get (windows (k + 2) m) (n + j) ≡ Some window) × (take (k + 1) window ≡ take (k + 1) first)
     × (slice_get (windows k m) (low + j) ≡ Some (drop 2 window))
 
--- Where the number x stands among those that a window of length k+2 lacks without its last and its first two identifiers: the window's last part
--- stands there, with its last identifier for x, among the windows of length k that begin as it does.
+-- The position of the number x among those that a window of length k+2 lacks without its last and its first two
+-- identifiers. It is the position of the window's suffix, with x for its last identifier, in the run of that suffix.
 abbrev pub place_in_run : ℕ → List ℕ → ℕ → ℕ
 place_in_run k window x = length (unused x (drop 2 (take (k + 1) window)))
 
--- the last parts of the windows that begin as this one does, all identifiers but the last, stand at all places below the end but at the two gaps:
--- there its own first two identifiers would come again
+-- the suffixes of the windows of a run have all positions below the end but the two gaps, where the run's first two
+-- identifiers would occur again
 pub record HasPlaces (k m : ℕ) (window : List ℕ) (places : RunPlaces) : Type 0 where
   pub first : place_in_run k window (slice_index window 0) ≡ places.first_gap
   pub second : place_in_run k window (slice_index window 1) ≡ places.second_gap
   pub end : place_in_run k window m ≡ places.end
 
--- a window of length k+2 below m whose run has these places, and whose last part stands at this one
+-- a window of length k+2 below m whose run has these positions, and whose suffix has this one
 pub record IsAtPlace (k m : ℕ) (places : RunPlaces) (window : List ℕ) (place : ℕ) : Type 0 where
   pub window_is : IsWindow (k + 2) m window
   pub run_has : HasPlaces k m window places

@@ -1,4 +1,4 @@
--- Which numbers of identifiers and rounds make a shape.
+-- The numbers of identifiers and rounds that are a shape.
 use Rattle.std.specs.Prelude.{ℕ, ◌+◌, ◌*◌, ◌≤◌, length}
 use Rattle.win_index.specs.declared.limits.TheConstants.{MAX_IDS, MAX_WINDOWS}
 use Rattle.win_index.specs.Windows.{windows}

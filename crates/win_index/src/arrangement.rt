@@ -7,7 +7,7 @@ ghost use Rattle.win_index.specs.Falling.{falling};
 ghost use Rattle.win_index.specs.Runs.{IsRunStart, IsLastOfRun, IsEndOfSame};
 ghost use Rattle.win_index.specs.Successor.{IsNext, IsLast};
 
-// The lists of one length, in order. Their number has at most 64 bits.
+// The lists of one length, in order. There are fewer than 2^64 of them.
 #[derive(Clone, Copy)]
 pub(crate) struct Lists {
     pub(crate) ids: u32,
@@ -17,7 +17,7 @@ pub(crate) struct Lists {
 }
 
 impl Lists {
-    // How many there are.
+    // The number of lists.
     pub(crate) fn count(self) -> u64
         ensures value { result ≡ length (windows self.len self.ids) }
         ensures some { 0 < result }
@@ -30,7 +30,7 @@ impl Lists {
         count
     }
 
-    // The number of a list that is known to be one of them.
+    // The number of a list, which must be one of these.
     pub(crate) fn number(self, list: &[u32]) -> u64
         requires { IsWindow self.len self.ids list.now }
         ensures item { slice_get (windows self.len self.ids) result ≡ Some list.now }
@@ -46,7 +46,7 @@ impl Lists {
         number
     }
 
-    // The number of a list, or `None` where it is none of them.
+    // The number of a list, or `None` if it is not one of these.
     pub(crate) fn find(self, list: &[u32]) -> Option<u64>
         ensures number { result ≡ number_of self.len self.ids list.now }
         ensures below { IfSome result (λ n. n < length (windows self.len self.ids)) }
@@ -69,7 +69,7 @@ impl Lists {
         write_list(self.ids, number, out, self.len);
     }
 
-    // Writes the next list over this one, or says that it is the last.
+    // Replaces the list by the next one, or returns `false` if it is the last.
     pub(crate) fn write_next(self, list: &mut [u32]) -> bool
         requires { IsWindow self.len self.ids list.old }
         ensures next { OnTrue result (IsNext self.len self.ids list.old list.new) }
@@ -80,7 +80,8 @@ impl Lists {
         write_next(self.ids, list, self.len)
     }
 
-    // Writes the next list over this one where only the last number differs, or says that there is none such.
+    // Replaces the list by the next one with the same prefix, which differs in the last number
+    // alone, or returns `false` if there is none.
     pub(crate) fn write_next_in_run(self, list: &mut [u32]) -> bool
         requires some { 1 ≤ self.len }
         requires window { IsWindow self.len self.ids list.old }
@@ -100,7 +101,8 @@ impl Lists {
         true
     }
 
-    // Writes the next list that differs before the last number over this one, or says that there is none such.
+    // Replaces the list by the next one with another prefix, which differs before the last number,
+    // or returns `false` if there is none.
     pub(crate) fn write_next_run(self, list: &mut [u32]) -> bool
         requires some { 1 ≤ self.len }
         requires window { IsWindow self.len self.ids list.old }
@@ -119,7 +121,7 @@ impl Lists {
         true
     }
 
-    // The number of the first list with one number more that begins with this one.
+    // The number of the first list with this prefix, among the lists that are one number longer.
     pub(crate) fn run_start(self, front: &[u32]) -> u64
         requires front { IsWindow self.len self.ids front.now }
         requires longer { self.len < self.ids }
@@ -131,7 +133,7 @@ impl Lists {
     }
 }
 
-// Whether at most `most` lists of this length are there.
+// Whether there are at most `most` lists of this length.
 pub(crate) fn are_few(ids: u32, len: usize, most: u32) -> bool
     requires { len ≤ ids }
     ensures { IsTrue result ↔ (length (windows len ids) ≤ most) }
@@ -159,7 +161,8 @@ fn is_window(ids: u32, list: &[u32]) -> bool
     true
 }
 
-// How many of the numbers are below x. A test is added as a number, since a jump would often be foreseen wrongly.
+// The number of elements below `x`. The tests are added up, since branches on them would often be
+// mispredicted.
 fn smaller_before(before: &[u32], x: u32) -> usize
     ensures { result ≡ count_by (λ y. nat_lt y x) before.now }
 {
@@ -170,7 +173,7 @@ fn smaller_before(before: &[u32], x: u32) -> usize
     count
 }
 
-// How many numbers below x are not among the distinct ones before.
+// The number of values below `x` that are not in `before`, whose elements are distinct.
 pub(crate) fn unused_below(before: &[u32], x: u32) -> u64
     requires { AllPairs (λ a b. a ≢ b) before.now }
     ensures { result ≡ length (unused x before.now) }
@@ -178,21 +181,22 @@ pub(crate) fn unused_below(before: &[u32], x: u32) -> u64
     u64::from(x) - smaller_before(before, x) as u64
 }
 
-// The least number from `low` on that is below `ids` and not among those before.
+// The least value from `low` on that is below `ids` and not in `before`.
 fn least_unused(ids: u32, before: &[u32], low: u32) -> Option<u32>
     ensures { result ≡ find (λ x. not (is_used before.now x)) (range_with_len low (ids - low)) }
 {
     (low..ids).find(|x| !stands_in(before, *x))
 }
 
-// Whether the number stands in the list, which is short.
+// Whether the list contains the value; lists are short.
 fn stands_in(list: &[u32], x: u32) -> bool
     ensures { result ≡ is_used list.now x }
 {
     list.iter().any(|y| *y == x)
 }
 
-// The number below `ids` that stands at this place of those that are not among the distinct ones before.
+// The value at this index among those below `ids` that are not in `before`, whose elements are
+// distinct.
 pub(crate) fn nth_unused(ids: u32, before: &[u32], place: u64) -> u32
     requires distinct { AllPairs (λ a b. a ≢ b) before.now }
     requires place { place < length (unused ids before.now) }
@@ -207,7 +211,7 @@ pub(crate) fn nth_unused(ids: u32, before: &[u32], place: u64) -> u32
     end - 1
 }
 
-// Writes the list with this number, of those of `len` numbers, into the first `len` cells.
+// Writes the list of `len` numbers with this number into the first `len` cells.
 fn write_list(ids: u32, number: u64, list: &mut [u32], len: usize)
     requires room { len ≤ length list.old }
     requires below { number < length (windows len ids) }
@@ -223,7 +227,7 @@ fn write_list(ids: u32, number: u64, list: &mut [u32], len: usize)
     list[last] = nth_unused(ids, &list[..last], number % free);
 }
 
-// Writes the next list over the one in the first `len` cells, or says that it is the last.
+// Replaces the list in the first `len` cells by the next one, or returns `false` if it is the last.
 fn write_next(ids: u32, list: &mut [u32], len: usize) -> bool
     requires room { len ≤ length list.old }
     requires window { IsWindow len ids (take len list.old) }

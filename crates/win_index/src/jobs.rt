@@ -6,8 +6,8 @@ impl Shape {
     ghost use Rattle.win_index.specs.Blocks.{block_count};
     ghost use Rattle.win_index.specs.Jobs.{jobs_of, job_number as number_of_job};
 
-    /// How many blocks the windows of this level fill, `BLOCK_WINDOWS` a block. Block `b` holds the windows from number
-    /// `BLOCK_WINDOWS * b` on; the last block may hold fewer than `BLOCK_WINDOWS`.
+    /// Returns the number of blocks of this level. Block `b` holds the windows from number
+    /// `BLOCK_WINDOWS * b` on, `BLOCK_WINDOWS` of them; the last block may hold fewer.
     pub fn blocks(&self, level: u32) -> u32
         requires { level ≤ self.now.rounds }
         ensures value { result ≡ block_count self.now.ids level }
@@ -16,7 +16,7 @@ impl Shape {
         self.count(level).div_ceil(BLOCK_WINDOWS)
     }
 
-    /// How many jobs there are: one for each block of each level from 0 to `t`.
+    /// Returns the number of jobs: one for each block of each level from 0 to `t`.
     pub fn jobs(&self) -> u32
         ensures value { result ≡ length (jobs_of self.now.ids self.now.rounds) }
         ensures few { result ≤ (MAX_ROUNDS + 1) * MAX_BLOCKS }
@@ -28,7 +28,8 @@ impl Shape {
         jobs
     }
 
-    /// The level and the block of a job. Jobs are numbered by level from 0, then by block.
+    /// Returns the level and the block of a job. Jobs are in the order of their levels, then of
+    /// their blocks.
     pub fn job(&self, number: u32) -> (u32, u32)
         requires { number < length (jobs_of self.now.ids self.now.rounds) }
         ensures job { slice_get (jobs_of self.now.ids self.now.rounds) number ≡ Some result }
@@ -46,7 +47,7 @@ impl Shape {
         unreachable!()
     }
 
-    /// The number of the job for a block of a level, or `None` where there is no such block.
+    /// Returns the number of the job for a block of a level, or `None` if there is no such block.
     pub fn job_number(&self, level: u32, block: u32) -> Option<u32>
         ensures number { result ≡ number_of_job self.now.ids self.now.rounds level block }
         ensures below { IfSome result (λ n. n < length (jobs_of self.now.ids self.now.rounds)) }

@@ -1,6 +1,6 @@
 ghost use Rattle.win_index.specs.Laws as law;
 
-/// The number of the window at a number is that number.
+/// The window with number `n` has number `n`.
 #[tactic(auto, using(crate::proofs::Positions::number_of_is))]
 pub fn number_of_window()
     ensures { law.NumberOfWindow }
@@ -12,46 +12,46 @@ pub fn window_of_number()
     ensures { law.WindowOfNumber }
 {}
 
-/// A list has a number where it is a list of `k` distinct numbers below `m`, and only there.
+/// A list has a number if and only if its elements are `k` distinct numbers below `m`.
 pub fn windows_have_numbers()
     ensures { law.WindowsHaveNumbers }
 {}
 
-/// The windows stand in lexicographic order.
+/// The windows are in lexicographic order.
 pub fn windows_are_in_order()
     ensures { law.WindowsAreInOrder }
 {}
 
-/// The windows of length `k` below `m` are as many as the product of the `k` numbers from `m` down.
+/// There are `m (m-1) .. (m-k+1)` windows of length `k` below `m`, a product of `k` numbers.
 pub fn count_of_windows()
     ensures { law.CountOfWindows }
 {}
 
-/// The windows of `k+1` identifiers that begin with one window of `k` stand together, in the order of their last
-/// identifiers.
+/// The windows of `k+1` identifiers with the same first `k` are consecutive, in the order of their
+/// last identifiers.
 pub fn longer_windows_have_numbers()
     ensures { law.LongerWindowsHaveNumbers }
 {}
 
-/// What stands around a place of a ring is a window.
+/// The identifiers around a place of a ring are a window.
 pub fn rings_have_windows()
     ensures { law.RingsHaveWindows }
 {}
 
-/// A list of `2t+1+step` distinct identifiers, taken as a ring, has its first window at place `t` and its
-/// last one at place `t+step`.
+/// A list of `2t+1+extra` distinct identifiers, taken as a ring, has its own windows at the places `t`
+/// to `t+extra`.
 pub fn tuples_are_rings()
     ensures { law.TuplesAreRings }
 {}
 
-/// What stands from `t` places to the left of a place of a ring to `t+step` places to its right is a list
-/// of distinct identifiers, with the windows of both places.
+/// The identifiers from `t` places to the left of a place of a ring to `t+extra` places to its right
+/// are distinct, and contain the windows of this place and of the `extra` places after it.
 pub fn rings_have_tuples()
     ensures { law.RingsHaveTuples }
 {}
 
-/// An arc has as many identifiers as were asked for; the `k`-th is that of the place `k` further than its
-/// start, round the ring.
+/// An arc has the requested number of identifiers; the `k`-th is that of the place `k` steps after
+/// its start, around the ring.
 pub fn places_of_arcs()
     ensures length { law.LengthOfArcs }
     ensures item { law.ItemsOfArcs }
@@ -62,8 +62,8 @@ pub fn blocks_are_few()
     ensures { law.BlocksAreFew }
 {}
 
-/// A job stands at its number and nowhere else. A block of a level has a job exactly where the level is at
-/// most the number of rounds and the block is below the number of the level's blocks.
+/// Each job is at its number and nowhere else. A block of a level has a job if and only if the
+/// level is at most the number of rounds and the block is below the level's number of blocks.
 pub fn jobs_have_numbers()
     ensures at { law.JobsStandAtNumbers }
     ensures exact { law.BlocksHaveJobs }

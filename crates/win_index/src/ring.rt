@@ -4,7 +4,7 @@ use crate::limits::MAX_IDS;
 use crate::shape::Shape;
 use std::marker::Model;
 
-/// What is wrong with a list of identifiers that is no ring of a shape.
+/// Why a list of identifiers is not a ring of a shape.
 #[derive(Clone, Copy, Debug, PartialEq, Eq)]
 pub enum RingFault {
     /// G1: fewer than `2t+2` places.
@@ -13,7 +13,7 @@ pub enum RingFault {
     TooLong,
     /// G3: the place of an identifier that is not below the number of identifiers.
     IdTooLarge(u32),
-    /// G4: two places with one identifier, the earlier one first.
+    /// G4: two places with the same identifier, the earlier one first.
     Repeated(u32, u32),
 }
 
@@ -40,8 +40,8 @@ impl Ring {
     ghost use Rattle.win_index.specs.Arcs.{window_around};
     ghost use Rattle.win_index.specs.RingFaults.{IsFirstFault};
 
-    /// The ring of these identifiers, or the list and what is wrong with it first: its length, else
-    /// the least place whose identifier is too large or stood before.
+    /// Makes a ring of these identifiers, or returns the list and its first fault: its length, or
+    /// else the least place whose identifier is too large or occurs before it.
     pub fn new(shape: Shape, ids: Vec<u32>) -> Result<Ring, (Vec<u32>, RingFault)>
         ensures ok { IfOk result (λ ring. ring ≡ record { ids = shape.ids; rounds = shape.rounds; places = ids.items }) }
         ensures exact { IsOk result ↔ IsRing shape.ids shape.rounds ids.items }
@@ -53,7 +53,7 @@ impl Ring {
         }
     }
 
-    /// The shape that the ring was made for.
+    /// Returns the shape that the ring was made for.
     pub fn shape(&self) -> Shape
         ensures ids { result.ids ≡ self.now.ids }
         ensures rounds { result.rounds ≡ self.now.rounds }
@@ -62,7 +62,7 @@ impl Ring {
         self.shape
     }
 
-    /// The number of places, `2t+2` to `MAX_IDS`.
+    /// Returns the number of places, `2t+2` to `MAX_IDS`.
     pub fn len(&self) -> u32
         ensures value { result ≡ length self.now.places }
         ensures valid { IsRing self.now.ids self.now.rounds self.now.places }
@@ -71,7 +71,7 @@ impl Ring {
         self.ids.len() as u32
     }
 
-    /// The identifiers, from place 0 on.
+    /// Returns the identifiers, from place 0 on.
     pub fn ids(&self) -> &[u32]
         ensures value { result.now ≡ self.now.places }
         ensures valid { IsRing self.now.ids self.now.rounds self.now.places }
@@ -80,7 +80,7 @@ impl Ring {
         &self.ids
     }
 
-    /// The identifier of a place.
+    /// Returns the identifier of a place.
     pub fn id(&self, place: u32) -> u32
         requires { place < length self.now.places }
         ensures { slice_get self.now.places place ≡ Some result }
@@ -88,15 +88,15 @@ impl Ring {
         self.ids[place as usize]
     }
 
-    /// Whether the two rings have one shape and the same identifiers from place 0 on.
+    /// Returns whether the two rings have the same shape and the same identifiers from place 0 on.
     pub fn same(&self, other: &Ring) -> bool
         ensures { IsTrue result ↔ (self.now ≡ other.now) }
     {
         self.ids.as_slice() == other.ids.as_slice() && self.shape == other.shape
     }
 
-    /// Writes the window of level `r` at a place, which is the identifiers from `r` places to its left to
-    /// `r` places to its right, into the `2r+1` cells of `out`.
+    /// Writes the window of level `r` at a place to the `2r+1` cells of `out`: the identifiers from
+    /// `r` places to its left to `r` places to its right.
     pub fn window_at(&self, place: u32, level: u32, out: &mut [u32])
         requires place { place < length self.now.places }
         requires level { level ≤ self.now.rounds }
@@ -115,7 +115,7 @@ impl Ring {
 ghost use Rattle.std.specs.Prelude.{◌≡◌, ◌≢◌, ◌<◌, length, slice_index, EachIndex, MatchOption};
 ghost use Rattle.win_index.specs.RingFaults.{IsFirstFault};
 
-// What is wrong first with a list of identifiers, if it is no ring.
+// The first fault of a list of identifiers, or `None` if it is a ring.
 fn first_fault(shape: Shape, ids: &[u32]) -> Option<RingFault>
     ensures { MatchOption result (IsRing shape.ids shape.rounds ids.now)
         (IsFirstFault shape.ids shape.rounds ids.now) }
@@ -137,7 +137,7 @@ fn first_fault(shape: Shape, ids: &[u32]) -> Option<RingFault>
     None
 }
 
-// A place at which the identifier stands.
+// A place with this identifier.
 fn place_of(ids: &[u32], id: u32) -> Option<usize>
     ensures { MatchOption result (EachIndex ids.now (λ k. slice_index ids.now k ≢ id))
         (λ k. (k < length ids.now) × (slice_index ids.now k ≡ id)) }

@@ -1,12 +1,15 @@
-// Series of windows: they follow one another, and so do their last parts.
+// Series: consecutive windows whose suffixes are consecutive too.
 ghost use Rattle.std.specs.Prelude.{◌≡◌, ◌≢◌, ◌⊎◌, ◌+◌, ◌*◌, ◌<◌, ◌≤◌, length, take, drop};
 ghost use Rattle.win_index.specs.declared.limits.TheConstants.{MAX_IDS};
 
 use crate::limits::MAX_IDS;
 use crate::shape::{Shape, place_among_unused};
 
-/// Of the windows that share all identifiers but the last: the places of their last parts among the windows that begin as
-/// these do. They are all below the end but two, the gaps.
+/// The positions of the suffixes of a run's windows. A run is the windows with a common prefix, all
+/// identifiers but the last; a window's suffix is the window without its first two identifiers, and
+/// its position is the one in the run of that suffix.
+///
+/// The positions are all those below the end but two, the gaps.
 #[derive(Clone, Copy, Debug, PartialEq, Eq)]
 pub struct RunPlaces {
     pub(crate) first_gap: u32,
@@ -20,7 +23,7 @@ impl Shape {
     ghost use Rattle.win_index.specs.Windows.{IsWindow};
     ghost use Rattle.win_index.specs.Runs.{HasPlaces, place_in_run};
 
-    /// The places of the last parts of the windows that begin as this one does, which is one level above `below`.
+    /// Returns the positions for the run of a window one level above `below`.
     pub fn run_places(&self, below: u32, window: &[u32]) -> RunPlaces
         requires below { below < self.now.rounds }
         requires window { IsWindow (2 * below + 3) self.now.ids window.now }
@@ -34,7 +37,7 @@ impl Shape {
         }
     }
 
-    /// The place of the last part of a window one level above `below`, among the windows that begin as the part does.
+    /// Returns the position of the suffix of a window one level above `below`.
     pub fn place_in_run(&self, below: u32, window: &[u32]) -> u32
         requires below { below < self.now.rounds }
         requires window { IsWindow (2 * below + 3) self.now.ids window.now }
@@ -51,7 +54,7 @@ impl RunPlaces {
     ghost use Rattle.win_index.specs.Runs.{IsAtPlace, IsSeries, IsLastOfRun};
     ghost use Rattle.win_index.specs.Successor.{IsNext};
 
-    /// How many places there are from this one on, the gaps among them.
+    /// Returns the number of positions from this one to the end, gaps included.
     pub fn rest(self, place: u32) -> u32
         requires { place ≤ self.end }
         ensures { result + place ≡ self.end }
@@ -59,8 +62,8 @@ impl RunPlaces {
         self.end - place
     }
 
-    /// How many windows there are in the longest series that begins with the window at this place, `most` at most, at least 1:
-    /// they and their last parts follow one another.
+    /// Returns the length of the longest series from the window at this position, at least 1 and at
+    /// most `most`: consecutive windows of the run whose suffixes are consecutive.
     pub fn series(self, place: u32, most: u32) -> u32
         requires place { place < self.end }
         requires most { 1 ≤ most }
@@ -73,7 +76,7 @@ impl RunPlaces {
         (self.clear_end(place) - place).min(most)
     }
 
-    /// The place of the window after the one at this place, where it begins as this one does.
+    /// Returns the position of the next window in the run, or `None` if this is the last one.
     pub fn after(self, place: u32) -> Option<u32>
         requires { place < self.end }
         ensures inside { IfSome result (λ next. (place < next) × (next < self.end)) }
@@ -85,7 +88,7 @@ impl RunPlaces {
         if next < self.end { Some(next) } else { None }
     }
 
-    // The first gap after a place, or the end of all places.
+    // The first gap after a position, or the end.
     fn clear_end(self, place: u32) -> u32
         requires place { place < self.end }
         ensures some { place < result }
@@ -101,7 +104,7 @@ impl RunPlaces {
         )
     }
 
-    // The place, or the one after it where a gap is there.
+    // The position, or the next one if it is a gap.
     fn past_gap(self, place: u32) -> u32
         requires { place ≤ self.end + 1 }
         ensures { ((result ≡ place) × (place ≢ self.first_gap) × (place ≢ self.second_gap))
@@ -115,7 +118,7 @@ impl RunPlaces {
     }
 }
 
-// The identifiers of a window one level above `below`, but for the first two and the last.
+// The identifiers of a window one level above `below`, without the first two and the last.
 fn rest_of(below: u32, window: &[u32]) -> &[u32]
     requires { length window.now ≡ 2 * below + 3 }
     ensures { result.now ≡ drop 2 (take (2 * below + 1 + 1) window.now) }
@@ -123,7 +126,7 @@ fn rest_of(below: u32, window: &[u32]) -> &[u32]
     &window[2..2 * below as usize + 2]
 }
 
-// The end of what goes on from a place: the gap, where it stands between the place and this end.
+// The gap if it is between the position and the end, else the end.
 fn end_before(end: u32, gap: u32, place: u32) -> u32
     requires { place < end }
     ensures some { place < result }

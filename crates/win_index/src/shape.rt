@@ -6,7 +6,7 @@ ghost use Rattle.win_index.specs.Windows.{unused};
 use crate::arrangement::{Lists, are_few, unused_below};
 use crate::limits::{MAX_IDS, MAX_ROUNDS, MAX_WINDOWS};
 
-/// Why there is no shape.
+/// Why a number of identifiers and a number of rounds are no shape.
 #[derive(Clone, Copy, Debug, PartialEq, Eq)]
 pub enum ShapeFault {
     /// X1: fewer than `2t+2` identifiers for `t` rounds, or more than `MAX_IDS`.
@@ -15,11 +15,13 @@ pub enum ShapeFault {
     TooManyWindows,
 }
 
-/// A number of identifiers and a number of rounds: `t` rounds, at most `MAX_ROUNDS`, and `2t+2` to `MAX_IDS`
-/// identifiers, of which there are at most `MAX_WINDOWS` windows of level `t`. Identifiers are the numbers below
-/// their number. A window of level `r` is a list of `2r+1` distinct identifiers, for `r` from 0 to `t`, and a tuple
-/// is a list of `2t+1+extra` distinct identifiers, where `extra` is 1 or 2. Windows of a level, and tuples of an
-/// `extra`, are numbered in lexicographic order.
+/// A number of identifiers and a number of rounds: `t` rounds, at most `MAX_ROUNDS`, and `2t+2` to
+/// `MAX_IDS` identifiers, with at most `MAX_WINDOWS` windows of level `t`. Identifiers are the
+/// numbers below their number.
+///
+/// A window of level `r` is a list of `2r+1` distinct identifiers, for `r` from 0 to `t`, and a
+/// tuple is a list of `2t+1+extra` distinct identifiers, where `extra` is 1 or 2. Windows of a
+/// level, and tuples of an `extra`, are numbered in lexicographic order.
 #[derive(Clone, Copy, Debug, PartialEq, Eq)]
 pub struct Shape {
     pub(crate) ids: u32,
@@ -38,8 +40,8 @@ impl Shape {
     ghost use Rattle.win_index.specs.ShapeRange.{IsShape};
     ghost use Rattle.win_index.specs.ShapeFaults.{IsFirstShapeFault};
 
-    /// The shape of `ids` identifiers and `rounds` rounds, or what is wrong first: `IdsOutOfRange`, else
-    /// `TooManyWindows`.
+    /// Returns the shape of `ids` identifiers and `rounds` rounds, or its first fault:
+    /// `IdsOutOfRange`, else `TooManyWindows`.
     pub fn new(ids: u32, rounds: u32) -> Result<Shape, ShapeFault>
         requires { rounds ≤ MAX_ROUNDS }
         ensures ok { IfOk result (λ shape. (shape.ids ≡ ids) × (shape.rounds ≡ rounds)) }
@@ -55,21 +57,21 @@ impl Shape {
         Ok(Shape { ids, rounds })
     }
 
-    /// The number of identifiers; identifiers are the numbers below it.
+    /// Returns the number of identifiers; identifiers are the numbers below it.
     pub fn ids(&self) -> u32
         ensures { result ≡ self.now.ids }
     {
         self.ids
     }
 
-    /// The number of rounds, at most `MAX_ROUNDS`.
+    /// Returns the number of rounds, at most `MAX_ROUNDS`.
     pub fn rounds(&self) -> u32
         ensures { result ≡ self.now.rounds }
     {
         self.rounds
     }
 
-    /// How many windows of this level there are.
+    /// Returns the number of windows of this level.
     pub fn count(&self, level: u32) -> u32
         requires { level ≤ self.now.rounds }
         ensures value { result ≡ length (windows (2 * level + 1) self.now.ids) }
@@ -78,8 +80,8 @@ impl Shape {
         self.windows(level).count() as u32
     }
 
-    /// How many tuples of `2t+1+extra` identifiers there are, for an `extra` of 1 or 2. There are none where the shape
-    /// has fewer identifiers.
+    /// Returns the number of tuples of `2t+1+extra` identifiers, for an `extra` of 1 or 2. It is 0
+    /// if the shape has fewer identifiers.
     pub fn tuples(&self, extra: u32) -> u64
         requires some { 1 ≤ extra }
         requires few { extra ≤ MAX_EXTRA }
@@ -92,7 +94,7 @@ impl Shape {
         self.all_tuples(extra).count()
     }
 
-    /// The number of a window of this level, or `None` where the list is no such window.
+    /// Returns the number of a window of this level, or `None` if the list is not one.
     pub fn number(&self, level: u32, list: &[u32]) -> Option<u32>
         requires { level ≤ self.now.rounds }
         ensures number { result ≡ number_of (2 * level + 1) self.now.ids list.now }
@@ -102,7 +104,7 @@ impl Shape {
         Some(number as u32)
     }
 
-    /// The number of a list that is known to be a window of this level.
+    /// Returns the number of a list that must be a window of this level.
     pub fn window_number(&self, level: u32, window: &[u32]) -> u32
         requires level { level ≤ self.now.rounds }
         requires window { IsWindow (2 * level + 1) self.now.ids window.now }
@@ -112,8 +114,9 @@ impl Shape {
         self.windows(level).number(window) as u32
     }
 
-    /// The number of the first window of this level that begins with these `2r` identifiers. The windows that begin with
-    /// them follow one another, in the order of their last identifiers.
+    /// Returns the number of the first window of this level with these `2r` identifiers as its
+    /// prefix. The windows with that prefix are consecutive, in the order of their last
+    /// identifiers.
     pub fn run_start(&self, level: u32, front: &[u32]) -> u32
         requires level { level ≤ self.now.rounds }
         requires front { IsWindow (2 * level) self.now.ids front.now }
@@ -122,7 +125,7 @@ impl Shape {
         self.fronts(level).run_start(front) as u32
     }
 
-    /// Writes the window of this level with this number into the `2r+1` cells of `out`.
+    /// Writes the window of this level with this number to the `2r+1` cells of `out`.
     pub fn window(&self, level: u32, number: u32, out: &mut [u32])
         requires level { level ≤ self.now.rounds }
         requires below { number < length (windows (2 * level + 1) self.now.ids) }
@@ -133,8 +136,8 @@ impl Shape {
         self.windows(level).write(u64::from(number), out);
     }
 
-    /// Writes the next window of this level over a window and says `true`, or says `false` and changes
-    /// nothing where it is the last.
+    /// Replaces a window of this level by the next one and returns `true`, or returns `false`
+    /// without a change if it is the last.
     pub fn next_window(&self, level: u32, window: &mut [u32]) -> bool
         requires level { level ≤ self.now.rounds }
         requires window { IsWindow (2 * level + 1) self.now.ids window.old }
@@ -146,8 +149,8 @@ impl Shape {
         self.windows(level).write_next(window)
     }
 
-    /// Writes the next window of this level that has the same identifiers but for the last over a window and says `true`, or
-    /// says `false` and changes nothing where there is none.
+    /// Replaces a window of this level by the next one with the same prefix, all identifiers but
+    /// the last, and returns `true`, or returns `false` without a change if there is none.
     pub fn next_in_run(&self, level: u32, window: &mut [u32]) -> bool
         requires level { level ≤ self.now.rounds }
         requires window { IsWindow (2 * level + 1) self.now.ids window.old }
@@ -160,8 +163,9 @@ impl Shape {
         self.windows(level).write_next_in_run(window)
     }
 
-    /// Writes the next window of this level that differs before its last identifier over a window and says `true`, or says
-    /// `false` and changes nothing where there is none: it comes after the last one that begins as this window does.
+    /// Replaces a window of this level by the first one after it with another prefix and returns
+    /// `true`, or returns `false` without a change if there is none. A prefix is all identifiers
+    /// but the last.
     pub fn next_run(&self, level: u32, window: &mut [u32]) -> bool
         requires level { level ≤ self.now.rounds }
         requires window { IsWindow (2 * level + 1) self.now.ids window.old }
@@ -175,7 +179,7 @@ impl Shape {
         self.windows(level).write_next_run(window)
     }
 
-    /// The number of a tuple of this `extra`, or `None` where the list is no such tuple.
+    /// Returns the number of a tuple of this `extra`, or `None` if the list is not one.
     pub fn tuple_number(&self, extra: u32, list: &[u32]) -> Option<u64>
         requires some { 1 ≤ extra }
         requires few { extra ≤ MAX_EXTRA }
@@ -187,7 +191,7 @@ impl Shape {
         self.all_tuples(extra).find(list)
     }
 
-    /// Writes the tuple with this number into the `2t+1+extra` cells of `out`.
+    /// Writes the tuple with this number to the `2t+1+extra` cells of `out`.
     pub fn tuple(&self, extra: u32, number: u64, out: &mut [u32])
         requires some { 1 ≤ extra }
         requires few { extra ≤ MAX_EXTRA }
@@ -199,8 +203,8 @@ impl Shape {
         self.all_tuples(extra).write(number, out);
     }
 
-    /// Writes the next tuple over a tuple and says `true`, or says `false` and changes nothing where it is
-    /// the last.
+    /// Replaces a tuple by the next one and returns `true`, or returns `false` without a change if
+    /// it is the last.
     pub fn after(&self, extra: u32, tuple: &mut [u32]) -> bool
         requires some { 1 ≤ extra }
         requires few { extra ≤ MAX_EXTRA }
@@ -226,7 +230,7 @@ impl Shape {
         }
     }
 
-    // The lists of all identifiers but the last of the windows of this level.
+    // The prefixes of the windows of this level, all identifiers but the last.
     fn fronts(&self, level: u32) -> Lists
         requires { level ≤ self.now.rounds }
         ensures ids { result.ids ≡ self.now.ids }
@@ -240,7 +244,7 @@ impl Shape {
         }
     }
 
-    // Whether the shape has as many identifiers as a tuple.
+    // Whether the shape has enough identifiers for a tuple.
     fn has_tuples(&self, extra: u32) -> bool
         requires { extra ≤ MAX_EXTRA }
         ensures { IsTrue result ↔ (2 * self.now.rounds + 1 + extra ≤ self.now.ids) }
@@ -248,7 +252,6 @@ impl Shape {
         2 * self.rounds + 1 + extra <= self.ids
     }
 
-    // The tuples.
     fn all_tuples(&self, extra: u32) -> Lists
         requires few { extra ≤ MAX_EXTRA }
         requires enough { 2 * self.now.rounds + 1 + extra ≤ self.now.ids }
@@ -262,8 +265,8 @@ impl Shape {
     }
 }
 
-/// How many identifiers below this one a list of distinct ones lacks: its place among the identifiers that the list
-/// lacks, where it is one of them.
+/// Returns the number of identifiers below `id` that are not in a list of distinct ones. It is the
+/// position of `id` among the identifiers that the list lacks, if `id` is one of them.
 pub fn place_among_unused(list: &[u32], id: u32) -> u32
     requires { AllPairs (λ a b. a ≢ b) list.now }
     ensures { result ≡ length (unused id list.now) }
