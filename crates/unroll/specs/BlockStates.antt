@@ -1,4 +1,4 @@
--- What a block holds: the states of windows of one level that follow one another, BLOCK_WINDOWS at most.
+-- The content of a block: the states of at most BLOCK_WINDOWS consecutive windows of one level.
 use Rattle.std.specs.Prelude.{ℕ, ◌+◌, ◌-◌, ◌*◌, min, List, [], slice_index_or, refl}
 use Rattle.std.specs.Coded.{Coded, code_by, coded×, coded_ℕ}
 use Rattle.win_index.specs.Windows.{windows}
@@ -11,7 +11,7 @@ use Rattle.win_index.specs.declared.limits.TheConstants.{BLOCK_WINDOWS}
 abbrev pub window_numbered : ℕ → ℕ → ℕ → List ℕ
 window_numbered m r n = slice_index_or (windows (2 * r + 1) m) n []
 
--- how many windows block b of level r holds: those from number BLOCK_WINDOWS*b on, BLOCK_WINDOWS at most
+-- the number of windows of block b of level r: those from number BLOCK_WINDOWS*b on, at most BLOCK_WINDOWS
 abbrev pub block_len : ℕ → ℕ → ℕ → ℕ
 block_len m r b = min BLOCK_WINDOWS (window_count m r - BLOCK_WINDOWS * b)
 
@@ -19,14 +19,14 @@ block_len m r b = min BLOCK_WINDOWS (window_count m r - BLOCK_WINDOWS * b)
 abbrev pub block_state : ProgramForIds → ℕ → ℕ → ℕ → List ℕ
 block_state plan r b i = middle_state plan.program r (window_numbered plan.ids r (BLOCK_WINDOWS * b + i))
 
--- a block: its plan, its level and number, and who made it. Its states follow from the first three
+-- a block: its plan, level, number and maker. Its states follow from the first three
 pub record MadeBlock : Type 0 where
   pub plan : ProgramForIds
   pub level : ℕ
   pub number : ℕ
   pub maker : ℕ
 
--- by which a proof tells blocks apart
+-- an injective code of blocks, which their model asks for
 abbrev pub block_code : Coded MadeBlock
 block_code =
     code_by (ProgramForIds × (ℕ × (ℕ × ℕ))) (coded× plan_code (coded× coded_ℕ (coded× coded_ℕ coded_ℕ)))

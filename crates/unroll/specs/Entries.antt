@@ -1,4 +1,4 @@
--- What a source of blocks knows: a block, or none, at each level and number.
+-- The blocks that a source knows, by level and number.
 use Rattle.std.specs.Prelude.{◌≡◌, ℕ, Option, Some}
 use Rattle.lang_check.specs.Plans.{ProgramForIds}
 use Rattle.unroll.specs.BlockStates.{MadeBlock}
@@ -10,7 +10,7 @@ Entries = ℕ → ℕ → Option MadeBlock
 pub record Grows (old new : Entries) : Type 0 where
   pub kept : (level number : ℕ) (b : MadeBlock) → old level number ≡ Some b → new level number ≡ Some b
 
--- a block of this plan that is known at its own level and number
+-- a known block of this plan, at its own level and number
 pub record IsEntry (plan : ProgramForIds) (entries : Entries) (level number : ℕ) (b : MadeBlock) : Type 0 where
   pub known : entries level number ≡ Some b
   pub plan_is : b.plan ≡ plan

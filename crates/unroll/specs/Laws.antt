@@ -10,13 +10,13 @@ use Rattle.win_index.specs.Windows.{IsWindow}
 use Rattle.round_eval.specs.Rows.{row_after}
 use Rattle.unroll.specs.Line.{shrunk, line, middle_state}
 
--- a round on a line is one on the row of its inner nodes, between what its first and its last node send
+-- a round on a line is a round on the row of its inner nodes, between the messages of its first and its last node
 abbrev pub LinesAreRows : Type 0
 LinesAreRows =
     (p : ProgramTree) (k : ℕ) (first last : List ℕ) (row : List (List ℕ))
     → shrunk p k (first ∷ (row ++ last ∷ [])) ≡ row_after p k (to_right p k first) row (to_left p k last)
 
--- what a place of a ring holds after r rounds is the state that is left of the 2r+1 identifiers around it
+-- the registers of a place of a ring after r rounds are the state that is left of the 2r+1 identifiers around it
 abbrev pub Locality : Type 0
 Locality =
     (p : ProgramTree) (m t r i : ℕ) (ring : List ℕ) → IsRing m t ring → r ≤ t → i < length ring
@@ -28,7 +28,7 @@ WindowsAreWithin =
     (p : ProgramTree) (m r : ℕ) (window : List ℕ) → IsWindow (2 * r + 1) m window
     → IsWithin (middle_state p r window) (register_bounds p m r)
 
--- after r rounds a line of 2r+1 identifiers is one state long
+-- after r rounds the line of 2r+1 identifiers has one state
 abbrev pub OneStateIsLeft : Type 0
 OneStateIsLeft =
     (p : ProgramTree) (r : ℕ) (window : List ℕ) → length window ≡ 2 * r + 1

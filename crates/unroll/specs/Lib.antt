@@ -1,6 +1,6 @@
--- The definitions of this crate that contracts cite: the shrinking line, what a block holds, which blocks are
--- below a block, what a source of blocks knows, why no block was made, and the laws; last, what private contracts
--- say. Windows, numbers of blocks and jobs stand in win_index, rows in round_eval.
+-- The definitions of this crate that contracts cite: the shrinking line, the content of a block, the blocks below a
+-- block, the blocks that a source knows, why a block was not made, and the laws; last, what private contracts cite.
+-- Windows, numbers of blocks and jobs are in win_index, rows in round_eval.
 pub mod Line
 pub mod BlockStates
 pub mod Below

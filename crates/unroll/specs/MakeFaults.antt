@@ -5,7 +5,7 @@ use Rattle.unroll.specs.Entries.{Entries}
 use Rattle.unroll.specs.declared.fault.MakeFault.{MakeFault}
 use Rattle.unroll.specs.declared.fault.MakeFault.TheVariants.{Missing, OutOfMemory}
 
--- a missing block is one below block b of level r, at which nothing is known
+-- a missing block is below block b of level r, and the source does not know it
 abbrev pub IsMakeFault : Entries → ℕ → ℕ → ℕ → MakeFault → Type 0
 IsMakeFault entries m r b (Missing low c) = IsBelow m r b low c × (entries low c ≡ None)
 IsMakeFault entries m r b OutOfMemory = Unit {0}

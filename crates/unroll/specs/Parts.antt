@@ -1,4 +1,4 @@
--- What the functions that make a block say of the source, one window at a time.
+-- What the functions that make a block say of the source, for one window at a time.
 use Rattle.std.specs.Prelude.{◌≡◌, ℕ, ◌+◌, ◌*◌, ◌/◌, ◌<◌, List, take, drop, length, slice_get, Some, None, IsSome}
 use Rattle.lang_check.specs.Plans.{ProgramForIds}
 use Rattle.node_lang.specs.Node.{to_right}
@@ -18,19 +18,19 @@ use Rattle.win_index.specs.declared.limits.TheConstants.{BLOCK_WINDOWS}
 abbrev pub KnowsParts : Entries → ℕ → ℕ → List ℕ → Type 0
 KnowsParts entries m low w = (n : ℕ) → IsPartNumber m low w n → IsSome (entries low (n / BLOCK_WINDOWS))
 
--- the block of the level low that holds the part of the window w from place d on is known
+-- the block of the level low that holds the part of the window w at offset d is known
 abbrev pub KnowsPart : Entries → ℕ → ℕ → List ℕ → ℕ → Type 0
 KnowsPart entries m low w d = (n : ℕ) → number_of (2 * low + 1) m (part w low d) ≡ Some n → IsSome (entries low (n / BLOCK_WINDOWS))
 
--- the first part of a window: what its node sends to the right after as many rounds as the level low says, and its block is known
+-- the first part of a window: the message of its node to the right after `low` rounds. Its block is known
 abbrev pub IsFirstPart : ProgramForIds → Entries → ℕ → FirstPart → Type 0
 IsFirstPart plan entries low first =
     (first.sent ≡ to_right plan.program low (middle_state plan.program low (take (2 * low + 1) first.ids)))
     × ((n : ℕ) → number_of (2 * low + 1) plan.ids (take (2 * low + 1) first.ids) ≡ Some n → IsSome (entries low (n / BLOCK_WINDOWS)))
 
--- What the windows one level above low share that begin as w does, with all identifiers but the last: the number of the first window that
--- begins as their last parts do, the places of these, their first part, and the state of their middle part. The blocks of these two are
--- known.
+-- What the windows of the run of w share, one level above low: the number of the first window in the run of their last
+-- parts, the positions of these, their first part, and the state of their middle part. The blocks of the first and the
+-- middle part are known.
 pub record IsRun (plan : ProgramForIds) (entries : Entries) (low : ℕ) (w : List ℕ) (run : Run) : Type 0 where
   pub start_is : IsRunStart (2 * low) plan.ids (take (2 * low) (drop 2 w)) run.start
   pub places_are : HasPlaces (2 * low + 1) plan.ids w run.places
@@ -40,22 +40,22 @@ pub record IsRun (plan : ProgramForIds) (entries : Entries) (low : ℕ) (w : Lis
   pub own_cells : length run.own.now ≡ length plan.program.start
   pub own_known : KnowsPart entries plan.ids low w 1
 
--- the parts of the first windows of block b of level r are known, as many windows as count
+-- the parts of the first `count` windows of block b of level r are known
 abbrev pub KnowsBelow : Entries → ℕ → ℕ → ℕ → ℕ → Type 0
 KnowsBelow entries m r b count =
     (low place : ℕ) → r ≡ low + 1 → place < count → KnowsParts entries m low (window_numbered m r (BLOCK_WINDOWS * b + place))
 
--- a block is missing that holds a part of the window w of level r: no other fault comes
+-- the fault is that a block is missing which holds a part of the window w of level r
 abbrev pub IsMissingPart : Entries → ℕ → ℕ → List ℕ → MakeFault → Type 0
 IsMissingPart entries m r w (Missing low c) =
     (r ≡ low + 1) × ((n : ℕ) × IsPartNumber m low w n × (c ≡ n / BLOCK_WINDOWS)) × (entries low c ≡ None)
 IsMissingPart entries m r w OutOfMemory = ⊥
 
--- the block with this number, of this level, is missing: no other fault comes
+-- the fault is that the block of this level with this number is missing
 abbrev pub IsMissingBlock : Entries → ℕ → ℕ → MakeFault → Type 0
 IsMissingBlock entries level number (Missing low c) = (low ≡ level) × (c ≡ number) × (entries level number ≡ None)
 IsMissingBlock entries level number OutOfMemory = ⊥
 
--- the window of level r with number n is the last one that begins as w does, with all identifiers but the last
+-- the window of level r with number n is the last one of the run of w
 abbrev pub EndsAt : ℕ → ℕ → List ℕ → ℕ → Type 0
 EndsAt m r w n = (last : List ℕ) × (slice_get (windows (2 * r + 1) m) n ≡ Some last) × IsEndOfSame (2 * r + 1) m w last

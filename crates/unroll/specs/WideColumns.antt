@@ -20,26 +20,26 @@ IsWide plan columns = (columns.registers ≡ length plan.program.start) × (leng
 abbrev pub AreWide : ProgramForIds → PartColumns → Type 0
 AreWide plan parts = (length parts.from_left.items ≡ BLOCK_WINDOWS) × IsWide plan parts.own × (length parts.from_right.items ≡ BLOCK_WINDOWS)
 
--- the state of the part from place d on of the window i of block b of the level above low
+-- the state of the part at offset d of window i of block b of the level above low
 abbrev pub part_state : ProgramForIds → ℕ → ℕ → ℕ → ℕ → List ℕ
 part_state plan low b d i = middle_state plan.program low (part (window_numbered plan.ids (low + 1) (BLOCK_WINDOWS * b + i)) low d)
 
--- the parts of the first windows of block b of the level above low, as many as count: each window has two identifiers more than its
--- parts, item i of the lists is what the node of the first part sends to the right in the next round, what that of the middle part
--- holds, and what that of the last part sends to the left
+-- the parts of the first `count` windows of block b of the level above low: item i of the lists is the message of the
+-- first part's node to the right in the next round, the registers of the middle part's node, and the message of the
+-- last part's node to the left
 pub record HoldParts (plan : ProgramForIds) (low b count : ℕ) (parts : PartColumns) : Type 0 where
   pub sizes : (i : ℕ) → i < count → length (window_numbered plan.ids (low + 1) (BLOCK_WINDOWS * b + i)) ≡ 2 * low + 3
   pub left : (i : ℕ) → i < count → slice_index parts.from_left.items i ≡ to_right plan.program low (part_state plan low b 0 i)
   pub own : (i : ℕ) → i < count → slice_index_or parts.own.states i [] ≡ part_state plan low b 1 i
   pub right : (i : ℕ) → i < count → slice_index parts.from_right.items i ≡ to_left plan.program low (part_state plan low b 2 i)
 
--- the items from a place on, as many as count, are these now, and the items before the place are as they were
+-- the `count` items from a place on are these now, and the items before them are unchanged
 pub record AreWritten (A : Type 0) (none : A) (old new : List A) (place count : ℕ) (item : ℕ → A) : Type 0 where
   pub size : length new ≡ length old
   pub here : (i : ℕ) → i < count → slice_index_or new (place + i) none ≡ item i
   pub before : (i : ℕ) → i < place → slice_index_or new i none ≡ slice_index_or old i none
 
--- what the type of a maker of blocks keeps: the code of its plan, room for it, and columns
+-- the invariant of a maker of blocks: the code of its plan, scratch for it, and columns
 pub record IsReady (plan code : ProgramForIds) (work : Room) (parts : PartColumns) (made : NodeStates) : Type 0 where
   pub code_is : code ≡ plan
   pub room : most_columns (terms plan.program) ≤ work.columns

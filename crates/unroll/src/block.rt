@@ -2,10 +2,13 @@ use lang_check::Plan;
 use round_eval::{row_at, width_of};
 use std::marker::Model;
 
-/// The states of up to `BLOCK_WINDOWS` windows of one level of a plan, in the order of their numbers: block `b` holds
-/// those of the windows from number `BLOCK_WINDOWS * b` on. Each is its window's state after as many rounds as the level
-/// says. Below the last level it also holds what the middle of each window sends in the next round, from which blocks of
-/// the level above are made. A block names who made it, by any number. It is made by `make_block` alone.
+/// The states of up to `BLOCK_WINDOWS` consecutive windows of one level of a plan: block `b` holds
+/// those from number `BLOCK_WINDOWS * b` on. The state of a window is the registers of its middle
+/// node after as many rounds as the level. Below the last level a block also holds that node's
+/// messages in the next round, from which blocks of the level above are made.
+///
+/// A block carries a number that names its maker. Blocks are made by `make_block` and `BlockMaker`
+/// alone.
 #[derive(Drop)]
 pub struct Block<'a> {
     pub(crate) plan: &'a Plan,
@@ -38,14 +41,14 @@ impl<'a> Block<'a> {
     ghost use Rattle.unroll.specs.BlockStates.{block_len, block_state};
     ghost use Rattle.win_index.specs.Blocks.{block_count};
 
-    /// The plan whose states it holds.
+    /// Returns the plan whose states it holds.
     pub fn plan(&self) -> &'a Plan
         ensures { result.now ≡ self.now.plan }
     {
         self.plan
     }
 
-    /// The level of its windows, at most the number of rounds.
+    /// Returns the level of its windows, at most the number of rounds.
     pub fn level(&self) -> u32
         ensures value { result ≡ self.now.level }
         ensures few { result ≤ length self.now.plan.program.steps }
@@ -53,7 +56,7 @@ impl<'a> Block<'a> {
         self.level
     }
 
-    /// Its number among the blocks of its level.
+    /// Returns its number among the blocks of its level.
     pub fn number(&self) -> u32
         ensures value { result ≡ self.now.number }
         ensures inside { result < block_count self.now.plan.ids self.now.level }
@@ -61,21 +64,21 @@ impl<'a> Block<'a> {
         self.number
     }
 
-    /// Who made it.
+    /// Returns the number of its maker.
     pub fn maker(&self) -> u32
         ensures { result ≡ self.now.maker }
     {
         self.maker
     }
 
-    /// How many states it holds, at most `BLOCK_WINDOWS`.
+    /// Returns the number of its states, at most `BLOCK_WINDOWS`.
     pub fn len(&self) -> u32
         ensures { result ≡ block_len self.now.plan.ids self.now.level self.now.number }
     {
         self.len
     }
 
-    /// The states of all its windows, row by row: a cell for each register.
+    /// Returns the states of all its windows, row by row, with a cell for each register.
     pub fn states(&self) -> &[u32]
         ensures size { length result.now
             ≡ block_len self.now.plan.ids self.now.level self.now.number * length self.now.plan.program.start }
@@ -86,7 +89,8 @@ impl<'a> Block<'a> {
         &self.states
     }
 
-    /// The state of its `i`-th window, which has number `BLOCK_WINDOWS * b + i` in block `b`: a cell for each register.
+    /// Returns the state of its `i`-th window, which has number `BLOCK_WINDOWS * b + i` in block
+    /// `b`, with a cell for each register.
     pub fn state(&self, i: u32) -> &[u32]
         requires { i < block_len self.now.plan.ids self.now.level self.now.number }
         ensures value { result.now ≡ block_state self.now.plan self.now.level self.now.number i }
@@ -96,7 +100,8 @@ impl<'a> Block<'a> {
         row_at(&self.states, width_of(plan), i as usize)
     }
 
-    // What the middle of each of its windows sends to the left in the next round, and perhaps more numbers behind.
+    // The message of each window's middle node to the left in the next round, perhaps followed by
+    // other numbers.
     pub(crate) fn to_left(&self) -> &[u32]
         requires level { self.now.level < length self.now.plan.program.steps }
         ensures size { block_len self.now.plan.ids self.now.level self.now.number ≤ length result.now }
@@ -106,7 +111,7 @@ impl<'a> Block<'a> {
         &self.to_left
     }
 
-    // What the middle of its `i`-th window sends to the right in the next round.
+    // The message of the `i`-th window's middle node to the right in the next round.
     pub(crate) fn to_right(&self, i: u32) -> u32
         requires level { self.now.level < length self.now.plan.program.steps }
         requires place { i < block_len self.now.plan.ids self.now.level self.now.number }

@@ -1,8 +1,9 @@
-/// Why `make_block` made no block.
+/// Why a block was not made.
 #[derive(Clone, Copy, Debug, PartialEq, Eq)]
 pub enum MakeFault {
-    /// The level and the number of a block below for which the source has no entry.
+    /// The source has no entry for the block of this level and number, which the block is made
+    /// from.
     Missing(u32, u32),
-    /// The allocator refused memory.
+    /// Memory could not be allocated.
     OutOfMemory,
 }

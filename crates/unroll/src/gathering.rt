@@ -1,4 +1,4 @@
-// The states of the parts of a block's windows, from the blocks one level lower; and the states of its windows.
+// The states of a block's windows, from the states of their parts in blocks one level lower.
 ghost use Rattle.std.specs.Prelude.{◌≡◌, ℕ, ◌+◌, ◌-◌, ◌*◌, ◌^◌, ◌<◌, ◌≤◌, [], ◌∷◌, length, take, slice_get, slice_index, Some, IsSome, IfSome, IfOk, IfErr, OnOk, IsErrOf};
 ghost use Rattle.round_eval.specs.Rows.{rows};
 ghost use Rattle.unroll.specs.Below.{IsBelow};
@@ -25,7 +25,7 @@ use round_columns::{
 };
 use win_index::{BLOCK_WINDOWS, MAX_WINDOW_LEN, Shape, number_of_window, windows_have_numbers};
 
-// How many windows a block holds.
+// The number of windows of a block.
 pub(crate) fn len_of(shape: Shape, level: u32, number: u32) -> u32
     requires level { level ≤ shape.rounds }
     requires number { number < block_count shape.ids level }
@@ -35,8 +35,8 @@ pub(crate) fn len_of(shape: Shape, level: u32, number: u32) -> u32
     (shape.count(level) - first_number(shape, level, number)).min(BLOCK_WINDOWS)
 }
 
-// Writes the three parts of each window of a block one level above `below`. The first window is given,
-// and it goes on to the next one in place.
+// Gathers the parts of each window of a block one level above `below`. `window` is the block's
+// first window, and is advanced in place.
 pub(crate) fn gather<'s, S: Source<'s>>(
     plan: &Plan,
     source: &mut S,
@@ -81,9 +81,9 @@ pub(crate) fn gather<'s, S: Source<'s>>(
     }
 }
 
-// Writes the parts of those windows of a block, from this place on, that begin as the window there does, and says up to
-// which place these are, and which block holds the last part of the last of them. The block that held such a part before
-// may be given.
+// Gathers the parts of the windows from index `from` on that share the prefix of `window`, the one
+// at `from`. Returns the index of their end, and the block that holds the last part of the last of
+// them. `given` can be the block that held the last part before.
 fn gather_run<'s, S: Source<'s>>(
     plan: &Plan,
     source: &mut S,
@@ -162,7 +162,8 @@ fn first_number(shape: Shape, level: u32, number: u32) -> u32
     BLOCK_WINDOWS * number
 }
 
-// Writes the states of the windows of a block: at level 0 by their identifiers, above it by their parts.
+// Writes the states of the windows of a block: at level 0 from their identifiers, above it from
+// their parts.
 pub(crate) fn write_states<'s, S: Source<'s>>(
     plan: &Plan,
     code: &Code,
@@ -201,7 +202,7 @@ pub(crate) fn write_states<'s, S: Source<'s>>(
     Ok(())
 }
 
-// Writes the states of windows one level above `below`, by those of their parts.
+// Writes the states of windows one level above `below`, from those of their parts.
 pub(crate) fn step_parts(
     plan: &Plan,
     code: &Code,
@@ -231,7 +232,7 @@ pub(crate) fn step_parts(
     );
 }
 
-// Writes the states of the first nodes of columns, row by row, as many as there are rows.
+// Writes the states of the first `len` nodes of columns, row by row.
 pub(crate) fn scatter(columns: &Columns, len: usize, states: &mut [u32])
     requires few { len ≤ length columns.now.states }
     requires size { length states.old ≡ len * columns.now.registers }
@@ -240,8 +241,8 @@ pub(crate) fn scatter(columns: &Columns, len: usize, states: &mut [u32])
     columns.take_rows(len, states);
 }
 
-// Writes the states of the windows of a block of level 0. The first window is given, and it goes on to the next one in
-// place.
+// Writes the states of the windows of a block of level 0. `window` is the block's first window, and
+// is advanced in place.
 pub(crate) fn start_states(
     plan: &Plan,
     code: &Code,
@@ -266,8 +267,8 @@ pub(crate) fn start_states(
     start_columns(code, &ids, work, made);
 }
 
-// Writes the identifiers of the windows of a block of level 0. The first window is given, and it goes on to the next one
-// in place.
+// Writes the identifiers of the windows of a block of level 0. `window` is the block's first
+// window, and is advanced in place.
 fn put_ids(shape: Shape, number: u32, window: &mut [u32], ids: &mut [u32])
     requires number { number < block_count shape.ids 0 }
     requires first { slice_get (windows 1 shape.ids) (BLOCK_WINDOWS * number) ≡ Some window.old }
@@ -282,7 +283,8 @@ fn put_ids(shape: Shape, number: u32, window: &mut [u32], ids: &mut [u32])
     }
 }
 
-// Writes what the nodes of the windows of a block below the last level send in the next round, by their states.
+// Writes the messages in the next round of the windows of a block below the last level, from their
+// states.
 pub(crate) fn send_states(
     plan: &Plan,
     code: &Code,

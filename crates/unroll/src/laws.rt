@@ -3,22 +3,23 @@ ghost use Rattle.unroll.specs.Laws as law;
 use lang_check::{next_is_within, start_is_within};
 use win_index::places_of_arcs;
 
-/// A round on a line is one on the row of its inner nodes, between what its first and its last node send.
+/// A round on a line is a round on the row of its inner nodes, between the messages of its first
+/// and its last node.
 #[tactic(auto, using(crate::proofs::Lines::shrunk_row))]
 pub fn lines_are_rows()
     ensures { law.LinesAreRows }
 {}
 
-/// Locality (Linial 1992): what a node of a ring holds after `r` rounds follows from the `2r+1` identifiers
-/// around it alone, by a line of their states that gets two shorter in each round.
+/// Locality (Linial 1992): the registers of a node of a ring after `r` rounds are determined by the
+/// `2r+1` identifiers around it, by a line of their states that shrinks by two in each round.
 pub fn locality()
     ensures { law.Locality }
 {
     places_of_arcs();
 }
 
-/// Bounds hold of windows too: the state that is left of a window after its rounds is within the bounds of
-/// the registers after as many rounds.
+/// The state that is left of a window after its rounds is within the bounds of the registers after
+/// that many rounds.
 #[tactic(auto, using(crate::proofs::Within::middle_within))]
 pub fn windows_are_within()
     ensures { law.WindowsAreWithin }
@@ -27,7 +28,7 @@ pub fn windows_are_within()
     next_is_within();
 }
 
-/// After `r` rounds a line of `2r+1` identifiers is one state long.
+/// After `r` rounds the line of `2r+1` identifiers has one state.
 #[tactic(auto, using(crate::proofs::Lines::one_left))]
 pub fn one_state_is_left()
     ensures { law.OneStateIsLeft }

@@ -1,5 +1,5 @@
-//! What a node holds after some rounds, by the identifiers around it: one window at a time, or in blocks of
-//! `BLOCK_WINDOWS` windows that are made from the blocks one level below.
+//! The registers of a node after some rounds, from the identifiers around it: one window at a time,
+//! or in blocks of `BLOCK_WINDOWS` windows that are made from the blocks one level below.
 #![tactic(auto)]
 
 mod block;

@@ -11,7 +11,7 @@ use std::alloc::Global;
 use std::marker::Model;
 use win_index::{BLOCK_WINDOWS, Shape};
 
-/// Makes blocks of a plan, one after another, in columns that it keeps from one block to the next. It is seen as the
+/// Makes blocks of a plan, one after another, with scratch columns that it reuses. Its model is the
 /// plan.
 #[derive(Drop)]
 pub struct BlockMaker<'p> {
@@ -42,7 +42,7 @@ impl<'p> BlockMaker<'p> {
     ghost use Rattle.unroll.specs.MakeFaults.{IsMakeFault};
     ghost use Rattle.win_index.specs.Blocks.{block_count};
 
-    /// A maker of the blocks of a plan. The error comes where memory was refused.
+    /// Returns a maker of blocks of the plan, or the error that memory was refused.
     pub fn new(alloc: Global, plan: &'p Plan) -> Result<BlockMaker<'p>, OutOfMemory>
         ensures { IfOk result (λ maker. maker ≡ plan.now) }
     {
@@ -59,8 +59,8 @@ impl<'p> BlockMaker<'p> {
         })
     }
 
-    /// The block of the plan with this level, number and maker, as `make_block` makes it; memory is taken for its lists
-    /// alone.
+    /// Makes the block of the plan with this level, number and maker, as `make_block` does. It
+    /// allocates the block's own lists alone.
     pub fn make<'s, S: Source<'s>>(
         &mut self,
         alloc: Global,
@@ -127,7 +127,7 @@ impl<'p> BlockMaker<'p> {
 
 ghost use Rattle.std.specs.Prelude.{◌≡◌, ◌<◌};
 
-// How many messages a block of a level holds: none on the last one.
+// The number of messages that a block of a level holds; 0 on the last level.
 fn sent_len(shape: Shape, level: u32) -> usize
     ensures { level < shape.rounds → result ≡ BLOCK_WINDOWS }
 {

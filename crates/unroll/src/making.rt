@@ -11,11 +11,14 @@ use crate::source::Source;
 use lang_check::Plan;
 use std::alloc::Global;
 
-/// The block of a plan with this level, number and maker. At level 0 the states are those before the first
-/// round, and the source is not asked. Above it each state comes from three of the blocks one level below,
-/// which the source has; each of them is known to the source from then on. `Missing` names one for which the
-/// source has no entry; the source may know more afterwards. `OutOfMemory` comes where memory was refused, and
-/// the source is as before.
+/// Makes the block of a plan with this level, number and maker.
+///
+/// At level 0 the states are those before the first round, and the source is not asked. Above it
+/// each state is computed from three states of blocks one level below. These blocks come from the
+/// source, which knows them from then on.
+///
+/// Fails with `Missing` for a block of which the source has no entry, and the source may know more
+/// than before; and with `OutOfMemory` if memory was refused, and the source is then unchanged.
 pub fn make_block<'a, 's, S: Source<'s>>(
     alloc: Global,
     plan: &'a Plan,

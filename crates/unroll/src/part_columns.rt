@@ -1,4 +1,4 @@
-// What the parts of windows give to the states one level above.
+// The columns of the parts of windows, from which the states one level above are computed.
 ghost use Rattle.std.specs.Prelude.{◌≡◌, ◌+◌, ◌≤◌, [], ℕ, List, length, replicate, slice_index, IfOk};
 ghost use Rattle.unroll.specs.WideColumns.{IsWide, AreWide, AreWritten};
 
@@ -9,8 +9,9 @@ use round_eval::width_of;
 use std::alloc::Global;
 use win_index::BLOCK_WINDOWS;
 
-// Of up to `BLOCK_WINDOWS` windows: what the node of the first part sends to the right in the next round, what the node
-// of the middle part holds, and what the node of the last part sends to the left.
+// For up to `BLOCK_WINDOWS` windows: the message to the right of the first part's node in the next
+// round, the registers of the middle part's node, and the message to the left of the last part's
+// node.
 #[derive(Drop)]
 pub(crate) struct PartColumns {
     pub(crate) from_left: Vec<u32>,
@@ -19,7 +20,7 @@ pub(crate) struct PartColumns {
 }
 
 impl PartColumns {
-    // Room for the parts of `BLOCK_WINDOWS` windows.
+    // Allocates columns for the parts of `BLOCK_WINDOWS` windows.
     pub(crate) fn new(alloc: Global, plan: &Plan) -> Result<PartColumns, OutOfMemory>
         ensures { IfOk result (AreWide plan.now) }
     {
@@ -33,7 +34,8 @@ impl PartColumns {
         })
     }
 
-    // Writes the first two parts of windows that follow one another, from a place on: they are the same in all of them.
+    // Writes the first two parts of `count` consecutive windows from `place` on, which all have the
+    // same ones.
     pub(crate) fn put_fronts(&mut self, place: usize, count: usize, from_left: u32, own: &[u32])
         requires left { place + count ≤ length self.old.from_left.items }
         requires own { place + count ≤ length self.old.own.states }
@@ -47,8 +49,8 @@ impl PartColumns {
         self.own.fill_states(place, count, own);
     }
 
-    // Writes the last parts of windows that follow one another, from a place on: what their nodes send stands in a list from
-    // an index on.
+    // Writes the last parts of `count` consecutive windows from `place` on: the messages of their
+    // nodes are `sent` from `index` on.
     pub(crate) fn put_lasts(&mut self, place: usize, count: usize, sent: &[u32], index: usize)
         requires right { place + count ≤ length self.old.from_right.items }
         requires sent { index + count ≤ length sent.now }
@@ -61,10 +63,10 @@ impl PartColumns {
     }
 }
 
-// So many cells are written at once where fewer are asked for, and the cells behind these are there: that takes no loop.
+// Shorter writes are rounded up to this many cells if there is room, which avoids a loop.
 const CHUNK: usize = 16;
 
-// Writes a number into cells that follow one another, from a place on, and perhaps into some behind them.
+// Writes a number to `count` cells from `place` on, and perhaps to some after them.
 fn fill_some(cells: &mut [u32], place: usize, count: usize, number: u32)
     requires { place + count ≤ length cells.old }
     ensures { AreWritten ℕ 0 cells.old cells.new place count (λ _. number) }
@@ -76,7 +78,8 @@ fn fill_some(cells: &mut [u32], place: usize, count: usize, number: u32)
     }
 }
 
-// Copies numbers from an index on into cells that follow one another, from a place on, and perhaps some that follow them.
+// Copies `count` numbers from `index` on to the cells from `place` on, and perhaps some that follow
+// them.
 fn copy_some(cells: &mut [u32], place: usize, count: usize, numbers: &[u32], index: usize)
     requires cells { place + count ≤ length cells.old }
     requires numbers { index + count ≤ length numbers.now }
@@ -89,7 +92,6 @@ fn copy_some(cells: &mut [u32], place: usize, count: usize, numbers: &[u32], ind
     }
 }
 
-// A list of zeros.
 pub(crate) fn zeros(alloc: Global, len: usize) -> Result<Vec<u32>, OutOfMemory>
     ensures { IfOk result (λ list. list.items ≡ replicate len 0) }
 {

@@ -1,4 +1,5 @@
-// The states of the three parts of a window: its first, its middle and its last identifiers, one level lower.
+// The parts of a window: its first, its middle and its last identifiers, which are windows one
+// level lower. They are at the offsets 0, 1 and 2.
 ghost use Rattle.std.specs.Prelude.{◌≡◌, ◌+◌, ◌*◌, ◌/◌, ◌%◌, ◌<◌, ◌≤◌, length, take, drop, slice_get, Some, None, IfSome, IfNone, IfOk, IfErr, OnOk};
 ghost use Rattle.unroll.specs.Below.{part};
 ghost use Rattle.unroll.specs.BlockStates.{block_len, block_state};
@@ -14,7 +15,7 @@ use crate::source::Source;
 use lang_check::Plan;
 use win_index::BLOCK_WINDOWS;
 
-// The block that holds the part of a window from a place on, which is 0, 1 or 2, and the place of the part in it.
+// The block that holds the part of a window at this offset, and the index of the part in it.
 pub(crate) fn part_below<'s, S: Source<'s>>(
     plan: &Plan,
     source: &mut S,
@@ -42,8 +43,8 @@ pub(crate) fn part_below<'s, S: Source<'s>>(
     numbered_block(plan, source, below, number, None)
 }
 
-// The block that holds the window of a level with this number, and the place of the window in it. A block of the level may
-// be given.
+// The block that holds the window of a level with this number, and the index of the window in it.
+// `last` can be any block of the level.
 pub(crate) fn numbered_block<'s, S: Source<'s>>(
     plan: &Plan,
     source: &mut S,
@@ -70,7 +71,7 @@ pub(crate) fn numbered_block<'s, S: Source<'s>>(
     Ok((block, number % BLOCK_WINDOWS))
 }
 
-// The block of a level with this number: the one that is given, where it has the number, else the one that the source has.
+// The block of a level with this number: `last` if it has the number, else the source's.
 fn known_block<'s, S: Source<'s>>(
     plan: &Plan,
     source: &mut S,
@@ -94,7 +95,7 @@ fn known_block<'s, S: Source<'s>>(
     }
 }
 
-// The identifiers of a window from a place on, as many as a window of this level has.
+// The identifiers of a window from an offset on, as many as a window of this level has.
 fn part_of(window: &[u32], level: u32, offset: usize) -> &[u32]
     requires { offset + (2 * level + 1) ≤ length window.now }
     ensures { result.now ≡ part window.now level offset }

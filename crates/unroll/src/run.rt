@@ -1,4 +1,4 @@
-// Runs of windows: those that begin with the same identifiers, all but the last.
+// Runs: the windows with a common prefix, all identifiers but the last.
 ghost use Rattle.std.specs.Prelude.{◌≡◌, ◌↔◌, IsTrue, ℕ, List, ◌+◌, ◌*◌, ◌<◌, length, take, drop, slice_get, Some, IfSome, IfOk, IfErr};
 ghost use Rattle.unroll.specs.Below.{part};
 ghost use Rattle.unroll.specs.Entries.{Grows};
@@ -12,15 +12,16 @@ use crate::source::Source;
 use lang_check::Plan;
 use win_index::{MAX_WINDOW_LEN, RunPlaces, Shape};
 
-// The first part of a window: its identifiers, and what its node sends to the right in the next round.
+// The first part of a window: its identifiers, and the message of its node to the right in the next
+// round.
 #[derive(Clone, Copy)]
 pub(crate) struct FirstPart {
     pub(crate) ids: [u32; MAX_WINDOW_LEN],
     pub(crate) sent: u32,
 }
 
-// What the windows of a run share: the number of the first of the windows one level lower among which their last parts
-// stand, and their places there; their first part; what the node of their middle part holds.
+// What the windows of a run share: the number of the first window in the run of their last parts,
+// the positions of these, their first part, and the registers of their middle part's node.
 #[derive(Clone, Copy)]
 pub(crate) struct Run<'s> {
     pub(crate) start: u32,
@@ -29,8 +30,8 @@ pub(crate) struct Run<'s> {
     pub(crate) own: &'s [u32],
 }
 
-// The run of a window one level above `below`, from the first two parts of the window. The first part of another window may
-// be given.
+// Starts the run of a window one level above `below`, from its first two parts. `given` can be the
+// first part of another window.
 pub(crate) fn start_run<'s, S: Source<'s>>(
     plan: &Plan,
     source: &mut S,
@@ -60,8 +61,8 @@ pub(crate) fn start_run<'s, S: Source<'s>>(
     })
 }
 
-// The first part of a window one level above `below`: the one that is given, where it has the identifiers, else the one that
-// the source has.
+// The first part of a window one level above `below`: `given` if it has the same identifiers, else
+// from the source.
 fn first_part<'s, S: Source<'s>>(
     plan: &Plan,
     source: &mut S,
@@ -96,7 +97,7 @@ fn first_part<'s, S: Source<'s>>(
     })
 }
 
-// Whether two short lists of one length are equal.
+// Whether two short lists of the same length are equal.
 fn are_same(a: &[u32], b: &[u32]) -> bool
     requires { length a.now ≡ length b.now }
     ensures { IsTrue result ↔ (a.now ≡ b.now) }
@@ -109,7 +110,7 @@ fn are_same(a: &[u32], b: &[u32]) -> bool
     true
 }
 
-// Goes from a window one level above `below` to the first one after the windows that begin as it does.
+// Advances a window one level above `below` to the first one after its run.
 pub(crate) fn next_run(shape: Shape, below: u32, window: &mut [u32])
     requires below { below < shape.rounds }
     requires window { IsWindow (2 * below + 3) shape.ids window.old }
@@ -122,7 +123,7 @@ pub(crate) fn next_run(shape: Shape, below: u32, window: &mut [u32])
     shape.next_run(below + 1, window);
 }
 
-// The number of the first window that begins as the last part of a window does, with all identifiers but the last.
+// The number of the first window in the run of a window's last part.
 fn last_start(plan: &Plan, below: u32, window: &[u32]) -> u32
     requires below { below < length plan.now.program.steps }
     requires window { IsWindow (2 * below + 3) plan.now.ids window.now }

@@ -5,8 +5,8 @@ ghost use Rattle.win_index.specs.Blocks.{block_count};
 
 use crate::block::Block;
 
-/// A finite map of known blocks, all of one plan, from level and number. It only grows and never changes an
-/// entry.
+/// A map from level and number to the known blocks of one plan. Entries are added, and never
+/// changed or removed.
 pub trait Source<'s> {
     ghost plan: { Self → ProgramForIds };
 
@@ -14,11 +14,11 @@ pub trait Source<'s> {
 
     ghost Fixed: { Type 0 };
 
-    // What no call changes: the entries, for a source that learns nothing from its calls.
+    // What no call changes: the entries, if calls add none.
     ghost fixed: { Self → Fixed };
 
-    /// The block of a level of the plan and a number below the number of its blocks, known from then on, or
-    /// `None` where there is no entry.
+    /// Returns the block of a level of the plan and a number below the level's number of blocks,
+    /// which is known from then on, or `None` if there is no entry.
     fn block(&mut self, level: u32, number: u32) -> Option<&'s Block<'s>>
         requires level { level ≤ length (plan self.old).program.steps }
         requires number { number < block_count (plan self.old).ids level }

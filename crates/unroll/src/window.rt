@@ -9,11 +9,12 @@ use node_lang::MAX_REGISTERS;
 use round_eval::{round_of_row, row_at, sent_to_left, sent_to_right, start_of_row, width_of};
 use win_index::MAX_WINDOW_LEN;
 
-// The most cells of a line: a row for each identifier of a window.
+// The maximum number of cells of a line: a row for each identifier of a window.
 const CELLS: usize = MAX_WINDOW_LEN * MAX_REGISTERS as usize;
 
-/// Writes what a node holds after `r` rounds into `out`, which has a cell for each register, where the
-/// `2r+1` identifiers around it are the window: one window of any level up to that of the plan.
+/// Writes the registers of a node after `r` rounds to `out`, which has a cell for each register,
+/// from the window of the `2r+1` identifiers around it. The window can have any level up to the
+/// plan's.
 pub fn window_state(plan: &Plan, window: &[u32], out: &mut [u32])
     requires level { length window.now / 2 ≤ length plan.now.program.steps }
     requires window { IsWindow (2 * (length window.now / 2) + 1) plan.now.ids window.now }
@@ -33,7 +34,8 @@ pub fn window_state(plan: &Plan, window: &[u32], out: &mut [u32])
     out.copy_from_slice(&line[..width]);
 }
 
-// Writes what the inner nodes of a line hold after a round, by what all of them hold before it.
+// Writes the registers of the inner nodes of a line after a round, from those of all its nodes
+// before it.
 fn shrink(plan: &Plan, round: u32, inner: usize, line: &[u32; CELLS], next: &mut [u32; CELLS])
     requires round { round < length plan.now.program.steps }
     requires some { 1 ≤ inner }
