@@ -5,11 +5,11 @@ use Rattle.win_index.specs.Jobs.{jobs_of, job_number}
 use Rattle.lang_check.specs.Plans.{ProgramForIds}
 use Rattle.unroll.specs.BlockStates.{MadeBlock}
 
--- how many jobs a plan has
+-- the number of jobs of a plan
 abbrev pub job_count : ProgramForIds → ℕ
 job_count plan = length (jobs_of plan.ids (length plan.program.steps))
 
--- the number of the job for a block of a level, where there is one
+-- the number of the job for a block of a level, if there is one
 abbrev pub job_of : ProgramForIds → ℕ → ℕ → Option ℕ
 job_of plan level number = job_number plan.ids (length plan.program.steps) level number
 
@@ -21,7 +21,7 @@ IsKey plan level number = (level ≤ length plan.program.steps) × (number < blo
 abbrev pub IsKeyedBlock : ProgramForIds → ℕ → ℕ → MadeBlock → Type 0
 IsKeyedBlock plan level number b = (b.plan ≡ plan) × (b.level ≡ level) × (b.number ≡ number)
 
--- for each level of the plan the number of the job of its first block, after which the others of the level follow
+-- for each level of the plan the number of the job of its first block; the others of the level follow it
 abbrev pub AreFirstJobs : ProgramForIds → List ℕ → Type 0
 AreFirstJobs plan firsts =
     (length firsts ≡ length plan.program.steps + 1)

@@ -1,4 +1,4 @@
--- What asking a reader for a block does to it.
+-- The effect of asking a reader for a block.
 use Rattle.std.specs.Prelude.{◌≡◌, ℕ, Bool, true, false, None, Some}
 use Rattle.unroll.specs.BlockStates.{MadeBlock}
 use Rattle.shared_memo.specs.declared.reader.Reader.{Reader}
@@ -8,15 +8,15 @@ use Rattle.shared_memo.specs.Passes.{known, LearnsAt, KnowsSame}
 abbrev pub met_stranger : Reader → Bool
 met_stranger r = r.stranger
 
--- a reader before and after it was asked for the block of a level and a number; `found` says whether it answered one
+-- a reader before and after it was asked for the block of a level and a number; `found` says whether it returned one
 pub record Asks (level number : ℕ) (found : Bool) (old new : Reader) : Type 0 where
-  -- nothing but this block is learnt, and nothing where none is answered
+  -- at most this block is learnt, and nothing if none is returned
   pub learns : LearnsAt level number (known old.pass.now) (known new.pass.now)
   pub missed : found ≡ false → KnowsSame (known old.pass.now) (known new.pass.now)
-  -- a block that was known is answered
+  -- a block that was known is returned
   pub known_found : (b : MadeBlock) → known old.pass.now level number ≡ Some b → found ≡ true
-  -- the mark of a stranger stays once it is set, and an answer leaves it as it was
+  -- the mark of a stranger stays once it is set, and a returned block leaves it unchanged
   pub mark_stays : met_stranger old ≡ true → met_stranger new ≡ true
   pub mark_as_was : found ≡ true → met_stranger new ≡ met_stranger old
-  -- where the mark was set, a block that was not known is not answered
+  -- if the mark was set, a block that was not known is not returned
   pub only_known : met_stranger old ≡ true → known old.pass.now level number ≡ None → found ≡ false

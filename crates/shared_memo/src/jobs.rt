@@ -1,4 +1,4 @@
-// Where the jobs of a plan's levels begin.
+// The job numbers at which the levels of a plan begin.
 ghost use Rattle.std.specs.Prelude.{IfOk};
 ghost use Rattle.win_index.specs.declared.limits.TheConstants.{MAX_BLOCKS};
 ghost use Rattle.shared_memo.specs.PlanJobs.{AreFirstJobs};
@@ -8,8 +8,8 @@ use node_lang::OutOfMemory;
 use std::alloc::Global;
 use win_index::jobs_have_numbers;
 
-// For each level of a plan the number of the job of its first block. The jobs of a level follow one another, so each
-// job of the level is found from there.
+// For each level of a plan, the number of the job of its first block. The jobs of a level are
+// consecutive, so this gives the number of each of them.
 pub(crate) fn first_jobs(alloc: Global, plan: &Plan) -> Result<Vec<u32>, OutOfMemory>
     ensures { IfOk result (λ v. AreFirstJobs plan.now v.items) }
 {

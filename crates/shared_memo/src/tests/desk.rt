@@ -5,7 +5,7 @@ use crate::{Desk, Ticket};
 use std::test::Fail;
 use std::thread;
 
-// Takes the last ticket off.
+// Removes the last ticket.
 fn taken(desk: &Desk, tickets: &mut Vec<Ticket>) -> Option<Ticket>
     requires { All (λ t. IsTicketOf desk.now t × (drawn t ≡ []) × (told t ≡ 0)) tickets.old.items }
     ensures rest { All (λ t. IsTicketOf desk.now t × (drawn t ≡ []) × (told t ≡ 0)) tickets.new.items }
@@ -14,7 +14,7 @@ fn taken(desk: &Desk, tickets: &mut Vec<Ticket>) -> Option<Ticket>
     tickets.pop()
 }
 
-// The next number of a ticket, where there is one.
+// The next number of a ticket, if there is one.
 fn number(desk: &Desk, ticket: &mut Ticket) -> Result<u32, Fail>
     requires { IsTicketOf desk.now ticket.old × (told ticket.old ≡ 0) }
     ensures { OnOk result (IsTicketOf desk.now ticket.new × (told ticket.new ≡ 0)) }
@@ -56,7 +56,7 @@ fn no_numbers(rt: HostRuntime) -> Result<(), Fail> {
     Ok(())
 }
 
-// Draws until all numbers are drawn, and counts those that came.
+// Draws until all numbers are drawn, and counts those of this ticket.
 fn draw_all(desk: &Desk, mut ticket: Ticket) -> (Ticket, u32)
     requires { IsTicketOf desk.now ticket × (told ticket ≡ 0) }
     ensures { IsTicketOf desk.now result.0 }

@@ -10,7 +10,7 @@ use std::thread::Threads;
 use test_programs::{CV1, RED, plan_of};
 use unroll::Block;
 
-// What became of a block that was handed in; where it came back, its maker.
+// The outcome of handing in a block; if it was returned, its maker.
 #[derive(Clone, Copy, Debug, PartialEq, Eq)]
 enum Became {
     Fresh,
@@ -30,7 +30,7 @@ fn hand_in<'a>(memo: &Memo<'a>, pass: &mut Pass<'a>, block: Box<Block<'a>>) -> B
     }
 }
 
-// Who made the block that a look finds, if it finds one.
+// The maker of the block that a look finds, if it finds one.
 fn maker_at<'a>(memo: &Memo<'a>, pass: &mut Pass<'a>, level: u32, number: u32) -> Option<u32>
     requires { IsPassOf memo.now pass.old }
     ensures { IsPassOf memo.now pass.new }
@@ -44,8 +44,8 @@ fn maker_at<'a>(memo: &Memo<'a>, pass: &mut Pass<'a>, level: u32, number: u32) -
     }
 }
 
-// Two passes hand in the first block of level 0, made by 1 and by 2: what became of both, and who made the one that
-// they and a third pass find then.
+// Two passes hand in the first block of level 0, made by 1 and by 2. Returns both outcomes, and the
+// maker of the block that they and a third pass find then.
 fn two_hand_in(alloc: Global, plan: &Plan) -> Option<([Became; 2], [Option<u32>; 3])> {
     let memo = Memo::new(alloc, plan).ok()?;
     let mut a = memo.pass(alloc).ok()?;
@@ -71,8 +71,8 @@ fn the_first_block_stands(rt: HostRuntime) -> Result<(), Fail> {
     Ok(())
 }
 
-// Hands the memo of a plan a block of another plan, made by 3: what became of it, and who made the one that stands
-// then.
+// Hands the memo of a plan a block of another plan, made by 3. Returns the outcome, and the maker
+// of the block that the cell holds then.
 fn after_another<'a>(
     alloc: Global,
     plan: &'a Plan,
@@ -107,8 +107,8 @@ fn knows_both(pass: &Pass<'_>) -> Option<(bool, bool)> {
     Some((pass.knows(0, 0), pass.knows(1, 1)))
 }
 
-// A pass that knows the first block of level 0 learns from one that knows the second of level 1: what the first knew,
-// what it knows then, and what the other knows.
+// A pass that knows the first block of level 0 learns from one that knows the second of level 1.
+// Returns what the first knew before and after, and what the other knows.
 fn learnt(alloc: Global, plan: &Plan) -> Option<[(bool, bool); 3]> {
     let memo = Memo::new(alloc, plan).ok()?;
     let mut a = memo.pass(alloc).ok()?;
@@ -130,14 +130,14 @@ fn a_pass_learns_from_another(rt: HostRuntime) -> Result<(), Fail> {
     Ok(())
 }
 
-// Hands in the first block of level 0, and answers who made the one that stands.
+// Hands in the first block of level 0, and returns the maker of the block that the cell holds.
 fn install_and_look(alloc: Global, memo: &Memo<'_>, maker: u32) -> Option<u32> {
     let mut pass = memo.pass(alloc).ok()?;
     hand_in(memo, &mut pass, block_of(alloc, memo.plan(), 0, 0, maker)?);
     maker_at(memo, &mut pass, 0, 0)
 }
 
-// Who made the block that two threads see, each of which hands in one of its own.
+// The makers of the block that two threads see, each of which hands in one of its own.
 fn makers_of_two<R: Threads + Sync>(
     rt: &R,
     alloc: Global,

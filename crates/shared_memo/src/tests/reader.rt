@@ -6,7 +6,7 @@ use std::test::Fail;
 use test_programs::{CV1, plan_of};
 use unroll::Source;
 
-// Who made the block that a reader answers, if it answers one.
+// The maker of the block that a reader returns, if it returns one.
 fn maker_by(reader: &mut Reader<'_, '_, '_>, level: u32, number: u32) -> Option<u32> {
     if !has_block(reader.memo.plan(), level, number) {
         return None;
@@ -17,9 +17,9 @@ fn maker_by(reader: &mut Reader<'_, '_, '_>, level: u32, number: u32) -> Option<
     }
 }
 
-// What a reader answers while a block of level 1 stands in the first cell, which is one of level 0: who made the block
-// there, the block that its pass knows, and the block that another pass knows; and whether a look met the stranger,
-// and the reader before and after.
+// What a reader returns while a block of level 1 is in the first cell, which is one of level 0: the
+// maker of the block there, of the block that its pass knows, and of the block that another pass
+// knows. Also whether a look met the stranger, and the reader before and after.
 fn beside_a_stranger(alloc: Global, plan: &Plan) -> Option<([Option<u32>; 3], [bool; 3])> {
     let memo = Memo::new(alloc, plan).ok()?;
     let mut pass = memo.pass(alloc).ok()?;
@@ -51,8 +51,8 @@ fn after_a_stranger_only_known_blocks_are_answered(rt: HostRuntime) -> Result<()
     Ok(())
 }
 
-// Whether a reader finds the first block of level 1, which another pass installed, the second before and after it is
-// installed, and whether it met a stranger.
+// Whether a reader finds the first block of level 1, which another pass installed, and the second
+// one before and after it is installed; and whether it met a stranger.
 fn found(alloc: Global, plan: &Plan) -> Option<[bool; 4]> {
     let memo = Memo::new(alloc, plan).ok()?;
     let mut pass = memo.pass(alloc).ok()?;
