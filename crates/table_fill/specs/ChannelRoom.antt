@@ -1,4 +1,4 @@
--- Room in which the channels of a block's windows are read. No public contract cites this file.
+-- Scratch for reading the channels of a block's windows. No public contract cites this file.
 use Rattle.std.specs.Prelude.{◌≡◌, ℕ, ◌+◌, ◌*◌, ◌<◌, ◌≤◌, List, length, slice_index}
 use Rattle.node_lang.specs.Term.{terms}
 use Rattle.win_index.specs.declared.limits.TheConstants.{BLOCK_WINDOWS}
@@ -13,7 +13,7 @@ use Rattle.table_fill.specs.ProgramTables.{window_channel}
 abbrev pub IsStatesRoom : ProgramForIds → NodeStates → Type 0
 IsStatesRoom plan states = (states.registers ≡ length plan.program.start) × (length states.states ≡ BLOCK_WINDOWS)
 
--- room for the states of a block of the plan and for their channels
+-- scratch for the states of a block of the plan and for their channels
 pub record IsChannelRoom (plan : ProgramForIds) (work : Room) (states : NodeStates) (channels : List ℕ) : Type 0 where
   pub room : most_columns (terms plan.program) ≤ work.columns
   pub width : work.width ≡ BLOCK_WINDOWS

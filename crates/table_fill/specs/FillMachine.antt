@@ -21,7 +21,7 @@ pub record Machine : Type 0 where
   pub next : ℕ
   pub workers : List Worker
 
--- by which a proof tells workers apart, and machines
+-- injective codes of workers and of machines, which their models ask for
 abbrev pub worker_code : Coded Worker
 worker_code =
     code_by (Option ℕ × (Bool × List Bool)) (coded× (coded_option coded_ℕ) (coded× coded_bool (coded_list coded_bool)))
@@ -41,19 +41,19 @@ abbrev pub opening : ProgramForIds → ℕ → Machine
 opening plan workers =
     record { plan = plan; cells = replicate (job_count plan) None; next = 0; workers = replicate workers (idle (job_count plan)) }
 
--- worker w. Whoever is no worker counts as stopped, with no job in hand, and knows nothing
+-- worker w; a number that no worker has reads as a stopped worker that has no job in hand and knows no block
 abbrev pub nobody : Worker
 nobody = record { hand = None; stopped = true; knows = [] }
 
 abbrev pub worker : Machine → ℕ → Worker
 worker s w = slice_index_or s.workers w nobody
 
--- what the cell of a job holds, where there is a job
+-- the content of a job's cell, if there is a job
 abbrev pub cell_of : List (Option MadeBlock) → Option ℕ → Option MadeBlock
 cell_of cells None = None
 cell_of cells (Some job) = slice_index_or cells job None
 
--- whether a job is marked, where there is a job
+-- whether a job is marked, if there is a job
 abbrev pub is_marked : List Bool → Option ℕ → Bool
 is_marked marks None = false
 is_marked marks (Some job) = slice_index_or marks job false
@@ -72,7 +72,7 @@ pub record CanDraw (s : Machine) (w : ℕ) : Type 0 where
   pub free : (worker s w).hand ≡ None
   pub active : (worker s w).stopped ≡ false
 
--- it has the next job in hand then
+-- then it has the next job in hand
 abbrev pub drawn : Machine → ℕ → Machine
 drawn s w = record s { next = s.next + 1; workers = slice_set s.workers w (record (worker s w) { hand = Some s.next }) }
 
@@ -91,15 +91,15 @@ abbrev pub put_down : ℕ → Option ℕ → Option ℕ
 put_down job None = None
 put_down job (Some other) = cond (other == job) None (Some other)
 
--- a worker that knows this job's block from then on, and has the job no longer in hand
+-- a worker that has learned this job's block, and no longer has the job in hand
 abbrev pub learned : ℕ → Worker → Worker
 learned job v = record v { hand = put_down job v.hand; knows = slice_set v.knows job true }
 
--- the worker knows the block then
+-- then the worker knows the block
 abbrev pub looked : Machine → ℕ → ℕ → Machine
 looked s w job = record s { workers = slice_set s.workers w (learned job (worker s w)) }
 
--- where these jobs are marked, all blocks below the block of this level and number are
+-- the marked jobs include all blocks below the block of this level and number
 abbrev pub MarksBelow : ProgramForIds → List Bool → ℕ → ℕ → Type 0
 MarksBelow plan marks level number = (low c : ℕ) → IsBelow plan.ids level number low c → is_marked marks (job_of plan low c) ≡ true
 
@@ -115,7 +115,7 @@ pub record CanInstall (s : Machine) (w level number job : ℕ) : Type 0 where
 abbrev pub block_by : ProgramForIds → ℕ → ℕ → ℕ → MadeBlock
 block_by plan level number maker = record { plan = plan; level = level; number = number; maker = maker }
 
--- the cell holds the block by this worker then, and the worker knows it
+-- then the cell holds the block by this worker, who knows it
 abbrev pub installed : Machine → ℕ → ℕ → ℕ → ℕ → Machine
 installed s w level number job =
     record s {
@@ -123,8 +123,8 @@ installed s w level number job =
       workers = slice_set s.workers w (learned job (worker s w));
     }
 
--- what one event makes of s. Where it is not enabled, or names a worker, a level or a number out of range, it
--- changes nothing. A worker that draws where all jobs are drawn is stopped
+-- the effect of an event on s. An event that is not enabled, or that names a worker, a level or a number out of range,
+-- changes nothing. A worker that draws after all jobs are drawn is stopped
 abbrev pub Steps : Machine → FillEvent → Machine → Type 0
 Steps s (Draw w) t =
     (CanDraw s w × (s.next < job_count s.plan) × (t ≡ drawn s w))
@@ -137,7 +137,7 @@ Steps s (Install w level number) t =
     ((job : ℕ) × CanInstall s w level number job × (t ≡ installed s w level number job))
     ⊎ (((job : ℕ) → ¬ CanInstall s w level number job) × (t ≡ s))
 
--- what the events of a list make of s, one after another
+-- the effect of a list of events on s
 abbrev pub Runs : Machine → List FillEvent → Machine → Type 0
 Runs s [] t = t ≡ s
 Runs s (e ∷ es) t = (m : Machine) × Steps s e m × Runs m es t

@@ -1,4 +1,4 @@
--- What holds of the fill machine after every list of events.
+-- The invariant of the fill machine, which holds after every list of events.
 use Rattle.std.specs.Prelude.{◌≡◌, ℕ, ◌<◌, ◌≤◌, ◌⊎◌, Bool, true, false, List, Option, None, Some, IsSome, length, slice_index_or}
 use Rattle.lang_check.specs.Plans.{ProgramForIds}
 use Rattle.unroll.specs.BlockStates.{MadeBlock}
@@ -15,7 +15,7 @@ pub record HoldsJobs (plan : ProgramForIds) (cells : List (Option MadeBlock)) : 
 abbrev pub MarkedAreFull : List (Option MadeBlock) → List Bool → Type 0
 MarkedAreFull cells marks = (job : ℕ) → slice_index_or marks job false ≡ true → IsSome (slice_index_or cells job None)
 
--- how the cells, the next job and the workers fit together
+-- the invariant of the cells, the next job and the workers
 pub record IsConsistent (s : Machine) : Type 0 where
   -- each full cell holds the block of its job
   pub cells : HoldsJobs s.plan s.cells
@@ -41,7 +41,7 @@ pub record Follows (s t : Machine) : Type 0 where
   pub workers : length t.workers ≡ length s.workers
   pub consistent : IsConsistent t
 
--- where all workers are stopped, no cell is empty
+-- if all workers are stopped, no cell is empty
 abbrev pub IsFilledWhenStopped : Machine → Type 0
 IsFilledWhenStopped s =
     ((w : ℕ) → w < length s.workers → (worker s w).stopped ≡ true) → (job : ℕ) → job < job_count s.plan

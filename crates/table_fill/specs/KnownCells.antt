@@ -6,7 +6,7 @@ use Rattle.unroll.specs.Entries.{Entries}
 use Rattle.shared_memo.specs.PlanJobs.{job_of}
 use Rattle.table_fill.specs.FillMachine.{cell_of, is_marked}
 
--- the block in a job's cell, where the job is marked
+-- the block in a job's cell, if the job is marked
 abbrev pub known_cell : List (Option MadeBlock) → List Bool → Option ℕ → Option MadeBlock
 known_cell cells marks job = cond (is_marked marks job) (cell_of cells job) None
 

@@ -9,12 +9,13 @@ use Rattle.table_fill.specs.FillMachine.{Machine, Runs}
 use Rattle.table_fill.specs.ProgramTables.{table_of}
 use Rattle.table_fill.specs.Tables.{channel_of}
 
--- on every ring, the channel that a program's table has at the window of a place is the channel of that place after all rounds
+-- on every ring, the channel of a program's table at the window of a place is the channel of that place after all
+-- rounds
 abbrev pub TableHasTheChannelsOfRounds : Type 0
 TableHasTheChannelsOfRounds =
     (p : ProgramTree) (m : ℕ) (ring : List ℕ) (place : ℕ) → IsRing m (length p.steps) ring → place < length ring
     → channel_of (table_of p m) (window_around ring (length p.steps) place) ≡ Some (channel_at p ring place)
 
--- a list of events leads from a machine to one machine at most
+-- a list of events leads from a machine to at most one machine
 abbrev pub OneRun : Type 0
 OneRun = (s t u : Machine) (es : List FillEvent) → Runs s es t → Runs s es u → t ≡ u

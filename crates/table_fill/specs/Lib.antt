@@ -1,5 +1,5 @@
--- The definitions that the contracts cite: tables, a table's channel at a window, the table of a program, how
--- many workers may fill it, what a pass knows then; the fill machine and what holds of it; the laws; what private
+-- The definitions that the contracts cite: tables, a table's channel at a window, the table of a program, the number of
+-- workers that may fill it, what a pass knows then; the fill machine and its invariant; the laws; and what private
 -- contracts say of the code's fields, of a worker's source and of a missing block.
 pub mod Tables
 pub mod ProgramTables

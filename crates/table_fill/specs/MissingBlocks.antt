@@ -1,11 +1,11 @@
--- A block that is missing where one of a higher level is made.
+-- A block that is missing when one of a higher level is made.
 use Rattle.std.specs.Prelude.{ℕ, ◌<◌}
 use Rattle.lang_check.specs.Plans.{ProgramForIds}
 use Rattle.unroll.specs.declared.fault.MakeFault.{MakeFault}
 use Rattle.unroll.specs.declared.fault.MakeFault.TheVariants.{Missing, OutOfMemory}
 use Rattle.shared_memo.specs.PlanJobs.{IsKey}
 
--- the fault, where it names a block, names one of the plan's of a lower level
+-- if the fault names a block, it is a block of the plan of a lower level
 abbrev pub IsMissingBlock : ProgramForIds → ℕ → MakeFault → Type 0
 IsMissingBlock plan level (Missing low number) = (low < level) × IsKey plan low number
 IsMissingBlock plan level OutOfMemory = Unit {0}

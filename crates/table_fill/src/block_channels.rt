@@ -1,4 +1,4 @@
-// The channels of a block of the last level: its states in columns, their channels, the entries of the table.
+// The channels of a block of the last level, from its states in columns to entries of the table.
 ghost use Rattle.std.specs.Prelude.{◌≡◌, ℕ, ◌*◌, ◌^◌, ◌<◌, ◌≤◌, [], length, slice_index_or, All};
 ghost use Rattle.node_lang.specs.Term.{terms};
 ghost use Rattle.lang_check.specs.Plans.{ProgramForIds};
@@ -14,7 +14,7 @@ use round_eval::rows_are_taken;
 use unroll::{Block, windows_are_within};
 use win_index::{number_of_window, windows_have_numbers};
 
-// Writes the states of a block into columns.
+// Copies the states of a block to columns.
 pub(crate) fn put_block(block: &Block<'_>, states: &mut Columns)
     requires room { IsStatesRoom block.now.plan states.old }
     ensures room { IsStatesRoom block.now.plan states.new }
@@ -25,7 +25,7 @@ pub(crate) fn put_block(block: &Block<'_>, states: &mut Columns)
     states.put_rows(0, block.len() as usize, block.states(), 0);
 }
 
-// Writes the channels of a block of the last level, whose states stand in columns.
+// Writes the channels of a block of the last level, whose states are in columns.
 pub(crate) fn write_channels(
     code: &Code,
     block: &Block<'_>,
@@ -49,7 +49,7 @@ pub(crate) fn write_channels(
     channel_columns(code, states, work, channels);
 }
 
-// Writes the channels of a block of the last level as entries of a table.
+// Writes the channels of a block of the last level to entries of a table.
 pub(crate) fn write_entries(channels: &[u32], block: &Block<'_>, entries: &mut [u16])
     requires wide { length channels.now ≡ BLOCK_WINDOWS }
     requires channels { AreChannels block.now.plan block.now.number channels.now }
@@ -61,7 +61,7 @@ pub(crate) fn write_entries(channels: &[u32], block: &Block<'_>, entries: &mut [
     narrow(&channels[..entries.len()], limit, entries);
 }
 
-// Copies numbers below a limit that 16 bits can count to.
+// Copies numbers below a limit that fits 16 bits.
 fn narrow(numbers: &[u32], limit: u32, entries: &mut [u16])
     requires limit { limit ≤ 2 ^ 16 }
     requires numbers { All (λ n. n < limit) numbers.now }

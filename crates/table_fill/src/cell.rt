@@ -14,16 +14,16 @@ use std::alloc::Global;
 use unroll::{MakeFault, Source};
 use win_index::{MAX_BLOCKS, window_of_number};
 
-// What became of a block that was made.
+// The outcome of making a block.
 #[derive(Clone, Copy, Debug, PartialEq, Eq)]
 pub(crate) enum Made {
-    // It stands in its cell.
+    // The block was stored in its cell.
     Fresh,
-    // Another stood there before.
+    // The cell was set before.
     Stood,
 }
 
-// The cells of a plan's blocks, as one worker knows them.
+// The cells of a plan's blocks, as one worker sees them.
 pub(crate) trait Cells {
     ghost plan: { Self → ProgramForIds };
 
@@ -32,10 +32,10 @@ pub(crate) trait Cells {
     // What no call changes.
     ghost fixed: { Self → Fixed };
 
-    // The blocks that are known to stand in their cells.
+    // The blocks that are known to be in their cells.
     ghost entries: { Self → Entries };
 
-    // Whether it finds the block of a level and a number.
+    // Whether the block of this level and number is found.
     fn finds(&mut self, level: u32, number: u32) -> bool
         requires { IsKey (plan self.old) level number }
         ensures plan { plan self.new ≡ plan self.old }
@@ -43,7 +43,8 @@ pub(crate) trait Cells {
         ensures grows { Grows (entries self.old) (entries self.new) }
         ensures found { IsTrue result → is_some (entries self.new level number) ≡ true };
 
-    // Makes the block of a level and a number and installs it, or names a block of a lower level that is missing.
+    // Makes the block of this level and number and stores it, or returns a block of a lower level
+    // that is missing.
     fn make(
         &mut self,
         alloc: Global,
@@ -58,7 +59,7 @@ pub(crate) trait Cells {
         ensures fresh { IfOk result (λ made. made ≡ Fresh → is_some (entries self.new level number) ≡ true) }
         ensures missing { IfErr result (IsMissingBlock (plan self.old) level) };
 
-    // Whether it met a block in another's place.
+    // Whether a cell held an unexpected block.
     fn stranger(&self) -> bool;
 }
 
@@ -102,8 +103,8 @@ impl<'s, 'a> Cells for CellMaker<'s, 'a> {
     }
 }
 
-// Fills the cell of a level and a number, unless it is full. Blocks below that are missing are made first: at most
-// all blocks of a level, so that the last attempt misses none.
+// Fills the cell of this level and number, unless it is full. Missing blocks below are made first;
+// there are at most `MAX_BLOCKS` of them, so that the last attempt misses none.
 pub(crate) fn fill_cell<C: Cells>(
     alloc: Global,
     cells: &mut C,

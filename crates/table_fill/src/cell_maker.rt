@@ -1,4 +1,4 @@
-// What one worker has: its reader of the memo, and what makes blocks of the same plan.
+// A worker's reader of the memo, and its maker of blocks of the same plan.
 ghost use Rattle.std.specs.Prelude.{◌≡◌};
 
 use crate::own_reader::OwnReader;

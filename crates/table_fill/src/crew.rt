@@ -14,11 +14,11 @@ use std::sync::Wait;
 use std::thread;
 use std::thread::{JoinHandle, Scope, Threads};
 
-// What a worker answers once it has ended.
+// The result of a worker.
 type Answer = Result<(), WorkFault>;
 
-// Fills a memo by so many workers, and answers what a worker without others knows then. That threads may share a memo is
-// shown here, where few values are in scope.
+// Fills a memo with this many workers. A single worker returns its pass. That threads can share a
+// memo is proved here, where few values are in scope.
 pub(crate) fn fill_memo<'a, R: Threads + Wait + Sync, G: Gate + Sync>(
     rt: &R,
     alloc: Global,
@@ -33,8 +33,8 @@ pub(crate) fn fill_memo<'a, R: Threads + Wait + Sync, G: Gate + Sync>(
     fill_by_workers(rt, alloc, memo, workers, gate)
 }
 
-// Fills what has jobs: the workers draw them at one desk. A worker without others works in this thread, and what it
-// knows then is answered.
+// Fills jobs with workers that draw them at one desk. A single worker runs on the calling thread,
+// and returns what it learned.
 pub(crate) fn fill_by_workers<R: Threads + Wait + Sync, M: Leaves + Sync, G: Gate + Sync>(
     rt: &R,
     alloc: Global,
@@ -59,7 +59,7 @@ pub(crate) fn fill_by_workers<R: Threads + Wait + Sync, M: Leaves + Sync, G: Gat
     Ok(Some(memo.work_alone(alloc, &desk, &mut ticket, gate, 0)?))
 }
 
-// Makes a worker of each ticket, and runs each in a thread of its own.
+// Makes a worker for each ticket, and runs each on a thread of its own.
 fn fill_at<R: Threads + Wait + Sync, M: Fills + Sync, G: Gate + Sync>(
     rt: &R,
     alloc: Global,
@@ -112,7 +112,7 @@ fn crew_of<'d, 'm, 'g, M: Fills, G: Gate>(
     Ok(crew)
 }
 
-// Runs each worker in a thread of its own, until all have ended.
+// Runs each worker on a thread of its own, until all have ended.
 fn run_all<'d, 'm, 'g, R: Threads + Wait + Sync, M: Fills + Sync, G: Gate + Sync>(
     rt: &R,
     crew: Vec<Worker<'d, 'm, 'g, M, G>>,
@@ -129,7 +129,8 @@ fn run_all<'d, 'm, 'g, R: Threads + Wait + Sync, M: Fills + Sync, G: Gate + Sync
     )
 }
 
-// Starts the workers, and joins all that were started. A refused start counts first.
+// Starts the workers, and joins all that were started. A refused start takes precedence over their
+// faults.
 fn run_in_scope<
     's,
     'd: 's,
@@ -151,7 +152,7 @@ fn run_in_scope<
     answer_of(started, join_all(rt, handles))
 }
 
-// What a crew answers whose workers were all started or not, and that answered this: a refused start counts first.
+// The result of a pool of workers: a refused start, else what they returned.
 fn answer_of(started: bool, joined: Answer) -> Result<(), CrewFault>
     ensures { result ≡ crew_answer started joined }
 {
@@ -164,7 +165,7 @@ fn answer_of(started: bool, joined: Answer) -> Result<(), CrewFault>
     }
 }
 
-// Starts workers up to the first start that is refused, and tells whether all were started.
+// Starts workers until a start is refused, and returns whether all were started.
 fn start_all<'s, 'd: 's, 'm: 's, 'g: 's, E, M: Fills + Sync + 's, G: Gate + Sync + 's>(
     scope: &Scope<'s, E>,
     crew: Vec<Worker<'d, 'm, 'g, M, G>>,
@@ -184,7 +185,7 @@ fn start_all<'s, 'd: 's, 'm: 's, 'g: 's, E, M: Fills + Sync + 's, G: Gate + Sync
     true
 }
 
-// Starts one worker in a thread, or answers `None` where that was refused.
+// Starts a worker on a thread, or returns `None` if the start was refused.
 fn start_one<'s, 'd: 's, 'm: 's, 'g: 's, E, M: Fills + Sync + 's, G: Gate + Sync + 's>(
     scope: &Scope<'s, E>,
     worker: Worker<'d, 'm, 'g, M, G>,
@@ -192,7 +193,7 @@ fn start_one<'s, 'd: 's, 'm: 's, 'g: 's, E, M: Fills + Sync + 's, G: Gate + Sync
     scope.spawn(move || worker.run()).ok()
 }
 
-// Joins the workers in their order. The fault of the lowest that has one counts.
+// Joins the workers in order, and returns the fault of the lowest one that has a fault.
 fn join_all<R: Threads>(rt: &R, handles: Vec<JoinHandle<Answer>>) -> Answer {
     let mut lowest = Ok(());
     for handle in handles {
@@ -201,7 +202,7 @@ fn join_all<R: Threads>(rt: &R, handles: Vec<JoinHandle<Answer>>) -> Answer {
     lowest
 }
 
-// The first answer where it is a fault, else the second.
+// The first result if it is a fault, else the second.
 fn earlier(first: Answer, second: Answer) -> Answer
     ensures { result ≡ first_fault first second }
 {

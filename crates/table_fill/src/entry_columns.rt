@@ -8,7 +8,8 @@ use std::marker::Model;
 use unroll::Block;
 use win_index::BLOCK_WINDOWS;
 
-// What reads the channels of a plan's blocks of the last level, block by block. It is seen as the plan.
+// Scratch for reading the channels of a plan's blocks of the last level, block by block. Its model
+// is the plan.
 #[derive(Drop)]
 pub(crate) struct EntryColumns {
     pub(crate) code: Code,
@@ -36,7 +37,7 @@ impl EntryColumns {
     ghost use Rattle.table_fill.specs.EntryShares.{AreEntries};
     ghost use Rattle.unroll.specs.BlockStates.{block_len};
 
-    // Room for the blocks of a plan. The error comes where memory was refused.
+    // Allocates scratch for the blocks of a plan, or returns the error that memory was refused.
     pub(crate) fn new(alloc: Global, plan: &Plan) -> Result<EntryColumns, OutOfMemory>
         ensures { IfOk result (λ entries. entries ≡ plan.now) }
     {

@@ -2,14 +2,15 @@ ghost use Rattle.std.specs.Prelude.{◌≡◌, ◌≢◌};
 ghost use Rattle.table_fill.specs.Faults.{fill_fault_of};
 ghost use Rattle.table_fill.specs.declared.fault.CrewFault.TheVariants.{Work};
 
-/// Why no table was compiled.
+/// Why a table was not compiled.
 #[derive(Clone, Copy, Debug, PartialEq, Eq)]
 pub enum FillFault {
     /// The number of workers is not 1 to `MAX_THREADS`.
     WorkersOutOfRange,
-    /// The allocator refused memory.
+    /// Memory could not be allocated.
     OutOfMemory,
-    /// A cell of the memo holds the block of another plan, level or number, or none where a block was set.
+    /// A cell of the memo holds the block of another plan, level or number, or is empty where a
+    /// block was set.
     Stranger,
     /// The start of a thread was refused.
     NoThread,
@@ -22,7 +23,7 @@ pub(crate) enum WorkFault {
     Stranger,
 }
 
-// Why a memo was not filled. The number of workers is in its range by then.
+// Why a pool of workers did not fill a memo. Their number is in its range by then.
 #[derive(Clone, Copy, Debug, PartialEq, Eq)]
 pub(crate) enum CrewFault {
     Work(WorkFault),
@@ -37,7 +38,7 @@ impl From<WorkFault> for CrewFault {
     }
 }
 
-// The same fault for the caller.
+// Converts a fault of a pool of workers to `compile`'s.
 pub(crate) fn fill_fault(fault: CrewFault) -> FillFault
     ensures same { result ≡ fill_fault_of fault }
     ensures range { result ≢ FillFault.WorkersOutOfRange }

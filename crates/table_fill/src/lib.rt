@@ -1,4 +1,4 @@
-//! Tables of channels, one for each window, and the table of a program.
+//! Tables with a channel for each window, and the compilation of a program to its table.
 #![tactic(auto)]
 
 mod block_channels;

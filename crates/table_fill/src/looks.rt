@@ -5,8 +5,8 @@ ghost use Rattle.unroll.specs.Entries.{Grows};
 
 use shared_memo::{Memo, Pass};
 
-// Looks at each cell, and answers whether it found a block of its level and number in each. The pass then knows
-// them all.
+// Looks at each cell, and returns whether each holds a block of its level and number. The pass then
+// knows them all.
 pub(crate) fn look_at_all<'a>(memo: &Memo<'a>, pass: &mut Pass<'a>) -> bool
     requires { IsPassOf memo.now pass.old }
     ensures pass { IsPassOf memo.now pass.new }
@@ -24,7 +24,7 @@ pub(crate) fn look_at_all<'a>(memo: &Memo<'a>, pass: &mut Pass<'a>) -> bool
     true
 }
 
-// What a worker left is known from then on.
+// Adds what a single worker learned to the pass.
 pub(crate) fn learn_left<'a>(memo: &Memo<'a>, pass: &mut Pass<'a>, left: Option<Pass<'a>>)
     requires pass { IsPassOf memo.now pass.old }
     requires left { IfSome left (IsPassOf memo.now) }

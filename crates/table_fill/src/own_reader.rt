@@ -4,8 +4,8 @@ ghost use Rattle.shared_memo.specs.Passes.{IsPassOf, IsPassOf-prop};
 use shared_memo::{Memo, Pass, found_in};
 use unroll::{Block, Source};
 
-// A source of blocks that looks into a memo through a pass of its own, and marks that it met a stranger. It goes on to look
-// after that: what the pass knows is always found.
+// A source of blocks that looks into a memo through a pass of its own, and marks a stranger. It
+// keeps looking after one, so a block that the pass knows is always found.
 #[derive(Drop)]
 pub(crate) struct OwnReader<'s, 'a> {
     pub(crate) memo: &'s Memo<'a>,

@@ -18,10 +18,10 @@ use std::thread::Threads;
 use unroll::Block;
 use win_index::BLOCK_WINDOWS;
 
-// One share for each so many windows begun, and no more: fewer are not worth a thread.
+// The number of windows for each share. Fewer do not pay for a thread.
 const SHARE_WINDOWS: u32 = 64 * BLOCK_WINDOWS;
 
-// Columns for each share of a plan's entries, of which there are so many at most.
+// Scratch columns for the shares of a plan's entries, of which there are at most `shares`.
 pub(crate) fn columns_for(
     alloc: Global,
     plan: &Plan,
@@ -36,7 +36,7 @@ pub(crate) fn columns_for(
     columns_of_shares(alloc, plan, shares.min(worth))
 }
 
-// Columns for each of so many shares.
+// Scratch columns for each of `shares` shares.
 fn columns_of_shares(
     alloc: Global,
     plan: &Plan,
@@ -52,7 +52,7 @@ fn columns_of_shares(
     Ok(columns)
 }
 
-// How many entries a plan's table has.
+// The number of entries of a plan's table.
 pub(crate) fn entry_count(plan: &Plan) -> usize
     ensures { result ≡ window_count plan.now.ids (length plan.now.program.steps) }
 {
@@ -60,14 +60,14 @@ pub(crate) fn entry_count(plan: &Plan) -> usize
     shape.count(shape.rounds()) as usize
 }
 
-// A list with room for the entries of a plan's table.
+// An empty list with capacity for the entries of a plan's table.
 pub(crate) fn no_entries(alloc: Global, plan: &Plan) -> Result<Vec<u16>, OutOfMemory>
     ensures { IfOk result (λ entries. window_count plan.now.ids (length plan.now.program.steps) ≤ vec_capacity entries) }
 {
     Vec::with_capacity(alloc, entry_count(plan)).map_err(|_| OutOfMemory)
 }
 
-// Makes a list one of so many zeros, for which it has room.
+// Fills a list with `count` zeros, for which it has capacity.
 pub(crate) fn put_zeros(entries: &mut Vec<u16>, count: usize)
     requires { count ≤ vec_capacity entries.old }
     ensures { vec_len entries.new ≡ count }
@@ -77,7 +77,7 @@ pub(crate) fn put_zeros(entries: &mut Vec<u16>, count: usize)
     };
 }
 
-// The table, whose entries are read from the blocks of the last level, by as many shares as there are columns.
+// Reads the table from the blocks of the last level, with a share for each set of columns.
 pub(crate) fn read_table<R: Threads + Sync>(
     rt: &R,
     plan: &Plan,
@@ -120,7 +120,7 @@ fn known_block<'s, 'a>(
     }
 }
 
-// A list with room for the blocks of the last level.
+// An empty list with capacity for the blocks of the last level.
 pub(crate) fn no_blocks<'s, 'a>(
     alloc: Global,
     memo: &'s Memo<'a>,
@@ -132,7 +132,7 @@ pub(crate) fn no_blocks<'s, 'a>(
     Vec::with_capacity(alloc, shape.blocks(shape.rounds()) as usize).map_err(|_| OutOfMemory)
 }
 
-// The blocks of the last level, in order, put into a list with room for them.
+// The blocks of the last level in order, in a list with capacity for them.
 pub(crate) fn last_blocks<'s, 'a>(
     memo: &'s Memo<'a>,
     pass: &mut Pass<'a>,

@@ -1,4 +1,5 @@
-// The entries of a table, read from the blocks of the last level by shares, each in a thread of its own.
+// The entries of a table, read from the blocks of the last level in shares, each on a thread of its
+// own.
 ghost use Rattle.std.specs.Prelude.{◌≡◌, ◌*◌, ◌/◌, ◌%◌, ◌<◌, ◌≤◌, ◌⊎◌, length, All};
 ghost use Rattle.std.specs.Thread.{IsSync};
 ghost use Rattle.win_index.specs.Blocks.{window_count};
@@ -10,8 +11,8 @@ use std::thread::{Threads, join_mut};
 use unroll::Block;
 use win_index::BLOCK_WINDOWS;
 
-// Writes all entries, by as many shares as there are columns. More shares than one are written in a thread each, while
-// this one waits.
+// Writes all entries, with a share for each set of columns. Several shares are written on a thread
+// each, while this one waits.
 pub(crate) fn write_shares<R: Threads + Sync>(
     rt: &R,
     plan: &Plan,
@@ -33,8 +34,8 @@ pub(crate) fn write_shares<R: Threads + Sync>(
     }
 }
 
-// Writes the entries from the block `first` on, by as many shares as there are columns. The first share is written in a
-// thread of its own, while this one sees to the others.
+// Writes the entries from the block `first` on, with a share for each set of columns. The first
+// share is written on a thread of its own, while this one handles the others.
 #[cycle(shares)]
 fn write_from<R: Threads + Sync>(
     rt: &R,
@@ -71,8 +72,8 @@ fn write_from<R: Threads + Sync>(
     );
 }
 
-// How many of so many windows the first of so many shares has: those of its part of the whole blocks, and all of them
-// where it is the only one.
+// The number of windows of the first of `shares` shares: its part of the whole blocks, or all
+// windows if it is the only share.
 fn share_len(windows: usize, shares: usize) -> usize
     requires { 0 < shares }
     ensures one { shares ≡ 1 → result ≡ windows }
@@ -88,7 +89,7 @@ fn share_len(windows: usize, shares: usize) -> usize
     }
 }
 
-// Writes the entries of a share in a thread of its own, and those after it.
+// Writes the entries of a share on a thread of its own, and those of the shares after it.
 #[cycle(shares)]
 fn write_both<R: Threads + Sync>(
     rt: &R,

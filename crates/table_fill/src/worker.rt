@@ -14,9 +14,9 @@ use std::alloc::Global;
 use unroll::BlockMaker;
 use win_index::jobs_have_numbers;
 
-// What workers fill, job by job.
+// Jobs that workers fill.
 pub(crate) trait Fills {
-    // How many jobs it has.
+    // The number of jobs.
     ghost jobs: { Self → ℕ };
 
     fn total(&self) -> u32
@@ -36,17 +36,17 @@ pub(crate) trait Fills {
         requires total { numbers_of desk.now ≡ jobs self.now };
 }
 
-// What workers fill where one without others leaves what it knows.
+// Jobs whose single worker returns what it learned.
 pub(crate) trait Leaves: Fills {
     type Left: Drop;
 
-    // Whether a worker of this may leave that.
+    // Whether a worker of these jobs can return this.
     ghost IsLeft: { Self → Self.Left → Type 0 };
 
-    // Whether these jobs are known to be filled.
+    // Whether it knows that these jobs are filled.
     ghost KnowsJobs: { Self.Left → List ℕ → Type 0 };
 
-    // Works, and answers what the worker knows: each job that it has drawn is filled.
+    // Works, and returns what the worker knows: each job that it has drawn is filled.
     fn work_alone<G: Gate>(
         &self,
         alloc: Global,
@@ -119,7 +119,7 @@ impl<'a> Leaves for Memo<'a> {
     }
 }
 
-// One worker, ready to draw.
+// A worker that is ready to draw.
 #[derive(Drop)]
 pub(crate) struct Worker<'d, 'm, 'g, M: Fills, G: Gate> {
     pub number: u32,
@@ -133,7 +133,7 @@ pub(crate) struct Worker<'d, 'm, 'g, M: Fills, G: Gate> {
 }
 
 impl<'d, 'm, 'g, M: Fills, G: Gate> Worker<'d, 'm, 'g, M, G> {
-    // Does all its work.
+    // Draws and fills until all jobs are drawn.
     pub(crate) fn run(self) -> Result<(), WorkFault> {
         let Worker {
             number,

@@ -1,11 +1,11 @@
-/// What a worker does: it draws, looks at the cell of a level and a number, or installs the block of a level and a
-/// number.
+/// An event of the fill machine: a worker draws a job, looks at the cell of a level and a number,
+/// or installs the block of a level and a number.
 #[derive(Clone, Copy, Debug, PartialEq, Eq)]
 pub enum FillEvent {
-    /// Worker.
+    /// The worker.
     Draw(u32),
-    /// Worker, level and number.
+    /// The worker, the level and the number.
     Look(u32, u32, u32),
-    /// Worker, level and number.
+    /// The worker, the level and the number.
     Install(u32, u32, u32),
 }

@@ -13,7 +13,7 @@ use std::alloc::Global;
 use unroll::{Block, MakeFault, make_block};
 use win_index::jobs_have_numbers;
 
-// Makes a block from the cells that are known, or answers `None` where a block below is not known.
+// Makes a block from the cells that are known, or returns `None` if a block below is not known.
 fn make_known<'a, 's>(
     alloc: Global,
     plan: &'a Plan,
@@ -36,7 +36,7 @@ fn make_known<'a, 's>(
 }
 
 impl<'a> World<'a> {
-    // A worker installs the block of a level and a number.
+    // Lets a worker install the block of a level and a number.
     pub(crate) fn install(
         &mut self,
         alloc: Global,

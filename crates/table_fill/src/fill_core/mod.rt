@@ -1,4 +1,5 @@
-//! The fill machine: what workers that draw jobs, look at cells and install blocks have done after a list of events.
+//! The fill machine: the state of workers that draw jobs, look at cells and install blocks, after a
+//! list of events.
 
 mod draws;
 mod event;

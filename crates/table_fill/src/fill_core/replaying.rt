@@ -11,7 +11,7 @@ use std::alloc::Global;
 use unroll::Block;
 use win_index::jobs_have_numbers;
 
-// Runs the events, from the opening state of so many workers.
+// Runs the events from the opening state with this many workers.
 pub(crate) fn run<'a>(
     alloc: Global,
     plan: &'a Plan,
@@ -31,7 +31,7 @@ pub(crate) fn run<'a>(
 }
 
 impl<'a> World<'a> {
-    // One event.
+    // Applies an event.
     fn step(&mut self, alloc: Global, event: FillEvent) -> Result<(), OutOfMemory>
         requires { IsConsistent (machine_of self.old) }
         ensures { OnOk result (Steps (machine_of self.old) event (machine_of self.new)) }
@@ -47,7 +47,7 @@ impl<'a> World<'a> {
     }
 }
 
-// Empty cells, nothing drawn, and workers that know nothing.
+// The opening state: empty cells, no job drawn, and workers that know nothing.
 fn opening<'a>(alloc: Global, plan: &'a Plan, workers: u32) -> Result<World<'a>, OutOfMemory>
     ensures { IfOk result (λ world. machine_of world ≡ opening_of plan.now workers) }
 {

@@ -8,9 +8,9 @@ use std::marker::Model;
 use unroll::Block;
 use win_index::jobs_have_numbers;
 
-/// What a list of events leaves: the cells of a plan's jobs, the next job, and the workers. It is made by `replay`
-/// alone. Its readers take any worker, level and number: whoever is no worker counts as stopped, with no job in hand,
-/// and knows nothing.
+/// The state after a list of events: the cells of a plan's jobs, the next job, and the workers.
+/// Only `replay` makes one. Its methods take any worker, level and number; a number that no worker
+/// has reads as a stopped worker that has no job in hand and knows no block.
 #[derive(Drop)]
 pub struct FillWorld<'a> {
     world: World<'a>,
@@ -35,18 +35,20 @@ ghost use Rattle.table_fill.specs.FillMachine.{Runs, opening};
 ghost use Rattle.table_fill.specs.FillPromises.{IsConsistent, IsFilledWhenStopped};
 ghost use Rattle.table_fill.specs.Workers.{IsWorkerCount};
 
-/// What a list of events leaves of the opening state of this plan and so many workers, 1 to `MAX_THREADS`. In the opening state
-/// all cells are empty, no job is drawn, no worker has a job in hand or is stopped, and none knows a block. An event
-/// that is not enabled, or that names a worker, a level or a number out of range, changes nothing:
-/// - A draw is enabled where the worker has no job in hand and is not stopped. It takes the next job in hand; where
-///   all jobs are drawn, it is stopped.
-/// - A look is enabled where the cell is full. The worker then knows the block, and no longer has its job in hand.
-/// - An install is enabled where the cell is empty and the worker knows all blocks below. The cell then holds the
-///   block, made by this worker, who knows it and no longer has its job in hand.
+/// Applies a list of events to the opening state of this plan with this many workers, 1 to
+/// `MAX_THREADS`. In the opening state all cells are empty, no job is drawn, no worker has a job in
+/// hand or is stopped, and none knows a block. An event that is not enabled, or that names a
+/// worker, a level or a number out of range, changes nothing:
+/// - A draw is enabled if the worker has no job in hand and is not stopped. It takes the next job
+/// in hand; if all jobs are drawn, the worker is stopped.
+/// - A look is enabled if the cell is full. The worker then knows the block, and no longer has its
+/// job in hand.
+/// - An install is enabled if the cell is empty and the worker knows all blocks below. The cell
+/// then holds the block, made by this worker, who knows it and no longer has its job in hand.
 ///
-/// So each full cell holds the plan's block of its level and number; each job below the next one is in one hand, or
-/// its cell is full; no hand holds another job; and where all workers are stopped, no cell is empty. `OutOfMemory`
-/// comes where memory was refused.
+/// So each full cell holds the plan's block of its level and number; each job below the next one is
+/// in one hand, or its cell is full; no hand holds another job; and if all workers are stopped, no
+/// cell is empty. Fails with `OutOfMemory` if memory was refused.
 pub fn replay<'a>(
     alloc: Global,
     plan: &'a Plan,
@@ -69,8 +71,9 @@ impl<'a> FillWorld<'a> {
     ghost use Rattle.shared_memo.specs.PlanJobs.{IsKeyedBlock};
     ghost use Rattle.table_fill.specs.FillMachine.{worker as worker_of, cell_at, knows_at};
 
-    /// The block in the cell of a level and a number. It is the plan's block of this level and number, so it holds
-    /// the states of that block's windows. `None` where the cell is empty or there is no such block.
+    /// Returns the block in the cell of a level and a number, or `None` if the cell is empty or
+    /// there is no such block. It is the plan's block of this level and number, so it holds the
+    /// states of that block's windows.
     pub fn cell(&self, level: u32, number: u32) -> Option<&Block<'a>>
         ensures value { MatchOption result (cell_at self.now level number ≡ None) (λ b. cell_at self.now level number ≡ Some b.now) }
         ensures block { IfSome result (λ b. IsKeyedBlock self.now.plan level number b.now) }
@@ -83,21 +86,21 @@ impl<'a> FillWorld<'a> {
         }
     }
 
-    /// The next job to be drawn, or the number of jobs where all are drawn.
+    /// Returns the next job to be drawn, or the number of jobs if all are drawn.
     pub fn next(&self) -> u32
         ensures { result ≡ self.now.next }
     {
         self.world.next
     }
 
-    /// The job that a worker has in hand, below the next job to be drawn.
+    /// Returns the job that a worker has in hand, which is below the next job to be drawn.
     pub fn hand(&self, worker: u32) -> Option<u32>
         ensures { result ≡ (worker_of self.now worker).hand }
     {
         self.world.workers.get(worker as usize)?.job
     }
 
-    /// Whether a worker is stopped.
+    /// Returns whether a worker is stopped.
     pub fn stopped(&self, worker: u32) -> bool
         ensures { result ≡ (worker_of self.now worker).stopped }
     {
@@ -107,7 +110,7 @@ impl<'a> FillWorld<'a> {
         }
     }
 
-    /// Whether a worker knows the block of a level and a number.
+    /// Returns whether a worker knows the block of a level and a number.
     pub fn knows(&self, worker: u32, level: u32, number: u32) -> bool
         ensures { result ≡ knows_at self.now worker level number }
     {

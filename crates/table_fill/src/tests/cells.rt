@@ -8,8 +8,9 @@ use std::test::Fail;
 use test_programs::{CV1, plan_of};
 use unroll::MakeFault;
 
-// Cells that answer what they were told, and count how often they were to make a block. Above level 0 the first block of
-// that level is missing so many times, and always where nothing was told of a block that is made.
+// Cells with scripted answers, which count the blocks that they are asked to make. Above level 0
+// the first block of that level is missing this many times, and always if the script has no answer
+// for a block that is made.
 #[derive(Drop)]
 struct Told<'a> {
     plan: &'a Plan,
@@ -65,9 +66,9 @@ fn a_worker_that_meets_a_stranger_says_so(rt: HostRuntime) -> Result<(), Fail> {
         // found, made, stranger
         (true, None, false, None),
         (false, Some(Made::Fresh), false, None),
-        // another block stood there and is not found
+        // another block was there before and is not found
         (false, Some(Made::Stood), false, stranger),
-        // a block below is missing, since another's stands there
+        // a block below is missing, since another is in its place
         (false, None, true, stranger),
         // a block below is missing, however often it is made
         (false, None, false, stranger),
@@ -83,7 +84,7 @@ fn a_worker_that_meets_a_stranger_says_so(rt: HostRuntime) -> Result<(), Fail> {
         };
         let answer = fill_cell(rt.alloc(), &mut told, 0, 1, 0);
         assert_eq!(rt; answer.err(), fault);
-        // Once a block in another's place was met, none is made again.
+        // Once an unexpected block was met, none is made again.
         assert!(rt; !met || told.makes == 1);
     }
     Ok(())

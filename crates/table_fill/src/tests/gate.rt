@@ -14,11 +14,11 @@ use std::test::Fail;
 use std::thread::Threads;
 use test_programs::{CV1, plan_of};
 
-// Looks at the counter of entered workers, at most.
+// The maximum number of looks at the counter of entered workers.
 const TURNS: u64 = 1_000_000_000;
 
-// Holds the first job of each of two workers until both have entered, and notes who entered with each of three
-// jobs.
+// Holds the first job of each of two workers until both have entered, and records who entered with
+// each of three jobs.
 #[derive(Drop)]
 struct Meeting {
     entered: AtomicU64,
@@ -39,7 +39,7 @@ impl Meeting {
         }
     }
 
-    // What it saw, with the makers of two blocks.
+    // What the meeting saw, with the makers of two blocks.
     fn seen(&self, made: [u64; 2]) -> Seen {
         let [zero, one, two] = &self.times;
         let [_, of_one, of_two] = &self.makers;
@@ -51,7 +51,7 @@ impl Meeting {
         }
     }
 
-    // Waits until both workers have entered, and answers whether they have.
+    // Waits until both workers have entered, and returns whether they have.
     fn both_enter(&self) -> bool {
         self.entered.fetch_add(1, SeqCst);
         for _turn in 0..TURNS {
@@ -85,15 +85,15 @@ impl Gate for Meeting {
 struct Seen {
     // Whether a worker waited in vain for the other, or did not come.
     late: bool,
-    // How often the gate was told of each job.
+    // How often the gate was called for each job.
     times: [u64; 3],
-    // Who entered with the jobs of the two blocks of level 1.
+    // The workers that entered with the jobs of the two blocks of level 1.
     entered: [u64; 2],
-    // Who made these blocks.
+    // The makers of these blocks.
     made: [u64; 2],
 }
 
-// Compiles by two workers that meet, and looks at the two blocks of level 1.
+// Compiles with two workers that meet, and looks at the two blocks of level 1.
 fn seen_by_two<R: Threads + Wait + Sync>(rt: &R, alloc: Global, plan: &Plan) -> Option<Seen> {
     let shape = plan.shape();
     if shape.rounds() != 1 || shape.blocks(1) != 2 {
@@ -108,7 +108,7 @@ fn seen_by_two<R: Threads + Wait + Sync>(rt: &R, alloc: Global, plan: &Plan) -> 
     Some(gate.seen([u64::from(first), u64::from(second)]))
 }
 
-// Notes of each job that a worker alone is told of whether its cell is empty yet.
+// Records for each job of a single worker whether its cell is still empty when the gate is called.
 #[derive(Drop)]
 struct Lookout<'m, 'a> {
     alloc: Global,
@@ -119,7 +119,7 @@ struct Lookout<'m, 'a> {
 }
 
 impl<'m, 'a> Lookout<'m, 'a> {
-    // Whether there is such a job, and its cell is empty.
+    // Whether there is such a job and its cell is empty.
     fn is_empty(&self, job: u32) -> bool {
         let shape = self.memo.plan().shape();
         if job >= shape.jobs() {
@@ -143,7 +143,7 @@ impl<'m, 'a> Gate for Lookout<'m, 'a> {
     }
 }
 
-// Takes a ticket off.
+// Removes a ticket.
 fn taken(desk: &Desk, mut tickets: Vec<Ticket>) -> Option<Ticket>
     requires { All (IsFreshTicketOf desk.now) tickets.items }
     ensures { IfSome result (IsFreshTicketOf desk.now) }
@@ -151,8 +151,8 @@ fn taken(desk: &Desk, mut tickets: Vec<Ticket>) -> Option<Ticket>
     tickets.pop()
 }
 
-// A worker alone, with this number, fills a new memo: how often the gate was told, with how many empty cells, and the numbers
-// that it was told of added up.
+// A single worker with this number fills a new memo. Returns the number of calls of the gate, the
+// number of those with an empty cell, and the sum of the worker numbers that it was called with.
 fn seen_alone(alloc: Global, plan: &Plan, number: u32) -> Option<[u64; 3]> {
     let memo = Memo::new(alloc, plan).ok()?;
     let gate = Lookout {
@@ -180,7 +180,7 @@ fn the_gate_is_told_before_a_job_is_done(rt: HostRuntime) -> Result<(), Fail> {
     Ok(())
 }
 
-// Adds up the numbers of the workers, and one for each time that it was told.
+// Adds up the numbers of the workers, plus one for each call.
 #[derive(Drop)]
 struct Numbers(AtomicU64);
 
@@ -190,7 +190,7 @@ impl Gate for Numbers {
     }
 }
 
-// The sum of the numbers of a worker alone, told of three jobs, and the makers of two blocks.
+// The sum of the numbers of a single worker over three jobs, and the makers of two blocks.
 fn numbers_of_one<R: Threads + Wait + Sync>(
     rt: &R,
     alloc: Global,

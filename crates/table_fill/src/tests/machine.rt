@@ -6,13 +6,13 @@ use test_programs::{CV1, plan_of};
 
 // CV1 for 8 identifiers has three jobs: block 0 of level 0, and blocks 0 and 1 of level 1.
 
-// Two workers after these events.
+// The state of two workers after these events.
 fn after<'a>(alloc: Global, plan: &'a Plan, events: &[FillEvent]) -> Result<FillWorld<'a>, Fail> {
     let world = replay(alloc, plan, 2, events).ok().ok_or("a world")?;
     Ok(world)
 }
 
-// Who made the block in the cell of a level and a number.
+// The maker of the block in the cell of a level and a number.
 fn maker(world: &FillWorld<'_>, level: u32, number: u32) -> Option<u32> {
     Some(world.cell(level, number)?.maker())
 }

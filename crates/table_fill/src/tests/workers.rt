@@ -11,7 +11,7 @@ use std::test::Fail;
 use std::thread::Threads;
 use test_programs::{CV1, plan_of};
 
-// What becomes of a table by so many workers: no fault, or this one.
+// The fault of a table by this many workers, if there is one.
 fn fault_of<R: Threads + Wait + Sync>(
     rt: &R,
     alloc: Global,
@@ -36,7 +36,7 @@ fn one_to_64_workers(rt: HostRuntime) -> Result<(), Fail> {
     Ok(())
 }
 
-// Four workers that do nothing but answer.
+// Four workers that only return a scripted result.
 #[derive(Drop)]
 struct Answers {
     of_workers: [Option<WorkFault>; 4],
