@@ -40,11 +40,11 @@ ghost use Rattle.table_fill.specs.Workers.{IsWorkerCount};
 /// hand or is stopped, and none knows a block. An event that is not enabled, or that names a
 /// worker, a level or a number out of range, changes nothing:
 /// - A draw is enabled if the worker has no job in hand and is not stopped. It takes the next job
-/// in hand; if all jobs are drawn, the worker is stopped.
+///   in hand; if all jobs are drawn, the worker is stopped.
 /// - A look is enabled if the cell is full. The worker then knows the block, and no longer has its
-/// job in hand.
+///   job in hand.
 /// - An install is enabled if the cell is empty and the worker knows all blocks below. The cell
-/// then holds the block, made by this worker, who knows it and no longer has its job in hand.
+///   then holds the block, made by this worker, who knows it and no longer has its job in hand.
 ///
 /// So each full cell holds the plan's block of its level and number; each job below the next one is
 /// in one hand, or its cell is full; no hand holds another job; and if all workers are stopped, no
