@@ -1,5 +1,5 @@
--- The definitions that the contracts cite: what a seat is, lists of messages in the order of the rounds, then what
--- stands under the lock.
+-- The definitions that the contracts cite: seats, lists of messages in the order of the rounds, and the content of a
+-- border under its lock.
 pub mod SeatState
 pub mod InRounds
 pub mod SideMessages

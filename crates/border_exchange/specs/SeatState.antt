@@ -2,7 +2,7 @@
 use Rattle.std.specs.Prelude.{◌≡◌, ℕ}
 use Rattle.border_exchange.specs.declared.Side.{Side}
 
--- the side on which a seat puts, and how many messages were put by it
+-- the side on which a seat puts, and the number of its puts
 pub record SeatState : Type 0 where
   pub side : Side
   pub puts : ℕ

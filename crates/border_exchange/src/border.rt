@@ -1,4 +1,4 @@
-// A border between two neighbours.
+// The link between two neighbours.
 ghost use Rattle.std.specs.Prelude.{◌≡◌, ◌+◌, ◌^◌, ◌<◌, OnOk, OnErr, IfErr, IfOk, IfSome, length};
 ghost use Rattle.border_exchange.specs.InRounds.{AreInRounds};
 ghost use Rattle.border_exchange.specs.SeatState.{IsNext};
@@ -13,8 +13,9 @@ use std::alloc::Global;
 use std::sync::ledger::{Blank, Ledger};
 use std::sync::{Condvar, Mutex, Wait};
 
-/// The messages that two neighbours send to each other: for each side a list, to which its seat appends and of which
-/// anyone may take copies. `R` and `L` are the ledgers of the rightward and of the leftward side, each with one share.
+/// The message lists of two neighbours: for each side a list, to which its seat appends and which
+/// anyone may read. `R` and `L` are the ledgers of the rightward and of the leftward side, each
+/// with one share.
 #[derive(Drop)]
 pub struct Border<M: Dated, R: Ledger, L: Ledger> {
     lists: Mutex<Lists<M, R, L>>,
@@ -22,8 +23,8 @@ pub struct Border<M: Dated, R: Ledger, L: Ledger> {
 }
 
 impl<M: Dated + Copy, R: Ledger, L: Ledger> Border<M, R, L> {
-    /// A border without messages, its rightward seat and its leftward seat, with no puts. `OutOfMemory` where memory
-    /// for the lists was refused; the blanks are then used up.
+    /// Returns a border without messages, its rightward seat and its leftward seat. Fails with
+    /// `OutOfMemory` if memory for the lists was refused; the blanks are then used up.
     pub fn new(
         alloc: Global,
         right: Blank,
@@ -48,10 +49,12 @@ impl<M: Dated + Copy, R: Ledger, L: Ledger> Border<M, R, L> {
         ))
     }
 
-    /// Appends a message to the list of the seat's side. `Closed` where the border was closed, else `Misplaced` where
-    /// the message's side is not the seat's or its round is not both the number of the seat's puts and the number of
-    /// messages on that side, else `OutOfMemory` where the list was refused memory to grow. After a refusal the border
-    /// and the seat are as before and the message comes back. The seat has fewer than `2^24` puts.
+    /// Appends a message to the list of the seat's side. The seat must have fewer than `2^24` puts.
+    ///
+    /// Fails with `Closed` if the border was closed, else with `Misplaced` if the message's side is
+    /// not the seat's, or its round is not both the number of the seat's puts and the number of
+    /// messages on that side, else with `OutOfMemory` if the list was refused memory to grow. After
+    /// a failure the border and the seat are unchanged, and the message is returned.
     pub fn put<W: Wait>(
         &self,
         rt: &W,
@@ -71,8 +74,9 @@ impl<M: Dated + Copy, R: Ledger, L: Ledger> Border<M, R, L> {
         outcome
     }
 
-    /// A copy of the message of this side and round, which stays in its list. Where there is none it waits until
-    /// there is one or the border is closed. `None` where the border is closed and has no such message.
+    /// Returns a copy of the message of this side and round, which stays in its list. If there is
+    /// none, waits until there is one or the border is closed, and returns `None` if it is closed
+    /// without such a message.
     pub fn take<W: Wait>(&self, rt: &W, side: Side, round: u32) -> Option<M>
         ensures { IfSome result (λ m. (M.side_of m ≡ side) × (M.round_of m ≡ round)) }
     {
@@ -82,15 +86,15 @@ impl<M: Dated + Copy, R: Ledger, L: Ledger> Border<M, R, L> {
         lists.get(side, round)
     }
 
-    /// Closes the border: from then on it takes no more messages, and no taker waits. Closing twice is the same as
-    /// once.
+    /// Closes the border: it takes no more messages, and no taker waits. Closing it again has no
+    /// effect.
     pub fn close<W: Wait>(&self, rt: &W) {
         self.lists.lock(rt).close();
         self.moved.notify_all();
     }
 
-    /// All messages, by the border's two seats: on each side as many as its seat has put, and message `k` is of that
-    /// side and of round `k`.
+    /// Ends the border with its two seats, and returns all messages: on each side as many as its
+    /// seat has put, where message `k` is of that side and of round `k`.
     pub fn settle(self, right: Seat<R, L>, left: Seat<R, L>) -> Totals<M>
         requires sides { (right.side ≡ Rightward) × (left.side ≡ Leftward) }
         ensures counted { (length result.rightward.items ≡ right.puts) × (length result.leftward.items ≡ left.puts) }

@@ -1,5 +1,5 @@
-//! Message exchange between two neighbours of a ring: two lists of messages, one for each side, which only grow.
-//! One thread puts while another takes.
+//! Message exchange between two neighbours of a ring: a list of messages for each side, which only
+//! grows. One thread puts while another takes.
 #![tactic(auto)]
 
 ghost use Rattle.std.specs.Prelude.{◌≡◌, ℕ};
@@ -25,7 +25,7 @@ pub enum Side {
     Leftward,
 }
 
-/// What names the side to which it is sent, and the round in which it is sent.
+/// A message that names the side to which it is sent, and its round.
 pub trait Dated {
     ghost use Rattle.border_exchange.specs.declared.Side.{Side};
 
@@ -33,11 +33,11 @@ pub trait Dated {
 
     ghost round_of: { Self → ℕ };
 
-    /// The side to which it is sent.
+    /// Returns the side to which it is sent.
     fn side(&self) -> Side
         ensures { result ≡ side_of self.now };
 
-    /// The round in which it is sent.
+    /// Returns the round in which it is sent.
     fn round(&self) -> u32
         ensures { result ≡ round_of self.now };
 }

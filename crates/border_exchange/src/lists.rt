@@ -1,4 +1,4 @@
-// What a border keeps under its lock.
+// The content of a border under its lock.
 ghost use Rattle.std.specs.Prelude.{◌≡◌, ◌+◌, ◌^◌, ◌<◌, ◌≤◌, ◌↔◌, [], IsTrue, true, false, Err, OnOk, OnErr, IfErr, IfOk, IfSome, length, slice_get};
 ghost use Rattle.border_exchange.specs.InRounds.{AreInRounds};
 ghost use Rattle.border_exchange.specs.BorderContents.{messages_of, with_message};
@@ -60,15 +60,15 @@ impl<M: Dated + Copy, R: Ledger, L: Ledger> Lists<M, R, L> {
         }
     }
 
-    /// Whether a taker of this side and round has to wait: the border is open, and its list of that side ends before
-    /// that round.
+    /// Returns whether a taker of this side and round has to wait: the border is open, and the list
+    /// of that side ends before that round.
     pub(crate) fn lacks(&self, side: Side, round: u32) -> bool
         ensures { IsTrue result ↔ ((self.now.closed ≡ false) × (length (messages_of self.now side) ≤ round)) }
     {
         !self.closed && self.len(side) <= round as usize
     }
 
-    /// A copy of the message of this side and round, where there is one.
+    /// Returns a copy of the message of this side and round, if there is one.
     pub(crate) fn get(&self, side: Side, round: u32) -> Option<M>
         ensures found { result ≡ slice_get (messages_of self.now side) round }
         ensures dated { IfSome result (λ m. (M.side_of m ≡ side) × (M.round_of m ≡ round)) }
@@ -79,14 +79,14 @@ impl<M: Dated + Copy, R: Ledger, L: Ledger> Lists<M, R, L> {
         }
     }
 
-    /// Takes no more messages from now on.
+    /// Stops taking messages.
     pub(crate) fn close(&mut self)
         ensures { self.new ≡ record self.old { closed = true } }
     {
         self.closed = true;
     }
 
-    /// Appends to the list of the seat's side, as `Border::put` says.
+    /// Appends to the list of the seat's side, as `Border::put` does.
     pub(crate) fn put(&mut self, seat: &mut Seat<R, L>, message: M) -> Result<(), (M, PutFault)>
         requires { seat.old.puts < 2 ^ 24 }
         ensures put { OnOk result (seat.new ≡ record seat.old { puts = seat.old.puts + 1 }) }
@@ -111,7 +111,7 @@ impl<M: Dated + Copy, R: Ledger, L: Ledger> Lists<M, R, L> {
         }
     }
 
-    /// The messages of both sides, on each as many as its seat has put.
+    /// Returns the messages of both sides, on each as many as its seat has put.
     pub(crate) fn settle(self, right: Seat<R, L>, left: Seat<R, L>) -> Totals<M>
         requires sides { (right.side ≡ Rightward) × (left.side ≡ Leftward) }
         ensures counted { (length result.rightward.items ≡ right.puts) × (length result.leftward.items ≡ left.puts) }

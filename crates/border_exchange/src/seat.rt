@@ -56,7 +56,7 @@ impl<R: Ledger, L: Ledger> Seat<R, L> {
         }
     }
 
-    /// The side on which this seat puts.
+    /// Returns the side on which this seat puts.
     pub fn side(&self) -> Side
         ensures { result ≡ self.now.side }
     {
@@ -66,14 +66,14 @@ impl<R: Ledger, L: Ledger> Seat<R, L> {
         }
     }
 
-    /// How many messages were put by this seat.
+    /// Returns the number of messages put by this seat.
     pub fn puts(&self) -> u32
         ensures { result ≡ self.now.puts }
     {
         self.puts
     }
 
-    /// Shows that the seat has put as many messages as there are on its side.
+    /// Proves that the seat has put as many messages as there are on its side.
     pub(crate) fn audit<M: Dated + Copy>(
         &mut self,
         rightward: &mut SideList<M, R>,
@@ -90,8 +90,8 @@ impl<R: Ledger, L: Ledger> Seat<R, L> {
         }
     }
 
-    /// Appends the message to the list of the seat's side and counts it. Where the list can't grow the message comes
-    /// back and the seat is as before.
+    /// Appends the message to the list of the seat's side and counts it. If the list can't grow,
+    /// the message is returned and the seat is unchanged.
     pub(crate) fn append<M: Dated + Copy>(
         &mut self,
         rightward: &mut SideList<M, R>,

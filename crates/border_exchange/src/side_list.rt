@@ -1,4 +1,4 @@
-// The messages of one side.
+// The message list of one side.
 ghost use Rattle.std.specs.Prelude.{◌≡◌, ◌+◌, ◌<◌, [], ◌∷◌, ◌++◌, length, Some, OnOk, OnErr, IfErr, IfOk, IfSome, slice_get};
 ghost use Rattle.border_exchange.specs.InRounds.{AreInRounds};
 
@@ -8,8 +8,8 @@ use std::alloc::Global;
 use std::marker::Model;
 use std::sync::ledger::{Book, Ledger, Share};
 
-/// A list of messages, of which number `k` is of this side and of round `k`. The book, of which there is one share, has
-/// counted them.
+/// A list of messages, of which message `k` is of this side and of round `k`. The book of its
+/// ledger, which has one share, has counted them.
 #[derive(Drop)]
 pub(crate) struct SideList<M: Dated, L: Ledger> {
     side: Side,
@@ -52,7 +52,7 @@ impl<M: Dated + Copy, L: Ledger> SideList<M, L> {
         self.messages.len()
     }
 
-    /// A copy of the message of this round, where there is one.
+    /// Returns a copy of the message of this round, if there is one.
     pub(crate) fn get(&self, round: u32) -> Option<M>
         ensures found { result ≡ slice_get self.now.messages round }
         ensures dated { IfSome result (λ m. (M.side_of m ≡ self.now.side) × (M.round_of m ≡ round)) }
@@ -60,7 +60,7 @@ impl<M: Dated + Copy, L: Ledger> SideList<M, L> {
         self.messages.get(round as usize).copied()
     }
 
-    /// Shows that the side's one share has counted as many messages as there are.
+    /// Proves that the side's one share has counted as many messages as there are.
     pub(crate) fn audit(&mut self, share: &mut Share<L>)
         requires { share.old.parts ≡ 1 }
         ensures counted { share.old.amount ≡ length self.old.messages }
@@ -70,8 +70,8 @@ impl<M: Dated + Copy, L: Ledger> SideList<M, L> {
         self.book.audit(share);
     }
 
-    /// Appends a message, and counts it in the book and in the share. Where the list can't grow the message comes
-    /// back and nothing else changes.
+    /// Appends a message, and counts it in the book and in the share. If the list can't grow, the
+    /// message is returned and nothing else changes.
     pub(crate) fn append(&mut self, share: &mut Share<L>, message: M) -> Result<(), M>
         requires parts { 0 < share.old.parts }
         requires side { M.side_of message ≡ self.old.side }
@@ -89,7 +89,7 @@ impl<M: Dated + Copy, L: Ledger> SideList<M, L> {
         Ok(())
     }
 
-    /// The messages, which are as many as the side's one share has counted.
+    /// Returns the messages, as many as the side's one share has counted.
     pub(crate) fn settle(self, share: Share<L>) -> Vec<M>
         requires { share.parts ≡ 1 }
         ensures items { result.items ≡ self.messages }

@@ -1,6 +1,4 @@
-// What a border gives back at its end.
-
-/// All messages of a border: those of each side, in the order in which they were put.
+/// All messages of a border, in the order in which they were put on each side.
 #[derive(Drop)]
 pub struct Totals<M> {
     /// The messages sent to the right.
