@@ -6,6 +6,6 @@ use Rattle.nbhd_check.specs.declared.separation.Separation.{Separation}
 use Rattle.nbhd_check.specs.Apart.{IsApartEverywhere}
 use Rattle.headline.specs.Headline.{ChannelsAreApart}
 
--- the table of a program keeps a separation on every ring exactly where the channels of global rounds do
+-- the table of a program keeps a separation on every ring if and only if the channels of global rounds do
 abbrev pub ProgramTablesAreApart : Type 0
 ProgramTablesAreApart = (p : ProgramTree) (m : ℕ) (s : Separation) → IsApartEverywhere (table_of p m) s ↔ ChannelsAreApart p m s

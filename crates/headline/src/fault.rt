@@ -1,5 +1,3 @@
-// Why there are no findings.
-
 use node_lang::OutOfMemory;
 use ring_exec::RunFault;
 use table_fill::FillFault;

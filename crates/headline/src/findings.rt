@@ -1,4 +1,3 @@
-// Compiling, running and judging.
 ghost use Rattle.std.specs.Prelude.{◌≡◌, ◌↔◌, IfOk, IfErr, OnOk, length};
 ghost use Rattle.table_fill.specs.Workers.{IsWorkerCount};
 ghost use Rattle.ring_exec.specs.SegmentCounts.{IsSegmentCount};
@@ -18,27 +17,29 @@ use std::thread::Threads;
 use table_fill::{FillFault, Table, compile};
 use win_index::Ring;
 
-/// What compiling, running and judging a plan's program answered.
+/// The results of compiling, running and judging a plan's program.
 #[derive(Drop)]
 pub struct Findings {
     /// The table of the program: a channel for each window.
     pub table: Table,
-    /// The channels of the ring's places, from place 0 on, as the run by messages gave them.
+    /// The channels of the ring's places, from place 0 on, from the run by messages.
     pub channels: Vec<u32>,
-    /// Whether channels are far enough apart on every ring, by the table.
+    /// Whether channels are far enough apart on every ring, judged by the table.
     pub verdict: Verdict,
 }
 
-/// The headline. For every accepted program, every ring, every separation and every number of workers and of segments:
-/// where the program is compiled, run and judged, the table's channel at each window of every ring and the run's channel
-/// at each place are the channel of synchronous rounds (Linial 1992), and the judge says yes exactly where channels
-/// differ by at least near at neighbours and far at distance two on every ring, of `2t+3` and more nodes where far is
-/// not 0. The ring has the plan's shape.
+/// Compiles a plan's program to its table, runs it on a ring by messages, and judges the table. Its
+/// contract is the headline: for every accepted program, every ring, every separation and every
+/// number of workers and segments, the channel of the table at each window of every ring, and the
+/// channel of the run at each place, are the channel of synchronous rounds (Linial 1992); and the
+/// judge says yes exactly if channels differ by at least near at neighbours and far at distance two
+/// on every ring, of `2t+3` and more nodes where far is not 0. The ring must have the plan's shape.
 ///
-/// `Table` with `WorkersOutOfRange` comes exactly where `workers` is not 1 to `MAX_THREADS`, which is tested first, and `Run` with
-/// `SegmentsOutOfRange` exactly where else `segments` is not 1 to `MAX_SEGMENTS` or is above the number of places. Then `Table`
-/// comes where the table was not compiled, `Run` where the ring was not run, and `OutOfMemory` where memory for the memo or for
-/// the judge's ring was refused.
+/// Fails with `Table` and `WorkersOutOfRange` exactly if `workers` is not 1 to `MAX_THREADS`, which
+/// is checked first, and with `Run` and `SegmentsOutOfRange` exactly if else `segments` is not 1 to
+/// `MAX_SEGMENTS` or is above the number of places. After these checks it fails with `Table` if the
+/// table was not compiled, with `Run` if the ring was not run, and with `OutOfMemory` if memory for
+/// the memo or for the judge's ring was refused.
 pub fn compile_run_and_judge<'a, R: Threads + Wait + Sync, G: Gate + Sync>(
     rt: &'a R,
     alloc: Global,
@@ -73,7 +74,8 @@ pub fn compile_run_and_judge<'a, R: Threads + Wait + Sync, G: Gate + Sync>(
     })
 }
 
-// Whether a table can be compiled by so many workers, and the ring be run in so many segments.
+// Checks that a table can be compiled by this many workers, and the ring be run in this many
+// segments.
 fn in_range(ring: &Ring, workers: u32, segments: u32) -> Result<(), FindingsFault>
     ensures ok { OnOk result (IsWorkerCount workers × IsSegmentCount segments (length ring.now.places)) }
     ensures workers { IfErr result (λ fault. (fault ≡ FindingsFault.Table FillFault.WorkersOutOfRange) ↔ (¬ IsWorkerCount workers)) }
@@ -89,7 +91,7 @@ fn in_range(ring: &Ring, workers: u32, segments: u32) -> Result<(), FindingsFaul
     Ok(())
 }
 
-// The table of a plan's program, with a memo of its own.
+// The table of a plan's program, from a memo of its own.
 #[tactic(auto, unfolding(table_fill::specs::ProgramTables::table_of))]
 fn compiled<R: Threads + Wait + Sync, G: Gate + Sync>(
     rt: &R,

@@ -4,7 +4,8 @@ ghost use Rattle.headline.specs.Laws as law;
 
 use table_fill::table_has_the_channels_of_rounds;
 
-/// The table of a program keeps a separation on every ring exactly where the channels of synchronous rounds do.
+/// The table of a program keeps a separation on every ring if and only if the channels of
+/// synchronous rounds do.
 pub fn program_tables_are_apart()
     ensures { law.ProgramTablesAreApart }
 {

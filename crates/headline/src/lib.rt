@@ -1,4 +1,4 @@
-//! The headline in one contract: what compiling, running and judging an accepted program answer together.
+//! The headline in one contract: compiling, running and judging an accepted program agree.
 #![tactic(auto)]
 
 mod fault;
