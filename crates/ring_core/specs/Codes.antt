@@ -1,4 +1,4 @@
--- Codes by which a proof tells segments apart. No contract cites them.
+-- Injective codes of segments, for their models. No contract cites them.
 use Rattle.std.specs.Prelude.{ℕ, List, refl}
 use Rattle.std.specs.Coded.{Coded, code_by, coded×, coded_ℕ, coded_list}
 use Rattle.lang_check.specs.Plans.{ProgramForIds, plan_code}

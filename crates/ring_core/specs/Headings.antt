@@ -1,4 +1,4 @@
--- Which message a message is.
+-- The heading of a message.
 use Rattle.ring_core.specs.Messages.{Heading}
 use Rattle.ring_core.specs.declared.message.Msg.{Msg}
 

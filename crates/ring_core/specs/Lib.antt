@@ -1,6 +1,6 @@
--- The definitions that the contracts cite: which places a segment has, what is sent in global rounds, segments on
--- their own rounds and the messages that they need, then the machine of segments and borders with its promises, and
--- the laws.
+-- The definitions that the contracts cite: the places of a segment, the messages of global rounds, segments on their
+-- own rounds and the messages that they need, then the machine of segments and borders with its invariant, and the
+-- laws.
 pub mod SegmentPlaces
 pub mod Messages
 pub mod Headings

@@ -1,4 +1,5 @@
--- The segment machine: the segments of a ring send messages over the borders between them, and advance by the messages that came there, one event after another.
+-- The segment machine: the segments of a ring send messages over the borders between them, and advance by the messages
+-- that came, one event after another.
 use Rattle.std.specs.Prelude.{◌≡◌, ℕ, ◌+◌, ◌-◌, ◌%◌, ◌<◌, ◌≤◌, ◌⊎◌, List, [], ◌∷◌, ◌++◌, map, length, replicate, slice_index, slice_index_or, slice_set}
 use Rattle.std.specs.List.{range_with_len}
 use Rattle.node_lang.specs.Node.{start, to_left, to_right}
@@ -9,32 +10,32 @@ use Rattle.ring_core.specs.SegmentPlaces.{first_place}
 use Rattle.ring_core.specs.declared.machine.event.RingEvent.{RingEvent}
 use Rattle.ring_core.specs.declared.machine.event.RingEvent.TheVariants.{SendRight, SendLeft, Advance}
 
--- a segment: how many rounds it has done, and the registers of its places
+-- a segment: the number of rounds that it has done, and the registers of its places
 pub record SegmentState : Type 0 where
   pub round : ℕ
   pub states : List (List ℕ)
 
--- a border: what was sent over it to the right and to the left, that of round k at place k
+-- a border: the messages sent over it to the right and to the left, that of round k at index k
 pub record BorderState : Type 0 where
   pub rightward : List ℕ
   pub leftward : List ℕ
 
--- a plan, a ring, its segments in the ring's order, and as many borders. Border s stands between segment s and the
--- next one; the next one after the last is segment 0
+-- a plan, a ring, its segments in the ring's order, and as many borders. Border s is between segment s and the next
+-- one; the next one after the last is segment 0
 pub record Machine : Type 0 where
   pub plan : ProgramForIds
   pub ring : OrientedRing
   pub segments : List SegmentState
   pub borders : List BorderState
 
--- the border before segment s, and the segment after border b, where there are g of each
+-- the border before segment s, and the segment after border b, of g of each
 abbrev pub border_before : ℕ → ℕ → ℕ
 border_before g s = (s + g - 1) % g
 
 abbrev pub segment_after : ℕ → ℕ → ℕ
 segment_after g b = (b + 1) % g
 
--- at first segment s of g has done no round, and each of its places has what it starts with
+-- at first segment s of g has done no round, and its places have their start registers
 abbrev pub opening_segment : ProgramForIds → OrientedRing → ℕ → ℕ → SegmentState
 opening_segment plan ring g s =
     let n = length ring.places in
@@ -57,7 +58,7 @@ opening plan ring g =
       borders = replicate g no_messages;
     }
 
--- segment s of a machine, and border b. A segment that is not there has no places, and a border that is not there
+-- segment s of a machine, and border b. A segment that does not exist has no places, and a border that does not exist
 -- has no messages
 abbrev pub no_places : SegmentState
 no_places = record { round = 0; states = [] }
@@ -82,13 +83,13 @@ first_state a = slice_index_or a.states 0 []
 abbrev pub last_state : SegmentState → List ℕ
 last_state a = slice_index_or a.states (length a.states - 1) []
 
--- segment s may send to the right: it has a round to do, and no message of this round stands at the border
+-- segment s may send to the right: it has a round to do, and the border has no message of this round
 pub record CanSendRight (m : Machine) (s : ℕ) : Type 0 where
   pub is_segment : s < length m.segments
   pub unfinished : (segment_at m s).round < length m.plan.program.steps
   pub unsent : length (right_border m s).rightward ≤ (segment_at m s).round
 
--- the message of its last place stands at the border then
+-- then the message of its last place is at the border
 abbrev pub sent_right : Machine → ℕ → Machine
 sent_right m s =
     let a = segment_at m s in
@@ -104,7 +105,7 @@ pub record CanSendLeft (m : Machine) (s : ℕ) : Type 0 where
   pub unfinished : (segment_at m s).round < length m.plan.program.steps
   pub unsent : length (left_border m s).leftward ≤ (segment_at m s).round
 
--- the message of its first place stands at the border before it then
+-- then the message of its first place is at the border before it
 abbrev pub sent_left : Machine → ℕ → Machine
 sent_left m s =
     let a = segment_at m s in
@@ -122,7 +123,7 @@ pub record CanAdvance (m : Machine) (s : ℕ) : Type 0 where
   pub left_came : (segment_at m s).round < length (left_border m s).rightward
   pub right_came : (segment_at m s).round < length (right_border m s).leftward
 
--- all its places have done this round then
+-- then all its places have done this round
 abbrev pub advanced : Machine → ℕ → Machine
 advanced m s =
     let a = segment_at m s in
@@ -133,13 +134,13 @@ advanced m s =
           (record { round = a.round + 1; states = row_after m.plan.program a.round left a.states right });
     }
 
--- what one event makes of m. Where it is not enabled, or names a segment out of range, it changes nothing
+-- the effect of an event on m. An event that is not enabled, or that names a segment out of range, changes nothing
 abbrev pub Steps : Machine → RingEvent → Machine → Type 0
 Steps m (SendRight s) t = (CanSendRight m s × (t ≡ sent_right m s)) ⊎ ((¬ CanSendRight m s) × (t ≡ m))
 Steps m (SendLeft s) t = (CanSendLeft m s × (t ≡ sent_left m s)) ⊎ ((¬ CanSendLeft m s) × (t ≡ m))
 Steps m (Advance s) t = (CanAdvance m s × (t ≡ advanced m s)) ⊎ ((¬ CanAdvance m s) × (t ≡ m))
 
--- what the events of a list make of m, one after another
+-- the effect of a list of events on m
 abbrev pub Runs : Machine → List RingEvent → Machine → Type 0
 Runs m [] t = t ≡ m
 Runs m (e ∷ es) t = (u : Machine) × Steps m e u × Runs u es t

@@ -1,4 +1,4 @@
--- A code by which a proof tells machines apart, and one for their parts. No contract cites them.
+-- Injective codes of machines and of their parts, for their models. No contract cites them.
 use Rattle.std.specs.Prelude.{ℕ, List, refl}
 use Rattle.std.specs.Coded.{Coded, code_by, coded×, coded_ℕ, coded_list}
 use Rattle.lang_check.specs.Plans.{ProgramForIds, plan_code}

@@ -1,4 +1,4 @@
--- What holds of the segment machine after every list of events.
+-- The invariant of the segment machine, which holds after every list of events.
 use Rattle.std.specs.Prelude.{◌≡◌, ℕ, ◌+◌, ◌<◌, ◌≤◌, List, length, slice_index}
 use Rattle.border_exchange.specs.declared.Side.{Side}
 use Rattle.border_exchange.specs.declared.Side.TheVariants.{Rightward, Leftward}
@@ -7,7 +7,7 @@ use Rattle.ring_core.specs.Segments.{RingSegment, states_of}
 use Rattle.ring_core.specs.Needs.{to_the_right, to_the_left}
 use Rattle.ring_core.specs.Machine.{Machine, segment_at, border_at, segment_after}
 
--- segment s of the machine's ring, when it has done r rounds
+-- segment s of the machine's ring, after r rounds
 abbrev pub segment_after_rounds : Machine → ℕ → ℕ → RingSegment
 segment_after_rounds m s r = record { plan = m.plan; ring = m.ring; segments = length m.segments; index = s; round = r }
 
@@ -16,18 +16,18 @@ abbrev pub HasGlobalStates : Machine → Type 0
 HasGlobalStates m =
     (s : ℕ) → s < length m.segments → (segment_at m s).states ≡ states_of (segment_after_rounds m s (segment_at m s).round)
 
--- what was sent over border b to a side
+-- the messages sent over border b to a side
 abbrev pub sent_at : Machine → ℕ → Side → List ℕ
 sent_at m b Rightward = (border_at m b).rightward
 sent_at m b Leftward = (border_at m b).leftward
 
--- in round r it is the last place of segment b that sends over border b to the right, and the first place of the
--- segment after it that sends to the left
+-- in round r the last place of segment b sends over border b to the right, and the first place of the segment after it
+-- sends to the left
 abbrev pub heading_at : Machine → ℕ → Side → ℕ → Heading
 heading_at m b Rightward r = to_the_right (segment_after_rounds m b r)
 heading_at m b Leftward r = to_the_left (segment_after_rounds m (segment_after (length m.segments) b) r)
 
--- each message that stands at a border is the one that global rounds send there, that of round k at place k
+-- each message at a border is the one of global rounds, that of round k at index k
 abbrev pub HasGlobalMessages : Machine → Type 0
 HasGlobalMessages m =
     (b k : ℕ) (side : Side) → b < length m.segments → k < length (sent_at m b side)

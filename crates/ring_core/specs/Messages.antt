@@ -1,4 +1,4 @@
--- What is sent in global rounds, and by whom.
+-- The messages of global rounds, and their senders.
 use Rattle.std.specs.Prelude.{ℕ, List}
 use Rattle.node_lang.specs.Term.{ProgramTree}
 use Rattle.node_lang.specs.Node.{to_left, to_right}
@@ -8,12 +8,12 @@ use Rattle.win_index.specs.Ring.{OrientedRing}
 use Rattle.border_exchange.specs.declared.Side.{Side}
 use Rattle.border_exchange.specs.declared.Side.TheVariants.{Rightward, Leftward}
 
--- what place i of the ring x sends to a side in round r
+-- the message of place i of the ring x to a side in round r
 abbrev pub message_at : ProgramTree → List ℕ → ℕ → ℕ → Side → ℕ
 message_at p x r i Rightward = to_right p r (state p x r i)
 message_at p x r i Leftward = to_left p r (state p x r i)
 
--- the plan and the ring of a run, the place that sends, the side to which it sends, and the round
+-- the plan and the ring of a run, the sending place, the side and the round of a message
 pub record Heading : Type 0 where
   pub plan : ProgramForIds
   pub ring : OrientedRing
@@ -21,6 +21,6 @@ pub record Heading : Type 0 where
   pub side : Side
   pub round : ℕ
 
--- what is sent under a heading
+-- the message with a heading
 abbrev pub sent_under : Heading → ℕ
 sent_under h = message_at h.plan.program h.ring.places h.round h.place h.side

@@ -5,12 +5,12 @@ use Rattle.border_exchange.specs.declared.Side.TheVariants.{Rightward, Leftward}
 use Rattle.ring_core.specs.Messages.{Heading}
 use Rattle.ring_core.specs.Segments.{RingSegment, first_of, places_of}
 
--- from its left it needs what the left neighbour of its first place sends to the right
+-- from its left it needs the message of the left neighbour of its first place to the right
 abbrev pub from_left : RingSegment → Heading
 from_left s =
     record { plan = s.plan; ring = s.ring; place = left_of s.ring.places (first_of s); side = Rightward; round = s.round }
 
--- from its right it needs what the right neighbour of its last place sends to the left
+-- from its right it needs the message of the right neighbour of its last place to the left
 abbrev pub from_right : RingSegment → Heading
 from_right s =
     record { plan = s.plan; ring = s.ring; place = right_of s.ring.places (first_of s + places_of s - 1); side = Leftward; round = s.round }

@@ -1,5 +1,5 @@
--- How far the parts of a machine are, by the numbers of rounds and of messages alone. All registers and all messages
--- follow, from global rounds.
+-- The progress of the parts of a machine, as numbers of rounds and of messages alone. All registers and messages follow
+-- from these, by global rounds.
 use Rattle.std.specs.Prelude.{◌≡◌, ℕ, ◌+◌, ◌<◌, ◌≤◌, List, [], map, length, slice_get, slice_index_or, Some}
 use Rattle.std.specs.List.{range_with_len}
 use Rattle.node_lang.specs.Term.{Identifier}
@@ -12,13 +12,13 @@ use Rattle.ring_core.specs.Segments.{RingSegment, states_of}
 use Rattle.ring_core.specs.Needs.{to_the_right, to_the_left}
 use Rattle.ring_core.specs.Machine.{SegmentState, BorderState, Machine, border_before, segment_after}
 
--- a segment, and how many messages it has sent to the right and to the left
+-- a segment, and the numbers of its messages to the right and to the left
 pub record Progress : Type 0 where
   pub segment : RingSegment
   pub rightward : ℕ
   pub leftward : ℕ
 
--- the segment when it has done r rounds
+-- the segment after r rounds
 abbrev pub at_round : RingSegment → ℕ → RingSegment
 at_round a r = record a { round = r }
 
@@ -26,14 +26,14 @@ at_round a r = record a { round = r }
 abbrev pub AreInOrder : (ℕ → Heading) → List Msg → Type 0
 AreInOrder heading messages = (k : ℕ) (m : Msg) → slice_get messages k ≡ Some m → heading_of m ≡ heading k
 
--- what a segment sends to the right in each round, and to the left
+-- the messages of a segment to the right in each round, and to the left
 abbrev pub rightward_headings : RingSegment → ℕ → Heading
 rightward_headings a r = to_the_right (at_round a r)
 
 abbrev pub leftward_headings : RingSegment → ℕ → Heading
 leftward_headings a r = to_the_left (at_round a r)
 
--- what the type of a part keeps, for its messages
+-- the invariant of a part's messages
 pub record KeepsMessages (a : RingSegment) (rightward leftward : List Msg) : Type 0 where
   pub rightward_are : AreInOrder (rightward_headings a) rightward
   pub leftward_are : AreInOrder (leftward_headings a) leftward
@@ -44,7 +44,7 @@ pub record Parts : Type 0 where
   pub ring : OrientedRing
   pub items : List Progress
 
--- part s. A part that is not there is of no ring, and has sent nothing
+-- part s. A part that does not exist is of no ring, and has sent nothing
 abbrev pub no_part : Progress
 no_part =
     record {
@@ -62,11 +62,11 @@ no_part =
 abbrev pub part_at : Parts → ℕ → Progress
 part_at v s = slice_index_or v.items s no_part
 
--- how many rounds part s has done
+-- the number of rounds that part s has done
 abbrev pub round_at : Parts → ℕ → ℕ
 round_at v s = (part_at v s).segment.round
 
--- a part has sent both ways in each round that it has done, and in no other but the next one that it has to do
+-- a part has sent both ways in each round that it has done, and in no other but its next one
 pub record IsInStep (p : Progress) : Type 0 where
   pub right_low : p.segment.round ≤ p.rightward
   pub right_high : p.rightward ≤ p.segment.round + 1
@@ -94,7 +94,7 @@ pub record FitTogether (v : Parts) : Type 0 where
   pub from_left : (s : ℕ) → s < length v.items → round_at v s ≤ (part_at v (border_before (length v.items) s)).rightward
   pub from_right : (s : ℕ) → s < length v.items → round_at v s ≤ (part_at v (segment_after (length v.items) s)).leftward
 
--- the machine that these parts are
+-- the machine of these parts
 abbrev pub segment_state : RingSegment → SegmentState
 segment_state a = record { round = a.round; states = states_of a }
 

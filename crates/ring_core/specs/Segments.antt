@@ -5,8 +5,8 @@ use Rattle.win_index.specs.Ring.{OrientedRing}
 use Rattle.round_eval.specs.Rows.{rows, stretch}
 use Rattle.ring_core.specs.SegmentPlaces.{first_place}
 
--- a segment of a ring that runs a plan: which one it is, of how many, and how many rounds it has done. The registers
--- of its places follow from these
+-- a segment of a ring that runs a plan: its index, of how many, and the number of rounds that it has done. The
+-- registers of its places follow from these
 pub record RingSegment : Type 0 where
   pub plan : ProgramForIds
   pub ring : OrientedRing
@@ -14,19 +14,19 @@ pub record RingSegment : Type 0 where
   pub index : ℕ
   pub round : ℕ
 
--- its first place, and how many places it has
+-- its first place, and the number of its places
 abbrev pub first_of : RingSegment → ℕ
 first_of s = first_place (length s.ring.places) s.segments s.index
 
 abbrev pub places_of : RingSegment → ℕ
 places_of s = first_place (length s.ring.places) s.segments (s.index + 1) - first_of s
 
--- the registers of its places after its rounds, as global rounds give them
+-- the registers of its places after its rounds, by global rounds
 abbrev pub states_of : RingSegment → List (List ℕ)
 states_of s = stretch s.plan.program s.ring.places s.round (first_of s) (places_of s)
 
--- what the type of a segment keeps, for its first place, the place after its last, the number of its spare cells and
--- the cells of its places
+-- the invariant of segments: the first place, the place after the last, the number of spare cells, and the cells of the
+-- places
 pub record KeepsSegment (s : RingSegment) (first end spare : ℕ) (cells : List ℕ) : Type 0 where
   pub ids : s.ring.ids ≡ s.plan.ids
   pub rounds : s.ring.rounds ≡ length s.plan.program.steps

@@ -1,5 +1,5 @@
-//! The parts of a ring that is run by messages: segments of its places, the messages that they exchange, and the
-//! machine of segments and borders in one thread.
+//! The parts of a ring that is run by messages: segments of its places, the messages that they
+//! exchange, and the machine of segments and borders without threads.
 #![tactic(auto)]
 
 mod laws;

@@ -1,4 +1,4 @@
-// The segment machine: what the segments of a ring have done after a list of events.
+// The segment machine: the state of the segments of a ring after a list of events.
 
 mod event;
 mod part;

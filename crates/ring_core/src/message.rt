@@ -1,4 +1,4 @@
-// What a place sends in a round.
+// The messages of a run.
 ghost use Rattle.std.specs.Prelude.{◌≡◌, ◌↔◌, IsTrue};
 ghost use Rattle.ring_core.specs.Messages.{message_at};
 
@@ -6,7 +6,8 @@ use border_exchange::{Dated, Side};
 use lang_check::Plan;
 use win_index::Ring;
 
-/// A message of a run of a plan on a ring: what its place sends to its side in its round. Rounds count from 0.
+/// A message of a run of a plan on a ring: the one of its place to its side in its round. Rounds
+/// count from 0.
 #[derive(Clone, Copy)]
 pub struct Msg<'a> {
     plan: &'a Plan,
@@ -36,7 +37,7 @@ impl<'a> Msg<'a> {
     ghost use Rattle.ring_core.specs.Headings.{heading_of};
     ghost use Rattle.ring_core.specs.Messages.{sent_under};
 
-    // The message of this value, which is what the place sends.
+    // The message with this value, which must be the one that the place sends.
     pub(crate) fn new(
         plan: &'a Plan,
         ring: &'a Ring,
@@ -58,35 +59,36 @@ impl<'a> Msg<'a> {
         }
     }
 
-    /// The plan of its run.
+    /// Returns the plan of its run.
     pub fn plan(&self) -> &'a Plan
         ensures { result.now ≡ (heading_of self.now).plan }
     {
         self.plan
     }
 
-    /// The ring of its run.
+    /// Returns the ring of its run.
     pub fn ring(&self) -> &'a Ring
         ensures { result.now ≡ (heading_of self.now).ring }
     {
         self.ring
     }
 
-    /// The place that sends it.
+    /// Returns the place that sends it.
     pub fn place(&self) -> u32
         ensures { result ≡ (heading_of self.now).place }
     {
         self.place
     }
 
-    /// What is sent.
+    /// Returns its value.
     pub fn value(&self) -> u32
         ensures { result ≡ sent_under (heading_of self.now) }
     {
         self.value
     }
 
-    // Whether it is the message that the place sends to the side in the round, in a run of this plan on this ring.
+    // Whether it is the message of this place to this side in this round, in a run of this plan on
+    // this ring.
     pub(crate) fn is_from(
         &self,
         plan: &Plan,

@@ -1,4 +1,4 @@
-// A segment of a ring.
+// Segments of a ring.
 ghost use Rattle.std.specs.Prelude.{◌≡◌, ◌+◌, ◌-◌, ◌*◌, ◌<◌, ◌≤◌, ◌↔◌, IfOk, IsOk, IsTrue, OnOk, OnErr, length};
 ghost use Rattle.round_eval.specs.Rows.{rows};
 ghost use Rattle.ring_core.specs.Segments.{RingSegment, places_of, states_of};
@@ -15,12 +15,12 @@ use std::marker::Model;
 use std::mem;
 use win_index::Ring;
 
-/// A message that a segment does not need in its round.
+/// A message is not the one that a segment needs in its round.
 #[derive(Clone, Copy, Debug, PartialEq, Eq, Drop)]
 pub struct Strange;
 
-/// One of several segments of a ring, with the registers of its places after as many rounds of a plan as it has done
-/// by itself: those of global rounds.
+/// One of several segments of a ring, with the registers of its places after the rounds of a plan
+/// that it has done: those of global rounds.
 #[derive(Drop)]
 pub struct Segment<'a> {
     plan: &'a Plan,
@@ -53,8 +53,9 @@ impl<'a> Segment<'a> {
     ghost use Rattle.ring_core.specs.Headings.{heading_of};
     ghost use Rattle.ring_core.specs.Needs.{from_left, from_right, to_the_left, to_the_right};
 
-    /// The segment with this index, of as many as `segments`, before the first round. With `n` places segment `s` has
-    /// those from `s*n/segments` to before `(s+1)*n/segments`. The ring has the plan's shape.
+    /// Returns the segment with this index, of `segments`, before the first round. With `n` places
+    /// segment `s` has those from `s*n/segments` to before `(s+1)*n/segments`. The ring must have
+    /// the plan's shape.
     pub fn new(
         alloc: Global,
         plan: &'a Plan,
@@ -89,7 +90,7 @@ impl<'a> Segment<'a> {
         })
     }
 
-    /// How many rounds it has done, at most those of its program.
+    /// Returns the number of rounds done, at most those of its program.
     pub fn round(&self) -> u32
         ensures value { result ≡ self.now.round }
         ensures few { result ≤ length self.now.plan.program.steps }
@@ -97,14 +98,14 @@ impl<'a> Segment<'a> {
         self.round
     }
 
-    /// How many rounds its program has.
+    /// Returns the number of rounds of its program.
     pub fn rounds(&self) -> u32
         ensures { result ≡ length self.now.plan.program.steps }
     {
         self.plan.shape().rounds()
     }
 
-    /// The registers of its places after its rounds, row by row: those of global rounds.
+    /// Returns the registers of its places after its rounds, row by row: those of global rounds.
     pub fn states(&self) -> &[u32]
         ensures value { rows (length self.now.plan.program.start) (places_of self.now) result.now ≡ states_of self.now }
         ensures size { length result.now ≡ places_of self.now * length self.now.plan.program.start }
@@ -112,7 +113,8 @@ impl<'a> Segment<'a> {
         self.states.as_slice()
     }
 
-    /// Whether it is the segment with this index, of so many, of a run of this plan on this ring.
+    /// Returns whether it is the segment with this index, of `segments`, of a run of this plan on
+    /// this ring.
     pub fn is_of(&self, plan: &Plan, ring: &Ring, segments: u32, index: u32) -> bool
         ensures { IsTrue result ↔ (self.now ≡ record { plan = plan.now; ring = ring.now; segments = segments; index = index; round = self.now.round }) }
     {
@@ -122,7 +124,8 @@ impl<'a> Segment<'a> {
             && self.ring.same(ring)
     }
 
-    /// What its last place sends to the right in its round, and what its first place sends to the left.
+    /// Returns the messages of its round: of its last place to the right, and of its first place to
+    /// the left.
     pub fn outgoing(&self) -> (Msg<'a>, Msg<'a>)
         requires { self.now.round < length self.now.plan.program.steps }
         ensures rightward { heading_of result.0 ≡ to_the_right self.now }
@@ -139,8 +142,9 @@ impl<'a> Segment<'a> {
         )
     }
 
-    /// One round more, by the messages of its two neighbours. `Strange` where one of them is of another plan, ring,
-    /// place, side or round than it needs; it is then as before.
+    /// Does one more round, with the messages of its two neighbours. Fails with `Strange` if one of
+    /// them has another plan, ring, place, side or round than the segment needs; the segment is
+    /// then unchanged.
     pub fn advance(&mut self, left: Msg<'a>, right: Msg<'a>) -> Result<(), Strange>
         requires { self.old.round < length self.old.plan.program.steps }
         ensures exactly { IsOk result ↔ ((heading_of left.entry ≡ from_left self.old) × (heading_of right.entry ≡ from_right self.old)) }
@@ -174,7 +178,6 @@ impl<'a> Segment<'a> {
     }
 }
 
-// A list of zeros.
 fn zeros(alloc: Global, len: usize) -> Result<Vec<u32>, OutOfMemory>
     ensures { IfOk result (λ cells. length cells.items ≡ len) }
 {

@@ -1,10 +1,10 @@
-/// What happens at one segment: it sends to one of its sides, or it advances.
+/// An event of the segment machine: a segment sends to one of its sides, or advances.
 #[derive(Clone, Copy, Debug, PartialEq, Eq)]
 pub enum RingEvent {
-    /// Segment.
+    /// The segment.
     SendRight(u32),
-    /// Segment.
+    /// The segment.
     SendLeft(u32),
-    /// Segment.
+    /// The segment.
     Advance(u32),
 }

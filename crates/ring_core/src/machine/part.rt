@@ -1,4 +1,4 @@
-// A segment of the machine with the messages that it has sent.
+// A segment of the machine, and the messages that it has sent.
 ghost use Rattle.std.specs.Prelude.{◌≡◌, ◌+◌, ◌*◌, ◌<◌, ◌≤◌, ◌↔◌, IfOk, IfSome, IfNone, IsTrue, OnOk, OnErr, length};
 ghost use Rattle.round_eval.specs.Rows.{rows};
 ghost use Rattle.ring_core.specs.Segments.{places_of, states_of};
@@ -12,7 +12,7 @@ use std::alloc::Global;
 use std::marker::Model;
 use win_index::Ring;
 
-// Message k of a list is that of round k.
+// A segment, and the messages that it has sent: message k of each list is that of round k.
 #[derive(Drop)]
 pub(crate) struct Part<'a> {
     segment: Segment<'a>,
@@ -39,7 +39,7 @@ impl<'a> Part<'a> {
     ghost use Rattle.ring_core.specs.Needs.{from_left, from_right};
     ghost use Rattle.ring_core.specs.Parts.{AreInOrder, rightward_headings, leftward_headings};
 
-    // Before its first round, with nothing sent.
+    // Returns the part before its first round, without messages.
     pub(crate) fn new(
         alloc: Global,
         plan: &'a Plan,
@@ -61,14 +61,14 @@ impl<'a> Part<'a> {
         })
     }
 
-    // How many rounds it has done.
+    // Returns the number of rounds done.
     pub(crate) fn round(&self) -> u32
         ensures { result ≡ self.now.segment.round }
     {
         self.segment.round()
     }
 
-    // The registers of its places.
+    // Returns the registers of the places.
     pub(crate) fn states(&self) -> &[u32]
         ensures value { rows (length self.now.segment.plan.program.start) (places_of self.now.segment) result.now ≡ states_of self.now.segment }
         ensures size { length result.now ≡ places_of self.now.segment * length self.now.segment.plan.program.start }
@@ -76,7 +76,7 @@ impl<'a> Part<'a> {
         self.segment.states()
     }
 
-    // What it has sent to the right.
+    // Returns the messages sent to the right.
     pub(crate) fn rightward(&self) -> &[Msg<'a>]
         ensures size { length result.now ≡ self.now.rightward }
         ensures each { AreInOrder (rightward_headings self.now.segment) result.now }
@@ -84,7 +84,7 @@ impl<'a> Part<'a> {
         self.rightward.as_slice()
     }
 
-    // What it has sent to the left.
+    // Returns the messages sent to the left.
     pub(crate) fn leftward(&self) -> &[Msg<'a>]
         ensures size { length result.now ≡ self.now.leftward }
         ensures each { AreInOrder (leftward_headings self.now.segment) result.now }
@@ -92,7 +92,7 @@ impl<'a> Part<'a> {
         self.leftward.as_slice()
     }
 
-    // What it sent to the right in a round.
+    // Returns the message sent to the right in a round, if any.
     pub(crate) fn sent_right_in(&self, round: u32) -> Option<Msg<'a>>
         ensures none { IfNone result (self.now.rightward ≤ round) }
         ensures some { IfSome result (λ m. (round < self.now.rightward) × (heading_of m ≡ rightward_headings self.now.segment round)) }
@@ -100,7 +100,7 @@ impl<'a> Part<'a> {
         self.rightward.get(round as usize).copied()
     }
 
-    // What it sent to the left in a round.
+    // Returns the message sent to the left in a round, if any.
     pub(crate) fn sent_left_in(&self, round: u32) -> Option<Msg<'a>>
         ensures none { IfNone result (self.now.leftward ≤ round) }
         ensures some { IfSome result (λ m. (round < self.now.leftward) × (heading_of m ≡ leftward_headings self.now.segment round)) }
@@ -124,7 +124,7 @@ impl<'a> Part<'a> {
         round < self.segment.rounds() && self.leftward.len() <= round as usize
     }
 
-    // Whether it has sent both ways in its round.
+    // Whether it has sent both ways in its current round.
     pub(crate) fn has_sent(&self) -> bool
         ensures { IsTrue result ↔ ((self.now.segment.round < self.now.rightward) × (self.now.segment.round < self.now.leftward)) }
     {
@@ -132,7 +132,7 @@ impl<'a> Part<'a> {
         round < self.rightward.len() && round < self.leftward.len()
     }
 
-    // Sends the message of its round to the right.
+    // Sends the message of the current round to the right.
     pub(crate) fn send_right(&mut self) -> Result<(), OutOfMemory>
         requires unfinished { self.old.segment.round < length self.old.segment.plan.program.steps }
         requires in_order { self.old.rightward ≡ self.old.segment.round }
@@ -143,7 +143,7 @@ impl<'a> Part<'a> {
         self.rightward.push(message).map_err(|_| OutOfMemory)
     }
 
-    // Sends the message of its round to the left.
+    // Sends the message of the current round to the left.
     pub(crate) fn send_left(&mut self) -> Result<(), OutOfMemory>
         requires unfinished { self.old.segment.round < length self.old.segment.plan.program.steps }
         requires in_order { self.old.leftward ≡ self.old.segment.round }
@@ -154,7 +154,7 @@ impl<'a> Part<'a> {
         self.leftward.push(message).map_err(|_| OutOfMemory)
     }
 
-    // One round more, by the messages of its neighbours.
+    // Does one more round, with the messages of the neighbours.
     pub(crate) fn advance(&mut self, left: Msg<'a>, right: Msg<'a>)
         requires unfinished { self.old.segment.round < length self.old.segment.plan.program.steps }
         requires left { heading_of left ≡ from_left self.old.segment }

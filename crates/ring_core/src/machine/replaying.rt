@@ -9,18 +9,18 @@ use node_lang::OutOfMemory;
 use std::alloc::Global;
 use win_index::Ring;
 
-/// What a list of events leaves of the opening state of this plan, this ring and so many segments: at least one, and
-/// not more than places. The ring has the plan's shape. In the opening state each place has what it starts with, no
-/// segment has done a round, and nothing was sent. An event that is not enabled, or that names a segment out of
-/// range, changes nothing:
-/// - A segment may send to a side where it has a round to do and has not sent to this side in it. The message of the
-///   place at that end stands at the border there from then on.
-/// - A segment may advance where it has sent both ways in its round, and the messages of this round have come from
-///   both of its neighbours. All its places then do this round at once.
+/// Applies a list of events to the opening state of this plan on this ring with this many segments,
+/// at least one and at most the number of places. The ring must have the plan's shape. In the
+/// opening state each place has its start registers, no segment has done a round, and nothing was
+/// sent. An event that is not enabled, or that names a segment out of range, changes nothing:
+/// - A segment may send to a side if it has a round to do and has not sent to this side in it. The
+///   message of the place at that end is at the border there from then on.
+/// - A segment may advance if it has sent both ways in its round, and the messages of this round
+///   have come from both of its neighbours. All its places then do this round at once.
 ///
-/// So each segment has the registers of global rounds, after as many rounds as it has done; message `k` of each
-/// border is the one that global rounds send there in round `k`; and a segment and the next one are at most one round
-/// apart. `OutOfMemory` comes where memory was refused.
+/// So each segment has the registers of global rounds, after as many rounds as it has done; message
+/// `k` of each border is the one of round `k` of global rounds; and a segment and the next one are
+/// at most one round apart. Fails with `OutOfMemory` if memory was refused.
 pub fn replay<'a>(
     alloc: Global,
     plan: &'a Plan,
@@ -49,7 +49,7 @@ pub fn replay<'a>(
 }
 
 impl<'a> World<'a> {
-    // One event.
+    // Applies an event.
     fn step(&mut self, event: RingEvent) -> Result<(), OutOfMemory>
         ensures { OnOk result (Steps self.old event self.new) }
     {

@@ -17,9 +17,9 @@ use std::alloc::Global;
 use std::marker::Model;
 use win_index::Ring;
 
-/// The segments of a ring with their rounds and registers, and what was sent over each border, after a list of
-/// events. It is made by `replay` alone. Border `s` stands between segment `s` and the next one; the next one after
-/// the last is segment 0.
+/// The state after a list of events: the segments of a ring with their rounds and registers, and
+/// the messages sent over each border. Only `replay` makes one. Border `s` is between segment `s`
+/// and the next one; the next one after the last is segment 0.
 #[derive(Drop)]
 pub struct World<'a> {
     plan: &'a Plan,
@@ -46,7 +46,7 @@ impl<'a> World<'a> {
     ghost use Rattle.ring_core.specs.Needs.{from_left, from_right, to_the_left, to_the_right};
     ghost use Rattle.ring_core.specs.Messages.{sent_under};
 
-    // Nothing has happened yet.
+    // The state before the first event.
     pub(crate) fn opening(
         alloc: Global,
         plan: &'a Plan,
@@ -63,7 +63,7 @@ impl<'a> World<'a> {
         Ok(World { plan, ring, parts })
     }
 
-    // A segment sends to the right.
+    // Lets a segment send to the right.
     pub(crate) fn send_right(&mut self, segment: u32) -> Result<(), OutOfMemory>
         ensures { OnOk result (Steps self.old (RingEvent.SendRight segment) self.new) }
     {
@@ -74,7 +74,7 @@ impl<'a> World<'a> {
         Ok(())
     }
 
-    // A segment sends to the left.
+    // Lets a segment send to the left.
     pub(crate) fn send_left(&mut self, segment: u32) -> Result<(), OutOfMemory>
         ensures { OnOk result (Steps self.old (RingEvent.SendLeft segment) self.new) }
     {
@@ -85,7 +85,7 @@ impl<'a> World<'a> {
         Ok(())
     }
 
-    // A segment advances.
+    // Lets a segment advance.
     pub(crate) fn advance(&mut self, segment: u32)
         ensures { Steps self.old (RingEvent.Advance segment) self.new }
     {
@@ -95,7 +95,7 @@ impl<'a> World<'a> {
         }
     }
 
-    // The messages that a segment advances by, where it may advance.
+    // The messages that a segment needs for its round, if it may advance.
     fn needed(&self, segment: u32) -> Option<(Msg<'a>, Msg<'a>)>
         ensures none { IfNone result (¬ CanAdvance self.now segment) }
         ensures some { IfSome result (λ _. CanAdvance self.now segment) }
@@ -116,7 +116,7 @@ impl<'a> World<'a> {
         Some((left, right))
     }
 
-    // What has come to a segment from its left in a round.
+    // The message that came to a segment from its left in a round, if any.
     fn from_left(&self, index: usize, round: u32) -> Option<Msg<'a>>
         requires { index < length self.now.segments }
         ensures none { IfNone result (length (left_border self.now index).rightward ≤ round) }
@@ -128,7 +128,7 @@ impl<'a> World<'a> {
         self.part((index + count - 1) % count).sent_right_in(round)
     }
 
-    // What has come to a segment from its right in a round.
+    // The message that came to a segment from its right in a round, if any.
     fn from_right(&self, index: usize, round: u32) -> Option<Msg<'a>>
         requires { index < length self.now.segments }
         ensures none { IfNone result (length (right_border self.now index).leftward ≤ round) }
@@ -140,7 +140,7 @@ impl<'a> World<'a> {
         self.part((index + 1) % count).sent_left_in(round)
     }
 
-    // What the neighbours of a segment send in a round is what it needs in that round.
+    // Proves that what the neighbours of a segment send in a round is what it needs in that round.
     fn neighbours(&self)
         ensures left { (s r : ℕ) → s < length self.now.segments
             → to_the_right (segment_after_rounds self.now (border_before (length self.now.segments) s) r) ≡ from_left (segment_after_rounds self.now s r) }
@@ -150,7 +150,7 @@ impl<'a> World<'a> {
         let _parts = &self.parts;
     }
 
-    // How many segments there are.
+    // The number of segments.
     fn count(&self) -> usize
         ensures value { result ≡ length self.now.segments }
         ensures few { result < 2 ^ 63 }
@@ -158,7 +158,7 @@ impl<'a> World<'a> {
         self.parts.len()
     }
 
-    // A segment, with what it has sent.
+    // A segment with its messages.
     fn part(&self, index: usize) -> &Part<'a>
         requires { index < length self.now.segments }
         ensures segment { result.now.segment ≡ segment_after_rounds self.now index (segment_at self.now index).round }
@@ -168,7 +168,7 @@ impl<'a> World<'a> {
         &self.parts[index]
     }
 
-    // What holds after every list of events.
+    // Proves the invariant of the machine.
     pub(crate) fn promises(&self)
         ensures states { HasGlobalStates self.now }
         ensures messages { HasGlobalMessages self.now }
@@ -177,7 +177,7 @@ impl<'a> World<'a> {
         let _parts = &self.parts;
     }
 
-    /// How many rounds a segment has done.
+    /// Returns the number of rounds that a segment has done.
     pub fn round(&self, segment: u32) -> u32
         requires { segment < length self.now.segments }
         ensures { result ≡ (segment_at self.now segment).round }
@@ -185,7 +185,8 @@ impl<'a> World<'a> {
         self.part(segment as usize).round()
     }
 
-    /// The registers of a segment's places, row by row: those of global rounds, after as many as it has done.
+    /// Returns the registers of a segment's places, row by row: those of global rounds, after as
+    /// many rounds as it has done.
     pub fn states(&self, segment: u32) -> &[u32]
         requires { segment < length self.now.segments }
         ensures value { rows (length self.now.plan.program.start) (length (segment_at self.now segment).states) result.now ≡ (segment_at self.now segment).states }
@@ -196,7 +197,8 @@ impl<'a> World<'a> {
         self.part(segment as usize).states()
     }
 
-    /// What was sent over a border to a side. Message `k` is the one that global rounds send there in round `k`.
+    /// Returns the messages sent over a border to a side. Message `k` is the one of round `k` of
+    /// global rounds.
     pub fn sent(&self, border: u32, side: Side) -> &[Msg<'a>]
         requires { border < length self.now.segments }
         ensures value { map (λ m. sent_under (heading_of m)) result.now ≡ sent_at self.now border side }
