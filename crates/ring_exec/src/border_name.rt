@@ -1,10 +1,11 @@
-// Names of borders, so that no border takes the seat of another.
+// Names of borders, which keep the seats of different borders apart.
 ghost use Rattle.std.specs.Prelude.{◌≡◌, ℕ};
 
 use std::marker::{Brand, PhantomData};
 use std::sync::ledger::{Blank, Ledger};
 
-// Which border of a run it is: the names of the ledgers of its two sides. Each new border picks them.
+// The name of a border in a run: the names of the ledgers of its two sides. Each new border picks
+// them.
 pub(crate) trait BorderName {
     ghost rightward: { ℕ };
 

@@ -1,4 +1,4 @@
-// The course of a run: which segments run, and which are yet to run.
+// The course of a run: the segments that run, and those that are still to start.
 ghost use Rattle.std.specs.Prelude.{◌≡◌, ℕ, Some};
 ghost use Rattle.ring_exec.specs.declared.fault.CourseFault.TheVariants.{NoThread};
 
@@ -12,8 +12,9 @@ use round_eval::Gate;
 use std::sync::Wait;
 use std::thread::{JoinHandle, Scope, Threads};
 
-// A run that has come to one of its segments: the end of the border before it, unless the run can't go on; the end
-// of the last segment's border; the segments that don't run yet, the next one last; and the threads of the others.
+// A run that has reached one of its segments: the end of the border before it, unless the run can't
+// go on; the end of the last segment's border; the segments that are not started, the next one
+// last; and the threads of the others.
 #[derive(Drop)]
 pub(crate) struct Course<'a, R, G, B: BorderName, L: BorderName> {
     pub(crate) shared: Shared<'a, R, G>,
@@ -25,8 +26,8 @@ pub(crate) struct Course<'a, R, G, B: BorderName, L: BorderName> {
     pub(crate) joined: Joined<'a>,
 }
 
-// Makes the next segment's right border and starts the segment. Where one of the two is refused, the run can't go on:
-// the borders before the segment and after the last one are closed.
+// Makes the next segment's right border and starts the segment. If one of the two is refused, the
+// run can't go on: the borders before the segment and after the last one are closed.
 pub(crate) fn started<
     's,
     'e,
@@ -83,7 +84,8 @@ pub(crate) fn started<
     }
 }
 
-// Starts the next segment between the border before it and a new one, and gives the other end of the new one.
+// Starts the next segment between the border before it and a new one, and returns the other end of
+// the new one.
 fn start_next<
     's,
     'e,
@@ -125,7 +127,7 @@ fn start_next<
     Ok(next)
 }
 
-// Starts a thread for a segment, or answers `None` where that was refused.
+// Starts a thread for a segment, or returns `None` if the start was refused.
 fn start_one<
     's,
     'e,
@@ -141,7 +143,7 @@ fn start_one<
     scope.spawn(move || runner.run()).ok()
 }
 
-// Runs the last segment in this thread, and joins the threads of the others.
+// Runs the last segment on this thread, and joins the threads of the others.
 pub(crate) fn ended<'a, R: Threads + Wait, G: Gate, B: BorderName, L: BorderName>(
     course: Course<'a, R, G, B, L>,
 ) -> Joined<'a>

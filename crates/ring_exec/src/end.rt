@@ -1,4 +1,4 @@
-// Borders between neighbouring segments.
+// The ends of the borders between neighbouring segments.
 ghost use Rattle.std.specs.Prelude.{◌≡◌, ◌≤◌, ◌⊎◌, IfErr};
 ghost use Rattle.border_exchange.specs.SeatState.{IsNext};
 ghost use Rattle.node_lang.specs.declared.limits.TheConstants.{MAX_ROUNDS};
@@ -16,11 +16,11 @@ use std::sync::{Arc, Wait};
 pub(crate) enum Stop {
     // One of its borders is closed.
     BorderClosed,
-    // A fault of its own.
+    // The segment's own fault.
     Fault(SegmentFault),
 }
 
-// A border, for one of the two neighbours that put on it.
+// One end of a border, for one of the two neighbours that put on it.
 #[derive(Drop)]
 pub(crate) struct End<M: Dated, N: BorderName> {
     pub(crate) border: Arc<Border<M, RightLedger<N>, LeftLedger<N>>>,
@@ -44,7 +44,7 @@ impl<M: Dated + Copy, N: BorderName> End<M, N> {
         }
     }
 
-    // Takes the message of this side and round, once it is put.
+    // Takes the message of this side and round, and waits for it.
     pub(crate) fn take<R: Wait>(&self, rt: &R, side: Side, round: u32) -> Result<M, Stop> {
         match self.border.take(rt, side, round) {
             Some(message) => Ok(message),
@@ -58,14 +58,15 @@ impl<M: Dated + Copy, N: BorderName> End<M, N> {
     }
 }
 
-// An end of a border, with a way to close the border once the end is given away.
+// One end of a border, with a way to close the border once the end is given away.
 #[derive(Drop)]
 pub(crate) struct Edge<M: Dated, N: BorderName> {
     pub(crate) end: End<M, N>,
     pub(crate) closer: Arc<Border<M, RightLedger<N>, LeftLedger<N>>>,
 }
 
-// A new border: the end of its left neighbour, which puts rightward, and that of its right one.
+// Returns a new border's two ends: that of its left neighbour, which puts rightward, and that of
+// its right one.
 pub(crate) fn new_border<M: Dated + Copy, N: BorderName>(
     alloc: Global,
     blanks: Blanks,

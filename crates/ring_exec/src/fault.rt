@@ -1,4 +1,4 @@
-// Why a segment, and a run, give no channels.
+// The faults of segments and runs.
 ghost use Rattle.std.specs.Prelude.{◌≡◌, ◌≢◌};
 ghost use Rattle.ring_exec.specs.Faults.{run_fault_of};
 ghost use Rattle.ring_exec.specs.declared.fault.SegmentFault.TheVariants.{OutOfMemory as NoMemory};
@@ -7,29 +7,29 @@ ghost use Rattle.ring_exec.specs.declared.fault.CourseFault.TheVariants.{Segment
 use node_lang::OutOfMemory;
 use std::alloc::AllocError;
 
-/// Why a run gives no channels.
+/// Why a run gave no channels.
 #[derive(Clone, Copy, Debug, PartialEq, Eq, Drop)]
 pub enum RunFault {
-    /// Not 1 to `MAX_SEGMENTS` segments, or more than the ring has places.
+    /// The number of segments is not 1 to `MAX_SEGMENTS`, or exceeds the number of places.
     SegmentsOutOfRange,
     /// Memory for a segment, a border, a message or the channels was refused.
     OutOfMemory,
-    /// A message came that its segment did not need, or a segment ended too soon.
+    /// A segment received a message that it did not need, or ended too soon.
     Stranger,
     /// The start of a thread was refused.
     NoThread,
 }
 
-// Why a segment does not come to its last round, or what it came to can't be kept.
+// Why a segment did not reach its last round, or could not be kept.
 #[derive(Clone, Copy, PartialEq, Eq, Drop)]
 pub(crate) enum SegmentFault {
     // Memory for it, for one of its messages or for the border to its right was refused.
     OutOfMemory,
-    // A message was not the one that was needed.
+    // A message was not the one that the segment needed.
     Stranger,
 }
 
-// Why a course gives no channels. The number of segments is in its range by then.
+// Why a course gave no channels. The number of segments is in its range by then.
 #[derive(Clone, Copy, PartialEq, Eq, Drop)]
 pub(crate) enum CourseFault {
     Segment(SegmentFault),
@@ -77,7 +77,7 @@ impl From<AllocError> for CourseFault {
     }
 }
 
-// The same fault for the caller.
+// Converts a fault of a course to `run`'s.
 pub(crate) fn run_fault(fault: CourseFault) -> RunFault
     ensures same { result ≡ run_fault_of fault }
     ensures range { result ≢ RunFault.SegmentsOutOfRange }

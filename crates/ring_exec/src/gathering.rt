@@ -1,4 +1,4 @@
-// The channels of the segments that came back.
+// The channels of the segments that ended.
 ghost use Rattle.std.specs.Prelude.{◌≡◌, ℕ, ◌+◌, ◌<◌, ◌≤◌, OnOk, length, slice_index};
 ghost use Rattle.node_lang.specs.GlobalRounds.{channel_at, channels_of};
 ghost use Rattle.ring_core.specs.Segments.{first_of, places_of};
@@ -10,8 +10,8 @@ use ring_core::{Segment, segments_cover_the_ring};
 use round_eval::{channel, row_at, width_of};
 use win_index::Ring;
 
-// Writes the channels of the segments, the first of which is last in the list, where they are those of this run, all
-// after the last round.
+// Writes the channels of the segments, with the first segment last in the list, if they are those
+// of this run and all have done the last round.
 pub(crate) fn gather(
     plan: &Plan,
     ring: &Ring,
@@ -40,7 +40,8 @@ pub(crate) fn gather(
     Ok(())
 }
 
-// Writes the channels of the places of a segment after its last round, where those of the places before stand.
+// Writes the channels of the places of a segment after its last round, behind those of the places
+// before.
 #[tactic(auto, using(std::proofs::lemmas::Nat::row_fits))]
 fn write_part(plan: &Plan, segment: &Segment<'_>, first: usize, end: usize, channels: &mut [u32])
     requires plan { segment.now.plan ≡ plan.now }

@@ -1,4 +1,4 @@
-// What the segments of a run came to.
+// The outcomes of the segments of a run.
 ghost use Rattle.std.specs.Prelude.{◌≡◌, None, Some, IfOk, IfErr};
 ghost use Rattle.ring_exec.specs.Faults.{blamed};
 ghost use Rattle.ring_exec.specs.declared.fault.CourseFault.TheVariants.{NoThread};
@@ -8,7 +8,7 @@ use crate::runner::Outcome;
 use ring_core::Segment;
 use std::alloc::Global;
 
-// The segments that came back, from the last to the first, and the fault that counts.
+// The segments that ended, from the last to the first, and the fault that takes precedence.
 #[derive(Drop)]
 pub(crate) struct Joined<'a> {
     segments: Vec<Segment<'a>>,
@@ -16,7 +16,7 @@ pub(crate) struct Joined<'a> {
 }
 
 impl<'a> Joined<'a> {
-    // Nothing so far, with room for so many segments.
+    // No outcomes yet, with room for this many segments.
     pub(crate) fn new(alloc: Global, segments: u32) -> Result<Joined<'a>, SegmentFault>
         ensures { IfOk result (λ joined. joined.fault ≡ None) }
     {
@@ -27,7 +27,7 @@ impl<'a> Joined<'a> {
         })
     }
 
-    // Adds what a segment came to. All that were added before come after it on the ring.
+    // Adds the outcome of a segment. All that were added before come after it on the ring.
     pub(crate) fn add(mut self, outcome: Outcome<'a>) -> Joined<'a>
         ensures { result.fault ≡ Some NoThread → self.entry.fault ≡ Some NoThread }
     {
@@ -42,7 +42,7 @@ impl<'a> Joined<'a> {
         self
     }
 
-    // The segments that came back, where none had a fault.
+    // Returns the segments, or the fault that takes precedence.
     pub(crate) fn into_segments(self) -> Result<Vec<Segment<'a>>, CourseFault>
         ensures { IfErr result (λ fault. self.entry.fault ≡ Some fault) }
     {
@@ -52,7 +52,7 @@ impl<'a> Joined<'a> {
         }
     }
 
-    // Takes the fault of a segment in place of one of a segment after it. A refused thread counts first.
+    // Replaces the fault of a later segment by this one. The refused start of a thread stays.
     pub(crate) fn blame(&mut self, fault: CourseFault)
         ensures fault { self.new.fault ≡ Some (blamed self.old.fault fault) }
         ensures segments { self.new.segments ≡ self.old.segments }

@@ -1,5 +1,5 @@
-//! A ring run by messages: each segment of its places runs in a thread of its own, and neighbouring segments exchange
-//! messages at borders.
+//! A ring run by messages: each segment of its places runs on a thread of its own, and neighbouring
+//! segments exchange messages at borders.
 #![tactic(auto)]
 
 mod border_name;

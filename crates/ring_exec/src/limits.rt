@@ -1,4 +1,2 @@
-// Limits of a run.
-
-/// The most segments that a ring is run in.
+/// The maximum number of segments that a ring is run in.
 pub const MAX_SEGMENTS: u32 = node_lang::MAX_THREADS;

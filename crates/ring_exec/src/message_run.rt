@@ -1,4 +1,3 @@
-// A run by messages.
 ghost use Rattle.std.specs.Prelude.{◌≡◌, ◌+◌, ◌-◌, ◌<◌, ◌↔◌, ℕ, IfOk, OnOk, IfErr, IfSome, IsErrOf, length, vec_len, slice_get};
 ghost use Rattle.node_lang.specs.GlobalRounds.{channels_of};
 ghost use Rattle.ring_exec.specs.SegmentCounts.{IsSegmentCount};
@@ -22,13 +21,15 @@ use std::sync::Wait;
 use std::thread::Threads;
 use win_index::Ring;
 
-/// The channels of a ring after all rounds of a plan, in the order of the places. The ring is cut into segments, each
-/// runs in a thread of its own, the last one in the caller's, and neighbours exchange messages at borders. The gate is
-/// told of each round of each segment, before the segment sends. The ring has the plan's shape.
+/// Runs all rounds of a plan on a ring by messages, and returns the channels in the order of the
+/// places. The ring is cut into segments, each runs on a thread of its own, the last one on the
+/// caller's, and neighbours exchange messages at borders. The gate is called for each round of each
+/// segment, before the segment sends. The ring must have the plan's shape.
 ///
-/// `SegmentsOutOfRange` comes first, where the number of segments is not 1 to `MAX_SEGMENTS` or is above the number of places; then
-/// `NoThread`, where the start of a thread was refused, so not for a single segment; else the fault of the lowest segment that has one. All threads
-/// have ended before any answer.
+/// Fails with `SegmentsOutOfRange` first, if the number of segments is not 1 to `MAX_SEGMENTS` or
+/// is above the number of places; then with `NoThread` if the start of a thread was refused, which
+/// a single segment does not need; else with the fault of the lowest segment that has one. All
+/// threads have ended before the call returns.
 pub fn run<'a, R: Threads + Wait + Sync, G: Gate + Sync>(
     rt: &'a R,
     alloc: Global,
@@ -54,7 +55,7 @@ pub fn run<'a, R: Threads + Wait + Sync, G: Gate + Sync>(
     }
 }
 
-// The run whose last border has the name L.
+// Runs with the name L for the last border.
 fn run_named<'a, R: Threads + Wait + Sync, G: Gate + Sync, L: BorderName + Send + Sync + 'a>(
     shared: Shared<'a, R, G>,
     plan: &'a Plan,
@@ -74,9 +75,9 @@ fn run_named<'a, R: Threads + Wait + Sync, G: Gate + Sync, L: BorderName + Send 
     run_segments::<R, G, L>(shared, plan, ring, segments, waiting, blanks)
 }
 
-// The run of these segments, the first one last. That they are those of the plan and the ring is found once they have
-// ended. What is taken here is taken before the first thread starts. A single segment runs in this thread, and none is
-// started.
+// Runs these segments, with the first one last. That they are those of the plan and the ring is
+// checked once they have ended. All memory is allocated before the first thread starts. A single
+// segment runs on this thread, and none is started.
 pub(crate) fn run_segments<
     'a,
     R: Threads + Wait + Sync,
@@ -120,7 +121,7 @@ pub(crate) fn run_segments<
     Ok(channels)
 }
 
-// The segments of a run before their first round, the first one last.
+// The segments of a run before their first round, with the first one last.
 fn waiting_segments<'a>(
     alloc: Global,
     plan: &'a Plan,

@@ -45,9 +45,10 @@ struct Stage<'c, 's, 'e, 'a, R, G, B: BorderName, L: BorderName> {
     course: Course<'a, R, G, B, L>,
 }
 
-// The run from a stage on, with so many segments before the last one. Each border has a name of its own, so the inner
-// call has other type parameters, and its proof is written by hand. It is short because `begin` and `finish` have the
-// type parameters, the parameters and the requirements of `after`.
+// Runs from a stage on, with this many segments before the last one. Each border has a name of its
+// own, so the inner call has other type parameters, and its proof is written by hand. It is short
+// because `begin` and `finish` have the type parameters, the parameters and the requirements of
+// `after`.
 fn after<
     'c,
     's,

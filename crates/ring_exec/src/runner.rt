@@ -10,7 +10,8 @@ use round_eval::Gate;
 use std::alloc::Global;
 use std::sync::Wait;
 
-// What the thread of a segment comes to: the segment, after the last round unless a border was closed before.
+// The outcome of a segment's thread: the segment, after the last round unless a border was closed
+// before.
 pub(crate) type Outcome<'a> = Result<Segment<'a>, SegmentFault>;
 
 // What all segments of a run share.
@@ -21,8 +22,9 @@ pub(crate) struct Shared<'s, R, G> {
     pub(crate) gate: &'s G,
 }
 
-// A segment with the ends of its two borders, ready to run. The types of segments and of messages are parameters, so
-// that it is shown once for all of them that a runner may go to another thread where they may.
+// A segment with the ends of its two borders, ready to run. The types of segments and messages are
+// parameters, so that it is proved once for all of them that a runner may be sent to another
+// thread.
 #[derive(Drop)]
 pub(crate) struct Runner<'s, S, M: Dated, R, G, A: BorderName, B: BorderName> {
     pub(crate) shared: Shared<'s, R, G>,
@@ -41,7 +43,7 @@ impl<'s, 'a, R: Wait, G: Gate, A: BorderName, B: BorderName> Runner<
     A,
     B,
 > {
-    // Runs the segment to its last round, or until it stops; both borders are then closed.
+    // Runs the segment to its last round, or until it stops; then closes both borders.
     pub(crate) fn run(self) -> Outcome<'a> {
         let Runner {
             shared,

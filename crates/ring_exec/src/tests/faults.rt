@@ -3,7 +3,7 @@ use crate::joined::Joined;
 use std::alloc::Global;
 use std::test::Fail;
 
-// The fault of a run whose segments had these, from the last to the first.
+// The fault of a run whose segments had these faults, from the last to the first.
 fn fault_after(alloc: Global, faults: &[CourseFault]) -> Option<Option<CourseFault>> {
     let mut joined = Joined::new(alloc, 0).ok()?;
     for fault in faults {

@@ -10,11 +10,11 @@ use std::thread::Threads;
 use test_programs::{CV1, RED, plan_of};
 use win_index::Ring;
 
-// Looks at the counter of entered segments, at most.
+// The maximum number of looks at the counter of entered segments.
 const TURNS: u64 = 1_000_000_000;
 
-// Holds the first round of each of two segments until both have entered, and notes how often each entered, and with
-// which rounds.
+// Holds the first round of each of two segments until both have entered, and records how often each
+// entered, and with which rounds.
 #[derive(Drop)]
 struct Meeting {
     entered: AtomicU64,
@@ -44,7 +44,7 @@ impl Meeting {
         }
     }
 
-    // Waits until both segments have entered, and answers whether they have.
+    // Waits until both segments have entered, and returns whether they have.
     fn both_enter(&self) -> bool {
         self.entered.fetch_add(1, SeqCst);
         for _turn in 0..TURNS {
@@ -79,7 +79,7 @@ struct Seen {
     entered: u64,
     // How often each entered.
     times: [u64; 2],
-    // The numbers of the rounds with which each entered, added up.
+    // The sum of the round numbers with which each entered.
     rounds: [u64; 2],
 }
 

@@ -11,7 +11,7 @@ use win_index::Ring;
 // No round: the channel of a place is its identifier.
 const OWN: &[u8] = b"rounds 0\nchannels 1024\nregisters 1\nstart\nr0 = id\nfinish r0\n";
 
-// The channels of a ring that is run in so many segments, or why there are none.
+// The channels of a ring that is run in this many segments, or why there are none.
 fn channels_by<R: Threads + Wait + Sync>(
     rt: &R,
     alloc: Global,
@@ -23,7 +23,7 @@ fn channels_by<R: Threads + Wait + Sync>(
     Ok(run(rt, alloc, plan, &ring, segments, &OpenGate))
 }
 
-// Whether a run in so many segments gives these channels.
+// Whether a run in this many segments gives these channels.
 fn gives<R: Threads + Wait + Sync>(
     rt: &R,
     alloc: Global,
@@ -77,7 +77,7 @@ fn a_thousand_runs_end_and_agree(rt: HostRuntime) -> Result<(), Fail> {
     Ok(())
 }
 
-// As many identifiers, from 0 on.
+// The first `count` identifiers.
 fn first_ids(alloc: Global, count: u32) -> Result<Vec<u32>, Fail> {
     let mut ids = Vec::new(alloc);
     for id in 0..count {

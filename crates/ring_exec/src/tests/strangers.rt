@@ -41,7 +41,7 @@ fn fault_by_names<'a, R: Threads + Wait + Sync, G: Gate + Sync, L: BorderName + 
     Some(run_segments::<R, G, L>(shared, plan, ring, 8, waiting, blanks).err())
 }
 
-// The same, at two rings of eight places, where they can be made.
+// The same, at two rings of eight places, if they can be made.
 fn fault_with_stranger<R: Threads + Wait + Sync>(
     rt: &R,
     alloc: Global,
@@ -64,7 +64,8 @@ fn fault_with_stranger<R: Threads + Wait + Sync>(
     fault_by_names::<R, OpenGate, Brand>(shared, plan, &ring, &other, stranger, Blanks::new())
 }
 
-// What a segment alone comes to whose border is closed: its fault, or how many rounds it has done.
+// The outcome of a single segment whose border is closed: its fault, or the number of rounds that
+// it has done.
 fn end_at_closed_border<'a, R: Wait, L: BorderName + 'a>(
     rt: &'a R,
     alloc: Global,
@@ -94,7 +95,7 @@ fn end_at_closed_border<'a, R: Wait, L: BorderName + 'a>(
     })
 }
 
-// The same for a ring in one segment, where it can be made.
+// The same for a ring in one segment, if it can be made.
 fn end_of_one<R: Wait>(rt: &R, alloc: Global, plan: &Plan) -> Option<Result<u32, SegmentFault>> {
     let ids = (vec![in alloc; 5, 1, 3, 7, 0, 2, 4, 6]).ok()?;
     let ring = Ring::new(plan.shape(), ids).ok()?;
