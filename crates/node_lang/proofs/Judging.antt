@@ -1,5 +1,5 @@
--- What a text reads as and its fault, by how reading it from the left ends: it stops at the first fault,
--- and answers a program exactly where the tokens are spelled so within the limits.
+-- What a text reads as, and its fault, from how reading it from the left ends: reading stops at the first fault, and
+-- returns a program exactly if the tokens spell it within the limits.
 use Rattle.std.proofs.Common.{◌≡◌, ℕ, ◌≤◌, List, [], ◌∷◌, ◌++◌, Option, Some, append_assoc, append-nil, refl, sym, subst, ap, ◌∙◌, arith, inl, inr, true, ◌≢◌, ◌-◌, ◌<◌, length, get_or, take}
 use Rattle.std.specs.Prelude.{All, sum_by, Result, Ok, Err, IfOk, IfErr}
 use Rattle.std.specs.List.{list_all}
@@ -50,12 +50,13 @@ goes_in_program {n = n} {w = w} t ts p q limits e =
     let few : counted w n ≤ MAX_NODES = omega (arith, all, parts, next_nodes t p, limits.nodes) in
     (next.rest, ap (checked w n t) next.steps ∙ goes_within w next.rest n t (shallow_at p.marks here left shallow) few (next.range limits))
 
--- what is answered: a program at whose end reading is, or the first fault
+-- the result is right: a program at whose end reading is, or the first fault
 abbrev pub Answers : List Token → List Lexeme → Read ProgramTree → Type 0
 Answers before ls (Got p count left) = Place (before ++ tokens_in ls) count (Nothing p)
 Answers before ls (Fault k from) = FirstFault before ls k from
 
--- a reading of these lexemes after these tokens answers the first fault, or the program within the limits, that there is
+-- reading these lexemes after these tokens returns the first fault, or the program within the limits, whichever there
+-- is
 pub record Judges (before : List Token) (ls : List Lexeme) (r : Read ProgramTree) : Type 0 where
   pub answers : Answers before ls r
   pub first : (k : FaultKind) (from : ℕ) → FirstFault before ls k from → r ≡ Fault k from
@@ -80,7 +81,7 @@ all_read {before} {n} {q} p = record {
       λ i. Got (same i) ((sym (whole_nodes p) ∙ ap (λ p. sum_by size (terms p)) same) i) [];
 }
 
--- what is judged after a token at which no fault stands is judged before it
+-- a result that is right after a token without a fault is right before it
 judged_through : {before : List Token} (l : Lexeme) (ls : List Lexeme) → ((k : FaultKind) → Stands before l.token k → ⊥) → (r : Read ProgramTree) →
     Judges (before ++ l.token ∷ []) ls r → Judges before (l ∷ ls) r
 judged_through {before} l ls clean r h = record {
@@ -93,7 +94,7 @@ judged_through {before} l ls clean r h = record {
     answers (Got p count left) h = subst (λ ts. Place ts count (Nothing p)) (append_assoc before (l.token ∷ []) (tokens_in ls)) h
     answers (Fault k from) h = inr (clean, h)
 
--- at a token reading stops at the first fault, or goes on
+-- at a token, reading stops at the first fault or goes on
 judged_met : {before : List Token} {n : ℕ} {w : Rest} (l : Lexeme) (ls : List Lexeme) → Place before n w → (m : Met) → meets w n l.token ≡ m → Says before (counted w n) l.token m →
     ((v : Rest) → Place (before ++ l.token ∷ []) (counted w n) v → Judges (before ++ l.token ∷ []) ls (read v (counted w n) ls)) →
     Judges before (l ∷ ls) (went (counted w n) l.from ls m)
@@ -110,7 +111,7 @@ judged_met {w = w} l ls p (Stops k) e here more = record {
 judged_met {w = w} l ls p (Goes v) e place more =
     judged_through l ls (λ k stands. let met = sym e ∙ stands_met w l.token k p stands in cc) (read v _ ls) (more v place)
 
--- so is each reading of the rest
+-- so every reading of the rest is right
 judged : (ls : List Lexeme) {before : List Token} {n : ℕ} (w : Rest) → Place before n w → Judges before ls (read w n ls)
 unfolding expression
 judged [] (Nothing q) p = all_read p
@@ -121,7 +122,7 @@ judged (l ∷ ls) {before} {n} w p =
     subst (Judges before (l ∷ ls)) (sym (read_next w n l.from l.token ls))
     (judged_met l ls p (meets w n l.token) refl (says w l.token p) (λ v place. judged ls v place))
 
--- and of a program
+-- and so is that of a program
 program_judged : (ls : List Lexeme) (r : Read ProgramTree) → program 0 ls ≡ r → Judges [] ls r
 program_judged ls r e = subst (Judges [] ls) (sym (program_read 0 ls) ∙ e) (judged ls a_program first_place)
 
@@ -129,18 +130,18 @@ program_judged ls r e = subst (Judges [] ls) (sym (program_read 0 ls) ∙ e) (ju
 pub first_fault_of : ReadingStopsAtFirstFault
 first_fault_of ls k from e = let judges = program_judged ls (Fault k from) e in judges.answers
 
--- and reading stops at a first fault
+-- and reading stops at every first fault
 pub stops_at_first_fault : FirstFaultStopsReading
 stops_at_first_fault ls = let judges = program_judged ls (program 0 ls) refl in judges.first
 
--- where reading goes on after so many nodes, it goes on after fewer
+-- reading that goes on after many nodes goes on after fewer
 goes_sooner : (w v : Rest) (n m : ℕ) (t : Token) (o : Option Rest) → n ≤ m → checked w m t o ≡ Goes v →
     (checked w n t o ≡ Goes v) × (counted w n ≤ counted w m)
 goes_sooner (AnExpression d w) v n m t (Some u) less e = (grind (arith, nat_tests, less, e), omega (arith, less))
 goes_sooner (ANumber low high w) v n m (token.Number k) (Some u) less e = (e, less)
 goes_sooner w v n m t o less e = (e, omega (arith, less))
 
--- so a program that is read after so many nodes is read after fewer
+-- so a program that is read after many nodes is read after fewer
 read_sooner : (ls : List Lexeme) {left : List Lexeme} (w : Rest) (n m : ℕ) {count : ℕ} {p : ProgramTree} → n ≤ m → read w m ls ≡ Got p count left →
     (c : ℕ) × (read w n ls ≡ Got p c left)
 unfolding expression
@@ -170,11 +171,11 @@ read_is_spelt p nodes count ls left small e =
     let small = (program_matches p).small (subst Fine (sym (whole_marks place)) fine) in
     record { tokens = whole place; limits = place.ends.limits small (omega (arith, whole_nodes place, place.few)) }
 
--- such lexemes are read as the program
+-- lexemes that spell a program are read as it
 pub program_completes : (p : ProgramTree) (ls : List Lexeme) → IsWithinLimits p → tokens_in ls ≡ spelling p → program 0 ls ≡ Got p (sum_by size (terms p)) []
 program_completes p ls limits e = let judges = program_judged ls (program 0 ls) refl in judges.reads p limits (sym e)
 
--- a high byte stands not before the first one
+-- no high byte is before the first one
 not_before : (text : List ℕ) (m n : ℕ) → IsFirstHighByte text m → IsFirstHighByte text n → m < n → ⊥
 not_before text m n a b h =
     let low = b.before m 0 (rw (length-take-le n text (omega (arith, b.within))) h) in
@@ -203,11 +204,11 @@ one_fault text k l m n (in_lexemes j i from short ascii at place) (in_lexemes h 
     let rest : from ≡ since = cc in
     (cc, omega arith)
 
--- a text that reads as a program is read as that program
+-- a text that reads as a program is read from the left as it
 pub readable_is_read : ReadableTextsAreRead
 readable_is_read text p reads = program_completes p (lexemes_of text) reads.limits reads.tokens
 
--- as no other one
+-- and as no other
 pub one_reading : OneReading
 one_reading text p q a b = cc (readable_is_read text p a, readable_is_read text q b)
 
@@ -217,20 +218,20 @@ no_fault text p k m reads (too_long long) = omega (arith, reads.short, long)
 no_fault text p k m reads (not_ascii n short first) = has_no_high_byte text n reads.ascii first
 no_fault text p k m reads (in_lexemes j n from short ascii at place) = cc (readable_is_read text p reads, stops_at_first_fault (lexemes_of text) j from at)
 
--- a text that is read from the left reads as that program
+-- a text that is read from the left as a program reads as it
 pub read_is_readable : ReadTextsAreReadable
 read_is_readable text p n left short ascii e =
     let spelt = read_is_spelt p 0 n (lexemes_of text) left (small_tokens text) e in
     record { short = short; ascii = ascii; tokens = spelt.tokens; limits = spelt.limits }
 
--- so does one that the parser reads to its end
+-- so does a text that the parser reads to its end
 pub reads_program : (old new : Parser) (r : Result ProgramTree TextFault) → old.at ≡ 0 → old.nodes ≡ 0 → length old.text.now ≤ LONGEST_TEXT → All (λ b. b < 128) old.text.now →
     Gives (λ p. p) old new r program → IfOk r (Reads old.text.now)
 reads_program old new (Ok p) at nodes short ascii h =
     read_is_readable old.text.now p new.nodes (lexemes_left old.text.now new.at) short ascii (rw (at, nodes) at h.1)
 reads_program old new (Err f) at nodes short ascii h = tt
 
--- and one at which it stops has this fault
+-- and a text at which the parser stops has this fault
 pub faults_at : (old new : Parser) (r : Result ProgramTree TextFault) → old.at ≡ 0 → old.nodes ≡ 0 → length old.text.now ≤ LONGEST_TEXT → All (λ b. b < 128) old.text.now →
     Gives (λ p. p) old new r program → IfErr r (λ f. f.kind ≢ kind.OutOfMemory → FaultsAt old.text.now f.kind f.offset)
 faults_at old new (Ok p) at nodes short ascii h = tt
@@ -239,7 +240,7 @@ faults_at old new (Err f) at nodes short ascii h = λ m.
     let first = first_fault_of (lexemes_of old.text.now) f.kind (length old.text.now - f.offset) (rw (at, nodes) at stops.1) in
     in_lexemes f.kind f.offset (length old.text.now - f.offset) short ascii first (omega (arith, stops.0))
 
--- so it reads as none
+-- so it reads as no program
 pub reads_none : {T : Type 0} (text : List ℕ) (r : Result T TextFault) → IfErr r (λ f. f.kind ≢ kind.OutOfMemory → FaultsAt text f.kind f.offset) →
     IfErr r (λ f. f.kind ≢ kind.OutOfMemory → (p : ProgramTree) → Reads text p → ⊥)
 reads_none text (Ok v) h = h

@@ -1,4 +1,4 @@
--- What the marks of a program say of it: their tokens are its spelling, and they have the nodes of its expressions.
+-- The marks of a program: their tokens are its spelling, and their nodes are those of its expressions.
 use Rattle.std.proofs.Common.{◌≡◌, ℕ, ◌+◌, ◌^◌, ◌<◌, ◌≤◌, true, List, [], ◌∷◌, ◌++◌, append_assoc, refl, sym, ap, ◌∙◌, arith, add-one}
 use Rattle.std.specs.Prelude.{All, sum_by}
 use Rattle.std.specs.List.{list_all}
@@ -35,7 +35,7 @@ pub shallow_at : (ms : List Mark) (m : Mark) (more : List Mark) → Shallow (ms 
 shallow_at [] m more h = h.0
 shallow_at (l ∷ ms) m more h = shallow_at ms m more h.1
 
--- and the tokens are small too
+-- and its tokens are small
 abbrev pub Fine : List Mark → Type 0
 Fine [] = Unit {0}
 Fine (m ∷ ms) = (m.depth ≤ MAX_DEPTH) × (is_small m.token ≡ true) × Fine ms
@@ -44,11 +44,11 @@ pub fine : (ms : List Mark) → Shallow ms → list_all is_small (unmarked ms) �
 fine [] h small = tt
 fine (m ∷ ms) h small = let parts = and_parts (is_small m.token) _ small in (h.0, parts.0, fine ms h.1 parts.1)
 
--- one more node, of which the token is not counted
+-- one more node is counted, whatever its token
 node_counts : (d : ℕ) (ms : List Mark) (n : ℕ) → nodes_at ms ≡ n → nodes_at (node token.Id (d + 1) ∷ ms) ≡ 1 + n
 node_counts d ms n h = sum_by-cons (λ (m : Mark). one_at m.depth) (node token.Id (d + 1)) ms ∙ rw (add-one d, h) refl
 
--- what an expression under d others is, by its marks
+-- the marks of an expression under d others, and its nodes
 nodes_marked : (e : Term) (d : ℕ) (ms : List Mark) (n : ℕ) → nodes_at ms ≡ n → nodes_at (marked e (d + 1) ms) ≡ size e + n
 nodes_marked (Unary o a) d ms n h =
     let close = plain token.Close ∷ ms in

@@ -1,20 +1,20 @@
--- The value of digits, read from the left.
+-- The value of decimal digits, read from the left.
 use Rattle.std.proofs.Common.{◌≡◌, ℕ, ◌+◌, ◌-◌, ◌*◌, ◌<◌, ◌≤◌, List, [], ◌∷◌, length, get_or, drop, refl, sym, ◌∙◌, arith, add-one}
 use Rattle.std.proofs.Math.Seq.{drop-cons}
 use Rattle.std.proofs.lemmas.List.{at_drop_all}
 use Rattle.node_lang.specs.Words.{read_on}
 
--- digits after a number don't make it smaller
+-- more digits don't make a number smaller
 pub read_on-le : (n : ℕ) (ds : List ℕ) → n ≤ read_on n ds
 read_on-le n [] = omega arith
 read_on-le n (d ∷ ds) = let more = read_on-le (10 * n + (d - 48)) ds in omega arith
 
--- one digit more is read
+-- one more digit is read
 pub read_more : (n m i : ℕ) (ds : List ℕ) → i < length ds → read_on n (drop i ds) ≡ read_on 0 ds → m ≡ 10 * n + (get_or ds i 0 - 48) →
     read_on m (drop (i + 1) ds) ≡ read_on 0 ds
 read_more n m i ds h e grown = rw grown (sym (rw (add-one, drop-cons ds i 0) refl) ∙ e)
 
--- digits whose front is a number over 2^32 - 1 are one too
+-- a number is too large if a prefix of its digits is
 pub too_large : (n m i : ℕ) (ds : List ℕ) → i < length ds → read_on n (drop i ds) ≡ read_on 0 ds → m ≡ 10 * n + (get_or ds i 0 - 48) →
     m ≤ read_on 0 ds
 too_large n m i ds h e grown = let done = read_more n m i ds h e grown in let more = read_on-le m (drop (i + 1) ds) in omega arith

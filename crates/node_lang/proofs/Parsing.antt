@@ -1,4 +1,4 @@
--- What the methods of the parser need of the reading.
+-- Lemmas on the readers, for the methods of the parser.
 use Rattle.std.proofs.Common.{◌≡◌, ℕ, zero, suc, ◌+◌, ◌-◌, ◌<◌, true, List, [], ◌∷◌, ◌++◌, map, Err, Ok, refl, ap, ◌∙◌, arith}
 use Rattle.std.proofs.lemmas.Bool.{eqb-true}
 use Rattle.std.proofs.lemmas.List.{map-append}
@@ -10,7 +10,7 @@ use Rattle.node_lang.specs.Lexemes.{Lexeme}
 use Rattle.node_lang.specs.Reading.{Read, each, expression, go_on, operand, same_token}
 use Rattle.node_lang.specs.Parsing.{Gives, lexemes_left}
 
--- two tokens that are the same are equal
+-- tokens that are the same are equal
 pub same_token_is : (s t : Token) → same_token s t ≡ true → s ≡ t
 same_token_is (token.Register i) (token.Register j) h = ap token.Register (eqb-true i j h)
 same_token_is (token.Register i) t h = cc
@@ -23,7 +23,7 @@ unfolding expression
 operand_is zero h = absurd (omega (arith, h))
 operand_is (suc n) h = rw (let e : suc n - 1 ≡ n = omega arith in e) refl
 
--- the parts below j are read, as these values, and then come the others
+-- the parts below j were read, with these values, and the others follow
 pub record HasRead {T A : Type 0} (tree : T → A) (part : ℕ → ℕ → List Lexeme → Read A) (high j : ℕ) (parts : List T) (old now : Parser) : Type 0 where
   pub text_is : now.text.now ≡ old.text.now
   pub reads : each part high 0 [] old.nodes (lexemes_left old.text.now old.at) ≡ each part (high - j) j (map tree parts) now.nodes (lexemes_left old.text.now now.at)

@@ -1,5 +1,5 @@
--- A place in a program: the tokens before it, and what is left of the program after them.
--- What reading meets at the next token is the fault that stands there, or none.
+-- A place in a program: the tokens before it, and what is left of the program after them. Reading meets at the next
+-- token exactly the fault that is there, or none.
 use Rattle.std.proofs.Common.{◌≡◌, ℕ, ◌+◌, ◌<◌, Option, Some, None, List, [], ◌∷◌, ◌++◌, length, take, drop, append_assoc, append-nil, refl, sym, subst, ap, ◌∙◌, arith, add-one, ◌≢◌, zero, suc, ◌-◌, ◌≤◌, ◌==◌, nat_le, ◌&&◌, true, false, inl, inr}
 use Rattle.std.specs.Prelude.{All, fold, sum_by}
 use Rattle.std.proofs.Math.Seq.{take-append_seam, drop-append_seam}
@@ -22,24 +22,24 @@ use Rattle.node_lang.proofs.Parsing.{same_token_is}
 use Rattle.node_lang.proofs.Rest.{Rest, Nothing, AToken, AnExpression, ANumber, following, step, depth_next, counted, Met, Stops, Goes, limited, checked, meets, assignments, some_rounds, a_body, a_program}
 use Rattle.node_lang.proofs.Marks.{Shallow, shallow_more, program_matches}
 
--- a number of the header that is next, in its range
+-- the next number of the header is in its range
 abbrev pub InRange : Rest → Token → Type 0
 InRange (ANumber low high w) (token.Number n) = (low ≤ n) × (n ≤ high)
 InRange w t = Unit {0}
 
--- and out of it
+-- or out of it
 abbrev IsOut : Rest → Token → Type 0
 IsOut (ANumber low high w) (token.Number n) = IsOutside low high n
 IsOut w t = ⊥
 
--- These marks lead from what is left to the end of a program: each is that of a token that can come next,
--- in its range where the program is within the limits.
+-- These marks lead from what is left to the end of a program: each has a token that can come next, and one in its range
+-- if the program is within the limits.
 pub data Leads (p : ProgramTree) : Rest → List Mark → Type 0 where
   ended : Leads p (Nothing p) []
   led : {w v : Rest} {ms : List Mark} (t : Token) → step w t ≡ Some v → (IsWithinLimits p → InRange w t) → Leads p v ms →
       Leads p w (node t (depth_next w) ∷ ms)
 
--- so do those of a token, an expression, assignments and rounds, and of a program from its beginning
+-- the same for a token, an expression, assignments, rounds, and a whole program
 token_leads : {p : ProgramTree} {w : Rest} {ms : List Mark} (t : Token) → same_token t t ≡ true → Leads p w ms → Leads p (AToken t w) (plain t ∷ ms)
 token_leads {w = w} t same h = led t (rw same refl) (λ _. tt) h
 
@@ -79,13 +79,13 @@ program_leads p each =
     (token_leads token.Channels refl (led (token.Number p.channels) refl (λ l. (l.some_channels, l.few_channels))
     (token_leads token.Registers refl (led (token.Number (length p.start)) refl (λ l. (l.some_registers, l.few_registers)) (token_leads token.Start refl body))))))
 
--- a program with these marks, and with numbers of the header in their ranges
+-- a program with these marks, whose header is in range
 pub record IsEnd (p : ProgramTree) (ms : List Mark) : Type 0 where
   pub each_register : IsProgram p
   pub limits : All IsSmall (terms p) → sum_by size (terms p) ≤ MAX_NODES → IsWithinLimits p
   pub are : marks p ≡ ms
 
--- Whatever comes next, these marks are the first ones of a program that ends so; f puts them in front of others.
+-- Whatever comes next, these marks are a prefix of the marks of a program; f prepends them.
 abbrev pub Ends : (List Mark → List Mark) → Rest → Type 0
 Ends f (Nothing p) = IsEnd p (f [])
 Ends f (AToken t w) = Ends (λ ms. f (plain t ∷ ms)) w
@@ -93,7 +93,7 @@ Ends f (AnExpression d w) = (e : Term) → Ends (λ ms. f (marked e (d + 1) ms))
 Ends f (ANumber low high w) = (low ≤ high) × ((n : ℕ) → IsOutside low high n → IsOutOfRange (unmarked (f [])) (token.Number n))
     × ((n : ℕ) → low ≤ n → n ≤ high → Ends (λ ms. f (plain (token.Number n) ∷ ms)) (w n))
 
--- so it is where each list of assignments, and of rounds, that can come next is followed so
+-- so they are if each list of assignments, and of rounds, that can come next is completed so
 assignments_end : (count j : ℕ) (f : List Mark → List Mark) (w : List Term → Rest) →
     ((es : List Term) → length es ≡ count → Ends (λ ms. f (marked_assignments j es ms)) (w es)) → Ends f (assignments count j w)
 assignments_end zero j f w h = h [] refl
@@ -111,7 +111,7 @@ rounds_end (suc count) many f w h = λ left right.
     let s : Step = record { left = left; right = right; next = next } in
     h (s ∷ ss) (ap suc counts) (All-cons (λ (s : Step). length s.next ≡ many) s ss full each)))
 
--- the header's marks, in front of others
+-- the marks of the header, in front of others
 abbrev header : ℕ → ℕ → ℕ → List Mark → List Mark
 header i c r ms = plain token.Rounds ∷ plain (token.Number i) ∷ plain token.Channels ∷ plain (token.Number c)
     ∷ plain token.Registers ∷ plain (token.Number r) ∷ plain token.Start ∷ ms
@@ -136,7 +136,7 @@ body_ends i c r fits some few least most =
 program_ends : Ends (λ ms. ms) a_program
 program_ends = (omega arith, rounds, λ i _ fits. (omega arith, channels i, λ c some few. (omega arith, registers i c, λ r. body_ends i c r fits some few)))
 
--- and after one more token
+-- the same after one more token
 abbrev EndsIf : (List Mark → List Mark) → Option Rest → Type 0
 EndsIf f None = Unit {0}
 EndsIf f (Some w) = Ends f w
@@ -160,7 +160,7 @@ ends_next f (AnExpression d w) t h range = ends_in_term f d w t h
 ends_next f (ANumber low high w) (token.Number n) h range = h.2 n range.0 range.1
 ends_next f (ANumber low high w) t h range = tt
 
--- a program that has such first marks
+-- a program with these marks as a prefix
 pub record Completed (f : List Mark → List Mark) : Type 0 where
   pub program : ProgramTree
   pub more : List Mark
@@ -170,7 +170,7 @@ pub record Completed (f : List Mark → List Mark) : Type 0 where
 one_earlier : (f : List Mark → List Mark) (m : Mark) → Completed (λ ms. f (m ∷ ms)) → Completed f
 one_earlier f m c = record { program = c.program; more = m ∷ c.more; each_register = c.each_register; are = c.are }
 
--- some program that begins so
+-- some program with this prefix
 completed : (w : Rest) (f : List Mark → List Mark) → Ends f w → Completed f
 completed (Nothing p) f h = record { program = p; more = []; each_register = h.each_register; are = h.are }
 completed (AToken t w) f h = one_earlier f (plain t) (completed w _ h)
@@ -180,7 +180,7 @@ completed (ANumber low high w) f h = one_earlier f (plain (token.Number low)) (c
 unmarked_program : (p : ProgramTree) → unmarked (marks p) ≡ spelling p
 unmarked_program p = let m = program_matches p in m.tokens
 
--- A program that begins with these marks goes on with others, which have these tokens.
+-- A program with these marks as a prefix goes on with others, which have these tokens.
 pub record GoesOn (p : ProgramTree) (before : List Mark) (ts : List Token) (w : Rest) : Type 0 where
   pub left : List Mark
   pub are : marks p ≡ before ++ left
@@ -192,8 +192,8 @@ abbrev pub after : Option Rest → Token → Option Rest
 after None t = None
 after (Some w) t = step w t
 
--- The tokens before a place lead to what is left; they have so many nodes, none of them too deep.
--- Whatever comes next ends a program, and each program that begins so goes on from here.
+-- The tokens before a place lead to what is left, with this number of nodes, none of them too deep. Whatever comes next
+-- can be completed to a program, and each program with this prefix goes on from here.
 pub record Place (before : List Token) (nodes : ℕ) (w : Rest) : Type 0 where
   pub reached : fold after (Some a_program) before ≡ Some w
   pub marks : List Mark
@@ -217,7 +217,7 @@ first_place = record {
   goes_on = λ p ts each e. record { left = marks p; are = refl; tokens = unmarked_program p ∙ e; leads = program_leads p each };
 }
 
--- a program that has this token next
+-- a program in which this token comes next
 pub record HasNext (p : ProgramTree) (before : List Mark) (t : Token) (ts : List Token) (w : Rest) : Type 0 where
   pub rest : Rest
   pub steps : step w t ≡ Some rest
@@ -236,12 +236,12 @@ has_next {p} {before} {ts = ts} {w = w} t (led {ms = ms} u s range h) are e =
       after = record { left = ms; are = are ∙ sym (append_assoc before (node u (depth_next w) ∷ []) ms); tokens = cc; leads = h };
     })
 
--- and one that has none
+-- a program in which none comes next
 has_none : {p : ProgramTree} {w : Rest} {left : List Mark} → Leads p w left → unmarked left ≡ [] → w ≡ Nothing p
 has_none ended e = refl
 has_none (led u s range h) e = absurd (cc)
 
--- so a program that begins with the tokens before a place
+-- so a program with the tokens before a place as its prefix
 pub next_of : {before : List Token} {nodes : ℕ} {w : Rest} (t : Token) (ts : List Token) (p : Place before nodes w) (q : ProgramTree) → IsProgram q → spelling q ≡ before ++ t ∷ ts →
     HasNext q p.marks t ts w
 next_of t ts p q each e = let g = p.goes_on q (t ∷ ts) each e in has_next t g.leads g.are g.tokens
@@ -255,13 +255,13 @@ counted_is (AToken s w) n t = omega arith
 counted_is (AnExpression d w) n t = rw (add-one d) (omega arith)
 counted_is (ANumber low high w) n t = omega arith
 
--- the nodes after one more token, and the place there
+-- the number of nodes after one more token, and the place there
 pub next_nodes : {before : List Token} {nodes : ℕ} {w : Rest} (t : Token) (p : Place before nodes w) → nodes_at (p.marks ++ node t (depth_next w) ∷ []) ≡ counted w nodes
 next_nodes {nodes = nodes} {w = w} t p =
     let here : Mark = node t (depth_next w) in
     sum_by-append (λ (m : Mark). one_at m.depth) p.marks (here ∷ []) ∙ ap (λ n. n + nodes_at (here ∷ [])) p.nodes_are ∙ counted_is w nodes t
 
--- the tokens of these marks and of others
+-- the tokens of these marks, then of others
 unmarked_next : (xs : List Mark) (before : List Token) (ms : List Mark) → unmarked xs ≡ before → unmarked (xs ++ ms) ≡ before ++ unmarked ms
 unmarked_next xs before ms e = map-append (λ (x : Mark). x.token) xs ms ∙ ap (λ ts. ts ++ unmarked ms) e
 
@@ -284,13 +284,13 @@ next_place {before} {nodes} {w} {v} t p s few shallow range =
           subst (GoesOn q (p.marks ++ here ∷ []) ts) same n.after;
     }
 
--- a list in two parts has its first elements, and the one after them, in one way
+-- a list is split in two at one element in one way
 same_front : {A : Type 0} (xs ys vs ws : List A) (v w : A) → length xs ≡ length ys → xs ++ v ∷ vs ≡ ys ++ w ∷ ws → (xs ≡ ys) × (v ≡ w)
 same_front xs ys vs ws v w n e =
     let after = sym (drop-append_seam xs (v ∷ vs)) ∙ (λ i. drop (n i) (e i)) ∙ drop-append_seam ys (w ∷ ws) in
     (sym (take-append_seam xs (v ∷ vs)) ∙ (λ i. take (n i) (e i)) ∙ take-append_seam ys (w ∷ ws), cc (after))
 
--- a node that begins in some program is the one that the rest wants, after so many nodes
+-- a node that begins in some program is the one that is expected, after this number of nodes
 record IsWanted (t : Token) (depth count nodes : ℕ) (w : Rest) : Type 0 where
   pub rest : Rest
   pub steps : step w t ≡ Some rest
@@ -308,12 +308,12 @@ wanted {before} {depth = depth} {t = t} {w = w} p b =
     let same = same_front p.marks b.marks_before n.after.left b.marks_after there here lengths (sym (n.after.are ∙ append_assoc p.marks (there ∷ []) n.after.left) ∙ b.are) in
     record { rest = n.rest; steps = n.steps; depth_is = ap (λ m. m.depth) (sym same.1); count_is = sym b.nodes_are ∙ ap nodes_at (sym same.0) ∙ p.nodes_are }
 
--- tokens with which some program begins
+-- tokens that are a prefix of some program
 viable_marks : {before : List Token} (p : ProgramTree) (ms more : List Mark) → IsProgram p → unmarked ms ≡ before → marks p ≡ ms ++ more → IsViable before
 viable_marks {before} p ms more each tokens are =
     record { program = p; more = unmarked more; each_register = each; spells = sym (unmarked_next ms before more tokens) ∙ ap unmarked (sym are) ∙ unmarked_program p }
 
--- so those before a place, and those up to a node that begins in some program
+-- so are those before a place, and those up to a node of some program
 viable : {before : List Token} {nodes : ℕ} {w : Rest} → Place before nodes w → IsViable before
 viable {w = w} p = let c = completed w (λ ms. p.marks ++ ms) p.ends in viable_marks c.program p.marks c.more c.each_register p.tokens c.are
 
@@ -323,7 +323,7 @@ viable_node {before} {t} {depth} b =
     viable_marks b.program (b.marks_before ++ here ∷ []) b.marks_after b.each_register (unmarked_next b.marks_before before (here ∷ []) b.tokens_before)
     (b.are ∙ sym (append_assoc b.marks_before (here ∷ []) b.marks_after))
 
--- where nothing is left the marks are those of the program, with its nodes and its spelling
+-- at the end of a program the marks are the program's, with its nodes and its spelling
 pub whole_marks : {before : List Token} {nodes : ℕ} {q : ProgramTree} (p : Place before nodes (Nothing q)) → marks q ≡ p.marks
 whole_marks p = p.ends.are ∙ append-nil p.marks
 
@@ -350,7 +350,7 @@ begins_node {d = d} {w = w} {v = v} t p s =
       nodes_are = p.nodes_are;
     }
 
--- the header's number that is out of its range after these tokens is the one that is next
+-- the number of the header that is out of range after these tokens is the next one
 abbrev IsOutIf : Option Rest → Token → Type 0
 IsOutIf None t = ⊥
 IsOutIf (Some w) t = IsOut w t
@@ -360,7 +360,7 @@ next_out (rounds n h) e = subst (λ o. IsOutIf o (token.Number n)) e h
 next_out (channels i n h) e = subst (λ o. IsOutIf o (token.Number n)) e h
 next_out (registers i c n h) e = subst (λ o. IsOutIf o (token.Number n)) e h
 
--- a number out of its range is a token that can come next, and refused
+-- a number out of range can come next, and is refused
 out_met : (w : Rest) (n : ℕ) (t : Token) → IsOut w t → meets w n t ≡ Stops kind.HeaderRange
 out_met (ANumber low high w) n (token.Number k) o = elim o [ inl below ↦ grind (arith, nat_tests) | inr above ↦ grind (arith, nat_tests) ]
 out_met w n t o = absurd o
@@ -369,11 +369,11 @@ out_steps : (w : Rest) (t : Token) → IsOut w t → step w t ≡ None → ⊥
 out_steps (ANumber low high w) (token.Number k) o none = cc
 out_steps w t o none = absurd o
 
--- a number that fails the test is out of its range
+-- a number that fails the test is out of range
 outside : (low high n : ℕ) → (nat_le low n && nat_le n high) ≡ false → IsOutside low high n
 outside low high n h = elim (cases_order n low) [ inl e ↦ inr (grind (arith, nat_tests)) | inr (inl less) ↦ inl less | inr (inr more) ↦ inr (grind (arith, nat_tests)) ]
 
--- what stands at a token where reading meets this: that fault; or none, and it is the place after it
+-- the fault at a token where reading meets this; or none, and the place after it
 abbrev pub Says : List Token → ℕ → Token → Met → Type 0
 Says before count t (Stops k) = Stands before t k
 Says before count t (Goes v) = Place (before ++ t ∷ []) count v
@@ -393,13 +393,13 @@ says_limited {before} {n} (ANumber low high w) v (token.Number k) p s =
     (λ neither. out_of_range (subst (λ ts. IsOutOfRange ts (token.Number k)) (ap unmarked (append-nil p.marks) ∙ p.tokens) (p.ends.1 k (outside low high k neither))))
 says_limited (ANumber low high w) v t p s = absurd (cc)
 
--- at a token that can't come next
+-- the fault of a token that can't come next
 stands_none : {before : List Token} (t : Token) → (IsOutOfRange before t → ⊥) → (IsViable (before ++ t ∷ []) → ⊥) → Stands before t (fault_of t)
 stands_none token.Unknown r v = unknown refl
 stands_none token.LargeNumber r v = large refl
 stands_none t r v = unexpected (λ e. cc) (λ e. cc) r v
 
--- what reading meets stands there
+-- what reading meets is the fault that is there
 pub says : {before : List Token} {n : ℕ} (w : Rest) (t : Token) → Place before n w → Says before (counted w n) t (meets w n t)
 says {before} {n} w t p = checks (step w t) refl
   where
@@ -411,7 +411,7 @@ says {before} {n} w t p = checks (step w t) refl
         let next = next_of t v.more p v.program v.each_register (sym v.spells ∙ append_assoc before (t ∷ []) v.more) in
         let both : None ≡ Some next.rest = sym none ∙ next.steps in cc)
 
--- a token that can't come next is met as one
+-- a token that can't come next is unexpected
 stops_unexpected : {before : List Token} {t : Token} (n : ℕ) (m : Met) → Says before n t m → t ≢ token.Unknown → t ≢ token.LargeNumber → (IsOutOfRange before t → ⊥) →
     (IsViable (before ++ t ∷ []) → ⊥) → m ≡ Stops kind.Unexpected
 stops_unexpected n (Goes w) place u l r v = absurd (v (viable place))
@@ -431,14 +431,14 @@ limited_many : (w v : Rest) (n : ℕ) (t : Token) → 0 < depth_next w → depth
 limited_many (AnExpression d w) v n t some shallow many = grind (arith, nat_tests, shallow, many)
 limited_many w v n t some shallow many = absurd (omega (arith, some))
 
--- what is no token of the language
+-- tokens that are not of the language
 unknown_met : (w : Rest) (n : ℕ) → (meets w n token.Unknown ≡ Stops kind.BadWord) × (meets w n token.LargeNumber ≡ Stops kind.NumberTooLarge)
 unknown_met (Nothing p) n = (refl, refl)
 unknown_met (AToken s w) n = (refl, refl)
 unknown_met (AnExpression d w) n = (refl, refl)
 unknown_met (ANumber low high w) n = (refl, refl)
 
--- and a fault that stands there is what reading meets
+-- and a fault that is there is what reading meets
 pub stands_met : {before : List Token} {n : ℕ} (w : Rest) (t : Token) (k : FaultKind) → Place before n w → Stands before t k → meets w n t ≡ Stops k
 stands_met {n = n} w t k p s = elim s as (λ k _. meets w n t ≡ Stops k) [
   | unknown e ↦ ap (meets w n) e ∙ (unknown_met w n).0

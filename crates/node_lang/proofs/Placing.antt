@@ -38,7 +38,7 @@ pub mark_in_front : (b : ℕ) (bs : List ℕ) → is_word_byte b ≡ false → i
 unfolding lexemes_of
 mark_in_front b bs no_word no_blank no_comment = rw (no_comment, no_word, no_blank, length-blanked false bs, add-one) refl
 
--- a byte that ends no comment
+-- a byte that does not end a comment
 abbrev pub in_line : ℕ → Bool
 in_line b = not (b == 10)
 
@@ -52,7 +52,7 @@ comment_step b bs true e rest =
     subst P (sym (eqb-true b 10 e)) refl
 comment_step b bs false e rest = rw e (rest ∙ ap (λ n. lexemes_in (blanked false (drop n (b ∷ bs)))) (sym (one-add (prefix_len in_line bs))))
 
--- inside a comment the lexemes are those from the line's end on
+-- inside a comment the lexemes are those after the end of the line
 in_comment : (bs : List ℕ) → lexemes_in (blanked true bs) ≡ lexemes_in (blanked false (drop (prefix_len in_line bs) bs))
 in_comment [] = refl
 in_comment (b ∷ bs) = comment_step b bs (b == 10) refl (in_comment bs)
@@ -60,12 +60,12 @@ in_comment (b ∷ bs) = comment_step b bs (b == 10) refl (in_comment bs)
 comment_in_front : (bs : List ℕ) → lexemes_of (35 ∷ bs) ≡ lexemes_of (drop (prefix_len in_line bs) bs)
 comment_in_front bs = lexemes_of-blanked (35 ∷ bs) ∙ in_comment bs ∙ sym (lexemes_of-blanked (drop (prefix_len in_line bs) bs))
 
--- a byte of no word begins no word, in a comment or not
+-- a byte of no word begins no word, inside a comment or outside
 no_word_first : (b : ℕ) (bs : List ℕ) → is_word_byte b ≡ false → (split_of (blanked false (b ∷ bs))).word ≡ []
 no_word_first b bs h = cond_both (b == 35) (32 ∷ blanked true bs) (b ∷ blanked false bs) (λ t. (split_of t).word ≡ []) (λ _. refl)
     (λ _. rw h (cond_both (is_blank b) _ _ (λ (s : Split). s.word ≡ []) (λ _. refl) (λ _. refl)))
 
--- the text after the word at its front
+-- the text after its first word
 pub record SplitsWord (text : List ℕ) (n : ℕ) : Type 0 where
   pub word : (split_of (blanked false text)).word ≡ take n text
   pub rest : (split_of (blanked false text)).rest ≡ lexemes_of (drop n text)
@@ -109,11 +109,11 @@ pub mark_token_first : (text : List ℕ) → 0 < length text → 0 ≡ prefix_le
 mark_token_first [] h e no_blank no_comment = absurd (omega arith)
 mark_token_first (b ∷ bs) h e no_blank no_comment = mark_in_front b bs (stops (is_word_byte b) _ e) no_blank (ne_eqb b 35 no_comment)
 
--- at a blank the text goes on after it
+-- at a blank, the lexemes are those after it
 pub after_blank : (text : List ℕ) (i : ℕ) → i < length text → is_blank (get_or text i 0) ≡ true → lexemes_of (drop (i + 1) text) ≡ lexemes_of (drop i text)
 after_blank text i h blank = rw (add-one, drop-cons text i 0) (sym (blank_in_front (get_or text i 0) (drop (suc i) text) blank))
 
--- at a comment the text goes on after the line
+-- at a comment, the lexemes are those after the line
 pub after_comment : (text : List ℕ) (i n : ℕ) → i < length text → get_or text i 0 ≡ 35 → n ≡ prefix_len in_line (drop (i + 1) text) →
     lexemes_of (drop (i + (1 + n)) text) ≡ lexemes_of (drop i text)
 after_comment text i n h comment e =
@@ -125,11 +125,11 @@ after_comment text i n h comment e =
     ∙ sym (comment_in_front (drop (i + 1) text))
     ∙ ap lexemes_of (sym front)
 
--- blanks and comments alone have no lexeme
+-- blanks and comments alone have no lexemes
 pub all_skipped : (text : List ℕ) (n : ℕ) → n ≡ length text → lexemes_of (drop n text) ≡ lexemes_of text → lexemes_of text ≡ []
 all_skipped text n e same = sym same ∙ ap lexemes_of (ap (λ k. drop k text) e ∙ drop-length text) ∙ lexemes_of-blanked []
 
--- the lexemes from a place on, by those of a slice of the code
+-- the lexemes from a place on, from those of a slice in the code
 pub placed_after : (text : List ℕ) (at start end : ℕ) (t : Token) → at ≤ length text → start < end →
     lexemes_of (take (length text - at) (drop at text)) ≡ record { from = length (take (length text - at) (drop at text)) - start; token = t } ∷ lexemes_of (drop end (take (length text - at) (drop at text))) →
     lexemes_of (drop at text) ≡ record { from = length text - (at + start); token = t } ∷ lexemes_of (drop (at + end) text)

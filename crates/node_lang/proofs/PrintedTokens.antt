@@ -26,7 +26,7 @@ use Rattle.node_lang.specs.Grammar.{Reads, spelled, assigned, block, blocks}
 use Rattle.node_lang.specs.Printed.{printed_expression, assignment_line, assignment_lines, send_line, round_lines, header_lines, printed}
 use Rattle.node_lang.proofs.Placing.{blank_in_front, mark_in_front, word_token_first}
 
--- no word goes on in this text
+-- this text does not continue a word
 abbrev pub EndsWord : List ℕ → Type 0
 EndsWord rest = prefix_len is_word_byte rest ≡ 0
 
@@ -58,7 +58,7 @@ digits_are_letters : (ds : List ℕ) → list_all is_digit ds ≡ true → list_
 digits_are_letters ds h =
     list_all-from_AllPass is_word_byte ds (All-weaker (λ b. is_digit b ≡ true) (λ b. is_word_byte b ≡ true) digit_is_letter ds (AllPass-from_list_all is_digit ds h))
 
--- digits and their value, in the words of the standard library
+-- the standard library's model of digits and their value
 numeral : IsNumeralModel (λ ds. list_all is_digit ds ≡ true) (read_on 0)
 numeral = numerals_by_fold (λ ds. list_all is_digit ds ≡ true) (search rules) read_on (search rules)
 
@@ -96,14 +96,14 @@ unary_word : (o : UnOp) → IsWord (unary_name o) (token.Unary o) × (length (un
 unfolding word_token
 unary_word Not = (known (unary_name Not) (token.Unary Not) refl refl refl, omega arith)
 
--- the words that are no names of operations, and `if`
+-- the words that are not names of operations, and `if`
 keyword : (t : Token) → nat_lt 0 (length (word_of t)) ≡ true → IsWord (word_of t) t
 unfolding word_token
 keyword (token.Unary o) h = let word = unary_word o in word.0
 keyword (token.Binary o) h = let word = binary_word o in word.0
 keyword t h = known (word_of t) t refl h (cc)
 
--- ASCII bytes, at most this many, which read so: where a word ends them, where no word goes on after them
+-- ASCII bytes, at most this many, with these tokens: wherever they end a word, the text after them does not continue it
 abbrev Follows : Bool → List ℕ → Type 0
 Follows true rest = EndsWord rest
 Follows false rest = Unit {0}
@@ -113,7 +113,7 @@ record Writes (word : Bool) (bytes : List ℕ) (most : ℕ) (spell : List Token 
   pub short : length bytes ≤ most
   pub reads : (rest : List ℕ) → Follows word rest → tokens_of (bytes ++ rest) ≡ spell (tokens_of rest)
 
--- one text after the other
+-- the concatenation of two texts
 glue : {xs ys : List ℕ} {m n : ℕ} {f g : List Token → List Token} {a b : Bool} → Writes a xs m f → Writes b ys n g →
     ((rest : List ℕ) → Follows b rest → Follows a (ys ++ rest)) → Writes b (xs ++ ys) (m + n) (λ ts. f (g ts))
 glue {xs} {ys} {f = f} x y follows = record {
@@ -122,7 +122,7 @@ glue {xs} {ys} {f = f} x y follows = record {
   reads = λ rest h. ap tokens_of (append_assoc xs ys rest) ∙ x.reads (ys ++ rest) (follows rest h) ∙ ap f (y.reads rest h);
 }
 
--- with more room, or where no word goes on
+-- with more room, or before a text that continues no word
 roomy : {xs : List ℕ} {m n : ℕ} {f : List Token → List Token} {a : Bool} → Writes a xs m f → m ≤ n → Writes a xs n f
 roomy x le = record { ascii = x.ascii; short = omega (arith, x.short, le); reads = x.reads }
 
@@ -172,7 +172,7 @@ comma = glue (a_mark 44 refl refl refl (omega arith)) space (λ _ _. tt)
 equals : Writes false (codes " = ") 3 (λ ts. token.Equals ∷ ts)
 equals = glue space (glue (a_mark 61 refl refl refl (omega arith)) space (λ _ _. tt)) (λ _ _. tt)
 
--- at most ten bytes a node
+-- at most ten bytes for each node
 an_expression : (e : Term) → largest e < 2 ^ 32 → largest_register e < 10 → Writes true (printed_expression e) (10 * size e) (spelled e)
 an_expression (Literal n) number register = a_number n number
 an_expression Identifier number register = a_word 10 (keyword token.Id refl) (omega arith)
@@ -207,7 +207,7 @@ assignments (e ∷ es) j few small =
     roomy (glue (an_assignment j e (omega (arith, few)) (All-head IsSmall e es small)) (assignments es (j + 1) (omega (arith, few)) (All-tail IsSmall e es small)) (λ _ _. tt))
     (omega (arith, sum_by-cons size e es))
 
--- a word, and the blank or the line's end after it
+-- a word and the blank or line end after it
 spaced : (t : Token) → nat_lt 0 (length (word_of t)) ≡ true → Writes false (word_of t ++ codes " ") (length (word_of t) + 1) (λ ts. t ∷ ts)
 spaced t some = glue (a_word (length (word_of t)) (keyword t some) (omega arith)) space (λ _ _. refl)
 
@@ -218,7 +218,7 @@ a_send : {side : List ℕ} {t : Token} (e : Term) → Writes true side 5 (λ ts.
 a_send e side small =
     roomy (glue (spaced token.Send refl) (glue side (glue space (a_line e small) (λ _ _. tt)) (λ _ _. refl)) (λ _ _. tt)) (omega arith)
 
--- at most ten bytes a node, and 90 more
+-- at most ten bytes for each node, and 90 more
 a_round : (s : Step) → length s.next ≤ 10 → All IsSmall (terms_of_step s) → Writes false (round_lines s) (10 * sum_by size (terms_of_step s) + 90) (block s)
 a_round s few small =
     let small_rest = All-tail IsSmall s.left (s.right ∷ s.next) small in
@@ -245,7 +245,7 @@ some_rounds (s ∷ ss) few small =
     let others = some_rounds ss (All-tail HasFew s ss few) (all_right (terms_of_step s) (step_terms ss) small) in
     roomy (glue one others (λ _ _. tt)) (omega (arith, sum_by-append size (terms_of_step s) (step_terms ss)))
 
--- a number of the header, and what follows it on the next line
+-- a number of the header, and the next line
 a_count : {ys : List ℕ} {most : ℕ} {g : List Token → List Token} (n : ℕ) → n < 2 ^ 32 → Writes false ys most g →
     Writes false (decimal n ++ (codes "\n" ++ ys)) (10 + (1 + most)) (λ ts. token.Number n ∷ g ts)
 a_count n small after = glue (a_number n small) (glue new_line after (λ _ _. tt)) (λ _ _. refl)

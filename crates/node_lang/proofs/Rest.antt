@@ -1,5 +1,5 @@
--- What is left of a program after some tokens, how one token leads on, and that a program is read so.
--- A whole program is what is left before its first token.
+-- What is left of a program after some tokens, how one token leads on, and that a program is read so. A whole program
+-- is left before its first token.
 use Rattle.std.proofs.Common.{ℕ, zero, suc, ◌+◌, ◌-◌, ◌==◌, nat_le, ◌&&◌, List, [], ◌∷◌, Option, Some, None, ◌≡◌, ◌<◌, Bool, true, false, ◌++◌, refl, ap, ◌∙◌, arith, append_assoc, append-nil}
 use Rattle.std.specs.Prelude.{if◌then◌else◌}
 use Rattle.std.proofs.lemmas.Bool.Decides.{nat_tests}
@@ -13,23 +13,23 @@ use Rattle.node_lang.specs.Reading.{same_token, fault_of, Read, Reader, Got, Fau
 use Rattle.node_lang.specs.Lexemes.{Lexeme}
 use Rattle.node_lang.proofs.Parsing.{operand_is}
 
--- Nothing, where the program is this one; or this token, an expression that is the operand of so many others,
--- or a number of the header, and then the rest.
+-- Nothing, with the program that was read; or a token, an expression under this many others, or a number of the header,
+-- and then the rest.
 pub data Rest : Type 0 where
   Nothing : ProgramTree → Rest
   AToken : Token → Rest → Rest
   AnExpression : ℕ → (Term → Rest) → Rest
   ANumber : ℕ → ℕ → (ℕ → Rest) → Rest
 
--- a token, and an operand of an expression that is the operand of d others
+-- a token, then an operand of an expression under d others
 abbrev an_operand : Token → ℕ → (Term → Rest) → Rest
 an_operand t d w = AToken t (AnExpression (d + 1) w)
 
--- the end of an operation, and then the rest
+-- the end of an operation, then the rest
 abbrev closed : Rest → Rest
 closed w = AToken token.Close w
 
--- what follows a token that begins an expression
+-- the rest after a token that begins an expression
 abbrev pub following : ℕ → (Term → Rest) → Token → Option Rest
 following d w (token.Number n) = Some (w (Literal n))
 following d w token.Id = Some (w Identifier)
@@ -42,7 +42,7 @@ following d w token.If =
     Some (an_operand token.Open d (λ c. an_operand token.Comma d (λ a. an_operand token.Comma d (λ b. closed (w (Conditional c a b))))))
 following d w _ = None
 
--- what follows a token, where it can come next
+-- the rest after a token, if it can come next
 abbrev pub step : Rest → Token → Option Rest
 step (Nothing p) t = None
 step (AToken s w) t = if same_token t s then Some w else None
@@ -55,24 +55,24 @@ abbrev pub depth_next : Rest → ℕ
 depth_next (AnExpression d w) = d + 1
 depth_next _ = 0
 
--- the nodes so far, after one more token
+-- the number of nodes after one more token
 abbrev pub counted : Rest → ℕ → ℕ
 counted (AnExpression d w) nodes = nodes + 1
 counted _ nodes = nodes
 
--- reading stops at a token, or goes on after it
+-- the effect of a token: reading stops, or goes on
 pub data Met : Type 0 where
   Stops : FaultKind → Met
   Goes : Rest → Met
 
--- a token that can come next, where it is within the limits
+-- a token that can come next, checked against the limits
 abbrev pub limited : Rest → ℕ → Token → Rest → Met
 limited (AnExpression d w) nodes t v =
     if (MAX_DEPTH - d) == 0 then Stops kind.TooDeep else if nat_le MAX_NODES nodes then Stops kind.TooManyNodes else Goes v
 limited (ANumber low high w) nodes (token.Number n) v = if nat_le low n && nat_le n high then Goes v else Stops kind.HeaderRange
 limited w nodes t v = Goes v
 
--- a token that may follow or not
+-- a token that may come next or not
 abbrev pub checked : Rest → ℕ → Token → Option Rest → Met
 checked w nodes t None = Stops (fault_of t)
 checked w nodes t (Some v) = limited w nodes t v
@@ -87,14 +87,14 @@ assignments zero j w = w []
 assignments (suc count) j w =
     AToken (token.Register j) (AToken token.Equals (AnExpression 0 (λ e. assignments count (j + 1) (λ es. w (e ∷ es)))))
 
--- so many rounds of so many registers
+-- `count` rounds of this many registers
 abbrev pub some_rounds : ℕ → ℕ → (List Step → Rest) → Rest
 some_rounds zero registers w = w []
 some_rounds (suc count) registers w = AToken token.Round (AToken token.Send (AToken token.Left (AnExpression 0 (λ left.
     AToken token.Send (AToken token.Right (AnExpression 0 (λ right. assignments registers 0 (λ next.
     some_rounds count registers (λ ss. w (record { left = left; right = right; next = next } ∷ ss))))))))))
 
--- what follows the header
+-- the rest after the header
 abbrev pub a_body : ℕ → ℕ → ℕ → Rest
 a_body rounds channels registers = assignments registers 0 (λ start. some_rounds rounds registers (λ steps.
     AToken token.Finish (AnExpression 0 (λ finish. Nothing (record { channels = channels; start = start; steps = steps; finish = finish })))))
@@ -104,14 +104,14 @@ abbrev pub a_program : Rest
 a_program = AToken token.Rounds (ANumber 0 MAX_ROUNDS (λ rounds. AToken token.Channels (ANumber 1 MAX_CHANNELS (λ channels.
     AToken token.Registers (ANumber 1 MAX_REGISTERS (λ registers. AToken token.Start (a_body rounds channels registers)))))))
 
--- the rest is read so
+-- reads the rest
 abbrev pub read : Rest → Reader ProgramTree
 read (Nothing p) nodes left = go_on (end nodes left) (λ _. done p)
 read (AToken t w) nodes left = go_on (exactly t nodes left) (λ _ n ls. read w n ls)
 read (AnExpression d w) nodes left = go_on (expression (MAX_DEPTH - d) nodes left) (λ e n ls. read (w e) n ls)
 read (ANumber low high w) nodes left = go_on (number low high nodes left) (λ k n ls. read (w k) n ls)
 
--- what comes of a token
+-- continues reading after a token
 abbrev pub went : ℕ → ℕ → List Lexeme → Met → Read ProgramTree
 went nodes from ls (Stops k) = Fault k from
 went nodes from ls (Goes v) = read v nodes ls
@@ -126,7 +126,7 @@ go_on_same : {A B : Type 0} (r : Read A) (f g : A → ℕ → List Lexeme → Re
 go_on_same (Got a n ls) f g h = h a n ls
 go_on_same (Fault k from) f g h = refl
 
--- a token that is wanted
+-- an expected token
 abbrev matched : Bool → Lexeme → Reader (Unit {0})
 matched b l = if b then done tt else refuse kind.Unexpected l
 
@@ -135,14 +135,14 @@ wanted_next : (s : Token) (w : Rest) (n from : ℕ) (t : Token) (ls : List Lexem
 wanted_next s w n from t ls true known = refl
 wanted_next s w n from t ls false known = ap (λ k. Fault k from) known
 
--- a number that is wanted
+-- an expected number
 number_next : (w : ℕ → Rest) (n from k : ℕ) (ls : List Lexeme) (b : Bool) →
     go_on ((if b then done k else refuse kind.HeaderRange (record { from = from; token = token.Number k })) n ls) (λ k. read (w k))
     ≡ went n from ls (if b then Goes (w k) else Stops kind.HeaderRange)
 number_next w n from k ls true = refl
 number_next w n from k ls false = refl
 
--- a node that is wanted
+-- an expected node
 node_judged : (w : Term → Rest) (n from : ℕ) (ls : List Lexeme) (more : Reader Term) (v : Rest) (a b : Bool) →
     (a ≡ false → go_on (more (n + 1) ls) (λ e. read (w e)) ≡ read v (n + 1) ls) →
     go_on (go_on (if a then Fault kind.TooDeep from else if b then Fault kind.TooManyNodes from else Got (tt {0}) (n + 1) ls) (λ _. more)) (λ e. read (w e))
@@ -173,7 +173,7 @@ term_next d w n from (token.Binary o) ls = node_next d w n from (token.Binary o)
 term_next d w n from token.If ls = node_next d w n from token.If ls _ _ (λ some. rw (below d some) (simp go_on_assoc))
 term_next d w n from t ls = refl
 
--- reading the rest is reading one token, and then what is left after it
+-- reading the rest is reading one token, then what is left after it
 pub read_next : (w : Rest) (n from : ℕ) (t : Token) (ls : List Lexeme) → read w n (record { from = from; token = t } ∷ ls) ≡ went (counted w n) from ls (meets w n t)
 read_next (Nothing p) n from t ls = refl
 read_next (AToken s w) n from token.Unknown ls = refl
@@ -219,7 +219,7 @@ body_read c i r n ls =
     go_on_same (assigns r n ls) _ _ (λ es m left. rounds_read i r 0 [] (last es) m left)
     ∙ assigns_read r 0 [] (λ es. some_rounds i r (last es)) n ls
 
--- a program is read so
+-- reading a program is reading the rest before its first token
 pub program_read : (n : ℕ) (ls : List Lexeme) → program n ls ≡ read a_program n ls
 unfolding program header
 program_read n ls =
