@@ -15,11 +15,11 @@ length-arc x start count = length-map-range_with_len (λ k. get_or x ((start + k
 pub get_or-arc : (x : List ℕ) (start count k d : ℕ) → k < count → get_or (arc x start count) k d ≡ get_or x ((start + k) % length x) 0
 get_or-arc x start count k d lt = get_or-map-range_with_len (λ i. get_or x ((start + i) % length x) 0) 0 count k k d lt (omega arith)
 
--- the first places of an arc are an arc
+-- a prefix of an arc is an arc
 pub take-arc : (x : List ℕ) (start count j : ℕ) → j ≤ count → take j (arc x start count) ≡ arc x start j
 take-arc x start count j le = take-map-range_with_len (λ k. get_or x ((start + k) % length x) 0) 0 count j le
 
--- and so are the others
+-- and so is a suffix
 pub drop-arc : (x : List ℕ) (start count j : ℕ) → j ≤ count → drop j (arc x start count) ≡ arc x (start + j) (count - j)
 drop-arc x start count j le =
     let long = length-arc x start count in
@@ -34,7 +34,7 @@ drop-arc x start count j le =
     ∙ ap (λ i. get_or x (i % length x) 0) place
     ∙ sym (get_or-arc x (start + j) (count - j) k 0 near))
 
--- two places with less than the ring's length between them are different ones
+-- two places that are less than the ring's length apart are different
 places_differ : (n a b : ℕ) → a < b → b < a + n → a % n ≢ b % n
 places_differ n a b lt near same =
     let some : 0 < n = omega arith in
@@ -56,7 +56,7 @@ differ_at x i j distinct in_i in_j other e =
     (λ order. ⊎_elim (λ (lt : i < j). distinct i j 0 lt in_j e) (λ (gt : j < i). distinct j i 0 gt in_i (sym e)) order)
     (cases_order i j)
 
--- not more places than a ring has hold a window
+-- as many places as a ring has, or fewer, hold a window
 pub arc_window : (m t start count : ℕ) (x : List ℕ) → IsRing m t x → count ≤ length x → IsWindow count m (arc x start count)
 arc_window m t start count x ring le =
     let n : ℕ = length x in
@@ -76,7 +76,7 @@ arc_window m t start count x ring le =
           (places_differ n (start + i) (start + j) (omega arith) (omega arith)));
     }
 
--- what stands around a place of a ring is a window
+-- the identifiers around a place of a ring are a window
 pub around_window :
     (m t level place : ℕ) (x : List ℕ) → IsRing m t x → level ≤ t → IsWindow (2 * level + 1) m (window_around x level place)
 around_window m t level place x ring le =

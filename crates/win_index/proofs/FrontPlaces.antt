@@ -1,4 +1,4 @@
--- The places of a run's windows, by what the windows share and by their last identifiers.
+-- The positions of a run's windows, from their prefix and their last identifiers.
 use Rattle.std.proofs.Common.{◌≡◌, ◌≢◌, ℕ, suc, ◌+◌, ◌-◌, ◌<◌, ◌≤◌, false, List, [], ◌∷◌, ◌++◌, length, get_or, take, drop, slice_get, sym, ap, subst, ◌∙◌, arith}
 use Rattle.std.proofs.Math.Seq.{take-append_seam, get_or-append_seam}
 use Rattle.std.proofs.lemmas.List.{take_all, take_more, length-drop, get_or-take, get_or-drop}
@@ -12,7 +12,8 @@ use Rattle.win_index.proofs.Positions.{free_at}
 use Rattle.win_index.proofs.Successors.{shorter_window}
 use Rattle.win_index.proofs.Unused.{IsDistinct, lacks_differs, lacks_from_differs, distinct_head, distinct_tail, unused_at, length-unused}
 
--- the number x ends a window that begins as this front does: it stands at this place among the numbers that the front lacks but for its first two
+-- the number x ends a window with this prefix: it has this position among the numbers that the prefix lacks without its
+-- first two
 pub record EndsFront (g m : ℕ) (places : RunPlaces) (front : List ℕ) (x place : ℕ) : Type 0 where
   pub front_is : IsWindow (g + 2) m front
   pub below : x < m
@@ -22,7 +23,7 @@ pub record EndsFront (g m : ℕ) (places : RunPlaces) (front : List ℕ) (x plac
   pub end : length (unused m (drop 2 front)) ≡ places.end
   pub x_at : length (unused x (drop 2 front)) ≡ place
 
--- a window is its front with its last identifier
+-- a window is its prefix and its last identifier
 pub whole_window : (k m : ℕ) (window : List ℕ) → IsWindow (k + 2) m window → take (k + 1) window ++ get_or window (k + 1) 0 ∷ [] ≡ window
 whole_window k m window is =
     let size = is.size in
@@ -53,7 +54,7 @@ ends_front k m place places window some is =
       x_at = is.place_is;
     }
 
--- what ends the windows of a run: a number that their shared identifiers lack
+-- the last identifiers of a run's windows: the numbers that their prefix lacks
 pub record Ends (m f0 f1 : ℕ) (rest : List ℕ) (x : ℕ) : Type 0 where
   pub below : x < m
   pub free : is_used (f0 ∷ f1 ∷ rest) x ≡ false
@@ -72,7 +73,7 @@ shorter_by_two g m f0 f1 rest window =
       distinct = distinct_tail f1 rest (distinct_tail f0 (f1 ∷ rest) window.distinct);
     }
 
--- a front with what ends it is a window at a place
+-- a prefix with such a number is a window at a position
 pub at_place :
     (g m place f0 f1 x : ℕ) (places : RunPlaces) (rest : List ℕ) → EndsFront g m places (f0 ∷ f1 ∷ rest) x place
     → IsAtPlace (g + 1) m places (f0 ∷ f1 ∷ rest ++ x ∷ []) place
@@ -88,14 +89,14 @@ at_place g m place f0 f1 x places rest is =
       place_is = rw (took, last) is.x_at;
     }
 
--- the window of which these are the parts, at its place
+-- the window with these parts, at its position
 pub ends_again :
     (g m place q f0 f1 x y : ℕ) (places : RunPlaces) (rest : List ℕ) → EndsFront g m places (f0 ∷ f1 ∷ rest) x place → Ends m f0 f1 rest y
     → length (unused y rest) ≡ q → EndsFront g m places (f0 ∷ f1 ∷ rest) y q
 ends_again g m place q f0 f1 x y places rest is ends at' =
     record { front_is = is.front_is; below = ends.below; free = ends.free; first = is.first; second = is.second; end = is.end; x_at = at' }
 
--- how many numbers below m a window without its first two identifiers lacks
+-- the number of values below m that a window without its first two identifiers lacks
 pub unused_but_two : (k m : ℕ) (front : List ℕ) → 2 ≤ k → IsWindow k m front → length (unused m (drop 2 front)) + length (drop 2 front) ≡ m
 unused_but_two k m [] some window = absurd (omega (arith, window.size))
 unused_but_two k m (f0 ∷ []) some window = absurd (omega (arith, window.size))
@@ -104,7 +105,7 @@ unused_but_two k m (f0 ∷ f1 ∷ rest) some window =
     let shorter = shorter_by_two (k - 2) m f0 f1 rest (rw (← size) window) in
     length-unused rest m shorter.distinct shorter.below
 
--- two numbers that a list lacks stand at two places
+-- two numbers that a list lacks have different positions
 apart :
     (list : List ℕ) (m x y : ℕ) → x < m → is_used list x ≡ false → y < m → is_used list y ≡ false → x ≢ y
     → length (unused x list) ≢ length (unused y list)
@@ -113,7 +114,7 @@ apart list m x y x_below x_free y_below y_free differs same =
     let at_y = unused_at list m y y_below y_free in
     differs (same_Some x y (sym at_x ∙ ap (slice_get (unused m list)) same ∙ at_y))
 
--- among the numbers that a window lacks without its last and its first two identifiers, these three stand at three places
+-- three numbers that a window lacks without its last and its first two identifiers have different positions
 pub record ThreePlaces (m : ℕ) (front : List ℕ) (x : ℕ) : Type 0 where
   pub inside : length (unused x (drop 2 front)) < length (unused m (drop 2 front))
   pub first : length (unused (get_or front 0 0) (drop 2 front)) ≢ length (unused x (drop 2 front))
@@ -132,7 +133,7 @@ three_places k m x (f0 ∷ f1 ∷ rest) some window below free =
       second = apart rest m f1 x (window.below 1 0 (omega arith)) f1_free below rest_free (lacks_differs (f0 ∷ f1 ∷ rest) x free 1 0 (omega arith));
     }
 
--- the same three of a window, and the end
+-- these three numbers of a window, and the end
 pub last_inside : (k m : ℕ) (window : List ℕ) → 1 ≤ k → IsWindow (k + 2) m window → place_in_run k window (get_or window (k + 1) 0) < place_in_run k window m
 last_inside k m window some is =
     let size = is.size in
@@ -146,7 +147,7 @@ places_end k m window some is =
     let all = unused_but_two (k + 1) m (take (k + 1) window) (omega arith) front in
     omega (arith, all, length-drop 2 (take (k + 1) window), front.size)
 
--- the front of a window, without its first two identifiers, has no number twice
+-- the prefix of a window, without its first two identifiers, has distinct numbers
 pub rest_distinct : (k m : ℕ) (window : List ℕ) → IsWindow (k + 2) m window → IsDistinct (drop 2 (take (k + 1) window))
 rest_distinct k m window is =
     let front = window_front k m window is in

@@ -1,4 +1,4 @@
--- A job stands at its number and nowhere else.
+-- Each job is at its number and nowhere else.
 use Rattle.std.proofs.Common.{◌≡◌, ◌↔◌, ℕ, zero, suc, ◌+◌, ◌-◌, ◌<◌, ◌≤◌, Bool, true, false, eqb, List, length, get_or, slice_get, Option, Some, None, IsSome, refl, sym, ap, subst, ◌∙◌, arith, ⊎_elim}
 use Rattle.std.specs.Prelude.{◌&&◌}
 use Rattle.std.proofs.lemmas.Bool.{eqb-true, eq-eqb, lt-ltb, false_from_ne_true, false≢true, cases_lt}
@@ -26,7 +26,7 @@ job_passes level block job e =
     let second : eqb job.1 block ≡ true = eq-eqb job.1 block (ap (λ (p : ℕ × ℕ). p.1) e) in
     rw (first, second)
 
--- where a block of a level stands among the jobs of the levels below k
+-- the position of a block of a level among the jobs of the levels below k
 pub record StandsAt (m k level block n : ℕ) : Type 0 where
   pub level_below : level < k
   pub block_below : block < block_count m level
@@ -63,7 +63,7 @@ pub stands_at : (m t level block n : ℕ) → slice_get (jobs_of m t) n ≡ Some
 stands_at m t level block n e =
     stands_below m (t + 1) level block n (ap (λ l. slice_get l n) (sym (jobs_are_below m t (t + 1) refl)) ∙ e)
 
--- no job stands twice
+-- no job occurs twice
 one_job : (m t level block i j : ℕ) → slice_get (jobs_of m t) i ≡ Some (level, block) → slice_get (jobs_of m t) j ≡ Some (level, block) → i ≡ j
 one_job m t level block i j at_i at_j =
     (stands_at m t level block i at_i).place ∙ sym (stands_at m t level block j at_j).place

@@ -1,4 +1,4 @@
--- Where the jobs of a level stand among all jobs.
+-- The positions of the jobs of a level among all jobs.
 use Rattle.std.proofs.Common.{◌≡◌, ℕ, ◌+◌, ◌-◌, ◌*◌, ◌<◌, ◌≤◌, List, ◌++◌, flat_map, length, slice_get, Some, option_map, refl, ap, ◌∙◌, arith, length-append, append-nil}
 use Rattle.std.specs.List.{range_with_len}
 use Rattle.std.proofs.lemmas.List.FromFn.{length-range_with_len, length-map-range_with_len, get_or-range_with_len}
@@ -32,7 +32,7 @@ jobs_below_more m level =
 pub length-level_jobs : (m level : ℕ) → length (level_jobs m level) ≡ block_count m level
 length-level_jobs m level = length-map-range_with_len (λ b. (level, b)) 0 (block_count m level)
 
--- how many there are
+-- their number
 pub length-jobs_below : (m level : ℕ) → length (jobs_below m (level + 1)) ≡ length (jobs_below m level) + block_count m level
 length-jobs_below m level =
     ap length (jobs_below_more m level) ∙ length-append (jobs_below m level) (level_jobs m level)
@@ -54,7 +54,7 @@ level_job_at m level block lt =
     ∙ ap (option_map (λ b. (level, b)))
     (slice_get-get_or (range_with_len 0 n) block 0 inside ∙ ap Some (get_or-range_with_len 0 n block 0 lt ∙ zero-add block))
 
--- a block of a level stands after the jobs of the levels below and the blocks before it
+-- a block of a level comes after the jobs of the levels below and the blocks before it
 pub job_at :
     (m t level block n : ℕ) → level ≤ t → block < block_count m level → n ≡ length (jobs_below m level) + block
     → slice_get (jobs_of m t) n ≡ Some (level, block)

@@ -33,7 +33,7 @@ slice_get-append_right (x ∷ xs) ys n i e =
     let more : n ≡ suc (length xs + i) = omega arith in
     rw more (slice_get-append_right xs ys (length xs + i) i refl)
 
--- the first that a filter keeps
+-- the first element that a filter keeps
 pub filter_first : {X : Type 0} (p : X → Bool) (xs : List X) → slice_get (filter p xs) 0 ≡ find p xs
 filter_first p [] = refl
 filter_first p (x ∷ xs) =
@@ -58,7 +58,7 @@ kept_more p m =
     let next : m + 1 ≡ suc m = omega arith in
     rw next (kept_suc p m)
 
--- after those below low stands the first from low on
+-- after those below low comes the first one from low on
 pub kept_at :
     (p : ℕ → Bool) (low m : ℕ) → low ≤ m → slice_get (kept p m) (length (kept p low)) ≡ find p (range_with_len low (m - low))
 kept_at p low m le =
@@ -67,7 +67,7 @@ kept_at p low m le =
     ∙ slice_get-append_right (kept p low) rest (length (kept p low)) 0 (omega arith)
     ∙ filter_first p (range_with_len low (m - low))
 
--- a number that passes stands after those below it
+-- a number that passes comes after those below it
 pub kept_own : (p : ℕ → Bool) (x m : ℕ) → x < m → p x ≡ true → slice_get (kept p m) (length (kept p x)) ≡ Some x
 kept_own p x m lt passes =
     let more : m - x ≡ suc (m - x - 1) = omega arith in
@@ -84,7 +84,7 @@ single true m zero x e = (refl, refl, same_Some m x e)
 single true m (suc i) x e = absurd (none-some x e)
 single false m i x e = absurd (none-some x e)
 
--- what stands at a place: a number below the bound that passes, after as many as its place says
+-- the number at a position: it is below the bound and passes, with as many before it as its position
 pub record IsKept (p : ℕ → Bool) (m place x : ℕ) : Type 0 where
   pub below : x < m
   pub passes : p x ≡ true
@@ -106,7 +106,7 @@ kept_is p (suc m) place x e =
     record { below = omega arith; passes = rw same at own.0; before = rw same at before })
     (cases_lt place (length (kept p m)))
 
--- a later place has a larger number
+-- a later position has a larger number
 pub kept_increases :
     (p : ℕ → Bool) (m i j x y : ℕ) → i < j → slice_get (kept p m) i ≡ Some x → slice_get (kept p m) j ≡ Some y → x < y
 kept_increases p m i j x y lt at_i at_j =

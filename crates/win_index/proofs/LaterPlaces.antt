@@ -1,4 +1,4 @@
--- The window after another one, with the same identifiers but for the last.
+-- The next window with the same prefix.
 use Rattle.std.proofs.Common.{◌≡◌, ◌≢◌, ◌⊎◌, ℕ, suc, ◌+◌, ◌-◌, ◌<◌, ◌≤◌, false, List, [], ◌∷◌, ◌++◌, length, get_or, take, set, inl, inr, ⊎_elim, sym, ap, ◌∙◌, arith}
 use Rattle.std.proofs.lemmas.Bool.{cases_lt, ne_eqb, not-true}
 use Rattle.std.proofs.lemmas.List.{take-set, get_or-set_same, length-set}
@@ -13,7 +13,7 @@ use Rattle.win_index.proofs.FrontPlaces.{EndsFront, Ends, ends_front, ends_again
 use Rattle.win_index.proofs.SeriesPlaces.{along}
 use Rattle.win_index.proofs.Unused.{lacks, lacks_differs, lacks_from_differs, unused_at, unused_more, unused_below_bound}
 
--- between two places there is none but the gaps
+-- between two positions there are only gaps
 abbrev pub OnlyGaps : RunPlaces → ℕ → ℕ → Type 0
 OnlyGaps places from to = (i : ℕ) → from < i → i < to → (i ≡ places.first_gap) ⊎ (i ≡ places.second_gap)
 
@@ -22,7 +22,7 @@ counted : (list : List ℕ) (x y : ℕ) → is_used list x ≡ false → x < y �
 counted list x y free lt =
     omega (arith, (unused_more list x).0 free, kept_rises (lacks list) (x + 1) y (omega arith))
 
--- no number ends the front at a place between these
+-- no number ends the prefix at a position between these
 none_between :
     (g m p q x y f0 f1 : ℕ) (places : RunPlaces) (rest : List ℕ) → EndsFront g m places (f0 ∷ f1 ∷ rest) x p → OnlyGaps places p q → y < m
     → is_used (f0 ∷ f1 ∷ rest) y ≡ false → p < length (unused y rest) → length (unused y rest) < q → ⊥
@@ -30,11 +30,11 @@ none_between g m p q x y f0 f1 places rest is only below free from to =
     let three = three_places (g + 2) m y (f0 ∷ f1 ∷ rest) (omega arith) is.front_is below free in
     ⊎_elim (λ first. three.first (is.first ∙ sym first)) (λ second. three.second (is.second ∙ sym second)) (only (length (unused y rest)) from to)
 
--- what a front lacks, its rest lacks too
+-- the numbers that a prefix lacks, its rest lacks too
 rest_lacks : (f0 f1 y : ℕ) (rest : List ℕ) → is_used (f0 ∷ f1 ∷ rest) y ≡ false → is_used rest y ≡ false
 rest_lacks f0 f1 y rest free = lacks_from_differs rest y (λ k lt. lacks_differs (f0 ∷ f1 ∷ rest) y free (suc (suc k)) 0 (omega arith))
 
--- the number at the next place but for gaps is the next one that the front lacks
+-- the number at the next position that is no gap is the next one that the prefix lacks
 one_further :
     (g m p q x z f0 f1 : ℕ) (places : RunPlaces) (rest : List ℕ) → EndsFront g m places (f0 ∷ f1 ∷ rest) x p → OnlyGaps places p q → p < q
     → EndsFront g m places (f0 ∷ f1 ∷ rest) z q → length (unused z (f0 ∷ f1 ∷ rest)) ≡ length (unused x (f0 ∷ f1 ∷ rest)) + 1
@@ -56,7 +56,7 @@ one_further g m p q x z f0 f1 places rest is only lt there =
     (λ (near : length (unused z front) ≤ length (unused x front) + 1). omega (arith, near, more))
     (cases_lt (length (unused x front) + 1) (length (unused z front)))
 
--- the window at the next place
+-- the window at the next position
 pub record Later (k m : ℕ) (places : RunPlaces) (window : List ℕ) (q : ℕ) : Type 0 where
   pub later : List ℕ
   pub at' : IsAtPlace k m places later q
@@ -97,7 +97,7 @@ later_is k m p q places window some is only lt inside not_first not_second =
     let level : k - 1 + 1 ≡ k = omega arith in
     rw (level, whole_window k m window is.window_is) at made
 
--- no larger number ends the front where only gaps come up to the end
+-- no larger number ends the prefix if there are only gaps up to the end
 none_later_of_front :
     (g m p q x y : ℕ) (places : RunPlaces) (front : List ℕ) → EndsFront g m places front x p → OnlyGaps places p q → places.end ≤ q → y < m
     → is_used front y ≡ false → y ≤ x
@@ -126,20 +126,20 @@ none_later k m p q places window some is only end y larger =
     let free : is_used (take (k + 1) window) y ≡ false = rw (here, take-set window (k + 1) y) at (free_at (set window (k + 1) y) (k + 1) other.distinct inside) in
     rw last (none_later_of_front (k - 1) m p q (get_or window (k + 1) 0) y places (take (k + 1) window) (ends_front k m p places window some is) only end below free)
 
--- the place, or the one after it where a gap is there
+-- the position, or the next one if it is a gap
 abbrev pub IsPast : RunPlaces → ℕ → ℕ → Type 0
 IsPast places place past =
     ((past ≡ place) × (place ≢ places.first_gap) × (place ≢ places.second_gap))
     ⊎ ((past ≡ place + 1) × ((place ≡ places.first_gap) ⊎ (place ≡ places.second_gap)))
 
--- the next place after one that is no gap
+-- the next position after one that is no gap
 pub record IsNextPlace (places : RunPlaces) (p q : ℕ) : Type 0 where
   pub only : OnlyGaps places p q
   pub later : p < q
   pub not_first : q ≢ places.first_gap
   pub not_second : q ≢ places.second_gap
 
--- one gap after a place, and then perhaps the other
+-- one gap after a position, and perhaps the other
 past_one :
     (places : RunPlaces) (p q gap other : ℕ) → p + 1 ≡ gap → (q ≡ p + 2) × (p + 2 ≢ gap) × (p + 2 ≢ other) ⊎ (q ≡ p + 3) × (p + 2 ≡ other)
     → (p < q) × (q ≢ gap) × (q ≢ other) × ((i : ℕ) → p < i → i < q → (i ≡ gap) ⊎ (i ≡ other))

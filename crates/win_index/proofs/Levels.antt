@@ -1,4 +1,4 @@
--- The windows of all levels of a shape and its tuples are few.
+-- The numbers of windows and tuples of a shape are small.
 use Rattle.std.proofs.Common.{◌≡◌, ℕ, zero, suc, ◌+◌, ◌-◌, ◌*◌, ◌^◌, ◌<◌, ◌≤◌, refl, arith, lit<}
 use Rattle.std.proofs.Math.Nat.{mul_assoc, pow-suc, pow-le-pow_right}
 use Rattle.std.proofs.lemmas.Nat.{mul-le}
@@ -8,7 +8,7 @@ use Rattle.win_index.specs.ShapeRange.{HasIds, HasFewWindows}
 use Rattle.win_index.proofs.Numbers.{length-windows}
 use Rattle.win_index.proofs.Sizes.{falling-add_one, falling_rises}
 
--- a lower level has no more windows
+-- a lower level has at most as many windows
 pub level_is_few : (m t level len : ℕ) → len ≡ 2 * level + 1 → HasIds m t → HasFewWindows m t → level ≤ t → falling m len ≤ MAX_WINDOWS
 level_is_few m t level len size ids few le =
     let enough = ids.enough in
@@ -27,7 +27,7 @@ more_are_few m t (suc extra) ids few =
     let all = mul-le (falling m (2 * t + 1 + extra)) (m - (2 * t + 1 + extra)) (MAX_WINDOWS * MAX_IDS ^ extra) MAX_IDS fewer most in
     rw (longer, falling-add_one m (2 * t + 1 + extra), pow-suc, ← mul_assoc) all
 
--- there are fewer tuples than 64 bits can count
+-- the number of tuples fits 64 bits
 pub tuples_are_few : (m t extra : ℕ) → HasIds m t → HasFewWindows m t → extra ≤ MAX_EXTRA → falling m (2 * t + 1 + extra) < 2 ^ 64
 tuples_are_few m t extra ids few le =
     let most : MAX_IDS ^ extra ≤ MAX_IDS ^ MAX_EXTRA = pow-le-pow_right (lit< tt) le in

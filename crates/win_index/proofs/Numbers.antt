@@ -25,7 +25,7 @@ windows_none m zero list at' =
     rw (← empty) (record { size = refl; below = All-nil (λ x. x < m); distinct = λ i j d lt within. absurd (omega arith) })
 windows_none m (suc n) list at' = absurd (none-some list at')
 
--- a window with a number more that it lacks is a window
+-- a window with one more number that it lacks is a window
 pub push_window :
     (k m x : ℕ) (front : List ℕ) → IsWindow k m front → x < m → is_used front x ≡ false → IsWindow (suc k) m (front ++ x ∷ [])
 push_window k m x front window lt free =
@@ -44,7 +44,7 @@ map_some : {A B : Type 0} (f : A → B) (o : Option A) (b : B) → option_map f 
 map_some f None b e = absurd (none-some b e)
 map_some f (Some a) b e = (a, refl, same_Some (f a) b e)
 
--- window n of length k+1 as one of length k, and which of the numbers that this one lacks comes last
+-- window n of length k+1, from one of length k and the position of its last number among those that this one lacks
 pub record Parts (k m n : ℕ) (list : List ℕ) : Type 0 where
   pub place : ℕ
   pub rest : ℕ
@@ -61,7 +61,7 @@ HoldsWindows k m = (n : ℕ) (list : List ℕ) → slice_get (windows k m) n ≡
 pieces_even : (k m : ℕ) → HoldsWindows k m → HasPieces (extended m) (windows k m) (m - k)
 pieces_even k m all = λ place front at'. length-extended k m front (all place front at')
 
--- what stands at a place of the list with one number more each
+-- the element at a position of the list with one more number each
 extended_at :
     (m place : ℕ) (front list : List ℕ) → slice_get (extended m front) place ≡ Some list
     → (x : ℕ) × (slice_get (unused m front) place ≡ Some x) × (front ++ x ∷ [] ≡ list)
@@ -118,7 +118,7 @@ pub window_step :
     → slice_get (windows (suc k) m) (n * (m - k) + length (unused x front)) ≡ Some (front ++ x ∷ [])
 window_step k m n x front at' lt free = window_from_parts k m n (length (unused x front)) x front at' (unused_at front m x lt free)
 
--- a window stands at one place only
+-- a window has one position
 pub one_place :
     (k m i j : ℕ) (list : List ℕ) → slice_get (windows k m) i ≡ Some list → slice_get (windows k m) j ≡ Some list → i ≡ j
 one_place zero m i j list at_i at_j =

@@ -7,18 +7,18 @@ use Rattle.win_index.specs.Laws.{OneRingFault, RingsHaveNoFault}
 use Rattle.win_index.specs.RingFaults.{HasNoFaultBefore, IsFirstFault}
 
 module _ (m : ℕ) (x : List ℕ) where
-  -- an identifier that stood before place p stands there
+  -- an identifier that occurs before place p is at some place before it
   abbrev Stood : ℕ → ℕ → Type 0
   Stood i p = (i < p) × (get_or x i 0 ≡ get_or x p 0)
 
-  -- among the first q identifiers none is the same as another
+  -- the first q identifiers are distinct
   apart : (q i j : ℕ) → q ≤ length x → HasNoFaultBefore q m x → j < q → Stood i j → ⊥
   apart q i j within clean lt stood =
       let size = length-take-le q x within in
       let first : i < q = omega (arith, stood.0) in
       clean.distinct i j 0 stood.0 (omega (arith, size)) (get_or-take q x i 0 first ∙ stood.1 ∙ sym (get_or-take q x j 0 lt))
 
-  -- the identifier of place p is too large, or stood before
+  -- the identifier of place p is too large, or occurs before it
   abbrev Faulty : ℕ → Type 0
   Faulty p = (m ≤ get_or x p 0) ⊎ ((i : ℕ) × Stood i p)
 
@@ -45,7 +45,7 @@ module _ (m : ℕ) (x : List ℕ) where
         | inr (inr lt) ↦ absurd (apart p j i (omega arith) clean a.0 (lt, b.1 ∙ sym a.1))
       ]
 
-  -- a fault of a place is none of another kind
+  -- faults of different kinds exclude each other
   mixed : (t p i q : ℕ) → IsFirstFault m t x (IdTooLarge p) → IsFirstFault m t x (Repeated i q) → ⊥
   mixed t p i q a b =
       let same = same_place p q a.1 b.1 a.2 b.2 (inl a.3) (inr (i, (b.4, b.5))) in

@@ -1,4 +1,4 @@
--- The windows stand in lexicographic order.
+-- The windows are in lexicographic order.
 use Rattle.std.proofs.Common.{◌≡◌, ℕ, zero, suc, ◌+◌, ◌-◌, ◌*◌, ◌<◌, ◌≤◌, ◌⊎◌, List, [], ◌∷◌, ◌++◌, length, slice_get, Some, refl, sym, ap, ◌∙◌, arith, inl, inr, ⊎_elim}
 use Rattle.std.proofs.Math.Nat.{suc-mul}
 use Rattle.std.proofs.lemmas.Bool.{cases_order}
@@ -10,7 +10,7 @@ use Rattle.win_index.proofs.Kept.{kept_increases}
 use Rattle.win_index.proofs.Unused.{lacks, length-unused}
 use Rattle.win_index.proofs.Numbers.{Parts, window_parts, windows_all, length-windows}
 
--- what stands before stays before with one number more
+-- an order of two lists stays with one more number at their ends
 before_push :
     (a b : List ℕ) (x y : ℕ) → length a ≡ length b → StandsBefore a b → StandsBefore (a ++ x ∷ []) (b ++ y ∷ [])
 before_push [] b x y same before = absurd before

@@ -1,11 +1,11 @@
--- Lists that are joined of pieces of one length.
+-- Lists that are joined from pieces of one length.
 use Rattle.std.proofs.Common.{◌≡◌, ℕ, zero, suc, ◌+◌, ◌-◌, ◌*◌, ◌<◌, ◌≤◌, List, [], ◌∷◌, length, flat_map, slice_get, Some, refl, sym, ◌∙◌, arith, length-append, ⊎_elim}
 use Rattle.std.proofs.Math.Nat.{suc-mul}
 use Rattle.std.proofs.lemmas.Bool.{cases_lt}
 use Rattle.std.proofs.lemmas.Option.{none-some, same_Some, slice_get_within}
 use Rattle.win_index.proofs.Kept.{slice_get-append_left, slice_get-append_right}
 
--- item n of the joined list as an item of the piece of one source
+-- item n of the joined list as an item of a piece
 pub record Piece {X Y : Type 0} (f : X → List Y) (xs : List X) (c n : ℕ) (item : Y) : Type 0 where
   pub place : ℕ
   pub rest : ℕ

@@ -13,7 +13,7 @@ use Rattle.win_index.proofs.Numbers.{windows-zero, push_window, window_step, win
 same_list : (a b : List ℕ) → (pointwise nat_eq a b ≡ true → a ≡ b) × (a ≡ b → pointwise nat_eq a b ≡ true)
 same_list a b = pointwise_decides (λ x y. (eqb-true x y, eq-eqb x y)) a b
 
--- what a number says
+-- the meaning of a number
 pub number_of_some : (k m n : ℕ) (list : List ℕ) → number_of k m list ≡ Some n → slice_get (windows k m) n ≡ Some list
 unfolding number_of
 number_of_some k m n list e =
@@ -21,7 +21,7 @@ number_of_some k m n list e =
     let same = (same_list (get_or (windows k m) n list) list).0 at'.1 in
     slice_get-get_or (windows k m) n list at'.0 ∙ ap Some same
 
--- the number of an item is its place
+-- the number of an item is its position
 pub number_of_is : (k m n : ℕ) (list : List ℕ) → slice_get (windows k m) n ≡ Some list → number_of k m list ≡ Some n
 unfolding number_of
 number_of_is k m n list at' =
@@ -46,7 +46,7 @@ number_of_none k m list other = none (number_of k m list) refl
     none None e = refl
     none (Some n) e = absurd (other (windows_all k m n list (number_of_some k m n list e)))
 
--- what a place of a list holds, the places before it don't
+-- the item at a position does not occur before it
 pub free_at : (list : List ℕ) (j : ℕ) → IsDistinct list → j < length list → is_used (take j list) (get_or list j 0) ≡ false
 free_at list j distinct lt =
     lacks_from_differs (take j list) (get_or list j 0) (λ k within e.
@@ -54,7 +54,7 @@ free_at list j distinct lt =
     let before : k < j = omega arith in
     distinct k j 0 before lt (sym (get_or-take j list k 0 before) ∙ e))
 
--- one cell more of a list, with a number that the cells before lack
+-- one more cell of a list, with a number that the cells before it lack
 pub front_more :
     (p m : ℕ) (list : List ℕ) → p < length list → IsWindow p m (take p list) → get_or list p 0 < m
     → is_used (take p list) (get_or list p 0) ≡ false → IsWindow (p + 1) m (take (p + 1) list)
@@ -75,7 +75,7 @@ front_step k m j n list window lt at' =
     let step = window_step j m n x (take j list) at' (window.below j 0 within) (free_at list j window.distinct within) in
     rw (more, add-one) step
 
--- where the first j identifiers of a window stand among the windows of length j
+-- the position of the first j identifiers of a window among the windows of length j
 front_place :
     (k m j : ℕ) (list : List ℕ) → IsWindow k m list → j ≤ k → (n : ℕ) × (slice_get (windows j m) n ≡ Some (take j list))
 front_place k m zero list window le = (0, rw (windows-zero m))
@@ -84,7 +84,7 @@ front_place k m (suc j) list window le =
     let step = front_step k m j front.0 list window (omega arith) front.1 in
     (front.0 * (m - j) + length (unused (get_or list j 0) (take j list)), rw add-one at step)
 
--- each window stands in the list
+-- each window is in the list
 pub window_place : (k m : ℕ) (list : List ℕ) → IsWindow k m list → (n : ℕ) × (slice_get (windows k m) n ≡ Some list)
 window_place k m list window =
     let place = front_place k m k list window (omega arith) in

@@ -1,4 +1,4 @@
--- Where the windows stand that begin with one front.
+-- The positions of the windows with a common prefix.
 use Rattle.std.proofs.Common.{◌≡◌, ℕ, ◌+◌, ◌-◌, ◌*◌, ◌<◌, ◌≤◌, List, length, get_or, take, slice_get, Some, sym, ap, ◌∙◌, arith, refl}
 use Rattle.std.proofs.lemmas.List.{take_all}
 use Rattle.std.proofs.lemmas.Option.{slice_get_within}
@@ -11,11 +11,11 @@ use Rattle.win_index.proofs.Sizes.{falling-add_one}
 use Rattle.win_index.proofs.Positions.{free_at, front_step}
 use Rattle.win_index.proofs.Unused.{length-unused, unused_at}
 
--- each front has as many windows
+-- each prefix has the same number of windows
 length-windows_more : (k m : ℕ) → length (windows (k + 1) m) ≡ length (windows k m) * (m - k)
 length-windows_more k m = length-windows (k + 1) m ∙ falling-add_one m k ∙ ap (λ n. n * (m - k)) (sym (length-windows k m))
 
--- a run starts at the number of its front times the length of a run
+-- a run starts at the number of its prefix times the length of a run
 pub run_start_is :
     (k m n first : ℕ) (front : List ℕ) → slice_get (windows k m) n ≡ Some front → first ≡ n * (m - k) → IsRunStart k m front first
 run_start_is k m n first front at' first_is =
@@ -30,7 +30,7 @@ run_start_is k m n first front at' first_is =
           rw (first_is, ← begins) (step ∙ ap Some (take_all (k + 1) window (omega arith)));
     }
 
--- a window of one identifier more stands in the run of its front
+-- a window with one more identifier is in the run of its prefix
 pub longer_number : LongerWindowsHaveNumbers
 longer_number k m n longer is at' =
     let size = is.size in
@@ -44,7 +44,7 @@ longer_number k m n longer is at' =
     let step = front_step (k + 1) m k n longer is (omega arith) at' in
     (omega (arith, front.size), step ∙ ap Some (take_all (k + 1) longer (omega arith)))
 
--- the numbers in a run are below that of all windows
+-- the numbers of a run's windows are below the number of all windows
 pub run_below :
     (k m first : ℕ) (window : List ℕ) → IsWindow (k + 1) m window → IsRunStart k m (take k window) first
     → first + length (unused (get_or window k 0) (take k window)) < length (windows (k + 1) m)

@@ -1,4 +1,4 @@
--- Where the windows of a series stand.
+-- The positions of the windows of a series.
 use Rattle.std.proofs.Common.{◌≡◌, ◌≢◌, ◌⊎◌, ℕ, suc, ◌+◌, ◌-◌, ◌*◌, ◌<◌, ◌≤◌, false, nat_lt, List, [], ◌∷◌, ◌++◌, length, get_or, take, drop, slice_get, Some, inl, inr, ⊎_elim, sym, ap, subst, ◌∙◌, arith}
 use Rattle.std.proofs.lemmas.Option.{slice_get-get_or}
 use Rattle.std.proofs.lemmas.Bool.{lt-ltb, le-ltb, ne_eqb, not-true}
@@ -11,12 +11,12 @@ use Rattle.win_index.proofs.Positions.{window_place}
 use Rattle.win_index.proofs.FrontPlaces.{EndsFront, Ends, ends_front, whole_window, take_front, shorter_by_two, three_places}
 use Rattle.win_index.proofs.Unused.{lacks, lacks_differs, lacks_from_differs, distinct_tail, unused_below_bound, unused_in_front}
 
--- neither gap stands after the place and before the end
+-- neither gap is after the position and before the end
 pub record IsClear (places : RunPlaces) (place end : ℕ) : Type 0 where
   pub first : (places.first_gap ≤ place) ⊎ (end ≤ places.first_gap)
   pub second : (places.second_gap ≤ place) ⊎ (end ≤ places.second_gap)
 
--- in a run the windows stand as their last identifiers do among those that the front lacks
+-- the windows of a run are in the order of their last identifiers among the numbers that the prefix lacks
 pub along :
     (k m n j x y : ℕ) (front : List ℕ) → IsWindow k m front → x < m → is_used front x ≡ false → y < m → is_used front y ≡ false
     → length (unused y front) ≡ length (unused x front) + j → slice_get (windows (suc k) m) n ≡ Some (front ++ x ∷ [])
@@ -29,7 +29,7 @@ along k m n j x y front window x_below x_free y_below y_free places at' =
     let there : own.0 * (m - k) + length (unused y front) ≡ n + j = omega (arith, n_is, places) in
     rw there at to
 
--- a number that stands before or after two others among those that a list lacks
+-- a number that comes before or after two others among those that a list lacks
 record IsAside (f x y : ℕ) : Type 0 where
   pub same : nat_lt f x ≡ nat_lt f y
   pub differs : f ≢ y
@@ -49,12 +49,12 @@ aside list f x y low high x_at from to (inr after) =
       differs = λ e. absurd (omega (arith, e, above_y));
     }
 
--- a gap at a place or before is before, where a window stands at the place
+-- a gap at a position or before it is before it, if a window has the position
 gap_aside : (gap place end : ℕ) → gap ≢ place → (gap ≤ place) ⊎ (end ≤ gap) → (gap < place) ⊎ (end ≤ gap)
 gap_aside gap place end differs clear =
     ⊎_elim (λ (before : gap ≤ place). inl (omega (arith, before, differs))) (λ after. inr after) clear
 
--- the window with this end instead of x stands j further, and so does its last part
+-- the window with this end instead of x is j further, and so is its suffix
 record StandsFurther (g m f0 f1 : ℕ) (rest : List ℕ) (x j y : ℕ) : Type 0 where
   pub ends : Ends m f0 f1 rest y
   pub long : (n : ℕ) → slice_get (windows (suc (g + 2)) m) n ≡ Some (f0 ∷ f1 ∷ rest ++ x ∷ [])
@@ -91,7 +91,7 @@ stands_further g m p end f0 f1 x j y places rest is x_ends clear inside y_at =
       short = λ n at'. along g m n j x y rest rest_is x_ends.below x_ends.rest_free kept.below y_rest (omega (arith, kept.before, x_at)) at';
     }
 
--- a series, up to the end of the places that are clear
+-- a series up to the end of the positions without a gap
 series_of_front :
     (g m p count x : ℕ) (places : RunPlaces) (front : List ℕ) → EndsFront g m places front x p → IsClear places p (p + count) → p + count ≤ places.end
     → IsSeries (g + 1) m (front ++ x ∷ []) count
@@ -113,7 +113,7 @@ series_of_front g m p count x places (f0 ∷ f1 ∷ rest) is clear within =
       rw short at (there.short low (rw (← short) at low_at)),
     )
 
--- the same of a window
+-- the same for a window
 pub series_is :
     (k m p count : ℕ) (places : RunPlaces) (window : List ℕ) → 1 ≤ k → IsAtPlace k m places window p → IsClear places p (p + count)
     → p + count ≤ places.end → IsSeries k m window count
@@ -122,7 +122,7 @@ series_is k m p count places window some is clear within =
     let level : k - 1 + 1 ≡ k = omega arith in
     rw (level, whole_window k m window is.window_is) at made
 
--- where the last identifiers of two windows with one front stand among the numbers that the front lacks, as the windows do
+-- the last identifiers of two windows with one prefix are in the order of the windows
 places_along :
     (k m n j x y : ℕ) (front : List ℕ) → IsWindow k m front → x < m → is_used front x ≡ false → y < m → is_used front y ≡ false
     → slice_get (windows (suc k) m) n ≡ Some (front ++ x ∷ []) → slice_get (windows (suc k) m) (n + j) ≡ Some (front ++ y ∷ [])
@@ -133,11 +133,11 @@ places_along k m n j x y front window x_below x_free y_below y_free x_at y_at =
     let to = one_place (suc k) m (n + j) (own.0 * (m - k) + length (unused y front)) (front ++ y ∷ []) y_at (window_step k m own.0 y front own.1 y_below y_free) in
     omega (arith, from, to)
 
--- a place at which nothing more comes: the end, or a gap
+-- a position at which a series ends: the end, or a gap
 abbrev pub IsEnd : RunPlaces → ℕ → Type 0
 IsEnd places place = (place ≡ places.end) ⊎ ((place ≡ places.first_gap) ⊎ (place ≡ places.second_gap))
 
--- no number that ends the front stands there
+-- no number that ends the prefix has this position
 pub end_is_free :
     (g m p q x y f0 f1 : ℕ) (places : RunPlaces) (rest : List ℕ) → EndsFront g m places (f0 ∷ f1 ∷ rest) x p → y < m
     → is_used (f0 ∷ f1 ∷ rest) y ≡ false → length (unused y rest) ≡ q → IsEnd places q → ⊥
@@ -146,7 +146,7 @@ end_is_free g m p q x y f0 f1 places rest is below free at' end =
     ⊎_elim (λ last. absurd (omega (arith, three.inside, at', last, is.end)))
     (λ gap. ⊎_elim (λ first. three.first (is.first ∙ sym first ∙ sym at')) (λ second. three.second (is.second ∙ sym second ∙ sym at')) gap) end
 
--- a series goes no further than such a place
+-- a series goes no further than such a position
 no_longer_of_front :
     (g m p count x : ℕ) (places : RunPlaces) (front : List ℕ) → EndsFront g m places front x p → IsEnd places (p + count)
     → IsSeries (g + 1) m (front ++ x ∷ []) (count + 1) → ⊥

@@ -1,4 +1,4 @@
--- How large the number of a window can be.
+-- Bounds on the numbers of windows.
 use Rattle.std.proofs.Common.{◌≡◌, ℕ, zero, suc, ◌+◌, ◌-◌, ◌*◌, ◌<◌, ◌≤◌, List, [], length, get_or, slice_get, Some, arith, add-one, ⊎_elim}
 use Rattle.std.proofs.Math.Nat.{le-mul_of_pos_right}
 use Rattle.std.proofs.lemmas.Bool.{cases_lt}
@@ -11,7 +11,7 @@ use Rattle.win_index.proofs.Numbers.{windows_all, length-windows}
 pub falling-add_one : (m k : ℕ) → falling m (k + 1) ≡ falling m k * (m - k)
 falling-add_one m k = rw add-one
 
--- longer windows are not fewer
+-- there are at least as many longer windows
 pub falling_rises : (m j k : ℕ) → j ≤ k → k ≤ m → falling m j ≤ falling m k
 falling_rises m j zero le within =
     let same : j ≡ zero = omega arith in
@@ -28,7 +28,7 @@ falling_rises m j (suc k) le within =
     rw same (omega arith))
     (cases_lt j (suc k))
 
--- a window has no more numbers than there are
+-- a window has at most as many numbers as there are
 pub window_within : (k m : ℕ) (list : List ℕ) → IsWindow k m list → k ≤ m
 window_within k m list window = omega (arith, length-unused list m window.distinct window.below, window.size)
 
@@ -39,7 +39,7 @@ pub number_fits :
     (m j k n : ℕ) (list : List ℕ) → slice_get (windows j m) n ≡ Some list → j ≤ k → k ≤ m → n < falling m k
 number_fits m j k n list at' le within = omega (arith, number_below j m n list at', falling_rises m j k le within)
 
--- where there is a window at all, there are no fewer numbers than it has
+-- if there is a window at all, there are at least as many numbers as it has
 pub some_window : (k m n : ℕ) → n < length (windows k m) → k ≤ m
 some_window k m n lt =
     let at' = slice_get-get_or (windows k m) n [] lt in

@@ -1,4 +1,4 @@
--- The window after a window: the next number in the last cell, or else the next front with its least number.
+-- The next window: the next number in the last cell, or else the next prefix with its least number.
 use Rattle.std.proofs.Common.{◌≡◌, ◌≢◌, ℕ, zero, suc, ◌+◌, ◌-◌, ◌*◌, ◌<◌, ◌≤◌, cond, Option, List, [], ◌∷◌, ◌++◌, length, get_or, take, set, find, slice_get, Some, None, AllPairs, refl, sym, ap, ◌∙◌, arith, length-append, add-one, ⊎_elim}
 use Rattle.std.specs.List.{range_with_len}
 use Rattle.std.proofs.Math.Nat.{suc-mul}
@@ -18,7 +18,7 @@ use Rattle.win_index.proofs.Numbers.{window_parts, window_from_parts, windows_al
 abbrev pub first_lacked : ℕ → List ℕ → ℕ → Option ℕ
 first_lacked m front low = find (lacks front) (range_with_len low (m - low))
 
--- the parts of a window that is given by its front and last number
+-- the parts of a window from its prefix and last number
 pub record PartsOf (k m n : ℕ) (front : List ℕ) (x : ℕ) : Type 0 where
   pub place : ℕ
   pub rest : ℕ
@@ -38,7 +38,7 @@ parts_of k m n x front at' =
       last_at = rw (same.0, same.1) at parts.last_at;
     }
 
--- after a number that a list lacks comes the first one from the next on
+-- after a number that a list lacks comes the first one from its successor on
 after :
     (m place x : ℕ) (front : List ℕ) → slice_get (unused m front) place ≡ Some x
     → slice_get (unused m front) (place + 1) ≡ first_lacked m front (x + 1)
@@ -58,7 +58,7 @@ none_at [] i e = omega arith
 none_at (x ∷ xs) zero e = absurd (none-some x (sym e))
 none_at (x ∷ xs) (suc i) e = omega (arith, none_at xs i e)
 
--- the last number is followed by another that the front lacks
+-- the last number is followed by another that the prefix lacks
 next_here :
     (k m x y : ℕ) (front : List ℕ) → first_lacked m front (x + 1) ≡ Some y → IsNext (suc k) m (front ++ x ∷ []) (front ++ y ∷ [])
 next_here k m x y front found n at' =
@@ -67,7 +67,7 @@ next_here k m x y front found n at' =
     let place : parts.place * (m - k) + (parts.rest + 1) ≡ n + 1 = omega (arith, parts.number) in
     rw place at (window_from_parts k m parts.place (parts.rest + 1) y front parts.front_at next_at)
 
--- the last number is the greatest that the front lacks
+-- the last number is the greatest that the prefix lacks
 record IsAtEnd (k m n : ℕ) (front : List ℕ) : Type 0 where
   place : ℕ
   front_at : slice_get (windows k m) place ≡ Some front
@@ -92,7 +92,7 @@ at_end k m n x front none at' =
       number = omega (arith, parts.number);
     }
 
--- the next front, with the least number that it lacks
+-- the next prefix, with the least number that it lacks
 next_front :
     (k m x y : ℕ) (front later : List ℕ) → first_lacked m front (x + 1) ≡ None → IsNext k m front later
     → slice_get (unused m later) 0 ≡ Some y → IsNext (suc k) m (front ++ x ∷ []) (later ++ y ∷ [])
@@ -101,7 +101,7 @@ next_front k m x y front later none next least n at' =
     let number : (end.place + 1) * (m - k) + 0 ≡ n + 1 = omega (arith, end.number) in
     rw number at (window_from_parts k m (end.place + 1) 0 y later (next end.place end.front_at) least)
 
--- no next front
+-- there is no next prefix
 last_of_all :
     (k m x : ℕ) (front : List ℕ) → first_lacked m front (x + 1) ≡ None → IsLast k m front → IsLast (suc k) m (front ++ x ∷ [])
 last_of_all k m x front none last n at' =
@@ -109,9 +109,9 @@ last_of_all k m x front none last n at' =
     let all = last end.place end.front_at in
     end.number ∙ ap (λ p. p * (m - k)) all ∙ ap (λ p. p * (m - k)) (length-windows k m) ∙ sym (length-windows (suc k) m)
 
--- ---- the same of the first cells of a list
+-- ---- the same for the first cells of a list
 
--- a window but for its last number
+-- a window without its last number
 pub shorter_window : (k m last : ℕ) (list : List ℕ) → k ≡ last + 1 → IsWindow k m (take k list) → IsWindow last m (take last list)
 shorter_window k m last list more window =
     let whole = take-take last k list (omega arith) in
@@ -154,26 +154,26 @@ last_with_last_front k m last list more lt none all =
     let step = last_of_all last m (get_or list last 0) (take last list) none all in
     rw (more, old, add-one) step
 
--- the one window of length zero is the last
+-- the only window of length zero is the last
 pub last_of_none : (k m : ℕ) (list : List ℕ) → k ≡ 0 → IsLast k m list
 last_of_none k m list empty n at' =
     let within = slice_get_within (windows k m) n list at' in
     let one : length (windows k m) ≡ 1 = rw empty (length-windows zero m) in
     omega arith
 
--- the next window is one
+-- the next window is a window
 pub next_is_window : (k m : ℕ) (window next : List ℕ) → IsWindow k m window → IsNext k m window next → IsWindow k m next
 next_is_window k m window next own after' =
     let place = window_place k m window own in
     windows_all k m (place.0 + 1) next (after' place.0 place.1)
 
--- a later front lacks some number, where there are more numbers than it has
+-- a later prefix lacks some number if there are more numbers than it has
 pub later_lacks : (last m : ℕ) (front later : List ℕ) → last < m → IsWindow last m front → IsNext last m front later → 0 < length (unused m later)
 later_lacks last m front later lt window next =
     let own = next_is_window last m front later window next in
     omega (arith, length-unused later m own.distinct own.below, own.size)
 
--- where no number after the last one is lacked by the front, none is larger in a window with this front
+-- if the prefix lacks no number after the last one, no window with this prefix has a larger one
 pub none_larger :
     (k m last x : ℕ) (list : List ℕ) → k ≡ last + 1 → last < length list → first_lacked m (take last list) (get_or list last 0 + 1) ≡ None
     → IsWindow k m (set list last x) → x ≤ get_or list last 0
@@ -197,7 +197,7 @@ none_larger k m last x list more lt none window =
     (λ (within : x ≤ get_or list last 0). within)
     (cases_lt (get_or list last 0) x)
 
--- the last of the windows with one front ends with the greatest number that the front lacks
+-- the last window with a prefix ends with the greatest number that the prefix lacks
 pub run_ends :
     (k m last : ℕ) (list : List ℕ) → k ≡ last + 1 → IsWindow k m list → IsLastOfRun k m list
     → first_lacked m (take last list) (get_or list last 0 + 1) ≡ None

@@ -12,7 +12,7 @@ use Rattle.win_index.proofs.Kept.{kept, kept_suc, kept_more, kept_own, kept_rise
 abbrev pub lacks : List ℕ → ℕ → Bool
 lacks list x = not (is_used list x)
 
--- how many numbers of the list are below x
+-- the number of elements of the list below x
 abbrev rank : List ℕ → ℕ → ℕ
 rank [] x = 0
 rank (y ∷ list) x = cond (nat_lt y x) (1 + rank list x) (rank list x)
@@ -52,7 +52,7 @@ rank_all (y ∷ list) m below =
     let rest = rank_all list m (All-tail (λ x. x < m) y list below) in
     rw lt (omega (arith, rest))
 
--- one number more is counted where it stands in the list
+-- one more is counted if it is in the list
 rank_suc : (list : List ℕ) (x : ℕ) → IsDistinct list → rank list (suc x) ≡ rank list x + cond (is_used list x) 1 0
 rank_suc [] x distinct = refl
 rank_suc (y ∷ list) x distinct =
@@ -84,7 +84,7 @@ length_single : (b : Bool) (x : ℕ) → length (cond (not b) (x ∷ []) []) + c
 length_single true x = refl
 length_single false x = refl
 
--- below x there are x numbers: those that the list lacks and those of the list
+-- the x numbers below x are those that the list lacks and those in the list
 length-unused_rank : (list : List ℕ) (x : ℕ) → IsDistinct list → length (unused x list) + rank list x ≡ x
 length-unused_rank list zero distinct = omega (arith, rank_zero list)
 length-unused_rank list (suc x) distinct =
@@ -96,15 +96,15 @@ length-unused_rank list (suc x) distinct =
 pub length-unused : (list : List ℕ) (m : ℕ) → IsDistinct list → All (λ x. x < m) list → length (unused m list) + length list ≡ m
 length-unused list m distinct below = omega (arith, length-unused_rank list m distinct, rank_all list m below)
 
--- a number that the list lacks stands after those below it
+-- a number that the list lacks comes after those below it
 pub unused_at : (list : List ℕ) (m x : ℕ) → x < m → is_used list x ≡ false → slice_get (unused m list) (length (unused x list)) ≡ Some x
 unused_at list m x lt free = kept_own (lacks list) x m lt (not_from_false (is_used list x) free)
 
--- how many numbers below x the list lacks, as x less how many of the list are below x
+-- the number of values below x that the list lacks is x less the number of its elements below x
 pub unused_below : (list : List ℕ) (x : ℕ) → IsDistinct list → length (unused x list) + count_by (λ y. nat_lt y x) list ≡ x
 unused_below list x distinct = omega (arith, length-unused_rank list x distinct, rank_is_count list x)
 
--- one number more is counted where the list lacks it
+-- one more is counted if the list lacks it
 pub unused_more :
     (list : List ℕ) (x : ℕ) → (is_used list x ≡ false → length (unused (x + 1) list) ≡ length (unused x list) + 1) × (is_used list x ≡ true → length (unused (x + 1) list) ≡ length (unused x list))
 unused_more list x =
@@ -118,7 +118,7 @@ unused_more list x =
           omega (arith, more),
     )
 
--- the list lacks at most so many numbers more below a larger number
+-- up to a larger number the list lacks at most their difference more
 pub unused_few : (list : List ℕ) (x more : ℕ) → length (unused (x + more) list) ≤ length (unused x list) + more
 unused_few list x zero =
     let same : x + zero ≡ x = omega arith in
@@ -133,7 +133,7 @@ unused_few list x (suc more) =
       | false ↦ λ free used. omega (arith, fewer, free refl)
     ] one.0 one.1)
 
--- a number below which the list lacks fewer than below m is below m
+-- a number is below m if the list lacks fewer numbers below it than below m
 pub unused_below_bound : (list : List ℕ) (x m : ℕ) → length (unused x list) < length (unused m list) → x < m
 unused_below_bound list x m fewer =
     ⊎_elim
@@ -141,7 +141,8 @@ unused_below_bound list x m fewer =
     (λ (le : m ≤ x). absurd (omega (arith, kept_rises (lacks list) m x le, fewer)))
     (cases_lt x m)
 
--- the number before x stands at a place where the list lacks one number more below x than the place says, and no more below the number before x
+-- the number before x has this position if the list lacks one more number below x than the position, and no more below
+-- x - 1
 pub unused_before :
     (list : List ℕ) (m place x : ℕ) → 1 ≤ x → x ≤ m → length (unused (x - 1) list) ≤ place → length (unused x list) ≡ place + 1
     → slice_get (unused m list) place ≡ Some (x - 1)
@@ -158,7 +159,7 @@ unused_before list m place x some le before own =
           rw at' at (unused_at list m y (omega arith) e)
     ] more.0 more.1 refl
 
--- by a step of as many numbers as are lacking at most so many are found, but for the last
+-- a step of as many numbers as are missing finds at most that many, the last one aside
 pub unused_reached :
     (list : List ℕ) (place x more : ℕ) → 1 ≤ more → length (unused x list) + more ≡ place + 1
     → length (unused (x + more - 1) list) ≤ place
@@ -167,7 +168,8 @@ unused_reached list place x more some sum =
     let few : length (unused (x + (more - 1)) list) ≤ place = omega (arith, unused_few list x (more - 1), sum) in
     rw before at few
 
--- where the list lacks more numbers below m than the place says, that step stays within m, and finds at most one number more than the place says
+-- if the list lacks more numbers below m than the position, that step stays within m, and finds at most one number more
+-- than the position
 pub reached_inside :
     (list : List ℕ) (m place x more : ℕ) → 1 ≤ more → length (unused x list) + more ≡ place + 1 → place < length (unused m list)
     → (length (unused (x + more - 1) list) ≤ place) × (x + more ≤ m) × (length (unused (x + more) list) ≤ place + 1)
@@ -177,7 +179,7 @@ reached_inside list m place x more some sum few =
     let last : x + more - 1 + 1 ≡ x + more = omega arith in
     (before, omega (arith, inside), omega (arith, before, rw last at (unused_few list (x + more - 1) 1)))
 
--- a number in front of a list is one that it lacks no more
+-- a number in front of a list is one that it no longer lacks
 pub unused_in_front :
     (y x : ℕ) (list : List ℕ) → IsDistinct (y ∷ list) → length (unused x (y ∷ list)) + cond (nat_lt y x) 1 0 ≡ length (unused x list)
 unused_in_front y x list distinct =

@@ -16,7 +16,7 @@ overflow_sub-free c = omega (arith, c.from.ensures, c.requires.size, c.args.self
 pub unused_below-digit-requires : goal.unused_below-digit-requires
 unused_below-digit-requires c = (windows_all _ _ _ _ c.loop-place.invariant).distinct
 
--- the number after this place
+-- the number after this position
 next :
     (k m j number free digit : ℕ) (list : List ℕ) → IsWindow k m list → j < k → slice_get (windows j m) number ≡ Some (take j list)
     → free ≡ m - j → digit ≡ length (unused (get_or list j 0) (take j list))
