@@ -1,4 +1,4 @@
--- The number of binary digits, against powers of two, and what shifts of machine words give.
+-- The number of binary digits, compared with powers of two, and the effect of shifts on machine words.
 use Rattle.std.proofs.Common.{◌≡◌, ℕ, zero, suc, ◌+◌, ◌*◌, ◌/◌, ◌%◌, ◌^◌, ◌<◌, ◌≤◌, inl, inr, refl, arith}
 use Rattle.std.specs.Int.{leading_zeros, w32}
 use Rattle.std.proofs.lemmas.Bool.{cases_lt}
@@ -8,7 +8,7 @@ use Rattle.std.proofs.Math.Pow.{pow_mono}
 use Rattle.node_lang.specs.Bounds.{halvings, bits}
 use Rattle.lang_check.specs.Laws.{BinaryDigits}
 
--- nothing is left at once
+-- zero has no digits
 halvings-zero : (n : ℕ) → halvings n 0 ≡ 0
 halvings-zero zero = refl
 halvings-zero (suc n) = refl
@@ -48,7 +48,7 @@ bits-zero : bits 0 ≡ 0
 unfolding bits
 bits-zero = refl
 
--- and no shorter power of two is above it
+-- and no smaller power of two is above it
 pub bits-le : (x k : ℕ) → x < 2 ^ k → bits x ≤ k
 bits-le x k h =
     elim (cases_lt k (bits x)) [

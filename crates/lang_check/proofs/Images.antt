@@ -1,9 +1,9 @@
--- Lists whose images are equal, place by place.
+-- Lists whose images are equal, index by index.
 use Rattle.std.proofs.Common.{◌≡◌, ℕ, ◌<◌, List, map, length, get_or, sym, ◌∙◌, ap}
 use Rattle.std.proofs.lemmas.List.{get_or_default}
 use Rattle.std.proofs.Math.ListN.{get_or-map}
 
--- items of one place have one image
+-- items at one index have one image
 pub same_at :
     {X Y : Type 0} (f : X → Y) (a b : List X) (i : ℕ) (x y : X) → i < length b → x ≡ get_or a i x → y ≡ get_or b i y
     → map f a ≡ map f b → f x ≡ f y

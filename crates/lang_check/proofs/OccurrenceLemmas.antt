@@ -48,7 +48,7 @@ list_any-step_terms p (r ∷ rs) =
     ∙ list_any-append p (step_terms (step_of r ∷ [])) (step_terms (map step_of rs))
     ∙ ap (λ b. list_any p (step_terms (step_of r ∷ [])) || b) (list_any-step_terms p rs)
 
--- a test of what rounds send, round by round
+-- a test of the messages of rounds, round by round
 pub list_any-sent_terms :
     (p : Term → Bool) (rounds : List Round)
     → list_any p (sent_terms (map step_of rounds)) ≡ list_any (λ r. list_any p (sent_terms (step_of r ∷ []))) rounds
@@ -66,7 +66,7 @@ list_any-after_start p rounds finish =
     list_any-append p (step_terms (map step_of rounds)) (finish ∷ [])
     ∙ (λ i. list_any-step_terms p rounds i || or_false (p finish) i)
 
--- a test of the expressions that are no assignments of a round
+-- a test of the expressions outside the assignments of a round
 pub list_any-outside_assignments :
     (p : Term → Bool) (start : List Expr) (rounds : List Round) (finish : Term)
     → list_any p (map term_of start ++ (sent_terms (map step_of rounds) ++ finish ∷ []))

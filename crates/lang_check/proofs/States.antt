@@ -50,7 +50,7 @@ pub next_within : NextIsWithin
 unfolding rounds.next rounds.to_right rounds.to_left
 next_within p m r left own right = assigned_within (slice_get p.steps r) m left own right (register_bounds p m r)
 
--- identifiers of a ring; a place that is not there counts as 0
+-- identifiers of a ring; a place that does not exist counts as 0
 ids-below : (m t : ℕ) (x : List ℕ) → IsRing m t x → (i : ℕ) → slice_index x i ≤ m - 1
 ids-below m t x ring i =
     elim (cases_lt i (length x)) [

@@ -20,7 +20,7 @@ flag-le : (t : Bool) → flag t ≤ 1
 flag-le true = omega arith
 flag-le false = omega arith
 
--- a choice between two numbers by one test
+-- a choice between two numbers by a test
 chosen : (t : Bool) (x y u v : ℕ) → x ≤ u → y ≤ v → (if t then x else y) ≤ (if t then u else v)
 chosen true x y u v p q = p
 chosen false x y u v p q = q
@@ -45,13 +45,13 @@ lowest_differing_bit-le a b k la lb =
     least_from-le (λ i. not (bit_at a i == bit_at b i)) 0 32 k
     (λ j far. rw (bit_at_above a k j la far, bit_at_above b k j lb far) refl)
 
--- both operands have as many digits as the greater of their bounds
+-- both operands have at most as many digits as the greater of their bounds
 below_both : (a b c d : ℕ) → a ≤ c → b ≤ d → (a < 2 ^ bits (max c d)) × (b < 2 ^ bits (max c d))
 below_both a b c d p q =
     let above : max c d < 2 ^ bits (max c d) = bits-above (max c d) in
     (omega arith, omega arith)
 
--- the number that is written, if there is one, is the value
+-- a literal has its number as its value
 abbrev Agrees : Option ℕ → ℕ → Type 0
 Agrees (Some k) b = b ≡ k
 Agrees None b = Unit {0}
@@ -113,7 +113,7 @@ binary_within Ne written a b c d w p q = flag-le _
 binary_within Lt written a b c d w p q = flag-le _
 binary_within Le written a b c d w p q = flag-le _
 
--- what an expression reads is at most what bounds it
+-- what an expression reads is at most its bound
 pub record EnvIsWithin (env bounds : Env) : Type 0 where
   pub id : env.id ≤ bounds.id
   pub left : env.left ≤ bounds.left
