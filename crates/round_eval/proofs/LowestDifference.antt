@@ -69,5 +69,5 @@ lowest_differing_bit-xor a b ne la lb =
           | inr other ↦ let h : bit_xor a b ≢ 0 = other.1 in omega arith
         ]
 
--- both, for `using`
+-- both lemmas, for `using`
 pub ruleset differing = (lowest_differing_bit-same, lowest_differing_bit-xor)
