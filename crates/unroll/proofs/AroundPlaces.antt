@@ -10,7 +10,7 @@ use Rattle.unroll.specs.Line.{between, item, line, middle_state}
 use Rattle.unroll.specs.Laws.{Locality}
 use Rattle.unroll.proofs.Lines.{line_is}
 
--- the neighbours of place a + 1, all taken modulo the ring's length
+-- the neighbours of place a + 1, modulo the ring's length
 left_place : (x : List ℕ) (a : ℕ) → 0 < length x → left_of x ((a + 1) % length x) ≡ a % length x
 left_place x a some =
     let n : ℕ = length x in
@@ -23,7 +23,7 @@ right_place x a =
     let next : a + 1 + 1 ≡ a + 2 = omega arith in
     mod-add-mod (a + 1) (length x) 1 ∙ ap (λ b. b % length x) next
 
--- a state after one round more, by the states of three neighbouring places
+-- a state after one more round, from the states of three neighbouring places
 state_next :
     (p : ProgramTree) (x : List ℕ) (k a : ℕ) → 0 < length x
     → state p x (suc k) ((a + 1) % length x)

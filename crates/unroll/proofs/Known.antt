@@ -1,4 +1,4 @@
--- What a source knows while blocks are asked for.
+-- The blocks that a source knows while it is asked.
 use Rattle.std.proofs.Common.{◌≡◌, ℕ, zero, suc, ◌+◌, ◌*◌, ◌/◌, ◌<◌, ◌≤◌, Option, Some, None, IsSome, IfSome, List, [], slice_get, refl, arith}
 use Rattle.std.proofs.lemmas.Bool.{false≢true}
 use Rattle.std.proofs.lemmas.Option.{get_or_from_slice_get}
@@ -16,14 +16,14 @@ some_kept : (old new : Option MadeBlock) → ((b : MadeBlock) → old ≡ Some b
 some_kept None new kept some = absurd (false≢true some)
 some_kept (Some b) new kept some = rw (kept b refl) refl
 
--- what is known stays known
+-- known blocks stay known
 pub still_known : (old new : Entries) (r c : ℕ) → Grows old new → IsSome (old r c) → IsSome (new r c)
 still_known old new r c grows some = some_kept (old r c) (new r c) (grows.kept r c) some
 
 pub grows_both : (old now new : Entries) → Grows old now → Grows now new → Grows old new
 grows_both old now new first later = record { kept = λ level n block at'. later.kept level n block (first.kept level n block at') }
 
--- the three parts of a window, each with its block known
+-- the three parts of a window, with their blocks known
 module _ (entries : Entries) (m low : ℕ) (w : List ℕ) where
   one_of_three : (d : ℕ) → d ≤ 2 → KnowsPart entries m low w 0 → KnowsPart entries m low w 1 → KnowsPart entries m low w 2 → KnowsPart entries m low w d
   one_of_three zero le first middle last = first
@@ -34,11 +34,11 @@ module _ (entries : Entries) (m low : ℕ) (w : List ℕ) where
   pub knows_three : KnowsPart entries m low w 0 → KnowsPart entries m low w 1 → KnowsPart entries m low w 2 → KnowsParts entries m low w
   knows_three first middle last = λ n is. one_of_three is.offset is.three first middle last n is.number_is
 
--- the window at a place of a block
+-- the window at an index of a block
 pub window_at : (m r n : ℕ) (window : List ℕ) → slice_get (windows (2 * r + 1) m) n ≡ Some window → window_numbered m r n ≡ window
 window_at m r n window at' = get_or_from_slice_get (windows (2 * r + 1) m) n window [] at'
 
--- what is missing for a window is missing for its block
+-- a block that is missing for a window is missing for the window's block
 pub fault_of_block :
     (entries : Entries) (m r b place : ℕ) (window : List ℕ) (fault : MakeFault) → place < block_len m r b
     → window_numbered m r (BLOCK_WINDOWS * b + place) ≡ window → IsMissingPart entries m r window fault → IsMakeFault entries m r b fault
@@ -55,7 +55,7 @@ fault_of_block entries m r b place window (Missing low c) lt own missing = (
 )
 fault_of_block entries m r b place window OutOfMemory lt own missing = absurd missing
 
--- a block that is missing for the last part of a window is missing for its block
+-- a block that is missing for the last part of a window is missing for the window's block
 pub fault_of_last :
     (entries : Entries) (m low b place number : ℕ) (window : List ℕ) (fault : MakeFault) → place < block_len m (low + 1) b
     → window_numbered m (low + 1) (BLOCK_WINDOWS * b + place) ≡ window → number_of (2 * low + 1) m (part window low 2) ≡ Some number
@@ -74,12 +74,12 @@ fault_of_last entries m low b place number window (Missing l c) lt own is missin
     )
 fault_of_last entries m low b place number window OutOfMemory lt own is missing = absurd missing
 
--- what holds of what an option has, where it has something, and gives something else
+-- a property of an option's value, or of another if it has none
 pub if_some_more : {A : Type 0} (P Q : A → Type 0) (o : Option A) → ((a : A) → P a → Q a) → IfSome o P → IfSome o Q
 if_some_more P Q None more is = tt
 if_some_more P Q (Some a) more is = more a is
 
--- all blocks below a block are known where the parts of all its windows are
+-- all blocks below a block are known if the parts of all its windows are
 pub knows_all_below :
     (entries : Entries) (m r b : ℕ) → KnowsBelow entries m r b (block_len m r b)
     → (low c : ℕ) → IsBelow m r b low c → IsSome (entries low c)

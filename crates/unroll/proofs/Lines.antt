@@ -1,4 +1,4 @@
--- The items of a shrinking line, and the line of a part of a window.
+-- The items of a shrinking line, and the lines of a window's parts.
 use Rattle.std.proofs.Common.{◌≡◌, ℕ, zero, suc, ◌+◌, ◌-◌, ◌*◌, ◌<◌, ◌≤◌, List, [], ◌∷◌, ◌++◌, length, length-append, get_or, take, drop, refl, sym, ap, ◌∙◌, arith, add-one, length-drop}
 use Rattle.std.proofs.lemmas.List.{get_or-map, length-map, get_or-take, get_or-drop, length-take-le}
 use Rattle.std.proofs.lemmas.List.FromFn.{fill_by_all, length-map-range_with_len, get_or-map-range_with_len}
@@ -14,7 +14,7 @@ pub between_same :
 between_same p k {a} {b} {c} {x} {y} {z} left own right =
     ap (λ u. between p k u b c) left ∙ ap (λ u. between p k x u c) own ∙ ap (λ u. between p k x y u) right
 
--- a line of k rounds is 2k shorter
+-- a line is 2k shorter after k rounds
 pub length-line : (p : ProgramTree) (w : List ℕ) (k : ℕ) → length (line p w k) ≡ length w - 2 * k
 length-line p w zero = length-map w (start p) ∙ (omega arith)
 length-line p w (suc k) =
@@ -33,7 +33,7 @@ line_next p w k j lt =
     let inside : j < length u - 2 = omega (arith, length-line p w k) in
     get_or-map-range_with_len (λ i. between p k (item u i) (item u (i + 1)) (item u (i + 2))) 0 (length u - 2) j j [] inside (omega arith)
 
--- states that begin as the identifiers of w start, and go on as a line does, are the items of the line
+-- states that begin with the start states of w, and go on as a line does, are the items of the line
 pub line_is :
     (p : ProgramTree) (w : List ℕ) (f : ℕ → ℕ → List ℕ) → ((j : ℕ) → j < length w → start p (get_or w j 0) ≡ f 0 j)
     → ((k j : ℕ) → j + 2 * k + 2 < length w → f (suc k) j ≡ between p k (f k j) (f k (j + 1)) (f k (j + 2)))
@@ -45,7 +45,7 @@ line_is p w f starts goes (suc k) j lt =
     ∙ between_same p k (here j (omega arith)) (here (j + 1) (omega arith)) (here (j + 2) (omega arith))
     ∙ sym (goes k j (omega arith))
 
--- the line of the first, the middle or the last identifiers is a part of the whole line
+-- the line of a part of a window is a part of the window's line
 line_of_part :
     (p : ProgramTree) (w : List ℕ) (len d k j : ℕ) → d + len ≤ length w → j + 2 * k < len
     → item (line p (take len (drop d w)) k) j ≡ item (line p w k) (d + j)
@@ -62,7 +62,7 @@ line_of_part p w len d k j fits lt =
     rw (own, right) (line_next p w i (d + j) (omega arith)))
     k j (omega arith)
 
--- what comes between the states of the three parts is the state of the window
+-- the state of a window from the states of its three parts
 pub middle_from_parts :
     (p : ProgramTree) (r high : ℕ) (w left own right made : List ℕ) → high ≡ r + 1 → length w ≡ 2 * r + 3
     → left ≡ middle_state p r (part w r 0) → own ≡ middle_state p r (part w r 1) → right ≡ middle_state p r (part w r 2)
@@ -83,7 +83,7 @@ length-row_after :
 length-row_after p k left right [] = refl
 length-row_after p k left right (own ∷ row) = ap (λ n. suc n) (length-row_after p k (to_right p k own) right row)
 
--- an item of a row after a round, by the line around the row
+-- an item of a row after a round, from the line around the row
 item_after :
     (p : ProgramTree) (k : ℕ) (first last : List ℕ) (row : List (List ℕ)) (j : ℕ) → j < length row
     → item (row_after p k (to_right p k first) row (to_left p k last)) j
@@ -110,7 +110,7 @@ only_item [] size = absurd (omega arith)
 only_item (x ∷ []) size = refl
 only_item (x ∷ (y ∷ u)) size = absurd (omega arith)
 
--- the line of a window is one state long in the end
+-- the line of a window has one state in the end
 pub one_left : OneStateIsLeft
 unfolding middle_state
 one_left p r w size = only_item (line p w r) (omega (arith, length-line p w r))

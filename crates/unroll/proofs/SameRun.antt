@@ -1,4 +1,4 @@
--- Windows that begin with the same identifiers share what a run says.
+-- The windows of a run share what `Run` holds.
 use Rattle.std.proofs.Common.{◌≡◌, ℕ, ◌+◌, ◌-◌, ◌*◌, ◌/◌, ◌<◌, ◌≤◌, List, length, get_or, take, drop, sym, ap, ◌∙◌, arith, subst}
 use Rattle.std.proofs.lemmas.List.{drop-take, take-take, length-take-le, get_or-take, get_or-drop, length-drop}
 use Rattle.win_index.specs.Runs.{HasPlaces}
@@ -15,7 +15,7 @@ use Rattle.unroll.specs.declared.run.Run.{Run}
 use Rattle.unroll.proofs.Known.{still_known}
 use Rattle.win_index.specs.declared.limits.TheConstants.{BLOCK_WINDOWS}
 
--- identifiers that stand before the last one of a front
+-- identifiers before the last one of a prefix
 inside_front : (w : List ℕ) (n d len : ℕ) → d + len ≤ n → take len (drop d w) ≡ take len (drop d (take n w))
 inside_front w n d len fits =
     let whole : d + (n - d) ≡ n = omega arith in
@@ -25,7 +25,7 @@ same_inside : (w v : List ℕ) (n d len : ℕ) → d + len ≤ n → take n w �
 same_inside w v n d len fits same =
     inside_front w n d len fits ∙ ap (λ front. take len (drop d front)) same ∙ sym (inside_front v n d len fits)
 
--- the places of a run follow from what its windows share
+-- the positions of a run follow from the prefix of its windows
 same_places :
     (m low : ℕ) (w v : List ℕ) (places : RunPlaces) → take (2 * low + 2) w ≡ take (2 * low + 2) v → HasPlaces (2 * low + 1) m w places
     → HasPlaces (2 * low + 1) m v places
@@ -57,13 +57,13 @@ same_run plan entries low w v run same is =
       own_known = rw middle at is.own_known;
     }
 
--- a first part stays one where the source comes to know more
+-- a first part stays one when the source knows more
 pub first_grows :
     (plan : ProgramForIds) (old new : Entries) (low : ℕ) (first : FirstPart) → Grows old new → IsFirstPart plan old low first
     → IsFirstPart plan new low first
 first_grows plan old new low first grows is = (is.0, λ n number. still_known old new low (n / BLOCK_WINDOWS) grows (is.1 n number))
 
--- what a run says of the first parts of its windows
+-- the first parts of a run's windows
 module _ (plan : ProgramForIds) (entries : Entries) (low : ℕ) (w : List ℕ) (run : Run) (is : IsRun plan entries low w run) where
   pub left_is : run.first.sent ≡ to_right plan.program low (middle_state plan.program low (part w low 0))
   left_is = is.first_is.0 ∙ ap (λ ids. to_right plan.program low (middle_state plan.program low ids)) is.first_ids
@@ -71,7 +71,7 @@ module _ (plan : ProgramForIds) (entries : Entries) (low : ℕ) (w : List ℕ) (
   pub left_known : KnowsPart entries plan.ids low w 0
   left_known = λ n number. is.first_is.1 n (ap (number_of (2 * low + 1) plan.ids) is.first_ids ∙ number)
 
--- a run stays one where the source comes to know more
+-- a run stays one when the source knows more
 pub run_grows :
     (plan : ProgramForIds) (old new : Entries) (low : ℕ) (w : List ℕ) (run : Run) → Grows old new → IsRun plan old low w run → IsRun plan new low w run
 run_grows plan old new low w run grows is =
@@ -85,7 +85,7 @@ run_grows plan old new low w run grows is =
       own_known = λ n number. still_known old new low (n / BLOCK_WINDOWS) grows (is.own_known n number);
     }
 
--- identifiers of a window that follow one another are a window
+-- consecutive identifiers of a window are a window
 pub slice_window : (m n d len : ℕ) (w : List ℕ) → IsWindow n m w → d + len ≤ n → IsWindow len m (take len (drop d w))
 slice_window m n d len w is fits =
     let size = is.size in

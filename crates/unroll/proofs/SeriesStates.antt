@@ -1,4 +1,5 @@
--- The parts of the windows of a series: the first two are the same in all, and the last ones stand in one block, one after another.
+-- The parts of the windows of a series: the first two are the same in all, and the last ones are consecutive in one
+-- block.
 use Rattle.std.proofs.Common.{◌≡◌, ℕ, ◌+◌, ◌-◌, ◌*◌, ◌/◌, ◌<◌, ◌≤◌, List, [], length, take, drop, get_or, slice_get, Some, IsSome, true, sym, ap, ◌∙◌, arith, subst}
 use Rattle.std.proofs.lemmas.List.{take_all, length-drop, drop-take, get_or-take, get_or-drop}
 use Rattle.std.proofs.lemmas.Nat.{div-mul-add}
@@ -26,8 +27,8 @@ use Rattle.win_index.specs.declared.limits.TheConstants.{BLOCK_WINDOWS}
 last_part : (low : ℕ) (w : List ℕ) → length w ≡ 2 * low + 3 → part w low 2 ≡ drop 2 w
 last_part low w size = take_all (2 * low + 1) (drop 2 w) (omega (arith, length-drop 2 w, size))
 
--- Window place + i of block b of the level above low, where the window w at the place begins a series whose last parts stand in block c from an
--- index on: it begins as w does, it has the run of all its windows, and its last part stands there.
+-- Window place + i of block b of the level above low, if the window w at the place begins a series whose last parts are
+-- in block c from an index on: it is in the run of w, and its last part is in that block.
 pub record SeriesAt (plan : ProgramForIds) (entries : Entries) (low b place c index i : ℕ) (w : List ℕ) (run : Run) : Type 0 where
   pub next : List ℕ
   pub next_at : slice_get (windows (2 * (low + 1) + 1) plan.ids) (BLOCK_WINDOWS * b + (place + i)) ≡ Some next
@@ -38,7 +39,7 @@ pub record SeriesAt (plan : ProgramForIds) (entries : Entries) (low b place c in
   pub run_is : IsRun plan entries low next run
   pub right_at : slice_get (windows (2 * low + 1) plan.ids) (BLOCK_WINDOWS * c + (index + i)) ≡ Some (part next low 2)
 
--- the last part of a window stands in its run where the window's last identifier does among those that the others lack
+-- the last part of a window has the position of the window's last identifier among those that the others lack
 last_part_at :
     (plan : ProgramForIds) (entries : Entries) (low : ℕ) (w : List ℕ) (run : Run) → IsRun plan entries low w run → IsWindow (2 * low + 1 + 2) plan.ids w
     → slice_get (windows (2 * low + 1) plan.ids) (run.start + place_in_run (2 * low + 1) w (get_or w (2 * low + 1 + 1) 0)) ≡ Some (part w low 2)
@@ -99,7 +100,7 @@ module _ (number_of_window : NumberOfWindow) (windows_have_numbers : WindowsHave
         right_at = subst (λ n. slice_get (windows (2 * low + 1) m) n ≡ Some (part next low 2)) right_number last_at;
       }
 
-  -- such a window stands further in its run by as many places
+  -- such a window is further in its run by as many positions
   pub further_place :
       (plan : ProgramForIds) (entries : Entries) (low b place c index i at' : ℕ) (w : List ℕ) (run : Run) (stands : SeriesAt plan entries low b place c index i w run) → BLOCK_WINDOWS * c + index ≡ run.start + at' → IsAtPlace (2 * low + 1) plan.ids run.places stands.next (at' + i)
   further_place plan entries low b place c index i at' w run stands start =
@@ -110,7 +111,7 @@ module _ (number_of_window : NumberOfWindow) (windows_have_numbers : WindowsHave
       let same = same_Some (run.start + place_in_run (2 * low + 1) stands.next (get_or stands.next (2 * low + 1 + 1) 0)) (BLOCK_WINDOWS * c + (index + i)) (sym own ∙ there) in
       record { window_is = window; run_has = stands.run_is.places_are; place_is = omega (arith, same, start) }
 
-  -- the parts of such a window are known where the block is that holds the last parts
+  -- the parts of such a window are known if the block with the last parts is
   pub series_known :
       (plan : ProgramForIds) (entries : Entries) (low b place c index i : ℕ) (w : List ℕ) (run : Run) → IsSome (entries low c) → index + i < BLOCK_WINDOWS
       → SeriesAt plan entries low b place c index i w run → KnowsParts entries plan.ids low (window_numbered plan.ids (low + 1) (BLOCK_WINDOWS * b + (place + i)))
@@ -124,7 +125,8 @@ module _ (number_of_window : NumberOfWindow) (windows_have_numbers : WindowsHave
       let block : number / BLOCK_WINDOWS ≡ c = ap (λ k. k / BLOCK_WINDOWS) (same ∙ sum) ∙ div-mul-add c BLOCK_WINDOWS (index + i) small in
       subst (λ k. IsSome (entries low k)) (sym block) known))
 
--- the parts of the first windows of a block, and then those of the windows of a series, for which a list holds what is sent from the right
+-- the parts of the first windows of a block, then those of the windows of a series, for which a list holds the messages
+-- from the right
 pub hold_series :
     (plan : ProgramForIds) (entries : Entries) (low b place c index count : ℕ) (w : List ℕ) (run : Run) (sent : List ℕ) (old now : PartColumns)
     → HoldParts plan low b place old
@@ -150,7 +152,7 @@ hold_series plan entries low b place c index count w run sent old now held are_s
           ∙ of_window 2 i lt));
     }
 
--- what one value was written into is so still in a part of it, where nothing was written since
+-- a value that was written to cells is in a part of them, if nothing was written there since
 pub still_written :
     (A : Type 0) (none x : A) (first old now : List A) (from most place count : ℕ) → AreWritten A none first old from most (λ _. x) → now ≡ old
     → from ≤ place → place + count ≤ from + most → AreWritten A none old now place count (λ _. x)
@@ -169,7 +171,7 @@ pub written_same :
     → AreWritten A none first now from most (λ _. x)
 written_same A none x first old now from most same written = rw same written
 
--- the window after the last one of a series begins as the first one of its run does, where it begins as the last one
+-- the window after the last one of a series has the prefix of its run, if it has that of the last one
 pub later_window :
     (m low b place count : ℕ) (first w last later : List ℕ) → 1 ≤ count
     → slice_get (windows (2 * (low + 1) + 1) m) (BLOCK_WINDOWS * b + (place + (count - 1))) ≡ Some last → take (2 * low + 2) w ≡ take (2 * low + 2) last
@@ -185,7 +187,7 @@ later_window m low b place count first w last later some at' begins own same nex
     let alike = subst (λ k. take k later ≡ take k last) front same in
     (subst (λ k. slice_get (windows (2 * (low + 1) + 1) m) k ≡ Some later) sum follows, alike ∙ sym begins ∙ own)
 
--- the parts of the first windows of a block, where only later items were written
+-- the parts of the first windows of a block, after later items were written
 pub still_hold :
     (plan : ProgramForIds) (low b place most : ℕ) (left : ℕ) (own : List ℕ) (old now : PartColumns) → HoldParts plan low b place old
     → AreWritten ℕ 0 old.from_left.items now.from_left.items place most (λ _. left)
