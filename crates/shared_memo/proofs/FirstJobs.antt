@@ -1,4 +1,4 @@
--- The jobs of a level follow one another, from its first block on.
+-- The jobs of a level are consecutive, from its first block on.
 use Rattle.std.proofs.Common.{◌≡◌, ℕ, zero, suc, ◌+◌, ◌<◌, ◌≤◌, List, [], ◌∷◌, ◌++◌, flat_map, length, slice_get, Some, refl, ◌∙◌, ap, arith}
 use Rattle.std.specs.List.{range_with_len}
 use Rattle.std.proofs.lemmas.Option.{slice_get-get_or}
@@ -18,7 +18,7 @@ slice_get-append_right (x ∷ xs) ys n i e =
     let more : n ≡ suc (length xs + i) = omega arith in
     rw more (slice_get-append_right xs ys (length xs + i) i refl)
 
--- how many blocks the k levels from level a on have
+-- the number of blocks of the k levels from level a on
 abbrev pub blocks_from : ℕ → ℕ → ℕ → ℕ
 blocks_from m a zero = 0
 blocks_from m a (suc k) = block_count m a + blocks_from m (a + 1) k

@@ -1,4 +1,4 @@
--- What a pass knows after one entry was changed.
+-- What a pass knows after one of its entries changed.
 use Rattle.std.proofs.Common.{◌≡◌, ◌≢◌, ℕ, ◌+◌, ◌<◌, ◌≤◌, List, map, length, get_or, set, None, Some, ◌↔◌, ◌⊎◌, inl, inr, ⊎_elim, refl, sym, ap, ◌∙◌, subst, arith, get_or-set_same, get_or-set_other}
 use Rattle.std.specs.Prelude.{Option}
 use mathlib.Core.Logic.{dite}
@@ -17,7 +17,7 @@ use Rattle.shared_memo.specs.PlanJobs.{job_of, IsKeyedBlock}
 use Rattle.shared_memo.specs.Known.{known_of, known_in, known_job, known_by, IsBlockOf, AllInPlace, cells_of}
 use Rattle.shared_memo.specs.Passes.{LearnsAt, KnowsSame, IsJoined}
 
--- the entry at a place
+-- the entry at an index
 abbrev pub IsAt : List Entry → ℕ → Entry → Type 0
 IsAt es at e = (at < length es) × (e ≡ get_or es at e)
 
@@ -44,7 +44,7 @@ grows_set es at d e h kept k b is = dite (ℕ_discrete k at)
     (λ here. ap (known_in (set es at e)) here ∙ known_set_here es at e h.0 ∙ kept b (sym (known_here es at d h) ∙ ap (known_in es) (sym here) ∙ is))
     (λ apart. known_set_else es at k e apart ∙ is)
 
--- and nothing else is learned elsewhere
+-- and nothing is learned elsewhere
 pub else_set : (es : List Entry) (at : ℕ) (e : Entry) (k : ℕ) (b : MadeBlock) → known_in (set es at e) k ≡ Some b → (k ≡ at) ⊎ (known_in es k ≡ Some b)
 else_set es at e k b is = dite (ℕ_discrete k at) (λ here. inl here) (λ apart. inr (sym (known_set_else es at k e apart) ∙ is))
 
@@ -54,18 +54,18 @@ Cell = OnceBox MadeBlock
 pub as_long : (es : List Entry) (cs : List Cell) → cells_of es ≡ map cell_name cs → length es ≡ length cs
 as_long es cs same = sym (length-map es (λ (e : Entry). e.note.cell)) ∙ ap length same ∙ length-map cs cell_name
 
--- the note at a place is of the cell at that place
+-- the record at an index is of the cell at that index
 pub cell_at : (es : List Entry) (cs : List Cell) (at : ℕ) (e : Entry) (x : Cell) → cells_of es ≡ map cell_name cs → IsAt es at e → x ≡ get_or cs at x → e.note.cell ≡ cell_name x
 cell_at es cs at e x same h is =
     let long = as_long es cs same in
     let below : at < length cs = let l = h.0 in omega arith in
     ap (λ (y : Entry). y.note.cell) h.1 ∙ sym (get_or-map (λ (y : Entry). y.note.cell) es at e 0 h.0) ∙ ap (λ (l : List ℕ). get_or l at 0) same ∙ get_or-map cell_name cs at x 0 below ∙ ap cell_name (sym is)
 
--- a job stands at its number and nowhere else
+-- each job is at its number and nowhere else
 abbrev pub StandAtNumbers : Type 0
 StandAtNumbers = (m t level block n : ℕ) → (job_number m t level block ≡ Some n) ↔ (slice_get (jobs_of m t) n ≡ Some (level, block))
 
--- two keys of one job are one
+-- two keys with the same job are equal
 one_key : (p : ProgramForIds) (level number r b job : ℕ) → StandAtNumbers → job_of p level number ≡ Some job → job_of p r b ≡ Some job → (r ≡ level) × (b ≡ number)
 one_key p level number r b job law here there =
     let t : ℕ = length p.program.steps in
@@ -79,7 +79,7 @@ to_key p q level number at b law same is place =
     let parts = one_key q level number b.level b.number at law is (ap (λ (x : ProgramForIds). job_of x b.level b.number) (sym same) ∙ place.1) in
     (place.0 ∙ same, parts.0, parts.1)
 
--- what is known at a place is the block of its level and number
+-- the block known at an index is that of its level and number
 pub right_at : (p q : ProgramForIds) (es : List Entry) (level number at : ℕ) (e : Entry) → StandAtNumbers → p ≡ q → job_of q level number ≡ Some at → IsAt es at e → AllInPlace p es → (b : MadeBlock) → known_of e ≡ Some b → IsKeyedBlock q level number b
 right_at p q es level number at e law same job h keeps b is = to_key p q level number at b law same job (keeps at b (known_here es at e h ∙ is))
 
@@ -92,7 +92,7 @@ in_range es cs n at same whole below = let p = as_long es cs same in omega arith
 some_is : (b d : MadeBlock) → Some b ≡ Some d → b ≡ d
 some_is b d e = cc
 
--- what is known at a place after a put is the block of that place
+-- the block known at an index after a put is that of the index
 pub right_put : (p q : ProgramForIds) (es : List Entry) (at : ℕ) (d e : Entry) (x : MadeBlock) → p ≡ q → job_of q x.level x.number ≡ Some at → x.plan ≡ q → IsAt es at d → AllInPlace p es
     → (known_of e ≡ known_of d) ⊎ (known_of e ≡ Some x) → (b : MadeBlock) → known_of e ≡ Some b → IsBlockOf p at b
 right_put p q es at d e x same job plan h keeps only b is =
@@ -105,7 +105,7 @@ same_set es at d e h is k = dite (ℕ_discrete k at)
     (λ here. ap (known_in (set es at e)) here ∙ known_set_here es at e h.0 ∙ is ∙ sym (known_here es at d h) ∙ ap (known_in es) (sym here))
     (λ apart. known_set_else es at k e apart)
 
--- two notes of one place are of one cell
+-- two records of one index are of the same cell
 pub cells_agree : (es fs : List Entry) (cs : List Cell) (at : ℕ) (d f : Entry) → cells_of es ≡ map cell_name cs → cells_of fs ≡ map cell_name cs → IsAt es at d → IsAt fs at f → d.note.cell ≡ f.note.cell
 cells_agree es fs cs at d f a b h j =
     ap (λ (y : Entry). y.note.cell) h.1 ∙ sym (get_or-map (λ (y : Entry). y.note.cell) es at d 0 h.0) ∙ ap (λ (l : List ℕ). get_or l at 0) (a ∙ sym b) ∙ get_or-map (λ (y : Entry). y.note.cell) fs at f 0 j.0 ∙ ap (λ (y : Entry). y.note.cell) (sym j.1)
@@ -136,7 +136,7 @@ only_set es fs at d f e E F h j same only before k b is = dite (ℕ_discrete k a
 pub known_past : (es : List Entry) (k : ℕ) (b : MadeBlock) → length es ≤ k → known_in es k ≡ Some b → ⊥
 known_past es k b past is = let n : length (map known_of es) ≡ length es = length-map es known_of in let e : known_in es k ≡ None = get_or_past (map known_of es) k None (omega arith) in cc
 
--- by level and number, from places
+-- by level and number, from indices
 kept_by : (es fs : List Entry) (o : Option ℕ) → ((k : ℕ) (b : MadeBlock) → known_in es k ≡ Some b → known_in fs k ≡ Some b) → (b : MadeBlock) → known_job es o ≡ Some b → known_job fs o ≡ Some b
 kept_by es fs None kept b e = e
 kept_by es fs (Some k) kept b e = kept k b e
@@ -181,7 +181,7 @@ is_joined p q r es fs gs same third first second only =
       only = λ l n b e. either_by es fs gs (job_of p l n) only b e;
     }))
 
--- what is known at the key of a place
+-- the block known at the key of an index
 pub at_key : (p q : ProgramForIds) (es : List Entry) (level number at : ℕ) → p ≡ q → job_of q level number ≡ Some at → known_by p es level number ≡ known_in es at
 at_key p q es level number at same job = ap (known_job es) (ap (λ (x : ProgramForIds). job_of x level number) same ∙ job)
 
