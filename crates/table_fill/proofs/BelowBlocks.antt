@@ -1,4 +1,4 @@
--- A block below a block is one of its level.
+-- A block below a block is one of the level below.
 use Rattle.std.proofs.Common.{ℕ, ◌+◌, ◌*◌, ◌<◌, ◌≤◌, List, length, arith}
 use Rattle.std.proofs.lemmas.Option.{slice_get_within}
 use Rattle.lang_check.specs.Plans.{ProgramForIds}
@@ -22,7 +22,7 @@ below_is_block m level number low c window below =
     let lt = slice_get_within (windows k m) below.number list there in
     omega (arith, below.block_is, lt)
 
--- a block that is missing where a block of a level is made is one of a lower level
+-- a block that is missing for a block of a level is one of a lower level
 pub missing_is_block :
     WindowOfNumber → (plan : ProgramForIds) (entries : Entries) (level number : ℕ) (fault : MakeFault) → level ≤ length plan.program.steps
     → IsMakeFault entries plan.ids level number fault → IsMissingBlock plan level fault

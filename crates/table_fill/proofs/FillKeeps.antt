@@ -1,4 +1,4 @@
--- Each event keeps what holds of the fill machine, its plan and its number of workers.
+-- Each event keeps the invariant of the fill machine, its plan and its number of workers.
 use Rattle.std.proofs.Common.{◌≡◌, ◌≢◌, ℕ, ◌+◌, ◌<◌, ◌≤◌, ◌⊎◌, Bool, true, false, cond, eqb, Option, None, Some, IsSome, List, [], ◌∷◌, ◌++◌, length, get_or, set, replicate, refl, sym, ap, ◌∙◌, subst, inl, inr, ⊎_elim, arith, length-set, get_or-set_same, get_or-set_other}
 use mathlib.Core.Logic.{dite}
 use native.Mathlib.Decide.{ℕ_discrete}
@@ -21,7 +21,7 @@ is_full cells job = IsSome (get_or cells job None)
 abbrev replaced : Machine → ℕ → Worker → List (Option MadeBlock) → ℕ → Machine
 replaced s w v cells next = record { plan = s.plan; cells = cells; next = next; workers = set s.workers w v }
 
--- what holds of worker w with v in its place, and of all workers of s, holds of all workers then
+-- a property of worker w replaced by v, and of all workers of s, holds of all workers after the replacement
 each_worker :
     (P : ℕ → Worker → Type 0) (l : List Worker) (w : ℕ) (v : Worker) → w < length l → P w v → ((u : ℕ) → P u (get_or l u nobody))
     → (u : ℕ) → P u (get_or (set l w v) u nobody)
@@ -141,7 +141,7 @@ follows_stopped s w h can done =
       ended = λ e. (done, can.free);
     })
 
--- what was put down
+-- the job that was dropped
 put_down_was : (job j : ℕ) (o : Option ℕ) → put_down job o ≡ Some j → o ≡ Some j
 put_down_was job j None e = e
 put_down_was job j (Some other) e = was (eqb other job) e
@@ -158,7 +158,7 @@ put_down_or job j (Some other) e = either (eqb other job) refl
     either true is = inr (sym (same_Some other j e) ∙ eqb-true other job is)
     either false is = inl e
 
--- a worker knows one job more, whose cell is full then
+-- a worker knows one more job, whose cell is full then
 follows_learned :
     (s : Machine) (w job : ℕ) (cells : List (Option MadeBlock)) → IsConsistent s → w < length s.workers → HoldsJobs s.plan cells
     → ((j : ℕ) → is_full s.cells j → is_full cells j) → is_full cells job → Follows s (replaced s w (learned job (worker s w)) cells s.next)
@@ -212,7 +212,7 @@ follows_installed s w level number job law h can =
     (λ j some. dite (ℕ_discrete j job) (λ same. subst (is_full cells) (sym same) full) (λ other. subst (λ (o : Option MadeBlock). IsSome o) (sym (still j other)) some))
     full
 
--- what is equal to what follows, follows
+-- what equals a successor is one
 along : (s t u : Machine) → Follows s t → u ≡ t → Follows s u
 along s t u f e = subst (λ (x : Machine). Follows s x) (sym e) f
 
@@ -236,7 +236,7 @@ runs_follow (e ∷ es) s t law h run =
     let rest = runs_follow es run.0 t law first.consistent run.2 in
     record { plan = rest.plan ∙ first.plan; workers = rest.workers ∙ first.workers; consistent = rest.consistent }
 
--- one event more
+-- one more event
 pub runs_more : (es : List FillEvent) (e : FillEvent) (s m t : Machine) → Runs s es m → Steps m e t → Runs s (es ++ e ∷ []) t
 runs_more [] e s m t is step = (t, subst (λ (x : Machine). Steps x e t) is step, refl)
 runs_more (x ∷ xs) e s m t run step = (run.0, run.1, runs_more xs e run.0 m t run.2 step)
@@ -278,7 +278,7 @@ replay_follows es plan workers t law some run = runs_follow es (opening plan wor
 pub as_many : (plan : ProgramForIds) (workers : ℕ) (t : Machine) → Follows (opening plan workers) t → length t.workers ≡ workers
 as_many plan workers t f = f.workers ∙ length-replicate workers (idle (job_count plan))
 
--- who has something in hand is a worker
+-- a number with a job in hand is that of a worker
 holder : (l : List Worker) (w job : ℕ) → (get_or l w nobody).hand ≡ Some job → w < length l
 holder l w job e =
     ⊎_elim (λ (lt : w < length l). lt) (λ (le : length l ≤ w). absurd (none-some job (ap (λ (v : Worker). v.hand) (sym (get_or_past l w nobody le)) ∙ e)))

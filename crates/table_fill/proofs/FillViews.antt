@@ -1,4 +1,4 @@
--- One worker of a world, and of its machine.
+-- A worker in the code's state and in the machine.
 use Rattle.std.proofs.Common.{◌≡◌, ℕ, ◌<◌, false, Option, None, Some, List, map, length, get_or, set, refl, sym, ap, ◌∙◌, arith}
 use Rattle.std.specs.Prelude.{is_some}
 use Rattle.std.proofs.lemmas.Bool.{false≢true}
@@ -16,7 +16,7 @@ pub seen : (hands : List Hand) (w : ℕ) (h : Hand) → w < length hands → h �
 seen hands w h below is =
     record { inside = omega (arith, below, length-map hands worker_of); is = get_or-map worker_of hands w h nobody below ∙ ap worker_of (sym is) }
 
--- worker w is replaced by what f makes of it
+-- worker w is replaced by f of it
 pub seen_set :
     (hands : List Hand) (w : ℕ) (h new : Hand) (f : Worker → Worker) → Seen hands w h → worker_of new ≡ f (worker_of h)
     → map worker_of (set hands w new) ≡ set (map worker_of hands) w (f (get_or (map worker_of hands) w nobody))

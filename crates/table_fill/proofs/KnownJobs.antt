@@ -15,12 +15,12 @@ some_kept : (was is : Option MadeBlock) → ((b : MadeBlock) → was ≡ Some b 
 some_kept None is kept e = absurd (false≢true e)
 some_kept (Some b) is kept e = ap is_some (kept b refl)
 
--- what is known stays known
+-- known blocks stay known
 still_known : (plan : ProgramForIds) (old new : Entries) (jobs : List ℕ) → Grows old new → AreKnown plan old jobs → AreKnown plan new jobs
 still_known plan old new jobs grows known =
     λ k d below level number at. some_kept (old level number) (new level number) (grows.kept level number) (known k d below level number at)
 
--- one job more is known
+-- one more job is known
 pub known_with :
     (plan : ProgramForIds) (old new : Entries) (jobs : List ℕ) (job : ℕ) → Grows old new → AreKnown plan old jobs
     → ((level number : ℕ) → job_of plan level number ≡ Some job → is_some (new level number) ≡ true) → AreKnown plan new (jobs ++ job ∷ [])

@@ -1,4 +1,4 @@
--- What a source of known cells answers.
+-- The answers of a source of known cells.
 use Rattle.std.proofs.Common.{◌≡◌, ℕ, subst, Bool, true, false, cond, List, Option, Some, None, IsSome, length, get_or, refl, sym, ap, ◌∙◌}
 use Rattle.std.proofs.lemmas.Bool.{false≢true}
 use Rattle.std.proofs.lemmas.Option.{some_pair_parts}
@@ -39,7 +39,7 @@ cond_is : (k : Bool) (o : Option MadeBlock) → IsSome (cond k o None) → k ≡
 cond_is true o some = refl
 cond_is false o some = absurd (false≢true some)
 
--- where the source has each block below, all are marked
+-- if the source has each block below, all are marked
 pub all_below :
     (plan p : ProgramForIds) (cells : List (Option MadeBlock)) (marks : List Bool) (level number : ℕ) → p ≡ plan
     → ((low c : ℕ) → IsBelow plan.ids level number low c → IsSome (known_entries p cells marks low c)) → MarksBelow plan marks level number
@@ -55,7 +55,7 @@ missed cells marks (Some job) full none marked =
     let empty : get_or cells job None ≡ None = sym (ap (λ (k : Bool). cond k (get_or cells job None) None) marked) ∙ none in
     false≢true (subst (λ (o : Option MadeBlock). IsSome o) empty (full job marked))
 
--- a block below that the source misses is not marked
+-- a block below that the source lacks is not marked
 pub missing_below :
     (plan p : ProgramForIds) (cells : List (Option MadeBlock)) (marks : List Bool) (level number low c : ℕ) → p ≡ plan → MarkedAreFull cells marks
     → IsBelow plan.ids level number low c → known_entries p cells marks low c ≡ None → ¬ MarksBelow plan marks level number

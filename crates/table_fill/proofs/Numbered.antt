@@ -6,7 +6,7 @@ use Rattle.std.proofs.Math.Seq.{get_or-append_seam}
 use Rattle.std.proofs.lemmas.Option.{slice_get_within, slice_get-get_or, get_or_from_slice_get}
 use Rattle.table_fill.specs.Workers.{AreNumbered}
 
--- one more with the next number
+-- one more worker, with the next number
 pub numbered_snoc :
     {W : Type 0} (number : W → ℕ) (xs : List W) (w : W) → AreNumbered xs number → number w ≡ length xs → AreNumbered (xs ++ w ∷ []) number
 numbered_snoc {W = W} number xs w before next =

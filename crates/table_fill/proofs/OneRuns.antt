@@ -1,4 +1,4 @@
--- Each event leads to one machine at most.
+-- Each event leads to at most one machine.
 use Rattle.std.proofs.Common.{◌≡◌, ℕ, ◌⊎◌, [], ◌∷◌, sym, subst, ap, ◌∙◌, inl, inr, arith}
 use Rattle.std.proofs.lemmas.Option.{same_Some}
 use Rattle.table_fill.specs.declared.fill_core.event.FillEvent.{FillEvent}
@@ -6,7 +6,7 @@ use Rattle.table_fill.specs.declared.fill_core.event.FillEvent.TheVariants.{Draw
 use Rattle.table_fill.specs.FillMachine.{Machine, CanLook, looked, CanInstall, installed, Steps, Runs}
 use Rattle.table_fill.specs.Laws.{OneRun}
 
--- an event that is enabled for one job at most
+-- an event that is enabled for at most one job
 one_change :
     (s t u : Machine) (Can : ℕ → Type 0) (after : ℕ → Machine) → ((i j : ℕ) → Can i → Can j → i ≡ j)
     → ((job : ℕ) × Can job × (t ≡ after job)) ⊎ (((job : ℕ) → ¬ Can job) × (t ≡ s))

@@ -3,7 +3,7 @@ use Rattle.table_fill.proofs.JoinedEntries.{joined_entries}
 use Rattle.table_fill.proofs.shares.+shares.Goals as goal
 use Rattle.win_index.specs.declared.limits.TheConstants.{BLOCK_WINDOWS}
 
--- The windows after those of whole blocks begin with a block, and after all others there is none.
+-- The windows after those of whole blocks begin a block, and after the last ones there is none.
 pub write_from-returns-clause-entries : goal.write_from-returns-clause-entries
 write_from-returns-clause-entries g t c =
     let both = c.write_both.ensures in
