@@ -1,4 +1,4 @@
--- Which events are enabled, told by the numbers of rounds and of messages alone.
+-- The events that are enabled, from the numbers of rounds and of messages alone.
 use Rattle.std.proofs.Common.{◌≡◌, ℕ, ◌<◌, length, arith, subst, sym, ap}
 use Rattle.ring_core.specs.Segments.{RingSegment}
 use Rattle.ring_core.specs.Machine.{CanSendRight, CanSendLeft, CanAdvance}

@@ -1,4 +1,4 @@
--- Events, by what the code does to the parts.
+-- Events, as the code applies them to the parts.
 use Rattle.std.proofs.Common.{◌≡◌, ℕ, ◌+◌, ◌<◌, length, arith, refl, inl, inr}
 use Rattle.std.proofs.Math.ListN.{set}
 use Rattle.round_eval.specs.Laws.{StretchesAreRows}
@@ -13,7 +13,7 @@ module _ (v : Parts) (kept : FitTogether v) (s : ℕ) where
   abbrev pub after : Progress → Parts
   after new = record v { items = set v.items s new }
 
-  -- a part that may send to the right can do so, in the order of the rounds
+  -- a part that may send to the right does so in the order of the rounds
   pub right_in_order : s < length v.items → MaySendRight (part_at v s) → (part_at v s).rightward ≡ round_at v s
   right_in_order lt may = let step = kept.in_step s lt in omega (arith, may.unsent, step.right_low)
 
@@ -49,7 +49,7 @@ module _ (v : Parts) (kept : FitTogether v) (s : ℕ) where
       → Steps (machine_of v) (Advance s) (machine_of (after new))
   advance_steps new law lt may is = inl (can_advance v kept s lt may, advance_moves v kept s lt new law may is)
 
-  -- what may not move stays
+  -- a part that may not move stays
   pub right_idle : (s < length v.items → ¬ MaySendRight (part_at v s)) → Steps (machine_of v) (SendRight s) (machine_of v)
   right_idle none = inr (λ can. none (is_part v kept s can.is_segment) (may_send_right v kept s can), refl)
 

@@ -1,4 +1,4 @@
--- The parts of a machine fit together after each event.
+-- The parts of a machine stay consistent after each event.
 use Rattle.std.proofs.Common.{◌≡◌, ℕ, ◌+◌, ◌<◌, ◌≤◌, length, arith, refl, sym, ◌∙◌, ap}
 use Rattle.std.proofs.Math.ListN.{set}
 use Rattle.std.proofs.lemmas.List.{length-set}
@@ -7,7 +7,7 @@ use Rattle.ring_core.specs.Machine.{border_before, segment_after}
 use Rattle.ring_core.specs.Parts.{Progress, Parts, IsInStep, FitTogether, MaySendRight, MaySendLeft, no_part, part_at, round_at, at_round}
 use Rattle.ring_core.proofs.Updates.{set_cases}
 
--- new may stand in the place of part s
+-- new may replace part s
 pub record IsNext (v : Parts) (s : ℕ) (new : Progress) : Type 0 where
   pub segment : new.segment ≡ at_round (part_at v s).segment new.segment.round
   pub in_step : IsInStep new

@@ -1,4 +1,4 @@
--- What an enabled event makes of the parts is what it makes of the machine that they are.
+-- The effect of an enabled event on the parts is its effect on their machine.
 use Rattle.std.proofs.Common.{◌≡◌, ◌≢◌, ℕ, ◌+◌, ◌<◌, List, [], ◌∷◌, ◌++◌, map, length, get_or, arith, sym, ◌∙◌, ap}
 use Rattle.std.specs.List.{range_with_len}
 use Rattle.std.proofs.Math.ListN.{set}
@@ -41,7 +41,7 @@ module _ (v : Parts) (kept : FitTogether v) (s : ℕ) (lt : s < length v.items) 
   borders_are : (machine_of replaced).borders ≡ borders_of (set v.items s new) (length v.items)
   borders_are = ap (borders_of (set v.items s new)) (length-set v.items s new)
 
-  -- what a list of messages says is as it was at each part, where new has the same one
+  -- the values of a list of messages are unchanged at each part, if new has the same list
   same_right : rightward_values new ≡ rightward_values (part_at v s) → (k : ℕ)
       → rightward_values (part_at v k) ≡ rightward_values (part_at replaced k)
   same_right same = set_unseen rightward_values v.items s new no_part lt same
@@ -50,7 +50,7 @@ module _ (v : Parts) (kept : FitTogether v) (s : ℕ) (lt : s < length v.items) 
       → leftward_values (part_at v k) ≡ leftward_values (part_at replaced k)
   same_left same = set_unseen leftward_values v.items s new no_part lt same
 
-  -- what segment s sends in its round
+  -- the messages of segment s in its round
   sends_right : (part_at v s).segment.round ≡ (part_at v s).rightward
       → (λ (a : SegmentState). to_right v.plan.program a.round (last_state a)) (segment_at (machine_of v) s)
       ≡ sent_under (rightward_headings (part_at v s).segment (part_at v s).rightward)

@@ -10,7 +10,7 @@ use Rattle.ring_core.proofs.Places.{first_place-grows, first_place-inside, first
 self_mod : (g : ℕ) → 0 < g → g % g ≡ 0
 self_mod g some = ap (λ k. k % g) (omega arith) ∙ add-mod_left g 0 ∙ mod-eq_of_lt some
 
--- what stands before j, in a circle of n
+-- the predecessor of j, modulo n
 before_mod : (n i j : ℕ) → j ≡ i + 1 → j < n → (j + n - 1) % n ≡ i
 before_mod n i j e lt =
     let there : j + n - 1 ≡ n + i = omega arith in
@@ -37,7 +37,7 @@ before_inside g s some = mod-lt (s + g - 1) some
 pub after_inside : (g b : ℕ) → 0 < g → segment_after g b < g
 after_inside g b some = mod-lt (b + 1) some
 
--- one undoes the other
+-- each is the inverse of the other
 pub after_before : (g s : ℕ) → s < g → segment_after g (border_before g s) ≡ s
 after_before g s lt =
     ⊎_elim

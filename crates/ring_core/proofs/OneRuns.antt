@@ -1,11 +1,11 @@
--- Each event leads to one machine at most.
+-- Each event leads to at most one machine.
 use Rattle.std.proofs.Common.{◌≡◌, ◌⊎◌, [], ◌∷◌, sym, subst, ◌∙◌, inl, inr}
 use Rattle.ring_core.specs.declared.machine.event.RingEvent.{RingEvent}
 use Rattle.ring_core.specs.declared.machine.event.RingEvent.TheVariants.{SendRight, SendLeft, Advance}
 use Rattle.ring_core.specs.Machine.{Machine, CanSendRight, sent_right, CanSendLeft, sent_left, CanAdvance, advanced, Steps, Runs}
 use Rattle.ring_core.specs.Laws.{OneRun}
 
--- an event that changes the machine where it is enabled, and nowhere else
+-- an event that changes the machine if it is enabled, and else does not
 one_change :
     (m t u after : Machine) (Can : Type 0) → (Can × (t ≡ after)) ⊎ ((¬ Can) × (t ≡ m))
     → (Can × (u ≡ after)) ⊎ ((¬ Can) × (u ≡ m)) → t ≡ u

@@ -1,4 +1,4 @@
--- The places of segments, one segment's after another's.
+-- The places of segments, in the order of the segments.
 use Rattle.std.proofs.Common.{◌≡◌, ℕ, ◌+◌, ◌*◌, ◌/◌, ◌<◌, ◌≤◌, arith, ⊎_elim}
 use Rattle.std.proofs.Math.Nat.{mul-div_cancel_left, div-le_of_le-mul}
 use Rattle.std.proofs.lemmas.Nat.{mul-le, div-add-mod'}
@@ -6,7 +6,7 @@ use Rattle.std.proofs.lemmas.Bool.{cases_lt}
 use Rattle.ring_core.specs.SegmentPlaces.{first_place}
 use Rattle.ring_core.specs.Laws.{SegmentsCoverTheRing}
 
--- each segment has a place, where there are not more segments than places
+-- each segment has a place if there are at most as many segments as places
 pub first_place-grows : (n g s : ℕ) → 0 < g → g ≤ n → first_place n g s < first_place n g (s + 1)
 unfolding first_place
 first_place-grows n g s some few =
@@ -30,7 +30,7 @@ pub first_place-none : (n g : ℕ) → first_place n g 0 ≡ 0
 unfolding first_place
 first_place-none n g = grind arith
 
--- no segment goes past the ring
+-- no segment goes beyond the ring
 pub first_place-inside : (n g s : ℕ) → s ≤ g → first_place n g s ≤ n
 unfolding first_place
 first_place-inside n g s le =

@@ -1,4 +1,4 @@
--- What the readers of a machine tell, and what holds of it.
+-- The accessors of a machine, and its invariant.
 use Rattle.std.proofs.Common.{◌≡◌, ℕ, ◌+◌, ◌<◌, suc, List, [], ◌∷◌, map, length, Option, None, Some, IfNone, slice_get, slice_index, arith, refl, subst, sym, ◌∙◌, ap}
 use Rattle.std.specs.List.{range_with_len}
 use Rattle.std.proofs.lemmas.List.FromFn.{length-map-range_with_len, fill_by_all}
@@ -17,12 +17,12 @@ use Rattle.ring_core.specs.Parts.{Parts, FitTogether, AreInOrder, part_at, round
 use Rattle.ring_core.proofs.Neighbours.{before_inside, after_inside, before_after}
 use Rattle.ring_core.proofs.Views.{value_at, plain, count_is, plain_is, round_is, left_needed, right_needed, own_rightward, own_right_size, came_leftward, came_left_size}
 
--- what holds where there is no message
+-- the case without a message
 pub if_none : {T : Type 0} (o : Option T) (P Q : Type 0) → (P → Q) → IfNone o P → IfNone o Q
 if_none None P Q then p = then p
 if_none (Some x) P Q then p = tt
 
--- messages in order have the values under their headings
+-- messages in order have the values of their headings
 values_from :
     (heading : ℕ → Heading) (first : ℕ) (messages : List Msg)
     → ((k : ℕ) (m : Msg) → slice_get messages k ≡ Some m → heading_of m ≡ heading (first + k))
@@ -68,7 +68,7 @@ module _ (v : Parts) (kept : FitTogether v) where
       let lt = is_part s below in
       states_are s lt ∙ ap states_of (sym (now_is s lt))
 
-  -- the headings of what stands at a border
+  -- the headings of the messages at a border
   pub right_heading : (b k : ℕ) → b < length v.items
       → rightward_headings (part_at v b).segment k ≡ heading_at (machine_of v) b Rightward k
   right_heading b k lt =
@@ -119,7 +119,7 @@ module _ (v : Parts) (kept : FitTogether v) where
             omega (arith, round_is v kept s lt, after_round s, came, ap (λ k. (part_at v k).rightward) (before_after g s lt), here.right_high);
       }
 
-  -- what its neighbours send in a round is what a segment needs in it
+  -- the messages of a segment's neighbours in a round are those that it needs
   pub left_beside : (s r : ℕ) → s < length v.items
       → to_the_right (segment_after_rounds (machine_of v) (border_before (length (machine_of v).segments) s) r)
       ≡ from_left (segment_after_rounds (machine_of v) s r)
@@ -144,7 +144,7 @@ module _ (v : Parts) (kept : FitTogether v) where
 pub same_border : (m : Machine) (s : ℕ) → s < length m.segments → left_border m (segment_after (length m.segments) s) ≡ right_border m s
 same_border m s lt = ap (border_at m) (before_after (length m.segments) s lt)
 
--- the registers that a segment lends, as the machine has them
+-- the registers that a segment lends are those of the machine
 pub rows_are :
     (m : Machine) (s : ℕ) (a : RingSegment) (cells : List ℕ) → HasGlobalStates m → s < length m.segments
     → a ≡ segment_after_rounds m s (segment_at m s).round
@@ -154,7 +154,7 @@ rows_are m s a cells global lt is held =
     ap (λ n. rows (length m.plan.program.start) n cells) (places_are m s global lt)
     ∙ subst (λ (b : RingSegment). rows (length b.plan.program.start) (places_of b) cells ≡ states_of b) is held ∙ sym (global s lt)
 
--- messages in order have the values that stand at their border
+-- messages in order have the values at their border
 pub values_are :
     (m : Machine) (b : ℕ) (side : Side) (messages : List Msg) → HasGlobalMessages m → b < length m.segments
     → length messages ≡ length (sent_at m b side) → AreInOrder (heading_at m b side) messages

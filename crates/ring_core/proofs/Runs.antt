@@ -5,7 +5,7 @@ use Rattle.ring_core.specs.declared.machine.event.RingEvent.{RingEvent}
 use Rattle.ring_core.specs.declared.machine.event.RingEvent.TheVariants.{SendRight, SendLeft, Advance}
 use Rattle.ring_core.specs.Machine.{Machine, Steps, Runs}
 
--- a run, and one event more
+-- a run, and one more event
 pub run_more :
     (m u t : Machine) (events : List RingEvent) (e : RingEvent) → Runs m events u → Steps u e t → Runs m (events ++ e ∷ []) t
 run_more m u t [] e run step = (t, subst (λ (n : Machine). Steps n e t) run step, refl)
@@ -17,7 +17,7 @@ pub record IsSameRing (m t : Machine) : Type 0 where
   pub ring : t.ring ≡ m.ring
   pub segments : length t.segments ≡ length m.segments
 
--- a change that leaves these is one of the same ring, and so is no change
+-- a change that keeps these is a change of the same ring, and so is no change
 changed :
     (m t after : Machine) (Can : Type 0) → IsSameRing m after → (Can × (t ≡ after)) ⊎ ((¬ Can) × (t ≡ m)) → IsSameRing m t
 changed m t after Can same (inl a) = subst (IsSameRing m) (sym a.1) same

@@ -10,7 +10,7 @@ use Rattle.round_eval.specs.Rows.{rows, row_after, stretch}
 use Rattle.round_eval.specs.Laws.{StretchesAreRows}
 use Rattle.ring_core.specs.Segments.{RingSegment, KeepsSegment}
 
--- the starts of a range of places are their registers before the first round
+-- the start registers of a range of places are their registers before the first round
 pub start_stretch :
     (p : ProgramTree) (x : List ℕ) (first end : ℕ) → first ≤ end → end ≤ length x
     → map (start p) (slice_range x first end) ≡ stretch p x 0 first (end - first)
@@ -31,7 +31,7 @@ pub row_of_stretch :
 row_of_stretch p x r first count j i held own is lt place row =
     sym row ∙ ap (λ u. get_or u j []) is ∙ get_or-map-range_with_len (state p x r) first count j i [] lt place
 
--- what a segment keeps through a round, by the messages that it needs
+-- a segment stays right through a round with the messages that it needs
 pub advance_keeps :
     StretchesAreRows → (s : RingSegment) (first end spare used left right : ℕ) (cells after : List ℕ) → KeepsSegment s first end spare cells
     → s.round < length s.plan.program.steps → used ≡ length cells → length after ≡ length cells

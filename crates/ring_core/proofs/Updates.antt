@@ -17,14 +17,14 @@ set_cases all s k y d P lt here other =
     (λ (ne : k ≡ s → ⊥). subst P (sym (get_or-set_other all s k y d ne)) (other ne))
     (cases_eq k s)
 
--- what cannot tell the new element from the old one is as it was at each
+-- a function that does not tell the new element from the old one is unchanged at each
 pub set_unseen :
     {X Y : Type 0} (f : X → Y) (all : List X) (s : ℕ) (y d : X) → s < length all → f y ≡ f (get_or all s d)
     → (k : ℕ) → f (get_or all k d) ≡ f (get_or (set all s y) k d)
 set_unseen f all s y d lt same k =
     set_cases all s k y d (λ x. f (get_or all k d) ≡ f x) lt (λ at. ap (λ j. f (get_or all j d)) at ∙ sym same) (λ _. refl)
 
--- a list that is made from a function of the index
+-- a list made from a function of the index
 pub set_made :
     {X : Type 0} (f h : ℕ → X) (n i : ℕ) (y d : X) → i < n → y ≡ h i → ((k : ℕ) → k ≢ i → k < n → f k ≡ h k)
     → set (map f (range_with_len 0 n)) i y ≡ map h (range_with_len 0 n)

@@ -1,4 +1,4 @@
--- What stands in the machine that parts are: each segment, and each border.
+-- The machine of parts: each segment, and each border.
 use Rattle.std.proofs.Common.{◌≡◌, ℕ, ◌+◌, ◌-◌, ◌<◌, ◌≤◌, [], length, get_or, arith, ◌∙◌, ap}
 use Rattle.std.proofs.lemmas.List.{get_or-map, length-map}
 use Rattle.std.proofs.lemmas.List.FromFn.{length-map-range_with_len, get_or-map-range_with_len}
@@ -14,7 +14,7 @@ use Rattle.ring_core.specs.Parts.{Progress, Parts, FitTogether, no_part, part_at
 use Rattle.ring_core.proofs.Places.{first_place-grows, first_place-inside}
 use Rattle.ring_core.proofs.Neighbours.{before_inside, after_inside, after_before, left_end, right_end}
 
--- the values under so many headings
+-- the values of these headings
 pub values_size : (heading : ℕ → Heading) (count : ℕ) → length (values_under heading count) ≡ count
 values_size heading count = length-map-range_with_len (λ k. sent_under (heading k)) 0 count
 
@@ -22,7 +22,7 @@ pub value_at :
     (heading : ℕ → Heading) (count k : ℕ) → k < count → get_or (values_under heading count) k 0 ≡ sent_under (heading k)
 value_at heading count k lt = get_or-map-range_with_len (λ j. sent_under (heading j)) 0 count k k 0 lt (omega arith)
 
--- what the ends of a segment send
+-- the messages of a segment's ends
 pub right_message :
     (a : RingSegment) → 0 < places_of a
     → to_right a.plan.program a.round (last_state (segment_state a)) ≡ sent_under (to_the_right a)
@@ -56,7 +56,7 @@ module _ (v : Parts) (kept : FitTogether v) where
       let end = first_place-inside (length v.ring.places) (length v.items) (s + 1) (omega arith) in
       omega arith
 
-  -- what its neighbours send to a part is what it needs
+  -- the messages of a part's neighbours are those that it needs
   pub left_needed : (s r : ℕ) → s < length v.items
       → rightward_headings (part_at v (border_before (length v.items) s)).segment r ≡ from_left (plain s r)
   left_needed s r lt =
@@ -114,7 +114,7 @@ module _ (v : Parts) (kept : FitTogether v) where
   pub own_rightward : (s : ℕ) → s < length v.items → (right_border (machine_of v) s).rightward ≡ rightward_values (part_at v s)
   own_rightward s lt = ap (λ (b : BorderState). b.rightward) (border_is s lt)
 
-  -- what has come to a part
+  -- the messages that came to a part
   pub came_rightward : (s : ℕ) → s < length v.items
       → (left_border (machine_of v) s).rightward ≡ rightward_values (part_at v (border_before (length v.items) s))
   came_rightward s lt = ap (λ (b : BorderState). b.rightward) (left_border_is s lt)
@@ -123,7 +123,7 @@ module _ (v : Parts) (kept : FitTogether v) where
       → (right_border (machine_of v) s).leftward ≡ leftward_values (part_at v (segment_after (length v.items) s))
   came_leftward s lt = ap (λ (b : BorderState). b.leftward) (border_is s lt)
 
-  -- how many messages these are
+  -- their number
   pub own_right_size : (s : ℕ) → s < length v.items → length (right_border (machine_of v) s).rightward ≡ (part_at v s).rightward
   own_right_size s lt = ap length (own_rightward s lt) ∙ values_size (rightward_headings (part_at v s).segment) (part_at v s).rightward
 
