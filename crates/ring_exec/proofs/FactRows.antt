@@ -1,4 +1,4 @@
--- The facts that a call asks, in a row, and as one tuple.
+-- The facts that a call asks for, in a row and as one tuple.
 use Rattle.ring_exec.proofs.Steps.{List, [], ◌∷◌, id⊢}
 use seplogic.Ra.Ura.{Ura}
 use base.Logic.{SProp, ent, via, sep, emp, emp∗, mono_l, mono∗, comm∗, fst∗, snd∗}
@@ -10,7 +10,7 @@ tuple [] = Unit {0}
 tuple (φ ∷ φs) = φ × tuple φs
 
 module _ {M : Type 1} (𝓤 : Ura M) where
-  -- the facts of a list, one beside the other, as a contract's `requires` has them
+  -- the facts of a list side by side, as a contract's `requires` has them
   abbrev pub facts : List (Type 0) → SProp 𝓤
   facts [] = emp 𝓤
   facts (φ ∷ []) = fact 𝓤 φ
@@ -31,6 +31,6 @@ module _ {M : Type 1} (𝓤 : Ura M) where
   shown (φ ∷ ψ ∷ φs) t =
       via 𝓤 (sep 𝓤 (emp 𝓤) (emp 𝓤)) (emp∗ 𝓤 (emp 𝓤)) (mono∗ 𝓤 (fact_i 𝓤 φ (emp 𝓤) t.0) (shown (ψ ∷ φs) t.1))
 
-  -- facts beside what there is
+  -- facts beside those that there are
   pub beside : (P Q : SProp 𝓤) → ent 𝓤 (emp 𝓤) Q → ent 𝓤 P (sep 𝓤 P Q)
   beside P Q x = via 𝓤 (sep 𝓤 (emp 𝓤) P) (emp∗ 𝓤 P) (via 𝓤 (sep 𝓤 Q P) (mono_l 𝓤 P x) (comm∗ 𝓤 Q P))

@@ -3,7 +3,7 @@ use Rattle.node_lang.specs.GlobalRounds.{channel_at}
 use Rattle.ring_core.specs.SegmentPlaces.{first_place}
 use Rattle.ring_exec.proofs.gathering.gather.Given as goal
 
--- the channels of the segments so far stand
+-- the channels of the segments so far are written
 abbrev pub invariant-loop-index : goal.invariant-loop-index
 invariant-loop-index l =
     record {

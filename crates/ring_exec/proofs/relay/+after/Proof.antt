@@ -74,7 +74,7 @@ use lib.WfN.{lt-wf_rel}
 apart : (a b : ℕ) → T (not (eqb a b)) → a ≡ b → ⊥
 apart a b t e = T_not (eqb a b) t (subst (λ (k : ℕ). T (eqb a k)) e (eqb_refl a))
 
--- what follows the first statement
+-- the rest after the first statement
 abbrev rest : Body → Body
 rest (seq a b) = b
 rest b = skip
@@ -83,7 +83,7 @@ rest b = skip
 abbrev five : List Kind
 five = a_type ∷ a_type ∷ a_type ∷ a_type ∷ a_type ∷ []
 
--- whether a type may go to another thread does not depend on which parameter it stands for
+-- whether a type may be sent to another thread does not depend on its parameter
 send_as : (i j : ℕ) (X : RattleType) → IsSend (param i X) → IsSend (param j X)
 send_as i j X s = record { owned = s.owned; leaving = λ k. s.leaving (λ ℓ. k (of_param j)) }
 
@@ -106,7 +106,7 @@ record Over : Type 2 where
   N-ghosts : BorderName.Ghosts N.Denot
   N-dict : Dict
 
--- `Brand`, as what is given for a parameter
+-- `Brand`, as the argument of a parameter
 abbrev fresh : RattleType
 fresh = arg (ty_struct [] tnil) no marker.the_row
 
@@ -154,7 +154,7 @@ asked R G o κs bs =
     ∷ (bs.left.name ≡ o.N-ghosts.leftward × bs.left.parts ≡ 1)
     ∷ []
 
--- what the inner call asks follows from what the outer one asks, and from the parts of the new blanks
+-- the requirements of the inner call follow from those of the outer call, and from the parts of the new blanks
 asked_inside : (R G : RattleType) (o : Over) (κs : Lfts 9) (bs new : blanks.the_row.Denot) → (new.right.parts ≡ 1 × new.left.parts ≡ 1)
     → tuple (asked R G o κs bs) → tuple (asked R G (inner o new) (turned κs) new)
 asked_inside R G o κs bs new ones (r, (g, (b, (l, (n, (send_b, (send_l, (send_n, (sync_r, (sync_g, (sync_b, (sync_l, (sync_n, named))))))))))))) = (
@@ -193,7 +193,7 @@ module _ {M : Type 1} (𝓤 : Ura M) (𝓛 : Logic 𝓤) (𝓜 : Model 𝓤 𝓛
     (R G : RattleType) (RL : Laws R) (GL : Laws G) (RT : Threads.Ghosts R.Denot) (RTd : Dict) (RW : Wait.Ghosts R.Denot) (RWd : Dict) (GG : Gate.Ghosts G.Denot) (GGd : Dict)
     (mT : threads_bound.Met 𝓛 𝓜 𝓡 𝓡.env R RT RTd) (mW : wait_bound.Met 𝓛 𝓜 𝓡 𝓡.env R RW RWd)
     (mG : Anywhere₂ 𝓛 𝓜 𝓡 𝓡.env (λ 𝓤 𝓛 𝓜 𝓡 γ. gate_bound.Met 𝓛 𝓜 𝓡 γ G GG GGd)) where
-  -- what is to be proved, at any border names
+  -- the statement to be proved, at any border names
   abbrev stated : Stated 𝓤
   stated =
       record {
@@ -221,7 +221,7 @@ module _ {M : Type 1} (𝓤 : Ura M) (𝓛 : Logic 𝓤) (𝓜 : Model 𝓤 𝓛
       ∷ raw (𝓛.A.lft κs.1.1.1.1.1.1.1.0 qs.1.1.1.1.1.1.1.0) ∷ raw (𝓛.A.lft κs.1.1.1.1.1.1.1.1.0 qs.1.1.1.1.1.1.1.1.0) ∷ raw (emp 𝓤) ∷ []) ∵
       move ! (0 ∷ 1 ∷ 2 ∷ 3 ∷ 4 ∷ 5 ∷ 8 ∷ 7 ∷ 6 ∷ []) $ group ! 10 $ done !
 
-  -- a parameter that is moved away is said nothing of
+  -- of a parameter that is moved away nothing is said
   goes_quiet : (s : Slot 9) (k : Kept) → ((κs : Lfts 9) → Mute ((s.row κs).exit k)) → Goes 𝓛 9 s k (stay_dropped s k)
   goes_quiet s k m κs x w vs ok =
       subst⁻¹ (λ (w : Last ((s.row κs).exit k) x). ent 𝓤 (emp 𝓤) (𝓛.H.⇛ (sem 𝓛 (left ((s.row κs).exit k) x w)))) ((m κs).once x w)
@@ -250,14 +250,14 @@ module _ {M : Type 1} (𝓤 : Ura M) (𝓛 : Logic 𝓤) (𝓜 : Model 𝓤 𝓛
     begin_ended = begin.ended R G o.B o.L o.N RT RTd RW RWd GG GGd o.B-ghosts o.B-dict o.L-ghosts o.L-dict o.N-ghosts o.N-dict
 
     module _ (κs : Lfts 9) where
-      -- the stage that is handed in, and its laws
+      -- the stage that is passed in, and its laws
       abbrev Before : RattleType
       Before = stage.the_row (named_lft 9 0 tt κs) (named_lft 9 1 tt κs) (named_lft 9 2 tt κs) (named_lft 9 3 tt κs) (param 0 R) (param 1 G) (param 2 o.B) (param 3 o.L) o.B-ghosts o.L-ghosts
 
       abbrev before_laws : Laws Before
       before_laws = stage_laws.the_row_laws (named_lft 9 0 tt κs) (named_lft 9 1 tt κs) (named_lft 9 2 tt κs) (named_lft 9 3 tt κs) (param 0 R) (param 1 G) (param 2 o.B) (param 3 o.L) o.B-ghosts o.L-ghosts (param_laws 0 R RL) (param_laws 1 G GL) (param_laws 2 o.B o.B-laws) (param_laws 3 o.L o.L-laws)
 
-      -- it is said nothing of: field by field of a stage (scope, course) and of a course (shared, index, before, last,
+      -- nothing is said of it: field by field of a stage (scope, course) and of a course (shared, index, before, last,
       -- waiting, threads, joined)
       quiet_before : Mute (Before.exit no)
       quiet_before =
@@ -278,7 +278,7 @@ module _ {M : Type 1} (𝓤 : Ura M) (𝓛 : Logic 𝓤) (𝓜 : Model 𝓤 𝓛
             ),
           )
 
-      -- the stage that `begin` gives, and its laws
+      -- the stage that `begin` returns, and its laws
       abbrev Next : RattleType
       Next = stage.the_row (named_lft 9 0 tt κs) (named_lft 9 1 tt κs) (named_lft 9 2 tt κs) (named_lft 9 3 tt κs) (param 0 R) (param 1 G) (param 4 o.N) (param 3 o.L) o.N-ghosts o.L-ghosts
 
@@ -299,7 +299,7 @@ module _ {M : Type 1} (𝓤 : Ura M) (𝓛 : Logic 𝓤) (𝓜 : Model 𝓤 𝓛
           Sq 𝓛 (‵ ((Before κs).own_val s ss) ∷ ‵ (blanks.the_row.own_val bs cs) ∷ tokens κs qs ∷ [])
           (prop (WpFn 𝓤 𝓛.H (tables 𝓤 𝓛.H 𝓜 𝓡 𝓡.env).C (tables 𝓤 𝓛.H 𝓜 𝓡 𝓡.env).Λ function (W.args (bound ss ns cs)) (W.post (bound ss ns cs))))
 
-      -- the way out, with the result d
+      -- the exit, with the result d
       out : (v b d : Val) (r : (Joined κs).Denot)
           → Sq 𝓛 (‵ ((Joined κs).own_val r (d ∷ [])) ∷ tokens κs qs ∷ []) (prop (W.post (bound (v ∷ []) (vint w32 n ∷ []) (b ∷ [])) d))
       out v b d r =
@@ -381,7 +381,7 @@ module _ {M : Type 1} (𝓤 : Ura M) (𝓛 : Logic 𝓤) (𝓜 : Model 𝓤 𝓛
           one_value (layout blanks.the_row) (λ ws. Sequent (v ∷ []) (vint w32 n ∷ []) ws) cs ((blanks_laws.the_row_laws.lawful 𝓛).typed bs cs is_b) (λ b b_ok.
           walk v b v_ok b_ok low met below))))))))
 
-  -- a call meets its contract, where those of a lesser count do
+  -- a call meets its contract if calls of a lesser count do
   method : (t : ℕ) → Below 𝓛 grade (λ s. s < t) → grade.At t
   unfolding tables_of
   method t below o y e =
