@@ -1,4 +1,4 @@
--- That the judge's yes, which is about a table, is about the channels of global rounds.
+-- The judge's yes, which is about a table, is about the channels of global rounds.
 use Rattle.std.proofs.Common.{◌≡◌, ℕ, ◌+◌, ◌-◌, ◌*◌, ◌%◌, ◌<◌, ◌≤◌, ◌↔◌, Option, List, length, map, slice_index, Some, arith, subst, sym, ◌∙◌, ap, ⊎_elim}
 use Rattle.std.specs.Int.{abs_diff}
 use Rattle.std.specs.List.{range_with_len}
@@ -15,7 +15,7 @@ use Rattle.nbhd_check.specs.declared.separation.Separation.{Separation}
 use Rattle.nbhd_check.specs.Apart.{AreApart, IsApartEverywhere}
 use Rattle.headline.specs.Headline.{TableAgrees, RunAgrees, ChannelsAreApart}
 
--- places of an arc may be counted from one turn further
+-- places of an arc can be counted from one turn further
 turned : (x : List ℕ) (start count : ℕ) → arc x (length x + start) count ≡ arc x start count
 turned x start count =
     let further : (k : ℕ) → (length x + start + k) % length x ≡ (start + k) % length x = λ k.
@@ -23,7 +23,7 @@ turned x start count =
     ap (λ j. j % length x) sum ∙ add-mod_left (length x) (start + k) in
     λ i. map (λ k. slice_index x (further k i)) (range_with_len 0 count)
 
--- places may be counted on for a turn
+-- places can be counted on for a turn
 window_at : (x : List ℕ) (t place : ℕ) → place < length x + length x → t ≤ length x → window_around x t place ≡ window_around x t (place % length x)
 window_at x t place lt short =
     let n = length x in
@@ -37,7 +37,7 @@ window_at x t place lt short =
     ap (λ j. arc x j (2 * t + 1)) start ∙ turned x (k + n - t) (2 * t + 1) ∙ ap (window_around x t) (sym first))
     (cases_lt place n)
 
--- the right neighbour's right neighbour is two places on
+-- the right neighbour's right neighbour is two places further
 two_right : (x : List ℕ) (i : ℕ) → i < length x → right_of x (right_of x i) ≡ (i + 2) % length x
 two_right x i lt =
     let n = length x in
@@ -53,14 +53,14 @@ two_right x i lt =
     ap (λ k. (k + 1) % n) one ∙ sym (ap (λ k. k % n) further ∙ add-mod_left n 1))
     (cases_lt (i + 1) n)
 
--- what it says of two channels that they are apart
+-- two channels that are apart
 apart_of : (distance : ℕ) (a b : Option ℕ) (c d : ℕ) → a ≡ Some c → b ≡ Some d → AreApart distance a b ↔ (distance ≤ abs_diff c d)
 apart_of distance a b c d first second = (
   λ apart. subst (AreApart distance (Some c)) second (subst (λ o. AreApart distance o b) first apart),
   λ apart. subst (λ o. AreApart distance o b) (sym first) (subst (AreApart distance (Some c)) (sym second) apart),
 )
 
--- the channels of a table that agrees with global rounds are apart everywhere where those of global rounds are, and only there
+-- the channels of a table that agrees with global rounds are apart everywhere if and only if those of global rounds are
 pub good_tables :
     (p : ProgramTree) (m : ℕ) (s : Separation) (table : ChannelTable) → table.ids ≡ m → table.rounds ≡ length p.steps → TableAgrees p m table
     → IsApartEverywhere table s ↔ ChannelsAreApart p m s
