@@ -11,7 +11,7 @@ pub sent_more : (a b c : Option (List ℕ)) (bytes : List ℕ) (n m : ℕ) → A
 sent_more a b c bytes n m first second =
     rw (take-add, ← take_rest bytes n) (Appends-trans a b c _ _ first second)
 
--- what holds holds of an error
+-- a property of an error
 pub on_err : {T E P : Type 0} (r : Result T E) → P → OnErr r P
 on_err (Ok x) p = tt
 on_err (Err e) p = p

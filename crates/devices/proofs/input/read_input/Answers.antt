@@ -5,7 +5,7 @@ use Rattle.std.proofs.lemmas.List.{take-append-le}
 use Rattle.devices.proofs.Known.{on_err}
 use Rattle.devices.proofs.input.read_input.Goals as goal
 
--- The last bytes were taken from the reader, and no memory was there to keep them.
+-- The last bytes were taken from the reader, and there was no memory to keep them.
 pub returns-in_err-extend_from_slice-clause-refused : goal.returns-in_err-extend_from_slice-clause-refused
 returns-in_err-extend_from_slice-clause-refused g c =
     let last = c.in_ok-count.ensures.bytes.0 in

@@ -2,7 +2,7 @@ use Rattle.std.proofs.Common.{rules}
 use Rattle.devices.proofs.Known.{sent_more}
 use Rattle.devices.proofs.output.send.Goals as goal
 
--- What this write took follows what was sent before it.
+-- The bytes taken by this write follow those sent before it.
 pub loop-sent-preserved : goal.loop-sent-preserved
 loop-sent-preserved g c =
     let more = c.in_ok-sent.ensures.bytes in
