@@ -1,4 +1,4 @@
--- A command line of two subcommands, and what the law gives its caller.
+-- A command line of two subcommands, and what the law gives to its caller.
 use Rattle.std.proofs.Common.{◌≡◌, ◌⊎◌, refl, subst, inl, inr, true, List, [], ◌∷◌, Some, None, codes}
 use Rattle.std.specs.Prelude.{pos}
 use Rattle.std.specs.Option.{IsSomeAnd}
@@ -39,17 +39,17 @@ one_of_two name rows (inl (is, (given, rest))) = let value = given refl in inl (
 one_of_two name rows (inr (inl (is, rest))) = inr is
 one_of_two name rows (inr (inr none)) = absurd none
 
--- where clap takes the words, and the subcommand of this name and rows was met, it has its options
+-- if clap accepts the words, and the subcommand of this name and rows was given, it has its options
 options_given : OptionsHaveValues → (words : List Text) (name : Text) (rows : List Row) → fault_of line words ≡ [] → subcommand_of line words ≡ Some (name, rows)
     → AreOptions name rows
 options_given law words name rows taken met =
     one_of_two name rows (subst (λ o. IsSomeAnd o (λ p. IsOneOf line.subs p.0 p.1)) met (law line words line_is taken))
 
--- and a subcommand was met
+-- and a subcommand was given
 some_subcommand : OptionsHaveValues → (words : List Text) → fault_of line words ≡ [] → subcommand_of line words ≡ None → ⊥
 some_subcommand law words taken met = subst (λ o. IsSomeAnd o (λ p. IsOneOf line.subs p.0 p.1)) met (law line words line_is taken)
 
--- there are words that clap takes
+-- there are words that clap accepts
 taken_words : fault_of line (codes "check" ∷ codes "--ids" ∷ codes "8" ∷ []) ≡ []
 unfolding clap_on_literals
 taken_words = refl

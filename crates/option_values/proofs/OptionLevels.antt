@@ -1,4 +1,4 @@
--- At a level of the parse that fails nowhere, each option that is required or has a default has a value.
+-- At a level of the parse without a fault, each option that is required or has a default has a value.
 use Rattle.std.proofs.Common.{◌≡◌, ◌∙◌, ◌<◌, ◌&&◌, ◌||◌, Bool, cond, true, false, not, refl, sym, ap, subst, arith, List, [], ◌∷◌, ◌++◌, length, Option, Some, true≢false}
 use Rattle.std.specs.Prelude.{⊤, option_and_then, option_map, slice_get}
 use Rattle.std.specs.List.{find, fold, list_all, list_any}
@@ -31,7 +31,7 @@ either_false : (a b : Bool) → (a || b) ≡ false → (a ≡ false) × (b ≡ f
 either_false true b e = absurd (true≢false e)
 either_false false b e = (refl, e)
 
--- an argument that is found has an id that an argument has
+-- an argument that is found has the id of some argument
 absent : (a b : Rule) (xs : List Rule) → a.id ≡ b.id → list_any (λ other. bytes_eq a.id other.id) xs ≡ false → arg_by_id xs b.id ≡ Some b → ⊥
 absent a b [] same none found = cc
 absent a b (x ∷ xs) same none found = go (bytes_eq x.id b.id) refl (absent a b xs same parts.1) found
@@ -45,7 +45,7 @@ absent a b (x ∷ xs) same none found = go (bytes_eq x.id b.id) refl (absent a b
         true≢false (sym ((bytes_eq-Decides a.id x.id).1 alike) ∙ parts.0)
     go false is next at = next at
 
--- an argument of another id in front changes nothing
+-- an argument with another id in front changes nothing
 found_behind : (a b : Rule) (rest : List Rule) → list_any (λ other. bytes_eq a.id other.id) rest ≡ false → arg_by_id rest b.id ≡ Some b → arg_by_id (a ∷ rest) b.id ≡ Some b
 found_behind a b rest apart found = go (bytes_eq a.id b.id) refl
   where
@@ -229,7 +229,7 @@ module _ (c : List Rule) (rows : List Row) (good : AreRowsOf c rows) where
       let parts = either_false (a.required && not (is_given a.id rows)) (list_any (λ x. x.required && not (is_given x.id rows)) rest) required in
       (one_value a plain.0 parts.0 defaults.0, each_value rest plain.1 parts.1 defaults.1)
 
--- where a subcommand's level fails nowhere, its options have their values
+-- if a subcommand's level has no fault, its options have their values
 pub level_values : (s : Shape) (words : List Text) → has_plain_options s ≡ true → level_fault s [] nothing_held words false [] ≡ [] → HaveValues s.rules (rows_after s.rules [] words)
 level_values s words options e =
     let plain = plain_options s options in

@@ -32,7 +32,7 @@ abbrev pub AreRowsOf : List Rule → List Row → Type 0
 AreRowsOf c [] = ⊤
 AreRowsOf c (r ∷ rest) = IsRowOf c r × AreRowsOf c rest
 
--- where neither of two steps fails, each passes
+-- if neither of two steps has a fault, each passes
 pub split_or : (a b : Kinds) → or_else a b ≡ [] → (a ≡ []) × (b ≡ [])
 split_or [] b e = (refl, e)
 split_or (k ∷ ks) b e = cc
@@ -82,7 +82,7 @@ module _ (c : List Rule) where
       go true next = h.1
       go false next = (h.0, next)
 
--- a use of an option has a value
+-- an option that is used has a value
 no_values : (least most : ℕ) → nat_lt 0 least ≡ true → range_kinds least most 0 ≡ [] → ⊥
 no_values least most some e = let bad = rw some at e in cc
 

@@ -1,4 +1,4 @@
--- A walk over words that fails nowhere leaves rows whose values are accepted by the parsers of their options.
+-- A walk over words without a fault leaves rows whose values are accepted by the parsers of their options.
 use Rattle.std.proofs.Common.{◌≡◌, ◌&&◌, ℕ, Bool, cond, true, false, not, zero, suc, refl, sym, subst, List, [], ◌∷◌, length, drop, Option, Some, None, is_some}
 use Rattle.std.specs.Prelude.{encode_utf8, slice_get}
 use Rattle.std.specs.List.{fold}
@@ -158,7 +158,7 @@ module _ (s : Shape) (names : Names) (plain_rules : ArePlain s.rules s.rules) wh
           let both = split_or (word_fault s names w.is_trailing w.waiting word w.held) (step_fault s w.position m.0 m.1) f in
           step_good word w m.0 m.1 both.1 (word_good w.is_trailing w.waiting w.position word w.held both.0 good)
 
-  -- the rows after a walk that fails nowhere
+  -- the rows after a walk without a fault
   pub walk_good : (w : Walk) (words : List Text) → walk_fault s names w words ≡ [] → AreRowsOf s.rules w.held.rows → AreRowsOf s.rules (fold (walked s.rules names) w words).held.rows
   unfolding walk_fault
   walk_good w [] e good = good

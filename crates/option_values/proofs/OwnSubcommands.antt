@@ -1,4 +1,4 @@
--- What building makes of a command's own subcommands, and the options of one that a parse entered.
+-- A command's own subcommands after building, and the options of the one that a parse entered.
 use Rattle.std.proofs.Common.{◌≡◌, ◌∙◌, ◌&&◌, ◌||◌, ℕ, Bool, cond, true, false, not, refl, sym, ap, subst, inl, inr, arith, List, [], ◌∷◌, ◌++◌, map, append-nil, append_assoc, Option, Some, None, is_some, true≢false}
 use Rattle.std.specs.Prelude.{option_map, unwrap_or}
 use Rattle.std.specs.List.{find, list_all, list_any}
@@ -59,7 +59,7 @@ values_back i (r ∷ rest) added rows made h =
 
 -- ---- a subcommand as building fills it in
 
--- arguments that are added stand behind
+-- added arguments come last
 added_behind : (a b : Bool) (rules : List Rule) (x y : Rule)
     → (added : List Rule) × (cond b (cond a rules (rules ++ x ∷ [])) (cond a rules (rules ++ x ∷ []) ++ y ∷ []) ≡ rules ++ added)
 added_behind true true rules x y = ([], sym (append-nil rules))
@@ -123,7 +123,7 @@ found_passes all_do test (y ∷ ys) x each found =
     go true is here next e = subst (λ z. (all_do z ≡ true) × (test z ≡ true)) (same_some y x e) (here, is)
     go false is here next e = next e
 
--- a subcommand with no other name answers to its name alone
+-- a subcommand without other names answers to its name alone
 only_name : (s : Shape) (word : Text) → is_empty s.aliases ≡ true → answers_to word (label_of s) ≡ true → s.name ≡ word
 only_name s word alone e = go (bytes_eq s.name word) refl s.aliases alone e
   where
@@ -161,7 +161,7 @@ module _ (own : List Shape) (above : Shape) (a : App) (same : a.subs ≡ all abo
       go None found f has = absurd (true≢false (sym has))
       go (Some s) found f has = found_one p s named found f
 
-  -- the parse of the built command, where it fails nowhere
+  -- the parse of the built command, if it has no fault
   met_one : a.top.disable_help_subcommand ≡ false → a.top.subcommand_required ≡ true → (words : List Text) → built_fault a nothing_held words ≡ []
       → IsSomeAnd (entered a (stop_after a.top.rules (names_of a) words)) (λ met. IsOneOf own met.0 met.1)
   met_one enabled required words e =

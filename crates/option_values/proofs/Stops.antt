@@ -1,4 +1,4 @@
--- A walk over words that fails nowhere does not stop at clap's subcommand `help`.
+-- A walk over words without a fault does not stop at clap's subcommand `help`.
 use Rattle.std.proofs.Common.{◌≡◌, ◌&&◌, ℕ, Bool, cond, true, false, not, refl, List, [], ◌∷◌, Option, Some, None, is_some, codes}
 use Rattle.std.specs.Prelude.{⊤}
 use Rattle.std.specs.List.{fold}
