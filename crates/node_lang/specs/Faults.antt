@@ -1,4 +1,4 @@
--- The fault of a whole text: a text that is too long, else the first byte over 127, else the first fault of its lexemes.
+-- The fault of a whole text: that it is too long, else the first byte over 127, else the first fault of its lexemes.
 use Rattle.std.specs.Prelude.{◌≡◌, ℕ, ◌+◌, ◌<◌, ◌≤◌, List, [], length, All, take, slice_index}
 use Rattle.node_lang.specs.declared.limits.TheConstants.{LONGEST_TEXT}
 use Rattle.node_lang.specs.declared.fault.FaultKind.{FaultKind}

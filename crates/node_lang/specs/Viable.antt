@@ -83,7 +83,7 @@ one_at (suc d) = 1
 abbrev pub nodes_at : List Mark → ℕ
 nodes_at ms = sum_by (λ m. one_at m.depth) ms
 
--- In some program that begins with these tokens, the token after them begins a node of this depth, after this many nodes.
+-- In some program with these tokens as a prefix, the next token begins a node of this depth, after this many nodes.
 pub record BeginsNode (before : List Token) (met : Token) (depth nodes : ℕ) : Type 0 where
   pub program : ProgramTree
   pub marks_before : List Mark
@@ -98,7 +98,8 @@ pub record BeginsNode (before : List Token) (met : Token) (depth nodes : ℕ) : 
 abbrev pub IsOutside : ℕ → ℕ → ℕ → Type 0
 IsOutside low high n = (n < low) ⊎ (high < n)
 
--- a number of the header out of its range: rounds up to MAX_ROUNDS, channels from 1 to MAX_CHANNELS, registers from 1 to MAX_REGISTERS
+-- a number of the header out of its range: rounds up to MAX_ROUNDS, channels 1 to MAX_CHANNELS, registers 1 to
+-- MAX_REGISTERS
 pub data IsOutOfRange : List Token → Token → Type 0 where
   rounds : (t : ℕ) → IsOutside 0 MAX_ROUNDS t → IsOutOfRange (token.Rounds ∷ []) (token.Number t)
   channels : (t c : ℕ) → IsOutside 1 MAX_CHANNELS c → IsOutOfRange (token.Rounds ∷ token.Number t ∷ token.Channels ∷ []) (token.Number c)

@@ -38,14 +38,14 @@ pub fn rings_have_windows()
     ensures { law.RingsHaveWindows }
 {}
 
-/// A list of `2t+1+extra` distinct identifiers, taken as a ring, has its own windows at the places `t`
-/// to `t+extra`.
+/// A list of `2t+1+extra` distinct identifiers, taken as a ring, has its own windows at the places
+/// `t` to `t+extra`.
 pub fn tuples_are_rings()
     ensures { law.TuplesAreRings }
 {}
 
-/// The identifiers from `t` places to the left of a place of a ring to `t+extra` places to its right
-/// are distinct, and contain the windows of this place and of the `extra` places after it.
+/// The identifiers from `t` places to the left of a place of a ring to `t+extra` places to its
+/// right are distinct, and contain the windows of this place and of the `extra` places after it.
 pub fn rings_have_tuples()
     ensures { law.RingsHaveTuples }
 {}

@@ -17,8 +17,8 @@ pub enum RingFault {
     Repeated(u32, u32),
 }
 
-/// An oriented ring of a shape: `2t+2` to `MAX_IDS` places with distinct identifiers, read in a circle. The
-/// right neighbour of place `i` is place `i+1`, and that of the last place is place 0.
+/// An oriented ring of a shape: `2t+2` to `MAX_IDS` places with distinct identifiers, read in a
+/// circle. The right neighbour of place `i` is place `i+1`, and that of the last place is place 0.
 #[derive(Drop)]
 pub struct Ring {
     shape: Shape,
