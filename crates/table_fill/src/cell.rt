@@ -1,4 +1,4 @@
-ghost use Rattle.std.specs.Prelude.{◌≡◌, IfOk, IfErr, IsTrue, OnOk, true, is_some};
+ghost use Rattle.std.specs.Prelude.{◌≡◌, IfOk, IfErr, OnOk, true, is_some};
 ghost use Rattle.lang_check.specs.Plans.{ProgramForIds};
 ghost use Rattle.shared_memo.specs.declared.memo.Memo.{Memo};
 ghost use Rattle.shared_memo.specs.Passes.{known};
@@ -35,13 +35,13 @@ pub(crate) trait Cells {
     // The blocks that are known to be in their cells.
     ghost entries: { Self → Entries };
 
-    // Whether the block of this level and number is found.
+    // Looks at the cell of this level and number, and returns whether its block is known then.
     fn finds(&mut self, level: u32, number: u32) -> bool
         requires { IsKey (plan self.old) level number }
         ensures plan { plan self.new ≡ plan self.old }
         ensures same_fixed { fixed self.new ≡ fixed self.old }
         ensures grows { Grows (entries self.old) (entries self.new) }
-        ensures found { IsTrue result → is_some (entries self.new level number) ≡ true };
+        ensures found { result ≡ is_some (entries self.new level number) };
 
     // Makes the block of this level and number and stores it, or returns a block of a lower level
     // that is missing.

@@ -1,4 +1,4 @@
-ghost use Rattle.std.specs.Prelude.{Some};
+ghost use Rattle.std.specs.Prelude.{Some, None, cond};
 
 use crate::cell::{Cells, Made, fill_cell};
 use crate::fault::WorkFault;
@@ -28,7 +28,7 @@ impl<'a> Cells for Told<'a> {
 
     ghost fixed = { λ cells. tt };
 
-    ghost entries = { λ cells level number. Some (record { plan = cells.plan.now; level = level; number = number; maker = 0 }) };
+    ghost entries = { λ cells level number. cond cells.found (Some (record { plan = cells.plan.now; level = level; number = number; maker = 0 })) None };
 
     fn finds(&mut self, _level: u32, _number: u32) -> bool {
         self.found
@@ -43,11 +43,13 @@ impl<'a> Cells for Told<'a> {
     ) -> Result<Made, MakeFault> {
         self.makes = self.makes.saturating_add(1);
         let is_above = level > 0 && self.plan.shape().blocks(0) > 0;
-        match self.made {
-            Some(made) if !is_above || self.makes > self.missing => Ok(made),
-            _ if is_above => Err(MakeFault::Missing(0, 0)),
-            _ => Ok(Made::Fresh),
-        }
+        let made = match self.made {
+            Some(made) if !is_above || self.makes > self.missing => made,
+            _ if is_above => return Err(MakeFault::Missing(0, 0)),
+            _ => Made::Fresh,
+        };
+        self.found = self.found || made == Made::Fresh;
+        Ok(made)
     }
 
     fn stranger(&self) -> bool {
