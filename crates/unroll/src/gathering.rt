@@ -123,6 +123,7 @@ fn gather_run<'s, S: Source<'s>>(
     number_of_window();
     windows_have_numbers();
     let shape = plan.shape();
+    // The proof takes the limit of the number of windows from this call.
     let _windows = shape.count(below);
     let mut at = shape.place_in_run(below, window);
     let most = (len - from).min(run.places.rest(at));
@@ -158,6 +159,7 @@ fn first_number(shape: Shape, level: u32, number: u32) -> u32
     requires number { number < block_count shape.ids level }
     ensures { result ≡ BLOCK_WINDOWS * number }
 {
+    // The proof takes the limit of the number of windows from this call.
     let _windows = shape.count(level);
     BLOCK_WINDOWS * number
 }

@@ -81,6 +81,7 @@ fn first_part<'s, S: Source<'s>>(
     ensures first { IfOk result (IsFirstPart plan.now (S.entries source.new) below) }
     ensures fault { IfErr result (IsMissingPart (S.entries source.new) plan.now.ids (below + 1) window.now) }
 {
+    // The proof takes the limits of the shape from this call.
     let _shape = plan.shape();
     let len = 2 * below as usize + 1;
     if let Some(first) = given

@@ -147,6 +147,7 @@ impl<'a> World<'a> {
         ensures right { (s r : ℕ) → s < length self.now.segments
             → to_the_left (segment_after_rounds self.now (segment_after (length self.now.segments) s) r) ≡ from_right (segment_after_rounds self.now s r) }
     {
+        // The proof takes the invariant of the parts from this loan.
         let _parts = &self.parts;
     }
 
@@ -174,6 +175,7 @@ impl<'a> World<'a> {
         ensures messages { HasGlobalMessages self.now }
         ensures near { AreNear self.now }
     {
+        // The proof takes the invariant of the parts from this loan.
         let _parts = &self.parts;
     }
 
