@@ -1,8 +1,8 @@
 -- Cells in rows and columns.
-use Rattle.std.proofs.Common.{◌≡◌, ◌≢◌, ℕ, ◌+◌, ◌-◌, ◌*◌, ◌<◌, ◌≤◌, ◌⊎◌, Bool, true, false, ◌&&◌, ◌||◌, cond, eqb, ltb, List, length, get_or, set, sym, ap, ◌∙◌, arith, refl, ⊎_elim}
+use Rattle.std.proofs.Common.{◌≡◌, ◌≢◌, ℕ, ◌+◌, ◌-◌, ◌*◌, ◌<◌, ◌≤◌, Bool, true, false, ◌&&◌, cond, eqb, ltb, List, length, get_or, set, sym, ap, ◌∙◌, arith, refl, ⊎_elim}
 use Rattle.std.proofs.Math.Nat.{mul-le-mul_right, add-mul, one-mul, add-zero}
 use Rattle.std.proofs.lemmas.Bool.{cases_eq, cases_lt, lt-ltb, le-ltb, ne_eqb}
-use Rattle.std.proofs.lemmas.Bool.Decides.{eqb_tells, nat_tests}
+use Rattle.std.proofs.lemmas.Bool.Decides.{eqb_tells}
 use Rattle.std.proofs.lemmas.List.{get_or-set_same, get_or-set_other}
 use Rattle.std.proofs.lemmas.Nat.{same_from_place}
 

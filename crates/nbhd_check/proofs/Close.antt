@@ -1,5 +1,5 @@
 -- Channels that are close, and channels that are apart.
-use Rattle.std.proofs.Common.{◌≡◌, ℕ, ◌<◌, ◌≤◌, Option, Some, None, IsSome, subst, ap, ◌∙◌, arith, refl}
+use Rattle.std.proofs.Common.{◌≡◌, ℕ, ◌<◌, Option, Some, None, IsSome, subst, ap, arith, refl}
 use Rattle.std.proofs.lemmas.Bool.{false≢true}
 use Rattle.std.specs.Int.{abs_diff}
 use Rattle.nbhd_check.specs.Apart.{AreClose, AreApart}

@@ -1,5 +1,5 @@
 -- Counts of the windows that hold an identifier.
-use Rattle.std.proofs.Common.{◌≡◌, ◌≢◌, ℕ, ◌+◌, ◌-◌, ◌*◌, ◌<◌, ◌≤◌, ◌⊎◌, Bool, true, false, ◌&&◌, ◌||◌, ◌==◌, eqb, ltb, nat_lt, cond, min, List, [], length, get_or, slice_get, count_by, Some, All, sym, ap, ◌∙◌, arith, refl, ⊎_elim}
+use Rattle.std.proofs.Common.{◌≡◌, ◌≢◌, ℕ, ◌+◌, ◌-◌, ◌*◌, ◌<◌, ◌≤◌, Bool, true, false, ◌&&◌, ◌||◌, ◌==◌, eqb, ltb, nat_lt, cond, min, List, [], length, get_or, slice_get, Some, All, subst, sym, ap, ◌∙◌, arith, refl, ⊎_elim}
 use Rattle.std.specs.Int.{abs_diff}
 use Rattle.std.specs.List.{range_with_len}
 use Rattle.std.proofs.lemmas.Bool.{false≢true, cases_lt, cases_order, lt-ltb, le-ltb, ne_eqb, eq-eqb}
@@ -9,7 +9,7 @@ use Rattle.std.proofs.lemmas.List.FromFn.{length-range_with_len}
 use Rattle.std.proofs.lemmas.List.{get_or_past}
 use Rattle.std.proofs.lemmas.Option.{get_or_from_slice_get}
 use Rattle.table_fill.specs.Tables.{ChannelTable, windows_of}
-use Rattle.nbhd_check.specs.Counts.{is_held, held_count}
+use Rattle.nbhd_check.specs.Counts.{shared_len, is_held, held_count}
 use Rattle.nbhd_check.proofs.Included.{count_sum, count_more}
 
 pub count_few : (t : ChannelTable) (first n x : ℕ) (passes : ℕ → Bool) → held_count t first n x passes ≤ n
@@ -81,7 +81,7 @@ close_of_sums t first n x channel distance low high most some below low_is high_
     (λ k. one_close channel distance low high (get_or t.entries k 0) most (is_held t x k) some (below k) low_is high_is) in
     omega arith
 
--- the marks of a window: its second and its third identifier, and the number of identifiers
+-- the marks of a window: its last two identifiers, and the number of identifiers
 one_mark : (a p q r : Bool) → (p && q ≡ false) → (p && r ≡ false) → (q && r ≡ false)
     → cond (a && q) 1 0 + cond (a && r) 1 0 + cond (a && p) 1 0 ≡ cond (a && (p || (q || r))) 1 0
 one_mark true true true r none_pq none_pr none_qr = absurd (false≢true (sym none_pq))
@@ -106,23 +106,24 @@ not_both x y z other =
 
 -- one window more is counted in three cells of the row of its channel and one more
 pub window_counted :
-    (t : ChannelTable) (first number n x v channel : ℕ) (window : List ℕ) → first + n ≡ number
-    → slice_get (windows_of t) number ≡ Some window → channel ≡ get_or t.entries number 0 → get_or window 1 0 < t.ids → get_or window 2 0 < t.ids
-    → get_or window 1 0 ≢ get_or window 2 0
-    → held_count t first n x (λ other. v == other + 1) + cond (eqb v (channel + 1) && eqb x (get_or window 1 0)) 1 0
-    + cond (eqb v (channel + 1) && eqb x (get_or window 2 0)) 1 0 + cond (eqb v (channel + 1) && eqb x t.ids) 1 0
+    (t : ChannelTable) (first number n x v channel one two : ℕ) (window : List ℕ) → first + n ≡ number
+    → slice_get (windows_of t) number ≡ Some window → channel ≡ get_or t.entries number 0 → one ≡ shared_len t → two ≡ shared_len t + 1
+    → get_or window one 0 < t.ids → get_or window two 0 < t.ids → get_or window one 0 ≢ get_or window two 0
+    → held_count t first n x (λ other. v == other + 1) + cond (eqb v (channel + 1) && eqb x (get_or window one 0)) 1 0
+    + cond (eqb v (channel + 1) && eqb x (get_or window two 0)) 1 0 + cond (eqb v (channel + 1) && eqb x t.ids) 1 0
     ≡ held_count t first (n + 1) x (λ other. v == other + 1)
-window_counted t first number n x v channel window here item own in_one in_two other =
+window_counted t first number n x v channel one two window here item own one_is two_is in_one in_two other =
     let held = count_more (λ k. eqb v (get_or t.entries k 0 + 1) && is_held t x k) first n in
     let read = get_or_from_slice_get (windows_of t) number window [] item in
-    let marks = one_mark (eqb v (channel + 1)) (eqb x t.ids) (eqb x (get_or window 1 0)) (eqb x (get_or window 2 0))
-    (not_both x t.ids (get_or window 1 0) (λ e. omega (arith, e))) (not_both x t.ids (get_or window 2 0) (λ e. omega (arith, e)))
-    (not_both x (get_or window 1 0) (get_or window 2 0) other) in
+    let marks = one_mark (eqb v (channel + 1)) (eqb x t.ids) (eqb x (get_or window one 0)) (eqb x (get_or window two 0))
+    (not_both x t.ids (get_or window one 0) (λ e. omega (arith, e))) (not_both x t.ids (get_or window two 0) (λ e. omega (arith, e)))
+    (not_both x (get_or window one 0) (get_or window two 0) other) in
     let last : cond {A = ℕ} (eqb v (get_or t.entries (first + n) 0 + 1) && is_held t x (first + n)) 1 0
-    ≡ cond {A = ℕ} (eqb v (channel + 1) && (eqb x t.ids || (eqb x (get_or window 1 0) || eqb x (get_or window 2 0)))) 1 0 =
+    ≡ cond {A = ℕ} (eqb v (channel + 1) && (eqb x t.ids || (eqb x (get_or window one 0) || eqb x (get_or window two 0)))) 1 0 =
     ap (λ k. cond (eqb v (get_or t.entries k 0 + 1) && is_held t x k) 1 0) here
     ∙ ap (λ e. cond (eqb v (e + 1) && is_held t x number) 1 0) (sym own)
-    ∙ ap (λ w. cond (eqb v (channel + 1) && (eqb x t.ids || (eqb x (get_or w 1 0) || eqb x (get_or w 2 0)))) 1 0) read in
+    ∙ ap (λ w. cond (eqb v (channel + 1) && (eqb x t.ids || (eqb x (get_or w (shared_len t) 0) || eqb x (get_or w (shared_len t + 1) 0)))) 1 0) read
+    ∙ (λ q. cond {A = ℕ} (eqb v (channel + 1) && (eqb x t.ids || (eqb x (get_or window (sym one_is q) 0) || eqb x (get_or window (sym two_is q) 0)))) 1 0) in
     omega (arith, held, marks, last)
 
 -- each entry of a table, and what is read past the last one, is a channel
@@ -132,3 +133,10 @@ entries_below entries most some below k =
     (λ (lt : k < length entries). below k 0 lt)
     (λ (past : length entries ≤ k). omega (arith, get_or_past entries k 0 past))
     (cases_lt k (length entries))
+
+-- the row of a window's channel stands in the cells
+pub row_within : (t : ChannelTable) (number row len room : ℕ) → row ≡ get_or t.entries number 0 + 1 → len ≡ room → number < length t.entries
+    → All (λ channel. (channel + 2) * (t.ids + 1) ≤ room) t.entries → (row + 1) * (t.ids + 1) ≤ len
+row_within t number row len room row_is len_is within rows =
+    let next : get_or t.entries number 0 + 2 ≡ row + 1 = omega arith in
+    subst (λ k. (row + 1) * (t.ids + 1) ≤ k) (sym len_is) (subst (λ k. k * (t.ids + 1) ≤ room) next (rows number 0 within))

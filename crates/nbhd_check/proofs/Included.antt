@@ -1,5 +1,5 @@
 -- Inclusion and exclusion, and counts over numbers that follow one another.
-use Rattle.std.proofs.Common.{◌≡◌, ℕ, zero, suc, ◌+◌, ◌-◌, ◌<◌, ◌≤◌, ◌⊎◌, Bool, true, false, not, ◌&&◌, cond, List, [], ◌∷◌, count_by, subst, sym, add_assoc, ap, ◌∙◌, arith, add-one, refl, inl, inr, ⊎_elim}
+use Rattle.std.proofs.Common.{◌≡◌, ℕ, zero, suc, ◌+◌, ◌<◌, ◌≤◌, ◌⊎◌, Bool, true, false, not, ◌&&◌, cond, List, [], ◌∷◌, count_by, subst, sym, add_assoc, ap, ◌∙◌, arith, add-one, refl, ⊎_elim}
 use Rattle.std.specs.List.{range_with_len}
 use Rattle.std.proofs.lemmas.List.Sums.{sum_by-cons}
 use Rattle.std.proofs.lemmas.Bool.{cases_lt, cases_Bool}
@@ -16,7 +16,7 @@ one_included false true false = refl
 one_included false false true = refl
 one_included false false false = refl
 
-count_cons : (p : ℕ → Bool) (k : ℕ) (list : List ℕ) → count_by p (k ∷ list) ≡ cond (p k) 1 0 + count_by p list
+count_cons : {X : Type 0} (p : X → Bool) (k : X) (list : List X) → count_by p (k ∷ list) ≡ cond (p k) 1 0 + count_by p list
 count_cons p k list = sum_by-cons (λ x. cond (p x) 1 0) k list
 
 -- the first of the numbers, and the others
@@ -33,8 +33,9 @@ count_sum p q r (k ∷ list) one =
     let rest = count_sum p q r list one in
     omega (arith, count_cons p k list, count_cons q k list, count_cons r k list)
 
+-- in a list, too
 pub included :
-    (p a b : ℕ → Bool) (list : List ℕ)
+    {X : Type 0} (p a b : X → Bool) (list : List X)
     → count_by (λ k. p k && (not (a k) && not (b k))) list + count_by (λ k. p k && a k) list + count_by (λ k. p k && b k) list
     ≡ count_by p list + count_by (λ k. p k && (a k && b k)) list
 included p a b [] = refl

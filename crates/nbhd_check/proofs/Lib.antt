@@ -1,5 +1,6 @@
 pub mod Cells
 pub mod Close
+pub mod Ends
 pub mod Fronts
 pub mod GapPlaces
 pub mod EnoughParts
@@ -8,6 +9,7 @@ pub mod Included
 pub mod Marks
 pub mod RunLengths
 pub mod LastAdded
+pub mod LeastFrom
 pub mod FarCounts
 pub mod FarFree
 pub mod Runs

@@ -1,12 +1,11 @@
 -- Near 1 and far 0: neighbours' channels differ.
-use Rattle.std.proofs.Common.{◌≡◌, ℕ, ◌+◌, ◌*◌, ◌<◌, ◌≤◌, ◌↔◌, ◌⊎◌, List, Option, length, get_or, All, IsSome, subst, sym, arith, refl, inl, ⊎_elim}
+use Rattle.std.proofs.Common.{◌≡◌, ℕ, ◌+◌, ◌*◌, List, Option, get_or, All, IsSome, subst, sym, arith, refl, inl, ⊎_elim}
 use Rattle.std.proofs.lemmas.Option.{slice_get-get_or}
 use Rattle.win_index.specs.Arcs.{window_around, part_at}
 use Rattle.win_index.specs.Laws.{NumberOfWindow, WindowsHaveNumbers, RingsHaveWindows}
-use Rattle.win_index.specs.Windows.{windows, IsWindow}
+use Rattle.win_index.specs.Windows.{windows}
 use Rattle.table_fill.specs.Tables.{ChannelTable, channel_of}
-use Rattle.nbhd_check.specs.declared.separation.Separation.{Separation}
-use Rattle.nbhd_check.specs.Apart.{tuples, AreClose, IsBad, IsApart, IsApartEverywhere}
+use Rattle.nbhd_check.specs.Apart.{AreClose, IsBad, IsApart, IsApartEverywhere}
 use Rattle.nbhd_check.specs.Laws.{OneApartIsProper, OneApartIsGood}
 use Rattle.nbhd_check.specs.Proper.{IsProper, IsGoodEverywhere}
 use Rattle.nbhd_check.proofs.Close.{apart_not_close, apart_of_not_close, some_distance, same_of_close, close_of_same, some_of_apart}

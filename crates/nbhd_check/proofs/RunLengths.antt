@@ -1,9 +1,8 @@
 -- How many tuples begin with one window.
-use Rattle.std.proofs.Common.{◌≡◌, ℕ, zero, suc, ◌+◌, ◌-◌, ◌*◌, List, length, sym, ap, ◌∙◌, arith, add-one, refl}
+use Rattle.std.proofs.Common.{◌≡◌, ℕ, zero, suc, ◌+◌, ◌-◌, ◌*◌, length, sym, ap, ◌∙◌, arith, refl}
 use Rattle.std.proofs.Math.Nat.{mul_assoc, one-mul, mul-one}
 use Rattle.win_index.specs.Falling.{falling}
 use Rattle.win_index.specs.Laws.{CountOfWindows}
-use Rattle.win_index.specs.Windows.{windows}
 use Rattle.table_fill.specs.Tables.{ChannelTable, windows_of}
 use Rattle.nbhd_check.specs.declared.separation.Separation.{Separation}
 use Rattle.nbhd_check.specs.Apart.{extra, tuples}

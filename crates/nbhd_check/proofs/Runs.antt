@@ -1,25 +1,22 @@
 -- The tuples that begin with one window, and their later windows.
-use Rattle.std.proofs.Common.{◌≡◌, ◌≢◌, ◌↔◌, ℕ, zero, suc, ◌+◌, ◌-◌, ◌*◌, ◌<◌, ◌≤◌, ◌⊎◌, Option, List, [], ◌∷◌, ◌++◌, length, get_or, take, drop, slice_get, slice_index, option_map, max, min, Contains, Some, All, AllPairs, subst, sym, ap, ◌∙◌, arith, refl, ⊎_elim, length-drop}
-use Rattle.std.proofs.Math.Nat.{mul-le-mul_right}
-use Rattle.std.proofs.lemmas.Bool.{cases_lt, cases_order}
+use Rattle.std.proofs.Common.{◌≡◌, ◌≢◌, ℕ, suc, ◌+◌, ◌-◌, ◌*◌, ◌<◌, ◌≤◌, Option, List, [], ◌∷◌, ◌++◌, length, get_or, take, drop, slice_get, slice_index, option_map, Contains, Some, subst, sym, ap, ◌∙◌, arith, refl, inl, ⊎_elim, length-drop}
+use Rattle.std.proofs.Math.Nat.{mul-le-mul_right, suc-mul}
+use Rattle.std.proofs.lemmas.Bool.{cases_lt}
 use Rattle.std.proofs.lemmas.List.{get_or-take, get_or-drop, get_or_default, length-take-le, get_or_push, take_at, take_all, take-take, take_more, drop-take}
-use Rattle.std.proofs.lemmas.List.Elements.{All-nil, All-cons}
-use Rattle.std.proofs.lemmas.List.Kept.{AllPairs-cons}
-use Rattle.std.proofs.lemmas.Option.{same_Some, slice_get-get_or}
+use Rattle.std.proofs.lemmas.Option.{same_Some, slice_get-get_or, slice_get_within}
 use Rattle.std.specs.Int.{abs_diff}
 use Rattle.win_index.specs.Arcs.{part_at}
-use Rattle.win_index.specs.Falling.{falling}
 use Rattle.win_index.specs.Runs.{IsRunStart}
 use Rattle.win_index.specs.Windows.{unused, windows, IsWindow}
 use Rattle.table_fill.specs.Tables.{ChannelTable, channel_of, windows_of}
 use Rattle.nbhd_check.specs.declared.separation.Separation.{Separation}
 use Rattle.nbhd_check.specs.Laws.{WindowsAreNumbered}
-use Rattle.nbhd_check.specs.Apart.{extra, AreClose, IsBad, NoneIsBad}
-use Rattle.nbhd_check.specs.Counts.{BeginsFarTuple}
-use Rattle.nbhd_check.specs.Runs.{run_len, BeginsBadTuple, NoneCloseAfter, AreChannelsAfter, HasCloseOutside, place_of_last}
+use Rattle.nbhd_check.specs.Apart.{extra, tuples, AreClose, IsBad, NoneIsBad}
+use Rattle.nbhd_check.specs.FarSearch.{AreFarFree}
+use Rattle.nbhd_check.specs.Runs.{run_len, AreFree, BeginsBadTuple, BeginsFarTuple, NoneCloseAfter, AreChannelsAfter, HasCloseOutside, place_of_last}
 use Rattle.nbhd_check.proofs.Close.{close_along}
 use Rattle.nbhd_check.proofs.Tuples.{two_of_far}
-use Rattle.nbhd_check.proofs.Fronts.{window_take, window_drop, window_turned, one_run, in_run, in_longer_run, same_from_place, window_at}
+use Rattle.nbhd_check.proofs.Fronts.{number_of_window, one_number, window_take, window_drop, window_turned, one_run, in_run, in_longer_run, same_from_place, window_at}
 
 -- the identifiers of a list but for the first ones, and then one of these again
 turned_front : (k m offset i : ℕ) (list : List ℕ) → IsWindow (k + offset) m list → take k (drop offset list ++ get_or list i 0 ∷ []) ≡ drop offset list
@@ -249,3 +246,59 @@ module _ (laws : WindowsAreNumbered) where
       let front : take k tuple ≡ window =
       same_Some (take k tuple) window (sym run.front_at ∙ ap (slice_get (windows k t.ids)) same ∙ at') in
       none (tuple, window_at laws (k + extra s) t.ids n tuple item, front, bad)
+
+  -- no window begins a bad tuple where none is bad
+  pub free_of_none :
+      (t : ChannelTable) (s : Separation) (n count : ℕ) → NoneIsBad t s 0 n
+      → ((m : ℕ) → m < length (tuples t s) → m < count * run_len t s → m < n) → AreFree t s count
+  free_of_none t s n count none few number window below item bad =
+      let k = 2 * t.rounds + 1 in
+      let tuple = bad.0 in
+      let numbered = number_of_window laws (k + extra s) t.ids tuple bad.1 in
+      let run = in_longer_run laws k t.ids (extra s) numbered.0 tuple numbered.1 in
+      let inside = run.inside in
+      let own = run.number_is in
+      let same : run.number ≡ number = one_number laws k t.ids run.number number window (run.front_at ∙ ap Some bad.2) item in
+      let le : suc run.number ≤ count = omega arith in
+      let within = slice_get_within (tuples t s) numbered.0 tuple numbered.1 in
+      none numbered.0 tuple (omega arith)
+      (few numbered.0 within (omega (arith, mul-le-mul_right (run_len t s) le, suc-mul run.number (run_len t s)))) numbered.1 bad.3
+
+  -- no tuple is bad that begins with one of so many windows that begin none
+  pub none_of_free :
+      (t : ChannelTable) (s : Separation) (n count : ℕ) → AreFree t s count → n ≤ count * run_len t s → NoneIsBad t s 0 n
+  none_of_free t s n count free le m tuple ge lt item bad =
+      let k = 2 * t.rounds + 1 in
+      let run = in_longer_run laws k t.ids (extra s) m tuple item in
+      let own = run.number_is in
+      ⊎_elim
+      (λ (below : run.number < count). free run.number (take k tuple) below run.front_at
+      (tuple, window_at laws (k + extra s) t.ids m tuple item, refl, bad))
+      (λ (past : count ≤ run.number). absurd (omega (arith, mul-le-mul_right (run_len t s) past)))
+      (cases_lt run.number count)
+
+  -- no second window is close where no shorter tuple is bad by near
+  next_of_free :
+      (t : ChannelTable) (near channel : ℕ) (window : List ℕ) → channel_of t window ≡ Some channel
+      → ¬ BeginsBadTuple t (record { near = near; far = 0 }) window → NoneCloseAfter t window 1 near channel
+  unfolding IsBad
+  next_of_free t near channel window here free longer is begins close =
+      let k = 2 * t.rounds in
+      let turn : k + 1 + 1 ≡ k + 1 + extra (record { near = near; far = 0 }) = omega arith in
+      let first : Some channel ≡ channel_of t (part_at t.rounds 0 longer) = sym here ∙ ap (channel_of t) (sym begins) in
+      free (
+        longer,
+        subst (λ n. IsWindow n t.ids longer) turn is,
+        begins,
+        inl (close_along near (Some channel) (channel_of t (part_at t.rounds 1 longer)) (channel_of t (part_at t.rounds 0 longer)) (channel_of t (part_at t.rounds 1 longer)) first refl close),
+      )
+
+  -- windows that begin no tuple that is bad by near, and none that is bad by far
+  pub free_of_both :
+      (t : ChannelTable) (s : Separation) (a b less : ℕ) → length t.entries ≡ length (windows_of t) → AreFree t (record { near = s.near; far = 0 }) a
+      → AreFarFree t s.far b → less ≤ a → less ≤ b → AreFree t s less
+  free_of_both t s a b less full near far le_a le_b number window below item =
+      let channel : ℕ = slice_index t.entries number in
+      let here = channel_at t number window item in
+      none_begins t s window channel here
+      (next_of_free t s.near channel window here (near number window (omega arith) item)) (far number window (omega arith) item)

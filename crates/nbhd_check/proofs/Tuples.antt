@@ -1,13 +1,12 @@
 -- Tuples suffice: the windows of near places of a ring are windows of a tuple.
-use Rattle.std.proofs.Common.{◌≡◌, ℕ, ◌+◌, ◌-◌, ◌*◌, ◌<◌, ◌≤◌, ◌⊎◌, List, Option, length, get_or, slice_get, Some, None, IsSome, option_map, subst, sym, ap, ◌∙◌, arith, refl, inl, inr, ⊎_elim}
+use Rattle.std.proofs.Common.{◌≡◌, ℕ, ◌+◌, ◌-◌, ◌*◌, ◌<◌, ◌≤◌, ◌⊎◌, List, Option, length, get_or, slice_get, Some, IsSome, option_map, subst, sym, ap, ◌∙◌, arith, refl, inl, inr, ⊎_elim}
 use Rattle.std.proofs.lemmas.Option.{slice_get-get_or, slice_get_within, get_or_from_slice_get, same_Some}
 use Rattle.win_index.specs.Arcs.{arc, window_around, part_at}
 use Rattle.win_index.specs.Laws.{NumberOfWindow, WindowOfNumber, WindowsHaveNumbers, RingsHaveWindows, TuplesAreRings, RingsHaveTuples}
-use Rattle.win_index.specs.Ring.{IsRing}
-use Rattle.win_index.specs.Windows.{windows, number_of, IsWindow}
+use Rattle.win_index.specs.Windows.{number_of, IsWindow}
 use Rattle.table_fill.specs.Tables.{ChannelTable, channel_of}
 use Rattle.nbhd_check.specs.declared.separation.Separation.{Separation}
-use Rattle.nbhd_check.specs.Apart.{extra, tuples, AreClose, AreApart, IsBad, IsApart, IsApartEverywhere, NoneIsBad, IsLeastBad}
+use Rattle.nbhd_check.specs.Apart.{extra, tuples, AreClose, IsBad, IsApart, IsApartEverywhere, NoneIsBad, IsLeastBad}
 use Rattle.nbhd_check.specs.Laws.{TuplesSuffice, BadTuplesAreRings, OneWitness, ApartTablesHaveNoWitness}
 use Rattle.nbhd_check.specs.Verdicts.{IsStep, IsWitness}
 use Rattle.nbhd_check.proofs.Close.{apart_not_close, apart_of_not_close, some_distance, close_along}

@@ -1,30 +1,34 @@
--- Counts of third windows, for tables of one round: those that begin with one identifier stand in one block of numbers.
-use Rattle.std.specs.Prelude.{◌≡◌, ◌==◌, ℕ, ◌+◌, ◌*◌, ◌<◌, ◌≤◌, Bool, ◌&&◌, ◌||◌, nat_lt, List, [], length, slice_get, slice_index, slice_index_or, count_by, Some}
-use Rattle.std.specs.Int.{abs_diff}
+-- Counts of third windows: those that begin with the same identifiers, all but two, stand in one block of numbers.
+use Rattle.std.specs.Prelude.{◌≡◌, ◌==◌, ℕ, ◌+◌, ◌-◌, ◌*◌, ◌<◌, ◌≤◌, Bool, ◌&&◌, ◌||◌, nat_lt, List, [], length, take, drop, slice_get, slice_index, slice_index_or, count_by, IsTrue, All, Some}
 use Rattle.std.specs.List.{range_with_len}
-use Rattle.win_index.specs.Arcs.{part_at}
-use Rattle.win_index.specs.Windows.{IsWindow}
-use Rattle.table_fill.specs.Tables.{ChannelTable, windows_of, channel_of}
-use Rattle.nbhd_check.specs.Apart.{AreClose}
+use Rattle.win_index.specs.Windows.{windows, IsWindow}
+use Rattle.table_fill.specs.Tables.{ChannelTable, windows_of}
+use Rattle.nbhd_check.specs.declared.counts.Counts.{Counts}
 
--- a list of 2t+3 distinct identifiers begins with the window, and its third window is closer than the distance
-unfoldable pub BeginsFarTuple : ChannelTable → ℕ → List ℕ → Type 0
-BeginsFarTuple t distance window =
-    (tuple : List ℕ) × IsWindow (2 * t.rounds + 3) t.ids tuple × (part_at t.rounds 0 tuple ≡ window)
-    × AreClose distance (channel_of t (part_at t.rounds 0 tuple)) (channel_of t (part_at t.rounds 2 tuple))
+-- how many identifiers the first and the third window of a tuple share, for one round or more: as many as a window one level below has
+abbrev pub shared_len : ChannelTable → ℕ
+shared_len t = 2 * (t.rounds - 1) + 1
 
--- whether the window of three with this number holds the identifier after its first one; every window holds the number of
--- identifiers, which is none of them
+-- the lists that a first and a third window can share, in order; each has one block of third windows
+abbrev pub shared_lists : ChannelTable → List (List ℕ)
+shared_lists t = windows (shared_len t) t.ids
+
+-- the identifiers of the window that a list begins with, but for its first two
+abbrev pub middle_of : ChannelTable → List ℕ → List ℕ
+middle_of t list = drop 2 (take (2 * t.rounds + 1) list)
+
+-- whether the window with this number holds the identifier among its last two; every window holds the number of identifiers, which is none of them
 abbrev pub is_held : ChannelTable → ℕ → ℕ → Bool
 is_held t x number =
-    (x == t.ids) || ((x == slice_index (slice_index_or (windows_of t) number []) 1) || (x == slice_index (slice_index_or (windows_of t) number []) 2))
+    (x == t.ids) || ((x == slice_index (slice_index_or (windows_of t) number []) (shared_len t))
+    || (x == slice_index (slice_index_or (windows_of t) number []) (shared_len t + 1)))
 
 -- of the windows from number first on, as many as count, those that hold x and whose channel passes
 abbrev pub held_count : ChannelTable → ℕ → ℕ → ℕ → (ℕ → Bool) → ℕ
 held_count t first count x passes =
     count_by (λ number. passes (slice_index t.entries number) && is_held t x number) (range_with_len first count)
 
--- cell x of row v: how many of them have the channel v - 1, or a channel below v
+-- cell x of row v has this value
 abbrev pub AreCells : (ℕ → ℕ → ℕ) → ℕ → List ℕ → Type 0
 AreCells value wide cells = (v x : ℕ) → x < wide → (v + 1) * wide ≤ length cells → slice_index cells (v * wide + x) ≡ value v x
 
@@ -33,21 +37,23 @@ abbrev pub AreSums : ChannelTable → ℕ → ℕ → List ℕ → Type 0
 AreSums t first count sums =
     AreCells (λ v x. held_count t first count x (λ channel. nat_lt channel v)) (t.ids + 1) sums
 
--- the windows of three that begin with the identifier z stand at the numbers from first on, as many as count, and no others do
-pub record IsBlock (t : ChannelTable) (z first count : ℕ) : Type 0 where
+-- the windows that begin with the list z of identifiers stand at the numbers from first on, as many as count, and no others do
+pub record IsBlock (t : ChannelTable) (z : List ℕ) (first count : ℕ) : Type 0 where
   pub within : first + count ≤ length (windows_of t)
-  pub stands : (window : List ℕ) → IsWindow (2 * t.rounds + 1) t.ids window → slice_index window 0 ≡ z
+  pub stands : (window : List ℕ) → IsWindow (2 * t.rounds + 1) t.ids window → take (shared_len t) window ≡ z
       → (number : ℕ) × (first ≤ number) × (number < first + count) × (slice_get (windows_of t) number ≡ Some window)
   pub begins : (number : ℕ) (window : List ℕ) → first ≤ number → number < first + count → slice_get (windows_of t) number ≡ Some window
-      → slice_index window 0 ≡ z
+      → take (shared_len t) window ≡ z
 
--- so many windows, the first ones, begin no tuple whose third window is closer than the distance
-abbrev pub AreFarFree : ChannelTable → ℕ → ℕ → Type 0
-AreFarFree t distance count =
-    (number : ℕ) (window : List ℕ) → number < count → slice_get (windows_of t) number ≡ Some window → ¬ BeginsFarTuple t distance window
+-- the counts have a row for each limit up to one that all channels are below, and a cell for each identifier and one more
+pub record CountsFit (t : ChannelTable) (counts : Counts) : Type 0 where
+  pub room : length counts.cells.items ≡ (counts.limit + 1) * (t.ids + 1)
+  pub limit : All (λ channel. channel < counts.limit) t.entries
 
--- of these windows, those that pass do not
-abbrev pub AreFarFreeIn : ChannelTable → ℕ → ℕ → (List ℕ → Type 0) → Type 0
-AreFarFreeIn t distance count passes =
-    (number : ℕ) (window : List ℕ) → number < count → slice_get (windows_of t) number ≡ Some window → passes window
-    → ¬ BeginsFarTuple t distance window
+-- the sums are those of the block of z
+abbrev pub AreCountsOf : ChannelTable → List ℕ → Counts → Type 0
+AreCountsOf t z counts = (first : ℕ) × ((count : ℕ) × (IsBlock t z first count × AreSums t first count counts.cells.items))
+
+-- counts that are made are those of the block of z
+abbrev pub AreCountsOnceMade : ChannelTable → List ℕ → Counts → Type 0
+AreCountsOnceMade t z counts = IsTrue counts.are_made → AreCountsOf t z counts

@@ -2,7 +2,9 @@
 pub mod Apart
 pub mod Proper
 pub mod Runs
+pub mod Pairs
 pub mod Counts
+pub mod FarSearch
 pub mod Searches
 pub mod Verdicts
 pub mod Laws

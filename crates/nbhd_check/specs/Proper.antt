@@ -1,5 +1,5 @@
 -- Proper tables: the neighbourhood graph joins the first and the last window of each tuple (Linial 1992).
-use Rattle.std.specs.Prelude.{◌≡◌, ◌≢◌, ℕ, ◌+◌, ◌*◌, ◌<◌, List, length, All}
+use Rattle.std.specs.Prelude.{◌≢◌, ℕ, ◌+◌, ◌*◌, ◌<◌, List, length, All}
 use Rattle.win_index.specs.Ring.{IsRing}
 use Rattle.win_index.specs.Arcs.{window_around, part_at}
 use Rattle.win_index.specs.Windows.{windows}

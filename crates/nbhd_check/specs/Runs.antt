@@ -1,10 +1,10 @@
 -- Runs: the tuples that begin with one window, and the channels of their later windows.
-use Rattle.std.specs.Prelude.{◌≡◌, ℕ, ◌+◌, ◌-◌, ◌*◌, ◌<◌, List, length, take, Contains, slice_index, Some}
+use Rattle.std.specs.Prelude.{◌≡◌, ℕ, ◌+◌, ◌-◌, ◌*◌, ◌<◌, List, length, take, Contains, slice_get, slice_index, Some}
 use Rattle.std.specs.Int.{abs_diff}
 use Rattle.win_index.specs.Arcs.{part_at}
 use Rattle.win_index.specs.Falling.{falling}
 use Rattle.win_index.specs.Windows.{unused, IsWindow}
-use Rattle.table_fill.specs.Tables.{ChannelTable, channel_of}
+use Rattle.table_fill.specs.Tables.{ChannelTable, channel_of, windows_of}
 use Rattle.nbhd_check.specs.declared.separation.Separation.{Separation}
 use Rattle.nbhd_check.specs.Apart.{extra, AreClose, IsBad}
 
@@ -16,6 +16,17 @@ run_len t s = falling (t.ids - (2 * t.rounds + 1)) (extra s)
 abbrev pub BeginsBadTuple : ChannelTable → Separation → List ℕ → Type 0
 BeginsBadTuple t s window =
     (tuple : List ℕ) × IsWindow (2 * t.rounds + 1 + extra s) t.ids tuple × (part_at t.rounds 0 tuple ≡ window) × IsBad t s tuple
+
+-- a list of 2t+3 distinct identifiers begins with the window, and its third window is closer than the distance
+unfoldable pub BeginsFarTuple : ChannelTable → ℕ → List ℕ → Type 0
+BeginsFarTuple t distance window =
+    (tuple : List ℕ) × IsWindow (2 * t.rounds + 3) t.ids tuple × (part_at t.rounds 0 tuple ≡ window)
+    × AreClose distance (channel_of t (part_at t.rounds 0 tuple)) (channel_of t (part_at t.rounds 2 tuple))
+
+-- so many windows, the first ones, begin no bad tuple
+abbrev pub AreFree : ChannelTable → Separation → ℕ → Type 0
+AreFree t s count =
+    (number : ℕ) (window : List ℕ) → number < count → slice_get (windows_of t) number ≡ Some window → ¬ BeginsBadTuple t s window
 
 -- no list that has one identifier more than this one, its last, has at this offset a window that is closer than the distance to
 -- the channel

@@ -1,14 +1,57 @@
-// Counts of third windows, for tables of one round: how many of those that begin with one identifier have a channel below
-// a limit and hold another identifier. A row has the counts below one limit, and a row's last cell those of all windows.
-ghost use Rattle.std.specs.Prelude.{◌≡◌, ◌==◌, ℕ, ◌+◌, ◌-◌, ◌*◌, ◌^◌, ◌<◌, ◌≤◌, ◌&&◌, Some, if◌then◌else◌, nat_lt, length, slice_get, slice_index};
+// Counts of third windows: how many of those that begin with one list of identifiers have a channel below a limit and hold
+// another identifier. A row has the counts below one limit, and a row's last cell those of all windows.
+ghost use Rattle.std.specs.Prelude.{◌≡◌, ◌==◌, ℕ, List, ◌+◌, ◌-◌, ◌*◌, ◌^◌, ◌<◌, ◌≤◌, ◌&&◌, true, Some, IfOk, All, if◌then◌else◌, nat_lt, length, slice_get, slice_index};
 ghost use Rattle.std.specs.Int.{abs_diff};
 ghost use Rattle.win_index.specs.Windows.{IsWindow};
 ghost use Rattle.table_fill.specs.Tables.{windows_of};
-ghost use Rattle.nbhd_check.specs.Counts.{held_count, AreCells, AreSums, IsBlock};
+ghost use Rattle.nbhd_check.specs.Counts.{held_count, shared_len, AreCells, AreCountsOf, AreSums, CountsFit, IsBlock};
 
 use crate::laws::numbers_of_windows;
+use crate::part::window_count;
+use node_lang::OutOfMemory;
+use std::alloc::Global;
 use table_fill::Table;
-use win_index::count_of_windows;
+use win_index::{MAX_WINDOW_LEN, count_of_windows};
+
+/// The counts of one block of windows, which begin with the same identifiers.
+#[derive(Drop)]
+pub(crate) struct Counts {
+    /// The rows, one after another.
+    pub(crate) cells: Vec<u32>,
+    /// The number of the last row, which all channels are below.
+    pub(crate) limit: u32,
+    /// Whether the block has been counted.
+    pub(crate) are_made: bool,
+}
+
+impl Counts {
+    /// Counts for the blocks of a table whose channels are below the limit. `OutOfMemory` comes where memory was refused.
+    pub(crate) fn new(alloc: Global, table: &Table, limit: u32) -> Result<Counts, OutOfMemory>
+        requires limit { All (λ channel. channel < limit) table.now.entries }
+        requires few { limit < 2 ^ 17 }
+        ensures { IfOk result (CountsFit table.now) }
+    {
+        let len = (limit as usize + 1) * (table.shape().ids() as usize + 1);
+        let cells = vec![in alloc; 0u32; len].map_err(|_| OutOfMemory)?;
+        Ok(Counts {
+            cells,
+            limit,
+            are_made: false,
+        })
+    }
+}
+
+/// One more than the greatest channel of the table.
+pub(crate) fn channel_limit(table: &Table) -> u32
+    ensures limit { All (λ channel. channel < result) table.now.entries }
+    ensures few { result < 2 ^ 17 }
+{
+    let mut limit = 1;
+    for number in 0..window_count(table) {
+        limit = limit.max(table.entry(number) + 1);
+    }
+    limit
+}
 
 // Adds one to the cell of this row and this column.
 fn count_in(cells: &mut [u32], wide: usize, row: usize, column: usize)
@@ -34,25 +77,10 @@ fn add_row_before(cells: &mut [u32], wide: usize, row: usize)
     }
 }
 
-// How many windows of the block that hold x have a channel that differs from this one by less than the distance.
-pub(crate) fn close_count(table: &Table, sums: &[u32], x: u32, channel: u32, distance: u32) -> u32
-    requires some { 1 ≤ distance }
-    requires channel { channel < table.now.channels }
-    requires x { x ≤ table.now.ids }
-    requires room { length sums.now ≡ (table.now.channels + 1) * (table.now.ids + 1) }
-    ensures { (first n : ℕ) → AreSums table.now first n sums.now
-        → result ≡ held_count table.now first n x (λ other. nat_lt (abs_diff channel other) distance) }
-{
-    let wide = table.shape().ids() as usize + 1;
-    let low = (channel + 1).saturating_sub(distance) as usize;
-    let high = channel.saturating_add(distance).min(table.channels()) as usize;
-    sums[high * wide + x as usize].saturating_sub(sums[low * wide + x as usize])
-}
-
 // Counts each window of the block in the row of its channel and one more.
 fn count_windows(table: &Table, first: u32, count: u32, window: &mut [u32], cells: &mut [u32])
-    requires rounds { table.now.rounds ≡ 1 }
-    requires room { length cells.old ≡ (table.now.channels + 1) * (table.now.ids + 1) }
+    requires some { 1 ≤ table.now.rounds }
+    requires rows { All (λ channel. (channel + 2) * (table.now.ids + 1) ≤ length cells.old) table.now.entries }
     requires empty { AreCells (λ v x. 0) (table.now.ids + 1) cells.old }
     requires within { first + count ≤ length (windows_of table.now) }
     requires item { slice_get (windows_of table.now) first ≡ Some window.old }
@@ -61,44 +89,81 @@ fn count_windows(table: &Table, first: u32, count: u32, window: &mut [u32], cell
 {
     let shape = table.shape();
     let wide = shape.ids() as usize + 1;
+    let shared = 2 * (shape.rounds() as usize - 1) + 1;
     for number in first..first + count {
         let row = table.entry(number) as usize + 1;
-        count_in(cells, wide, row, window[1] as usize);
-        count_in(cells, wide, row, window[2] as usize);
+        count_in(cells, wide, row, window[shared] as usize);
+        count_in(cells, wide, row, window[shared + 1] as usize);
         count_in(cells, wide, row, wide - 1);
         shape.next_window(shape.rounds(), window);
     }
 }
 
-// Adds up the rows.
-fn add_rows(table: &Table, first: u32, count: u32, cells: &mut [u32])
-    requires room { length cells.old ≡ (table.now.channels + 1) * (table.now.ids + 1) }
+// Adds up the rows, of which this one is the last.
+fn add_rows(table: &Table, first: u32, count: u32, limit: u32, cells: &mut [u32])
+    requires room { length cells.old ≡ (limit + 1) * (table.now.ids + 1) }
+    requires few { count < 2 ^ 31 }
     requires counted { AreCells (λ v x. held_count table.now first count x (λ channel. v == channel + 1)) (table.now.ids + 1) cells.old }
     ensures { AreSums table.now first count cells.new }
 {
     let wide = table.shape().ids() as usize + 1;
-    for row in 1..table.channels() as usize + 1 {
+    for row in 1..limit as usize + 1 {
         add_row_before(cells, wide, row);
     }
 }
 
-// Counts the windows that begin with this identifier.
-pub(crate) fn fill_sums(table: &Table, id: u32, cells: &mut [u32])
-    requires rounds { table.now.rounds ≡ 1 }
-    requires id { id < table.now.ids }
-    requires room { length cells.old ≡ (table.now.channels + 1) * (table.now.ids + 1) }
-    ensures { (first : ℕ) × ((n : ℕ) × (IsBlock table.now id first n × AreSums table.now first n cells.new)) }
+/// Counts the windows that begin with these identifiers, all but two of a window.
+pub(crate) fn count_block(table: &Table, shared: &[u32], counts: &mut Counts)
+    requires some { 1 ≤ table.now.rounds }
+    requires shared { IsWindow (shared_len table.now) table.now.ids shared.now }
+    requires fit { CountsFit table.now counts.old }
+    ensures fit { CountsFit table.now counts.new }
+    ensures counts { AreCountsOf table.now shared.now counts.new }
+{
+    count_cells(table, shared, counts.limit, &mut counts.cells);
+    counts.are_made = true;
+}
+
+// The same, where the cells are those of the counts and the limit is theirs.
+fn count_cells(table: &Table, shared: &[u32], limit: u32, cells: &mut [u32])
+    requires some { 1 ≤ table.now.rounds }
+    requires shared { IsWindow (shared_len table.now) table.now.ids shared.now }
+    requires room { length cells.old ≡ (limit + 1) * (table.now.ids + 1) }
+    requires limit { All (λ channel. channel < limit) table.now.entries }
+    ensures { (first : ℕ) × ((count : ℕ) × (IsBlock table.now shared.now first count × AreSums table.now first count cells.new)) }
 {
     numbers_of_windows();
     count_of_windows();
     let shape = table.shape();
-    let others = shape.ids() - 1;
+    let others = shape.ids() - shared.len() as u32;
     let count = others * (others - 1);
-    let first = shape.window_number(0, &[id]) * count;
-    let mut cells_of_window = [0; 3];
-    let window = &mut cells_of_window[..];
+    let first = shape.window_number(shape.rounds() - 1, shared) * count;
+    let mut cells_of_window = [0; MAX_WINDOW_LEN];
+    let window = &mut cells_of_window[..shared.len() + 2];
     shape.window(shape.rounds(), first, window);
     cells.fill(0);
     count_windows(table, first, count, window, cells);
-    add_rows(table, first, count, cells);
+    add_rows(table, first, count, limit, cells);
+}
+
+/// How many windows of the block that hold `x` have a channel that differs from this one by less than the distance.
+pub(crate) fn close_count(
+    table: &Table,
+    counts: &Counts,
+    x: u32,
+    channel: u32,
+    distance: u32,
+) -> u32
+    requires some { 1 ≤ distance }
+    requires channel { channel < counts.now.limit }
+    requires x { x ≤ table.now.ids }
+    requires fit { CountsFit table.now counts.now }
+    ensures { (first n : ℕ) → AreSums table.now first n counts.now.cells.items
+        → result ≡ held_count table.now first n x (λ other. nat_lt (abs_diff channel other) distance) }
+{
+    let wide = table.shape().ids() as usize + 1;
+    let high = channel.saturating_add(distance).min(counts.limit) as usize;
+    let low = (channel + 1).saturating_sub(distance) as usize;
+    let cells: &[u32] = &counts.cells;
+    cells[high * wide + x as usize].saturating_sub(cells[low * wide + x as usize])
 }

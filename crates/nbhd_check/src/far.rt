@@ -1,147 +1,231 @@
-// The windows of a table of one round that begin no tuple whose third window is too close, by counts: the third windows of
-// the tuples that begin with (a, b, z) are those that begin with z and hold neither a nor b.
-ghost use Rattle.std.specs.Prelude.{◌≡◌, ◌≢◌, ℕ, ◌+◌, ◌-◌, ◌*◌, ◌<◌, ◌≤◌, [], ◌∷◌, List, Some, length, slice_get, slice_index};
+// The windows of a table that begin no tuple whose third window is too close, by counts: the third windows of the tuples that
+// begin with (a, b, z), for a list z of identifiers, are those that begin with z and hold neither a nor b.
+ghost use Rattle.std.specs.Prelude.{◌≡◌, ◌≢◌, ℕ, ◌+◌, ◌-◌, ◌*◌, ◌<◌, ◌≤◌, ◌↔◌, ◌⊎◌, [], ◌∷◌, ◌++◌, List, Some, IsTrue, Contains, length, take, drop, slice_get, slice_index};
 ghost use Rattle.std.specs.Int.{abs_diff};
 ghost use Rattle.std.specs.Bool.{OnFalse};
+ghost use Rattle.win_index.specs.Falling.{falling};
 ghost use Rattle.win_index.specs.Windows.{IsWindow};
 ghost use Rattle.table_fill.specs.Tables.{windows_of, channel_of};
-ghost use Rattle.nbhd_check.specs.Counts.{AreSums, IsBlock, BeginsFarTuple, AreFarFree, AreFarFreeIn};
+ghost use Rattle.nbhd_check.specs.Counts.{middle_of, shared_len, AreCountsOf, AreCountsOnceMade, CountsFit};
+ghost use Rattle.nbhd_check.specs.FarSearch.{AreFarFreeIn};
+ghost use Rattle.nbhd_check.specs.Runs.{BeginsFarTuple};
 
-use crate::counts::{close_count, fill_sums};
+use crate::counts::{Counts, close_count, count_block};
 use crate::laws::numbers_of_windows;
 use crate::part::window_count;
 use crate::tuple::channel_of_window;
-use std::alloc::Global;
 use table_fill::Table;
+use win_index::{count_of_windows, windows_are_in_order};
 
-// So many windows, the first ones, begin no tuple whose third window is closer than the distance. It is 0 where there is
-// no such way to find more: at no round or at several ones, and where memory for the counts was refused.
-pub(crate) fn far_free_windows(alloc: Global, table: &Table, distance: u32) -> u32
-    ensures { AreFarFree table.now distance result }
-{
-    let shape = table.shape();
-    if shape.rounds() != 1 || distance == 0 {
-        return 0;
-    }
-    let len = (table.channels() as usize + 1) * (shape.ids() as usize + 1);
-    let Ok(mut cells) = vec![in alloc; 0u32; len] else {
-        return 0;
-    };
-    far_free(table, distance, &mut cells)
-}
-
-// So many windows, the first ones, begin no tuple whose third window is closer than the distance.
-pub(crate) fn far_free(table: &Table, distance: u32, cells: &mut [u32]) -> u32
-    requires rounds { table.now.rounds ≡ 1 }
-    requires some { 1 ≤ distance }
-    requires room { length cells.old ≡ (table.now.channels + 1) * (table.now.ids + 1) }
-    ensures { AreFarFree table.now distance result }
+/// How many of the first windows, `least` at most, begin no tuple whose third window is closer than the distance, of those that
+/// end in the identifiers that stand between the first two and the last two cells of the list. The other cells are scratch.
+pub(crate) fn far_free_in_block(
+    table: &Table,
+    counts: &mut Counts,
+    list: &mut [u32],
+    distance: u32,
+    least: u32,
+) -> u32
+    requires some { 1 ≤ table.now.rounds }
+    requires distance { 1 ≤ distance }
+    requires long { length list.old ≡ 2 * table.now.rounds + 3 }
+    requires middle { IsWindow (shared_len table.now) table.now.ids (middle_of table.now list.old) }
+    requires fit { CountsFit table.now counts.old }
+    requires counts { AreCountsOnceMade table.now (middle_of table.now list.old) counts.old }
+    ensures fit { CountsFit table.now counts.new }
+    ensures less { result ≤ least }
+    ensures free { AreFarFreeIn table.now distance result (λ window. drop 2 window ≡ middle_of table.now list.old) }
 {
     numbers_of_windows();
-    let mut least = window_count(table);
-    for id in 0..table.shape().ids() {
-        fill_sums(table, id, cells);
-        least = least.min(far_free_to(table, cells, id, distance));
-    }
-    least
-}
-
-// The same for the windows that end in one identifier.
-fn far_free_to(table: &Table, sums: &[u32], last: u32, distance: u32) -> u32
-    requires rounds { table.now.rounds ≡ 1 }
-    requires some { 1 ≤ distance }
-    requires last { last < table.now.ids }
-    requires room { length sums.now ≡ (table.now.channels + 1) * (table.now.ids + 1) }
-    requires sums { (low : ℕ) × ((n : ℕ) × (IsBlock table.now last low n × AreSums table.now low n sums.now)) }
-    ensures { AreFarFreeIn table.now distance result (λ window. slice_index window 2 ≡ last) }
-{
-    numbers_of_windows();
-    let mut least = window_count(table);
+    let mut least = least;
     for first in 0..table.shape().ids() {
-        least = least.min(far_free_from(table, sums, first, last, distance));
+        if start_of(table, first) >= u64::from(least) {
+            return least;
+        }
+        set_first(list, first);
+        least = far_free_from(table, counts, list, distance, least);
     }
     least
 }
 
-// The same for those that also begin with one identifier.
-fn far_free_from(table: &Table, sums: &[u32], first: u32, last: u32, distance: u32) -> u32
-    requires rounds { table.now.rounds ≡ 1 }
-    requires some { 1 ≤ distance }
-    requires first { first < table.now.ids }
-    requires last { last < table.now.ids }
-    requires room { length sums.now ≡ (table.now.channels + 1) * (table.now.ids + 1) }
-    requires sums { (low : ℕ) × ((n : ℕ) × (IsBlock table.now last low n × AreSums table.now low n sums.now)) }
-    ensures { AreFarFreeIn table.now distance result (λ window. (slice_index window 0 ≡ first) × (slice_index window 2 ≡ last)) }
+// The number of the first window that begins with this identifier: those that begin with it or a greater one have no less.
+fn start_of(table: &Table, first: u32) -> u64
+    requires { first < table.now.ids }
+    ensures { (number : ℕ) (window : List ℕ) → slice_get (windows_of table.now) number ≡ Some window
+        → first ≤ slice_index window 0 → result ≤ number }
 {
     numbers_of_windows();
-    let mut least = window_count(table);
-    for middle in 0..table.shape().ids() {
-        least = least.min(far_free_with(table, sums, first, middle, last, distance));
+    count_of_windows();
+    windows_are_in_order();
+    let shape = table.shape();
+    let each = window_count(table) / shape.ids();
+    u64::from(shape.window_number(0, &[first])) * u64::from(each)
+}
+
+// The same for those that also begin with the first identifier of the list.
+fn far_free_from(
+    table: &Table,
+    counts: &mut Counts,
+    list: &mut [u32],
+    distance: u32,
+    least: u32,
+) -> u32
+    requires some { 1 ≤ table.now.rounds }
+    requires distance { 1 ≤ distance }
+    requires long { length list.old ≡ 2 * table.now.rounds + 3 }
+    requires first { slice_index list.old 0 < table.now.ids }
+    requires middle { IsWindow (shared_len table.now) table.now.ids (middle_of table.now list.old) }
+    requires fit { CountsFit table.now counts.old }
+    requires counts { AreCountsOnceMade table.now (middle_of table.now list.old) counts.old }
+    ensures same { middle_of table.now list.new ≡ middle_of table.now list.old }
+    ensures fit { CountsFit table.now counts.new }
+    ensures counts { AreCountsOnceMade table.now (middle_of table.now list.old) counts.new }
+    ensures less { result ≤ least }
+    ensures free { AreFarFreeIn table.now distance result
+        (λ window. (slice_index window 0 ≡ slice_index list.old 0) × (drop 2 window ≡ middle_of table.now list.old)) }
+{
+    numbers_of_windows();
+    let mut least = least;
+    for second in 0..table.shape().ids() {
+        set_second(list, second);
+        least = far_free_with(table, counts, list, distance, least);
     }
     least
 }
 
-// The same for one window, where these identifiers are one.
+// The same for the window that the list begins with, where its identifiers are distinct.
 fn far_free_with(
     table: &Table,
-    sums: &[u32],
-    first: u32,
-    middle: u32,
-    last: u32,
+    counts: &mut Counts,
+    list: &mut [u32],
     distance: u32,
+    least: u32,
 ) -> u32
-    requires rounds { table.now.rounds ≡ 1 }
-    requires some { 1 ≤ distance }
-    requires first { first < table.now.ids }
-    requires middle { middle < table.now.ids }
-    requires last { last < table.now.ids }
-    requires room { length sums.now ≡ (table.now.channels + 1) * (table.now.ids + 1) }
-    requires sums { (low : ℕ) × ((n : ℕ) × (IsBlock table.now last low n × AreSums table.now low n sums.now)) }
-    ensures { AreFarFreeIn table.now distance result
-        (λ window. (slice_index window 0 ≡ first) × (slice_index window 1 ≡ middle) × (slice_index window 2 ≡ last)) }
+    requires some { 1 ≤ table.now.rounds }
+    requires distance { 1 ≤ distance }
+    requires long { length list.old ≡ 2 * table.now.rounds + 3 }
+    requires first { slice_index list.old 0 < table.now.ids }
+    requires second { slice_index list.old 1 < table.now.ids }
+    requires middle { IsWindow (shared_len table.now) table.now.ids (middle_of table.now list.old) }
+    requires fit { CountsFit table.now counts.old }
+    requires counts { AreCountsOnceMade table.now (middle_of table.now list.old) counts.old }
+    ensures same { take (2 * table.now.rounds + 1) list.new ≡ take (2 * table.now.rounds + 1) list.old }
+    ensures fit { CountsFit table.now counts.new }
+    ensures counts { AreCountsOnceMade table.now (middle_of table.now list.old) counts.new }
+    ensures less { result ≤ least }
+    ensures free { AreFarFreeIn table.now distance result (λ window. window ≡ take (2 * table.now.rounds + 1) list.old) }
 {
     numbers_of_windows();
-    if first == middle || first == last || middle == last {
-        return window_count(table);
+    if !begins_with_window(table, list) {
+        return least;
     }
-    far_free_at(table, sums, &[first, middle, last], distance)
+    far_free_at(table, counts, list, distance, least)
 }
 
-// The same for one window.
-fn far_free_at(table: &Table, sums: &[u32], window: &[u32], distance: u32) -> u32
-    requires rounds { table.now.rounds ≡ 1 }
-    requires some { 1 ≤ distance }
-    requires window { IsWindow (2 * table.now.rounds + 1) table.now.ids window.now }
-    requires room { length sums.now ≡ (table.now.channels + 1) * (table.now.ids + 1) }
-    requires sums { (low : ℕ) × ((n : ℕ) × (IsBlock table.now (slice_index window.now 2) low n × AreSums table.now low n sums.now)) }
-    ensures { AreFarFreeIn table.now distance result (λ other. other ≡ window.now) }
+// Whether the list begins with a window.
+fn begins_with_window(table: &Table, list: &[u32]) -> bool
+    requires some { 1 ≤ table.now.rounds }
+    requires long { length list.now ≡ 2 * table.now.rounds + 3 }
+    requires first { slice_index list.now 0 < table.now.ids }
+    requires second { slice_index list.now 1 < table.now.ids }
+    requires middle { IsWindow (shared_len table.now) table.now.ids (middle_of table.now list.now) }
+    ensures { IsTrue result ↔ IsWindow (2 * table.now.rounds + 1) table.now.ids (take (2 * table.now.rounds + 1) list.now) }
 {
-    numbers_of_windows();
-    if may_begin_far_tuple(table, sums, window, distance) {
-        let shape = table.shape();
-        return shape.window_number(shape.rounds(), window);
+    let middle = &list[2..list.len() - 2];
+    if list[0] == list[1] {
+        return false;
     }
-    window_count(table)
+    if stands_in(middle, list[0]) {
+        return false;
+    }
+    !stands_in(middle, list[1])
 }
 
-// Whether the window may begin such a tuple: where not, it begins none.
-fn may_begin_far_tuple(table: &Table, sums: &[u32], window: &[u32], distance: u32) -> bool
-    requires rounds { table.now.rounds ≡ 1 }
-    requires some { 1 ≤ distance }
-    requires window { IsWindow (2 * table.now.rounds + 1) table.now.ids window.now }
-    requires room { length sums.now ≡ (table.now.channels + 1) * (table.now.ids + 1) }
-    requires sums { (low : ℕ) × ((n : ℕ) × (IsBlock table.now (slice_index window.now 2) low n × AreSums table.now low n sums.now)) }
-    ensures { OnFalse result (¬ BeginsFarTuple table.now distance window.now) }
+// Whether the identifier stands in the list.
+fn stands_in(list: &[u32], id: u32) -> bool
+    ensures { IsTrue result ↔ Contains list.now id }
+{
+    list.contains(&id)
+}
+
+// The same for the window that the list begins with.
+fn far_free_at(
+    table: &Table,
+    counts: &mut Counts,
+    list: &mut [u32],
+    distance: u32,
+    least: u32,
+) -> u32
+    requires some { 1 ≤ table.now.rounds }
+    requires distance { 1 ≤ distance }
+    requires long { length list.old ≡ 2 * table.now.rounds + 3 }
+    requires window { IsWindow (2 * table.now.rounds + 1) table.now.ids (take (2 * table.now.rounds + 1) list.old) }
+    requires fit { CountsFit table.now counts.old }
+    requires counts { AreCountsOnceMade table.now (middle_of table.now list.old) counts.old }
+    ensures same { take (2 * table.now.rounds + 1) list.new ≡ take (2 * table.now.rounds + 1) list.old }
+    ensures fit { CountsFit table.now counts.new }
+    ensures counts { AreCountsOnceMade table.now (middle_of table.now list.old) counts.new }
+    ensures less { result ≤ least }
+    ensures free { AreFarFreeIn table.now distance result (λ window. window ≡ take (2 * table.now.rounds + 1) list.old) }
 {
     numbers_of_windows();
-    let (first, middle, last) = (window[0], window[1], window[2]);
-    let channel = channel_of_window(table, window);
-    let one = close_one(table, &[last, first, middle], channel, distance);
-    let other = close_one(table, &[last, middle, first], channel, distance);
-    let all = close_count(table, sums, table.shape().ids(), channel, distance);
-    let with_first = close_count(table, sums, first, channel, distance);
-    let with_middle = close_count(table, sums, middle, channel, distance);
-    u64::from(all) + one + other > u64::from(with_first) + u64::from(with_middle)
+    let shape = table.shape();
+    let len = list.len() - 2;
+    let number = shape.window_number(shape.rounds(), &list[..len]);
+    if number >= least {
+        return least;
+    }
+    count_once(table, &list[2..len], counts);
+    if may_begin_far_tuple(table, counts, list, table.entry(number), distance) {
+        number
+    } else {
+        least
+    }
+}
+
+// Counts the block of these identifiers, where that was not done before.
+fn count_once(table: &Table, shared: &[u32], counts: &mut Counts)
+    requires some { 1 ≤ table.now.rounds }
+    requires shared { IsWindow (shared_len table.now) table.now.ids shared.now }
+    requires fit { CountsFit table.now counts.old }
+    requires counts { AreCountsOnceMade table.now shared.now counts.old }
+    ensures fit { CountsFit table.now counts.new }
+    ensures counts { AreCountsOf table.now shared.now counts.new }
+{
+    if !counts.are_made {
+        count_block(table, shared, counts);
+    }
+}
+
+// Whether the window that the list begins with may begin such a tuple: where not, it begins none.
+fn may_begin_far_tuple(
+    table: &Table,
+    counts: &Counts,
+    list: &mut [u32],
+    channel: u32,
+    distance: u32,
+) -> bool
+    requires some { 1 ≤ table.now.rounds }
+    requires distance { 1 ≤ distance }
+    requires long { length list.old ≡ 2 * table.now.rounds + 3 }
+    requires window { IsWindow (2 * table.now.rounds + 1) table.now.ids (take (2 * table.now.rounds + 1) list.old) }
+    requires channel { channel_of table.now (take (2 * table.now.rounds + 1) list.old) ≡ Some channel }
+    requires limit { channel < counts.now.limit }
+    requires fit { CountsFit table.now counts.now }
+    requires counts { AreCountsOf table.now (middle_of table.now list.old) counts.now }
+    ensures same { take (2 * table.now.rounds + 1) list.new ≡ take (2 * table.now.rounds + 1) list.old }
+    ensures far { OnFalse result (¬ BeginsFarTuple table.now distance (take (2 * table.now.rounds + 1) list.old)) }
+{
+    numbers_of_windows();
+    let (first, second) = (list[0], list[1]);
+    set_last(list, first, second);
+    let one = close_one(table, &list[2..], channel, distance);
+    set_last(list, second, first);
+    let other = close_one(table, &list[2..], channel, distance);
+    let all = close_count(table, counts, table.shape().ids(), channel, distance);
+    let with_first = close_count(table, counts, first, channel, distance);
+    let with_second = close_count(table, counts, second, channel, distance);
+    u64::from(all) + one + other > u64::from(with_first) + u64::from(with_second)
 }
 
 // One where the window's channel is closer to this one than the distance, else none.
@@ -157,4 +241,30 @@ fn close_one(table: &Table, window: &[u32], channel: u32, distance: u32) -> u64
     } else {
         0
     }
+}
+
+// Writes an identifier over the first one of a list.
+fn set_first(list: &mut [u32], first: u32)
+    requires { 1 ≤ length list.old }
+    ensures { list.new ≡ first ∷ drop 1 list.old }
+{
+    list[0] = first;
+}
+
+// Writes an identifier over the second one of a list.
+fn set_second(list: &mut [u32], second: u32)
+    requires { 2 ≤ length list.old }
+    ensures { list.new ≡ slice_index list.old 0 ∷ second ∷ drop 2 list.old }
+{
+    list[1] = second;
+}
+
+// Writes two identifiers over the last two of a list.
+fn set_last(list: &mut [u32], one: u32, other: u32)
+    requires { 2 ≤ length list.old }
+    ensures { list.new ≡ take (length list.old - 2) list.old ++ one ∷ other ∷ [] }
+{
+    let len = list.len() - 2;
+    list[len] = one;
+    list[len + 1] = other;
 }

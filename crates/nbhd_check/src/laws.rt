@@ -1,4 +1,5 @@
 ghost use Rattle.nbhd_check.specs.Laws as law;
+ghost use Rattle.nbhd_check.specs.Pairs.{PairsThatAvoidTwo};
 
 use win_index::{
     longer_windows_have_numbers, number_of_window, rings_have_tuples, rings_have_windows,
@@ -38,6 +39,12 @@ pub fn one_witness()
 {
     tuples_suffice();
 }
+
+/// Inclusion and exclusion: of the pairs of a list that are in a class, those that hold neither of two elements are all, less
+/// those that hold the one, less those that hold the other, and once more those that hold both.
+pub fn pairs_that_avoid_two()
+    ensures { PairsThatAvoidTwo }
+{}
 
 // What windows and their numbers have in common.
 pub(crate) fn numbers_of_windows()

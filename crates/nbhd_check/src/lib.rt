@@ -3,8 +3,10 @@
 
 mod counts;
 mod far;
+mod far_parts;
 mod gaps;
 mod laws;
+mod least;
 mod part;
 mod parts;
 mod run;
@@ -12,7 +14,7 @@ mod separation;
 mod tuple;
 mod verdict;
 
-pub use laws::{one_apart_differs, one_witness, tuples_suffice};
+pub use laws::{one_apart_differs, one_witness, pairs_that_avoid_two, tuples_suffice};
 pub use part::judge_part;
 pub use separation::Separation;
 pub use tuple::tuple_count;

@@ -1,9 +1,8 @@
 ghost use Rattle.std.specs.Prelude.{◌≡◌, ℕ, List, ◌+◌, ◌-◌, ◌*◌, ◌/◌, ◌<◌, ◌≤◌, MatchOption, Some, length, slice_get, max, min};
 ghost use Rattle.win_index.specs.declared.limits.TheConstants.{MAX_IDS};
 ghost use Rattle.win_index.specs.Windows.{IsWindow};
-ghost use Rattle.table_fill.specs.Tables.{windows_of};
+ghost use Rattle.table_fill.specs.Tables.{windows_of, IsTable};
 ghost use Rattle.nbhd_check.specs.Apart.{tuples, extra, NoneIsBad, IsLeastBad};
-ghost use Rattle.nbhd_check.specs.Counts.{AreFarFree};
 ghost use Rattle.nbhd_check.specs.Runs.{run_len};
 
 use crate::laws::numbers_of_windows;
@@ -22,23 +21,6 @@ pub fn judge_part(table: &Table, separation: Separation, low: u64, high: u64) ->
     ensures { MatchOption result (NoneIsBad table.now separation low high)
         (λ n. (n < high) × ((tuple : List ℕ) × IsLeastBad table.now separation low n tuple)) }
 {
-    judge_from(table, separation, 0, low, high)
-}
-
-// The same where the windows before `far_from` are known to begin no tuple whose third window is too close.
-pub(crate) fn judge_from(
-    table: &Table,
-    separation: Separation,
-    far_from: u32,
-    low: u64,
-    high: u64,
-) -> Option<u64>
-    requires far { AreFarFree table.now separation.far far_from }
-    requires order { low ≤ high }
-    requires within { high ≤ length (tuples table.now separation) }
-    ensures { MatchOption result (NoneIsBad table.now separation low high)
-        (λ n. (n < high) × ((tuple : List ℕ) × IsLeastBad table.now separation low n tuple)) }
-{
     if low == high {
         return None;
     }
@@ -48,7 +30,7 @@ pub(crate) fn judge_from(
     let mut cells = [0; MAX_WINDOW_LEN];
     let window = &mut cells[..2 * level as usize + 1];
     shape.window(level, first, window);
-    scan_runs(table, separation, far_from, window, first, low, high)
+    scan_runs(table, separation, window, first, low, high)
 }
 
 // How many tuples begin with one window: none where a tuple has more identifiers than there are.
@@ -67,9 +49,10 @@ pub(crate) fn run_len(table: &Table, separation: Separation) -> u64
     }
 }
 
-// How many windows there are.
+// How many windows there are: as many as entries.
 pub(crate) fn window_count(table: &Table) -> u32
-    ensures { result ≡ length (windows_of table.now) }
+    ensures value { result ≡ length (windows_of table.now) }
+    ensures table { IsTable table.now }
 {
     let shape = table.shape();
     shape.count(shape.rounds())
@@ -79,13 +62,11 @@ pub(crate) fn window_count(table: &Table) -> u32
 fn scan_runs(
     table: &Table,
     separation: Separation,
-    far_from: u32,
     window: &mut [u32],
     first: u32,
     low: u64,
     high: u64,
 ) -> Option<u64>
-    requires far { AreFarFree table.now separation.far far_from }
     requires order { low < high }
     requires within { high ≤ length (tuples table.now separation) }
     requires window { IsWindow (2 * table.now.rounds + 1) table.now.ids window.old }
@@ -97,7 +78,7 @@ fn scan_runs(
     let shape = table.shape();
     let last = ((high - 1) / run_len(table, separation)) as u32;
     for number in first..last + 1 {
-        if let Some(found) = least_in_run(table, separation, far_from, window, number, low, high) {
+        if let Some(found) = least_in_run(table, separation, window, number, low, high) {
             return Some(found);
         }
         shape.next_window(shape.rounds(), window);
@@ -109,13 +90,11 @@ fn scan_runs(
 fn least_in_run(
     table: &Table,
     separation: Separation,
-    far_from: u32,
     window: &[u32],
     number: u32,
     low: u64,
     high: u64,
 ) -> Option<u64>
-    requires far { AreFarFree table.now separation.far far_from }
     requires window { IsWindow (2 * table.now.rounds + 1) table.now.ids window.now }
     requires item { slice_get (windows_of table.now) number ≡ Some window.now }
     requires within { high ≤ length (tuples table.now separation) }
@@ -127,7 +106,7 @@ fn least_in_run(
         (λ n. (n < high) × ((tuple : List ℕ) × IsLeastBad table.now separation (max low start) n tuple)) }
 {
     numbers_of_windows();
-    if !may_begin_bad_tuple(table, separation, far_from, window, number) {
+    if !may_begin_bad_tuple(table, separation, window, number) {
         return None;
     }
     let free = run_len(table, separation);

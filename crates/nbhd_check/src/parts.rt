@@ -1,11 +1,10 @@
-// The least bad tuple of all: the tuples are cut into parts, which several threads draw and judge.
+// The least bad tuple of all, run by run: the tuples are cut into parts, which several threads draw and judge.
 ghost use Rattle.std.specs.Prelude.{ℕ, ◌+◌, ◌*◌, ◌<◌, ◌≤◌, length};
 ghost use Rattle.std.specs.Thread.{IsSync};
 ghost use Rattle.nbhd_check.specs.Apart.{tuples};
-ghost use Rattle.nbhd_check.specs.Counts.{AreFarFree};
 ghost use Rattle.nbhd_check.specs.Searches.{IsLeastIn, AreGoodParts};
 
-use crate::part::{judge_from, run_len, window_count};
+use crate::part::{judge_part, run_len, window_count};
 use crate::separation::Separation;
 use crate::tuple::tuple_count;
 use rayon::join;
@@ -23,24 +22,15 @@ pub(crate) const MOST_PARTS: usize = 64;
 type Marks = [bool; MOST_PARTS];
 
 // The least number of a bad tuple of all, by at most so many threads.
-pub(crate) fn least_of_all<R: Threads + Sync>(
+pub(crate) fn least_by_runs<R: Threads + Sync>(
     rt: &R,
     table: &Table,
     separation: Separation,
-    far_from: u32,
     most: u64,
 ) -> Option<u64>
-    requires far { AreFarFree table.now separation.far far_from }
     ensures { IsLeastIn table.now separation 0 (length (tuples table.now separation)) result }
 {
-    least_by_parts(
-        rt,
-        table,
-        separation,
-        far_from,
-        part_len(table, separation),
-        most,
-    )
+    least_by_parts(rt, table, separation, part_len(table, separation), most)
 }
 
 // How many tuples a part has: those of whole runs.
@@ -62,11 +52,9 @@ pub(crate) fn least_by_parts<R: Threads + Sync>(
     rt: &R,
     table: &Table,
     separation: Separation,
-    far_from: u32,
     len: u64,
     most: u64,
 ) -> Option<u64>
-    requires far { AreFarFree table.now separation.far far_from }
     requires some { 0 < len }
     requires enough { length (tuples table.now separation) ≤ MOST_PARTS * len }
     ensures { IsLeastIn table.now separation 0 (length (tuples table.now separation)) result }
@@ -80,14 +68,13 @@ pub(crate) fn least_by_parts<R: Threads + Sync>(
             rt,
             table,
             separation,
-            far_from,
             len,
             parts as usize,
             &AtomicUsize::new(0),
             threads,
         )
     };
-    least_unmarked(table, separation, far_from, len, parts as usize, &marks)
+    least_unmarked(table, separation, len, parts as usize, &marks)
 }
 
 // The parts that so many threads found without a bad tuple. Each judges the parts that it has drawn, and this thread waits
@@ -97,13 +84,11 @@ fn judged_by<R: Threads + Sync>(
     rt: &R,
     table: &Table,
     separation: Separation,
-    far_from: u32,
     len: u64,
     parts: usize,
     next: &AtomicUsize,
     threads: u64,
 ) -> Marks
-    requires far { AreFarFree table.now separation.far far_from }
     requires few { parts ≤ MOST_PARTS }
     requires begin { (part : ℕ) → part < parts → part * len < length (tuples table.now separation) }
     ensures { AreGoodParts table.now separation len result }
@@ -114,24 +99,13 @@ fn judged_by<R: Threads + Sync>(
     let (own, others) = join(
         rt,
         move || -> Marks
-            requires { AreFarFree table.now separation.far far_from × (parts ≤ MOST_PARTS) × ((part : ℕ) → part < parts → part * len < length (tuples table.now separation)) }
+            requires { (parts ≤ MOST_PARTS) × ((part : ℕ) → part < parts → part * len < length (tuples table.now separation)) }
             ensures { AreGoodParts table.entry.now separation len result }
-        { draw_parts(table, separation, far_from, len, parts, next) },
+        { draw_parts(table, separation, len, parts, next) },
         move || -> Marks
-            requires { AreFarFree table.now separation.far far_from × IsSync R.row × (0 < threads) × (parts ≤ MOST_PARTS) × ((part : ℕ) → part < parts → part * len < length (tuples table.now separation)) }
+            requires { IsSync R.row × (0 < threads) × (parts ≤ MOST_PARTS) × ((part : ℕ) → part < parts → part * len < length (tuples table.now separation)) }
             ensures { AreGoodParts table.entry.now separation len result }
-        {
-            judged_by(
-                rt,
-                table,
-                separation,
-                far_from,
-                len,
-                parts,
-                next,
-                threads - 1,
-            )
-        },
+        { judged_by(rt, table, separation, len, parts, next, threads - 1) },
     );
     marked_in_either(table, separation, len, own, &others)
 }
@@ -148,12 +122,10 @@ fn no_marks(table: &Table, separation: Separation, len: u64) -> Marks
 fn draw_parts(
     table: &Table,
     separation: Separation,
-    far_from: u32,
     len: u64,
     parts: usize,
     next: &AtomicUsize,
 ) -> Marks
-    requires far { AreFarFree table.now separation.far far_from }
     requires few { parts ≤ MOST_PARTS }
     requires begin { (part : ℕ) → part < parts → part * len < length (tuples table.now separation) }
     ensures { AreGoodParts table.now separation len result }
@@ -164,7 +136,7 @@ fn draw_parts(
         if part >= parts {
             return marks;
         }
-        if least_of_part(table, separation, far_from, len, part).is_some() {
+        if least_of_part(table, separation, len, part).is_some() {
             next.store(parts, Ordering::SeqCst);
             return marks;
         }
@@ -197,12 +169,10 @@ fn marked_in_either(
 fn least_unmarked(
     table: &Table,
     separation: Separation,
-    far_from: u32,
     len: u64,
     parts: usize,
     marks: &Marks,
 ) -> Option<u64>
-    requires far { AreFarFree table.now separation.far far_from }
     requires few { parts ≤ MOST_PARTS }
     requires begin { (part : ℕ) → part < parts → part * len < length (tuples table.now separation) }
     requires all { length (tuples table.now separation) ≤ parts * len }
@@ -211,7 +181,7 @@ fn least_unmarked(
 {
     for part in 0..parts {
         if !marks[part] {
-            if let Some(number) = least_of_part(table, separation, far_from, len, part) {
+            if let Some(number) = least_of_part(table, separation, len, part) {
                 return Some(number);
             }
         }
@@ -220,18 +190,11 @@ fn least_unmarked(
 }
 
 // The least number of a bad tuple of a part.
-fn least_of_part(
-    table: &Table,
-    separation: Separation,
-    far_from: u32,
-    len: u64,
-    part: usize,
-) -> Option<u64>
-    requires far { AreFarFree table.now separation.far far_from }
+fn least_of_part(table: &Table, separation: Separation, len: u64, part: usize) -> Option<u64>
     requires begin { part * len < length (tuples table.now separation) }
     ensures { IsLeastIn table.now separation (part * len) (part * len + len) result }
 {
     let count = tuple_count(table, separation);
     let low = part as u64 * len;
-    judge_from(table, separation, far_from, low, low + len.min(count - low))
+    judge_part(table, separation, low, low + len.min(count - low))
 }

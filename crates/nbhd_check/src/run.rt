@@ -4,8 +4,7 @@ ghost use Rattle.std.specs.Prelude.{◌≡◌, ℕ, ◌+◌, ◌*◌, ◌<◌, �
 ghost use Rattle.std.specs.Bool.{OnFalse};
 ghost use Rattle.win_index.specs.Windows.{IsWindow};
 ghost use Rattle.table_fill.specs.Tables.{windows_of};
-ghost use Rattle.nbhd_check.specs.Counts.{AreFarFree, BeginsFarTuple};
-ghost use Rattle.nbhd_check.specs.Runs.{BeginsBadTuple, NoneCloseAfter, AreChannelsAfter};
+ghost use Rattle.nbhd_check.specs.Runs.{BeginsBadTuple, BeginsFarTuple, NoneCloseAfter, AreChannelsAfter};
 
 use crate::gaps::has_close_outside;
 use crate::laws::numbers_of_windows;
@@ -13,16 +12,13 @@ use crate::separation::Separation;
 use table_fill::Table;
 use win_index::{MAX_TUPLE_LEN, place_among_unused};
 
-// Whether a tuple that begins with this window may be bad: where not, none is. The windows before `far_from` are known to
-// begin none whose third window is too close.
+// Whether a tuple that begins with this window may be bad: where not, none is.
 pub(crate) fn may_begin_bad_tuple(
     table: &Table,
     separation: Separation,
-    far_from: u32,
     window: &[u32],
     number: u32,
 ) -> bool
-    requires far { AreFarFree table.now separation.far far_from }
     requires window { IsWindow (2 * table.now.rounds + 1) table.now.ids window.now }
     requires item { slice_get (windows_of table.now) number ≡ Some window.now }
     ensures { OnFalse result (¬ BeginsBadTuple table.now separation window.now) }
@@ -30,26 +26,16 @@ pub(crate) fn may_begin_bad_tuple(
     numbers_of_windows();
     let channel = table.entries()[number as usize];
     may_be_close_next(table, window, separation.near, channel)
-        || may_begin_far_tuple(table, separation.far, far_from, window, number)
+        || may_begin_far_tuple(table, separation.far, window, number)
 }
 
 // Whether the third window of a tuple that begins with this window may be too close: where not, none is.
-fn may_begin_far_tuple(
-    table: &Table,
-    distance: u32,
-    far_from: u32,
-    window: &[u32],
-    number: u32,
-) -> bool
-    requires far { AreFarFree table.now distance far_from }
+fn may_begin_far_tuple(table: &Table, distance: u32, window: &[u32], number: u32) -> bool
     requires window { IsWindow (2 * table.now.rounds + 1) table.now.ids window.now }
     requires item { slice_get (windows_of table.now) number ≡ Some window.now }
     ensures { OnFalse result (¬ BeginsFarTuple table.now distance window.now) }
 {
     numbers_of_windows();
-    if number < far_from {
-        return false;
-    }
     let channel = table.entries()[number as usize];
     may_be_close_at_two(table, window, distance, channel)
 }

@@ -9,7 +9,7 @@ use std::process::Abort;
 use std::test::Fail;
 use std::thread::Threads;
 use table_fill::{Table, TableMaker};
-use win_index::Shape;
+use win_index::{MAX_WINDOW_LEN, Shape};
 
 // Neighbours' channels differ.
 const NEIGHBOURS: Separation = Separation { near: 1, far: 0 };
@@ -40,23 +40,31 @@ fn table_of_identifiers(rt: &impl Abort, alloc: Global, channels: &[u32]) -> Res
     table_of(rt, alloc, shape, count, channels)
 }
 
-// The table of one round and five identifiers that gives each window its middle, but one window another channel.
+// The identifiers in the middle of all windows.
+fn middles(alloc: Global, shape: Shape) -> Result<Vec<u32>, AllocError> {
+    let level = shape.rounds();
+    let mut channels = Vec::new(alloc);
+    let mut cells = [0; MAX_WINDOW_LEN];
+    let window = &mut cells[..2 * level as usize + 1];
+    for number in 0..shape.count(level) {
+        shape.window(level, number, window);
+        channels.push(window[level as usize])?;
+    }
+    Ok(channels)
+}
+
+// The table that gives each window its middle, but one window another channel.
 fn table_of_middles(
     rt: &impl Abort,
     alloc: Global,
+    shape: Shape,
     changed: usize,
     channel: u32,
 ) -> Result<Table, Fail> {
-    let shape = Shape::new(5, 1).expect(rt, "a shape");
-    let mut channels = Vec::new(alloc);
-    for number in 0..shape.count(1) {
-        let mut window = [0; 3];
-        shape.window(1, number, &mut window);
-        channels.push(window[1])?;
-    }
+    let mut channels = middles(alloc, shape)?;
     assert!(rt; changed < channels.len());
     channels[changed] = channel;
-    table_of(rt, alloc, shape, 5, &channels)
+    table_of(rt, alloc, shape, shape.ids(), &channels)
 }
 
 // The least number of a bad tuple, by parts of so many tuples, or of more where there would be too many parts.
@@ -71,7 +79,7 @@ fn least_in_parts<R: Abort + Threads + Sync>(
     let count = tuple_count(table, separation);
     let len = len.max(count.div_ceil(most));
     assert!(rt; 0 < len && len <= 1 << 32 && count <= most * len);
-    least_by_parts(rt, table, separation, 0, len, threads)
+    least_by_parts(rt, table, separation, len, threads)
 }
 
 // The ring of a no, with its places and their channels.
@@ -161,7 +169,8 @@ fn bad_tuples_beside_the_gap(rt: HostRuntime) -> Result<(), Fail> {
 // The window of 1, 2 and 3 has the channel 1: the bad tuples are 0, 1, 2, 3 and 4, 1, 2, 3.
 #[test]
 fn bad_tuples_of_one_round(rt: HostRuntime) -> Result<(), Fail> {
-    let table = table_of_middles(&rt, rt.alloc(), 16, 1)?;
+    let shape = Shape::new(5, 1).expect(&rt, "a shape");
+    let table = table_of_middles(&rt, rt.alloc(), shape, 16, 1)?;
     assert!(rt; table.shape().tuples(1) == 120);
     let rows = [
         (0, 120, Some(0)),

@@ -1,6 +1,5 @@
-use crate::far::far_free_windows;
 use crate::laws::tuples_suffice;
-use crate::parts::least_of_all;
+use crate::least::least_of_all;
 use crate::separation::Separation;
 use crate::tuple::{channel_from, is_close_next, tuple_len, write_tuple};
 use node_lang::OutOfMemory;
@@ -80,8 +79,7 @@ fn judge_in<R: Threads + Sync>(
     ensures memory { OnErr result (¬ IsApartEverywhere table.now separation) }
 {
     tuples_suffice();
-    let far_from = far_free_windows(alloc, table, separation.far);
-    match least_of_all(rt, table, separation, far_from, threads) {
+    match least_of_all(rt, alloc, table, separation, threads) {
         None => Ok(Verdict::Yes),
         Some(number) => no(alloc, table, separation, number),
     }

@@ -2,9 +2,9 @@
 
 ghost use Rattle.std.specs.Prelude.{◌+◌, ◌*◌, ◌≤◌, length};
 
-use super::{found_in, least_in_parts, table_of};
+use super::{found_in, least_in_parts, table_of, table_of_middles};
 use crate::tuple::{tuple_count, tuple_len, write_tuple};
-use crate::{Separation, Verdict, judge, judge_part};
+use crate::{Separation, Verdict, judge, judge_part, judge_with_workers};
 use std::alloc::{AllocError, Global};
 use std::process::Abort;
 use std::test::Fail;
@@ -146,6 +146,61 @@ fn the_judge_beside_a_walk(rt: HostRuntime) -> Result<(), Fail> {
         good = good.saturating_add(some);
     }
     assert!(rt; 30 < good && good < 300, "{good} are good");
+    Ok(())
+}
+
+// The judge beside a walk, on tables that give each window its middle, but one window another channel: one window in so many in
+// turn, and the last. With near 1 and far 1 a bad tuple has that window first, second or third.
+fn assert_middles<R: Abort + Threads + Sync>(
+    rt: &R,
+    alloc: Global,
+    shape: Shape,
+    each: usize,
+    separation: Separation,
+) -> Result<(), Fail> {
+    let count = shape.count(shape.rounds()) as usize;
+    for number in 0..count {
+        if number % each.max(1) == 0 || number + 1 == count {
+            let channel = (number % shape.ids() as usize) as u32;
+            let table = table_of_middles(rt, alloc, shape, number, channel)?;
+            is_good(rt, alloc, &table, separation)?;
+            assert_workers_agree(rt, alloc, &table, separation)?;
+        }
+    }
+    Ok(())
+}
+
+// The verdict is the same for every number of workers.
+fn assert_workers_agree<R: Abort + Threads + Sync>(
+    rt: &R,
+    alloc: Global,
+    table: &Table,
+    separation: Separation,
+) -> Result<(), Fail> {
+    let one = judge_with_workers(rt, alloc, table, separation, 1).map_err(|_| AllocError)?;
+    for workers in [0, 2, 3, 64] {
+        let other = judge_with_workers(rt, alloc, table, separation, workers).map_err(
+            |_| AllocError,
+        )?;
+        assert!(rt; one == other, "{workers} workers");
+    }
+    Ok(())
+}
+
+// These shapes have blocks that are counted.
+#[test]
+fn one_other_channel_beside_a_walk(rt: HostRuntime) -> Result<(), Fail> {
+    let rows = [
+        (5, 1, 1, 1, 1),
+        (6, 1, 7, 0, 1),
+        (6, 1, 11, 1, 2),
+        (7, 2, 499, 1, 1),
+    ];
+    for (ids, rounds, each, near, far) in rows {
+        assert!(rt; rounds <= MAX_ROUNDS);
+        let shape = Shape::new(ids, rounds).expect(&rt, "a shape");
+        assert_middles(&rt, rt.alloc(), shape, each, Separation { near, far })?;
+    }
     Ok(())
 }
 

@@ -1,4 +1,4 @@
-use Rattle.std.proofs.Common.{◌≡◌, ◌≢◌, ℕ, ◌+◌, ◌-◌, ◌*◌, ◌<◌, ◌≤◌, true, false, eqb, ltb, cond, length, get_or, sym, ap, ◌∙◌, arith, add-zero, ⊎_elim}
+use Rattle.std.proofs.Common.{◌≡◌, ◌≢◌, ℕ, ◌+◌, ◌-◌, ◌*◌, true, false, eqb, ltb, cond, length, get_or, sym, ap, ◌∙◌, arith, add-zero, ⊎_elim}
 use Rattle.std.proofs.lemmas.Bool.Decides.{eqb_tells}
 use Rattle.nbhd_check.specs.Counts.{held_count}
 use Rattle.nbhd_check.proofs.Cells.{rows_within}
@@ -9,7 +9,7 @@ pub add_row_before-requires-clause-few : goal.add_row_before-requires-clause-few
 add_row_before-requires-clause-few c = λ x lt.
     let t = c.args.table.now in
     let row = c.loop-row.row in
-    let within = rows_within row t.channels c.ids.result t.ids (length c.loop-row.cells) (omega arith) (c.ids.ensures ∙ c.shape.ensures.ids)
+    let within = rows_within row c.args.limit c.ids.result t.ids (length c.loop-row.cells) (omega arith) (c.ids.ensures ∙ c.shape.ensures.ids)
     (c.loop-row.auto.cells ∙ c.requires.room) in
     let here = c.loop-row.invariant.1 row x lt (omega arith) within in
     let before = c.loop-row.invariant.0 (row - 1) x lt (omega arith) in
@@ -23,7 +23,7 @@ loop-row-preserved c =
     let row = c.loop-row.row in
     let wide : ℕ = c.ids.result + 1 in
     let cells = c.loop-row.cells in
-    let rows = rows_within row t.channels c.ids.result t.ids (length cells) (omega arith) (c.ids.ensures ∙ c.shape.ensures.ids)
+    let rows = rows_within row c.args.limit c.ids.result t.ids (length cells) (omega arith) (c.ids.ensures ∙ c.shape.ensures.ids)
     (c.loop-row.auto.cells ∙ c.requires.room) in (
       λ v x lt below. c.add_row_before.ensures v x lt ∙ ⊎_elim
           (λ (same : (eqb v row ≡ true) × (v ≡ row)).

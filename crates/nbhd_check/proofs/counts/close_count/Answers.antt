@@ -1,4 +1,4 @@
-use Rattle.std.proofs.Common.{◌≡◌, ℕ, ◌+◌, ◌-◌, ◌*◌, ◌<◌, ◌≤◌, nat_lt, min, length, get_or, sym, ap, ◌∙◌, arith, refl}
+use Rattle.std.proofs.Common.{◌≡◌, ℕ, ◌+◌, ◌-◌, ◌*◌, ◌<◌, ◌≤◌, nat_lt, min, length, get_or, ap, ◌∙◌, arith, refl}
 use Rattle.nbhd_check.specs.Counts.{held_count}
 use Rattle.nbhd_check.proofs.Cells.{rows_within}
 use Rattle.nbhd_check.proofs.HeldCounts.{close_of_sums, entries_below}
@@ -8,19 +8,20 @@ pub returns : goal.returns
 returns c = λ first n sums.
     let t = c.args.table.now in
     let x = c.args.x in
-    let list = c.args.sums.now in
+    let list = c.deref-cells.result.now in
+    let list_is = c.deref-cells.ensures.value in
     let low = c.saturating_sub-low.result in
     let high = c.min-high.result in
-    let begun = c.channels.ensures.table.begun in
-    let few = begun.few_channels in
+    let limit = c.args.counts.now.limit in
     let ids_is : c.ids.result ≡ t.ids = c.ids.ensures ∙ c.shape.ensures.ids in
-    let high_is : high ≡ min (c.args.channel + c.args.distance) t.channels = omega arith in
+    let high_is : high ≡ min (c.args.channel + c.args.distance) limit = omega arith in
     let low_is : low ≡ c.args.channel + 1 - c.args.distance = omega arith in
     let in_x : x < t.ids + 1 = omega arith in
-    let read : (v : ℕ) → v ≤ t.channels → get_or list (v * (c.ids.result + 1) + x) 0 ≡ held_count t first n x (λ channel. nat_lt channel v) = λ v le.
+    let read : (v : ℕ) → v ≤ limit → get_or list (v * (c.ids.result + 1) + x) 0 ≡ held_count t first n x (λ channel. nat_lt channel v) = λ v le.
     ap (λ w. get_or list (v * (w + 1) + x) 0) ids_is
-    ∙ sums v x in_x (rows_within v t.channels t.ids t.ids (length list) le refl c.requires.room) in
+    ∙ ap (λ l. get_or l (v * (t.ids + 1) + x) 0) list_is
+    ∙ sums v x in_x (rows_within v limit t.ids t.ids (length c.args.counts.now.cells.items) le refl c.requires.fit.room) in
     c.saturating_sub.ensures
     ∙ (λ q. read high (omega arith) q - read low (omega arith) q)
-    ∙ close_of_sums t first n x c.args.channel c.args.distance low high t.channels c.requires.some
-    (entries_below t.entries t.channels begun.some_channels begun.below) low_is high_is
+    ∙ close_of_sums t first n x c.args.channel c.args.distance low high limit c.requires.some
+    (entries_below t.entries limit (omega arith) c.requires.fit.limit) low_is high_is

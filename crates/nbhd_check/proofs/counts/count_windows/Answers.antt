@@ -1,26 +1,28 @@
-use Rattle.std.proofs.Common.{◌≡◌, ◌≢◌, ◌==◌, ◌&&◌, ℕ, ◌+◌, ◌-◌, ◌*◌, ◌<◌, ◌≤◌, eqb, cond, Some, length, get_or, slice_get, sym, ap, ◌∙◌, arith, refl}
+use Rattle.std.proofs.Common.{◌≡◌, ◌==◌, ◌&&◌, ℕ, ◌+◌, ◌-◌, ◌*◌, ◌<◌, ◌≤◌, eqb, cond, length, get_or, sym, ap, ◌∙◌, arith}
 use Rattle.std.proofs.lemmas.Grind.{common_steps}
 use Rattle.win_index.specs.declared.limits.TheConstants.{MAX_WINDOWS}
 use Rattle.table_fill.specs.Tables.{windows_of}
 use Rattle.nbhd_check.specs.Counts.{held_count}
-use Rattle.nbhd_check.proofs.Cells.{rows_within, cond_one}
-use Rattle.nbhd_check.proofs.HeldCounts.{count_few, window_counted, entries_below}
+use Rattle.nbhd_check.proofs.Cells.{cond_one}
+use Rattle.nbhd_check.proofs.HeldCounts.{count_few, window_counted, entries_below, row_within}
 use Rattle.nbhd_check.proofs.counts.count_windows.Goals as goal
 
 pub count_in-requires-clause-few : goal.count_in-requires-clause-few
 count_in-requires-clause-few c =
     let t = c.args.table.now in
     let row : ℕ = c.entry.result + 1 in
-    let x : ℕ = get_or c.loop-number.window 1 0 in
+    let x : ℕ = get_or c.loop-number.window (2 * (c.rounds.result - 1) + 1) 0 in
     let is = c.loop-number.invariant.1 in
     let size = is.size in
-    let one = c.requires.rounds in
+    let one = c.requires.some in
+    let rounds_is : c.rounds.result ≡ t.rounds = c.rounds.ensures ∙ c.shape-shape.ensures.rounds in
     let small : length (windows_of t) ≤ MAX_WINDOWS = c.entry.ensures.table.begun.shape.few_windows in
     let below = entries_below t.entries t.channels c.entry.ensures.table.begun.some_channels c.entry.ensures.table.begun.below c.loop-number.number in
     let value = c.entry.ensures.value in
+    let in_table : c.loop-number.number < length t.entries = omega arith in
     let ids_is : c.ids.result ≡ t.ids = c.ids.ensures ∙ c.shape-shape.ensures.ids in
-    let in_x : x < t.ids + 1 = omega (arith, is.below 1 0 (omega arith)) in
-    let read = c.loop-number.invariant.2 row x in_x (rows_within row t.channels t.ids t.ids (length c.loop-number.cells) (omega arith) refl (c.loop-number.auto.cells ∙ c.requires.room)) in
+    let in_x : x < t.ids + 1 = omega (arith, is.below (2 * (c.rounds.result - 1) + 1) 0 (omega arith)) in
+    let read = c.loop-number.invariant.2 row x in_x (row_within t c.loop-number.number row (length c.loop-number.cells) (length c.args.cells.now) (omega arith) c.loop-number.auto.cells in_table c.requires.rows) in
     let few = count_few t c.args.first (c.loop-number.number - c.args.first) x (λ channel. row == channel + 1) in
     let same = ap (λ w. get_or c.loop-number.cells (row * (w + 1) + x) 0) ids_is in
     omega (arith, read, few, same)
@@ -29,41 +31,44 @@ pub count_in-requires-in-loop-number-clause-few : goal.count_in-requires-in-loop
 count_in-requires-in-loop-number-clause-few c =
     let t = c.args.table.now in
     let row : ℕ = c.entry.result + 1 in
-    let x : ℕ = get_or c.loop-number.window 2 0 in
+    let x : ℕ = get_or c.loop-number.window (2 * (c.rounds.result - 1) + 1 + 1) 0 in
     let is = c.loop-number.invariant.1 in
     let size = is.size in
-    let one = c.requires.rounds in
+    let one = c.requires.some in
+    let rounds_is : c.rounds.result ≡ t.rounds = c.rounds.ensures ∙ c.shape-shape.ensures.rounds in
     let small : length (windows_of t) ≤ MAX_WINDOWS = c.entry.ensures.table.begun.shape.few_windows in
     let below = entries_below t.entries t.channels c.entry.ensures.table.begun.some_channels c.entry.ensures.table.begun.below c.loop-number.number in
     let value = c.entry.ensures.value in
+    let in_table : c.loop-number.number < length t.entries = omega arith in
     let ids_is : c.ids.result ≡ t.ids = c.ids.ensures ∙ c.shape-shape.ensures.ids in
-    let below_x = is.below 2 0 (omega arith) in
+    let below_x = is.below (2 * (c.rounds.result - 1) + 1 + 1) 0 (omega arith) in
     let in_x : x < t.ids + 1 = omega arith in
     let in_wide : x < c.ids.result + 1 = omega arith in
-    let read = c.loop-number.invariant.2 row x in_x (rows_within row t.channels t.ids t.ids (length c.loop-number.cells) (omega arith) refl (c.loop-number.auto.cells ∙ c.requires.room)) in
+    let read = c.loop-number.invariant.2 row x in_x (row_within t c.loop-number.number row (length c.loop-number.cells) (length c.args.cells.now) (omega arith) c.loop-number.auto.cells in_table c.requires.rows) in
     let few = count_few t c.args.first (c.loop-number.number - c.args.first) x (λ channel. row == channel + 1) in
     let same = ap (λ w. get_or c.loop-number.cells (row * (w + 1) + x) 0) ids_is in
     let first = c.count_in.ensures row x in_wide in
-    omega (arith, read, few, same, first, cond_one (eqb row row && eqb x (get_or c.loop-number.window 1 0)))
+    omega (arith, read, few, same, first, cond_one (eqb row row && eqb x (get_or c.loop-number.window (2 * (c.rounds.result - 1) + 1) 0)))
 
 pub count_in-requires-in-loop-number-2-clause-few : goal.count_in-requires-in-loop-number-2-clause-few
 count_in-requires-in-loop-number-2-clause-few c =
     let t = c.args.table.now in
     let row : ℕ = c.entry.result + 1 in
     let x : ℕ = c.ids.result + 1 - 1 in
-    let one = c.requires.rounds in
+    let one = c.requires.some in
     let small : length (windows_of t) ≤ MAX_WINDOWS = c.entry.ensures.table.begun.shape.few_windows in
     let below = entries_below t.entries t.channels c.entry.ensures.table.begun.some_channels c.entry.ensures.table.begun.below c.loop-number.number in
     let value = c.entry.ensures.value in
+    let in_table : c.loop-number.number < length t.entries = omega arith in
     let ids_is : c.ids.result ≡ t.ids = c.ids.ensures ∙ c.shape-shape.ensures.ids in
     let in_x : x < t.ids + 1 = omega arith in
     let in_wide : x < c.ids.result + 1 = omega arith in
-    let read = c.loop-number.invariant.2 row x in_x (rows_within row t.channels t.ids t.ids (length c.loop-number.cells) (omega arith) refl (c.loop-number.auto.cells ∙ c.requires.room)) in
+    let read = c.loop-number.invariant.2 row x in_x (row_within t c.loop-number.number row (length c.loop-number.cells) (length c.args.cells.now) (omega arith) c.loop-number.auto.cells in_table c.requires.rows) in
     let few = count_few t c.args.first (c.loop-number.number - c.args.first) x (λ channel. row == channel + 1) in
     let same = ap (λ w. get_or c.loop-number.cells (row * (w + 1) + x) 0) ids_is in
     let first = c.count_in.ensures row x in_wide in
     let second = c.count_in-in-loop-number.ensures row x in_wide in
-    omega (arith, read, few, same, first, second, cond_one (eqb row row && eqb x (get_or c.loop-number.window 1 0)), cond_one (eqb row row && eqb x (get_or c.loop-number.window 2 0)))
+    omega (arith, read, few, same, first, second, cond_one (eqb row row && eqb x (get_or c.loop-number.window (2 * (c.rounds.result - 1) + 1) 0)), cond_one (eqb row row && eqb x (get_or c.loop-number.window (2 * (c.rounds.result - 1) + 1 + 1) 0)))
 
 pub loop-number-preserved : goal.loop-number-preserved
 loop-number-preserved c =
@@ -72,9 +77,11 @@ loop-number-preserved c =
     let number = c.loop-number.number in
     let n : ℕ = number - c.args.first in
     let window = c.loop-number.window in
+    let place : ℕ = 2 * (c.rounds.result - 1) + 1 in
+    let rounds_is : c.rounds.result ≡ t.rounds = c.rounds.ensures ∙ c.shape-shape.ensures.rounds in
     let is = c.loop-number.invariant.1 in
     let size = is.size in
-    let one = c.requires.rounds in
+    let one = c.requires.some in
     let ids_is : c.ids.result ≡ t.ids = c.ids.ensures ∙ c.shape-shape.ensures.ids in
     let last : c.ids.result + 1 - 1 ≡ t.ids = omega arith in
     let more : number + 1 - c.args.first ≡ n + 1 = omega arith in
@@ -86,16 +93,16 @@ loop-number-preserved c =
           let turn : (w : ℕ) → ℕ = λ w. get_or c.count_in-in-loop-number-2.new.cells (v * (w + 1) + x) 0 in
           let old = c.loop-number.invariant.2 v x lt (omega (arith, within)) in
           let back = ap (λ w. get_or c.loop-number.cells (v * (w + 1) + x) 0) ids_is in
-          let counted = window_counted t c.args.first number n x v c.entry.result window here (c.loop-number.invariant.0 c.loop-number-test.true) c.entry.ensures.value
-          (is.below 1 0 (omega arith)) (is.below 2 0 (omega arith)) (is.distinct 1 2 0 (omega arith) (omega arith)) in
+          let counted = window_counted t c.args.first number n x v c.entry.result place (place + 1) window here (c.loop-number.invariant.0 c.loop-number-test.true) c.entry.ensures.value (omega arith) (omega arith)
+          (is.below (2 * (c.rounds.result - 1) + 1) 0 (omega arith)) (is.below (2 * (c.rounds.result - 1) + 1 + 1) 0 (omega arith)) (is.distinct place (place + 1) 0 (omega arith) (omega arith)) in
           ap turn (sym ids_is)
           ∙ c.count_in-in-loop-number-2.ensures v x in_wide
           ∙ ap (λ k. k + cond (eqb v row && eqb x (c.ids.result + 1 - 1)) 1 0) (c.count_in-in-loop-number.ensures v x in_wide)
-          ∙ ap (λ k. k + cond (eqb v row && eqb x (get_or window 2 0)) 1 0 + cond (eqb v row && eqb x (c.ids.result + 1 - 1)) 1 0) (c.count_in.ensures v x in_wide)
-          ∙ ap (λ k. k + cond (eqb v row && eqb x (get_or window 1 0)) 1 0 + cond (eqb v row && eqb x (get_or window 2 0)) 1 0
+          ∙ ap (λ k. k + cond (eqb v row && eqb x (get_or window (place + 1) 0)) 1 0 + cond (eqb v row && eqb x (c.ids.result + 1 - 1)) 1 0) (c.count_in.ensures v x in_wide)
+          ∙ ap (λ k. k + cond (eqb v row && eqb x (get_or window place 0)) 1 0 + cond (eqb v row && eqb x (get_or window (place + 1) 0)) 1 0
           + cond (eqb v row && eqb x (c.ids.result + 1 - 1)) 1 0) (back ∙ old)
-          ∙ ap (λ m. held_count t c.args.first n x (λ channel. v == channel + 1) + cond (eqb v row && eqb x (get_or window 1 0)) 1 0
-          + cond (eqb v row && eqb x (get_or window 2 0)) 1 0 + cond (eqb v row && eqb x m) 1 0) last
+          ∙ ap (λ m. held_count t c.args.first n x (λ channel. v == channel + 1) + cond (eqb v row && eqb x (get_or window place 0)) 1 0
+          + cond (eqb v row && eqb x (get_or window (place + 1) 0)) 1 0 + cond (eqb v row && eqb x m) 1 0) last
           ∙ counted
           ∙ ap (λ m. held_count t c.args.first m x (λ channel. v == channel + 1)) (sym more),
     )

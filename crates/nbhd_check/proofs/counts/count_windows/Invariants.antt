@@ -1,4 +1,4 @@
-use Rattle.std.proofs.Common.{◌≡◌, ◌==◌, ℕ, ◌+◌, ◌-◌, ◌*◌, ◌<◌, Some, slice_get}
+use Rattle.std.proofs.Common.{◌≡◌, ◌==◌, ◌+◌, ◌-◌, ◌*◌, ◌<◌, Some, slice_get}
 use Rattle.win_index.specs.Windows.{IsWindow}
 use Rattle.table_fill.specs.Tables.{windows_of}
 use Rattle.nbhd_check.specs.Counts.{held_count, AreCells}

@@ -1,7 +1,12 @@
-use Rattle.std.proofs.Common.{◌≡◌, ◌<◌, get_or}
-use Rattle.nbhd_check.specs.Counts.{AreFarFreeIn}
+use Rattle.std.proofs.Common.{◌≡◌, ◌<◌, ◌≤◌, drop, get_or}
+use Rattle.nbhd_check.specs.Counts.{middle_of, AreCountsOnceMade, CountsFit}
+use Rattle.nbhd_check.specs.FarSearch.{AreFarFreeIn}
 use Rattle.nbhd_check.proofs.far.far_free_from.Given as goal
 
-abbrev pub invariant-loop-middle : goal.invariant-loop-middle
-invariant-loop-middle l =
-    AreFarFreeIn l.table l.distance l.least (λ window. (get_or window 0 0 ≡ l.first) × (get_or window 1 0 < l.middle) × (get_or window 2 0 ≡ l.last))
+-- the list has the same first identifier and the same ones in its middle, and the windows so far are searched
+abbrev pub invariant-loop-second : goal.invariant-loop-second
+invariant-loop-second l =
+    (get_or l.list 0 0 ≡ get_or l.initial.list 0 0) × (middle_of l.table l.list ≡ middle_of l.table l.initial.list)
+    × CountsFit l.table l.counts × AreCountsOnceMade l.table (middle_of l.table l.initial.list) l.counts × (l.least ≤ l.fn.least)
+    × AreFarFreeIn l.table l.distance l.least
+    (λ window. (get_or window 0 0 ≡ get_or l.initial.list 0 0) × (get_or window 1 0 < l.second) × (drop 2 window ≡ middle_of l.table l.initial.list))

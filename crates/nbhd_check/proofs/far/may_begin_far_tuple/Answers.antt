@@ -1,61 +1,94 @@
-use Rattle.std.proofs.Common.{◌≡◌, ◌≢◌, ℕ, ◌+◌, ◌*◌, ◌<◌, ◌≤◌, [], ◌∷◌, nat_lt, get_or, sym, ap, ◌∙◌, arith}
+use Rattle.std.proofs.Common.{◌≡◌, ℕ, ◌+◌, ◌-◌, ◌*◌, [], ◌∷◌, ◌++◌, nat_lt, length, get_or, take, drop, Some, subst, sym, ap, ◌∙◌, arith}
 use Rattle.std.specs.Int.{abs_diff}
 use Rattle.std.proofs.lemmas.Bool.{OnFalse_from, ltb-false}
+use Rattle.std.proofs.lemmas.List.{get_or-take}
 use Rattle.win_index.specs.Windows.{IsWindow}
-use Rattle.nbhd_check.specs.Counts.{BeginsFarTuple, held_count}
+use Rattle.nbhd_check.specs.Counts.{held_count, middle_of}
+use Rattle.nbhd_check.specs.Runs.{BeginsFarTuple}
+use Rattle.nbhd_check.proofs.Ends.{last_is, front_kept, moved_window}
 use Rattle.nbhd_check.proofs.FarCounts.{none_far}
-use Rattle.nbhd_check.proofs.FarFree.{channel_below, window_of_three}
 use Rattle.nbhd_check.proofs.Fronts.{number_of_window}
 use Rattle.nbhd_check.proofs.far.may_begin_far_tuple.Goals as goal
 
-pub close_count-all-requires-clause-channel : goal.close_count-all-requires-clause-channel
-close_count-all-requires-clause-channel c =
-    channel_below c.numbers_of_windows.ensures c.args.table.now c.args.window.now c.channel_of_window-channel.result c.shape.ensures.table c.requires.window
-    c.channel_of_window-channel.ensures
-
-pub close_count-with_first-requires-clause-channel : goal.close_count-with_first-requires-clause-channel
-close_count-with_first-requires-clause-channel c =
-    channel_below c.numbers_of_windows.ensures c.args.table.now c.args.window.now c.channel_of_window-channel.result c.shape.ensures.table c.requires.window
-    c.channel_of_window-channel.ensures
-
-pub close_count-with_middle-requires-clause-channel : goal.close_count-with_middle-requires-clause-channel
-close_count-with_middle-requires-clause-channel c =
-    channel_below c.numbers_of_windows.ensures c.args.table.now c.args.window.now c.channel_of_window-channel.result c.shape.ensures.table c.requires.window
-    c.channel_of_window-channel.ensures
-
-pub returns : goal.returns
-returns c =
+pub close_one-one-requires : goal.close_one-one-requires
+close_one-one-requires c =
     let t = c.args.table.now in
-    let laws = c.numbers_of_windows.ensures in
-    let window = c.args.window.now in
-    let a : ℕ = get_or window 0 0 in
-    let b : ℕ = get_or window 1 0 in
-    let z : ℕ = get_or window 2 0 in
+    let list = c.args.list.now in
+    let kept : length c.set_last.new.list ≡ length list = c.set_last.auto.list in
+    let last = last_is t list c.set_last.new.list (get_or list 0 0) (get_or list 1 0) (length c.set_last.new.list - 2) c.requires.some c.requires.long c.set_last.ensures (omega arith) in
+    record {
+      window = subst (IsWindow (2 * t.rounds + 1) t.ids) (sym last)
+          (moved_window t list 0 1 c.requires.some c.requires.window (omega arith) (omega arith) (λ e. omega (arith, e)));
+    }
+
+pub close_one-other-requires : goal.close_one-other-requires
+close_one-other-requires c =
+    let t = c.args.table.now in
+    let list = c.args.list.now in
+    let moved = c.set_last.new.list in
+    let kept : length moved ≡ length list = c.set_last.auto.list in
+    let kept_too : length c.set_last-2.new.list ≡ length moved = c.set_last-2.auto.list in
+    let last = last_is t moved c.set_last-2.new.list (get_or list 1 0) (get_or list 0 0) (length c.set_last-2.new.list - 2) c.requires.some (omega arith) c.set_last-2.ensures (omega arith) in
+    let middle : middle_of t moved ≡ middle_of t list = ap (drop 2) (front_kept t list moved (get_or list 0 0) (get_or list 1 0) c.requires.long c.set_last.ensures) in
+    record {
+      window = subst (IsWindow (2 * t.rounds + 1) t.ids) (sym (last ∙ ap (λ z. z ++ get_or list 1 0 ∷ get_or list 0 0 ∷ []) middle))
+          (moved_window t list 1 0 c.requires.some c.requires.window (omega arith) (omega arith) (λ e. omega (arith, e)));
+    }
+
+pub close_count-with_first-requires-clause-x : goal.close_count-with_first-requires-clause-x
+close_count-with_first-requires-clause-x c =
+    let t = c.args.table.now in
+    let list = c.args.list.now in
     let is = c.requires.window in
     let size = is.size in
-    let one = c.requires.rounds in
-    let k : ℕ = 2 * t.rounds + 1 in
-    let three_is : k ≡ 3 = omega arith in
-    let in_a = is.below 0 0 (omega arith) in
-    let in_b = is.below 1 0 (omega arith) in
-    let in_z = is.below 2 0 (omega arith) in
-    let ab : a ≢ b = is.distinct 0 1 0 (omega arith) (omega arith) in
-    let az : a ≢ z = is.distinct 0 2 0 (omega arith) (omega arith) in
-    let bz : b ≢ z = is.distinct 1 2 0 (omega arith) (omega arith) in
-    let first = number_of_window laws k t.ids (z ∷ a ∷ b ∷ []) (window_of_three k t.ids z a b three_is in_z in_a in_b (λ e. az (sym e)) (λ e. bz (sym e)) ab) in
-    let second = number_of_window laws k t.ids (z ∷ b ∷ a ∷ []) (window_of_three k t.ids z b a three_is in_z in_b in_a (λ e. bz (sym e)) (λ e. az (sym e)) (λ e. ab (sym e))) in
-    let low = c.requires.sums.0 in
-    let n = c.requires.sums.1.0 in
-    let block = c.requires.sums.1.1.0 in
-    let sums = c.requires.sums.1.1.1 in
-    let first_is = c.close_count-with_first.ensures low n sums in
-    let middle_is = c.close_count-with_middle.ensures low n sums in
+    omega (arith, is.below 0 0 (omega arith), get_or-take (2 * t.rounds + 1) list 0 0 (omega arith))
+
+pub close_count-with_second-requires-clause-x : goal.close_count-with_second-requires-clause-x
+close_count-with_second-requires-clause-x c =
+    let t = c.args.table.now in
+    let list = c.args.list.now in
+    let is = c.requires.window in
+    let size = is.size in
+    omega (arith, is.below 1 0 (omega arith), get_or-take (2 * t.rounds + 1) list 1 0 (omega arith))
+
+pub returns-clause-far : goal.returns-clause-far
+returns-clause-far c =
+    let t = c.args.table.now in
+    let laws = c.numbers_of_windows.ensures in
+    let list = c.args.list.now in
+    let len : ℕ = 2 * t.rounds + 1 in
+    let window = take len list in
+    let moved = c.set_last.new.list in
+    let again = c.set_last-2.new.list in
+    let a : ℕ = get_or list 0 0 in
+    let b : ℕ = get_or list 1 0 in
+    let kept : length moved ≡ length list = c.set_last.auto.list in
+    let kept_too : length again ≡ length moved = c.set_last-2.auto.list in
+    let begin_a : get_or window 0 0 ≡ a = get_or-take len list 0 0 (omega arith) in
+    let begin_b : get_or window 1 0 ≡ b = get_or-take len list 1 0 (omega arith) in
+    let middle : middle_of t moved ≡ middle_of t list = ap (drop 2) (front_kept t list moved a b c.requires.long c.set_last.ensures) in
+    let last = last_is t list moved a b (length moved - 2) c.requires.some c.requires.long c.set_last.ensures (omega arith) in
+    let last_too = last_is t moved again b a (length again - 2) c.requires.some (omega arith) c.set_last-2.ensures (omega arith) in
+    let first = number_of_window laws len t.ids (middle_of t list ++ a ∷ b ∷ [])
+    (moved_window t list 0 1 c.requires.some c.requires.window (omega arith) (omega arith) (λ e. omega (arith, e))) in
+    let second = number_of_window laws len t.ids (middle_of t list ++ b ∷ a ∷ [])
+    (moved_window t list 1 0 c.requires.some c.requires.window (omega arith) (omega arith) (λ e. omega (arith, e))) in
+    let low = c.requires.counts.0 in
+    let n = c.requires.counts.1.0 in
+    let block = c.requires.counts.1.1.0 in
+    let sums = c.requires.counts.1.1.1 in
+    let count : ℕ → ℕ = λ x. held_count t low n x (λ other. nat_lt (abs_diff c.args.channel other) c.args.distance) in
+    let first_is : c.close_count-with_first.result ≡ count (get_or window 0 0) = c.close_count-with_first.ensures low n sums ∙ ap count (sym begin_a) in
+    let second_is : c.close_count-with_second.result ≡ count (get_or window 1 0) = c.close_count-with_second.ensures low n sums ∙ ap count (sym begin_b) in
     let ids_is : c.ids.result ≡ t.ids = omega arith in
-    let all_is = c.close_count-all.ensures low n sums
-    ∙ ap (λ x. held_count t low n x (λ other. nat_lt (abs_diff c.channel_of_window-channel.result other) c.args.distance)) ids_is in
+    let all_is : c.close_count-all.result ≡ count t.ids = c.close_count-all.ensures low n sums ∙ ap count ids_is in
     OnFalse_from (nat_lt (c.from-2.result + c.from-3.result) (c.from.result + c.close_one-one.result + c.close_one-other.result)) (¬ BeginsFarTuple t c.args.distance window)
     (λ no.
     let few = ltb-false (c.from-2.result + c.from-3.result) (c.from.result + c.close_one-one.result + c.close_one-other.result) no in
-    none_far laws t c.args.distance c.channel_of_window-channel.result low n first.0 second.0 c.close_one-one.result c.close_one-other.result window one is
-    c.channel_of_window-channel.ensures block first.1 second.1 (c.close_one-one.ensures.close first.0 first.1) (c.close_one-other.ensures.close second.0 second.1)
-    (omega (arith, few, all_is, first_is, middle_is)))
+    none_far laws t c.args.distance c.args.channel low n first.0 second.0 c.close_one-one.result c.close_one-other.result window c.requires.some c.requires.window
+    c.requires.channel block
+    (first.1 ∙ (λ q. Some (middle_of t list ++ sym begin_a q ∷ sym begin_b q ∷ [])))
+    (second.1 ∙ (λ q. Some (middle_of t list ++ sym begin_b q ∷ sym begin_a q ∷ [])))
+    (c.close_one-one.ensures.close first.0 (first.1 ∙ ap Some (sym last)))
+    (c.close_one-other.ensures.close second.0 (second.1 ∙ ap Some (sym (last_too ∙ ap (λ z. z ++ b ∷ a ∷ []) middle))))
+    (omega (arith, few, all_is, first_is, second_is)))

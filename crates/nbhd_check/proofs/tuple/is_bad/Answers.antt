@@ -1,4 +1,4 @@
-use Rattle.std.proofs.Common.{ℕ, Option, ◌⊎◌, inl, inr, ⊎_elim, refl, sym, ◌∙◌, IsTrue}
+use Rattle.std.proofs.Common.{ℕ, Option, inl, inr, ⊎_elim, sym, ◌∙◌}
 use Rattle.std.proofs.lemmas.Bool.{false≢true}
 use Rattle.win_index.specs.Arcs.{part_at}
 use Rattle.table_fill.specs.Tables.{channel_of}

@@ -1,0 +1,8 @@
+use Rattle.std.proofs.Common.{arith}
+use Rattle.nbhd_check.proofs.Runs.{free_of_both}
+use Rattle.nbhd_check.proofs.least.free_windows.Goals as goal
+
+pub returns : goal.returns
+returns g c =
+    free_of_both c.numbers_of_windows.ensures c.args.table.now c.args.separation c.near_free_windows-near.result c.far_free_windows.result c.far_free_windows.result
+    c.shape.ensures.table.size c.near_free_windows-near.ensures c.far_free_windows.ensures.free c.far_free_windows.ensures.less (omega arith)
