@@ -28,7 +28,7 @@ abbrev pub takes_near : Text → Bool
 takes_near name = is_named (codes "table") name || is_named (codes "judge") name
 
 abbrev pub takes_ring : Text → Bool
-takes_ring name = is_named (codes "run") name || is_named (codes "plan") name
+takes_ring name = is_named (codes "run") name || (is_named (codes "trace") name || is_named (codes "plan") name)
 
 abbrev pub takes_ids : Text → Bool
 takes_ids name = is_named (codes "check") name || (is_named (codes "table") name || (is_named (codes "judge") name || takes_ring name))
@@ -59,66 +59,78 @@ ring_of_value values value = (value.0, value.1)
 
 pub ids_given : (name : Text) (values : List Row) → IsOneOf command_line.subs name values → takes_ids name ≡ true → IsNumberGiven values (codes "ids") 0 4294967295
 ids_given name values (inl (is, (ids, rest))) takes = ids_of_value values (ids refl)
-ids_given name values (inr (inl (is, (ids, rest)))) takes = ids_of_value values (ids refl)
+ids_given name values (inr (inl (is, rest))) takes = absurd (other_name takes_ids name _ refl takes is)
 ids_given name values (inr (inr (inl (is, (ids, rest))))) takes = ids_of_value values (ids refl)
 ids_given name values (inr (inr (inr (inl (is, (ids, rest)))))) takes = ids_of_value values (ids refl)
 ids_given name values (inr (inr (inr (inr (inl (is, (ids, rest))))))) takes = ids_of_value values (ids refl)
-ids_given name values (inr (inr (inr (inr (inr (inl (is, rest))))))) takes = absurd (other_name takes_ids name _ refl takes is)
-ids_given name values (inr (inr (inr (inr (inr (inr (inl (is, rest)))))))) takes = absurd (other_name takes_ids name _ refl takes is)
-ids_given name values (inr (inr (inr (inr (inr (inr (inr none))))))) takes = absurd none
+ids_given name values (inr (inr (inr (inr (inr (inl (is, (ids, rest)))))))) takes = ids_of_value values (ids refl)
+ids_given name values (inr (inr (inr (inr (inr (inr (inl (is, (ids, rest))))))))) takes = ids_of_value values (ids refl)
+ids_given name values (inr (inr (inr (inr (inr (inr (inr (inl (is, rest))))))))) takes = absurd (other_name takes_ids name _ refl takes is)
+ids_given name values (inr (inr (inr (inr (inr (inr (inr (inr (inl (is, rest)))))))))) takes = absurd (other_name takes_ids name _ refl takes is)
+ids_given name values (inr (inr (inr (inr (inr (inr (inr (inr (inr none))))))))) takes = absurd none
 
 pub workers_given : (name : Text) (values : List Row) → IsOneOf command_line.subs name values → takes_workers name ≡ true → IsNumberGiven values (codes "workers") 1 MAX_COUNT
 workers_given name values (inl (is, rest)) takes = absurd (other_name takes_workers name _ refl takes is)
-workers_given name values (inr (inl (is, (ids, (workers, rest))))) takes = workers_of_value values (workers refl)
+workers_given name values (inr (inl (is, rest))) takes = absurd (other_name takes_workers name _ refl takes is)
 workers_given name values (inr (inr (inl (is, (ids, (workers, rest)))))) takes = workers_of_value values (workers refl)
-workers_given name values (inr (inr (inr (inl (is, rest))))) takes = absurd (other_name takes_workers name _ refl takes is)
-workers_given name values (inr (inr (inr (inr (inl (is, (ids, (ring, (workers, rest))))))))) takes = workers_of_value values (workers refl)
+workers_given name values (inr (inr (inr (inl (is, (ids, (workers, rest))))))) takes = workers_of_value values (workers refl)
+workers_given name values (inr (inr (inr (inr (inl (is, rest)))))) takes = absurd (other_name takes_workers name _ refl takes is)
 workers_given name values (inr (inr (inr (inr (inr (inl (is, rest))))))) takes = absurd (other_name takes_workers name _ refl takes is)
-workers_given name values (inr (inr (inr (inr (inr (inr (inl (is, rest)))))))) takes = absurd (other_name takes_workers name _ refl takes is)
-workers_given name values (inr (inr (inr (inr (inr (inr (inr none))))))) takes = absurd none
+workers_given name values (inr (inr (inr (inr (inr (inr (inl (is, (ids, (ring, (workers, rest))))))))))) takes = workers_of_value values (workers refl)
+workers_given name values (inr (inr (inr (inr (inr (inr (inr (inl (is, rest))))))))) takes = absurd (other_name takes_workers name _ refl takes is)
+workers_given name values (inr (inr (inr (inr (inr (inr (inr (inr (inl (is, rest)))))))))) takes = absurd (other_name takes_workers name _ refl takes is)
+workers_given name values (inr (inr (inr (inr (inr (inr (inr (inr (inr none))))))))) takes = absurd none
 
 pub segments_given : (name : Text) (values : List Row) → IsOneOf command_line.subs name values → is_named (codes "run") name ≡ true
     → IsNumberGiven values (codes "segments") 1 MAX_COUNT
 segments_given name values (inl (is, rest)) takes = absurd (other_name (is_named (codes "run")) name _ refl takes is)
 segments_given name values (inr (inl (is, rest))) takes = absurd (other_name (is_named (codes "run")) name _ refl takes is)
 segments_given name values (inr (inr (inl (is, rest)))) takes = absurd (other_name (is_named (codes "run")) name _ refl takes is)
-segments_given name values (inr (inr (inr (inl (is, (ids, (ring, (segments, rest)))))))) takes = segments_of_value values (segments refl)
-segments_given name values (inr (inr (inr (inr (inl (is, rest)))))) takes = absurd (other_name (is_named (codes "run")) name _ refl takes is)
+segments_given name values (inr (inr (inr (inl (is, rest))))) takes = absurd (other_name (is_named (codes "run")) name _ refl takes is)
+segments_given name values (inr (inr (inr (inr (inl (is, (ids, (ring, (segments, rest))))))))) takes = segments_of_value values (segments refl)
 segments_given name values (inr (inr (inr (inr (inr (inl (is, rest))))))) takes = absurd (other_name (is_named (codes "run")) name _ refl takes is)
 segments_given name values (inr (inr (inr (inr (inr (inr (inl (is, rest)))))))) takes = absurd (other_name (is_named (codes "run")) name _ refl takes is)
-segments_given name values (inr (inr (inr (inr (inr (inr (inr none))))))) takes = absurd none
+segments_given name values (inr (inr (inr (inr (inr (inr (inr (inl (is, rest))))))))) takes = absurd (other_name (is_named (codes "run")) name _ refl takes is)
+segments_given name values (inr (inr (inr (inr (inr (inr (inr (inr (inl (is, rest)))))))))) takes = absurd (other_name (is_named (codes "run")) name _ refl takes is)
+segments_given name values (inr (inr (inr (inr (inr (inr (inr (inr (inr none))))))))) takes = absurd none
 
 pub ring_given : (name : Text) (values : List Row) → IsOneOf command_line.subs name values → takes_ring name ≡ true → IsTextGiven values (codes "ring")
 ring_given name values (inl (is, rest)) takes = absurd (other_name takes_ring name _ refl takes is)
 ring_given name values (inr (inl (is, rest))) takes = absurd (other_name takes_ring name _ refl takes is)
 ring_given name values (inr (inr (inl (is, rest)))) takes = absurd (other_name takes_ring name _ refl takes is)
-ring_given name values (inr (inr (inr (inl (is, (ids, (ring, rest))))))) takes = ring_of_value values (ring refl)
+ring_given name values (inr (inr (inr (inl (is, rest))))) takes = absurd (other_name takes_ring name _ refl takes is)
 ring_given name values (inr (inr (inr (inr (inl (is, (ids, (ring, rest)))))))) takes = ring_of_value values (ring refl)
-ring_given name values (inr (inr (inr (inr (inr (inl (is, rest))))))) takes = absurd (other_name takes_ring name _ refl takes is)
-ring_given name values (inr (inr (inr (inr (inr (inr (inl (is, rest)))))))) takes = absurd (other_name takes_ring name _ refl takes is)
-ring_given name values (inr (inr (inr (inr (inr (inr (inr none))))))) takes = absurd none
+ring_given name values (inr (inr (inr (inr (inr (inl (is, (ids, (ring, rest))))))))) takes = ring_of_value values (ring refl)
+ring_given name values (inr (inr (inr (inr (inr (inr (inl (is, (ids, (ring, rest)))))))))) takes = ring_of_value values (ring refl)
+ring_given name values (inr (inr (inr (inr (inr (inr (inr (inl (is, rest))))))))) takes = absurd (other_name takes_ring name _ refl takes is)
+ring_given name values (inr (inr (inr (inr (inr (inr (inr (inr (inl (is, rest)))))))))) takes = absurd (other_name takes_ring name _ refl takes is)
+ring_given name values (inr (inr (inr (inr (inr (inr (inr (inr (inr none))))))))) takes = absurd none
 
 pub near_given : (name : Text) (values : List Row) → IsOneOf command_line.subs name values → takes_near name ≡ true
     → IsNumberGiven values (codes "near") 1 MAX_DISTANCE
 near_given name values (inl (is, rest)) takes = absurd (other_name takes_near name _ refl takes is)
-near_given name values (inr (inl (is, (ids, (workers, (near, rest)))))) takes = near_of_value values (near refl)
+near_given name values (inr (inl (is, rest))) takes = absurd (other_name takes_near name _ refl takes is)
 near_given name values (inr (inr (inl (is, (ids, (workers, (near, rest))))))) takes = near_of_value values (near refl)
-near_given name values (inr (inr (inr (inl (is, rest))))) takes = absurd (other_name takes_near name _ refl takes is)
+near_given name values (inr (inr (inr (inl (is, (ids, (workers, (near, rest)))))))) takes = near_of_value values (near refl)
 near_given name values (inr (inr (inr (inr (inl (is, rest)))))) takes = absurd (other_name takes_near name _ refl takes is)
 near_given name values (inr (inr (inr (inr (inr (inl (is, rest))))))) takes = absurd (other_name takes_near name _ refl takes is)
 near_given name values (inr (inr (inr (inr (inr (inr (inl (is, rest)))))))) takes = absurd (other_name takes_near name _ refl takes is)
-near_given name values (inr (inr (inr (inr (inr (inr (inr none))))))) takes = absurd none
+near_given name values (inr (inr (inr (inr (inr (inr (inr (inl (is, rest))))))))) takes = absurd (other_name takes_near name _ refl takes is)
+near_given name values (inr (inr (inr (inr (inr (inr (inr (inr (inl (is, rest)))))))))) takes = absurd (other_name takes_near name _ refl takes is)
+near_given name values (inr (inr (inr (inr (inr (inr (inr (inr (inr none))))))))) takes = absurd none
 
 pub far_given : (name : Text) (values : List Row) → IsOneOf command_line.subs name values → takes_near name ≡ true
     → IsNumberGiven values (codes "far") 0 MAX_DISTANCE
 far_given name values (inl (is, rest)) takes = absurd (other_name takes_near name _ refl takes is)
-far_given name values (inr (inl (is, (ids, (workers, (near, (far, rest))))))) takes = far_of_value values (far refl)
+far_given name values (inr (inl (is, rest))) takes = absurd (other_name takes_near name _ refl takes is)
 far_given name values (inr (inr (inl (is, (ids, (workers, (near, (far, rest)))))))) takes = far_of_value values (far refl)
-far_given name values (inr (inr (inr (inl (is, rest))))) takes = absurd (other_name takes_near name _ refl takes is)
+far_given name values (inr (inr (inr (inl (is, (ids, (workers, (near, (far, rest))))))))) takes = far_of_value values (far refl)
 far_given name values (inr (inr (inr (inr (inl (is, rest)))))) takes = absurd (other_name takes_near name _ refl takes is)
 far_given name values (inr (inr (inr (inr (inr (inl (is, rest))))))) takes = absurd (other_name takes_near name _ refl takes is)
 far_given name values (inr (inr (inr (inr (inr (inr (inl (is, rest)))))))) takes = absurd (other_name takes_near name _ refl takes is)
-far_given name values (inr (inr (inr (inr (inr (inr (inr none))))))) takes = absurd none
+far_given name values (inr (inr (inr (inr (inr (inr (inr (inl (is, rest))))))))) takes = absurd (other_name takes_near name _ refl takes is)
+far_given name values (inr (inr (inr (inr (inr (inr (inr (inr (inl (is, rest)))))))))) takes = absurd (other_name takes_near name _ refl takes is)
+far_given name values (inr (inr (inr (inr (inr (inr (inr (inr (inr none))))))))) takes = absurd none
 
 -- ---- the number that a value is
 

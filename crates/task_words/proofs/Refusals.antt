@@ -1,6 +1,7 @@
--- What the kind of an error of `clap` says of the words.
+-- What `clap`'s answer says of the words: their matches, or the kind of an error.
 use Rattle.std.proofs.Common.{◌≡◌, ◌≢◌, ◌⊎◌, true, List, [], inl, inr, refl, ap, sym, subst, ◌∙◌}
-use Rattle.clap.specs.Words.{App, IsAmong, Text, fault_of, is_simple_and_free}
+use Rattle.clap.specs.Words.{App, HasMatchesOf, IsAmong, Text, fault_of, is_simple, is_simple_and_free, subcommand_of, subcommand_rows_of}
+use Rattle.clap.specs.declared.parser.matches.ArgMatches.{ArgMatches}
 use Rattle.clap.specs.declared.error.kind.ErrorKind.{ErrorKind}
 use Rattle.clap.specs.declared.error.kind.ErrorKind.TheVariants as kind
 use Rattle.clap.proofs.OnLiterals.{clap_on_literals}
@@ -21,6 +22,15 @@ is_simple_line app is = ap is_simple_and_free is ∙ simple_line
 -- words that are taken have no fault
 pub words_taken : (app : App) (words : List Text) → app ≡ command_line → (is_simple_and_free app ≡ true → fault_of app words ≡ []) → IsCommand words
 words_taken app words is clean = ap (λ (a : App). fault_of a words) (sym is) ∙ clean (is_simple_line app is)
+
+-- of this command line `clap` says exactly which command is met, with which values
+met_line : is_simple command_line ≡ true
+unfolding clap_on_literals
+met_line = refl
+
+pub words_matched : (app : App) (words : List Text) (m : ArgMatches) → app ≡ command_line → HasMatchesOf app words m
+    → subcommand_rows_of m ≡ subcommand_of command_line words
+words_matched app words m is matched = (matched (ap is_simple is ∙ met_line)).1 ∙ ap (λ (a : App). subcommand_of a words) is
 
 -- and words that are not taken have the fault of the error, unless memory was refused
 pub words_refused : (app : App) (words : List Text) (k : ErrorKind) (fault : WordsFault) → app ≡ command_line

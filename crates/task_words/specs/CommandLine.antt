@@ -1,4 +1,4 @@
--- The command line of the program, as `clap` reads it: one of seven commands, then its options in any order, each with one value.
+-- The command line of the program, as `clap` reads it: one of nine commands, then its options in any order, each with one value.
 use Rattle.std.specs.Prelude.{◌≡◌, ℕ, List, [], ◌∷◌, Some, true, false, codes, pos}
 use Rattle.clap.specs.Words.{App, Rule, Shape, new_app, new_rule, shape_of}
 use Rattle.clap.specs.declared.builder.command.Command.{Command}
@@ -61,6 +61,10 @@ IsCommandOf shape command = (shape_of command ≡ shape) × ((out-Command comman
 abbrev pub check_command : Shape
 check_command = command_of (codes "check") (ids_rule ∷ [])
 
+-- `print`
+abbrev pub print_command : Shape
+print_command = command_of (codes "print") []
+
 -- `table --ids M [--workers W] [--near P] [--far Q]`
 abbrev pub table_command : Shape
 table_command = command_of (codes "table") (ids_rule ∷ workers_rule ∷ near_rule ∷ far_rule ∷ [])
@@ -72,6 +76,10 @@ judge_command = command_of (codes "judge") (ids_rule ∷ workers_rule ∷ near_r
 -- `run --ids M --ring A,B,.. [--segments S]`
 abbrev pub run_command : Shape
 run_command = command_of (codes "run") (ids_rule ∷ ring_rule ∷ segments_rule ∷ [])
+
+-- `trace --ids M --ring A,B,..`
+abbrev pub trace_command : Shape
+trace_command = command_of (codes "trace") (ids_rule ∷ ring_rule ∷ [])
 
 -- `plan --ids M --ring A,B,.. [--workers W]`
 abbrev pub plan_command : Shape
@@ -92,9 +100,10 @@ program = record {
   subs = [];
 }
 
--- the words after the program's name: the name of one of the seven commands, and its options
+-- the words after the program's name: the name of one of the nine commands, and its options
 abbrev pub command_line : App
 command_line = record {
   top = record program.top { is_leaf = false };
-  subs = check_command ∷ table_command ∷ judge_command ∷ run_command ∷ plan_command ∷ audit_command ∷ migrate_command ∷ [];
+  subs = check_command ∷ print_command ∷ table_command ∷ judge_command ∷ run_command ∷ trace_command ∷ plan_command ∷ audit_command
+      ∷ migrate_command ∷ [];
 }

@@ -1,15 +1,17 @@
 -- What a task says of itself.
 use Rattle.std.specs.Prelude.{ℕ, ⊤}
 use Rattle.task_words.specs.declared.task.Task.{Task}
-use Rattle.task_words.specs.declared.task.Task.TheVariants.{Check, Table, Judge, Run, Plan, Audit, Migrate}
+use Rattle.task_words.specs.declared.task.Task.TheVariants.{Check, Print, Table, Judge, Run, Trace, Plan, Audit, Migrate}
 use Rattle.task_words.specs.Counts.{IsCount, IsNear, IsFar}
 
 -- the number of segments that its ring is run in: one, where it names no number
 abbrev pub segments_of : Task → ℕ
 segments_of (Check ids) = 1
+segments_of Print = 1
 segments_of (Table ids workers near far) = 1
 segments_of (Judge ids workers near far) = 1
 segments_of (Run ids ring segments) = segments
+segments_of (Trace ids ring) = 1
 segments_of (Plan ids ring workers) = 1
 segments_of Audit = 1
 segments_of Migrate = 1
@@ -18,9 +20,11 @@ segments_of Migrate = 1
 -- that it names. A run in any number of segments can be done, since its report tells where the number is out of range.
 abbrev pub IsRunnable : Task → Type 0
 IsRunnable (Check ids) = ⊤
+IsRunnable Print = ⊤
 IsRunnable (Table ids workers near far) = IsCount workers × IsNear near × IsFar far
 IsRunnable (Judge ids workers near far) = IsCount workers × IsNear near × IsFar far
 IsRunnable (Run ids ring segments) = ⊤
+IsRunnable (Trace ids ring) = ⊤
 IsRunnable (Plan ids ring workers) = IsCount workers
 IsRunnable Audit = ⊤
 IsRunnable Migrate = ⊤

@@ -8,7 +8,7 @@ use Rattle.task_words.specs.CommandLine.{command_line}
 use Rattle.task_words.specs.Decimal.{IsNumber, number_in}
 use Rattle.task_words.specs.RingText.{IsRingText, ring_in}
 use Rattle.task_words.specs.declared.task.Task.{Task}
-use Rattle.task_words.specs.declared.task.Task.TheVariants.{Check, Table, Judge, Run, Plan, Audit, Migrate}
+use Rattle.task_words.specs.declared.task.Task.TheVariants.{Check, Print, Table, Judge, Run, Trace, Plan, Audit, Migrate}
 
 -- `clap` takes the words: no kind of fault is in them
 abbrev pub IsCommand : List Text → Type 0
@@ -38,7 +38,7 @@ HasRing values ring = (text : Text) × (first_of (codes "ring") values ≡ Some 
 
 -- the commands that take a ring
 abbrev pub IsRingName : Text → Type 0
-IsRingName name = (name ≡ codes "run") ⊎ (name ≡ codes "plan")
+IsRingName name = (name ≡ codes "run") ⊎ (name ≡ codes "trace") ⊎ (name ≡ codes "plan")
 
 -- the value of `--ring` is no ring text
 abbrev pub IsRingBad : List Row → Type 0
@@ -51,6 +51,7 @@ HasBadRing words = IsCommand words × (name : Text) × (values : List Row) × Is
 -- the task for which the command of this name asks, with these values of its options
 abbrev pub IsTaskFor : Text → List Row → Task → Type 0
 IsTaskFor name values (Check ids) = (name ≡ codes "check") × HasNumber values (codes "ids") ids
+IsTaskFor name values Print = name ≡ codes "print"
 IsTaskFor name values (Table ids workers near far) =
     (name ≡ codes "table") × HasNumber values (codes "ids") ids × HasNumber values (codes "workers") workers
     × HasNumber values (codes "near") near × HasNumber values (codes "far") far
@@ -59,6 +60,7 @@ IsTaskFor name values (Judge ids workers near far) =
     × HasNumber values (codes "near") near × HasNumber values (codes "far") far
 IsTaskFor name values (Run ids ring segments) = (name ≡ codes "run") × HasNumber values (codes "ids") ids
     × HasRing values ring.items × HasNumber values (codes "segments") segments
+IsTaskFor name values (Trace ids ring) = (name ≡ codes "trace") × HasNumber values (codes "ids") ids × HasRing values ring.items
 IsTaskFor name values (Plan ids ring workers) = (name ≡ codes "plan") × HasNumber values (codes "ids") ids
     × HasRing values ring.items × HasNumber values (codes "workers") workers
 IsTaskFor name values Audit = name ≡ codes "audit"

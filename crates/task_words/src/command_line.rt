@@ -3,8 +3,8 @@
 ghost use Rattle.std.specs.Prelude.{◌≡◌, IfOk, false, [], ◌∷◌, codes};
 ghost use Rattle.clap.specs.Words.{app_of, rule_of};
 ghost use Rattle.task_words.specs.CommandLine.{IsCommandOf, command_of, program, option_rule, count_rule, ids_rule, ring_rule, workers_rule, segments_rule, near_rule, far_rule};
-ghost use Rattle.task_words.specs.CommandLine.{check_command, table_command, judge_command, run_command, plan_command};
-ghost use Rattle.task_words.specs.CommandLine.{audit_command, migrate_command, command_line};
+ghost use Rattle.task_words.specs.CommandLine.{check_command, print_command, table_command, judge_command, run_command};
+ghost use Rattle.task_words.specs.CommandLine.{trace_command, plan_command, audit_command, migrate_command, command_line};
 
 use crate::help;
 use crate::limits::{MAX_COUNT, MAX_DISTANCE};
@@ -12,15 +12,17 @@ use clap::builder::ValueParser;
 use clap::{Arg, ArgAction, Command, value_parser};
 use std::alloc::{AllocError, Global};
 
-// The words after the program's name: one of the seven commands, and its options.
+// The words after the program's name: one of the nine commands, and its options.
 pub(crate) fn command_line<'a>(alloc: Global) -> Result<Command<'a>, AllocError>
     ensures { IfOk result (λ line. app_of line ≡ command_line) }
 {
     program(alloc)?
         .subcommand(check(alloc)?)?
+        .subcommand(print(alloc))?
         .subcommand(table(alloc)?)?
         .subcommand(judge(alloc)?)?
         .subcommand(run(alloc)?)?
+        .subcommand(trace(alloc)?)?
         .subcommand(plan(alloc)?)?
         .subcommand(audit(alloc))?
         .subcommand(migrate(alloc))
@@ -46,6 +48,15 @@ fn check<'a>(alloc: Global) -> Result<Command<'a>, AllocError>
         .about(help::CHECK)
         .after_help(help::CHECK_DETAILS)
         .arg(ids(alloc))
+}
+
+// `print`.
+fn print<'a>(alloc: Global) -> Command<'a>
+    ensures { IsCommandOf print_command result }
+{
+    Command::new(alloc, "print")
+        .about(help::PRINT)
+        .after_help(help::PRINT_DETAILS)
 }
 
 // `table --ids M [--workers W] [--near P] [--far Q]`.
@@ -94,6 +105,17 @@ fn run<'a>(alloc: Global) -> Result<Command<'a>, AllocError>
         .arg(ids(alloc))?
         .arg(ring(alloc))?
         .arg(segments(alloc))
+}
+
+// `trace --ids M --ring A,B,..`.
+fn trace<'a>(alloc: Global) -> Result<Command<'a>, AllocError>
+    ensures { IfOk result (IsCommandOf trace_command) }
+{
+    Command::new(alloc, "trace")
+        .about(help::TRACE)
+        .after_help(help::TRACE_DETAILS)
+        .arg(ids(alloc))?
+        .arg(ring(alloc))
 }
 
 // `plan --ids M --ring A,B,.. [--workers W]`.

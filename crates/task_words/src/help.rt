@@ -40,12 +40,17 @@ and prints the channels of these four nodes: 2 4 3 5";
 
 pub(crate) const CHECK: &str = "Tells whether a program is accepted for M identifiers";
 
+pub(crate) const PRINT: &str = "Prints a program text in its one printed form";
+
 pub(crate) const TABLE: &str = "Prints the table of a program, one channel per window";
 
 pub(crate) const JUDGE: &str =
     "Tells whether channels are far enough apart on every ring, by a program's table";
 
 pub(crate) const RUN: &str = "Runs a program by messages on a ring, and prints the channels";
+
+pub(crate) const TRACE: &str =
+    "Runs a program on a ring, and prints what its nodes hold and send in each round";
 
 pub(crate) const PLAN: &str = "Prints the channels of a ring's places, looked up in the table";
 
@@ -80,6 +85,20 @@ Exit status:
   5  reading or writing failed
   6  memory was refused"
 );
+
+/// What `print` reads and prints.
+pub(crate) const PRINT_DETAILS: &str = "Standard input:  a program text
+Standard output: the same program with one line for each of its parts and without comments,
+                 or one line: what is refused
+
+The text is only read: `nbhd check` tells whether the program is accepted for M identifiers.
+
+Exit status:
+  0  the program is printed
+  2  the words are refused
+  3  the program text is refused
+  5  reading or writing failed
+  6  memory was refused";
 
 /// What `table` reads and prints.
 pub(crate) const TABLE_DETAILS: &str = details!(
@@ -131,6 +150,28 @@ Exit status:
   4  the ring is refused
   5  reading or writing failed
   6  memory or a thread was refused"
+);
+
+/// What `trace` reads and prints.
+pub(crate) const TRACE_DETAILS: &str = details!(
+    ring: "Standard input:  a program text
+Standard output: lines with a number for each place of the ring, or one line: what is refused
+
+",
+    "The lines are:
+  start r0 ..       what a register holds after the assignments of start; one line for each register
+  round 1 left ..   what each place sends to its left neighbour in a round
+  round 1 right ..  what each place sends to its right neighbour
+  round 1 r0 ..     what a register holds after the round; one line for each register
+  finish ..         the channels
+
+Exit status:
+  0  the lines are printed
+  2  the words are refused
+  3  the program is refused
+  4  the ring is refused
+  5  reading or writing failed
+  6  memory was refused"
 );
 
 /// What `plan` reads and prints.

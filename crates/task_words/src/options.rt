@@ -35,6 +35,7 @@ pub(crate) fn task_in(
         "check" => Ok(Task::Check {
             ids: ids_of(options),
         }),
+        "print" => Ok(Task::Print),
         "table" => Ok(Task::Table {
             ids: ids_of(options),
             workers: count_of(options, "workers"),
@@ -51,6 +52,10 @@ pub(crate) fn task_in(
             ids: ids_of(options),
             ring: ring_in(alloc, options)?,
             segments: count_of(options, "segments"),
+        }),
+        "trace" => Ok(Task::Trace {
+            ids: ids_of(options),
+            ring: ring_in(alloc, options)?,
         }),
         "plan" => Ok(Task::Plan {
             ids: ids_of(options),

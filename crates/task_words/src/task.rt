@@ -13,6 +13,8 @@ pub enum Task {
         /// How many identifiers there are.
         ids: u32,
     },
+    /// Prints the printed form of the program text of the input.
+    Print,
     /// Makes the table of the program text of the input for identifiers below `ids`. Its text tells the separation too.
     Table {
         /// How many identifiers there are.
@@ -46,6 +48,14 @@ pub enum Task {
         /// the ring has places.
         segments: u32,
     },
+    /// Tells what the places of a ring hold and send in each round of the program text of the input, for
+    /// identifiers below `ids`.
+    Trace {
+        /// How many identifiers there are.
+        ids: u32,
+        /// The identifiers of the ring's places, from place 0 on.
+        ring: Vec<u32>,
+    },
     /// Looks up the channels of a ring's places in the table of the program text of the input, for
     /// identifiers below `ids`.
     Plan {
@@ -73,11 +83,13 @@ impl Task {
     {
         match self {
             Task::Check { ids: _ }
+            | Task::Print
             | Task::Run {
                 ids: _,
                 ring: _,
                 segments: _,
             }
+            | Task::Trace { ids: _, ring: _ }
             | Task::Audit
             | Task::Migrate => true,
             Task::Table {

@@ -84,9 +84,10 @@ pub fn words_fault(alloc: Global, error: io::Error) -> WordsFault
 }
 
 /// The task that the words after the program's name ask for, by the rules of `clap`: the name of a command, and its
-/// options in any order, each with one value. The commands are `check --ids M`,
+/// options in any order, each with one value. The commands are `check --ids M`, `print`,
 /// `table --ids M [--workers W] [--near P] [--far Q]`, `judge --ids M [--workers W] [--near P] [--far Q]`,
-/// `run --ids M --ring A,B,.. [--segments S]`, `plan --ids M --ring A,B,.. [--workers W]`, `audit` and `migrate`. `M` is a decimal number up to 4294967295; `W` and `S` are such
+/// `run --ids M --ring A,B,.. [--segments S]`, `trace --ids M --ring A,B,..`, `plan --ids M --ring A,B,.. [--workers W]`,
+/// `audit` and `migrate`. `M` is a decimal number up to 4294967295; `W` and `S` are such
 /// numbers from 1 to `MAX_COUNT`, or 1 where the words leave them out; `P` is one from 1 to `MAX_DISTANCE`, or 1, and `Q`
 /// one from 0 to `MAX_DISTANCE`, or 0; and what stands after `--ring` is a ring text. `Usage` comes where `clap` refuses
 /// the words, `BadRing` where it takes them but the ring text is none, `Help` where they ask for help, and `OutOfMemory`

@@ -15,6 +15,9 @@ ids_of-requires-in-judge c = ids_given _ (rows_of (found_of c.args.options.now))
 pub ids_of-requires-in-run : goal.ids_of-requires-in-run
 ids_of-requires-in-run c = ids_given _ (rows_of (found_of c.args.options.now)) c.requires (ap takes_ids c.in-run.is)
 
+pub ids_of-requires-in-trace : goal.ids_of-requires-in-trace
+ids_of-requires-in-trace c = ids_given _ (rows_of (found_of c.args.options.now)) c.requires (ap takes_ids c.in-trace.is)
+
 pub ids_of-requires-in-plan : goal.ids_of-requires-in-plan
 ids_of-requires-in-plan c = ids_given _ (rows_of (found_of c.args.options.now)) c.requires (ap takes_ids c.in-plan.is)
 
@@ -32,6 +35,9 @@ far_of-requires-in-judge c = far_given _ (rows_of (found_of c.args.options.now))
 
 pub count_of-requires : goal.count_of-requires
 count_of-requires c = workers_given _ (rows_of (found_of c.args.options.now)) c.requires (ap takes_workers c.in-table.is)
+
+pub count_of-requires-in-plan : goal.count_of-requires-in-plan
+count_of-requires-in-plan c = workers_given _ (rows_of (found_of c.args.options.now)) c.requires (ap takes_workers c.in-plan.is)
 
 pub count_of-requires-in-judge : goal.count_of-requires-in-judge
 count_of-requires-in-judge c = workers_given _ (rows_of (found_of c.args.options.now)) c.requires (ap takes_workers c.in-judge.is)
