@@ -1,0 +1,40 @@
+ghost use Rattle.std.specs.Prelude.{◌≡◌, length};
+ghost use Rattle.ring_trace.specs.Configuration.{CanTell};
+
+use crate::{Configuration, Told};
+use std::test::Fail;
+use test_programs::{TWO_REGISTERS, plan_of};
+use win_index::Ring;
+
+// What is told of each place of a ring of four.
+fn of_all(places: &Configuration<'_>, what: Told) -> [u32; 4]
+    requires four { length places.now.places ≡ 4 }
+    requires what { CanTell places.now what }
+{
+    [
+        places.told(what, 0),
+        places.told(what, 1),
+        places.told(what, 2),
+        places.told(what, 3),
+    ]
+}
+
+#[test]
+fn a_ring_of_two_registers_is_told_round_by_round(rt: HostRuntime) -> Result<(), Fail> {
+    let plan = plan_of(rt.alloc(), TWO_REGISTERS, 8)?;
+    assert!(rt; plan.shape().rounds() == 1 && plan.program().registers() == 2);
+    let ids = vec![in rt.alloc(); 5, 1, 3, 7]?;
+    let ring = Ring::new(plan.shape(), ids).ok().ok_or("a ring")?;
+    let mut places = Configuration::new(rt.alloc(), &plan, &ring)
+        .ok()
+        .ok_or("memory")?;
+    assert_eq!(rt; of_all(&places, Told::Register(0)), [5, 1, 3, 7]);
+    assert_eq!(rt; of_all(&places, Told::Register(1)), [0, 0, 0, 0]);
+    assert_eq!(rt; of_all(&places, Told::Left), [0, 0, 0, 0]);
+    assert_eq!(rt; of_all(&places, Told::Right), [5, 1, 3, 7]);
+    places.advance();
+    assert_eq!(rt; of_all(&places, Told::Register(0)), [0, 0, 0, 0]);
+    assert_eq!(rt; of_all(&places, Told::Register(1)), [12, 6, 4, 10]);
+    assert_eq!(rt; of_all(&places, Told::Channel), [12, 6, 4, 10]);
+    Ok(())
+}
