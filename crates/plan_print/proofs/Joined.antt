@@ -4,7 +4,7 @@ use Rattle.std.specs.List.{flat_map, join_with_byte}
 use Rattle.std.proofs.lemmas.List.{take_all, take_rest}
 
 -- the first piece, and each other piece after a byte
-joined_after : (f : ℕ → List ℕ) (c n : ℕ) (ns : List ℕ) → f n ++ flat_map (λ k. c ∷ f k) ns ≡ join_with_byte c (map f (n ∷ ns))
+pub joined_after : (f : ℕ → List ℕ) (c n : ℕ) (ns : List ℕ) → f n ++ flat_map (λ k. c ∷ f k) ns ≡ join_with_byte c (map f (n ∷ ns))
 joined_after f c n [] = append-nil (f n)
 joined_after f c n (k ∷ ns) = ap (λ l. f n ++ (c ∷ l)) (joined_after f c k ns)
 

@@ -4,6 +4,7 @@ use Rattle.node_lang.specs.Term.{ProgramTree}
 use Rattle.node_lang.specs.Laws.{OneReading, OneTextFault}
 use Rattle.win_index.specs.Laws.{OneRingFault, RingsHaveNoFault}
 use Rattle.node_lang.specs.Grammar.{Reads}
+use Rattle.node_lang.specs.Printed.{printed}
 use Rattle.lang_check.specs.Acceptance.{IsAccepted}
 use Rattle.lang_check.specs.Refusals.{IsFirstRefusal}
 use Rattle.table_fill.specs.Tables.{ChannelTable}
@@ -15,10 +16,10 @@ use Rattle.lang_check.specs.Laws.{OneRefusal, AcceptedProgramsHaveNoRefusal}
 use Rattle.nbhd_check.specs.declared.separation.Separation.{Separation}
 use Rattle.nbhd_check.specs.Laws.{OneWitness, ApartTablesHaveNoWitness}
 use Rattle.task_words.specs.declared.task.Task.{Task}
-use Rattle.task_words.specs.declared.task.Task.TheVariants.{Check, Table, Judge, Run, Plan, Audit, Migrate}
+use Rattle.task_words.specs.declared.task.Task.TheVariants.{Check, Print, Table, Judge, Run, Trace, Plan, Audit, Migrate}
 use Rattle.plan_print.specs.declared.status.Status.{Status}
 use Rattle.plan_print.specs.Report as report
-use Rattle.plan_print.specs.Report.{Report, Says, IsJudgement, good, bad, IsAnswerOnRing, ring_fault, on_ring, IsRunAnswer, out_of_range, ran, IsTableText, IsProgramRefusal, text_fault, check_fault, IsProgramReport, program_refused, answered, IsTableRefusal, IsTableReport, table_refused, of_table, IsReport}
+use Rattle.plan_print.specs.Report.{Report, Says, IsJudgement, good, bad, IsAnswerOnRing, ring_fault, on_ring, IsRunAnswer, out_of_range, ran, IsTableText, IsTextRefusal, IsPrintReport, text_refused, in_print, IsProgramRefusal, text_fault, check_fault, IsProgramReport, program_refused, answered, IsTableRefusal, IsTableReport, table_refused, of_table, IsReport}
 use Rattle.plan_print.specs.Laws.{OneReport}
 
 -- two reports that say the same are one
@@ -52,15 +53,26 @@ one_run p x segments r s (ran within says) (ran within' says') = said_once _ _ _
 one_table_text : (t : ChannelTable) (d : Separation) (r s : Report) → IsTableText t d r → IsTableText t d s → r ≡ s
 one_table_text t d r s says says' = said_once _ _ _ r s refl says says'
 
+one_text_refusal : OneTextFault → (input : List ℕ) (r s : Report) → IsTextRefusal input r → IsTextRefusal input s → r ≡ s
+one_text_refusal one_text_fault input r s first second =
+    let same = one_text_fault input first.kind second.kind first.offset second.offset first.fault second.fault in
+    said_once _ _ _ r s (λ n. report.text_fault_line (same.0 n) (same.1 n)) first.says second.says
+
+one_print : OneReading → OneTextFault → (input : List ℕ) (r s : Report) → IsPrintReport input r → IsPrintReport input s → r ≡ s
+one_print one_reading one_text_fault input r s (text_refused first) (text_refused second) = one_text_refusal one_text_fault input r s first second
+one_print one_reading one_text_fault input r s (text_refused first) (in_print p reads says) = absurd (first.none p reads)
+one_print one_reading one_text_fault input r s (in_print p reads says) (text_refused second) = absurd (second.none p reads)
+one_print one_reading one_text_fault input r s (in_print p reads says) (in_print q reads' says') =
+    said_once _ _ _ r s (ap printed (one_reading input p q reads reads')) says says'
+
 one_program_refusal : OneTextFault → OneReading → OneRefusal → (m : ℕ) (input : List ℕ) (r s : Report)
     → IsProgramRefusal m input r → IsProgramRefusal m input s → r ≡ s
-one_program_refusal one_text_fault one_reading one_refusal m input r s (text_fault k i none faults says) (text_fault l j none' faults' says') =
-    let same = one_text_fault input k l i j faults faults' in
-    said_once _ _ _ r s (λ n. report.text_fault_line (same.0 n) (same.1 n)) says says'
-one_program_refusal one_text_fault one_reading one_refusal m input r s (text_fault k i none faults says) (check_fault p f reads refused says') =
-    absurd (none p reads)
-one_program_refusal one_text_fault one_reading one_refusal m input r s (check_fault p f reads refused says) (text_fault k i none faults says') =
-    absurd (none p reads)
+one_program_refusal one_text_fault one_reading one_refusal m input r s (text_fault first) (text_fault second) =
+    one_text_refusal one_text_fault input r s first second
+one_program_refusal one_text_fault one_reading one_refusal m input r s (text_fault first) (check_fault p f reads refused says') =
+    absurd (first.none p reads)
+one_program_refusal one_text_fault one_reading one_refusal m input r s (check_fault p f reads refused says) (text_fault second) =
+    absurd (second.none p reads)
 one_program_refusal one_text_fault one_reading one_refusal m input r s (check_fault p f reads refused says) (check_fault q g reads' refused' says') =
     let refused'' = subst (λ h. IsFirstRefusal m h g) (one_reading input q p reads' reads) refused' in
     said_once _ _ _ r s (ap report.check_fault_line (one_refusal m p f g refused refused'')) says says'
@@ -68,7 +80,7 @@ one_program_refusal one_text_fault one_reading one_refusal m input r s (check_fa
 -- a program that is accepted is not refused
 pub accepted_or_refused : OneReading → AcceptedProgramsHaveNoRefusal → (m : ℕ) (input : List ℕ) (r : Report) (p : ProgramTree)
     → Reads input p → IsAccepted m p → IsProgramRefusal m input r → ⊥
-accepted_or_refused one_reading no_refusal m input r p reads accepted (text_fault k i none faults says) = none p reads
+accepted_or_refused one_reading no_refusal m input r p reads accepted (text_fault refused) = refused.none p reads
 accepted_or_refused one_reading no_refusal m input r p reads accepted (check_fault q f reads' refused says) =
     no_refusal m q f (subst (IsAccepted m) (one_reading input p q reads reads') accepted) refused
 
@@ -127,9 +139,11 @@ one_report one_reading one_text_fault one_refusal no_refusal one_fault no_fault 
 
     go : (task : Task) (input : List ℕ) (r s : Report) → IsReport task input r → IsReport task input s → r ≡ s
     go (Check ids) = of_program ids _ (λ p r s. said_once _ _ _ r s refl)
+    go Print = one_print one_reading one_text_fault
     go (Table ids workers near far) = of_program ids _ (λ p. one_table_text _ _)
     go (Judge ids workers near far) = of_program ids _ (λ p. judged_once _ _)
     go (Run ids ring segments) = of_program ids _ (λ p. one_on_ring one_fault no_fault _ _ _ _ (one_run p ring.items segments))
+    go (Trace ids ring) = of_program ids _ (λ p. one_on_ring one_fault no_fault _ _ _ _ (λ r s. said_once _ _ _ r s refl))
     go (Plan ids ring workers) = of_program ids _ (λ p. one_on_ring one_fault no_fault _ _ _ _ (λ r s. said_once _ _ _ r s refl))
     go Audit = one_table_report one_table_fault apart read IsJudgement judged_once
     go Migrate = one_table_report one_table_fault apart read IsTableText one_table_text

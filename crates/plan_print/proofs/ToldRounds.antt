@@ -1,9 +1,12 @@
--- What a report tells of global rounds.
-use Rattle.std.proofs.Common.{◌≡◌, ℕ, List, [], ◌∷◌, subst, sym, ◌∙◌}
+-- What a report tells of global rounds, and of the program that is printed.
+use Rattle.std.proofs.Common.{◌≡◌, ℕ, List, [], ◌∷◌, ◌++◌, codes, ap, append_assoc, subst, sym, ◌∙◌}
 use Rattle.std.specs.Prelude.{◌↔◌, length}
+use Rattle.std.specs.List.{flat_map, range_with_len}
 use Rattle.node_lang.specs.Term.{ProgramTree}
 use Rattle.node_lang.specs.GlobalRounds.{channels_of}
-use Rattle.node_lang.specs.Laws.{OneReading}
+use Rattle.node_lang.specs.Grammar.{Reads}
+use Rattle.node_lang.specs.Printed.{printed}
+use Rattle.node_lang.specs.Laws.{OneReading, PrintedIsRead}
 use Rattle.win_index.specs.Laws.{RingsHaveNoFault}
 use Rattle.win_index.specs.Ring.{IsRing}
 use Rattle.lang_check.specs.Laws.{AcceptedProgramsHaveNoRefusal}
@@ -16,8 +19,9 @@ use Rattle.headline.specs.Laws.{ProgramTablesAreApart}
 use Rattle.ring_exec.specs.SegmentCounts.{IsSegmentCount}
 use Rattle.plan_print.specs.declared.status.Status.TheVariants.{Done, No}
 use Rattle.plan_print.specs.Lines.{line, numbers_text}
-use Rattle.plan_print.specs.Report.{Report, Says, IsJudgement, good, bad, IsAnswerOnRing, ring_fault, on_ring, IsRunAnswer, out_of_range, ran, IsProgramReport, program_refused, answered}
-use Rattle.plan_print.specs.Laws.{IsAcceptedText, JudgeTellsRounds, RunTellsRounds, PlanTellsRounds, TableTellsRounds, SameForWorkers, SameForSegments}
+use Rattle.plan_print.specs.Trace.{register_lines, round_lines, row_line, trace_lines}
+use Rattle.plan_print.specs.Report.{Report, Says, IsJudgement, good, bad, IsAnswerOnRing, ring_fault, on_ring, IsRunAnswer, out_of_range, ran, text_refused, in_print, IsProgramReport, program_refused, answered}
+use Rattle.plan_print.specs.Laws.{IsAcceptedText, JudgeTellsRounds, RunTellsRounds, TraceTellsRounds, TraceEndsWithRun, PlanTellsRounds, TableTellsRounds, PrintsAreReadBack, SameForWorkers, SameForSegments}
 use Rattle.plan_print.proofs.OneReport.{accepted_or_refused}
 
 -- the report on a program that is accepted is an answer on that program
@@ -60,6 +64,33 @@ pub run_tells : OneReading → AcceptedProgramsHaveNoRefusal → RingsHaveNoFaul
 run_tells one_reading no_refusal no_fault m segments ring input p r text is_ring within is =
     run_in_range p ring.items segments r within
     (on_this_ring no_fault m (length p.steps) ring.items _ r is_ring (answer_on one_reading no_refusal m _ input p r text is))
+
+pub trace_tells : OneReading → AcceptedProgramsHaveNoRefusal → RingsHaveNoFault → TraceTellsRounds
+trace_tells one_reading no_refusal no_fault m ring input p r text is_ring is =
+    on_this_ring no_fault m (length p.steps) ring.items _ r is_ring (answer_on one_reading no_refusal m _ input p r text is)
+
+-- a trace is lines before the one of its channels
+ends : (p : ProgramTree) (x : List ℕ)
+    → trace_lines p x
+    ≡ (register_lines p x 0 ++ flat_map (round_lines p x) (range_with_len 0 (length p.steps)))
+    ++ (codes "finish " ++ line (numbers_text (channels_of p x) ∷ []))
+ends p x =
+    sym (append_assoc (register_lines p x 0) (flat_map (round_lines p x) (range_with_len 0 (length p.steps))) (row_line (codes "finish") (channels_of p x)))
+
+pub trace_ends : OneReading → AcceptedProgramsHaveNoRefusal → RingsHaveNoFault → TraceEndsWithRun
+trace_ends one_reading no_refusal no_fault m segments ring input p r s text is_ring within trace run =
+    let x = ring.items in
+    let lines = trace_tells one_reading no_refusal no_fault m ring input p r text is_ring trace in
+    let channels = run_tells one_reading no_refusal no_fault m segments ring input p s text is_ring within run in
+    let front = register_lines p x 0 ++ flat_map (round_lines p x) (range_with_len 0 (length p.steps)) in
+    (front, lines.0 ∙ ends p x ∙ ap (λ l. front ++ (codes "finish " ++ l)) (sym channels.0))
+
+pub print_tells : OneReading → PrintedIsRead → PrintsAreReadBack
+print_tells one_reading read input p r reads (text_refused refused) = absurd (refused.none p reads)
+print_tells one_reading read input p r reads (in_print q reads' says) =
+    let is : r.bytes ≡ printed p = says.0 ∙ ap printed (one_reading input q p reads' reads) in
+    let again : Reads r.bytes p = subst (λ l. Reads l p) (sym is) (read p reads.limits) in
+    (says.1, again, in_print p again (is, says.1))
 
 pub plan_tells : OneReading → AcceptedProgramsHaveNoRefusal → RingsHaveNoFault → PlanTellsRounds
 plan_tells one_reading no_refusal no_fault m workers ring input p r text is_ring is =

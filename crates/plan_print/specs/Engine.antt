@@ -5,7 +5,7 @@ use Rattle.devices.specs.declared.fault.EngineFault.{EngineFault}
 use Rattle.devices.specs.declared.fault.EngineFault.TheVariants.{Read, Write, Memory, Thread, Stranger}
 use Rattle.plan_print.specs.declared.status.Status.{Status}
 use Rattle.task_words.specs.declared.task.Task.{Task}
-use Rattle.task_words.specs.declared.task.Task.TheVariants.{Check, Table, Judge, Run, Plan, Audit, Migrate}
+use Rattle.task_words.specs.declared.task.Task.TheVariants.{Check, Print, Table, Judge, Run, Trace, Plan, Audit, Migrate}
 use Rattle.node_lang.specs.declared.limits.TheConstants.{LONGEST_TEXT}
 use Rattle.table_text.specs.declared.limits.TheConstants.{LONGEST_TABLE_TEXT}
 use Rattle.devices.specs.Input.{GivesInput}
@@ -15,9 +15,11 @@ use Rattle.plan_print.specs.Report.{Report, IsReport}
 -- the most bytes that the input of a task may have: those of a program text, or of a table text for a task on such a text
 abbrev pub limit_of : Task → ℕ
 limit_of (Check ids) = LONGEST_TEXT
+limit_of Print = LONGEST_TEXT
 limit_of (Table ids workers near far) = LONGEST_TEXT
 limit_of (Judge ids workers near far) = LONGEST_TEXT
 limit_of (Run ids ring segments) = LONGEST_TEXT
+limit_of (Trace ids ring) = LONGEST_TEXT
 limit_of (Plan ids ring workers) = LONGEST_TEXT
 limit_of Audit = LONGEST_TABLE_TEXT
 limit_of Migrate = LONGEST_TABLE_TEXT
@@ -42,9 +44,11 @@ pub record WritesFront (task : Task) (unread left before after : Option (List �
 -- the number of workers or of segments that the task names, or 0
 abbrev pub crew_of : Task → ℕ
 crew_of (Check ids) = 0
+crew_of Print = 0
 crew_of (Table ids workers near far) = workers
 crew_of (Judge ids workers near far) = workers
 crew_of (Run ids ring segments) = segments
+crew_of (Trace ids ring) = 0
 crew_of (Plan ids ring workers) = workers
 crew_of Audit = 0
 crew_of Migrate = 0

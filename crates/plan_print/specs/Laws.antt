@@ -1,5 +1,5 @@
--- The laws of this crate: what a report tells of global rounds, and that a task and an input have one report.
-use Rattle.std.specs.Prelude.{◌≡◌, ◌↔◌, ℕ, ◌<◌, List, [], ◌∷◌, Vec, Some, length}
+-- The laws of this crate: that a task and an input have one report, what a report tells of global rounds, and that a print is read back.
+use Rattle.std.specs.Prelude.{◌≡◌, ◌↔◌, ℕ, ◌<◌, List, [], ◌∷◌, ◌++◌, Vec, Some, length, codes}
 use Rattle.std.specs.declared.alloc.Global.{Global}
 use Rattle.node_lang.specs.Term.{ProgramTree}
 use Rattle.node_lang.specs.Grammar.{Reads}
@@ -13,9 +13,10 @@ use Rattle.ring_exec.specs.SegmentCounts.{IsSegmentCount}
 use Rattle.headline.specs.Headline.{ChannelsAreApart}
 use Rattle.table_text.specs.TableText.{table_text}
 use Rattle.task_words.specs.declared.task.Task.{Task}
-use Rattle.task_words.specs.declared.task.Task.TheVariants.{Table, Judge, Run, Plan}
+use Rattle.task_words.specs.declared.task.Task.TheVariants.{Print, Table, Judge, Run, Trace, Plan}
 use Rattle.plan_print.specs.declared.status.Status.TheVariants.{Done, No}
 use Rattle.plan_print.specs.Lines.{line, numbers_text}
+use Rattle.plan_print.specs.Trace.{trace_lines}
 use Rattle.plan_print.specs.Report.{Report, Says, place_lines, IsReport}
 
 -- two reports of a task on an input are one
@@ -40,6 +41,26 @@ RunTellsRounds =
     (m segments : ℕ) (ring : Vec ℕ Global) (input : List ℕ) (p : ProgramTree) (r : Report) → IsAcceptedText input m p
     → IsRing m (length p.steps) ring.items → IsSegmentCount segments (length ring.items) → IsReport (Run m ring segments) input r
     → Says (line (numbers_text (channels_of p ring.items) ∷ [])) Done r
+
+-- the report of a trace on a ring is the lines of what its places hold and send in global rounds
+abbrev pub TraceTellsRounds : Type 0
+TraceTellsRounds =
+    (m : ℕ) (ring : Vec ℕ Global) (input : List ℕ) (p : ProgramTree) (r : Report) → IsAcceptedText input m p
+    → IsRing m (length p.steps) ring.items → IsReport (Trace m ring) input r → Says (trace_lines p ring.items) Done r
+
+-- and its last line is what a run of the ring reports, in any number of segments in its range, after a word
+abbrev pub TraceEndsWithRun : Type 0
+TraceEndsWithRun =
+    (m segments : ℕ) (ring : Vec ℕ Global) (input : List ℕ) (p : ProgramTree) (r s : Report) → IsAcceptedText input m p
+    → IsRing m (length p.steps) ring.items → IsSegmentCount segments (length ring.items)
+    → IsReport (Trace m ring) input r → IsReport (Run m ring segments) input s
+    → (lines : List ℕ) × (r.bytes ≡ lines ++ (codes "finish " ++ s.bytes))
+
+-- the report of a print on the text of a program is a text of the same program, whose print it is too
+abbrev pub PrintsAreReadBack : Type 0
+PrintsAreReadBack =
+    (input : List ℕ) (p : ProgramTree) (r : Report) → Reads input p → IsReport Print input r
+    → (r.status ≡ Done) × Reads r.bytes p × IsReport Print r.bytes r
 
 -- the report of a plan on a ring has a line for each place, with the channel of global rounds
 abbrev pub PlanTellsRounds : Type 0

@@ -2,6 +2,7 @@ pub mod ExitCodes
 pub mod Lines
 pub use Rattle.table_text.specs.TableText
 pub use Rattle.table_text.specs.Texts
+pub mod Trace
 pub mod Report
 pub mod Laws
 pub use Rattle.task_words.specs.Decimal
@@ -17,6 +18,7 @@ pub use Rattle.devices.specs.Output
 pub use Rattle.devices.specs.FaultCodes
 pub use Rattle.node_lang.specs.Term
 pub use Rattle.node_lang.specs.GlobalRounds
+pub use Rattle.node_lang.specs.Printed
 pub use Rattle.node_lang.specs.Grammar
 pub use Rattle.node_lang.specs.Faults
 pub use Rattle.lang_check.specs.Acceptance

@@ -9,6 +9,7 @@ use Rattle.node_lang.specs.Bounds.{finish_bound}
 use Rattle.node_lang.specs.GlobalRounds.{channel_at, channels_of}
 use Rattle.win_index.specs.Ring.{IsRing}
 use Rattle.node_lang.specs.Grammar.{Reads}
+use Rattle.node_lang.specs.Printed.{printed}
 use Rattle.node_lang.specs.Faults.{FaultsAt}
 use Rattle.lang_check.specs.declared.acceptance.CheckFault.{CheckFault}
 use Rattle.lang_check.specs.declared.acceptance.CheckFault.TheVariants as check
@@ -27,8 +28,9 @@ use Rattle.ring_exec.specs.SegmentCounts.{IsSegmentCount}
 use Rattle.plan_print.specs.declared.status.Status.{Status}
 use Rattle.plan_print.specs.declared.status.Status.TheVariants.{Done, No, Words, Refused, RingRefused}
 use Rattle.task_words.specs.declared.task.Task.{Task}
-use Rattle.task_words.specs.declared.task.Task.TheVariants.{Check, Table, Judge, Run, Plan, Audit, Migrate}
+use Rattle.task_words.specs.declared.task.Task.TheVariants.{Check, Print, Table, Judge, Run, Trace, Plan, Audit, Migrate}
 use Rattle.plan_print.specs.Lines.{line, numbers_text, right_aligned}
+use Rattle.plan_print.specs.Trace.{trace_lines}
 use Rattle.table_text.specs.declared.fault.TableFault.{TableFault}
 use Rattle.table_text.specs.declared.fault.TableFault.TheVariants as table
 use Rattle.table_text.specs.TableText.{table_text}
@@ -140,11 +142,23 @@ pub data IsRunAnswer (p : ProgramTree) (places : List ℕ) (segments : ℕ) (r :
 abbrev pub IsTableText : ChannelTable → Separation → Report → Type 0
 IsTableText t s r = Says (table_text t s) Done r
 
+-- what is wrong with a text that reads as no program
+pub record IsTextRefusal (input : List ℕ) (r : Report) : Type 0 where
+  pub kind : FaultKind
+  pub offset : ℕ
+  pub none : (p : ProgramTree) → ¬ Reads input p
+  pub fault : FaultsAt input kind offset
+  pub says : Says (text_fault_line kind offset) Refused r
+
+-- The report of a print: what is wrong with the text, or the printed form of the program that it reads as.
+pub data IsPrintReport (input : List ℕ) (r : Report) : Type 0 where
+  text_refused : IsTextRefusal input r → IsPrintReport input r
+  in_print : (p : ProgramTree) → Reads input p → Says (printed p) Done r → IsPrintReport input r
+
 -- What is wrong with a program text for m identifiers: the fault of a text that reads as no program, or the first refusal of the program
 -- that it reads as.
 pub data IsProgramRefusal (m : ℕ) (input : List ℕ) (r : Report) : Type 0 where
-  text_fault : (k : FaultKind) (offset : ℕ) → ((p : ProgramTree) → ¬ Reads input p) → FaultsAt input k offset →
-      Says (text_fault_line k offset) Refused r → IsProgramRefusal m input r
+  text_fault : IsTextRefusal input r → IsProgramRefusal m input r
   check_fault : (p : ProgramTree) (f : CheckFault) → Reads input p → IsFirstRefusal m p f →
       Says (check_fault_line f) Refused r → IsProgramRefusal m input r
 
@@ -165,14 +179,17 @@ pub data IsTableReport (answer : ChannelTable → Separation → Report → Type
   table_refused : IsTableRefusal input r → IsTableReport answer input r
   of_table : (t : ChannelTable) (s : Separation) → IsTextOf input t s → answer t s r → IsTableReport answer input r
 
--- The report of a task on an input. The tasks with a number of identifiers are on a program text, the others on a table text. The report
+-- The report of a task on an input. A print and the tasks with a number of identifiers are on a program text, the others on a table text. The report
 -- is the same whatever the number of workers, and whatever the number of segments that a ring can be run in.
 abbrev pub IsReport : Task → List ℕ → Report → Type 0
 IsReport (Check ids) input r = IsProgramReport ids (λ p. Says (accepted_line ids p) Done) input r
+IsReport Print input r = IsPrintReport input r
 IsReport (Table ids workers near far) input r = IsProgramReport ids (λ p. IsTableText (table_of p ids) (record { near = near; far = far })) input r
 IsReport (Judge ids workers near far) input r = IsProgramReport ids (λ p. IsJudgement (table_of p ids) (record { near = near; far = far })) input r
 IsReport (Run ids places segments) input r =
     IsProgramReport ids (λ p. IsAnswerOnRing ids (length p.steps) places.items (IsRunAnswer p places.items segments)) input r
+IsReport (Trace ids places) input r =
+    IsProgramReport ids (λ p. IsAnswerOnRing ids (length p.steps) places.items (Says (trace_lines p places.items) Done)) input r
 IsReport (Plan ids places workers) input r =
     IsProgramReport ids (λ p. IsAnswerOnRing ids (length p.steps) places.items (Says (place_lines p places.items) Done)) input r
 IsReport Audit input r = IsTableReport IsJudgement input r

@@ -1,12 +1,14 @@
-//! The answers of the tasks on a program that is accepted.
+//! The answers of the tasks on a program.
 
 ghost use Rattle.std.specs.Prelude.{◌≡◌, length, IfOk, IfErr};
+ghost use Rattle.node_lang.specs.Printed.{printed};
 ghost use Rattle.table_fill.specs.ProgramTables.{table_of};
 ghost use Rattle.task_words.specs.Counts.{IsCount};
 ghost use Rattle.shared_memo.specs.Passes.{memo_plan};
 ghost use Rattle.plan_print.specs.Engine.{IsTaskFault};
 ghost use Rattle.plan_print.specs.ToldFaults.{fill_fault_told, run_fault_told};
 ghost use Rattle.plan_print.specs.Answers.{report_in};
+ghost use Rattle.plan_print.specs.Trace.{trace_lines};
 ghost use Rattle.plan_print.specs.Report as report;
 ghost use Rattle.plan_print.specs.Report.{Says, IsAnswerOnRing, IsJudgement, IsRunAnswer, IsTableText};
 ghost use Rattle.std.specs.Thread.{IsSync};
@@ -15,9 +17,11 @@ use crate::judgement::judgement;
 use crate::lines::{accepted_line, numbers_line, ring_fault_line, segments_fault_line};
 use crate::places::places_text;
 use crate::status::Status;
+use crate::trace::trace_text;
 use devices::fault::EngineFault;
 use lang_check::Plan;
 use nbhd_check::Separation;
+use node_lang::{Program, print};
 use ring_exec::{RunFault, run};
 use round_eval::OpenGate;
 use shared_memo::Memo;
@@ -41,6 +45,17 @@ pub(crate) fn check_answer(alloc: Global, plan: &Plan) -> Result<Answer, EngineF
     ensures fault { IfErr result (λ fault. fault ≡ EngineFault.Memory) }
 {
     Ok(Answer::Text(accepted_line(alloc, plan)?, Status::Done))
+}
+
+// The answer that is the printed form of a program.
+pub(crate) fn print_answer(alloc: Global, program: &Program) -> Result<Answer, EngineFault>
+    ensures answer { IfOk result (λ r. Says (printed program.now) Status.Done (report_in r)) }
+    ensures fault { IfErr result (λ fault. fault ≡ EngineFault.Memory) }
+{
+    match print(alloc, program) {
+        Ok(text) => Ok(Answer::Text(text, Status::Done)),
+        Err(_) => Err(EngineFault::Memory),
+    }
 }
 
 // The answer that is the table of an accepted program, filled by so many workers, with a separation.
@@ -115,6 +130,18 @@ fn fault_of_run(fault: RunFault) -> Option<EngineFault>
         RunFault::OutOfMemory => Some(EngineFault::Memory),
         RunFault::Stranger => Some(EngineFault::Stranger),
         RunFault::NoThread => Some(EngineFault::Thread),
+    }
+}
+
+// The answer of a trace of a list of identifiers.
+pub(crate) fn trace_answer(alloc: Global, plan: &Plan, ids: Vec<u32>) -> Result<Answer, EngineFault>
+    ensures answer { IfOk result (λ r. IsAnswerOnRing plan.now.ids (length plan.now.program.steps) ids.items
+        (Says (trace_lines plan.now.program ids.items) Status.Done) (report_in r)) }
+    ensures fault { IfErr result (λ fault. fault ≡ EngineFault.Memory) }
+{
+    match Ring::new(plan.shape(), ids) {
+        Ok(ring) => Ok(Answer::Text(trace_text(alloc, plan, &ring)?, Status::Done)),
+        Err((_ids, fault)) => ring_refusal(alloc, fault),
     }
 }
 

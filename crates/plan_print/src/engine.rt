@@ -96,6 +96,7 @@ fn limit(task: &Task) -> usize
 {
     match task {
         Task::Check { ids: _ }
+        | Task::Print
         | Task::Table {
             ids: _,
             workers: _,
@@ -113,6 +114,7 @@ fn limit(task: &Task) -> usize
             ring: _,
             segments: _,
         }
+        | Task::Trace { ids: _, ring: _ }
         | Task::Plan {
             ids: _,
             ring: _,

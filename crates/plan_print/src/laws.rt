@@ -5,7 +5,7 @@ ghost use Rattle.plan_print.specs.Laws as law;
 use headline::program_tables_are_apart;
 use lang_check::one_refusal;
 use nbhd_check::one_witness;
-use node_lang::{one_reading, one_text_fault};
+use node_lang::{one_reading, one_text_fault, printed_is_read_back};
 use table_fill::table_has_the_channels_of_rounds;
 use table_text::{one_table_fault, table_texts_are_apart, table_texts_are_read};
 use win_index::one_ring_fault;
@@ -28,11 +28,14 @@ pub fn one_report()
 }
 
 /// What the reports on a program that is accepted tell of synchronous rounds on rings (Linial 1992): the status of a judge,
-/// whether their channels are apart on every ring; the line of a run and the lines of a plan, their channels on the ring; a
-/// table, their channels at the windows of every ring.
+/// whether their channels are apart on every ring; the line of a run and the lines of a plan, their channels on the ring; the
+/// lines of a trace, what the places of the ring hold and send in them, and at last what a run reports; a table, their
+/// channels at the windows of every ring.
 pub fn reports_tell_rounds()
     ensures judge { law.JudgeTellsRounds }
     ensures run { law.RunTellsRounds }
+    ensures trace { law.TraceTellsRounds }
+    ensures finish { law.TraceEndsWithRun }
     ensures plan { law.PlanTellsRounds }
     ensures table { law.TableTellsRounds }
 {
@@ -42,4 +45,12 @@ pub fn reports_tell_rounds()
     one_witness();
     table_has_the_channels_of_rounds();
     program_tables_are_apart();
+}
+
+/// The report of a print reads as the program that was printed, and is its own print.
+pub fn prints_are_read_back()
+    ensures { law.PrintsAreReadBack }
+{
+    one_reading();
+    printed_is_read_back();
 }

@@ -10,6 +10,7 @@ mod places;
 pub mod process;
 mod report;
 pub mod status;
+mod trace;
 
 pub use devices::{fault, input, output, watched};
 pub use table_text::{TableFault, read_table, write_table};

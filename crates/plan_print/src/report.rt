@@ -7,17 +7,19 @@ ghost use Rattle.lang_check.specs.Acceptance.{IsAccepted};
 ghost use Rattle.table_text.specs.Texts.{IsTextOf};
 ghost use Rattle.plan_print.specs.Engine.{crew_of, IsTaskFault};
 ghost use Rattle.plan_print.specs.Answers.{report_in};
-ghost use Rattle.plan_print.specs.Report.{IsReport, IsProgramRefusal, IsTableRefusal};
+ghost use Rattle.plan_print.specs.Report.{IsReport, IsTextRefusal, IsProgramRefusal, IsTableRefusal};
 ghost use Rattle.task_words.specs.Task.{IsRunnable};
 
-use crate::answer::{Answer, check_answer, judged, plan_answer, run_answer, table_answer};
+use crate::answer::{
+    Answer, check_answer, judged, plan_answer, print_answer, run_answer, table_answer, trace_answer,
+};
 use crate::judgement::audited;
 use crate::lines::{check_fault_line, table_fault_line, text_fault_line};
 use crate::status::Status;
 use devices::fault::EngineFault;
 use lang_check::{Plan, accept};
 use nbhd_check::Separation;
-use node_lang::{FaultKind, TextFault, parse};
+use node_lang::{FaultKind, Program, TextFault, parse};
 use std::alloc::Global;
 use std::sync::Wait;
 use std::thread::Threads;
@@ -39,6 +41,10 @@ pub(crate) fn report_of<T: Threads + Wait + Sync>(
     match task {
         Task::Check { ids } => match accepted(alloc, input, ids)? {
             Ok(plan) => check_answer(alloc, &plan),
+            Err(refusal) => Ok(refusal),
+        },
+        Task::Print => match program_in(alloc, input)? {
+            Ok(program) => print_answer(alloc, &program),
             Err(refusal) => Ok(refusal),
         },
         Task::Table {
@@ -67,6 +73,10 @@ pub(crate) fn report_of<T: Threads + Wait + Sync>(
             Ok(plan) => run_answer(rt, alloc, &plan, ring, segments),
             Err(refusal) => Ok(refusal),
         },
+        Task::Trace { ids, ring } => match accepted(alloc, input, ids)? {
+            Ok(plan) => trace_answer(alloc, &plan, ring),
+            Err(refusal) => Ok(refusal),
+        },
         Task::Plan { ids, ring, workers } => match accepted(alloc, input, ids)? {
             Ok(plan) => plan_answer(rt, alloc, &plan, ring, workers),
             Err(refusal) => Ok(refusal),
@@ -88,7 +98,7 @@ fn accepted(alloc: Global, input: &[u8], ids: u32) -> Result<Result<Plan, Answer
     ensures refusal { IfOk result (λ told. IfErr told (λ r. IsProgramRefusal ids input.now (report_in r))) }
     ensures fault { IfErr result (λ fault. fault ≡ EngineFault.Memory) }
 {
-    match parse(alloc, input) {
+    match program_in(alloc, input)? {
         Ok(program) => match accept(program, ids) {
             Ok(plan) => Ok(Ok(plan)),
             Err((_program, fault)) => Ok(Err(Answer::Text(
@@ -96,6 +106,18 @@ fn accepted(alloc: Global, input: &[u8], ids: u32) -> Result<Result<Plan, Answer
                 Status::Refused,
             ))),
         },
+        Err(refusal) => Ok(Err(refusal)),
+    }
+}
+
+// The program of the program text, or the report of what is refused.
+fn program_in(alloc: Global, input: &[u8]) -> Result<Result<Program, Answer>, EngineFault>
+    ensures program { IfOk result (λ told. IfOk told (λ program. Reads input.now program)) }
+    ensures refusal { IfOk result (λ told. IfErr told (λ r. IsTextRefusal input.now (report_in r))) }
+    ensures fault { IfErr result (λ fault. fault ≡ EngineFault.Memory) }
+{
+    match parse(alloc, input) {
+        Ok(program) => Ok(Ok(program)),
         Err(
             TextFault {
                 kind: FaultKind::OutOfMemory,

@@ -1,4 +1,4 @@
-use Rattle.plan_print.proofs.ToldRounds.{judge_tells, run_tells, plan_tells, table_tells}
+use Rattle.plan_print.proofs.ToldRounds.{judge_tells, run_tells, trace_tells, trace_ends, plan_tells, table_tells}
 use Rattle.plan_print.proofs.laws.reports_tell_rounds.Goals as goal
 
 pub returns-clause-judge : goal.returns-clause-judge
@@ -7,6 +7,12 @@ returns-clause-judge c =
 
 pub returns-clause-run : goal.returns-clause-run
 returns-clause-run c = run_tells c.one_reading.ensures c.one_refusal.ensures.none c.one_ring_fault.ensures.none
+
+pub returns-clause-trace : goal.returns-clause-trace
+returns-clause-trace c = trace_tells c.one_reading.ensures c.one_refusal.ensures.none c.one_ring_fault.ensures.none
+
+pub returns-clause-finish : goal.returns-clause-finish
+returns-clause-finish c = trace_ends c.one_reading.ensures c.one_refusal.ensures.none c.one_ring_fault.ensures.none
 
 pub returns-clause-plan : goal.returns-clause-plan
 returns-clause-plan c = plan_tells c.one_reading.ensures c.one_refusal.ensures.none c.one_ring_fault.ensures.none

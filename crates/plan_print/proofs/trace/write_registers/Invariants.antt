@@ -1,0 +1,14 @@
+use Rattle.std.proofs.Common.{◌≡◌, ◌++◌, slice_index, codes, string_bytes}
+use Rattle.std.specs.List.{flat_map, range_with_len}
+use Rattle.std.specs.Fmt.{decimal}
+use Rattle.node_lang.specs.GlobalRounds.{state}
+use Rattle.plan_print.specs.Trace.{of_places, row_line, after_rounds}
+use Rattle.plan_print.proofs.trace.write_registers.Given as goal
+
+-- the lines of the registers that were looked at stand in the text
+abbrev pub invariant-loop-register : goal.invariant-loop-register
+invariant-loop-register l =
+    string_bytes l.text
+    ≡ string_bytes l.initial.text
+    ++ flat_map (λ j. row_line (after_rounds l.places.round ++ (codes " r" ++ decimal j))
+    (of_places l.places.places (λ i. slice_index (state l.places.program l.places.places l.places.round i) j))) (range_with_len 0 l.register-counter)
