@@ -17,6 +17,9 @@ const TURNS: u64 = 1_000_000_000;
 // The rounds of a test.
 const ROUNDS: u32 = 100;
 
+// Threads that take each message.
+const TAKERS: u64 = 2;
+
 // Waits until the counter is this or more, and answers whether it was.
 fn comes_to(counter: &AtomicU64, least: u64) -> bool {
     for _turn in 0..TURNS {
@@ -27,7 +30,8 @@ fn comes_to(counter: &AtomicU64, least: u64) -> bool {
     false
 }
 
-// Puts a message in each round, once its taker is about to take it. Answers whether each was put.
+// Puts a message in each round, once all takers are about to take it. A taker that an earlier put did not wake never is. Answers
+// whether each was put.
 fn put_each<R: Ledger, L: Ledger, W: Wait>(
     rt: &W,
     border: &Border<Note, R, L>,
@@ -35,7 +39,7 @@ fn put_each<R: Ledger, L: Ledger, W: Wait>(
     about: &AtomicU64,
 ) -> bool {
     for round in 0..ROUNDS {
-        if !comes_to(about, u64::from(round) + 1) || seat.puts() >= ROUNDS {
+        if !comes_to(about, TAKERS * (u64::from(round) + 1)) || seat.puts() >= ROUNDS {
             return false;
         }
         let message = to_the_right(round, round + 5);
@@ -65,7 +69,7 @@ fn take_each<R: Ledger, L: Ledger, W: Wait>(
     about: &AtomicU64,
 ) -> bool {
     for round in 0..ROUNDS {
-        about.store(u64::from(round) + 1, SeqCst);
+        about.fetch_add(1, SeqCst);
         let message = to_the_right(round, round + 5);
         if border.take(rt, Side::Rightward, round) != Some(message) {
             return false;
@@ -81,68 +85,12 @@ fn take_all<R: Ledger, L: Ledger, W: Wait>(
     about: &AtomicU64,
 ) -> bool {
     let done = take_each(rt, border, about);
-    about.store(u64::from(ROUNDS), SeqCst);
+    about.fetch_add(TAKERS * u64::from(ROUNDS), SeqCst);
     done
 }
 
-// One thread puts and another takes: whether each did all that it had to.
+// One thread puts and two take each message: whether each did all that it had to.
 fn put_and_take<R: Ledger + Send + Sync, L: Ledger + Send + Sync, W: Threads + Wait + Sync>(
-    rt: &W,
-    alloc: Global,
-    right: Blank,
-    left: Blank,
-) -> Option<(bool, bool)>
-    requires right { (right.name ≡ R.name) × (right.parts ≡ R.parts) × (right.parts ≡ 1) }
-    requires left { (left.name ≡ L.name) × (left.parts ≡ L.parts) × (left.parts ≡ 1) }
-{
-    let (border, seat, _other) = Border::<Note, R, L>::new(alloc, right, left).ok()?;
-    let counter = AtomicU64::new(0);
-    let (lent, about) = (&border, &counter);
-    Some(thread::join(
-        rt,
-        || put_all(rt, lent, seat, about),
-        || take_all(rt, lent, about),
-    ))
-}
-
-// Closes the border after puts of every round, once both takers are about to take. Answers whether they came and all was put.
-fn put_for_two<R: Ledger, L: Ledger, W: Wait>(
-    rt: &W,
-    border: &Border<Note, R, L>,
-    mut seat: Seat<R, L>,
-    about: &AtomicU64,
-) -> bool {
-    let mut done = comes_to(about, 2);
-    for round in 0..ROUNDS {
-        if seat.puts() >= ROUNDS {
-            done = false;
-            break;
-        }
-        let message = to_the_right(round, round + 5);
-        done &= border.put(rt, &mut seat, message).is_ok();
-    }
-    border.close(rt);
-    done
-}
-
-// Takes the message of each round beside another taker, and answers whether each was the one put.
-fn take_beside<R: Ledger, L: Ledger, W: Wait>(
-    rt: &W,
-    border: &Border<Note, R, L>,
-    about: &AtomicU64,
-) -> bool {
-    about.fetch_add(1, SeqCst);
-    for round in 0..ROUNDS {
-        let message = to_the_right(round, round + 5);
-        if border.take(rt, Side::Rightward, round) != Some(message) {
-            return false;
-        }
-    }
-    true
-}
-
-// One thread puts and two take the same messages: whether each did all that it had to.
-fn put_and_take_twice<R: Ledger + Send + Sync, L: Ledger + Send + Sync, W: Threads + Wait + Sync>(
     rt: &W,
     alloc: Global,
     right: Blank,
@@ -156,11 +104,11 @@ fn put_and_take_twice<R: Ledger + Send + Sync, L: Ledger + Send + Sync, W: Threa
     let (lent, about) = (&border, &counter);
     Some(thread::join(
         rt,
-        || put_for_two(rt, lent, seat, about),
+        || put_all(rt, lent, seat, about),
         || thread::join(
             rt,
-            || take_beside(rt, lent, about),
-            || take_beside(rt, lent, about),
+            || take_all(rt, lent, about),
+            || take_all(rt, lent, about),
         ),
     ))
 }
@@ -207,14 +155,8 @@ fn close_and_take<R: Ledger + Send + Sync, L: Ledger + Send + Sync, W: Threads +
 }
 
 #[test]
-fn a_taker_waits_for_a_put(rt: HostRuntime) {
+fn two_takers_wait_for_each_put(rt: HostRuntime) {
     let done = put_and_take::<Brand, Brand, _>(&rt, rt.alloc(), Blank::new(1), Blank::new(1));
-    assert_eq!(rt; done, Some((true, true)));
-}
-
-#[test]
-fn two_takers_wait_at_one_border(rt: HostRuntime) {
-    let done = put_and_take_twice::<Brand, Brand, _>(&rt, rt.alloc(), Blank::new(1), Blank::new(1));
     assert_eq!(rt; done, Some((true, (true, true))));
 }
 

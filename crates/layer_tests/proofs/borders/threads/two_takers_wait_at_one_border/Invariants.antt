@@ -1,8 +1,0 @@
-use Rattle.layer_tests.proofs.borders.threads.two_takers_wait_at_one_border.Given as goal
-
--- each side's ledger has the name and the parts of its blank
-abbrev pub ghosts-put_and_take_twice-R-Ledger : goal.ghosts-put_and_take_twice-R-Ledger
-ghosts-put_and_take_twice-R-Ledger g a = record { name = a.right.name; parts = a.right.parts }
-
-abbrev pub ghosts-put_and_take_twice-L-Ledger : goal.ghosts-put_and_take_twice-L-Ledger
-ghosts-put_and_take_twice-L-Ledger g a = record { name = a.left.name; parts = a.left.parts }
