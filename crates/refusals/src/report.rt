@@ -30,6 +30,16 @@ pub(crate) fn do_table_report<R: AllocGlobal + Print + Threads + Wait + Sync>(
     do_report(rt, table_task(workers), table_task(workers))
 }
 
+/// `engine`: the report of the trace of a ring of four places, and its status.
+pub(crate) fn do_trace_report<R: AllocGlobal + Print + Threads + Wait + Sync>(
+    rt: &R,
+) -> Result<(), Miss> {
+    let alloc = rt.alloc();
+    let first = trace_task(alloc)?;
+    let again = trace_task(alloc)?;
+    do_report(rt, first, again)
+}
+
 /// `numbers_line`: the line of four numbers.
 pub(crate) fn do_numbers_line<R: AllocGlobal + Print>(rt: &R) -> Result<(), Miss> {
     let numbers = [5, 1, 3, 7];
@@ -82,6 +92,12 @@ fn run_task(alloc: Global, segments: u32) -> Result<Task, Miss> {
         ring,
         segments,
     })
+}
+
+// The task of the trace of a ring of four places.
+fn trace_task(alloc: Global) -> Result<Task, Miss> {
+    let ring = beside([5, 1, 3, 7].to_vec(alloc))?;
+    Ok(Task::Trace { ids: 8, ring })
 }
 
 // Tells a status.

@@ -1,8 +1,13 @@
+ghost use Rattle.std.specs.Prelude.{◌≡◌, IfOk};
+
 use crate::miss::Miss;
 use crate::plans::{plan_of, ring_for};
 use crate::tell::{given, surely, tell_numbers};
+use lang_check::Plan;
+use ring_trace::{Configuration, Told};
 use round_eval::plain_run;
 use test_programs::CV1;
+use win_index::Ring;
 
 /// `plain_run`: the channels of four places.
 pub(crate) fn do_plain_run<R: AllocGlobal + Print>(rt: &R) -> Result<(), Miss> {
@@ -14,4 +19,44 @@ pub(crate) fn do_plain_run<R: AllocGlobal + Print>(rt: &R) -> Result<(), Miss> {
         None => surely(plain_run(alloc, &plan, &ring))?,
     };
     tell_numbers(rt, &channels)
+}
+
+/// `Configuration::new`: what the channels of four places are by what they hold before the round, and after it.
+pub(crate) fn do_configuration<R: AllocGlobal + Print>(rt: &R) -> Result<(), Miss> {
+    let alloc = rt.alloc();
+    let plan = plan_of(alloc, CV1, 8)?;
+    let ring = ring_for(alloc, &plan, &[5, 1, 3, 7])?;
+    let mut places = at_the_start(rt, &plan, &ring)?;
+    tell_channels(rt, &places)?;
+    if plan.shape().rounds() != 1 {
+        return Err(Miss::Wrong);
+    }
+    places.advance();
+    tell_channels(rt, &places)
+}
+
+// The configuration of a ring before the first round.
+fn at_the_start<'a, R: AllocGlobal + Print>(
+    rt: &R,
+    plan: &'a Plan,
+    ring: &'a Ring,
+) -> Result<Configuration<'a>, Miss>
+    requires { ring.now.ids ≡ plan.now.ids }
+    ensures { IfOk result (λ places. (places.program ≡ plan.now.program) × (places.round ≡ 0)) }
+{
+    match given(rt, Configuration::new(rt.alloc(), plan, ring))? {
+        Some(places) => Ok(places),
+        None => surely(Configuration::new(rt.alloc(), plan, ring)),
+    }
+}
+
+// Tells the channels of a ring's places, parted by single blanks.
+fn tell_channels<R: Print>(rt: &R, places: &Configuration<'_>) -> Result<(), Miss> {
+    for place in 0..places.places() {
+        let channel = places.told(Told::Channel, place);
+        let blank = if place == 0 { "" } else { " " };
+        print!(rt; "{blank}{channel}")?;
+    }
+    println!(rt)?;
+    Ok(())
 }

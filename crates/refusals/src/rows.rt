@@ -9,8 +9,8 @@ use crate::language::{do_parse, do_print};
 use crate::memos::do_memo;
 use crate::messages::do_run;
 use crate::miss::Miss;
-use crate::report::{do_numbers_line, do_run_report, do_table_report};
-use crate::rounds::do_plain_run;
+use crate::report::{do_numbers_line, do_run_report, do_table_report, do_trace_report};
+use crate::rounds::{do_configuration, do_plain_run};
 use crate::segments::{do_ring_replay, do_segment};
 use crate::tables::{do_compile, do_table_maker};
 use crate::texts::{do_read_table, do_write_table};
@@ -35,6 +35,7 @@ pub(crate) fn do_row<R: AllocGlobal + Print + Threads + Wait + Sync>(
         "parse" => do_parse(rt),
         "print" => do_print(rt),
         "plain_run" => do_plain_run(rt),
+        "configuration" => do_configuration(rt),
         "code" => do_code(rt),
         "columns" => do_columns(rt),
         "make_block" => do_make_block(rt),
@@ -83,6 +84,7 @@ fn do_row_of_threads<R: AllocGlobal + Print + Threads + Wait + Sync>(
         "engine_run_1" => do_run_report(rt, 1),
         "engine_run_4" => do_run_report(rt, 4),
         "engine_table_3" => do_table_report(rt, 3),
+        "engine_trace" => do_trace_report(rt),
         _ => Err(Miss::NoRow),
     }
 }
