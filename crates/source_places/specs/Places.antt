@@ -1,0 +1,27 @@
+-- Where a byte stands in a text: its line and its column, and the line around it.
+use Rattle.std.specs.Prelude.{ℕ, ◌+◌, ◌==◌, Bool, not, List, length, take, drop, count_by}
+use Rattle.std.specs.List.{before_first, after_last}
+
+-- a line feed
+abbrev pub is_feed : ℕ → Bool
+is_feed b = b == 10
+
+-- any other byte
+abbrev pub in_line : ℕ → Bool
+in_line b = not (is_feed b)
+
+-- the line of the byte at this offset: one more than the line feeds before it
+abbrev pub line_number : List ℕ → ℕ → ℕ
+line_number text offset = count_by is_feed (take offset text) + 1
+
+-- what stands on its line before it: all behind the last line feed before it
+abbrev pub line_before : List ℕ → ℕ → List ℕ
+line_before text offset = after_last is_feed (take offset text)
+
+-- its column: one more than the bytes on its line before it
+abbrev pub column : List ℕ → ℕ → ℕ
+column text offset = length (line_before text offset) + 1
+
+-- what stands on its line from it on: all up to the next line feed
+abbrev pub line_from : List ℕ → ℕ → List ℕ
+line_from text offset = before_first is_feed (drop offset text)

@@ -1,0 +1,37 @@
+-- A line of a text and a mark below a place, as notes show them.
+use Rattle.std.specs.Prelude.{ℕ, ◌-◌, ◌/◌, ◌%◌, ◌==◌, false, ◌&&◌, ◌||◌, ◌++◌, nat_lt, nat_le, List, [], ◌∷◌, length, take, drop, codes, replicate, if◌then◌else◌}
+use Rattle.std.specs.List.{flat_map}
+use Rattle.std.specs.Fmt.{digit_glyph}
+use Rattle.source_places.specs.declared.shown.TheConstants.{SHOWN_BYTES}
+use Rattle.source_places.specs.Places.{line_before, line_from}
+
+-- `\x` and the two hexadecimal digits of a byte
+abbrev pub escaped : ℕ → List ℕ
+escaped b = 92 ∷ 120 ∷ digit_glyph false (b / 16) ∷ digit_glyph false (b % 16) ∷ []
+
+-- A byte as it is shown: a tab (9) and a carriage return (13) as a blank, a printable ASCII byte as it is, and any other as `\x` and two
+-- hexadecimal digits.
+abbrev pub shown_byte : ℕ → List ℕ
+shown_byte b = if (b == 9) || (b == 13) then 32 ∷ []
+    else if nat_le 32 b && nat_lt b 127 then b ∷ []
+    else escaped b
+
+abbrev pub shown : List ℕ → List ℕ
+shown bytes = flat_map shown_byte bytes
+
+-- the last bytes of a list, at most so many
+abbrev pub last_bytes : ℕ → List ℕ → List ℕ
+last_bytes count bytes = drop (length bytes - count) bytes
+
+-- what is shown of a line before a place, and from it on: at most SHOWN_BYTES bytes each
+abbrev pub shown_before : List ℕ → ℕ → List ℕ
+shown_before text offset = shown (last_bytes SHOWN_BYTES (line_before text offset))
+
+abbrev pub shown_from : List ℕ → ℕ → List ℕ
+shown_from text offset = shown (take SHOWN_BYTES (line_from text offset))
+
+-- the line of a place, and a mark below the place; each is two blanks further to the right
+unfoldable pub marked_line : List ℕ → ℕ → List ℕ
+marked_line text offset =
+    codes "  " ++ (shown_before text offset ++ (shown_from text offset
+    ++ (10 ∷ codes "  " ++ (replicate (length (shown_before text offset)) 32 ++ codes "^\n"))))

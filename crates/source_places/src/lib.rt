@@ -1,0 +1,8 @@
+//! Where a byte stands in a text: its line and its column, and its line with a mark below it.
+#![tactic(auto)]
+
+mod places;
+mod shown;
+
+pub use places::{column_of, line_of};
+pub use shown::{SHOWN_BYTES, write_marked_line};

@@ -1,0 +1,102 @@
+//! A line of a text, and a mark below a place of it.
+
+ghost use Rattle.std.specs.Prelude.{◌≡◌, ◌≤◌, ◌++◌, length, take, replicate, OnOk, string_bytes};
+ghost use Rattle.source_places.specs.Shown.{escaped, shown_byte, shown, marked_line, last_bytes};
+
+use crate::places::{line_before, line_from};
+use std::alloc::AllocError;
+use std::fmt::Write;
+
+/// How many bytes of a line are shown at most before a place, and how many from it on.
+pub const SHOWN_BYTES: usize = 60;
+
+/// Writes the line of the byte at this offset, and a line with a mark below the byte. Of a long line the part around
+/// the byte is written. A byte that is no printable ASCII byte is written as `\x` and two hexadecimal digits, a tab
+/// and a carriage return as a blank.
+#[tactic(auto, unfolding(crate::specs::Shown::marked_line))]
+pub fn write_marked_line(out: &mut String, text: &[u8], offset: usize) -> Result<(), AllocError>
+    requires { offset ≤ length text.now }
+    ensures { OnOk result (string_bytes out.new ≡ string_bytes out.old ++ marked_line text.now offset) }
+{
+    let before = last_of(line_before(text, offset), SHOWN_BYTES);
+    let from = first_of(line_from(text, offset), SHOWN_BYTES);
+    out.push_str("  ")?;
+    write_shown(out, before)?;
+    write_shown(out, from)?;
+    out.push_str("\n  ")?;
+    write_blanks(out, before)?;
+    out.push_str("^\n")?;
+    Ok(())
+}
+
+// The last bytes, as many as this, or all.
+fn last_of(bytes: &[u8], count: usize) -> &[u8]
+    ensures { result.now ≡ last_bytes count bytes.entry.now }
+{
+    &bytes[bytes.len().saturating_sub(count)..]
+}
+
+// The first bytes, as many as this, or all.
+#[tactic(auto, using(std::proofs::lemmas::List::take_all))]
+fn first_of(bytes: &[u8], count: usize) -> &[u8]
+    ensures { result.now ≡ take count bytes.entry.now }
+{
+    if bytes.len() <= count {
+        return bytes;
+    }
+    &bytes[..count]
+}
+
+// Writes `\x` and two hexadecimal digits.
+#[tactic(auto, using(std::proofs::lemmas::Fmt::hex_byte))]
+fn write_escape(out: &mut String, byte: u8) -> Result<(), AllocError>
+    ensures { OnOk result (string_bytes out.new ≡ string_bytes out.old ++ escaped byte) }
+{
+    write!(out, "\\x{byte:02x}")
+}
+
+// Writes a byte as it is shown.
+fn write_byte(out: &mut String, byte: u8) -> Result<(), AllocError>
+    ensures { OnOk result (string_bytes out.new ≡ string_bytes out.old ++ shown_byte byte) }
+{
+    if byte == b'\t' || byte == b'\r' {
+        return out.push(' ');
+    }
+    if byte >= b' ' && byte < 127 {
+        return out.push(char::from(byte));
+    }
+    write_escape(out, byte)
+}
+
+// Writes bytes as they are shown.
+fn write_shown(out: &mut String, bytes: &[u8]) -> Result<(), AllocError>
+    ensures { OnOk result (string_bytes out.new ≡ string_bytes out.old ++ shown bytes.now) }
+{
+    'bytes: for byte in bytes {
+        write_byte(out, *byte)?;
+    }
+    Ok(())
+}
+
+// A blank for each byte that a byte is shown as.
+fn blanks_of(byte: u8) -> &'static str
+    ensures { result.now ≡ replicate (length (shown_byte byte)) 32 }
+{
+    if byte == b'\t' || byte == b'\r' {
+        return " ";
+    }
+    if byte >= b' ' && byte < 127 {
+        return " ";
+    }
+    "    "
+}
+
+// Writes a blank for each byte that these bytes are shown as.
+fn write_blanks(out: &mut String, bytes: &[u8]) -> Result<(), AllocError>
+    ensures { OnOk result (string_bytes out.new ≡ string_bytes out.old ++ replicate (length (shown bytes.now)) 32) }
+{
+    'bytes: for byte in bytes {
+        out.push_str(blanks_of(*byte))?;
+    }
+    Ok(())
+}
