@@ -68,8 +68,9 @@ fn write_byte(out: &mut String, byte: u8) -> Result<(), AllocError>
     write_escape(out, byte)
 }
 
-// Writes bytes as they are shown.
-fn write_shown(out: &mut String, bytes: &[u8]) -> Result<(), AllocError>
+/// Writes bytes as they are shown: a printable ASCII byte as it is, a tab and a carriage return as a blank, and any other byte
+/// as `\x` and two hexadecimal digits.
+pub fn write_shown(out: &mut String, bytes: &[u8]) -> Result<(), AllocError>
     ensures { OnOk result (string_bytes out.new ≡ string_bytes out.old ++ shown bytes.now) }
 {
     'bytes: for byte in bytes {

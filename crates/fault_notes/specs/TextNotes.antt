@@ -1,0 +1,46 @@
+-- The note on a fault of a program text.
+use Rattle.std.specs.Prelude.{◌≡◌, ℕ, ◌++◌, List, [], ◌∷◌, take, drop, codes, Option, Some, None, IfSome, IfNone}
+use Rattle.std.specs.Fmt.{decimal}
+use Rattle.node_lang.specs.declared.fault.FaultKind.{FaultKind}
+use Rattle.node_lang.specs.declared.fault.FaultKind.TheVariants as kind
+use Rattle.node_lang.specs.Lexemes.{tokens_of}
+use Rattle.source_places.specs.Places.{line_number, column}
+use Rattle.source_places.specs.Shown.{shown, marked_line}
+use Rattle.wanted_tokens.specs.declared.wanted.Wanted.{Wanted}
+use Rattle.wanted_tokens.specs.Wanted.{IsWanted, SaysNothing}
+use Rattle.fault_notes.specs.Words.{wanted_part, first_word}
+
+-- the beginning of a note on a place of a text
+abbrev pub place_head : List ℕ → ℕ → List ℕ
+place_head text offset = codes "nbhd: line " ++ (decimal (line_number text offset) ++ (codes ", column " ++ (decimal (column text offset) ++ codes ": ")))
+
+-- a word in quotes, as notes show it
+abbrev pub quoted : List ℕ → List ℕ
+quoted word = codes "`" ++ (shown word ++ codes "`")
+
+-- What is wrong at a place, by the word there and what is wanted there. A text that is too long has no such place.
+abbrev pub cause_of : FaultKind → List ℕ → Option Wanted → List ℕ
+cause_of kind.TooLong word w = []
+cause_of kind.NotAscii word w = codes "a byte over 127; a program text is ASCII, in its comments too"
+cause_of kind.BadWord word w = quoted word ++ codes " is no word of the language"
+cause_of kind.NumberTooLarge word w = codes "a number is at most 4294967295"
+cause_of kind.HeaderRange word w = codes "a number out of its range: `rounds` is 0 to 4, `channels` 1 to 4096, `registers` 1 to 8"
+cause_of kind.Unexpected word w = quoted word ++ (codes " cannot stand here" ++ wanted_part w)
+cause_of kind.TooDeep word w = codes "an expression is at most 64 deep"
+cause_of kind.TooManyNodes word w = codes "the expressions of a program have at most 4096 numbers, words and operations"
+cause_of kind.EndOfText word w = codes "the text ends here" ++ wanted_part w
+cause_of kind.OutOfMemory word w = []
+
+-- The note on this fault tells its place and its cause; what is wanted is what can stand after the text before the place. A piece of advice
+-- may follow. Where nothing is said of what is wanted, the text before is faulty itself, or too long.
+pub record IsTextNote (text : List ℕ) (k : FaultKind) (offset : ℕ) (note : List ℕ) : Type 0 where
+  pub wanted : Option Wanted
+  pub exact : IfSome wanted (IsWanted (tokens_of (take offset text)))
+  pub silent : (k ≡ kind.Unexpected) → IfNone wanted (SaysNothing (take offset text))
+  pub silent_at_end : (k ≡ kind.EndOfText) → IfNone wanted (SaysNothing (take offset text))
+  pub advice : List ℕ
+  pub is : note ≡ place_head text offset ++ (cause_of k (first_word (drop offset text)) wanted ++ (advice ++ 10 ∷ marked_line text offset))
+
+-- the note on a text that is too long
+abbrev pub too_long_note : List ℕ
+too_long_note = codes "nbhd: a program text has at most 65536 bytes\n"

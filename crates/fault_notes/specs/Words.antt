@@ -1,0 +1,37 @@
+-- How notes name what is wanted at a place, and what stands there.
+use Rattle.std.specs.Prelude.{ℕ, ◌==◌, ◌++◌, List, [], ◌∷◌, take, codes, Option, Some, None, if◌then◌else◌}
+use Rattle.std.specs.List.{prefix_len}
+use Rattle.std.specs.Fmt.{decimal}
+use Rattle.node_lang.specs.Words.{is_word_byte}
+use Rattle.source_places.specs.Shown.{shown}
+use Rattle.wanted_tokens.specs.declared.wanted.Wanted.{Wanted}
+use Rattle.wanted_tokens.specs.declared.wanted.Wanted.TheVariants as wanted
+
+-- what is wanted, in the words of a note
+abbrev pub wanted_text : Wanted → List ℕ
+wanted_text wanted.Rounds = codes "`rounds`"
+wanted_text wanted.Channels = codes "`channels`"
+wanted_text wanted.Registers = codes "`registers`"
+wanted_text wanted.Start = codes "`start`"
+wanted_text wanted.Round = codes "`round`"
+wanted_text wanted.Send = codes "`send`"
+wanted_text wanted.Left = codes "`left`"
+wanted_text wanted.Right = codes "`right`"
+wanted_text wanted.Finish = codes "`finish`"
+wanted_text wanted.Open = codes "`(`"
+wanted_text wanted.Close = codes "`)`"
+wanted_text wanted.Comma = codes "`,`"
+wanted_text wanted.Equals = codes "`=`"
+wanted_text (wanted.Register j) = codes "the assignment of r" ++ decimal j
+wanted_text wanted.Number = codes "a number"
+wanted_text wanted.Expression = codes "an expression"
+wanted_text wanted.End = codes "the end of the text"
+
+-- and behind what stands there
+abbrev pub wanted_part : Option Wanted → List ℕ
+wanted_part None = []
+wanted_part (Some w) = codes "; wanted " ++ wanted_text w
+
+-- the word at the front of a text, or its first byte where it begins with no word
+abbrev pub first_word : List ℕ → List ℕ
+first_word text = if prefix_len is_word_byte text == 0 then take 1 text else take (prefix_len is_word_byte text) text

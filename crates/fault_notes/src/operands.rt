@@ -1,0 +1,66 @@
+//! The operation whose operands a text breaks off in.
+
+ghost use Rattle.std.specs.Prelude.{◌<◌, ◌≤◌, length, IfSome};
+
+use crate::words::is_word_byte;
+
+// The last bracket of a text that is not closed.
+fn open_bracket(text: &[u8]) -> Option<usize>
+    ensures { IfSome result (λ at. at < length text.now) }
+{
+    let mut closed = 0usize;
+    for (index, byte) in text.iter().enumerate().rev() {
+        if *byte == b')' {
+            closed = closed.saturating_add(1);
+        } else if *byte == b'(' {
+            if closed == 0 {
+                return Some(index);
+            }
+            closed -= 1;
+        }
+    }
+    None
+}
+
+// How many letters and digits stand at the end.
+fn last_word_len(text: &[u8]) -> usize
+    ensures { result ≤ length text.now }
+{
+    text.iter()
+        .rev()
+        .take_while(|byte| is_word_byte(**byte))
+        .count()
+}
+
+// The word before the last bracket of a text that is not closed; empty where there is none.
+fn open_operation(text: &[u8]) -> &[u8] {
+    let front = match open_bracket(text) {
+        Some(at) => &text[..at],
+        None => &text[..0],
+    };
+    &front[front.len() - last_word_len(front)..]
+}
+
+// How many operands the operation takes whose brackets are open at the end of a text.
+pub(crate) fn operands_advice(text: &[u8]) -> &'static str {
+    match open_operation(text) {
+        b"not" => "; `not` takes 1 operand",
+        b"and" => "; `and` takes 2 operands",
+        b"or" => "; `or` takes 2 operands",
+        b"xor" => "; `xor` takes 2 operands",
+        b"shl" => "; `shl` takes 2 operands",
+        b"shr" => "; `shr` takes 2 operands",
+        b"add" => "; `add` takes 2 operands",
+        b"sub" => "; `sub` takes 2 operands",
+        b"min" => "; `min` takes 2 operands",
+        b"max" => "; `max` takes 2 operands",
+        b"ldb" => "; `ldb` takes 2 operands",
+        b"bit" => "; `bit` takes 2 operands",
+        b"eq" => "; `eq` takes 2 operands",
+        b"ne" => "; `ne` takes 2 operands",
+        b"lt" => "; `lt` takes 2 operands",
+        b"le" => "; `le` takes 2 operands",
+        b"if" => "; `if` takes 3 operands",
+        _ => "",
+    }
+}

@@ -1,0 +1,138 @@
+//! The note on a fault of a program text.
+
+ghost use Rattle.fault_notes.specs.Words.{wanted_part, first_word as word};
+ghost use Rattle.std.specs.Prelude.{◌≡◌, ◌≢◌, ◌≤◌, ◌++◌, codes, length, take, drop, IfOk, IfSome, IfNone, OnOk, string_bytes};
+ghost use Rattle.node_lang.specs.Lexemes.{tokens_of};
+ghost use Rattle.node_lang.specs.declared.fault.FaultKind.TheVariants as kind;
+ghost use Rattle.wanted_tokens.specs.Wanted.{IsWanted, SaysNothing};
+ghost use Rattle.fault_notes.specs.TextNotes.{place_head, quoted, cause_of, IsTextNote, too_long_note};
+
+use crate::advice::{byte_advice, place_advice, word_advice};
+use crate::words::{first_word, write_wanted_part};
+use node_lang::{FaultKind, TextFault};
+use source_places::{column_of, line_of, write_marked_line, write_shown};
+use std::alloc::{AllocError, Global};
+use std::fmt::Write;
+use wanted_tokens::{Wanted, wanted_after};
+
+/// The note on a fault of a program text: its line and its column, what is wrong there and what is wanted, a piece of advice,
+/// and the line with a mark below the place. The error comes where memory was refused.
+pub fn text_note(alloc: Global, text: &[u8], fault: TextFault) -> Result<String, AllocError>
+    requires { fault.offset ≤ length text.now }
+    ensures too_long { fault.kind ≡ kind.TooLong → IfOk result (λ note. string_bytes note ≡ too_long_note) }
+    ensures note { fault.kind ≢ kind.TooLong → IfOk result (λ note. IsTextNote text.now fault.kind fault.offset (string_bytes note)) }
+{
+    if fault.kind == FaultKind::TooLong {
+        return format!(in alloc; "nbhd: a program text has at most 65536 bytes\n");
+    }
+    let word = word_at(text, fault.offset);
+    let wanted = wanted_at(alloc, text, fault)?;
+    let mut note = String::new(alloc);
+    write_head(&mut note, text, fault.offset)?;
+    write_cause(&mut note, fault.kind, word, wanted)?;
+    note.push_str(advice_on(text, fault, word, wanted))?;
+    note.push_str("\n")?;
+    write_marked_line(&mut note, text, fault.offset)?;
+    Ok(note)
+}
+
+// The word at a place, or the byte there.
+#[tactic(auto, using(std::proofs::lemmas::List::take_rest))]
+fn word_at(text: &[u8], offset: usize) -> &[u8]
+    requires { offset ≤ length text.now }
+    ensures { result.now ≡ word (drop offset text.entry.now) }
+{
+    first_word(&text[offset..])
+}
+
+// What can stand in the place of a token that cannot, or behind a text that ends too soon.
+fn wanted_at(alloc: Global, text: &[u8], fault: TextFault) -> Result<Option<Wanted>, AllocError>
+    requires { fault.offset ≤ length text.now }
+    ensures exact { IfOk result (λ found. IfSome found (IsWanted (tokens_of (take fault.offset text.now)))) }
+    ensures silent { IfOk result (λ found. fault.kind ≡ kind.Unexpected → IfNone found (SaysNothing (take fault.offset text.now))) }
+    ensures silent_at_end { IfOk result (λ found. fault.kind ≡ kind.EndOfText → IfNone found (SaysNothing (take fault.offset text.now))) }
+{
+    if fault.kind != FaultKind::Unexpected && fault.kind != FaultKind::EndOfText {
+        return Ok(None);
+    }
+    match wanted_after(alloc, &text[..fault.offset]) {
+        Ok(found) => Ok(found),
+        Err(_) => Err(AllocError),
+    }
+}
+
+// Writes the place.
+fn write_head(out: &mut String, text: &[u8], offset: usize) -> Result<(), AllocError>
+    requires { offset ≤ length text.now }
+    ensures { OnOk result (string_bytes out.new ≡ string_bytes out.old ++ place_head text.now offset) }
+{
+    let line = line_of(text, offset);
+    let column = column_of(text, offset);
+    write!(out, "nbhd: line {line}, column {column}: ")
+}
+
+// Writes a word in quotes.
+fn write_quoted(out: &mut String, word: &[u8]) -> Result<(), AllocError>
+    ensures { OnOk result (string_bytes out.new ≡ string_bytes out.old ++ quoted word.now) }
+{
+    out.push_str("`")?;
+    write_shown(out, word)?;
+    out.push_str("`")
+}
+
+// Writes what is wrong.
+fn write_cause(
+    out: &mut String,
+    fault: FaultKind,
+    word: &[u8],
+    wanted: Option<Wanted>,
+) -> Result<(), AllocError>
+    ensures { OnOk result (string_bytes out.new ≡ string_bytes out.old ++ cause_of fault word.now wanted) }
+{
+    match fault {
+        FaultKind::TooLong | FaultKind::OutOfMemory => Ok(()),
+        FaultKind::NotAscii => {
+            out.push_str("a byte over 127; a program text is ASCII, in its comments too")
+        }
+        FaultKind::BadWord => {
+            write_quoted(out, word)?;
+            out.push_str(" is no word of the language")
+        }
+        FaultKind::NumberTooLarge => out.push_str("a number is at most 4294967295"),
+        FaultKind::HeaderRange => out.push_str(
+            "a number out of its range: `rounds` is 0 to 4, `channels` 1 to 4096, `registers` 1 to 8",
+        ),
+        FaultKind::Unexpected => {
+            write_quoted(out, word)?;
+            out.push_str(" cannot stand here")?;
+            write_wanted_part(out, wanted)
+        }
+        FaultKind::TooDeep => out.push_str("an expression is at most 64 deep"),
+        FaultKind::TooManyNodes => out.push_str(
+            "the expressions of a program have at most 4096 numbers, words and operations",
+        ),
+        FaultKind::EndOfText => write_end(out, wanted),
+    }
+}
+
+// Writes that a text ends too soon.
+fn write_end(out: &mut String, wanted: Option<Wanted>) -> Result<(), AllocError>
+    ensures { OnOk result (string_bytes out.new ≡ string_bytes out.old ++ (codes "the text ends here" ++ wanted_part wanted)) }
+{
+    out.push_str("the text ends here")?;
+    write_wanted_part(out, wanted)?;
+    Ok(())
+}
+
+// A piece of advice, or nothing.
+fn advice_on(text: &[u8], fault: TextFault, word: &[u8], wanted: Option<Wanted>) -> &'static str
+    requires { fault.offset ≤ length text.now }
+{
+    match (fault.kind, wanted) {
+        (FaultKind::NotAscii, _) => byte_advice(&text[fault.offset..]),
+        (FaultKind::BadWord, _) => word_advice(word),
+        (FaultKind::Unexpected, Some(wanted)) => place_advice(&text[..fault.offset], word, wanted),
+        (FaultKind::EndOfText, _) if text.is_empty() => "; the text is empty, so no file was given",
+        _ => "",
+    }
+}

@@ -1,0 +1,83 @@
+//! The words in which notes tell what stands at a place and what is wanted there.
+
+ghost use Rattle.std.specs.Prelude.{◌≡◌, ◌≤◌, ◌++◌, length, take, OnOk, string_bytes};
+ghost use Rattle.std.specs.List.{prefix_len};
+ghost use Rattle.node_lang.specs.Words.{is_word_byte as word_byte};
+ghost use Rattle.fault_notes.specs.Words.{wanted_text, wanted_part, first_word as first};
+
+use std::alloc::AllocError;
+use std::fmt::Write;
+use wanted_tokens::Wanted;
+
+// Whether this is an ASCII letter or digit.
+pub(crate) fn is_word_byte(byte: u8) -> bool
+    ensures { result ≡ word_byte byte }
+{
+    matches!(byte, b'0'..=b'9' | b'A'..=b'Z' | b'a'..=b'z')
+}
+
+// How many letters and digits stand at the front.
+fn word_len(text: &[u8]) -> usize
+    ensures value { result ≡ prefix_len word_byte text.now }
+    ensures within { result ≤ length text.now }
+{
+    text.iter().take_while(|byte| is_word_byte(**byte)).count()
+}
+
+// The first bytes, as many as this, or all.
+#[tactic(auto, using(std::proofs::lemmas::List::take_all))]
+fn front_of(text: &[u8], count: usize) -> &[u8]
+    ensures { result.now ≡ take count text.entry.now }
+{
+    if text.len() <= count {
+        return text;
+    }
+    &text[..count]
+}
+
+// The word at the front of a text, or its first byte where it begins with no word.
+pub(crate) fn first_word(text: &[u8]) -> &[u8]
+    ensures { result.now ≡ first text.entry.now }
+{
+    let len = word_len(text);
+    if len == 0 {
+        return front_of(text, 1);
+    }
+    front_of(text, len)
+}
+
+// Writes what is wanted.
+fn write_wanted(out: &mut String, wanted: Wanted) -> Result<(), AllocError>
+    ensures { OnOk result (string_bytes out.new ≡ string_bytes out.old ++ wanted_text wanted) }
+{
+    match wanted {
+        Wanted::Rounds => out.push_str("`rounds`"),
+        Wanted::Channels => out.push_str("`channels`"),
+        Wanted::Registers => out.push_str("`registers`"),
+        Wanted::Start => out.push_str("`start`"),
+        Wanted::Round => out.push_str("`round`"),
+        Wanted::Send => out.push_str("`send`"),
+        Wanted::Left => out.push_str("`left`"),
+        Wanted::Right => out.push_str("`right`"),
+        Wanted::Finish => out.push_str("`finish`"),
+        Wanted::Open => out.push_str("`(`"),
+        Wanted::Close => out.push_str("`)`"),
+        Wanted::Comma => out.push_str("`,`"),
+        Wanted::Equals => out.push_str("`=`"),
+        Wanted::Register(register) => write!(out, "the assignment of r{register}"),
+        Wanted::Number => out.push_str("a number"),
+        Wanted::Expression => out.push_str("an expression"),
+        Wanted::End => out.push_str("the end of the text"),
+    }
+}
+
+// Writes what is wanted behind what stands there.
+pub(crate) fn write_wanted_part(out: &mut String, wanted: Option<Wanted>) -> Result<(), AllocError>
+    ensures { OnOk result (string_bytes out.new ≡ string_bytes out.old ++ wanted_part wanted) }
+{
+    let Some(wanted) = wanted else {
+        return Ok(());
+    };
+    out.push_str("; wanted ")?;
+    write_wanted(out, wanted)
+}
