@@ -1,3 +1,6 @@
 -- The definitions that the contracts cite.
 pub mod Words
 pub mod TextNotes
+pub mod Placed
+pub mod ProgramNotes
+pub mod RingNotes

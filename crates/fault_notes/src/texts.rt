@@ -62,7 +62,7 @@ fn wanted_at(alloc: Global, text: &[u8], fault: TextFault) -> Result<Option<Want
 }
 
 // Writes the place.
-fn write_head(out: &mut String, text: &[u8], offset: usize) -> Result<(), AllocError>
+pub(crate) fn write_head(out: &mut String, text: &[u8], offset: usize) -> Result<(), AllocError>
     requires { offset ≤ length text.now }
     ensures { OnOk result (string_bytes out.new ≡ string_bytes out.old ++ place_head text.now offset) }
 {

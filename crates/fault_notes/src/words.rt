@@ -17,7 +17,7 @@ pub(crate) fn is_word_byte(byte: u8) -> bool
 }
 
 // How many letters and digits stand at the front.
-fn word_len(text: &[u8]) -> usize
+pub(crate) fn word_len(text: &[u8]) -> usize
     ensures value { result ≡ prefix_len word_byte text.now }
     ensures within { result ≤ length text.now }
 {

@@ -1,0 +1,26 @@
+use Rattle.std.proofs.Common.{◌≡◌, ◌+◌, ◌-◌, ◌<◌, Bool, true, false, sym, ◌∙◌, subst, inl, inr, arith}
+use Rattle.std.proofs.lemmas.Bool.{cases_order}
+use Rattle.win_index.specs.declared.limits.TheConstants.{MAX_IDS}
+use Rattle.win_index.specs.ShapeRange.{IsShape}
+use Rattle.fault_notes.proofs.programs.most_ids.Goals as goal
+
+pub fewer-init : goal.fewer-init
+fewer-init c = λ m h s. omega (arith, s.ids.few)
+
+pub returns-then-makes_shape-clause-most : goal.returns-then-makes_shape-clause-most
+returns-then-makes_shape-clause-most c =
+    record { makes = c.makes_shape.ensures.0 c.if-makes_shape.true; greatest = λ m h s. c.fewer.invariant m (omega (arith, h)) s }
+
+-- a test that failed
+fails : {P : Type 0} (b : Bool) → (P → b ≡ true) → b ≡ false → P → ⊥
+fails b h e p = let both = sym e ∙ h p in cc
+
+pub fewer-preserved : goal.fewer-preserved
+fewer-preserved c = λ m h s. elim (cases_order (m + c.fewer.fewer) MAX_IDS) [
+  | inl e ↦ fails _ c.makes_shape.ensures.1 c.if-makes_shape.false (let is : m ≡ MAX_IDS - c.fewer.fewer = omega (arith, e) in subst (λ n. IsShape n c.args.rounds) is s)
+  | inr (inl less) ↦ absurd (omega (arith, h, less))
+  | inr (inr more) ↦ c.fewer.invariant m more s
+]
+
+pub returns-clause-none : goal.returns-clause-none
+returns-clause-none c = λ m s. c.fewer.invariant m (omega arith) s

@@ -1,0 +1,47 @@
+-- The note on a program that is not accepted.
+use Rattle.std.specs.Prelude.{◌≡◌, ℕ, ◌+◌, ◌*◌, ◌<◌, ◌==◌, nat_lt, ◌++◌, List, codes, if◌then◌else◌}
+use Rattle.std.specs.Fmt.{decimal}
+use Rattle.node_lang.specs.declared.limits.TheConstants.{MAX_CHANNELS}
+use Rattle.win_index.specs.ShapeRange.{IsShape}
+use Rattle.lang_check.specs.declared.acceptance.CheckFault.{CheckFault}
+use Rattle.lang_check.specs.declared.acceptance.CheckFault.TheVariants as check
+use Rattle.fault_notes.specs.Placed.{IsPlaced}
+
+-- the greatest number of identifiers that makes a shape with t rounds
+pub record IsMostIds (t most : ℕ) : Type 0 where
+  pub makes : IsShape most t
+  pub greatest : (m : ℕ) → most < m → ¬ IsShape m t
+
+abbrev pub rounds_take : ℕ → List ℕ
+rounds_take t = if t == 1 then codes " round takes " else codes " rounds take "
+
+-- a number of identifiers that makes no shape with t rounds: how many do
+pub data IsIdsNote (t ids : ℕ) (note : List ℕ) : Type 0 where
+  some : (most : ℕ) → IsMostIds t most →
+      note ≡ codes "nbhd: " ++ (decimal t ++ (rounds_take t ++ (decimal (2 * t + 2) ++ (codes " to " ++ (decimal most ++ (codes " identifiers, not " ++ (decimal ids ++ codes "\n"))))))) →
+      IsIdsNote t ids note
+  none : ((m : ℕ) → ¬ IsShape m t) → note ≡ codes "nbhd: so many rounds take no number of identifiers\n" → IsIdsNote t ids note
+
+abbrev pub register_cause : ℕ → List ℕ
+register_cause j = codes "there is no register r" ++ (decimal j ++ codes "; `registers` says how many there are, from r0 on")
+
+abbrev pub id_cause : List ℕ
+id_cause = codes "`id` can be read in `start` alone; keep it in a register"
+
+abbrev pub message_cause : List ℕ
+message_cause = codes "`L` and `R` can be read in the assignments of a round alone"
+
+-- the bound of the channels, and the number of channels that it takes
+abbrev pub bound_note : ℕ → List ℕ
+bound_note b = if nat_lt b MAX_CHANNELS
+    then codes "nbhd: channels may be as large as " ++ (decimal b ++ (codes ": write `channels " ++ (decimal (b + 1) ++ codes "` or more\n")))
+    else codes "nbhd: channels may be as large as " ++ (decimal b ++ codes ", and `channels` is at most 4096\n")
+
+-- the note on a refusal of the program of this text, of t rounds, for so many identifiers
+abbrev pub IsCheckNote : List ℕ → ℕ → ℕ → CheckFault → List ℕ → Type 0
+IsCheckNote text t ids check.IdsOutOfRange note = IsIdsNote t ids note
+IsCheckNote text t ids check.TooManyWindows note = IsIdsNote t ids note
+IsCheckNote text t ids (check.RegisterOutOfRange j) note = IsPlaced text (register_cause j) note
+IsCheckNote text t ids check.IdOutsideStart note = IsPlaced text id_cause note
+IsCheckNote text t ids check.MessageOutsideStep note = IsPlaced text message_cause note
+IsCheckNote text t ids (check.ChannelBound b) note = note ≡ bound_note b

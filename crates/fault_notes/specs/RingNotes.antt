@@ -1,0 +1,20 @@
+-- The notes on a list that is no ring, and on a number of segments.
+use Rattle.std.specs.Prelude.{ℕ, ◌+◌, ◌-◌, ◌*◌, ◌++◌, List, length, slice_index, codes}
+use Rattle.std.specs.Fmt.{decimal}
+use Rattle.win_index.specs.declared.ring.RingFault.{RingFault}
+use Rattle.win_index.specs.declared.ring.RingFault.TheVariants as ring
+
+-- what is wrong with a list for m identifiers and t rounds
+abbrev pub ring_note : ℕ → ℕ → List ℕ → RingFault → List ℕ
+ring_note m t x ring.TooShort =
+    codes "nbhd: a ring has at least " ++ (decimal (2 * t + 2) ++ (codes " places here, and this one has " ++ (decimal (length x) ++ codes "\n")))
+ring_note m t x ring.TooLong =
+    codes "nbhd: a ring has at most as many places as there are identifiers, " ++ (decimal m ++ (codes ", and this one has " ++ (decimal (length x) ++ codes "\n")))
+ring_note m t x (ring.IdTooLarge place) =
+    codes "nbhd: place " ++ (decimal place ++ (codes " has the identifier " ++ (decimal (slice_index x place) ++ (codes "; of " ++ (decimal m ++ (codes " identifiers the largest is " ++ (decimal (m - 1) ++ codes "\n")))))))
+ring_note m t x (ring.Repeated first second) =
+    codes "nbhd: places " ++ (decimal first ++ (codes " and " ++ (decimal second ++ (codes " have the same identifier " ++ (decimal (slice_index x second) ++ codes "\n")))))
+
+-- more segments than places
+abbrev pub segments_note : ℕ → ℕ → List ℕ
+segments_note segments places = codes "nbhd: " ++ (decimal segments ++ (codes " segments are more than the " ++ (decimal places ++ codes " places of the ring\n")))

@@ -1,0 +1,29 @@
+//! Notes that say where in a text the cause is found.
+
+ghost use Rattle.std.specs.Prelude.{◌<◌, length, IfOk, IfSome, string_bytes};
+ghost use Rattle.fault_notes.specs.Placed.{IsPlaced};
+
+use crate::texts::write_head;
+use source_places::write_marked_line;
+use std::alloc::{AllocError, Global};
+
+// The note on a cause that is found here, or nowhere.
+pub(crate) fn placed_note(
+    alloc: Global,
+    text: &[u8],
+    place: Option<usize>,
+    cause: &str,
+) -> Result<String, AllocError>
+    requires { IfSome place (λ offset. offset < length text.now) }
+    ensures { IfOk result (λ note. IsPlaced text.now cause.now (string_bytes note)) }
+{
+    let Some(offset) = place else {
+        return format!(in alloc; "nbhd: {cause}\n");
+    };
+    let mut note = String::new(alloc);
+    write_head(&mut note, text, offset)?;
+    note.push_str(cause)?;
+    note.push_str("\n")?;
+    write_marked_line(&mut note, text, offset)?;
+    Ok(note)
+}

@@ -1,0 +1,125 @@
+//! The note on a program that is not accepted.
+
+ghost use Rattle.std.specs.Prelude.{◌≡◌, ◌≤◌, ◌<◌, ◌↔◌, ℕ, IsTrue, IfOk, IfSome, IfNone, string_bytes};
+ghost use Rattle.node_lang.specs.declared.limits.TheConstants as limits;
+ghost use Rattle.win_index.specs.declared.limits.TheConstants.{MAX_ROUNDS};
+ghost use Rattle.win_index.specs.ShapeRange.{IsShape};
+ghost use Rattle.fault_notes.specs.Placed.{IsPlaced};
+ghost use Rattle.fault_notes.specs.ProgramNotes.{IsMostIds, IsIdsNote, IsCheckNote, register_cause, id_cause, message_cause, bound_note, rounds_take};
+
+use crate::placed::placed_note;
+use crate::scanning::{misplaced_id, misplaced_message, place_of};
+use lang_check::CheckFault;
+use node_lang::MAX_CHANNELS;
+use std::alloc::{AllocError, Global};
+use win_index::{MAX_IDS, MAX_ROUNDS, Shape};
+
+/// The note on a refusal of the program of a text, of so many rounds, for so many identifiers: how many identifiers there may
+/// be, or what is wrong and where. The error comes where memory was refused.
+pub fn check_note(
+    alloc: Global,
+    text: &[u8],
+    rounds: u32,
+    ids: u32,
+    fault: CheckFault,
+) -> Result<String, AllocError>
+    requires { rounds ≤ MAX_ROUNDS }
+    ensures { IfOk result (λ note. IsCheckNote text.now rounds ids fault (string_bytes note)) }
+{
+    match fault {
+        CheckFault::IdsOutOfRange | CheckFault::TooManyWindows => ids_note(alloc, rounds, ids),
+        CheckFault::RegisterOutOfRange(register) => register_note(alloc, text, register),
+        CheckFault::IdOutsideStart => id_note(alloc, text),
+        CheckFault::MessageOutsideStep => message_note(alloc, text),
+        CheckFault::ChannelBound(bound) => channels_note(alloc, bound),
+    }
+}
+
+// Whether so many identifiers and rounds make a shape.
+fn makes_shape(ids: u32, rounds: u32) -> bool
+    requires { rounds ≤ MAX_ROUNDS }
+    ensures { IsTrue result ↔ IsShape ids rounds }
+{
+    Shape::new(ids, rounds).is_ok()
+}
+
+// The greatest number of identifiers that makes a shape with so many rounds.
+fn most_ids(rounds: u32) -> Option<u32>
+    requires { rounds ≤ MAX_ROUNDS }
+    ensures most { IfSome result (IsMostIds rounds) }
+    ensures none { IfNone result ((m : ℕ) → ¬ IsShape m rounds) }
+{
+    'fewer: for fewer in 0..MAX_IDS + 1 {
+        let ids = MAX_IDS - fewer;
+        if makes_shape(ids, rounds) {
+            return Some(ids);
+        }
+    }
+    None
+}
+
+// What follows a number of rounds.
+fn rounds_take(rounds: u32) -> &'static str
+    ensures { result.now ≡ rounds_take rounds }
+{
+    if rounds == 1 {
+        return " round takes ";
+    }
+    " rounds take "
+}
+
+// The note on a number of identifiers.
+fn ids_note(alloc: Global, rounds: u32, ids: u32) -> Result<String, AllocError>
+    requires { rounds ≤ MAX_ROUNDS }
+    ensures { IfOk result (λ note. IsIdsNote rounds ids (string_bytes note)) }
+{
+    let Some(most) = most_ids(rounds) else {
+        return format!(in alloc; "nbhd: so many rounds take no number of identifiers\n");
+    };
+    let take = rounds_take(rounds);
+    let least = 2 * rounds + 2;
+    let note = format!(in alloc; "nbhd: {rounds}{take}{least} to {most} identifiers, not {ids}\n")?;
+    Ok(note)
+}
+
+// The note on a register that the program does not have.
+fn register_note(alloc: Global, text: &[u8], register: u32) -> Result<String, AllocError>
+    ensures { IfOk result (λ note. IsPlaced text.now (register_cause register) (string_bytes note)) }
+{
+    let cause = format!(in alloc;
+        "there is no register r{register}; `registers` says how many there are, from r0 on"
+    )?;
+    let name = format!(in alloc; "r{register}")?;
+    placed_note(alloc, text, place_of(text, name.as_bytes()), &cause)
+}
+
+// The note on an `id` outside of `start`.
+fn id_note(alloc: Global, text: &[u8]) -> Result<String, AllocError>
+    ensures { IfOk result (λ note. IsPlaced text.now id_cause (string_bytes note)) }
+{
+    let cause = "`id` can be read in `start` alone; keep it in a register";
+    placed_note(alloc, text, misplaced_id(text), cause)
+}
+
+// The note on an `L` or an `R` outside of the assignments of a round.
+fn message_note(alloc: Global, text: &[u8]) -> Result<String, AllocError>
+    ensures { IfOk result (λ note. IsPlaced text.now message_cause (string_bytes note)) }
+{
+    let cause = "`L` and `R` can be read in the assignments of a round alone";
+    placed_note(alloc, text, misplaced_message(text), cause)
+}
+
+// The note on channels that could be too large.
+fn channels_note(alloc: Global, bound: u32) -> Result<String, AllocError>
+    ensures { IfOk result (λ note. string_bytes note ≡ bound_note bound) }
+{
+    if bound >= MAX_CHANNELS {
+        return format!(in alloc;
+            "nbhd: channels may be as large as {bound}, and `channels` is at most 4096\n"
+        );
+    }
+    let enough = bound + 1;
+    format!(in alloc;
+        "nbhd: channels may be as large as {bound}: write `channels {enough}` or more\n"
+    )
+}

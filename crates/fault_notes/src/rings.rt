@@ -1,0 +1,71 @@
+//! The notes on a list that is no ring, and on a number of segments.
+
+ghost use Rattle.std.specs.Prelude.{◌≡◌, ◌+◌, ◌*◌, ◌<◌, ◌≤◌, ◌^◌, length, IfOk, string_bytes};
+ghost use Rattle.win_index.specs.declared.limits.TheConstants.{MAX_ROUNDS};
+ghost use Rattle.win_index.specs.RingFaults.{IsFirstFault};
+ghost use Rattle.fault_notes.specs.RingNotes.{ring_note, segments_note};
+
+use std::alloc::{AllocError, Global};
+use win_index::RingFault;
+
+/// The note on what is wrong first with a list of identifiers that is no ring, for so many identifiers and so many rounds. The
+/// error comes where memory was refused.
+pub fn ring_note(
+    alloc: Global,
+    ids: u32,
+    rounds: u32,
+    places: &[u32],
+    fault: RingFault,
+) -> Result<String, AllocError>
+    requires rounds { rounds ≤ MAX_ROUNDS }
+    requires fault { IsFirstFault ids rounds places.now fault }
+    ensures { IfOk result (λ note. string_bytes note ≡ ring_note ids rounds places.now fault) }
+{
+    let count = places.len();
+    match fault {
+        RingFault::TooShort => {
+            let least = 2 * rounds + 2;
+            format!(in alloc;
+                "nbhd: a ring has at least {least} places here, and this one has {count}\n"
+            )
+        }
+        RingFault::TooLong => format!(in alloc;
+            "nbhd: a ring has at most as many places as there are identifiers, {ids}, and this one has {count}\n"
+        ),
+        RingFault::IdTooLarge(place) => id_note(alloc, ids, places, place),
+        RingFault::Repeated(first, second) => repeated_note(alloc, places, first, second),
+    }
+}
+
+// The note on an identifier that is too large.
+fn id_note(alloc: Global, ids: u32, places: &[u32], place: u32) -> Result<String, AllocError>
+    requires { place < length places.now }
+    ensures { IfOk result (λ note. string_bytes note ≡ ring_note ids 0 places.now (RingFault.IdTooLarge place)) }
+{
+    let id = places[place as usize];
+    let largest = ids.saturating_sub(1);
+    format!(in alloc;
+        "nbhd: place {place} has the identifier {id}; of {ids} identifiers the largest is {largest}\n"
+    )
+}
+
+// The note on an identifier at two places.
+fn repeated_note(
+    alloc: Global,
+    places: &[u32],
+    first: u32,
+    second: u32,
+) -> Result<String, AllocError>
+    requires { second < length places.now }
+    ensures { IfOk result (λ note. string_bytes note ≡ ring_note 0 0 places.now (RingFault.Repeated first second)) }
+{
+    let id = places[second as usize];
+    format!(in alloc; "nbhd: places {first} and {second} have the same identifier {id}\n")
+}
+
+/// The note on a ring of so many places that cannot be run in so many segments. The error comes where memory was refused.
+pub fn segments_note(alloc: Global, segments: u32, places: usize) -> Result<String, AllocError>
+    ensures { IfOk result (λ note. string_bytes note ≡ segments_note segments places) }
+{
+    format!(in alloc; "nbhd: {segments} segments are more than the {places} places of the ring\n")
+}
