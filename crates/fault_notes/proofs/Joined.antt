@@ -13,3 +13,10 @@ regroup_three a b d = simp append_assoc
 
 pub three_pieces : (n m k j a b d : List ℕ) → n ≡ a → m ≡ n ++ b → k ≡ m ++ 10 ∷ [] → j ≡ k ++ d → j ≡ a ++ (b ++ 10 ∷ d)
 three_pieces n m k j a b d p q s t = t ∙ ap (λ x. x ++ d) (s ∙ ap (λ x. x ++ 10 ∷ []) (q ∙ ap (λ x. x ++ b) p)) ∙ regroup_three a b d
+
+regroup_five : (o a b c d e : List ℕ) → ((((o ++ a) ++ b) ++ c) ++ d) ++ e ≡ o ++ (a ++ (b ++ (c ++ (d ++ e))))
+regroup_five o a b c d e = simp append_assoc
+
+pub five_pieces : (o n m l k j a b c d e : List ℕ) → n ≡ o ++ a → m ≡ n ++ b → l ≡ m ++ c → k ≡ l ++ d → j ≡ k ++ e → j ≡ o ++ (a ++ (b ++ (c ++ (d ++ e))))
+five_pieces o n m l k j a b c d e p q r s t =
+    t ∙ ap (λ x. x ++ e) (s ∙ ap (λ x. x ++ d) (r ∙ ap (λ x. x ++ c) (q ∙ ap (λ x. x ++ b) p))) ∙ regroup_five o a b c d e

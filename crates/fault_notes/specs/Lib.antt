@@ -4,3 +4,5 @@ pub mod TextNotes
 pub mod Placed
 pub mod ProgramNotes
 pub mod RingNotes
+pub mod VerdictNotes
+pub mod TableNotes

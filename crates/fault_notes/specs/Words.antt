@@ -1,9 +1,8 @@
 -- How notes name what is wanted at a place, and what stands there.
-use Rattle.std.specs.Prelude.{ℕ, ◌==◌, ◌++◌, List, [], ◌∷◌, take, codes, Option, Some, None, if◌then◌else◌}
+use Rattle.std.specs.Prelude.{ℕ, ◌==◌, ◌++◌, List, [], take, codes, Option, Some, None, if◌then◌else◌}
 use Rattle.std.specs.List.{prefix_len}
 use Rattle.std.specs.Fmt.{decimal}
 use Rattle.node_lang.specs.Words.{is_word_byte}
-use Rattle.source_places.specs.Shown.{shown}
 use Rattle.wanted_tokens.specs.declared.wanted.Wanted.{Wanted}
 use Rattle.wanted_tokens.specs.declared.wanted.Wanted.TheVariants as wanted
 

@@ -1,0 +1,25 @@
+//! Lists of numbers in notes.
+
+ghost use Rattle.std.specs.Prelude.{◌≡◌, ◌++◌, OnOk, string_bytes};
+ghost use Rattle.fault_notes.specs.VerdictNotes.{parted};
+
+use std::alloc::AllocError;
+use std::fmt::Write;
+
+// Writes numbers in decimal, with this between any two of them.
+pub(crate) fn write_parted(
+    out: &mut String,
+    numbers: &[u32],
+    between: &str,
+) -> Result<(), AllocError>
+    ensures { OnOk result (string_bytes out.new ≡ string_bytes out.old ++ parted between.now numbers.now) }
+{
+    let [first, others @ ..] = numbers else {
+        return Ok(());
+    };
+    write!(out, "{first}")?;
+    'others: for number in others {
+        write!(out, "{between}{number}")?;
+    }
+    Ok(())
+}

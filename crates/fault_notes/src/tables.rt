@@ -1,0 +1,136 @@
+//! The notes on a text that is not the text of a table.
+
+ghost use Rattle.std.specs.Prelude.{◌≡◌, ◌+◌, ◌-◌, ◌*◌, ◌<◌, ◌≤◌, ℕ, Some, length, slice_get, IfOk, IfSome, string_bytes};
+ghost use Rattle.win_index.specs.Windows.{windows};
+ghost use Rattle.fault_notes.specs.TableNotes.{IsFormNote, IsWindowNote, line_note, channel_note};
+
+use crate::numbers::write_parted;
+use crate::texts::write_head;
+use source_places::write_marked_line;
+use std::alloc::{AllocError, Global};
+use std::fmt::Write;
+use win_index::{MAX_ROUNDS, Shape};
+
+/// The note on the line that has not its form, which begins at this offset. The error comes where memory was refused.
+pub fn form_note(alloc: Global, text: &[u8], offset: usize) -> Result<String, AllocError>
+    requires { offset ≤ length text.now }
+    ensures { IfOk result (λ note. IsFormNote text.now offset (string_bytes note)) }
+{
+    let mut note = String::new(alloc);
+    write_head(&mut note, text, offset)?;
+    note.push_str("this line has not the form that `nbhd table` writes")?;
+    note.push_str(form_advice(text, offset))?;
+    note.push_str("\n")?;
+    write_marked_line(&mut note, text, offset)?;
+    Ok(note)
+}
+
+// Advice on a text whose line at this offset has not its form.
+fn form_advice(text: &[u8], offset: usize) -> &'static str {
+    if text.is_empty() {
+        return "; the text is empty, so no file was given";
+    }
+    if text.iter().any(|byte| *byte == b'\r') {
+        return "; lines end with a carriage return, which `tr -d '\\r'` takes out";
+    }
+    if offset > 0 {
+        return "";
+    }
+    first_advice(text)
+}
+
+// Advice on a text that does not begin as the text of a table does.
+fn first_advice(text: &[u8]) -> &'static str {
+    match text {
+        [0xef, 0xbb, 0xbf, ..] =>
+            "; the text begins with a byte order mark: save the file without one",
+        [b'r', b'o', b'u', b'n', b'd', b's', ..] | [b'#', ..] => {
+            "; this looks like a program: `nbhd judge` takes one"
+        }
+        [b't', b'e', b'x', b't', b' ', ..]
+        | [b'c', b'h', b'e', b'c', b'k', b' ', ..]
+        | [b'y', b'e', b's', b':', ..]
+        | [b'n', b'o', b':', ..] => "; this is what `nbhd` printed in place of a table",
+        _ => "; its first line is `nbhd-table` and the version",
+    }
+}
+
+// The number that stands in the first lines behind this name.
+fn number_behind(text: &[u8], name: &[u8]) -> Option<u32>
+    requires { 0 < length name.now }
+{
+    let at = text.windows(name.len()).position(|part| part == name)?;
+    let digits = text.get(at + name.len()..)?;
+    let len = digits
+        .iter()
+        .take_while(|byte| byte.is_ascii_digit())
+        .count();
+    std::str::from_utf8(digits.get(..len)?)
+        .ok()?
+        .parse::<u32>()
+        .ok()
+}
+
+// The shape that the first lines of a table text tell.
+fn shape_of(text: &[u8]) -> Option<Shape> {
+    let rounds = number_behind(text, b"rounds ")?;
+    let ids = number_behind(text, b"ids ")?;
+    if rounds > MAX_ROUNDS {
+        return None;
+    }
+    Shape::new(ids, rounds).ok()
+}
+
+/// The note on a line that is not that of its window; lines are counted from 1. The error comes where memory was refused.
+pub fn window_note(alloc: Global, text: &[u8], line: u32) -> Result<String, AllocError>
+    ensures { IfOk result (λ note. IsWindowNote line (string_bytes note)) }
+{
+    if let Some(shape) = shape_of(text) {
+        if line >= 3 && line - 3 < shape.count(shape.rounds()) {
+            return shape_note(alloc, shape, line);
+        }
+    }
+    format!(in alloc; "nbhd: line {line} is not the line of the window that follows there\n")
+}
+
+// The window of this shape with this number.
+fn window_in(alloc: Global, shape: Shape, number: u32) -> Result<Vec<u32>, AllocError>
+    requires { number < length (windows (2 * shape.rounds + 1) shape.ids) }
+    ensures { IfOk result (λ window. slice_get (windows (2 * shape.rounds + 1) shape.ids) number ≡ Some window.items) }
+{
+    let rounds = shape.rounds();
+    let mut window = vec![in alloc; 0u32; 2 * rounds as usize + 1]?;
+    shape.window(rounds, number, &mut window);
+    Ok(window)
+}
+
+// The note on the line that is to have a window of this shape.
+fn shape_note(alloc: Global, shape: Shape, line: u32) -> Result<String, AllocError>
+    requires begins { 3 ≤ line }
+    requires ends { line - 3 < length (windows (2 * shape.rounds + 1) shape.ids) }
+    ensures { IfOk result (λ note. IsWindowNote line (string_bytes note)) }
+{
+    let window = window_in(alloc, shape, line - 3)?;
+    let note = line_note(alloc, line, &window)?;
+    Ok(note)
+}
+
+// The note on the line that is to have this window.
+fn line_note(alloc: Global, line: u32, window: &[u32]) -> Result<String, AllocError>
+    ensures { IfOk result (λ note. string_bytes note ≡ line_note line window.now) }
+{
+    let mut note = String::new(alloc);
+    write!(note, "nbhd: line {line} is not the line of window ")?;
+    write_parted(&mut note, window, " ")?;
+    note.push_str("\n")?;
+    Ok(note)
+}
+
+/// The note on a line whose channel is too large; lines are counted from 1. The error comes where memory was refused.
+pub fn channel_note(alloc: Global, line: u32) -> Result<String, AllocError>
+    ensures { IfOk result (λ note. string_bytes note ≡ channel_note line) }
+{
+    format!(in alloc;
+        "nbhd: line {line} has a channel that is not below the number of channels of line 2\n"
+    )
+}
