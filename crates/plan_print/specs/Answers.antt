@@ -1,12 +1,28 @@
 -- Reports before they are written. No public contract cites this file.
-use Rattle.std.specs.Prelude.{string_bytes}
+use Rattle.std.specs.Prelude.{ℕ, List, Option, Some, None, IfSome, string_bytes}
 use Rattle.table_text.specs.TableText.{table_text}
 use Rattle.plan_print.specs.Report.{Report}
+use Rattle.plan_print.specs.Causes.{Explains}
+use Rattle.plan_print.specs.declared.cause.Cause.{Cause}
 use Rattle.plan_print.specs.declared.answer.Answer.{Answer}
-use Rattle.plan_print.specs.declared.answer.Answer.TheVariants.{Text, Table}
+use Rattle.plan_print.specs.declared.answer.Answer.TheVariants.{Text, Told, Table}
 use Rattle.plan_print.specs.declared.status.Status.TheVariants.{Done}
 
 -- what is to be written, and the status
 abbrev pub report_in : Answer → Report
 report_in (Text text status) = record { bytes = string_bytes text; status = status }
+report_in (Told text status cause) = record { bytes = string_bytes text; status = status }
 report_in (Table table separation) = record { bytes = table_text table separation; status = Done }
+
+-- why it is a refusal or a no
+abbrev pub cause_in : Answer → Option Cause
+cause_in (Told text status cause) = Some cause
+cause_in _ = None
+
+-- the cause, if there is one, is found in this input
+abbrev pub IsExplained : List ℕ → Answer → Type 0
+IsExplained input answer = IfSome (cause_in answer) (Explains input)
+
+-- and in each input, since it is one of the ring or of the table alone
+abbrev pub IsOwn : Answer → Type 0
+IsOwn answer = (input : List ℕ) → IsExplained input answer

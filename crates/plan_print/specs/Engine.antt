@@ -1,5 +1,5 @@
 -- What the engine does to its reader and its writer.
-use Rattle.std.specs.Prelude.{◌≡◌, ◌≢◌, ◌<◌, ℕ, List, Option, ⊤}
+use Rattle.std.specs.Prelude.{◌≡◌, ◌≢◌, ◌<◌, ℕ, List, Option, IfSome, string_bytes, ⊤}
 use Rattle.std.specs.Io.KnownBytes.{Appends}
 use Rattle.devices.specs.declared.fault.EngineFault.{EngineFault}
 use Rattle.devices.specs.declared.fault.EngineFault.TheVariants.{Read, Write, Memory, Thread, Stranger}
@@ -11,6 +11,8 @@ use Rattle.table_text.specs.declared.limits.TheConstants.{LONGEST_TABLE_TEXT}
 use Rattle.devices.specs.Input.{GivesInput}
 use Rattle.devices.specs.Output.{AppendsFront}
 use Rattle.plan_print.specs.Report.{Report, IsReport}
+use Rattle.plan_print.specs.Causes.{IsNoteOn}
+use Rattle.plan_print.specs.declared.engine.Told.{Told}
 
 -- the most bytes that the input of a task may have: those of a program text, or of a table text for a task on such a text
 abbrev pub limit_of : Task → ℕ
@@ -32,6 +34,11 @@ pub record WritesReport (task : Task) (unread left before after : Option (List �
   pub is_report : IsReport task input report
   pub written : Appends before after report.bytes
   pub status_is : status ≡ report.status
+
+-- The report was written, and a note on it tells a cause that is found in the input.
+pub record TellsReport (task : Task) (unread left before after : Option (List ℕ)) (told : Told) : Type 0 where
+  pub report : WritesReport task unread left before after told.status
+  pub note : IfSome told.note (λ note. IsNoteOn report.input (string_bytes note))
 
 -- The input was read, and a front of the report of the task on it was written.
 pub record WritesFront (task : Task) (unread left before after : Option (List ℕ)) : Type 0 where

@@ -35,6 +35,15 @@ pub use Rattle.nbhd_check.specs.Proper
 pub use Rattle.nbhd_check.specs.Verdicts
 pub use Rattle.ring_exec.specs.SegmentCounts
 pub use Rattle.headline.specs.Headline
+pub use Rattle.source_places.specs.Places
+pub use Rattle.source_places.specs.Shown
+pub use Rattle.wanted_tokens.specs.Wanted
+pub use Rattle.fault_notes.specs.TextNotes
+pub use Rattle.fault_notes.specs.ProgramNotes
+pub use Rattle.fault_notes.specs.RingNotes
+pub use Rattle.fault_notes.specs.TableNotes
+pub use Rattle.fault_notes.specs.VerdictNotes
+pub mod Causes
 pub mod Engine
 pub mod Answers
 pub mod ToldFaults

@@ -7,21 +7,25 @@ ghost use Rattle.task_words.specs.Counts.{IsCount};
 ghost use Rattle.shared_memo.specs.Passes.{memo_plan};
 ghost use Rattle.plan_print.specs.Engine.{IsTaskFault};
 ghost use Rattle.plan_print.specs.ToldFaults.{fill_fault_told, run_fault_told};
-ghost use Rattle.plan_print.specs.Answers.{report_in};
+ghost use Rattle.plan_print.specs.Answers.{report_in, IsOwn};
 ghost use Rattle.plan_print.specs.Trace.{trace_lines};
 ghost use Rattle.plan_print.specs.Report as report;
 ghost use Rattle.plan_print.specs.Report.{Says, IsAnswerOnRing, IsJudgement, IsRunAnswer, IsTableText};
+ghost use Rattle.nbhd_check.specs.Verdicts.{IsVerdict};
 ghost use Rattle.std.specs.Thread.{IsSync};
+ghost use Rattle.ring_exec.specs.SegmentCounts.{IsSegmentCount};
+ghost use Rattle.win_index.specs.RingFaults.{IsFirstFault};
 
-use crate::judgement::judgement;
+use crate::cause::Cause;
+use crate::judgement::verdict_answer;
 use crate::lines::{accepted_line, numbers_line, ring_fault_line, segments_fault_line};
 use crate::places::places_text;
 use crate::status::Status;
 use crate::trace::trace_text;
 use devices::fault::EngineFault;
 use lang_check::Plan;
-use nbhd_check::Separation;
-use node_lang::{Program, print};
+use nbhd_check::{Separation, Verdict, judge_with_workers};
+use node_lang::{OutOfMemory, Program, print};
 use ring_exec::{RunFault, run};
 use round_eval::OpenGate;
 use shared_memo::Memo;
@@ -30,18 +34,21 @@ use std::marker::Send;
 use std::sync::Wait;
 use std::thread::{Threads, join};
 use table_fill::{FillFault, Table, compile};
-use win_index::{Ring, RingFault};
+use win_index::{Ring, RingFault, Shape};
 
-// A report before it is written: its text and its status, or the table and the separation whose text it is.
+// A report before it is written: its text and its status, for a refusal or a no with its cause too, or the table and the
+// separation whose text it is.
 #[derive(Drop)]
 pub(crate) enum Answer {
     Text(String, Status),
+    Told(String, Status, Cause),
     Table(Table, Separation),
 }
 
 // The answer of a check.
 pub(crate) fn check_answer(alloc: Global, plan: &Plan) -> Result<Answer, EngineFault>
     ensures answer { IfOk result (λ r. Says (report.accepted_line plan.now.ids plan.now.program) Status.Done (report_in r)) }
+    ensures cause { IfOk result IsOwn }
     ensures fault { IfErr result (λ fault. fault ≡ EngineFault.Memory) }
 {
     Ok(Answer::Text(accepted_line(alloc, plan)?, Status::Done))
@@ -50,6 +57,7 @@ pub(crate) fn check_answer(alloc: Global, plan: &Plan) -> Result<Answer, EngineF
 // The answer that is the printed form of a program.
 pub(crate) fn print_answer(alloc: Global, program: &Program) -> Result<Answer, EngineFault>
     ensures answer { IfOk result (λ r. Says (printed program.now) Status.Done (report_in r)) }
+    ensures cause { IfOk result IsOwn }
     ensures fault { IfErr result (λ fault. fault ≡ EngineFault.Memory) }
 {
     match print(alloc, program) {
@@ -68,17 +76,32 @@ pub(crate) fn table_answer<T: Threads + Wait + Sync>(
 ) -> Result<Answer, EngineFault>
     requires { IsCount workers }
     ensures answer { IfOk result (λ r. IsTableText (table_of plan.now.program plan.now.ids) separation (report_in r)) }
+    ensures cause { IfOk result IsOwn }
     ensures fault { IfErr result (IsTaskFault workers) }
 {
     Ok(Answer::Table(compiled(rt, alloc, plan, workers)?, separation))
 }
 
-// The answer on a list of identifiers that is no ring.
-fn ring_refusal(alloc: Global, fault: RingFault) -> Result<Answer, EngineFault>
+// The answer on a list of identifiers that is no ring of this shape.
+fn ring_refusal(
+    alloc: Global,
+    shape: Shape,
+    places: Vec<u32>,
+    fault: RingFault,
+) -> Result<Answer, EngineFault>
+    requires { IsFirstFault shape.ids shape.rounds places.items fault }
     ensures answer { IfOk result (λ r. Says (report.ring_fault_line fault) Status.RingRefused (report_in r)) }
+    ensures cause { IfOk result IsOwn }
     ensures fault { IfErr result (λ fault. fault ≡ EngineFault.Memory) }
 {
-    Ok(Answer::Text(ring_fault_line(alloc, fault)?, Status::RingRefused))
+    let line = ring_fault_line(alloc, fault)?;
+    let cause = Cause::Ring {
+        rounds: shape.rounds(),
+        ids: shape.ids(),
+        places,
+        fault,
+    };
+    Ok(Answer::Told(line, Status::RingRefused, cause))
 }
 
 // The answer of a run of a list of identifiers in segments.
@@ -91,11 +114,12 @@ pub(crate) fn run_answer<T: Threads + Wait + Sync>(
 ) -> Result<Answer, EngineFault>
     ensures answer { IfOk result (λ r. IsAnswerOnRing plan.now.ids (length plan.now.program.steps) ids.items
         (IsRunAnswer plan.now.program ids.items segments) (report_in r)) }
+    ensures cause { IfOk result IsOwn }
     ensures fault { IfErr result (IsTaskFault segments) }
 {
     match Ring::new(plan.shape(), ids) {
         Ok(ring) => channels_answer(rt, alloc, plan, &ring, segments),
-        Err((_ids, fault)) => ring_refusal(alloc, fault),
+        Err((ids, fault)) => ring_refusal(alloc, plan.shape(), ids, fault),
     }
 }
 
@@ -110,15 +134,31 @@ fn channels_answer<T: Threads + Wait + Sync>(
     requires ids { ring.now.ids ≡ plan.now.ids }
     requires rounds { ring.now.rounds ≡ length plan.now.program.steps }
     ensures answer { IfOk result (λ r. IsRunAnswer plan.now.program ring.now.places segments (report_in r)) }
+    ensures cause { IfOk result IsOwn }
     ensures fault { IfErr result (IsTaskFault segments) }
 {
     match run(rt, alloc, plan, ring, segments, &OpenGate) {
         Ok(channels) => Ok(Answer::Text(numbers_line(alloc, &channels)?, Status::Done)),
         Err(fault) => match fault_of_run(fault) {
             Some(fault) => Err(fault),
-            None => Ok(Answer::Text(segments_fault_line(alloc)?, Status::Words)),
+            None => segments_refusal(alloc, segments, ring),
         },
     }
+}
+
+// The answer on a number of segments that a ring lacks.
+fn segments_refusal(alloc: Global, segments: u32, ring: &Ring) -> Result<Answer, EngineFault>
+    requires { ¬ IsSegmentCount segments (length ring.now.places) }
+    ensures answer { IfOk result (λ r. Says report.segments_fault_line Status.Words (report_in r)) }
+    ensures cause { IfOk result IsOwn }
+    ensures fault { IfErr result (λ fault. fault ≡ EngineFault.Memory) }
+{
+    let line = segments_fault_line(alloc)?;
+    let cause = Cause::Segments {
+        segments,
+        places: ring.len() as usize,
+    };
+    Ok(Answer::Told(line, Status::Words, cause))
 }
 
 // The engine's fault where a run has this one, or `None` where the report tells of it.
@@ -137,11 +177,12 @@ fn fault_of_run(fault: RunFault) -> Option<EngineFault>
 pub(crate) fn trace_answer(alloc: Global, plan: &Plan, ids: Vec<u32>) -> Result<Answer, EngineFault>
     ensures answer { IfOk result (λ r. IsAnswerOnRing plan.now.ids (length plan.now.program.steps) ids.items
         (Says (trace_lines plan.now.program ids.items) Status.Done) (report_in r)) }
+    ensures cause { IfOk result IsOwn }
     ensures fault { IfErr result (λ fault. fault ≡ EngineFault.Memory) }
 {
     match Ring::new(plan.shape(), ids) {
         Ok(ring) => Ok(Answer::Text(trace_text(alloc, plan, &ring)?, Status::Done)),
-        Err((_ids, fault)) => ring_refusal(alloc, fault),
+        Err((ids, fault)) => ring_refusal(alloc, plan.shape(), ids, fault),
     }
 }
 
@@ -156,6 +197,7 @@ pub(crate) fn plan_answer<T: Threads + Wait + Sync>(
     requires { IsCount workers }
     ensures answer { IfOk result (λ r. IsAnswerOnRing plan.now.ids (length plan.now.program.steps) ids.items
         (Says (report.place_lines plan.now.program ids.items) Status.Done) (report_in r)) }
+    ensures cause { IfOk result IsOwn }
     ensures fault { IfErr result (IsTaskFault workers) }
 {
     match Ring::new(plan.shape(), ids) {
@@ -163,12 +205,11 @@ pub(crate) fn plan_answer<T: Threads + Wait + Sync>(
             let table = compiled(rt, alloc, plan, workers)?;
             Ok(Answer::Text(places_text(alloc, plan, &table, &ring)?, Status::Done))
         }
-        Err((_ids, fault)) => ring_refusal(alloc, fault),
+        Err((ids, fault)) => ring_refusal(alloc, plan.shape(), ids, fault),
     }
 }
 
-// The judge's answer on the table of an accepted program by a separation, by so many workers. More workers than one judge
-// while the memo is dropped.
+// The judge's answer on the table of an accepted program by a separation, by so many workers.
 pub(crate) fn judged<T: Threads + Wait + Sync>(
     rt: &T,
     alloc: Global,
@@ -178,55 +219,69 @@ pub(crate) fn judged<T: Threads + Wait + Sync>(
 ) -> Result<Answer, EngineFault>
     requires { IsCount workers }
     ensures answer { IfOk result (λ r. IsJudgement (table_of plan.now.program plan.now.ids) separation (report_in r)) }
+    ensures cause { IfOk result IsOwn }
     ensures fault { IfErr result (IsTaskFault workers) }
 {
     let memo = Memo::new(alloc, plan)?;
     let table = table_by(rt, alloc, plan, &memo, workers)?;
-    if workers == 1 {
-        drop(memo);
-        return judgement(rt, alloc, &table, separation, workers);
-    }
-    judgement_and_drop(rt, alloc, &table, separation, workers, memo)
+    let verdict = verdict_and_drop(rt, alloc, &table, separation, workers, memo)?;
+    verdict_answer(alloc, &table, separation, verdict)
 }
 
-// The judge's answer on a table by a separation, by so many workers, while a memo is dropped. That a thread may have a memo
-// is shown here, where few values are in scope.
-fn judgement_and_drop<T: Threads + Sync>(
+// The judge's verdict on a table by a separation, by so many workers. More workers than one judge while the memo is
+// dropped.
+fn verdict_and_drop<T: Threads + Sync>(
     rt: &T,
     alloc: Global,
     table: &Table,
     separation: Separation,
     workers: u32,
     memo: Memo<'_>,
-) -> Result<Answer, EngineFault>
-    ensures answer { IfOk result (λ r. IsJudgement table.now separation (report_in r)) }
-    ensures fault { IfErr result (λ fault. fault ≡ EngineFault.Memory) }
+) -> Result<Verdict, OutOfMemory>
+    ensures { IfOk result (IsVerdict table.now separation) }
 {
-    judgement_beside(rt, alloc, table, separation, workers, memo)
+    if workers == 1 {
+        drop(memo);
+        return judge_with_workers(rt, alloc, table, separation, workers);
+    }
+    verdict_beside_memo(rt, alloc, table, separation, workers, memo)
 }
 
-// The judge's answer on a table by a separation, by so many workers, while this is dropped.
-fn judgement_beside<T: Threads + Sync, D: Send + Drop>(
+// The judge's verdict on a table by a separation, by so many workers, while a memo is dropped. That a thread may have a memo
+// is shown here, where few values are in scope.
+fn verdict_beside_memo<T: Threads + Sync>(
+    rt: &T,
+    alloc: Global,
+    table: &Table,
+    separation: Separation,
+    workers: u32,
+    memo: Memo<'_>,
+) -> Result<Verdict, OutOfMemory>
+    ensures { IfOk result (IsVerdict table.now separation) }
+{
+    verdict_beside(rt, alloc, table, separation, workers, memo)
+}
+
+// The judge's verdict on a table by a separation, by so many workers, while this is dropped.
+fn verdict_beside<T: Threads + Sync, D: Send + Drop>(
     rt: &T,
     alloc: Global,
     table: &Table,
     separation: Separation,
     workers: u32,
     dropped: D,
-) -> Result<Answer, EngineFault>
-    ensures answer { IfOk result (λ r. IsJudgement table.now separation (report_in r)) }
-    ensures fault { IfErr result (λ fault. fault ≡ EngineFault.Memory) }
+) -> Result<Verdict, OutOfMemory>
+    ensures { IfOk result (IsVerdict table.now separation) }
 {
-    let (_, answer) = join(
+    let (_, verdict) = join(
         rt,
         move || drop(dropped),
-        || -> Result<Answer, EngineFault>
+        || -> Result<Verdict, OutOfMemory>
             requires { IsSync T.row }
-            ensures answer { IfOk result (λ r. IsJudgement table.entry.now separation (report_in r)) }
-            ensures fault { IfErr result (λ fault. fault ≡ EngineFault.Memory) }
-        { judgement(rt, alloc, table, separation, workers) },
+            ensures { IfOk result (IsVerdict table.entry.now separation) }
+        { judge_with_workers(rt, alloc, table, separation, workers) },
     );
-    answer
+    verdict
 }
 
 // The table of an accepted program, filled by so many workers. The memo is dropped here.

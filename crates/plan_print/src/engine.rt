@@ -1,15 +1,17 @@
 //! Doing a task: the input is read whole, then its report is written.
 
-ghost use Rattle.std.specs.Prelude.{◌≡◌, ◌≢◌, ◌+◌, ◌≤◌, ◌↔◌, ℕ, List, false, IsTrue, IfOk, IfErr, OnErr, IsErrOf};
+ghost use Rattle.std.specs.Prelude.{◌≡◌, ◌≢◌, ◌+◌, ◌≤◌, ◌↔◌, ℕ, List, false, IsTrue, IfOk, IfErr, IfSome, OnErr, IsErrOf, string_bytes};
 ghost use Rattle.std.specs.Io.KnownBytes.{Appends, Keeps};
 ghost use Rattle.task_words.specs.Task.{IsRunnable};
 ghost use Rattle.devices.specs.Input.{TakesFront};
 ghost use Rattle.devices.specs.Output.{AppendsFront};
 ghost use Rattle.devices.specs.Watched.{device_of, has_failed, calls_of};
-ghost use Rattle.plan_print.specs.Answers.{report_in};
-ghost use Rattle.plan_print.specs.Engine.{limit_of, WritesReport, WritesFront, crew_of, MayHave};
+ghost use Rattle.plan_print.specs.Answers.{report_in, cause_in};
+ghost use Rattle.plan_print.specs.Causes.{Explains, IsNoteOn};
+ghost use Rattle.plan_print.specs.Engine.{limit_of, WritesReport, TellsReport, WritesFront, crew_of, MayHave};
 
 use crate::answer::Answer;
+use crate::cause::{Cause, note_on};
 use crate::report::report_of;
 use crate::status::Status;
 use devices::fault::{EngineFault, OutFault};
@@ -56,20 +58,73 @@ pub fn engine<T: Threads + Wait + Sync, R: Read, W: Write>(
     ensures reader_failed { IsErrOf result EngineFault.Read ↔ IsTrue (has_failed reader.new) }
     ensures writer_failed { IsErrOf result EngineFault.Write ↔ IsTrue (has_failed writer.new) }
 {
-    let input = read_input(alloc, reader, limit(&task))?;
-    let answer = report_of(rt, alloc, task, &input)?;
-    write_answer(alloc, answer, writer)
+    match engine_with_note(rt, alloc, task, reader, writer) {
+        Ok(told) => Ok(told.status),
+        Err(fault) => Err(fault),
+    }
 }
 
-// Writes a report; the answer is its status.
+/// The status of a report that was written, and the note that tells why it is a refusal or a no.
+#[derive(Drop)]
+pub struct Told {
+    pub status: Status,
+    /// `None` where there is nothing to tell, or memory for the note was refused.
+    pub note: Option<String>,
+}
+
+/// What `engine` does, with a note on a report that is a refusal or a no. The note is not written.
+pub fn engine_with_note<T: Threads + Wait + Sync, R: Read, W: Write>(
+    rt: &T,
+    alloc: Global,
+    task: Task,
+    reader: &mut Watched<R>,
+    writer: &mut Watched<W>,
+) -> Result<Told, EngineFault>
+    requires runnable { IsRunnable task }
+    requires reads { has_failed reader.old ≡ false }
+    requires writes { has_failed writer.old ≡ false }
+    ensures report { IfOk result (λ told. TellsReport task
+        (R.remaining (device_of reader.old)) (R.remaining (device_of reader.new))
+        (W.contents (device_of writer.old)) (W.contents (device_of writer.new)) told) }
+    ensures front { IsErrOf result EngineFault.Write → WritesFront task
+        (R.remaining (device_of reader.old)) (R.remaining (device_of reader.new))
+        (W.contents (device_of writer.old)) (W.contents (device_of writer.new)) }
+    ensures unwritten { IfErr result (λ fault. fault ≢ EngineFault.Write
+        → Keeps (W.contents (device_of writer.old)) (W.contents (device_of writer.new))) }
+    ensures taken { OnErr result (TakesFront (R.remaining (device_of reader.old)) (R.remaining (device_of reader.new)) (limit_of task)) }
+    ensures asked { calls_of reader.new ≤ calls_of reader.old + (limit_of task + 1) }
+    ensures crew { IfErr result (MayHave (crew_of task)) }
+    ensures reader_failed { IsErrOf result EngineFault.Read ↔ IsTrue (has_failed reader.new) }
+    ensures writer_failed { IsErrOf result EngineFault.Write ↔ IsTrue (has_failed writer.new) }
+{
+    let input = read_input(alloc, reader, limit(&task))?;
+    let answer = report_of(rt, alloc, task, &input)?;
+    let (status, cause) = write_answer(alloc, answer, writer)?;
+    let note = note_of(alloc, &input, cause);
+    Ok(Told { status, note })
+}
+
+// The note on this cause, if there is one.
+fn note_of(alloc: Global, input: &[u8], cause: Option<Cause>) -> Option<String>
+    requires { IfSome cause (Explains input.now) }
+    ensures { IfSome result (λ note. IsNoteOn input.now (string_bytes note)) }
+{
+    let Some(cause) = cause else {
+        return None;
+    };
+    note_on(alloc, input, &cause)
+}
+
+// Writes a report; the answer is its status, and its cause where it is a refusal or a no.
 fn write_answer<W: Write>(
     alloc: Global,
     answer: Answer,
     writer: &mut Watched<W>,
-) -> Result<Status, EngineFault>
+) -> Result<(Status, Option<Cause>), EngineFault>
     requires { has_failed writer.old ≡ false }
-    ensures report { IfOk result (λ status. Appends (W.contents (device_of writer.old)) (W.contents (device_of writer.new)) (report_in answer).bytes
-        × (status ≡ (report_in answer).status)) }
+    ensures report { IfOk result (λ told. Appends (W.contents (device_of writer.old)) (W.contents (device_of writer.new)) (report_in answer).bytes
+        × (told.0 ≡ (report_in answer).status)) }
+    ensures cause { IfOk result (λ told. told.1 ≡ cause_in answer) }
     ensures front { IsErrOf result EngineFault.Write → AppendsFront (W.contents (device_of writer.old)) (W.contents (device_of writer.new)) (report_in answer).bytes }
     ensures unwritten { IfErr result (λ fault. fault ≢ EngineFault.Write
         → Keeps (W.contents (device_of writer.old)) (W.contents (device_of writer.new))) }
@@ -80,10 +135,14 @@ fn write_answer<W: Write>(
     match answer {
         Answer::Text(text, status) => {
             send(writer, text.as_bytes())?;
-            Ok(status)
+            Ok((status, None))
+        }
+        Answer::Told(text, status, cause) => {
+            send(writer, text.as_bytes())?;
+            Ok((status, Some(cause)))
         }
         Answer::Table(table, separation) => match write_table(alloc, &table, separation, writer) {
-            Ok(()) => Ok(Status::Done),
+            Ok(()) => Ok((Status::Done, None)),
             Err(OutFault::Write) => Err(EngineFault::Write),
             Err(OutFault::Memory) => Err(EngineFault::Memory),
         },

@@ -2,35 +2,21 @@
 
 ghost use Rattle.std.specs.Prelude.{◌≡◌, IfOk, IfErr};
 ghost use Rattle.nbhd_check.specs.Verdicts.{IsVerdict};
-ghost use Rattle.plan_print.specs.Answers.{report_in};
+ghost use Rattle.plan_print.specs.Answers.{report_in, IsOwn};
 ghost use Rattle.plan_print.specs.Report.{IsJudgement};
 
 use crate::answer::Answer;
+use crate::cause::Cause;
 use crate::lines::{good_line, no_line};
 use crate::status::Status;
 use devices::fault::EngineFault;
-use nbhd_check::{Separation, Verdict, judge, judge_with_workers, tuple_count};
+use nbhd_check::{Separation, Verdict, judge, tuple_count};
 use std::alloc::Global;
 use std::thread::Threads;
 use table_fill::Table;
 
-// The judge's answer on a table by a separation, by so many workers.
-pub(crate) fn judgement<T: Threads + Sync>(
-    rt: &T,
-    alloc: Global,
-    table: &Table,
-    separation: Separation,
-    workers: u32,
-) -> Result<Answer, EngineFault>
-    ensures answer { IfOk result (λ r. IsJudgement table.now separation (report_in r)) }
-    ensures fault { IfErr result (λ fault. fault ≡ EngineFault.Memory) }
-{
-    let verdict = judge_with_workers(rt, alloc, table, separation, workers)?;
-    verdict_answer(alloc, table, separation, verdict)
-}
-
 // The answer that tells this verdict on the table.
-fn verdict_answer(
+pub(crate) fn verdict_answer(
     alloc: Global,
     table: &Table,
     separation: Separation,
@@ -38,6 +24,7 @@ fn verdict_answer(
 ) -> Result<Answer, EngineFault>
     requires { IsVerdict table.now separation verdict }
     ensures answer { IfOk result (λ r. IsJudgement table.now separation (report_in r)) }
+    ensures cause { IfOk result IsOwn }
     ensures fault { IfErr result (λ fault. fault ≡ EngineFault.Memory) }
 {
     match verdict {
@@ -49,10 +36,16 @@ fn verdict_answer(
             ring,
             places,
             channels,
-        } => Ok(Answer::Text(
-            no_line(alloc, separation, &ring, places, channels)?,
-            Status::No,
-        )),
+        } => {
+            let line = no_line(alloc, separation, &ring, places, channels)?;
+            let cause = Cause::No {
+                rounds: table.shape().rounds(),
+                ring,
+                places,
+                channels,
+            };
+            Ok(Answer::Told(line, Status::No, cause))
+        }
     }
 }
 
@@ -64,6 +57,7 @@ pub(crate) fn audited<T: Threads + Sync>(
     separation: Separation,
 ) -> Result<Answer, EngineFault>
     ensures answer { IfOk result (λ r. IsJudgement table.now separation (report_in r)) }
+    ensures cause { IfOk result IsOwn }
     ensures fault { IfErr result (λ fault. fault ≡ EngineFault.Memory) }
 {
     let verdict = judge(rt, alloc, table, separation)?;

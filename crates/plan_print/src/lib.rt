@@ -2,6 +2,7 @@
 #![tactic(auto)]
 
 mod answer;
+pub mod cause;
 pub mod engine;
 mod judgement;
 pub mod laws;

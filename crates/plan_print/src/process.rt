@@ -3,11 +3,11 @@
 ghost use Rattle.std.specs.Prelude.{◌≡◌, ◌↔◌, false, IsTrue, IfOk, IfErr, OnOk, IsErrOf};
 ghost use Rattle.std.specs.Io.KnownBytes.{Appends};
 ghost use Rattle.devices.specs.Watched.{device_of, has_failed};
-ghost use Rattle.plan_print.specs.ExitCodes.{answer_code, IsExitStatus, IsStatusAfter};
+ghost use Rattle.plan_print.specs.ExitCodes.{answer_code, exit_code, IsExitStatus, IsStatusAfter};
 ghost use Rattle.task_words.specs.Task.{IsRunnable};
 ghost use Rattle.task_words.specs.WordsFault.{words_fault_code};
 
-use crate::engine::engine;
+use crate::engine::{Told, engine_with_note};
 use crate::status::{Status, code_of};
 use devices::fault::EngineFault;
 use devices::output::send;
@@ -40,7 +40,7 @@ fn status_after<T: AllocGlobal + Input + Print + Eprint + Threads + Wait + Sync>
     ensures refused { IfErr asked (λ fault. IsStatusAfter fault result) }
 {
     match asked {
-        Ok(task) => ended(rt, done(rt, task)),
+        Ok(task) => noted(rt, done(rt, task)),
         Err(WordsFault::Help(text)) => {
             let mut writer = Watched::new(io::writer(rt));
             ended(rt, shown(&mut writer, &text))
@@ -84,6 +84,26 @@ fn ended<T: Eprint>(rt: &T, answer: Result<Status, EngineFault>) -> u8
     code_of(answer)
 }
 
+// Tells the note on a report, or a fault, on the standard error; the answer is the exit status.
+fn noted<T: Eprint>(rt: &T, answer: Result<Told, EngineFault>) -> u8
+    ensures { IsExitStatus result }
+{
+    match answer {
+        Ok(told) => after_report(rt, &told),
+        Err(fault) => ended(rt, Err(fault)),
+    }
+}
+
+// Tells the note on a report on the standard error; the answer is the exit status.
+fn after_report<T: Eprint>(rt: &T, told: &Told) -> u8
+    ensures { result ≡ exit_code told.now.status }
+{
+    if let Some(note) = &told.note {
+        let _ = eprint!(rt; "{note}");
+    }
+    told.status.code()
+}
+
 // Writes a text.
 fn shown<W: Write>(writer: &mut Watched<W>, text: &str) -> Result<Status, EngineFault>
     requires { has_failed writer.old ≡ false }
@@ -98,10 +118,10 @@ fn shown<W: Write>(writer: &mut Watched<W>, text: &str) -> Result<Status, Engine
 fn done<T: AllocGlobal + Input + Print + Threads + Wait + Sync>(
     rt: &T,
     task: Task,
-) -> Result<Status, EngineFault>
+) -> Result<Told, EngineFault>
     requires { IsRunnable task }
 {
     let mut reader = Watched::new(rt.reader());
     let mut writer = Watched::new(io::writer(rt));
-    engine(rt, rt.alloc(), task, &mut reader, &mut writer)
+    engine_with_note(rt, rt.alloc(), task, &mut reader, &mut writer)
 }

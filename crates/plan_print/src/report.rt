@@ -6,13 +6,14 @@ ghost use Rattle.node_lang.specs.Grammar.{Reads};
 ghost use Rattle.lang_check.specs.Acceptance.{IsAccepted};
 ghost use Rattle.table_text.specs.Texts.{IsTextOf};
 ghost use Rattle.plan_print.specs.Engine.{crew_of, IsTaskFault};
-ghost use Rattle.plan_print.specs.Answers.{report_in};
+ghost use Rattle.plan_print.specs.Answers.{report_in, IsExplained};
 ghost use Rattle.plan_print.specs.Report.{IsReport, IsTextRefusal, IsProgramRefusal, IsTableRefusal};
 ghost use Rattle.task_words.specs.Task.{IsRunnable};
 
 use crate::answer::{
     Answer, check_answer, judged, plan_answer, print_answer, run_answer, table_answer, trace_answer,
 };
+use crate::cause::Cause;
 use crate::judgement::audited;
 use crate::lines::{check_fault_line, table_fault_line, text_fault_line};
 use crate::status::Status;
@@ -36,6 +37,7 @@ pub(crate) fn report_of<T: Threads + Wait + Sync>(
 ) -> Result<Answer, EngineFault>
     requires { IsRunnable task }
     ensures report { IfOk result (λ r. IsReport task input.now (report_in r)) }
+    ensures cause { IfOk result (IsExplained input.now) }
     ensures fault { IfErr result (IsTaskFault (crew_of task)) }
 {
     match task {
@@ -96,15 +98,21 @@ pub(crate) fn report_of<T: Threads + Wait + Sync>(
 fn accepted(alloc: Global, input: &[u8], ids: u32) -> Result<Result<Plan, Answer>, EngineFault>
     ensures plan { IfOk result (λ told. IfOk told (λ plan. (plan.ids ≡ ids) × Reads input.now plan.program × IsAccepted ids plan.program)) }
     ensures refusal { IfOk result (λ told. IfErr told (λ r. IsProgramRefusal ids input.now (report_in r))) }
+    ensures cause { IfOk result (λ told. IfErr told (IsExplained input.now)) }
     ensures fault { IfErr result (λ fault. fault ≡ EngineFault.Memory) }
 {
     match program_in(alloc, input)? {
         Ok(program) => match accept(program, ids) {
             Ok(plan) => Ok(Ok(plan)),
-            Err((_program, fault)) => Ok(Err(Answer::Text(
-                check_fault_line(alloc, fault)?,
-                Status::Refused,
-            ))),
+            Err((program, fault)) => {
+                let line = check_fault_line(alloc, fault)?;
+                let cause = Cause::Program {
+                    rounds: program.rounds(),
+                    ids,
+                    fault,
+                };
+                Ok(Err(Answer::Told(line, Status::Refused, cause)))
+            }
         },
         Err(refusal) => Ok(Err(refusal)),
     }
@@ -114,6 +122,7 @@ fn accepted(alloc: Global, input: &[u8], ids: u32) -> Result<Result<Plan, Answer
 fn program_in(alloc: Global, input: &[u8]) -> Result<Result<Program, Answer>, EngineFault>
     ensures program { IfOk result (λ told. IfOk told (λ program. Reads input.now program)) }
     ensures refusal { IfOk result (λ told. IfErr told (λ r. IsTextRefusal input.now (report_in r))) }
+    ensures cause { IfOk result (λ told. IfErr told (IsExplained input.now)) }
     ensures fault { IfErr result (λ fault. fault ≡ EngineFault.Memory) }
 {
     match parse(alloc, input) {
@@ -124,7 +133,10 @@ fn program_in(alloc: Global, input: &[u8]) -> Result<Result<Program, Answer>, En
                 offset: _,
             },
         ) => Err(EngineFault::Memory),
-        Err(fault) => Ok(Err(Answer::Text(text_fault_line(alloc, fault)?, Status::Refused))),
+        Err(fault) => {
+            let line = text_fault_line(alloc, fault)?;
+            Ok(Err(Answer::Told(line, Status::Refused, Cause::Text(fault))))
+        }
     }
 }
 
@@ -132,11 +144,15 @@ fn program_in(alloc: Global, input: &[u8]) -> Result<Result<Program, Answer>, En
 fn table_in(alloc: Global, input: &[u8]) -> Result<Result<(Table, Separation), Answer>, EngineFault>
     ensures table { IfOk result (λ told. IfOk told (λ read. IsTextOf input.now read.0 read.1)) }
     ensures refusal { IfOk result (λ told. IfErr told (λ r. IsTableRefusal input.now (report_in r))) }
+    ensures cause { IfOk result (λ told. IfErr told (IsExplained input.now)) }
     ensures fault { IfErr result (λ fault. fault ≡ EngineFault.Memory) }
 {
     match read_table(alloc, input) {
         Ok((table, separation)) => Ok(Ok((table, separation))),
         Err(TableFault::OutOfMemory) => Err(EngineFault::Memory),
-        Err(fault) => Ok(Err(Answer::Text(table_fault_line(alloc, fault)?, Status::Refused))),
+        Err(fault) => {
+            let line = table_fault_line(alloc, fault)?;
+            Ok(Err(Answer::Told(line, Status::Refused, Cause::TableText(fault))))
+        }
     }
 }

@@ -5,9 +5,9 @@ use Rattle.plan_print.specs.Report.{check_fault}
 use Rattle.plan_print.proofs.report.accepted.Goals as goal
 
 -- The program is refused.
-pub returns-in_ok-check_fault_line-in-Err-accept-clause-refusal :
-    goal.returns-in_ok-check_fault_line-in-Err-accept-clause-refusal
-returns-in_ok-check_fault_line-in-Err-accept-clause-refusal c =
+pub returns-in_ok-line-in-Err-accept-clause-refusal :
+    goal.returns-in_ok-line-in-Err-accept-clause-refusal
+returns-in_ok-line-in-Err-accept-clause-refusal c =
     let first : IsFirstRefusal c.args.ids c.in-Ok.program c.in-Err-accept.fault = search rules in
     let reads : Reads c.args.input.now c.in-Ok.program = search rules in
     check_fault c.in-Ok.program c.in-Err-accept.fault reads first (search rules)

@@ -3,8 +3,8 @@ use Rattle.node_lang.specs.declared.fault.FaultKind.TheVariants.{OutOfMemory}
 use Rattle.plan_print.proofs.report.program_in.Goals as goal
 
 -- The text reads as no program.
-pub returns-in_ok-text_fault_line-in-Err : goal.returns-in_ok-text_fault_line-in-Err
-returns-in_ok-text_fault_line-in-Err c =
+pub returns-in_ok-line-in-Err : goal.returns-in_ok-line-in-Err
+returns-in_ok-line-in-Err c =
     let known : c.in-Err.fault.kind ≢ OutOfMemory = search rules in
     record {
       program = tt;
@@ -15,5 +15,6 @@ returns-in_ok-text_fault_line-in-Err c =
         fault = c.in-Err.ensures.fault known;
         says = search rules;
       };
+      cause = c.in-Err.ensures.fault known;
       fault = tt;
     }

@@ -110,3 +110,27 @@ pub returns-in-Ok-9-clause-report : goal.returns-in-Ok-9-clause-report
 returns-in-Ok-9-clause-report g c =
     let told : IsTextOf c.args.input.now c.in-Ok-9.table c.in-Ok-9.separation = search rules in
     rw c.in-Migrate.is (of_table c.in-Ok-9.table c.in-Ok-9.separation told (refl, refl))
+
+pub returns-in-Ok-clause-cause : goal.returns-in-Ok-clause-cause
+returns-in-Ok-clause-cause g c = IfOk-weaker c.check_answer.result _ _ (λ r own. own c.args.input.now) c.check_answer.ensures.cause
+
+pub returns-in-Ok-2-clause-cause : goal.returns-in-Ok-2-clause-cause
+returns-in-Ok-2-clause-cause g c = IfOk-weaker c.print_answer.result _ _ (λ r own. own c.args.input.now) c.print_answer.ensures.cause
+
+pub returns-in-Ok-3-clause-cause : goal.returns-in-Ok-3-clause-cause
+returns-in-Ok-3-clause-cause g c = IfOk-weaker c.table_answer.result _ _ (λ r own. own c.args.input.now) c.table_answer.ensures.cause
+
+pub returns-in-Ok-4-clause-cause : goal.returns-in-Ok-4-clause-cause
+returns-in-Ok-4-clause-cause g c = IfOk-weaker c.judged.result _ _ (λ r own. own c.args.input.now) c.judged.ensures.cause
+
+pub returns-in-Ok-5-clause-cause : goal.returns-in-Ok-5-clause-cause
+returns-in-Ok-5-clause-cause g c = IfOk-weaker c.run_answer.result _ _ (λ r own. own c.args.input.now) c.run_answer.ensures.cause
+
+pub returns-in-Ok-6-clause-cause : goal.returns-in-Ok-6-clause-cause
+returns-in-Ok-6-clause-cause g c = IfOk-weaker c.trace_answer.result _ _ (λ r own. own c.args.input.now) c.trace_answer.ensures.cause
+
+pub returns-in-Ok-7-clause-cause : goal.returns-in-Ok-7-clause-cause
+returns-in-Ok-7-clause-cause g c = IfOk-weaker c.plan_answer.result _ _ (λ r own. own c.args.input.now) c.plan_answer.ensures.cause
+
+pub returns-in-Ok-8-clause-cause : goal.returns-in-Ok-8-clause-cause
+returns-in-Ok-8-clause-cause g c = IfOk-weaker c.audited.result _ _ (λ r own. own c.args.input.now) c.audited.ensures.cause

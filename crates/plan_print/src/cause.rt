@@ -1,0 +1,111 @@
+//! Why a report is a refusal or a no, and the note that tells it.
+
+ghost use Rattle.std.specs.Prelude.{◌≡◌, ◌≤◌, length, IfOk, IfSome, string_bytes};
+ghost use Rattle.plan_print.specs.Causes.{Explains, IsNote, IsTableNote};
+ghost use Rattle.table_text.specs.Faults.{IsFault};
+ghost use Rattle.fault_notes.specs.VerdictNotes.{verdict_note};
+
+use fault_notes::{
+    channel_note, check_note, form_note, ring_note, segments_note, text_note, verdict_note,
+    window_note,
+};
+use lang_check::CheckFault;
+use node_lang::TextFault;
+use std::alloc::{AllocError, Global};
+use table_text::TableFault;
+use win_index::{MAX_IDS, MAX_ROUNDS, RingFault};
+
+/// Why a report is a refusal or a no.
+#[derive(Drop)]
+pub enum Cause {
+    /// The fault of a program text.
+    Text(TextFault),
+    /// The refusal of a program.
+    Program {
+        rounds: u32,
+        ids: u32,
+        fault: CheckFault,
+    },
+    /// What is wrong with a list of identifiers that is no ring.
+    Ring {
+        rounds: u32,
+        ids: u32,
+        places: Vec<u32>,
+        fault: RingFault,
+    },
+    /// A number of segments, and the number of places of the ring.
+    Segments {
+        segments: u32,
+        places: usize,
+    },
+    /// What is wrong with the text of a table.
+    TableText(TableFault),
+    /// The ring, the places and their channels at which a table breaks a separation.
+    No {
+        rounds: u32,
+        ring: Vec<u32>,
+        places: (u32, u32),
+        channels: (u32, u32),
+    },
+}
+
+// The note that tells a cause that is found in this input, or `None` where memory was refused.
+pub(crate) fn note_on(alloc: Global, input: &[u8], cause: &Cause) -> Option<String>
+    requires { Explains input.now cause.now }
+    ensures { IfSome result (λ note. IsNote input.now cause.now (string_bytes note)) }
+{
+    match cause {
+        Cause::Text(fault) => text_note(alloc, input, *fault).ok(),
+        Cause::Program { rounds, ids, fault } => {
+            check_note(alloc, input, *rounds, *ids, *fault).ok()
+        }
+        Cause::Ring {
+            rounds,
+            ids,
+            places,
+            fault,
+        } => ring_note(alloc, *ids, *rounds, places, *fault).ok(),
+        Cause::Segments { segments, places } => segments_note(alloc, *segments, *places).ok(),
+        Cause::TableText(fault) => table_note(alloc, input, *fault).ok(),
+        Cause::No {
+            rounds,
+            ring,
+            places,
+            channels,
+        } => no_note(alloc, *rounds, ring, *places, *channels),
+    }
+}
+
+// The note on a fault of the text of a table.
+fn table_note(alloc: Global, text: &[u8], fault: TableFault) -> Result<String, AllocError>
+    requires { IsFault text.now fault }
+    ensures { IfOk result (λ note. IsTableNote text.now fault (string_bytes note)) }
+{
+    match fault {
+        TableFault::Syntax(offset) => form_note(alloc, text, offset as usize),
+        TableFault::WrongWindow(line) => window_note(alloc, text, line),
+        TableFault::ChannelTooLarge(line) => channel_note(alloc, line),
+        TableFault::OutOfMemory => Err(AllocError),
+    }
+}
+
+// The note on a no, where its places are those of the ring.
+fn no_note(
+    alloc: Global,
+    rounds: u32,
+    ring: &[u32],
+    places: (u32, u32),
+    channels: (u32, u32),
+) -> Option<String>
+    ensures { IfSome result (λ note. string_bytes note ≡ verdict_note rounds ring.now places channels) }
+{
+    let count = ring.len();
+    if rounds > MAX_ROUNDS || rounds as usize > count || count > MAX_IDS as usize {
+        return None;
+    }
+    let (first, second) = places;
+    if first as usize >= count || second as usize >= count {
+        return None;
+    }
+    verdict_note(alloc, rounds, ring, places, channels).ok()
+}
