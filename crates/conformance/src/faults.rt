@@ -13,7 +13,7 @@ use test_programs::{
     CV1_OF_11, CV1_OF_14, CV1_OF_16, CV1_OF_THREE, CV1_SENDS_L, ID0, NOT_HEAD, SHIFT4,
 };
 
-/// Every task refuses a program text for `ids` identifiers with this line, whatever its ring and its segments are.
+/// Every task for `ids` identifiers refuses a program text with this line, whatever its ring and its segments are.
 fn all_refuse<R: Abort + Threads + Wait + Sync>(
     rt: &R,
     alloc: Global,
@@ -40,6 +40,10 @@ fn all_refuse<R: Abort + Threads + Wait + Sync>(
             ring: [0, 1].to_vec(alloc)?,
             segments: 3,
         },
+        Task::Trace {
+            ids,
+            ring: [0, 1].to_vec(alloc)?,
+        },
         Task::Plan {
             ids,
             ring: Vec::new(alloc),
@@ -50,6 +54,17 @@ fn all_refuse<R: Abort + Threads + Wait + Sync>(
         reports(rt, alloc, task, text, line, Status::Refused)?;
     }
     Ok(())
+}
+
+/// Every task for eight identifiers, and a print, refuse a text that is no program with this line.
+fn is_no_program<R: Abort + Threads + Wait + Sync>(
+    rt: &R,
+    alloc: Global,
+    text: &[u8],
+    line: &str,
+) -> Result<(), Fail> {
+    all_refuse(rt, alloc, 8, text, line)?;
+    reports(rt, alloc, Task::Print, text, line, Status::Refused)
 }
 
 #[test]
@@ -76,7 +91,7 @@ fn text_faults(rt: HostRuntime) -> Result<(), Fail> {
         ),
     ];
     for (text, line) in rows {
-        all_refuse(&rt, rt.alloc(), 8, text, line)?;
+        is_no_program(&rt, rt.alloc(), text, line)?;
     }
     Ok(())
 }
@@ -93,7 +108,7 @@ fn text_faults_of_a_text_that_is_cut(rt: HostRuntime) -> Result<(), Fail> {
     ];
     for (length, line) in rows {
         let text = ID0.get(..length).unwrap_or(b"");
-        all_refuse(&rt, rt.alloc(), 8, text, line)?;
+        is_no_program(&rt, rt.alloc(), text, line)?;
     }
     Ok(())
 }
@@ -110,7 +125,7 @@ fn text_faults_of_long_texts(rt: HostRuntime) -> Result<(), Fail> {
         (&over, "text fault N8 at 14375\n"),
     ];
     for (text, line) in rows {
-        all_refuse(&rt, rt.alloc(), 8, text, line)?;
+        is_no_program(&rt, rt.alloc(), text, line)?;
     }
     Ok(())
 }

@@ -27,3 +27,5 @@ mod slow_outputs;
 mod tables;
 #[cfg(test)]
 mod texts;
+#[cfg(test)]
+mod traces;
