@@ -59,7 +59,7 @@ fn words_without_a_command_are_refused(rt: HostRuntime) {
 fn words_with_a_missing_option_are_refused(rt: HostRuntime) {
     are_no_commands(
         &rt,
-        "check|table|judge|run|plan|run --ids 8|plan --ring 5,1,3,7",
+        "check|table|judge|run|trace|plan|run --ids 8|trace --ids 8|plan --ring 5,1,3,7",
     );
     are_no_commands(
         &rt,
@@ -75,7 +75,7 @@ fn words_with_a_missing_option_are_refused(rt: HostRuntime) {
 fn words_with_a_stray_word_are_refused(rt: HostRuntime) {
     are_no_commands(
         &rt,
-        "check 8|check --ids 8 8|audit 8|audit audit|migrate audit|run --ids 8 5,1,3,7",
+        "check 8|check --ids 8 8|audit 8|audit audit|migrate audit|print 8|run --ids 8 5,1,3,7|trace --ids 8 5,1,3,7",
     );
     are_no_commands(&rt, "check --idz 8|check -ids 8|table --ids 8 --worker 1");
 }
@@ -96,7 +96,11 @@ fn options_of_another_command_are_refused(rt: HostRuntime) {
     );
     are_no_commands(
         &rt,
-        "audit --ids 8|audit --workers 1|migrate --ids 8|migrate --near 1",
+        "trace --ids 8 --ring 5 --segments 1|trace --ids 8 --ring 5 --workers 1|trace --ids 8 --ring 5 --far 0",
+    );
+    are_no_commands(
+        &rt,
+        "audit --ids 8|audit --workers 1|migrate --ids 8|migrate --near 1|print --ids 8",
     );
 }
 
@@ -159,7 +163,7 @@ fn other_refusals_come_before_a_bad_ring(rt: HostRuntime) {
 #[test]
 fn other_texts_of_a_ring_are_bad_rings(rt: HostRuntime) {
     let lines =
-        "run --ids 8 --ring 5,,1|plan --ring 5,,1 --ids 8|run --ids 8 --ring=|run --ids 8 --ring=-5|plan --ids 8 --ring 5,a";
+        "run --ids 8 --ring 5,,1|plan --ring 5,,1 --ids 8|run --ids 8 --ring=|run --ids 8 --ring=-5|trace --ids 8 --ring 5,|plan --ids 8 --ring 5,a";
     for line in lines.split('|') {
         assert_eq!(rt; answer_to(rt.alloc(), line), Answer::BadRing, "at {line}");
     }

@@ -81,6 +81,16 @@ fn runs_are_tasks(rt: HostRuntime) -> Result<(), Fail> {
 }
 
 #[test]
+fn traces_are_tasks(rt: HostRuntime) -> Result<(), Fail> {
+    for line in "trace --ids 8 --ring 5,1,3,7|trace --ring=05,01,3,7 --ids=+8".split('|') {
+        let ring = [5, 1, 3, 7].to_vec(rt.alloc())?;
+        let task = Task::Trace { ids: 8, ring };
+        assert_eq!(rt; asked(rt.alloc(), line)?, task, "at {line}");
+    }
+    Ok(())
+}
+
+#[test]
 fn plans_are_tasks(rt: HostRuntime) -> Result<(), Fail> {
     let rows = [
         ("plan --ids 8 --ring 5,1,3,7", 1),
@@ -100,7 +110,8 @@ fn plans_are_tasks(rt: HostRuntime) -> Result<(), Fail> {
 }
 
 #[test]
-fn an_audit_and_a_migration_are_tasks(rt: HostRuntime) {
+fn a_print_an_audit_and_a_migration_are_tasks(rt: HostRuntime) {
+    assert_eq!(rt; asked(rt.alloc(), "print"), Ok(Task::Print));
     assert_eq!(rt; asked(rt.alloc(), "audit"), Ok(Task::Audit));
     assert_eq!(rt; asked(rt.alloc(), "migrate"), Ok(Task::Migrate));
 }
@@ -108,7 +119,7 @@ fn an_audit_and_a_migration_are_tasks(rt: HostRuntime) {
 #[test]
 fn help_is_asked_for(rt: HostRuntime) {
     let lines =
-        "--help|-h|help|help run|help audit|help migrate|run --help|run -h|audit --help|run --ids 8 --help|check --ids 8 -h";
+        "--help|-h|help|help run|help audit|help migrate|help print|help trace|run --help|run -h|audit --help|print --help|trace -h|run --ids 8 --help|check --ids 8 -h";
     for line in lines.split('|') {
         assert_eq!(rt; answer_to(rt.alloc(), line), Answer::Help, "at {line}");
     }
@@ -139,6 +150,7 @@ fn tasks_of_1_to_64_workers_can_be_done(rt: HostRuntime) {
         assert_eq!(rt; plan.is_runnable(), can, "{workers} workers");
     }
     assert!(rt; Task::Check { ids: 8 }.is_runnable());
+    assert!(rt; Task::Print.is_runnable());
     assert!(rt; Task::Audit.is_runnable());
     assert!(rt; Task::Migrate.is_runnable());
 }
@@ -171,7 +183,7 @@ fn tables_and_judges_of_1_to_4096_and_0_to_4096_can_be_done(rt: HostRuntime) {
 }
 
 #[test]
-fn runs_in_any_number_of_segments_can_be_done(rt: HostRuntime) {
+fn runs_in_any_number_of_segments_and_traces_can_be_done(rt: HostRuntime) {
     for segments in [0, 1, 64, 65, LARGEST] {
         let run = Task::Run {
             ids: 8,
@@ -180,4 +192,9 @@ fn runs_in_any_number_of_segments_can_be_done(rt: HostRuntime) {
         };
         assert!(rt; run.is_runnable(), "{segments} segments");
     }
+    let trace = Task::Trace {
+        ids: 8,
+        ring: Vec::new(rt.alloc()),
+    };
+    assert!(rt; trace.is_runnable() && trace.segments() == 1);
 }

@@ -21,9 +21,11 @@ Usage: nbhd <COMMAND>
 
 Commands:
   check    Tells whether a program is accepted for M identifiers
+  print    Prints a program text in its one printed form
   table    Prints the table of a program, one channel per window
   judge    Tells whether channels are far enough apart on every ring, by a program's table
   run      Runs a program by messages on a ring, and prints the channels
+  trace    Runs a program on a ring, and prints what its nodes hold and send in each round
   plan     Prints the channels of a ring's places, looked up in the table
   audit    Tells whether channels are far enough apart on every ring, by a table text
   migrate  Prints a table text of any version in the newest one
@@ -71,6 +73,67 @@ Exit status:
   6  memory or a thread was refused
 ";
     assert_eq!(rt; text_of(rt.alloc(), "run --help")?.as_str(), expected);
+    Ok(())
+}
+
+#[test]
+fn help_of_a_print(rt: HostRuntime) -> Result<(), Fail> {
+    let expected = "Prints a program text in its one printed form
+
+Usage: nbhd print
+
+Options:
+  -h, --help  Print help
+
+Standard input:  a program text
+Standard output: the same program with one line for each of its parts and without comments,
+                 or one line: what is refused
+
+The text is only read: `nbhd check` tells whether the program is accepted for M identifiers.
+
+Exit status:
+  0  the program is printed
+  2  the words are refused
+  3  the program text is refused
+  5  reading or writing failed
+  6  memory was refused
+";
+    assert_eq!(rt; text_of(rt.alloc(), "print --help")?.as_str(), expected);
+    Ok(())
+}
+
+#[test]
+fn help_of_a_trace(rt: HostRuntime) -> Result<(), Fail> {
+    let expected = "Runs a program on a ring, and prints what its nodes hold and send in each round
+
+Usage: nbhd trace --ids <M> --ring <A,B,..>
+
+Options:
+      --ids <M>        How many identifiers there are; they are 0 to M-1
+      --ring <A,B,..>  The ring's identifiers, each followed by its right neighbour's
+  -h, --help           Print help
+
+Standard input:  a program text
+Standard output: lines with a number for each place of the ring, or one line: what is refused
+
+M is 2 to 1024 for 0 rounds, 4 to 162 for 1 round, 6 to 23 for 2, 8 to 12 for 3, 10 for 4 rounds.
+The ring has at least 2, 4, 6, 8 or 10 identifiers for 0 to 4 rounds, below M, no two the same.
+The lines are:
+  start r0 ..       what a register holds after the assignments of start; one line for each register
+  round 1 left ..   what each place sends to its left neighbour in a round
+  round 1 right ..  what each place sends to its right neighbour
+  round 1 r0 ..     what a register holds after the round; one line for each register
+  finish ..         the channels
+
+Exit status:
+  0  the lines are printed
+  2  the words are refused
+  3  the program is refused
+  4  the ring is refused
+  5  reading or writing failed
+  6  memory was refused
+";
+    assert_eq!(rt; text_of(rt.alloc(), "trace --help")?.as_str(), expected);
     Ok(())
 }
 
@@ -140,7 +203,7 @@ const REFUSED: [(&str, &str); 4] = [
     (
         "",
         "error: 'nbhd' requires a subcommand but one was not provided
-  [subcommands: check, table, judge, run, plan, audit, migrate, help]
+  [subcommands: check, print, table, judge, run, trace, plan, audit, migrate, help]
 
 Usage: nbhd <COMMAND>
 
