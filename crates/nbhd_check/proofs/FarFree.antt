@@ -58,11 +58,6 @@ module _ (laws : WindowsAreNumbered) where
   none_at t distance least list none number window below item own =
       absurd (none (subst (IsWindow (2 * t.rounds + 1) t.ids) own (window_at laws (2 * t.rounds + 1) t.ids number window item)))
 
-  -- one number has one window
-  pub free_at : (t : ChannelTable) (distance least : ℕ) (list : List ℕ) → ((window : List ℕ) → window ≡ list → ¬ BeginsFarTuple t distance window)
-      → AreFarFreeIn t distance least (λ window. window ≡ list)
-  free_at t distance least list none number window below item own = none window own
-
   -- one second identifier more
   pub more_seconds :
       (t : ChannelTable) (distance first second least less : ℕ) (z list : List ℕ) → 1 ≤ t.rounds → less ≤ least → list ≡ first ∷ second ∷ z

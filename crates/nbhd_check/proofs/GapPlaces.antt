@@ -14,12 +14,6 @@ pub record ArePassed (gaps : List ℕ) (count from : ℕ) : Type 0 where
 pub record NoneBefore (list gaps : List ℕ) (distance channel from : ℕ) : Type 0 where
   pub none : (place : ℕ) → place < from → ¬ Contains gaps place → ¬ (abs_diff channel (get_or list place 0) < distance)
 
-pub none_passed : (gaps : List ℕ) → ArePassed gaps 0 0
-none_passed gaps = record { before = λ i lt. absurd (omega arith); after = λ i le lt. omega arith }
-
-pub none_at_first : (list gaps : List ℕ) (distance channel : ℕ) → NoneBefore list gaps distance channel 0
-none_at_first list gaps distance channel = record { none = λ place lt. absurd (omega arith) }
-
 -- one gap more
 pub passed_more :
     (gaps : List ℕ) (count from : ℕ) → AllPairs (λ a b. a < b) gaps → count < length gaps → ArePassed gaps count from
