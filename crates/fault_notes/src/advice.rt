@@ -3,13 +3,26 @@
 use crate::operands::operands_advice;
 use wanted_tokens::Wanted;
 
-// Advice on a word that is none of the language.
-pub(crate) fn word_advice(word: &[u8]) -> &'static str {
+// Advice on a word that is none of the language, where this is wanted.
+pub(crate) fn word_advice(word: &[u8], wanted: Option<Wanted>) -> &'static str {
+    let known = known_advice(word);
+    if !known.is_empty() {
+        return known;
+    }
+    match wanted {
+        Some(Wanted::Rounds) => "; a program begins with `rounds`",
+        Some(Wanted::End) => "; the expression of `finish` ends the program",
+        _ => spelling_advice(word),
+    }
+}
+
+// Advice on words and marks of other languages.
+fn known_advice(word: &[u8]) -> &'static str {
     match word {
         b"mul" | b"times" | b"mult" | b"*" => "; there is no product: twice x is `shl(x, 1)`",
         b"mod" | b"rem" | b"%" => "; there is no remainder: that of 2 is `and(x, 1)`",
-        b"div" | b"/" =>
-            "; there is no quotient: half of x is `shr(x, 1)`; a comment begins with `#`",
+        b"/" => "; a comment begins with `#`, and half of x is `shr(x, 1)`",
+        b"div" => "; there is no quotient: half of x is `shr(x, 1)`",
         b"gt" | b">" => "; write `lt(b, a)` for a > b",
         b"ge" => "; write `le(b, a)` for a >= b",
         b"<" => "; write `lt(a, b)` for a < b",
@@ -48,7 +61,7 @@ pub(crate) fn word_advice(word: &[u8]) -> &'static str {
         b"accepted" | b"yes" | b"no" | b"text" | b"check" | b"ring" | b"table" => {
             "; this is what `nbhd` printed, and no program"
         }
-        _ => spelling_advice(word),
+        _ => "",
     }
 }
 

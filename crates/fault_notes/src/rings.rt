@@ -3,7 +3,7 @@
 ghost use Rattle.std.specs.Prelude.{◌≡◌, ◌+◌, ◌*◌, ◌<◌, ◌≤◌, ◌^◌, length, IfOk, string_bytes};
 ghost use Rattle.win_index.specs.declared.limits.TheConstants.{MAX_ROUNDS};
 ghost use Rattle.win_index.specs.RingFaults.{IsFirstFault};
-ghost use Rattle.fault_notes.specs.RingNotes.{ring_note, segments_note};
+ghost use Rattle.fault_notes.specs.RingNotes.{ring_note, segments_note, closing};
 
 use std::alloc::{AllocError, Global};
 use win_index::RingFault;
@@ -60,7 +60,21 @@ fn repeated_note(
     ensures { IfOk result (λ note. string_bytes note ≡ ring_note 0 0 places.now (RingFault.Repeated first second)) }
 {
     let id = places[second as usize];
-    format!(in alloc; "nbhd: places {first} and {second} have the same identifier {id}\n")
+    let end = closing(places.len(), first, second);
+    let note = format!(in alloc;
+        "nbhd: places {first} and {second} have the same identifier {id}{end}"
+    )?;
+    Ok(note)
+}
+
+// What follows where the last place repeats the first one.
+fn closing(count: usize, first: u32, second: u32) -> &'static str
+    ensures { result.now ≡ closing count first second }
+{
+    if first == 0 && second as usize + 1 == count {
+        return "; a ring closes by itself\n";
+    }
+    "\n"
 }
 
 /// The note on a ring of so many places that cannot be run in so many segments. The error comes where memory was refused.

@@ -33,10 +33,40 @@ fn form_advice(text: &[u8], offset: usize) -> &'static str {
     if text.iter().any(|byte| *byte == b'\r') {
         return "; lines end with a carriage return, which `tr -d '\\r'` takes out";
     }
-    if offset > 0 {
-        return "";
+    if offset == 0 {
+        return first_advice(text);
     }
-    first_advice(text)
+    match text.get(offset..) {
+        Some(rest) => line_advice(rest),
+        None => "",
+    }
+}
+
+// Advice on the text from a line on that has not its form.
+fn line_advice(rest: &[u8]) -> &'static str {
+    let len = rest.iter().take_while(|byte| **byte != b'\n').count();
+    match rest {
+        [] => "; the text stops before its end, which is a line `end`",
+        b"end" => "; the last line has no line end",
+        [b'\n', ..] => "; the line is blank",
+        [b'r', b'o', b'u', b'n', b'd', b's', ..] => {
+            "; the numbers of this line do not fit one another"
+        }
+        [b'#', ..] => "; there are no comments in tables",
+        _ => bytes_advice(rest.get(..len).unwrap_or(rest)),
+    }
+}
+
+// Advice on a line that has not its form.
+fn bytes_advice(line: &[u8]) -> &'static str {
+    match line {
+        [.., b' '] => "; a blank stands at its end",
+        _ if line.iter().any(|byte| matches!(*byte, b',' | b'\t')) => {
+            "; numbers are parted by single blanks"
+        }
+        _ if line.iter().any(|byte| *byte == b'-') => "; a number has digits alone",
+        _ => "",
+    }
 }
 
 // Advice on a text that does not begin as the text of a table does.

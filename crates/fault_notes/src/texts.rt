@@ -45,14 +45,14 @@ fn word_at(text: &[u8], offset: usize) -> &[u8]
     first_word(&text[offset..])
 }
 
-// What can stand in the place of a token that cannot, or behind a text that ends too soon.
+// What can stand at the place of a fault, but for a byte over 127.
 fn wanted_at(alloc: Global, text: &[u8], fault: TextFault) -> Result<Option<Wanted>, AllocError>
     requires { fault.offset ≤ length text.now }
     ensures exact { IfOk result (λ found. IfSome found (IsWanted (tokens_of (take fault.offset text.now)))) }
     ensures silent { IfOk result (λ found. fault.kind ≡ kind.Unexpected → IfNone found (SaysNothing (take fault.offset text.now))) }
     ensures silent_at_end { IfOk result (λ found. fault.kind ≡ kind.EndOfText → IfNone found (SaysNothing (take fault.offset text.now))) }
 {
-    if fault.kind != FaultKind::Unexpected && fault.kind != FaultKind::EndOfText {
+    if fault.kind == FaultKind::NotAscii {
         return Ok(None);
     }
     match wanted_after(alloc, &text[..fault.offset]) {
@@ -130,7 +130,7 @@ fn advice_on(text: &[u8], fault: TextFault, word: &[u8], wanted: Option<Wanted>)
 {
     match (fault.kind, wanted) {
         (FaultKind::NotAscii, _) => byte_advice(&text[fault.offset..]),
-        (FaultKind::BadWord, _) => word_advice(word),
+        (FaultKind::BadWord, wanted) => word_advice(word, wanted),
         (FaultKind::Unexpected, Some(wanted)) => place_advice(&text[..fault.offset], word, wanted),
         (FaultKind::EndOfText, _) if text.is_empty() => "; the text is empty, so no file was given",
         _ => "",
