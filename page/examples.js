@@ -1,0 +1,69 @@
+// The list of examples.
+
+import { byId, html } from "./svg.js";
+import { change, exampleOf, state } from "./state.js";
+
+/** The programs of examples/: name, title, text, and the number of identifiers that a comment recommends, else 8. */
+export async function loadExamples() {
+  try {
+    const examples = await (await fetch("examples.json")).json();
+    return examples.map((example) => ({ ...example, ids: example.text.match(/^# Identifiers: (\d+)/m)?.[1] ?? "8" }));
+  } catch {
+    return [];
+  }
+}
+
+export function fillExamples(examples) {
+  const list = byId("examples");
+  const rounds = (text) => Number(text.match(/^\s*rounds\s+(\d+)/m)?.[1] ?? 0);
+  for (const example of examples) {
+    const count = rounds(example.text);
+    list.append(html("button", { type: "button", onclick: () => take(example, count) },
+      html("span", { class: "title" }, example.title),
+      html("span", { class: "aside" }, `${example.name} · ${count === 1 ? "1 round" : `${count} rounds`} · ${example.ids} identifiers`)));
+  }
+  const button = byId("examples-button");
+  list.addEventListener("beforetoggle", (event) => {
+    if (event.newState !== "open") return;
+    const box = button.getBoundingClientRect();
+    list.style.left = `${box.left}px`;
+    list.style.top = `${box.bottom + 6}px`;
+    list.style.maxHeight = `${Math.max(innerHeight - box.bottom - 24, 200)}px`;
+  });
+  list.addEventListener("toggle", (event) => {
+    if (event.newState === "open") (list.querySelector("[aria-current=true]") ?? list.firstElementChild)?.focus();
+  });
+  list.addEventListener("keydown", (event) => {
+    const by = { ArrowDown: 1, ArrowUp: -1 }[event.key];
+    if (!by) return;
+    event.preventDefault();
+    const items = [...list.children];
+    items[(items.indexOf(document.activeElement) + by + items.length) % items.length].focus();
+  });
+}
+
+export function showExample() {
+  const example = exampleOf(state.text);
+  byId("examples-button").title = example ? `${example.name}: ${example.title}` : "";
+  byId("example-name").textContent = example ? example.title.replace(/\.$/, "") : "Own program";
+  for (const item of byId("examples").children) {
+    item.setAttribute("aria-current", String(item.firstElementChild.textContent === example?.title));
+  }
+}
+
+/** Takes an example with its number of identifiers, and a new ring if the current one is no ring for it. */
+function take(example, rounds) {
+  byId("examples").hidePopover();
+  const ids = Number(example.ids);
+  const ring = state.ring.split(",").map(Number);
+  const fits = ring.length >= 2 * rounds + 2 && ring.every((identifier) => identifier < ids);
+  change({ text: example.text, ids: example.ids, ring: fits ? state.ring : spread(Math.max(2 * rounds + 2, Math.min(8, ids)), ids) }, { keep: true });
+}
+
+/** A ring of `n` identifiers below `ids`, not in ascending order. */
+function spread(n, ids) {
+  const step = [5, 7, 3, 11, 13, 1].find((candidate) => gcd(candidate, ids) === 1);
+  return Array.from({ length: n }, (_, i) => (2 + i * step) % ids).join(",");
+}
+
+const gcd = (a, b) => (b === 0 ? a : gcd(b, a % b));

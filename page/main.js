@@ -1,0 +1,106 @@
+// The page as a whole: after a change of the state the text is checked, and the open view is updated.
+
+import { byId } from "./svg.js";
+import { change, followAddress, link, onChange, state } from "./state.js";
+import { onEdit, showText } from "./editor.js";
+import { fillExamples, loadExamples, showExample } from "./examples.js";
+import { check } from "./view-check.js";
+import { startRun, stopRun, updateRun } from "./view-run.js";
+import { startJudge, updateJudge } from "./view-judge.js";
+import { startTable, updateTable } from "./view-table.js";
+import { startGraph, updateGraph } from "./view-graph.js";
+
+const VIEWS = { run: updateRun, judge: updateJudge, table: updateTable, graph: updateGraph };
+// The view that a value of the state belongs to. The text and the number of identifiers belong to all views.
+const USERS = { ring: "run", near: "judge", far: "judge", prefix: "table", arrange: "graph" };
+const PAUSE_MS = 250;
+
+let checked = null;
+let pause;
+
+function update(changed) {
+  showExample();
+  if (changed.has("view")) showView();
+  if (changed.has("text") || changed.has("ids")) {
+    checked = null;
+    showText(state.text);
+    if (byId("ids").value !== state.ids) byId("ids").value = state.ids;
+    clearTimeout(pause);
+    pause = setTimeout(checkAndUpdate, document.activeElement === byId("text") ? PAUSE_MS : 0);
+  } else if (checked && (changed.has("view") || [...changed].some((name) => USERS[name] === state.view))) {
+    VIEWS[state.view](checked);
+  }
+}
+
+async function checkAndUpdate() {
+  const result = await check(state);
+  if (result === undefined) return;
+  checked = result;
+  document.body.classList.toggle("accepted", !result.refusal);
+  VIEWS[state.view](checked);
+}
+
+function showView() {
+  if (state.view !== "run") stopRun();
+  for (const name of Object.keys(VIEWS)) {
+    const tab = byId(`tab-${name}`);
+    tab.setAttribute("aria-selected", String(name === state.view));
+    tab.tabIndex = name === state.view ? 0 : -1;
+    byId(name).hidden = name !== state.view;
+  }
+}
+
+function startTabs() {
+  const names = Object.keys(VIEWS);
+  for (const name of names) {
+    byId(`tab-${name}`).addEventListener("click", () => change({ view: name }));
+    byId(`tab-${name}`).addEventListener("keydown", (event) => {
+      const by = { ArrowLeft: -1, ArrowRight: 1 }[event.key];
+      if (!by) return;
+      const next = names[(names.indexOf(name) + by + names.length) % names.length];
+      change({ view: next });
+      byId(`tab-${next}`).focus();
+    });
+  }
+}
+
+function startTools() {
+  byId("copy-link").addEventListener("click", async ({ target }) => {
+    try {
+      await navigator.clipboard.writeText(link());
+      target.textContent = "Copied";
+    } catch {
+      target.textContent = "In the address";
+      location.replace(link());
+    }
+    setTimeout(() => (target.textContent = "Copy link"), 1600);
+  });
+  const system = matchMedia("(prefers-color-scheme: dark)");
+  const theme = byId("theme");
+  let dark = null;
+  const showTheme = () => {
+    const now = dark ?? system.matches;
+    document.documentElement.style.colorScheme = dark === null ? "" : now ? "dark" : "light";
+    theme.textContent = now ? "Light" : "Dark";
+  };
+  theme.addEventListener("click", () => {
+    dark = !(dark ?? system.matches);
+    showTheme();
+  });
+  system.addEventListener("change", showTheme);
+  showTheme();
+}
+
+onChange(update);
+onEdit((text) => change({ text }));
+byId("ids").addEventListener("input", (event) => change({ ids: event.target.value }));
+startTabs();
+startTools();
+startRun();
+startJudge();
+startTable();
+startGraph();
+const examples = await loadExamples();
+fillExamples(examples);
+followAddress(examples);
+showView();

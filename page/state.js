@@ -1,0 +1,81 @@
+// The state of the page. It is kept in the fragment of the address, so that a link can carry an exercise.
+
+const DEFAULTS = { view: "run", ids: "8", ring: "5,1,3,7", near: "1", far: "0", prefix: "", arrange: "channel" };
+const VIEWS = ["run", "judge", "table", "graph"];
+
+export const state = { ...DEFAULTS, text: "" };
+
+const listeners = [];
+let examples = [];
+let written = "";
+let timer;
+let first = true; // before the first change nothing is shown, so all values count as changed
+
+/** Calls `listener` after each change with the set of the changed names. */
+export function onChange(listener) {
+  listeners.push(listener);
+}
+
+/** Changes some values. With `keep` the change is an entry of the history, so that the browser's Back undoes it. */
+export function change(values, { keep = false } = {}) {
+  const changed = new Set(Object.keys(values).filter((name) => state[name] !== values[name] || first));
+  first = false;
+  if (changed.size === 0) return;
+  if (keep) write(true);
+  Object.assign(state, values);
+  for (const listener of listeners) listener(changed);
+  clearTimeout(timer);
+  if (keep) write(true);
+  else timer = setTimeout(write, 300);
+}
+
+/** Reads the state from the address, now and after each change of it. */
+export function followAddress(knownExamples) {
+  examples = knownExamples;
+  addEventListener("hashchange", () => {
+    if (location.hash !== written) read();
+  });
+  addEventListener("popstate", () => {
+    if (location.hash !== written) read();
+  });
+  read();
+}
+
+/** The address of the page in its current state. */
+export function link() {
+  return location.href.split("#")[0] + fragment();
+}
+
+export const exampleOf = (text) => examples.find((example) => example.text === text);
+
+function read() {
+  const said = Object.fromEntries(new URLSearchParams(location.hash.slice(1)));
+  const values = {};
+  for (const name of Object.keys(DEFAULTS)) values[name] = said[name] ?? DEFAULTS[name];
+  if (!VIEWS.includes(values.view)) values.view = DEFAULTS.view;
+  const example = examples.find(({ name }) => name === (said.example ?? "cv1.txt"));
+  values.text = said.text ?? example?.text ?? "";
+  written = location.hash;
+  change(values);
+}
+
+function write(asNewEntry = false) {
+  const address = fragment();
+  if (address === location.hash) return;
+  written = address;
+  history[asNewEntry ? "pushState" : "replaceState"](null, "", address);
+}
+
+function fragment() {
+  const example = exampleOf(state.text);
+  const parts = Object.entries(DEFAULTS)
+    .filter(([name, value]) => ["view", "ids", "ring"].includes(name) || state[name] !== value)
+    .map(([name]) => `${name}=${escape(state[name])}`);
+  parts.push(example ? `example=${escape(example.name)}` : `text=${escape(state.text)}`);
+  return "#" + parts.join("&");
+}
+
+/** Percent-encoding that leaves `,`, `=`, `?`, `/` and `:` readable, which a fragment may have. */
+function escape(value) {
+  return encodeURIComponent(value).replace(/%20/g, "+").replace(/%(2C|3D|3F|2F|3A)/g, decodeURIComponent);
+}

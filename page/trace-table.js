@@ -1,0 +1,39 @@
+// The trace as an HTML table, with a column for each place and a row for each line.
+
+import { html } from "./svg.js";
+import { badgeImage } from "./channels.js";
+
+export function showTrace(box, ring, steps, go, highlight) {
+  const rows = [];
+  const row = (step, name, values, kind = "") => {
+    const head = html("th", { scope: "row" }, html("button", { type: "button", onclick: () => go(step) }, name));
+    rows.push(html("tr", { "data-step": step, class: kind }, head, values.map((value, place) => html("td", { "data-place": place }, value))));
+  };
+  steps.forEach((step, i) => {
+    const texts = (values) => values.map(String);
+    if (step.kind === "start") step.registers.forEach((values, j) => row(i, `start r${j}`, texts(values), j ? "" : "first"));
+    if (step.kind === "send") {
+      row(i, `round ${step.round} left`, texts(step.left), "first sent");
+      row(i, `round ${step.round} right`, texts(step.right), "sent");
+    }
+    if (step.kind === "assign") step.registers.forEach((values, j) => row(i, `round ${step.round} r${j}`, texts(values)));
+    if (step.kind === "finish") row(i, "finish", step.channels.map(badgeImage), "first");
+  });
+  const head = html("tr", {}, html("th", { scope: "row" }, "node"),
+    ring.map((identifier, place) => html("th", { scope: "col", "data-place": place }, String(identifier))));
+  const table = html("table", {}, html("thead", {}, head), html("tbody", {}, rows));
+  table.addEventListener("pointerover", (event) => {
+    const place = event.target.closest("[data-place]")?.dataset.place;
+    highlight(place === undefined ? null : Number(place));
+  });
+  table.addEventListener("pointerleave", () => highlight(null));
+  box.replaceChildren(table);
+}
+
+export function markStep(box, step) {
+  for (const row of box.querySelectorAll("tr[data-step]")) row.classList.toggle("now", Number(row.dataset.step) === step);
+}
+
+export function markPlace(box, place) {
+  for (const cell of box.querySelectorAll("[data-place]")) cell.classList.toggle("here", Number(cell.dataset.place) === place);
+}

@@ -1,0 +1,51 @@
+// Reading the lines of `nbhd trace` as steps.
+
+/**
+ * The steps `{ kind, round, registers, left, right, channels }` of a trace: the start, a step that sends and one that assigns for
+ * each round, and the finish. `registers[j][p]` is register `j` at place `p`.
+ */
+export function stepsOf(text) {
+  const rows = text.trim().split("\n").map((line) => line.split(" "));
+  const numbers = (row, from) => row.slice(from).map(Number);
+  const start = rows.filter((row) => row[0] === "start").map((row) => numbers(row, 2));
+  const steps = [{ kind: "start", round: 0, registers: start }];
+  for (let round = 1; ; round += 1) {
+    const own = rows.filter((row) => row[0] === "round" && Number(row[1]) === round);
+    if (own.length === 0) break;
+    const sent = (way) => numbers(own.find((row) => row[2] === way), 3);
+    const before = steps.at(-1).registers;
+    const [left, right] = [sent("left"), sent("right")];
+    const after = own.filter((row) => /^r\d$/.test(row[2])).map((row) => numbers(row, 3));
+    steps.push({ kind: "send", round, registers: before, left, right });
+    steps.push({ kind: "assign", round, registers: after, before, left, right });
+  }
+  const finish = rows.find((row) => row[0] === "finish");
+  steps.push({ kind: "finish", round: steps.at(-1).round, registers: steps.at(-1).registers, channels: numbers(finish, 1) });
+  return steps;
+}
+
+export const nameOf = (step) =>
+  ({ start: "start", send: `${step.round} send`, assign: `${step.round} assign`, finish: "finish" })[step.kind];
+
+/** A sentence on what happens in a step. */
+export function sentenceOf(step, ring) {
+  if (step.kind === "start") return "Each node knows its own identifier alone; start gives its registers.";
+  if (step.kind === "send") {
+    return `Round ${step.round}: each node sends one value to the right, outside, and one to the left, inside.`;
+  }
+  if (step.kind === "assign") {
+    const seen = Math.min(2 * step.round + 1, ring.length);
+    return `Round ${step.round}: with what came from both sides each node assigns its registers. They follow from the ${seen} identifiers within distance ${step.round}.`;
+  }
+  const pairs = equalPairs(step.channels);
+  if (pairs.length === 0) return "finish gives the channels. On this ring neighbours’ channels differ.";
+  const [p] = pairs;
+  const [a, b] = [ring[p], ring[(p + 1) % ring.length]];
+  const more = pairs.length > 1 ? `, and so have ${pairs.length - 1} other pairs` : "";
+  return `finish gives the channels. The neighbours ${a} and ${b} have one channel${pairs.length === 2 ? ", and so has 1 other pair" : more}.`;
+}
+
+/** The places whose right neighbour has the same channel. */
+export function equalPairs(channels) {
+  return channels.flatMap((channel, p) => (channel === channels[(p + 1) % channels.length] ? [p] : []));
+}

@@ -1,0 +1,62 @@
+// Check: whether the text is accepted for the number of identifiers, shown below the text while one types.
+
+import { ask } from "./ask.js";
+import { byId, html } from "./svg.js";
+import { goToFault, markFault } from "./editor.js";
+import { readRefusal } from "./faults.js";
+
+const box = byId("check");
+
+/** Checks a text and shows the result. Resolves to `{ accepted }` or `{ refusal }`, or to `undefined` if a newer check replaced it. */
+export async function check({ text, ids }) {
+  box.classList.add("pending");
+  const answer = await ask("check", "check", { ids }, text);
+  if (answer === undefined) return undefined;
+  box.classList.remove("pending");
+  if (answer.status === 0) {
+    markFault(null);
+    const accepted = readAccepted(answer.out);
+    showAccepted(accepted);
+    return { accepted };
+  }
+  const refusal = readRefusal(answer, text);
+  markFault(refusal.at);
+  showRefusal(refusal);
+  return { refusal };
+}
+
+function readAccepted(out) {
+  const words = out.trim().split(" ").slice(1);
+  const accepted = {};
+  for (let i = 0; i + 1 < words.length; i += 2) accepted[words[i]] = Number(words[i + 1]);
+  return accepted;
+}
+
+function showAccepted({ ids, rounds, channels, bound, windows }) {
+  const fact = (name, value, what) =>
+    html("div", { title: what }, html("dt", {}, name), html("dd", {}, value.toLocaleString("en")));
+  box.className = "check good";
+  box.replaceChildren(
+    html("p", { class: "headline" }, html("strong", {}, "Accepted"), ` for ${ids.toLocaleString("en")} identifiers.`),
+    html("dl", { class: "facts" },
+      fact("rounds", rounds),
+      fact("channels", channels, "channels are below this number"),
+      fact("bound", bound, "no channel is greater on any ring"),
+      fact("windows", windows, `lists of ${2 * rounds + 1} distinct identifiers`)),
+  );
+}
+
+function showRefusal({ code, line, note, at }) {
+  box.className = "check bad";
+  const place = at && html("button", { type: "button", class: "place", onclick: goToFault }, `line ${at.row}, column ${at.column}`);
+  box.replaceChildren(
+    html("p", { class: "headline" }, html("strong", {}, code ?? "Refused"), place && [" at ", place],
+      html("code", { class: "line" }, line)),
+    ...(note ? [html("p", { class: "note" }, ...coded(note))] : []),
+  );
+}
+
+/** A sentence with its parts in backquotes as code. */
+function coded(sentence) {
+  return sentence.split("`").map((part, i) => (i % 2 ? html("code", {}, part) : part));
+}

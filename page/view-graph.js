@@ -1,0 +1,173 @@
+// Graph: the neighbourhood graph. Its vertices are the windows, and its edges go from each window to those of the right neighbour.
+// Neighbours' channels differ on every ring exactly if no edge joins two windows of one channel.
+
+import { ask, drop } from "./ask.js";
+import { byId, html, point, svg } from "./svg.js";
+import { change, state } from "./state.js";
+import { badge, badgeImage } from "./channels.js";
+import { edgesOf, readTable } from "./table.js";
+import { readRefusal } from "./faults.js";
+
+const MOST = 120;
+const drawing = byId("drawing");
+const sentence = byId("graph-say");
+
+export async function updateGraph(checked) {
+  for (const choice of byId("arrange").querySelectorAll("input")) choice.checked = choice.value === state.arrange;
+  drop("table");
+  if (checked.refusal) return showNothing("The program is not accepted yet: see below its text.");
+  const { windows, rounds } = checked.accepted;
+  if (windows > MOST) {
+    return showNothing(`${windows.toLocaleString("en")} windows are too many to draw: at most ${MOST} can be. ${advice(rounds)}`);
+  }
+  const answer = await ask("table", "table", { ids: state.ids }, state.text);
+  if (answer === undefined) return undefined;
+  if (answer.status !== 0) return showNothing(readRefusal(answer, state.text).line);
+  return show(readTable(answer.out));
+}
+
+function advice(rounds) {
+  if (rounds === 0) return `Take at most ${MOST} identifiers.`;
+  return rounds === 1 ? "Take 4, 5 or 6 identifiers." : "A program of one round with 4, 5 or 6 identifiers has few enough.";
+}
+
+function showNothing(why) {
+  sentence.textContent = why;
+  sentence.className = "say refused";
+  drawing.replaceChildren();
+  byId("edges").replaceChildren();
+}
+
+function show(table) {
+  const edges = edgesOf(table);
+  const equal = edges.filter(([a, b]) => table.channels[a] === table.channels[b]);
+  sentence.className = "say";
+  sentence.textContent = `${table.windows.length} windows, ${edges.length.toLocaleString("en")} edges. `
+    + (equal.length ? `${equal.length.toLocaleString("en")} join two windows of one channel.` : "None joins two windows of one channel.");
+  const cycles = byId("arrange").querySelector("[value=cycle]");
+  // With 2t+2 identifiers each window has one successor, so the graph consists of disjoint cycles.
+  cycles.disabled = table.ids !== 2 * table.rounds + 2;
+  const arrange = cycles.disabled && state.arrange === "cycle" ? "channel" : state.arrange;
+  byId("arrange").querySelector(`[value=${arrange}]`).checked = true;
+  const places = arrange === "cycle" ? cyclePlaces(edges) : circlePlaces(table, arrange);
+  drawing.replaceChildren(draw(table, edges, places));
+  showEqual(table, equal);
+}
+
+/** All windows on one circle, in their order, or by channel with a gap between channels. */
+function circlePlaces({ windows, channels }, arrange) {
+  const order = windows.map((_, i) => i);
+  if (arrange === "channel") order.sort((a, b) => channels[a] - channels[b] || a - b);
+  const groups = arrange === "channel" ? new Set(channels).size : 0;
+  const gap = groups > 1 ? 1.2 : 0;
+  const total = windows.length + gap * groups;
+  const radius = Math.max(150, (total * 15.5) / (2 * Math.PI));
+  const at = [];
+  let turn = gap / 2;
+  order.forEach((i, k) => {
+    if (gap && k > 0 && channels[i] !== channels[order[k - 1]]) turn += gap;
+    at[i] = { turn: (turn + 0.5) / total, centre: [0, 0], radius };
+    turn += 1;
+  });
+  const reach = radius + 24 + 7 * windows[0].length;
+  return { at, width: 2 * reach, height: 2 * reach, left: -reach, top: -reach, bend: 0.35 };
+}
+
+/** Each cycle of the graph on its own circle. */
+function cyclePlaces(edges) {
+  const after = new Map(edges);
+  const seen = new Set();
+  const cycles = [];
+  for (const start of after.keys()) {
+    const cycle = [];
+    for (let i = start; !seen.has(i); i = after.get(i)) {
+      seen.add(i);
+      cycle.push(i);
+    }
+    if (cycle.length) cycles.push(cycle);
+  }
+  const columns = Math.ceil(Math.sqrt(cycles.length * 1.5));
+  const side = 216;
+  const at = [];
+  cycles.forEach((cycle, k) => {
+    const centre = [(k % columns) * side, Math.floor(k / columns) * side];
+    cycle.forEach((i, j) => (at[i] = { turn: j / cycle.length, centre, radius: 46 }));
+  });
+  return { at, width: columns * side, height: Math.ceil(cycles.length / columns) * side, left: -side / 2, top: -side / 2, bend: -0.7 };
+}
+
+function draw({ windows, channels }, edges, { at, width, height, left, top, bend }) {
+  const image = svg("svg", { class: "graph", viewBox: `${left} ${top} ${width} ${height}`, width, height, role: "img",
+    "aria-label": `Neighbourhood graph of ${windows.length} windows` });
+  const spot = ({ turn, centre, radius }, more = 0) => {
+    const [x, y] = point(turn, radius + more);
+    return [centre[0] + x, centre[1] + y];
+  };
+  const small = windows.length > 30 ? 5.8 : 9;
+  const lines = { plain: svg("g", { class: "edges" }), equal: svg("g", { class: "edges equal" }) };
+  const drawn = edges.map(([a, b]) => {
+    const line = drawEdge(spot(at[a]), spot(at[b]), at[a].centre, { off: small + 4, bend, headed: edges.length <= 80 });
+    lines[channels[a] === channels[b] ? "equal" : "plain"].append(line);
+    return { a, b, line };
+  });
+  const points = svg("g", { class: "points" });
+  windows.forEach((window, i) => {
+    const [x, y] = spot(at[i]);
+    const group = svg("g", { class: "point" });
+    group.append(badge(channels[i], x, y, small), pointLabel(window, at[i], spot(at[i], small + 6), windows.length > 30));
+    group.append(svg("title", {}, `${window} : ${channels[i]}`));
+    const mark = (on) => {
+      image.classList.toggle("asked", on);
+      group.classList.toggle("on", on);
+      for (const { a, b, line } of drawn) if (a === i || b === i) line.classList.toggle(a === i ? "out" : "in", on);
+    };
+    group.addEventListener("pointerenter", () => mark(true));
+    group.addEventListener("pointerleave", () => mark(false));
+    points.append(group);
+  });
+  image.append(lines.plain, lines.equal, points);
+  return image;
+}
+
+/** An arrow between two points, bent towards the centre, or away from it if `bend` is negative. */
+function drawEdge([x1, y1], [x2, y2], [cx, cy], { off, bend, headed }) {
+  const [mx, my] = [(x1 + x2) / 2, (y1 + y2) / 2];
+  const [qx, qy] = [mx + (cx - mx) * bend, my + (cy - my) * bend];
+  const cut = (x, y) => {
+    const far = Math.hypot(qx - x, qy - y) || 1;
+    return [x + ((qx - x) * off) / far, y + ((qy - y) * off) / far];
+  };
+  const [[ax, ay], [bx, by]] = [cut(x1, y1), cut(x2, y2)];
+  const group = svg("g", { class: headed ? "edge headed" : "edge" });
+  group.append(svg("path", { class: "edge-line", d: `M${ax.toFixed(1)} ${ay.toFixed(1)}Q${qx.toFixed(1)} ${qy.toFixed(1)} ${bx.toFixed(1)} ${by.toFixed(1)}` }));
+  if (headed) {
+    const angle = (Math.atan2(by - qy, bx - qx) * 180) / Math.PI;
+    group.append(svg("path", { class: "edge-head", d: "M-7 -3.2L0 0L-7 3.2Z", transform: `translate(${bx.toFixed(1)} ${by.toFixed(1)}) rotate(${angle.toFixed(1)})` }));
+  }
+  return group;
+}
+
+function pointLabel(window, { turn }, [x, y], along) {
+  const left = turn > 0.5;
+  if (along) {
+    return svg("text", { class: "window-name", "text-anchor": left ? "end" : "start",
+      transform: `translate(${x} ${y}) rotate(${turn * 360 - 90 + (left ? 180 : 0)})` }, window);
+  }
+  const [dx, dy] = point(turn, 1);
+  const anchor = Math.abs(dx) < 0.3 ? "middle" : dx > 0 ? "start" : "end";
+  return svg("text", { class: "window-name", x, y: y + dy * 5, "text-anchor": anchor }, window);
+}
+
+function showEqual({ windows, channels }, equal) {
+  if (equal.length === 0) return byId("edges").replaceChildren();
+  return byId("edges").replaceChildren(
+    html("h3", {}, "Edges between equal channels"),
+    html("ul", { class: "equal-edges" }, equal.slice(0, 24).map(([a, b]) =>
+      html("li", {}, html("span", { class: "code" }, `${windows[a]} → ${windows[b]}`), badgeImage(channels[a])))),
+    equal.length > 24 ? html("p", { class: "aside" }, `and ${(equal.length - 24).toLocaleString("en")} more`) : "",
+  );
+}
+
+export function startGraph() {
+  byId("arrange").addEventListener("change", (event) => change({ arrange: event.target.value }));
+}

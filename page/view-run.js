@@ -1,0 +1,226 @@
+// Run: the drawing of a ring, and the steps of its run.
+
+import { ask, drop } from "./ask.js";
+import { byId, html } from "./svg.js";
+import { change, state } from "./state.js";
+import { drawRing, drawWindow, say } from "./ring.js";
+import { drawMessages } from "./messages.js";
+import { allowDragging, dragIn } from "./drag.js";
+import { nameOf, sentenceOf, stepsOf } from "./trace.js";
+import { showTrace, markStep, markPlace } from "./trace-table.js";
+import { fillTray } from "./tray.js";
+import { readRefusal } from "./faults.js";
+
+const STEP_MS = 1500;
+const stage = byId("stage");
+const timeline = byId("timeline");
+const refused = byId("run-refused");
+
+let steps = null; // of the ring that is shown, or `null` while it has no run
+let at = 0;
+let count = 0; // the number of steps of the last run
+let register = 0;
+let digits = [1, 1]; // the most digits of labels and of messages, so that all steps have the same size
+let drawing = null;
+let player = 0;
+
+/** The identifiers of a ring text, or `null` if it cannot be drawn. */
+export function readRing(text) {
+  const parts = text.split(",");
+  return parts.every((part) => /^[0-9]{1,10}$/.test(part)) ? parts.map(Number) : null;
+}
+
+export async function updateRun(checked) {
+  pause();
+  if (byId("ring").value !== state.ring) byId("ring").value = state.ring;
+  const ring = readRing(state.ring) ?? [];
+  fillTray(ring, Number(state.ids), (identifier) => edit([...ring, identifier]),
+    (event, identifier) => drawing && dragIn(event, drawing, ring, identifier, edit));
+  drop("run");
+  byId("run").classList.remove("pending");
+  if (checked.refusal) return showRefused("The program is not accepted yet: see below its text.");
+  // The ring of the state is drawn at once, and its run when it is known.
+  steps = null;
+  show();
+  byId("run").classList.add("pending");
+  const answer = await ask("run", "trace", { ids: state.ids, ring: state.ring }, state.text);
+  if (answer === undefined) return undefined;
+  byId("run").classList.remove("pending");
+  if (answer.status !== 0) {
+    const { line, note } = readRefusal(answer, state.text);
+    showRefused([line, note].filter(Boolean).join(" – "));
+    const places = line.match(/^ring fault \w+ places? ([\d ]+)$/)?.[1].split(" ") ?? [];
+    for (const place of places) drawing?.nodes[place]?.classList.add("faulty");
+    return undefined;
+  }
+  refused.hidden = true;
+  steps = stepsOf(answer.out);
+  // The same step stays open after an edit of the ring.
+  if (steps.length !== count) at = steps.length - 1;
+  count = steps.length;
+  register = Math.min(register, steps[0].registers.length - 1);
+  fillTimeline();
+  fillRegisters();
+  showTrace(byId("trace"), readRing(state.ring), steps, go, highlight);
+  return show();
+}
+
+/** Shows the ring without a run, and why. */
+function showRefused(why) {
+  steps = null;
+  refused.textContent = why;
+  refused.hidden = false;
+  byId("trace").replaceChildren();
+  timeline.replaceChildren();
+  byId("shown-register").hidden = true;
+  show();
+}
+
+function show({ moving = false } = {}) {
+  const ring = readRing(state.ring);
+  const step = steps?.[at];
+  stage.classList.toggle("idle", !step);
+  for (const name of ["back", "play", "forward"]) byId(name).disabled = !step;
+  byId("run-say").textContent = step ? sentenceOf(step, ring) : "";
+  drawing = null;
+  if (!ring) return stage.replaceChildren();
+  if (steps) {
+    const most = (lists) => Math.max(0, ...lists.flat().map((value) => String(value).length));
+    digits = [most(steps.map(({ registers }) => registers[register])), most(steps.flatMap(({ left, right }) => (left ? [left, right] : [])))];
+  }
+  const focused = stage.contains(document.activeElement) ? document.activeElement.dataset.place : undefined;
+  drawing = drawRing({
+    ring, channels: step?.channels, digits: digits[0], sentDigits: digits[1],
+    labels: step ? step.registers[register].map(String) : undefined,
+    label: step ? `Ring of ${ring.length} nodes, ${nameOf(step)}` : `Ring of ${ring.length} nodes`,
+  });
+  stage.replaceChildren(drawing.image);
+  drawing.nodes.forEach((node, place) => describe(node, place, ring, step));
+  if (step) showStep(step, moving);
+  allowDragging(drawing, ring, edit);
+  drawing.nodes[focused]?.focus();
+  return undefined;
+}
+
+function showStep(step, moving) {
+  const caption = { start: ["start", ""], send: [`round ${step.round}`, "send"], assign: [`round ${step.round}`, "assign"], finish: ["finish", ""] };
+  const [big, small] = caption[step.kind];
+  say(drawing.layers.centre, small ? [[big, "centre-big"], [small, "centre-small"]] : [[big, "centre-big"]]);
+  if (step.kind === "send" || (step.kind === "assign" && moving)) drawMessages(drawing, step, moving);
+  if (step.kind === "assign") {
+    drawing.nodes.forEach((node, place) => {
+      const changed = step.registers[register][place] !== step.before[register][place];
+      node.querySelector(".label")?.classList.toggle("changed", changed);
+    });
+  }
+  timeline.querySelectorAll("button").forEach((button, i) => button.setAttribute("aria-current", i === at ? "step" : "false"));
+  const current = timeline.children[at];
+  if (current) timeline.scrollLeft = current.offsetLeft - (timeline.clientWidth - current.clientWidth) / 2;
+  markStep(byId("trace"), at);
+}
+
+/** Gives a node its description for screen readers, and its keys. */
+function describe(node, place, ring, step) {
+  const held = step ? step.registers.map((values, j) => `r${j} ${values[place]}`).join(", ") : "";
+  const channel = step?.channels ? `, channel ${step.channels[place]}` : "";
+  node.setAttribute("tabindex", "0");
+  node.setAttribute("role", "button");
+  node.setAttribute("aria-label", `Node ${ring[place]} at place ${place}: ${held}${channel}. Delete takes it out, Shift with arrows moves it.`);
+  node.addEventListener("pointerenter", () => highlight(place));
+  node.addEventListener("pointerleave", () => highlight(null));
+  node.addEventListener("focus", () => highlight(place));
+  node.addEventListener("blur", () => highlight(null));
+  node.addEventListener("keydown", (event) => {
+    const by = { ArrowLeft: -1, ArrowRight: 1 }[event.key];
+    if (event.key === "Delete" || event.key === "Backspace") edit(ring.toSpliced(place, 1), place % (ring.length - 1 || 1));
+    else if (by && event.shiftKey) {
+      const to = (place + by + ring.length) % ring.length;
+      edit(ring.toSpliced(place, 1).toSpliced(to, 0, ring[place]), to);
+    } else return;
+    event.preventDefault();
+    event.stopPropagation();
+  });
+}
+
+/** Shows the window that the node at a place has heard of so far. */
+function highlight(place) {
+  if (drawing?.image.classList.contains("dragging")) return;
+  drawing?.layers.under.replaceChildren();
+  markPlace(byId("trace"), place);
+  const step = steps?.[at];
+  if (place === null || !step || !drawing) return;
+  const t = step.kind === "send" ? step.round - 1 : step.round;
+  if (2 * t + 1 > drawing.size.n) return;
+  drawing.layers.under.append(drawWindow(drawing.size, place, t, 0, "known"));
+}
+
+function edit(ring, focusPlace) {
+  if (ring.join(",") === state.ring) show();
+  else change({ ring: ring.join(",") });
+  if (focusPlace !== undefined) drawing?.nodes[focusPlace]?.focus();
+}
+
+function go(step, moving = false) {
+  if (!steps || step < 0 || step >= steps.length) return;
+  at = step;
+  show({ moving });
+}
+
+function play() {
+  if (player) return pause();
+  if (!steps) return undefined;
+  if (at === steps.length - 1) go(0);
+  byId("play").textContent = "Pause";
+  player = setInterval(() => {
+    go(at + 1, true);
+    if (!steps || at === steps.length - 1) pause();
+  }, STEP_MS);
+  return undefined;
+}
+
+function pause() {
+  clearInterval(player);
+  player = 0;
+  byId("play").textContent = "Play";
+}
+
+function fillTimeline() {
+  timeline.replaceChildren(...steps.map((step, i) =>
+    html("li", {}, html("button", { type: "button", onclick: () => { pause(); go(i, i === at + 1); } }, nameOf(step)))));
+}
+
+function fillRegisters() {
+  const box = byId("shown-register");
+  const count = steps[0].registers.length;
+  box.hidden = count < 2;
+  box.querySelector("select").replaceChildren(...Array.from({ length: count }, (_, j) =>
+    html("option", { value: j, selected: j === register }, `r${j}`)));
+}
+
+export function startRun() {
+  byId("back").addEventListener("click", () => { pause(); go(at - 1); });
+  byId("forward").addEventListener("click", () => { pause(); go(at + 1, true); });
+  byId("play").addEventListener("click", play);
+  byId("shown-register").addEventListener("change", (event) => { register = Number(event.target.value); show(); });
+  byId("ring").addEventListener("input", (event) => change({ ring: event.target.value.trim() }));
+  byId("random").addEventListener("click", randomRing);
+  stage.addEventListener("keydown", (event) => {
+    if (event.target !== stage) return;
+    if (event.key === "ArrowRight") { pause(); go(at + 1, true); }
+    else if (event.key === "ArrowLeft") { pause(); go(at - 1); }
+    else if (event.key === " ") play();
+    else return;
+    event.preventDefault();
+  });
+}
+
+export const stopRun = pause;
+
+function randomRing() {
+  const ids = Math.min(Math.max(Number(state.ids) || 0, 1), 1024);
+  const size = Math.min(Math.max(Number(byId("random-size").value) || 1, 1), ids);
+  const left = Array.from({ length: ids }, (_, i) => i);
+  const ring = Array.from({ length: size }, () => left.splice(Math.floor(Math.random() * left.length), 1)[0]);
+  byId("random-size").value = size;
+  change({ ring: ring.join(",") });
+}

@@ -1,0 +1,101 @@
+// Table: the windows with their channels, how often each channel occurs, and the text to save.
+
+import { ask, drop } from "./ask.js";
+import { byId, html } from "./svg.js";
+import { change, exampleOf, state } from "./state.js";
+import { badgeImage, colourOf } from "./channels.js";
+import { countChannels, readTable } from "./table.js";
+import { readRefusal } from "./faults.js";
+
+const SHOWN = 240;
+const BARS = 40;
+const refused = byId("table-refused");
+
+let text = "";
+let table = null;
+
+export async function updateTable(checked) {
+  if (byId("prefix").value !== state.prefix) byId("prefix").value = state.prefix;
+  drop("table");
+  if (checked.refusal) return showNothing("The program is not accepted yet: see below its text.");
+  const slow = setTimeout(() => showNothing("nbhd fills the table…"), 400);
+  const answer = await ask("table", "table", { ids: state.ids }, state.text);
+  clearTimeout(slow);
+  if (answer === undefined) return undefined;
+  if (answer.status !== 0) {
+    const refusal = readRefusal(answer, state.text);
+    return showNothing(answer.refused ? `${answer.refused}. Take fewer identifiers to see the table here.` : refusal.line);
+  }
+  refused.hidden = true;
+  byId("save").disabled = false;
+  if (text !== answer.out) {
+    text = answer.out;
+    table = readTable(text);
+    showHistogram();
+  }
+  return showWindows();
+}
+
+function showNothing(why) {
+  text = "";
+  table = null;
+  refused.textContent = why;
+  refused.hidden = false;
+  byId("save").disabled = true;
+  for (const id of ["histogram", "windows", "table-say"]) byId(id).replaceChildren();
+}
+
+function showHistogram() {
+  const counts = countChannels(table.channels);
+  const most = Math.max(...counts.map(([, count]) => count));
+  const bars = counts.slice(0, BARS).map(([channel, count]) => {
+    const bar = html("span", { class: "bar-fill" });
+    bar.style.width = `${(100 * count) / most}%`;
+    bar.style.backgroundColor = colourOf(channel);
+    const share = ((100 * count) / table.windows.length).toFixed(1);
+    return html("li", {}, badgeImage(channel), html("span", { class: "bar-room" }, bar),
+      html("span", { class: "count" }, count.toLocaleString("en")), html("span", { class: "share" }, `${share} %`));
+  });
+  byId("histogram").replaceChildren(
+    html("ol", { "aria-label": "How many windows have each channel" }, bars),
+    counts.length > BARS ? html("p", { class: "aside" }, `and ${counts.length - BARS} more channels`) : "",
+  );
+}
+
+function showWindows() {
+  if (!table) return;
+  const wanted = state.prefix.trim().split(/[\s,]+/).filter(Boolean);
+  const found = [];
+  let count = 0;
+  table.windows.forEach((window, i) => {
+    if (wanted.length && !begins(window.split(" "), wanted)) return;
+    count += 1;
+    if (found.length < SHOWN) found.push(i);
+  });
+  const all = table.windows.length.toLocaleString("en");
+  byId("table-say").textContent = wanted.length
+    ? `${count.toLocaleString("en")} of ${all} windows begin with ${wanted.join(" ")}${count > SHOWN ? `; the first ${SHOWN} are shown` : ""}.`
+    : `${all} windows${count > SHOWN ? `; the first ${SHOWN} are shown` : ""}. The middle identifier is the node itself.`;
+  const width = 8.2 * Math.max(...found.map((i) => table.windows[i].length), 5) + 40;
+  byId("windows").replaceChildren(html("ul", { style: { columnWidth: `${width}px` } }, found.map((i) => {
+    const identifiers = table.windows[i].split(" ");
+    const middle = (identifiers.length - 1) / 2;
+    return html("li", {},
+      html("span", { class: "code" }, identifiers.flatMap((identifier, j) => [j === middle ? html("b", {}, identifier) : identifier, " "])),
+      badgeImage(table.channels[i]));
+  })));
+}
+
+const begins = (identifiers, wanted) => wanted.every((identifier, i) => identifiers[i] === identifier);
+
+function save() {
+  const name = (exampleOf(state.text)?.name ?? "program.txt").replace(/\.txt$/, "");
+  const address = URL.createObjectURL(new Blob([text], { type: "text/plain" }));
+  html("a", { href: address, download: `${name}-ids${state.ids}.table.txt` }).click();
+  setTimeout(() => URL.revokeObjectURL(address), 10000);
+}
+
+export function startTable() {
+  byId("prefix").addEventListener("input", (event) => change({ prefix: event.target.value }));
+  byId("save").addEventListener("click", save);
+}
