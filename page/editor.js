@@ -36,6 +36,15 @@ export function markFault(place) {
   fault = place ? { row: before.length - 1, column: before.at(-1).length } : null;
   area.setAttribute("aria-invalid", fault !== null);
   draw();
+  // While one types, the cursor decides what is visible.
+  if (document.activeElement !== area) scrollToFault();
+}
+
+function scrollToFault() {
+  const mark = ink.querySelector(".fault");
+  if (!mark) return;
+  const below = mark.offsetTop - box.scrollTop;
+  if (below < 0 || below > box.clientHeight - 40) box.scrollTop = mark.offsetTop - box.clientHeight / 2;
 }
 
 export function goToFault() {

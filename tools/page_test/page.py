@@ -1,0 +1,60 @@
+"""The page in the browser, as the views' tests use it."""
+
+import json
+from urllib.parse import quote
+
+from steps import STEPS
+
+
+class Page:
+    def __init__(self, browser, server):
+        self.browser, self.url = browser, f"http://{server.own}/"
+
+    def value(self, expression):
+        """The value of a JavaScript expression in the page."""
+        return self.browser.value(expression)
+
+    def open(self, **state):
+        fragment = "&".join(f"{name}={quote(value, safe=',')}" for name, value in state.items())
+        self.browser.open(f"{self.url}#{fragment}")
+
+    def texts(self, selector):
+        """The texts of the visible elements that match."""
+        return self.value(f"[...document.querySelectorAll(`{selector}`)].filter(e => e.checkVisibility()).map(e => e.textContent)")
+
+    def text(self, selector):
+        return " ".join(self.texts(selector))
+
+    def count(self, selector):
+        return self.value(f"document.querySelectorAll(`{selector}`).length")
+
+    def focus(self, selector):
+        self.value(f"document.querySelector(`{selector}`).focus()")
+
+    def click(self, selector):
+        self.value(f"document.querySelector(`{selector}`).click()")
+
+    def middle(self, selector):
+        """The point in the middle of an element."""
+        rectangle = f"document.querySelector(`{selector}`).getBoundingClientRect()"
+        return self.value(f"(r => [r.x + r.width / 2, r.y + r.height / 2])({rectangle})")
+
+    def wait(self, name, expression):
+        """A step that passes when the expression becomes true."""
+        STEPS.check(name, self.browser.until(expression), f"- {expression}: {self.text('.check')} | {self.text('.refused')}")
+
+    def wait_ring(self, name, ring):
+        """Waits until the run view has this ring and its channels."""
+        badges = f"document.querySelectorAll('#stage .badge').length === {len(ring.split(','))}"
+        self.wait(name, f"document.querySelector('#ring').value === '{ring}' && {badges}")
+
+    def fill(self, selector, value):
+        """Gives a field a value, as typing does."""
+        self.value(
+            f"(e => {{ e.focus(); e.value = {json.dumps(value)}; e.dispatchEvent(new Event('input', {{ bubbles: true }})); }})"
+            f"(document.querySelector(`{selector}`))"
+        )
+
+    def call(self, module, expression):
+        """The value of an expression over a module `m` of the page."""
+        return self.value(f"import('/{module}').then((m) => JSON.stringify({expression})).then(JSON.parse)")

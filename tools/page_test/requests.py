@@ -1,0 +1,209 @@
+"""Good and hostile requests to nbhd-page."""
+
+import json
+import os
+import re
+import socket
+import subprocess
+import sys
+import threading
+import time
+from pathlib import Path
+
+from server import Server
+from steps import CV1, PROGRAM, ROOT, STEPS
+
+JSON = {"Content-Type": "application/json"}
+CHECK = {"command": "check", "options": {"ids": "8"}, "text": CV1}
+STUB = Path(__file__).resolve().parent / "stub"
+# Where the stub tries to write.
+WRITTEN = Path("/tmp/page-test-stub")
+
+
+def address(server):
+    """The server listens on the loopback address alone, and says what it does."""
+    listening = []
+    for table in ("/proc/net/tcp", "/proc/net/tcp6"):
+        rows = [line.split() for line in Path(table).read_text().splitlines()[1:]] if Path(table).exists() else []
+        listening += [row[1] for row in rows if row[3] == "0A" and int(row[1].split(":")[1], 16) == server.port]
+    STEPS.equal("it listens on the loopback address alone", listening, [f"0100007F:{server.port:04X}"])
+    STEPS.equal("it says its address", server.greeting, f"nbhd-page: http://{server.own}/ (Ctrl-C ends it)\n")
+
+    def refused(program, *words):
+        ran = subprocess.run([sys.executable, str(ROOT / "nbhd-page"), *words], capture_output=True, text=True, env={**os.environ, "NBHD": program})
+        return ran.returncode, ran.stdout + ran.stderr
+
+    status, said = refused(str(PROGRAM), "--port", str(server.port))
+    STEPS.check("a port in use", status == 1 and "--port" in said, said)
+    status, said = refused("/nowhere/nbhd", "--port", "0")
+    STEPS.equal("a program that is not built", (status, said), (1, "nbhd-page: there is no program at /nowhere/nbhd; ./build proves and builds it\n"))
+
+
+def files(server):
+    """The page's files are served, and no others."""
+    for path in ["/", "/examples.json", *(f"/{file.name}" for file in (ROOT / "page").iterdir() if file.name != "index.html")]:
+        STEPS.equal(f"GET {path}", server.ask(f"GET {path}")[0], 200)
+    _, page = server.ask("GET /")
+    STEPS.check("the page loads nothing from elsewhere", not re.search(rb"(src|href)=\"(https?:)?//", page))
+    foreign = """/../nbhd-page /%2e%2e/nbhd-page /..%2fnbhd-page //etc/passwd /page/../nbhd-page /./style.css /style.css/../main.js
+        /index.html /nbhd-page /examples/cv1.txt /style.css?x /\\..\\nbhd-page /tools/page-test /style.css%00 /nbhd * /etc/passwd
+        /.git/config style.css"""
+    for path in [*foreign.split(), f"http://{server.own}/../nbhd-page"]:
+        answer = server.ask(f"GET {path}")
+        STEPS.check(f"GET {path} is refused", answer[0] in (400, 404), answer)
+
+
+def senders(server):
+    """Only the page itself is served, by its own address."""
+    own, port = server.own, server.port
+    other = f"127.0.0.1:{port + 1}"
+    for host in ("evil.example", f"evil.example:{port}", "127.0.0.1", other, f"localhost:{port}", f"{own}.evil.example", "", None):
+        STEPS.equal(f"Host {host}", server.ask("GET /", {"Host": host})[0], 403)
+    twice = server.raw(f"GET / HTTP/1.1\r\nHost: {own}\r\nHost: evil.example\r\n\r\n".encode())
+    STEPS.equal("two hosts", twice[9:12], b"403")
+    for origin in ("http://evil.example", "null", f"https://{own}", f"http://localhost:{port}", f"http://{own}.evil.example", f"http://{other}"):
+        STEPS.equal(f"POST of Origin {origin}", server.run("check", {"ids": "8"}, CV1, {"Origin": origin})[0], 403)
+        STEPS.equal(f"GET of Origin {origin}", server.ask("GET /", {"Origin": origin})[0], 403)
+    cross = {"Sec-Fetch-Site": "cross-site"}
+    STEPS.equal("a script of another site", server.ask("GET /main.js", cross)[0], 403)
+    STEPS.equal("a frame of another site", server.ask("GET /", {**cross, "Sec-Fetch-Mode": "no-cors"})[0], 403)
+    STEPS.equal("a link of another site", server.ask("GET /", {**cross, "Sec-Fetch-Mode": "navigate"})[0], 200)
+    STEPS.equal("a form of another site", server.run("check", {"ids": "8"}, CV1, {**cross, "Sec-Fetch-Mode": "navigate"})[0], 403)
+    for method in ("PUT", "DELETE", "OPTIONS", "TRACE", "CONNECT", "PATCH", "get", "X"):
+        STEPS.check(f"method {method}", server.ask(f"{method} /")[0] in (400, 501))
+
+
+def bodies(server):
+    """Bodies that are no request for a run."""
+    broken = [b"x", b"{", b"[" * 100000, b"null", b"[]", b'"check"', b"1e999", b"\xff\xfe", b'{"command": "check"}']
+    changes = [{"command": value} for value in ("audit", ["check"], "--help", None)]
+    changes += [{"text": value} for value in (5, None)]
+    options = (None, ["ids"], {"ids": 8}, {"ring": "1"}, {"workers": "64"}, {"help": ""}, {"ids": "8\0"}, {"ids": "\ud800"}, {"ids": "9" * 9000})
+    changes += [{"options": value} for value in options]
+    for body in broken + [json.dumps({**CHECK, **change}).encode() for change in changes]:
+        STEPS.equal(f"body {body[:60]}", server.ask("POST /nbhd", JSON, body)[0], 400)
+    headers = (
+        ("of a form", {"Content-Type": "application/x-www-form-urlencoded"}, 415),
+        ("of plain text", {"Content-Type": "text/plain"}, 415),
+        ("without a type", {"Content-Type": None}, 415),
+        ("without a length", {**JSON, "Content-Length": None}, 411),
+        ("with a length below 0", {**JSON, "Content-Length": "-1"}, 411),
+        ("with a length that is no number", {**JSON, "Content-Length": "1e3"}, 411),
+        ("with an endless length", {**JSON, "Content-Length": "9" * 30}, 411),
+        ("in chunks", {**JSON, "Transfer-Encoding": "chunked"}, 411),
+        ("that is too long", {**JSON, "Content-Length": "200001"}, 413),
+        ("that is far too long", {**JSON, "Content-Length": "99999999999"}, 413),
+    )
+    for name, fields, status in headers:
+        STEPS.equal(f"a body {name}", server.ask("POST /nbhd", fields, json.dumps(CHECK).encode())[0], status)
+    STEPS.equal("POST to the page", server.ask("POST /", JSON, json.dumps(CHECK).encode())[0], 404)
+
+
+def long_requests(server):
+    """Requests at the limits, and values that are for nbhd to refuse."""
+    longest = server.run("check", {"ids": "8"}, " " * 199000)[1]
+    STEPS.equal("a text of 199,000 bytes", longest.get("out"), "text fault N1 at 65536\n")
+    STEPS.equal("a long header", server.ask("GET /", {"X": "y" * 100000})[0], 431)
+    STEPS.equal("a long path", server.ask("GET /" + "y" * 100000)[0], 414)
+    STEPS.check("no request", server.raw(b"\x00\xff\r\n\r\n")[:1] in (b"", b"H", b"4", b"<"))
+    for ids in ("--help", "8 --help", "8;id", "$(id)", ""):
+        STEPS.equal(f"ids {ids}", server.run("check", {"ids": ids}, CV1)[1].get("status"), 2)
+    STEPS.equal("ring -h", server.run("trace", {"ids": "8", "ring": "-h"}, CV1)[1].get("status"), 2)
+    linial = (ROOT / "examples/linial_poly.txt").read_text(encoding="ascii")
+    STEPS.equal("a table over 8 MB", server.run("table", {"ids": "102"}, linial), (503, {"refused": "the output is longer than 8 MB"}))
+
+
+def limits():
+    """What a run, its client and a connection may take."""
+    server = Server(STUB)
+    try:
+        limited = Limits(server)
+        limited.one_run()
+        limited.at_once()
+        limited.gone_client()
+        limited.idle_clients()
+        limited.end()
+    finally:
+        server.process.kill()
+
+
+class Limits:
+    """A server that runs the stub, which misbehaves as its input says, and clients that are slow or leave."""
+
+    def __init__(self, server):
+        self.server = server
+
+    def run(self, text):
+        return self.server.run("check", {"ids": "8"}, text)
+
+    def one_run(self):
+        WRITTEN.unlink(missing_ok=True)
+        STEPS.equal("the words are a list", self.run("echo")[1].get("out"), "stub\n['check', '--ids=8']\n")
+        STEPS.equal("a long output", self.run("flood"), (503, {"refused": "the output is longer than 8 MB"}))
+        STEPS.equal("a long note is cut", len(self.run("grumble")[1].get("note", "")), 64000)
+        STEPS.equal("3 GB of memory", self.run("memory")[1].get("out"), "stub\nrefused\n")
+        STEPS.equal("a file", self.run("write")[1].get("out"), "stub\nrefused\n")
+        STEPS.check("nothing is written", not WRITTEN.exists() or WRITTEN.stat().st_size == 0)
+        WRITTEN.unlink(missing_ok=True)
+        STEPS.equal("an input that is not read", self.run("deaf " + "x" * 150000)[1].get("out"), "stub\n")
+
+    def timed(self, name, text, status, least, most):
+        begin = time.monotonic()
+        answer = self.run(text)
+        spent = time.monotonic() - begin
+        STEPS.check(name, answer[0] == status and least <= spent <= most, f"{answer} after {spent:.1f} s")
+
+    def slow_client(self):
+        begin = time.monotonic()
+        with socket.create_connection(("127.0.0.1", self.server.port), timeout=30) as link:
+            try:
+                for byte in b"GET / HTTP/1.1\r\nX: " + b"y" * 100:
+                    link.sendall(bytes([byte]))
+                    time.sleep(0.3)
+                ended = False
+            except OSError:
+                ended = True
+        STEPS.check("a client of 3 bytes a second is cut off", ended and time.monotonic() - begin < 13)
+
+    def at_once(self):
+        def together(*jobs):
+            threads = [threading.Thread(target=job) for job in jobs]
+            for thread in threads:
+                thread.start()
+                time.sleep(0.1)
+            for thread in threads:
+                thread.join()
+
+        four = [lambda: self.timed("one of five at once", "sleep 1.5", 200, 1.4, 4)] * 4
+        fifth = lambda: self.timed("the fifth waits", "sleep 1", 200, 1.5, 6)
+        together(*four, fifth, lambda: STEPS.check("at most four run", len(self.server.children()) <= 4))
+        three = [lambda: self.timed("a run of 60 s is stopped", "sleep 60", 503, 9.5, 13)] * 3
+        fork = lambda: self.timed("its child is stopped too", "fork 60", 503, 9.5, 13)
+        together(*three, fork, self.slow_client, lambda: self.timed("a fifth is refused", "echo", 503, 4.5, 7))
+        STEPS.equal("no run is left", self.server.children(), set())
+
+    def gone_client(self):
+        body = json.dumps({"command": "check", "options": {}, "text": "sleep 60"}).encode()
+        head = f"POST /nbhd HTTP/1.1\r\nHost: {self.server.own}\r\nContent-Type: application/json\r\nContent-Length: {len(body)}\r\n\r\n"
+        with socket.create_connection(("127.0.0.1", self.server.port)) as link:
+            link.sendall(head.encode() + body)
+            time.sleep(0.6)
+            STEPS.equal("a run is under way", len(self.server.children()), 1)
+        time.sleep(0.6)
+        STEPS.equal("it ends with its client", self.server.children(), set())
+
+    def idle_clients(self):
+        idle = [socket.create_connection(("127.0.0.1", self.server.port)) for _ in range(60)]
+        time.sleep(11)
+        STEPS.equal("a request after 60 idle connections", self.server.ask("GET /")[0], 200)
+        for link in idle:
+            link.close()
+
+    def end(self):
+        threading.Thread(target=self.run, args=("sleep 30",), daemon=True).start()
+        time.sleep(0.6)
+        left = self.server.children()
+        STEPS.equal("Ctrl-C", self.server.end(), 0)
+        time.sleep(0.3)
+        lines = [Path(f"/proc/{child}/cmdline") for child in left]
+        STEPS.equal("it ends the runs", [line for line in lines if line.exists() and str(STUB).encode() in line.read_bytes()], [])

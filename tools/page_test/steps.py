@@ -1,0 +1,44 @@
+"""The steps of tools/page-test: how many passed, and which did not."""
+
+import os
+import subprocess
+import threading
+from pathlib import Path
+
+ROOT = Path(__file__).resolve().parent.parent.parent
+PROGRAM = Path(os.environ.get("NBHD") or ROOT / "crates/nbhd/out/nbhd").resolve()
+CV1 = (ROOT / "examples/cv1.txt").read_text(encoding="ascii")
+LDB = (ROOT / "programs/ldb.txt").read_text(encoding="ascii")
+
+
+class Steps:
+    def __init__(self):
+        self.passed, self.failed, self.lock = 0, 0, threading.Lock()
+
+    def check(self, name, good, seen=""):
+        """Counts a step, and prints what was seen where it failed."""
+        with self.lock:
+            if good:
+                self.passed += 1
+            else:
+                self.failed += 1
+                print(f"page-test: failed: {name} {str(seen)[:400]}", flush=True)
+
+    def run(self, part, *arguments):
+        """Runs a part of the test. One that breaks off counts as a failed step."""
+        try:
+            part(*arguments)
+        except Exception as error:
+            self.check(part.__name__, False, f"broke off: {error!r}")
+
+    def equal(self, name, found, wanted):
+        self.check(name, found == wanted, f"- found {found!r}, wanted {wanted!r}")
+
+
+STEPS = Steps()
+
+
+def nbhd(text, *words):
+    """What the program prints for these words and this text."""
+    ran = subprocess.run([PROGRAM, *words], input=text.encode(), stdout=subprocess.PIPE, stderr=subprocess.DEVNULL)
+    return ran.stdout.decode()

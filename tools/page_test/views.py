@@ -1,0 +1,279 @@
+"""The five views, with CV1 and LDB: what they show is compared with what nbhd prints."""
+
+import json
+import re
+import time
+from collections import Counter
+
+from steps import CV1, LDB, ROOT, STEPS, nbhd
+
+IDS = ("--ids", "8")
+
+
+def check(page):
+    page.open(view="run", example="cv1.txt", ids="8", ring="5,1,3,7")
+    page.wait("CV1 is accepted", "document.querySelector('.check.good')")
+    words = nbhd(CV1, "check", *IDS).split()
+    facts = [value.replace(",", "") for value in page.texts(".facts dd")]
+    STEPS.equal("its numbers", facts, [words[words.index(name) + 1] for name in ("rounds", "channels", "bound", "windows")])
+    page.value("(t => { t.focus(); t.setSelectionRange(0, t.value.length); })(document.querySelector('#text'))")
+    faulty = CV1.replace("send left 0", "send lift 0")
+    page.browser.type(faulty)
+    page.wait("a fault while one types", "document.querySelector('.check.bad')")
+    line = nbhd(faulty, "check", *IDS).strip()
+    offset = int(line.split()[-1])
+    row, column = faulty[:offset].count("\n") + 1, offset - faulty.rfind("\n", 0, offset)
+    STEPS.equal("its line of the report", page.text(".check .line"), line)
+    STEPS.equal("its mark", page.texts(".ink .fault"), ["lift"])
+    STEPS.equal("its row", page.texts(".gutter .faulty"), [str(row)])
+    STEPS.equal("its place", page.text(".check .place"), f"line {row}, column {column}")
+    page.click(".check .place")
+    STEPS.equal("the cursor goes there", page.value("document.querySelector('#text').selectionStart"), offset)
+
+
+def faults(page):
+    texts = {
+        "the end": CV1[: CV1.index("finish")],
+        "an empty text": "",
+        "a letter with an accent": "# caf\u00e9\n" + CV1,
+        "a character of two UTF-16 units": "# \U0001f642\n" + CV1,
+        "a plus": CV1.replace("add(", "add+("),
+    }
+    for name, text in texts.items():
+        page.fill("#text", text)
+        line = nbhd(text, "check", *IDS).strip()
+        page.wait(f"the fault at {name}", f"document.querySelector('.check .line')?.textContent === {json.dumps(line)}")
+        STEPS.equal(f"{name} is marked once", page.count(".ink .fault"), 1)
+        STEPS.equal(f"{name}: the coloured copy has the same text", page.value("document.querySelector('.ink').textContent"), text + "\n")
+    page.fill("#text", CV1)
+    page.fill("#ids", "3")
+    page.wait("a refusal without a place", "document.querySelector('.check .line')?.textContent === 'check fault X1'")
+    page.fill("#ids", "x")
+    page.wait("refused words", "document.querySelector('.check.bad strong')?.textContent === 'Refused'")
+    page.browser.size(800, 900)
+    page.open(view="run", ids="8", ring="5,1,3,7", text=CV1.replace("finish", "finnish"))
+    page.wait("a fault of a link", "document.querySelector('.ink .fault')")
+    inside = "(m, b) => m.top >= b.top && m.bottom <= b.bottom"
+    rectangles = "['.ink .fault', '#editor'].map(s => document.querySelector(s).getBoundingClientRect())"
+    STEPS.check("the editor scrolls to it", page.value(f"({inside})(...{rectangles})"))
+    page.browser.size(1280, 900)
+
+
+def run(page):
+    ring = "5,1,3,7"
+    page.open(view="run", example="cv1.txt", ids="8", ring=ring)
+    page.wait_ring("the ring of CV1", ring)
+    trace = [line.split() for line in nbhd(CV1, "trace", *IDS, "--ring", ring).splitlines()]
+    STEPS.equal("its identifiers", page.texts(".ring .identifier"), ring.split(","))
+    STEPS.equal("its channels", page.texts(".ring .badge-number"), trace[-1][1:])
+    rows = page.value("[...document.querySelectorAll('.trace tbody tr')].map(r => [...r.children].map(c => c.textContent))")
+    STEPS.equal("its trace", [" ".join(row).split() for row in rows], trace)
+    page.focus("#stage")
+    page.browser.key("ArrowLeft")
+    STEPS.equal("the registers after round 1", page.texts(".ring .label"), trace[3][3:])
+    page.browser.key("ArrowLeft")
+    STEPS.equal("what is sent left", page.texts(".message.left text"), trace[1][3:])
+    STEPS.equal("what is sent right", page.texts(".message.right text"), trace[2][3:])
+    page.browser.key("ArrowLeft")
+    STEPS.equal("the registers at the start", page.texts(".ring .label"), trace[0][2:])
+    page.click("#play")
+    page.wait("play goes to the end", "document.querySelector('#timeline li:last-child button').ariaCurrent === 'step'")
+
+
+def drag(page):
+    page.open(view="run", example="cv1.txt", ids="8", ring="5,1,3,7")
+    page.wait_ring("the ring before", "5,1,3,7")
+    top, right, bottom = (page.middle(f".node[data-place='{place}'] .disc") for place in range(3))
+    between = ((top[0] + right[0]) / 2 + 15, (top[1] + right[1]) / 2 - 15)
+    page.browser.drag(bottom, (bottom[0] + 20, bottom[1] - 10), between)
+    page.wait_ring("a node dragged along the ring", "5,3,1,7")
+    STEPS.equal("its channels", page.texts(".ring .badge-number"), nbhd(CV1, "run", *IDS, "--ring", "5,3,1,7").split())
+    page.browser.drag(page.middle(".node[data-place='0'] .disc"), (top[0] + 5, top[1] + 60), page.middle("#stage"))
+    page.wait("a node dragged out", "document.querySelector('#ring').value === '3,1,7'")
+    page.wait("the fault of the short ring", "document.querySelector('#run-refused').textContent.startsWith('ring fault G1')")
+    page.click(".chip[aria-label='Add 6']")
+    page.wait_ring("a node added by a click", "3,1,7,6")
+    chip, stage = page.middle(".chip[aria-label='Add 5']"), page.middle("#stage")
+    page.browser.drag(chip, (chip[0], chip[1] - 30), (stage[0] + 90, stage[1] - 90))
+    page.wait_ring("a node dragged in", "3,5,1,7,6")
+
+
+def edit_ring(page):
+    page.open(view="run", example="cv1.txt", ids="8", ring="3,1,7,6")
+    page.wait_ring("the ring to edit", "3,1,7,6")
+    page.focus('.node[data-place="1"]')
+    page.browser.key("ArrowRight", shift=True)
+    page.wait_ring("a node moved by keys", "3,7,1,6")
+    STEPS.equal("it keeps the focus", page.value("document.activeElement.dataset.place"), "2")
+    page.focus('.node[data-place="0"]')
+    page.browser.key("Delete")
+    page.wait("a node deleted by a key", "document.querySelector('#ring').value === '7,1,6'")
+    page.fill("#random-size", "8")
+    page.click("#random")
+    page.wait("a random ring", "document.querySelectorAll('.ring .badge').length === 8")
+    STEPS.equal("its identifiers are distinct", sorted(page.texts(".ring .identifier")), list("01234567"))
+    page.fill("#ring", "5,1,9,7")
+    page.wait("a ring with an identifier that is too large", "document.querySelector('.node.faulty')?.dataset.place === '2'")
+    page.fill("#ring", "5,x,9")
+    page.wait("no ring", "/ring/.test(document.querySelector('#run-refused').textContent)")
+
+
+def judge(page):
+    page.open(view="judge", ids="8", ring="5,1,3,7", text=LDB)
+    page.wait("the no of LDB", "document.querySelector('.verdict.no') && document.querySelectorAll('.ring .badge').length")
+    found = re.fullmatch(r"no: ring ([\d ]+) place (\d+) channel (\d+)\n", nbhd(LDB, "judge", *IDS))
+    ring, place, channel = found[1].split(), int(found[2]), found[3]
+    STEPS.equal("its ring", page.texts(".ring .identifier"), ring)
+    STEPS.equal("the two nodes", page.texts(".node.chosen .identifier"), ring[place : place + 2])
+    STEPS.equal("their channels", page.texts(".node.chosen .badge-number"), [channel] * 2)
+    STEPS.equal("their windows", page.texts(".seen td.code"), [" ".join(ring[:3]), " ".join(ring[1:])])
+    STEPS.equal("the lines of the windows", page.count(".ring .window"), 2)
+    page.click("#run-this-ring")
+    page.wait_ring("run this ring", ",".join(ring))
+    STEPS.check("equal channels are red", page.count("#stage .link.equal") > 0)
+    page.value("history.back()")
+    page.wait("back to the judge", "!document.querySelector('#judge').hidden")
+
+
+def judge_distances(page):
+    page.open(view="judge", ids="8", ring="5,1,3,7", example="cv1.txt")
+    page.wait("the yes of CV1", "document.querySelector('.verdict.yes')")
+    tuples = int(nbhd(CV1, "judge", *IDS).split()[1])
+    STEPS.check("its number of tuples", f"{tuples:,} tuples" in page.text(".verdict"), page.text(".verdict"))
+    page.fill("#far", "1")
+    page.wait("the no at distance two", "document.querySelector('.verdict.no') && document.querySelectorAll('#witness .badge').length")
+    line = nbhd(CV1, "judge", *IDS, "--near", "1", "--far", "1")
+    found = re.fullmatch(r"no: ring ([\d ]+) places (\d+) (\d+) channels (\d+) (\d+)\n", line)
+    ring = found[1].split()
+    STEPS.equal("its nodes", page.texts(".node.chosen .identifier"), [ring[int(found[2])], ring[int(found[3])]])
+    STEPS.equal("its channels", page.texts(".node.chosen .badge-number"), [found[4], found[5]])
+    page.fill("#near", "0")
+    page.wait("near out of its range", "document.querySelector('.verdict .refused')")
+
+
+def table(page):
+    page.open(view="table", ids="8", example="cv1.txt")
+    page.wait("the table of CV1", "document.querySelectorAll('.windows li').length")
+    text = nbhd(CV1, "table", *IDS)
+    lines = [line.split(" : ") for line in text.splitlines() if " : " in line]
+    counts = sorted(Counter(int(channel) for _, channel in lines).items())
+    bars = "[...document.querySelectorAll('.histogram li')].map(l => [+l.querySelector('text').textContent, +l.querySelector('.count').textContent])"
+    STEPS.equal("how often each channel occurs", page.value(bars), [list(pair) for pair in counts])
+    page.fill("#prefix", "1 6")
+    wanted = [f"{window}:{channel}" for window, channel in lines if window.startswith("1 6 ")]
+    page.wait("a search", f"document.querySelectorAll('.windows li').length === {len(wanted)}")
+    windows = "[...document.querySelectorAll('.windows li')].map(l => l.querySelector('.code').textContent.trim() + ':' + l.querySelector('text').textContent)"
+    STEPS.equal("its windows", page.value(windows), wanted)
+    page.value("window.saved = ''; URL.createObjectURL = (blob) => { blob.text().then(t => window.saved = t); return '#'; }")
+    page.click("#save")
+    page.wait("saving", "window.saved")
+    STEPS.equal("the saved text", page.value("window.saved"), text)
+    page.open(view="table", ids="102", example="linial_poly.txt")
+    page.wait("a table that is too long", "/longer than 8 MB/.test(document.querySelector('#table-refused').textContent)")
+
+
+def graph(page):
+    for name, text, ids in (("CV1", CV1, 4), ("LDB", LDB, 5), ("CV1", CV1, 6)):
+        page.open(view="graph", ids=str(ids), text=text)
+        page.wait(f"the graph of {name}", "document.querySelectorAll('.graph .point').length")
+        lines = nbhd(text, "table", "--ids", str(ids)).splitlines()
+        channels = dict(line.split(" : ") for line in lines if " : " in line)
+        edges = [(w, " ".join((*w.split()[1:], str(x)))) for w in channels for x in range(ids) if str(x) not in w.split()]
+        equal = [f"{a} → {b}" for a, b in edges if channels[a] == channels[b]]
+        STEPS.equal(f"its windows for {ids}", page.count(".graph .point"), len(channels))
+        STEPS.equal(f"its edges for {ids}", page.count(".graph .edge"), len(edges))
+        STEPS.equal(f"its red edges for {ids}", page.count(".graph .edges.equal .edge"), len(equal))
+        STEPS.equal(f"their list for {ids}", page.texts(".equal-edges .code"), equal[:24])
+    page.open(view="graph", ids="8", example="cv1.txt")
+    page.wait("too many windows", "/too many/.test(document.querySelector('#graph-say').textContent)")
+
+
+def links(page):
+    """The state is in the address's fragment."""
+    page.open(view="judge", ids="8", ring="0,1,2,3", text=LDB)
+    page.wait("a link with a text", "document.querySelector('.verdict.no')")
+    STEPS.equal("its text", page.value("document.querySelector('#text').value"), LDB)
+    text = "# a + b & c = d %41\n" + LDB
+    page.fill("#text", text)
+    page.wait("the address follows the text", "location.hash.includes('%25')")
+    page.browser.open(page.value("location.href"))
+    STEPS.equal("the address leads to the text", page.value("document.querySelector('#text').value"), text)
+    for example in (1, 2, 3):
+        page.open(view="run", example="cv1.txt", ids="8", ring="5,1,3,7")
+        page.wait("the page", "document.querySelector('.check.good')")
+        page.click(f".steps a:nth-of-type({example})")
+        shown = {1: ".ring .badge", 2: ".verdict.no", 3: ".check.bad"}[example]
+        page.wait(f"first step {example}", f"document.querySelector('{shown}')")
+
+
+def examples(page):
+    page.open(view="run", ids="8", ring="5,1,3,7", example="cv1.txt")
+    count = len(list((ROOT / "examples").glob("*.txt")))
+    STEPS.equal("the number of examples", page.count("#examples button"), count)
+    for number in range(count):
+        page.value(f"document.querySelectorAll('#examples button')[{number}].click()")
+        page.wait(f"example {number + 1} is accepted", "document.querySelector('.check.good')")
+        size = "(t => t.scrollWidth <= t.clientWidth && t.scrollHeight <= t.clientHeight)(document.querySelector('#text'))"
+        STEPS.check(f"example {number + 1}: the text area is as large as the coloured copy", page.value(size))
+    unnamed = "[...document.querySelectorAll('input,select,textarea')].filter(e => !e.labels?.length && !e.ariaLabel).map(e => e.id)"
+    STEPS.equal("fields without a label", page.value(unnamed), [])
+    unnamed = "[...document.querySelectorAll('button')].filter(e => !(e.textContent.trim() || e.ariaLabel)).length"
+    STEPS.equal("buttons without a name", page.value(unnamed), 0)
+
+
+def typing(page):
+    """The editor scrolls to the cursor, and a long text does not make typing slow."""
+    page.open(view="run", ids="8", example="linial_poly.txt")
+    page.value("(t => { t.focus(); t.setSelectionRange(t.value.length, t.value.length); })(document.querySelector('#text'))")
+    page.browser.type("\n# " + "long " * 60)
+    time.sleep(0.3)
+    for way in ("Top", "Left"):
+        STEPS.check(f"the editor scrolls: {way}", page.value(f"document.querySelector('#editor').scroll{way} > 100"))
+    page.fill("#text", "r0 = add(r0, 1)\n" * 3900)
+    spent = page.value(
+        "(t => { const begin = performance.now(); t.setRangeText(' ', 30000, 30000); t.dispatchEvent(new Event('input'));"
+        " document.querySelector('.ink').offsetHeight; return performance.now() - begin; })(document.querySelector('#text'))"
+    )
+    STEPS.check("a key in a text of 62 KB takes less than 0.6 s", spent < 600, spent)
+
+
+def formats(page):
+    """The lines and notes of nbhd, as the page reads them."""
+    page.open(view="run", ids="8", example="cv1.txt")
+    text = "rounds 1\nchannels 6\nregisters 1\nstart\nr0 = id\nround\n  send lift 0\n"
+
+    def refusal(out, note):
+        return page.call("faults.js", f"m.readRefusal({json.dumps({'out': out, 'note': note})}, {json.dumps(text)})")
+
+    index = text.index("lift")
+    place = {"row": 7, "column": 8, "index": index}
+    found = refusal(f"text fault N3 at {index}\n", "nbhd: line 7, column 8: `lift` is no word of the language\n    send lift 0\n         ^\n")
+    STEPS.equal("a note with a place", found, {"code": "N3", "line": f"text fault N3 at {index}", "note": "`lift` is no word of the language", "at": place})
+    STEPS.equal("an offset without a note", refusal(f"text fault N3 at {index}\n", "")["at"], place)
+    found = refusal("check fault C4 bound 11\n", "nbhd: channels may be as large as 11: write `channels 12` or more\n")
+    STEPS.equal("a note without a place", (found["note"], found["at"]), ("channels may be as large as 11: write `channels 12` or more", None))
+    found = refusal("check fault C3\n", "nbhd: line 5, column 6: `L` and `R` can be read in a round alone\n  r0 = id\n       ^\n")
+    STEPS.equal("a place of a program that is not accepted", found["at"]["index"], text.index("id"))
+    found = refusal("", "nbhd: bad ring\n")
+    STEPS.equal("a refusal without a report", (found["line"], found["note"]), ("bad ring", ""))
+    found = refusal("", "error: invalid value '65' for '--ids <M>': 65 is no\n\nFor more information, try '--help'.\n")
+    STEPS.equal("refused words", found["line"], "invalid value '65' for '--ids <M>': 65 is no")
+    no = page.call("view-judge.js", "m.readNo('no: ring 0 2 1 places 0 2 channels 0 1')")
+    STEPS.equal("a no at distance two", no, {"ring": [0, 2, 1], "places": [0, 2], "channels": [0, 1]})
+    steps = page.call("trace.js", "m.stepsOf('start r0 1 2\\nfinish 1 2\\n')")
+    STEPS.equal("a trace without rounds", [step["kind"] for step in steps], ["start", "finish"])
+
+
+def restart(page, server):
+    """The page says that the server has gone, and goes on when it is back."""
+    page.open(view="run", ids="8", ring="5,1,3,7", example="cv1.txt")
+    page.wait_ring("the ring before the end", "5,1,3,7")
+    STEPS.equal("the server ends", server.end(), 0)
+    page.fill("#ring", "5,1,3,7,0")
+    page.wait("the server has gone", "!document.querySelector('#gone').hidden")
+    server.start()
+    page.wait("the server is back", "document.querySelector('#gone').hidden")
+    page.wait_ring("the ring after it", "5,1,3,7,0")
+
+
+VIEWS = [check, faults, run, drag, edit_ring, judge, judge_distances, table, graph, links, examples, typing, formats]
