@@ -206,6 +206,17 @@ def links(page):
         page.wait(f"first step {example}", f"document.querySelector('{shown}')")
 
 
+def exercises(page):
+    """The links of the exercises lead to programs. Two are refused: one has too few channels, one too many rounds."""
+    links = re.findall(r"^\[\d+\]: http://127\.0\.0\.1:8765/(#.*)$", (ROOT / "docs/EXERCISES.md").read_text(encoding="utf-8"), re.MULTILINE)
+    STEPS.equal("exercises with a link", len(links), 10)
+    for number, fragment in enumerate(links, 1):
+        page.browser.open(page.url + fragment)
+        page.wait(f"exercise {number}", f"document.querySelector('.check.{'bad' if number in (3, 10) else 'good'}')")
+        view = re.search(r"view=(\w+)", fragment)[1]
+        STEPS.check(f"exercise {number}: its view", page.value(f"!document.querySelector('#{view}').hidden"))
+
+
 def examples(page):
     page.open(view="run", ids="8", ring="5,1,3,7", example="cv1.txt")
     count = len(list((ROOT / "examples").glob("*.txt")))
@@ -276,4 +287,4 @@ def restart(page, server):
     page.wait_ring("the ring after it", "5,1,3,7,0")
 
 
-VIEWS = [check, faults, run, drag, edit_ring, judge, judge_distances, table, graph, links, examples, typing, formats]
+VIEWS = [check, faults, run, drag, edit_ring, judge, judge_distances, table, graph, links, exercises, examples, typing, formats]
