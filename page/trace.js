@@ -41,8 +41,8 @@ export function sentenceOf(step, ring) {
   if (pairs.length === 0) return "finish gives the channels. On this ring neighbours’ channels differ.";
   const [p] = pairs;
   const [a, b] = [ring[p], ring[(p + 1) % ring.length]];
-  const more = pairs.length > 1 ? `, and so have ${pairs.length - 1} other pairs` : "";
-  return `finish gives the channels. The neighbours ${a} and ${b} have one channel${pairs.length === 2 ? ", and so has 1 other pair" : more}.`;
+  const others = ["", ", and so has 1 other pair"][pairs.length - 1] ?? `, and so have ${pairs.length - 1} other pairs`;
+  return `finish gives the channels. The neighbours ${a} and ${b} have one channel${others}.`;
 }
 
 /** The places whose right neighbour has the same channel. */

@@ -97,8 +97,8 @@ function cyclePlaces(edges) {
 }
 
 function draw({ windows, channels }, edges, { at, width, height, left, top, bend }) {
-  const image = svg("svg", { class: "graph", viewBox: `${left} ${top} ${width} ${height}`, width, height, role: "img",
-    "aria-label": `Neighbourhood graph of ${windows.length} windows` });
+  const image = svg("svg", { class: "graph", viewBox: `${left} ${top} ${width} ${height}`, width, height, role: "group",
+    "aria-label": `Neighbourhood graph of ${windows.length} windows. Arrow keys move between them.` });
   const spot = ({ turn, centre, radius }, more = 0) => {
     const [x, y] = point(turn, radius + more);
     return [centre[0] + x, centre[1] + y];
@@ -110,10 +110,9 @@ function draw({ windows, channels }, edges, { at, width, height, left, top, bend
     lines[channels[a] === channels[b] ? "equal" : "plain"].append(line);
     return { a, b, line };
   });
-  const points = svg("g", { class: "points" });
-  windows.forEach((window, i) => {
+  const points = windows.map((window, i) => {
     const [x, y] = spot(at[i]);
-    const group = svg("g", { class: "point" });
+    const group = svg("g", { class: "point", role: "img", "aria-label": describe(windows, channels, edges, i) });
     group.append(badge(channels[i], x, y, small), pointLabel(window, at[i], spot(at[i], small + 6), windows.length > 30));
     group.append(svg("title", {}, `${window} : ${channels[i]}`));
     const mark = (on) => {
@@ -121,12 +120,37 @@ function draw({ windows, channels }, edges, { at, width, height, left, top, bend
       group.classList.toggle("on", on);
       for (const { a, b, line } of drawn) if (a === i || b === i) line.classList.toggle(a === i ? "out" : "in", on);
     };
-    group.addEventListener("pointerenter", () => mark(true));
-    group.addEventListener("pointerleave", () => mark(false));
-    points.append(group);
+    for (const event of ["pointerenter", "focus"]) group.addEventListener(event, () => mark(true));
+    for (const event of ["pointerleave", "blur"]) group.addEventListener(event, () => mark(false));
+    return group;
   });
-  image.append(lines.plain, lines.equal, points);
+  const along = ({ centre: [x, y], turn }, { centre: [u, v], turn: next }) => y - v || x - u || turn - next;
+  const order = windows.map((_, i) => i).sort((i, j) => along(at[i], at[j]));
+  image.append(lines.plain, lines.equal, ...order.map((i) => points[i]));
+  allowKeys(order.map((i) => points[i]));
   return image;
+}
+
+/** What a screen reader says of a window. */
+function describe(windows, channels, edges, i) {
+  const next = edges.filter(([a]) => a === i).map(([, b]) => `${windows[b]} with channel ${channels[b]}`);
+  return `Window ${windows[i]} with channel ${channels[i]}. To its right: ${next.join(", ")}.`;
+}
+
+/** Makes one point a tab stop, from which the arrow keys move along the points. */
+function allowKeys(points) {
+  points.forEach((point, i) => {
+    point.setAttribute("tabindex", i === 0 ? "0" : "-1");
+    point.addEventListener("keydown", (event) => {
+      const by = { ArrowRight: 1, ArrowDown: 1, ArrowLeft: -1, ArrowUp: -1 }[event.key];
+      if (!by) return;
+      event.preventDefault();
+      const next = points[(i + by + points.length) % points.length];
+      point.setAttribute("tabindex", "-1");
+      next.setAttribute("tabindex", "0");
+      next.focus();
+    });
+  });
 }
 
 /** An arrow between two points, bent towards the centre, or away from it if `bend` is negative. */

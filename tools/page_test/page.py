@@ -34,10 +34,13 @@ class Page:
     def click(self, selector):
         self.value(f"document.querySelector(`{selector}`).click()")
 
+    def middles(self, selector):
+        """The points in the middle of the elements that match."""
+        rectangles = f"[...document.querySelectorAll(`{selector}`)].map(e => e.getBoundingClientRect())"
+        return self.value(f"{rectangles}.map(r => [r.x + r.width / 2, r.y + r.height / 2])")
+
     def middle(self, selector):
-        """The point in the middle of an element."""
-        rectangle = f"document.querySelector(`{selector}`).getBoundingClientRect()"
-        return self.value(f"(r => [r.x + r.width / 2, r.y + r.height / 2])({rectangle})")
+        return self.middles(selector)[0]
 
     def wait(self, name, expression):
         """A step that passes when the expression becomes true."""

@@ -1,6 +1,7 @@
 """The steps of tools/page-test: how many passed, and which did not."""
 
 import os
+import re
 import subprocess
 import threading
 from pathlib import Path
@@ -42,3 +43,10 @@ def nbhd(text, *words):
     """What the program prints for these words and this text."""
     ran = subprocess.run([PROGRAM, *words], input=text.encode(), stdout=subprocess.PIPE, stderr=subprocess.DEVNULL)
     return ran.stdout.decode()
+
+
+def note_of(text, *words):
+    """The place and the sentence of the note that the program tells on standard error, each empty without one."""
+    ran = subprocess.run([PROGRAM, *words], input=text.encode(), stdout=subprocess.DEVNULL, stderr=subprocess.PIPE)
+    found = re.match(r"nbhd: (?:(line \d+, column \d+): )?(.*)", ran.stderr.decode(errors="replace"))
+    return (found[1] or "", found[2]) if found else ("", "")

@@ -1,13 +1,19 @@
 """The five views, with CV1 and LDB: what they show is compared with what nbhd prints."""
 
 import json
+import math
 import re
 import time
 from collections import Counter
 
-from steps import CV1, LDB, ROOT, STEPS, nbhd
+from steps import CV1, LDB, ROOT, STEPS, nbhd, note_of
 
 IDS = ("--ids", "8")
+
+
+def nearest(spot, points):
+    """The number of the point that is nearest."""
+    return min(range(len(points)), key=lambda number: math.dist(spot, points[number]))
 
 
 def check(page):
@@ -27,8 +33,17 @@ def check(page):
     STEPS.equal("its mark", page.texts(".ink .fault"), ["lift"])
     STEPS.equal("its row", page.texts(".gutter .faulty"), [str(row)])
     STEPS.equal("its place", page.text(".check .place"), f"line {row}, column {column}")
+    shown_note(page, "its note", faulty)
     page.click(".check .place")
     STEPS.equal("the cursor goes there", page.value("document.querySelector('#text').selectionStart"), offset)
+
+
+def shown_note(page, name, text, *options):
+    """The page shows the note of the program, without its backquotes, and its place."""
+    place, sentence = note_of(text, "check", *(options or IDS))
+    STEPS.equal(name, page.text(".check .note"), sentence.replace("`", ""))
+    if place:
+        STEPS.equal(f"{name}: its place", page.text(".check .place"), place)
 
 
 def faults(page):
@@ -38,16 +53,23 @@ def faults(page):
         "a letter with an accent": "# caf\u00e9\n" + CV1,
         "a character of two UTF-16 units": "# \U0001f642\n" + CV1,
         "a plus": CV1.replace("add(", "add+("),
+        "a register that is not there": CV1.replace("finish r0", "finish r1"),
+        "an identifier in a round": CV1.replace("bit(r0", "bit(id"),
+        "a message in the start": CV1.replace("r0 = id", "r0 = L"),
+        "too few channels": CV1.replace("channels 10", "channels 5"),
     }
     for name, text in texts.items():
         page.fill("#text", text)
         line = nbhd(text, "check", *IDS).strip()
         page.wait(f"the fault at {name}", f"document.querySelector('.check .line')?.textContent === {json.dumps(line)}")
-        STEPS.equal(f"{name} is marked once", page.count(".ink .fault"), 1)
+        shown_note(page, f"{name}: its note", text)
+        has_place = line.startswith("text") or note_of(text, "check", *IDS)[0]
+        STEPS.equal(f"{name}: marks", page.count(".ink .fault"), 1 if has_place else 0)
         STEPS.equal(f"{name}: the coloured copy has the same text", page.value("document.querySelector('.ink').textContent"), text + "\n")
     page.fill("#text", CV1)
     page.fill("#ids", "3")
     page.wait("a refusal without a place", "document.querySelector('.check .line')?.textContent === 'check fault X1'")
+    shown_note(page, "its note", CV1, "--ids", "3")
     page.fill("#ids", "x")
     page.wait("refused words", "document.querySelector('.check.bad strong')?.textContent === 'Refused'")
     page.browser.size(800, 900)
@@ -74,10 +96,53 @@ def run(page):
     page.browser.key("ArrowLeft")
     STEPS.equal("what is sent left", page.texts(".message.left text"), trace[1][3:])
     STEPS.equal("what is sent right", page.texts(".message.right text"), trace[2][3:])
+    message_places(page, len(ring.split(",")))
     page.browser.key("ArrowLeft")
     STEPS.equal("the registers at the start", page.texts(".ring .label"), trace[0][2:])
     page.click("#play")
     page.wait("play goes to the end", "document.querySelector('#timeline li:last-child button').ariaCurrent === 'step'")
+
+
+def message_places(page, count):
+    """A message is between its sender and its receiver: the right ones outside the ring, the left ones inside."""
+    nodes = [page.middle(f".node[data-place='{place}'] .disc") for place in range(count)]
+    centre = [sum(values) / count for values in zip(*nodes)]
+    radius = math.dist(centre, nodes[0])
+    heads = page.middles(".ring .link path:last-child")
+    STEPS.equal("the arrows lead to the right neighbours", [nearest(head, nodes) for head in heads], [(place + 1) % count for place in range(count)])
+    for way, step, outside in (("right", 1, True), ("left", -1, False)):
+        spots = page.middles(f".message.{way}")
+        for place, spot in enumerate(spots):
+            near = sorted(range(count), key=lambda other: math.dist(spot, nodes[other]))[:2]
+            STEPS.equal(f"the message {way} of place {place}", set(near), {place, (place + step) % count})
+            STEPS.equal(f"the message {way} of place {place} is outside", math.dist(centre, spot) > radius, outside)
+
+
+def windows_known(page):
+    """The window that a node has heard of, as a band under the ring, grows by a node on each side in a round."""
+    page.open(view="run", example="cv2.txt", ids="16", ring="5,1,3,7,0,2,9,8,4,6")
+    page.wait_ring("a ring of two rounds", "5,1,3,7,0,2,9,8,4,6")
+    for step, rounds in ((0, 0), (1, 0), (2, 1), (3, 1), (4, 2), (5, 2)):
+        page.click(f"#timeline li:nth-child({step + 1}) button")
+        page.focus(".node[data-place='3']")
+        band = "document.querySelector('.window.known path')"
+        turns = page.value(f"(p => p.getTotalLength() / (2 * Math.PI * Number(p.getAttribute('d').match(/A([\\d.]+)/)[1])))({band})")
+        STEPS.check(f"the window known in step {step}", abs(turns * 10 - (2 * rounds + 0.6)) < 0.01, turns * 10)
+        middle = page.value(f"(p => {{ const q = p.getPointAtLength(p.getTotalLength() / 2); return (Math.atan2(q.x, -q.y) / (2 * Math.PI) + 1) % 1; }})({band})")
+        STEPS.check(f"its middle in step {step}", abs(middle - 0.3) < 0.01, middle)
+
+
+def equal_channels(page):
+    """Links of equal channels are red, and the sentence names the first ones."""
+    for ring in ("0,1,2,3", "5,1,3,7", "0,1,3,4,2", "0,1,3,2,4"):
+        page.open(view="run", ids="8", ring=ring, text=LDB)
+        page.wait_ring(f"LDB on {ring}", ring)
+        identifiers, channels = ring.split(","), nbhd(LDB, "run", *IDS, "--ring", ring).split()
+        equal = [place for place in range(len(channels)) if channels[place] == channels[(place + 1) % len(channels)]]
+        red = "[...document.querySelectorAll('#stage .link')].flatMap((link, place) => link.matches('.equal') ? [place] : [])"
+        STEPS.equal(f"red links of {ring}", page.value(red), equal)
+        pair = f"The neighbours {identifiers[equal[0]]} and {identifiers[(equal[0] + 1) % len(channels)]} have one channel" if equal else "channels differ"
+        STEPS.check(f"the sentence on {ring}", pair in page.text("#run-say"), page.text("#run-say"))
 
 
 def drag(page):
@@ -127,7 +192,8 @@ def judge(page):
     STEPS.equal("the two nodes", page.texts(".node.chosen .identifier"), ring[place : place + 2])
     STEPS.equal("their channels", page.texts(".node.chosen .badge-number"), [channel] * 2)
     STEPS.equal("their windows", page.texts(".seen td.code"), [" ".join(ring[:3]), " ".join(ring[1:])])
-    STEPS.equal("the lines of the windows", page.count(".ring .window"), 2)
+    nodes = [page.middle(f"#witness .node[data-place='{number}'] .disc") for number in range(len(ring))]
+    STEPS.equal("the middles of the windows' lines", [nearest(dot, nodes) for dot in page.middles(".ring .window-dot")], [place, place + 1])
     page.click("#run-this-ring")
     page.wait_ring("run this ring", ",".join(ring))
     STEPS.check("equal channels are red", page.count("#stage .link.equal") > 0)
@@ -140,6 +206,7 @@ def judge_distances(page):
     page.wait("the yes of CV1", "document.querySelector('.verdict.yes')")
     tuples = int(nbhd(CV1, "judge", *IDS).split()[1])
     STEPS.check("its number of tuples", f"{tuples:,} tuples" in page.text(".verdict"), page.text(".verdict"))
+    STEPS.check("its rings", "at least 4 distinct identifiers below 8" in page.text(".verdict"), page.text(".verdict"))
     page.fill("#far", "1")
     page.wait("the no at distance two", "document.querySelector('.verdict.no') && document.querySelectorAll('#witness .badge').length")
     line = nbhd(CV1, "judge", *IDS, "--near", "1", "--far", "1")
@@ -147,6 +214,14 @@ def judge_distances(page):
     ring = found[1].split()
     STEPS.equal("its nodes", page.texts(".node.chosen .identifier"), [ring[int(found[2])], ring[int(found[3])]])
     STEPS.equal("its channels", page.texts(".node.chosen .badge-number"), [found[4], found[5]])
+    identity = (ROOT / "examples/identity.txt").read_text(encoding="ascii")
+    for near, far in (("2", "1"), ("1", "2"), ("3", "3")):
+        page.open(view="judge", ids="8", example="identity.txt", near=near, far=far)
+        line = nbhd(identity, "judge", *IDS, "--near", near, "--far", far)
+        found = re.fullmatch(r"no: ring ([\d ]+) places (\d+) (\d+) channels (\d+) (\d+)\n", line)
+        page.wait(f"the no of {near} and {far}", "document.querySelector('.verdict.no') && document.querySelectorAll('#witness .badge').length")
+        STEPS.equal(f"its ring for {near} and {far}", page.texts("#witness .identifier"), found[1].split())
+        STEPS.equal(f"its channels for {near} and {far}", page.texts(".node.chosen .badge-number"), [found[4], found[5]])
     page.fill("#near", "0")
     page.wait("near out of its range", "document.querySelector('.verdict .refused')")
 
@@ -159,6 +234,7 @@ def table(page):
     counts = sorted(Counter(int(channel) for _, channel in lines).items())
     bars = "[...document.querySelectorAll('.histogram li')].map(l => [+l.querySelector('text').textContent, +l.querySelector('.count').textContent])"
     STEPS.equal("how often each channel occurs", page.value(bars), [list(pair) for pair in counts])
+    STEPS.equal("its shares", page.texts(".histogram .share"), [f"{100 * count / len(lines):.1f} %" for _, count in counts])
     page.fill("#prefix", "1 6")
     wanted = [f"{window}:{channel}" for window, channel in lines if window.startswith("1 6 ")]
     page.wait("a search", f"document.querySelectorAll('.windows li').length === {len(wanted)}")
@@ -168,6 +244,9 @@ def table(page):
     page.click("#save")
     page.wait("saving", "window.saved")
     STEPS.equal("the saved text", page.value("window.saved"), text)
+    page.open(view="table", ids="16", example="cv1.txt", prefix="1")
+    wanted = [line for line in nbhd(CV1, "table", "--ids", "16").splitlines() if line.startswith("1 ")]
+    page.wait("a search for a whole identifier", f"document.querySelector('#table-say').textContent.startsWith('{len(wanted)} of ')")
     page.open(view="table", ids="102", example="linial_poly.txt")
     page.wait("a table that is too long", "/longer than 8 MB/.test(document.querySelector('#table-refused').textContent)")
 
@@ -184,6 +263,17 @@ def graph(page):
         STEPS.equal(f"its edges for {ids}", page.count(".graph .edge"), len(edges))
         STEPS.equal(f"its red edges for {ids}", page.count(".graph .edges.equal .edge"), len(equal))
         STEPS.equal(f"their list for {ids}", page.texts(".equal-edges .code"), equal[:24])
+    page.open(view="graph", ids="4", text=LDB)
+    page.wait("the graph for the keys", "document.querySelectorAll('.graph .point').length")
+    page.focus(".graph .point[tabindex='0']")
+    page.browser.key("ArrowRight")
+    STEPS.equal("an arrow key moves to the next window", page.texts(".graph .point:focus .window-name"), ["0 1 3"])
+    STEPS.equal("its edges are set off", page.value("[...document.querySelectorAll('.edge.out, .edge.in')].length"), 2)
+    STEPS.equal("one window is a tab stop", page.count(".graph .point[tabindex='0']"), 1)
+    points, names = page.middles(".graph .point .badge"), page.texts(".graph .point .window-name")
+    for way, window in (("out", "1 3 2"), ("in", "0 1 3")):
+        head = page.middle(f".edge.{way} .edge-head")
+        STEPS.equal(f"where the arrow {way} leads", names[nearest(head, points)], window)
     page.open(view="graph", ids="8", example="cv1.txt")
     page.wait("too many windows", "/too many/.test(document.querySelector('#graph-say').textContent)")
 
@@ -287,4 +377,4 @@ def restart(page, server):
     page.wait_ring("the ring after it", "5,1,3,7,0")
 
 
-VIEWS = [check, faults, run, drag, edit_ring, judge, judge_distances, table, graph, links, exercises, examples, typing, formats]
+VIEWS = [check, faults, run, windows_known, equal_channels, drag, edit_ring, judge, judge_distances, table, graph, links, exercises, examples, typing, formats]
