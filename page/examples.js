@@ -18,9 +18,9 @@ export function fillExamples(examples) {
   const rounds = (text) => Number(text.match(/^\s*rounds\s+(\d+)/m)?.[1] ?? 0);
   for (const example of examples) {
     const count = rounds(example.text);
+    const facts = [example.name, count === 1 ? "1 round" : `${count} rounds`, `${example.ids} identifiers`];
     list.append(html("button", { type: "button", onclick: () => take(example, count) },
-      html("span", { class: "title" }, example.title),
-      html("span", { class: "aside" }, `${example.name} · ${count === 1 ? "1 round" : `${count} rounds`} · ${example.ids} identifiers`)));
+      html("span", { class: "title" }, example.title), html("span", { class: "aside" }, facts.join(" · "))));
   }
   const button = byId("examples-button");
   list.addEventListener("beforetoggle", (event) => {
@@ -56,8 +56,10 @@ function take(example, rounds) {
   byId("examples").hidePopover();
   const ids = Number(example.ids);
   const ring = state.ring.split(",").map(Number);
-  const fits = ring.length >= 2 * rounds + 2 && ring.every((identifier) => identifier < ids);
-  change({ text: example.text, ids: example.ids, ring: fits ? state.ring : spread(Math.max(2 * rounds + 2, Math.min(8, ids)), ids) }, { keep: true });
+  const least = 2 * rounds + 2;
+  const fits = ring.length >= least && ring.every((identifier) => identifier < ids);
+  const next = fits ? state.ring : spread(Math.max(least, Math.min(8, ids)), ids);
+  change({ text: example.text, ids: example.ids, ring: next }, { keep: true });
 }
 
 /** A ring of `n` identifiers below `ids`, not in ascending order. */

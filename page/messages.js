@@ -60,7 +60,8 @@ function drawMessage(size, place, value, way) {
       // The tip is where the line of the movement leaves the pill.
       const [ux, uy] = point(turn + way / 4, 1);
       const far = edgeOfPill(width, ux, uy) + 6.5;
-      tip.setAttribute("transform", `translate(${(ux * far).toFixed(2)} ${(uy * far).toFixed(2)}) rotate(${(turn * 360 + (way > 0 ? 0 : 180)).toFixed(2)})`);
+      const degrees = turn * 360 + (way > 0 ? 0 : 180);
+      tip.setAttribute("transform", `translate(${(ux * far).toFixed(2)} ${(uy * far).toFixed(2)}) rotate(${degrees.toFixed(2)})`);
     }
   };
   return { group, put };

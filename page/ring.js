@@ -69,7 +69,8 @@ export function drawNode(size, place, identifier, channel, label) {
   if (size.numbered) {
     const digits = String(identifier).length;
     const font = Math.min(size.node * 0.95, (size.node * 2.9) / Math.max(digits, 2));
-    group.append(svg("text", { class: channel === undefined ? "identifier" : "identifier on-colour", "font-size": font }, identifier));
+    const kind = channel === undefined ? "identifier" : "identifier on-colour";
+    group.append(svg("text", { class: kind, "font-size": font }, identifier));
   } else {
     group.append(svg("title", {}, identifier));
   }

@@ -21,7 +21,7 @@ export function countChannels(channels) {
   return [...counts].sort(([a], [b]) => a - b);
 }
 
-/** The edges of the neighbourhood graph as pairs of window numbers: from each window to those that its right neighbour can have. */
+/** The edges of the neighbourhood graph as pairs of window numbers, from each window to those of its right neighbour. */
 export function edgesOf({ ids, windows }) {
   const numbers = new Map(windows.map((window, i) => [window, i]));
   const edges = [];

@@ -7,7 +7,8 @@ export function showTrace(box, ring, steps, go, highlight) {
   const rows = [];
   const row = (step, name, values, kind = "") => {
     const head = html("th", { scope: "row" }, html("button", { type: "button", onclick: () => go(step) }, name));
-    rows.push(html("tr", { "data-step": step, class: kind }, head, values.map((value, place) => html("td", { "data-place": place }, value))));
+    const cells = values.map((value, place) => html("td", { "data-place": place }, value));
+    rows.push(html("tr", { "data-step": step, class: kind }, head, cells));
   };
   steps.forEach((step, i) => {
     const texts = (values) => values.map(String);

@@ -35,7 +35,8 @@ export function sentenceOf(step, ring) {
   }
   if (step.kind === "assign") {
     const seen = Math.min(2 * step.round + 1, ring.length);
-    return `Round ${step.round}: with what came from both sides each node assigns its registers. They follow from the ${seen} identifiers within distance ${step.round}.`;
+    return `Round ${step.round}: with what came from both sides each node assigns its registers. `
+      + `They follow from the ${seen} identifiers within distance ${step.round}.`;
   }
   const pairs = equalPairs(step.channels);
   if (pairs.length === 0) return "finish gives the channels. On this ring neighbours’ channels differ.";

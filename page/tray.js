@@ -12,10 +12,13 @@ export function fillTray(ring, ids, add, drag) {
     if (!used.has(identifier)) free.push(identifier);
   }
   if (free.length === 0) return tray.replaceChildren(html("span", {}, ring.length ? "All identifiers are in the ring." : ""));
+  const chip = (identifier) => html("button", {
+    type: "button", class: "chip", "aria-label": `Add ${identifier}`,
+    onclick: () => add(identifier), onpointerdown: (event) => drag(event, identifier),
+  }, String(identifier));
   return tray.replaceChildren(
     html("span", {}, "Add, or drag into the ring:"),
-    ...free.slice(0, SHOWN).map((identifier) =>
-      html("button", { type: "button", class: "chip", "aria-label": `Add ${identifier}`, onclick: () => add(identifier), onpointerdown: (event) => drag(event, identifier) }, String(identifier))),
+    ...free.slice(0, SHOWN).map(chip),
     free.length > SHOWN ? html("span", {}, `and ${free.length - SHOWN} more, by the field Ring`) : "",
   );
 }

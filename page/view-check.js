@@ -7,7 +7,7 @@ import { readRefusal } from "./faults.js";
 
 const box = byId("check");
 
-/** Checks a text and shows the result. Resolves to `{ accepted }` or `{ refusal }`, or to `undefined` if a newer check replaced it. */
+/** Checks a text and shows the result. Resolves to `{ accepted }` or `{ refusal }`, or to `undefined` if a newer check began. */
 export async function check({ text, ids }) {
   box.classList.add("pending");
   const answer = await ask("check", "check", { ids }, text);
@@ -48,7 +48,8 @@ function showAccepted({ ids, rounds, channels, bound, windows }) {
 
 function showRefusal({ code, line, note, at }) {
   box.className = "check bad";
-  const place = at && html("button", { type: "button", class: "place", onclick: goToFault }, `line ${at.row}, column ${at.column}`);
+  const where = at && `line ${at.row}, column ${at.column}`;
+  const place = at && html("button", { type: "button", class: "place", onclick: goToFault }, where);
   box.replaceChildren(
     html("p", { class: "headline" }, html("strong", {}, code ?? "Refused"), place && [" at ", place],
       html("code", { class: "line" }, line)),

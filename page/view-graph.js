@@ -42,8 +42,8 @@ function show(table) {
   const edges = edgesOf(table);
   const equal = edges.filter(([a, b]) => table.channels[a] === table.channels[b]);
   sentence.className = "say";
-  sentence.textContent = `${table.windows.length} windows, ${edges.length.toLocaleString("en")} edges. `
-    + (equal.length ? `${equal.length.toLocaleString("en")} join two windows of one channel.` : "None joins two windows of one channel.");
+  const joined = equal.length ? `${equal.length.toLocaleString("en")} join` : "None joins";
+  sentence.textContent = `${table.windows.length} windows, ${edges.length.toLocaleString("en")} edges. ${joined} two windows of one channel.`;
   const cycles = byId("arrange").querySelector("[value=cycle]");
   // With 2t+2 identifiers each window has one successor, so the graph consists of disjoint cycles.
   cycles.disabled = table.ids !== 2 * table.rounds + 2;
@@ -93,7 +93,8 @@ function cyclePlaces(edges) {
     const centre = [(k % columns) * side, Math.floor(k / columns) * side];
     cycle.forEach((i, j) => (at[i] = { turn: j / cycle.length, centre, radius: 46 }));
   });
-  return { at, width: columns * side, height: Math.ceil(cycles.length / columns) * side, left: -side / 2, top: -side / 2, bend: -0.7 };
+  const rows = Math.ceil(cycles.length / columns);
+  return { at, width: columns * side, height: rows * side, left: -side / 2, top: -side / 2, bend: -0.7 };
 }
 
 function draw({ windows, channels }, edges, { at, width, height, left, top, bend }) {
@@ -162,11 +163,13 @@ function drawEdge([x1, y1], [x2, y2], [cx, cy], { off, bend, headed }) {
     return [x + ((qx - x) * off) / far, y + ((qy - y) * off) / far];
   };
   const [[ax, ay], [bx, by]] = [cut(x1, y1), cut(x2, y2)];
+  const pair = (x, y) => `${x.toFixed(1)} ${y.toFixed(1)}`;
   const group = svg("g", { class: headed ? "edge headed" : "edge" });
-  group.append(svg("path", { class: "edge-line", d: `M${ax.toFixed(1)} ${ay.toFixed(1)}Q${qx.toFixed(1)} ${qy.toFixed(1)} ${bx.toFixed(1)} ${by.toFixed(1)}` }));
+  group.append(svg("path", { class: "edge-line", d: `M${pair(ax, ay)}Q${pair(qx, qy)} ${pair(bx, by)}` }));
   if (headed) {
     const angle = (Math.atan2(by - qy, bx - qx) * 180) / Math.PI;
-    group.append(svg("path", { class: "edge-head", d: "M-7 -3.2L0 0L-7 3.2Z", transform: `translate(${bx.toFixed(1)} ${by.toFixed(1)}) rotate(${angle.toFixed(1)})` }));
+    const transform = `translate(${pair(bx, by)}) rotate(${angle.toFixed(1)})`;
+    group.append(svg("path", { class: "edge-head", d: "M-7 -3.2L0 0L-7 3.2Z", transform }));
   }
   return group;
 }

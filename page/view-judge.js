@@ -71,8 +71,10 @@ function showYes(line, { ids, rounds }) {
     html("p", { class: "aside" }, `${tuples.toLocaleString("en")} tuples were looked at.`),
   );
   witness.replaceChildren(drawTuple(rounds, extra));
+  const pair = extra === 1 ? "two neighbours" : "two nodes at distance two";
   reading.replaceChildren(html("p", { class: "aside caption" },
-    `A tuple: ${2 * rounds + 1 + extra} identifiers in a row hold all that ${extra === 1 ? "two neighbours" : "two nodes at distance two"} can see after ${rounds === 1 ? "one round" : `${rounds} rounds`}. Every such pair on every such ring is in a tuple.`));
+    `A tuple: ${2 * rounds + 1 + extra} identifiers in a row hold all that ${pair} can see after ${inWords(rounds)}. `
+    + "Every such pair on every such ring is in a tuple."));
 }
 
 function showNo({ ring, places, channels }, rounds, all) {
@@ -103,23 +105,29 @@ function showNo({ ring, places, channels }, rounds, all) {
   witness.replaceChildren(drawing.image);
 
   reading.replaceChildren(
-    html("p", { class: "aside" }, rounds === 0 ? "Without a round a node sees itself alone." : `After ${rounds === 1 ? "one round" : `${rounds} rounds`} each of the two has seen this and nothing else.`),
+    html("p", { class: "aside" }, rounds === 0 ? "Without a round a node sees itself alone."
+      : `After ${inWords(rounds)} each of the two has seen this and nothing else.`),
     html("table", { class: "seen" },
       places.map((place, i) => html("tr", {},
         html("th", { scope: "row" }, html("span", { class: `key ${i ? "second" : "first"}` }), `node ${ring[place]}`),
         html("td", { class: "code" }, windowText(ring, place, rounds)),
         html("td", {}, badgeImage(channels[i]))))),
-    html("p", {}, html("button", { type: "button", id: "run-this-ring", onclick: () => change({ ring: ring.join(","), view: "run" }, { keep: true }) },
-      "Run this ring")),
+    html("p", {}, html("button", { type: "button", id: "run-this-ring", onclick: () => runRing(ring) }, "Run this ring")),
   );
   return undefined;
 }
+
+const inWords = (rounds) => (rounds === 1 ? "one round" : `${rounds} rounds`);
+
+const runRing = (ring) => change({ ring: ring.join(","), view: "run" }, { keep: true });
 
 /** The picture of a tuple, with the windows of the two nodes that are compared. */
 function drawTuple(t, extra) {
   const [step, radius, count] = [54, 17, 2 * t + 1 + extra];
   const width = count * step;
-  const image = svg("svg", { class: "tuple", viewBox: `0 0 ${width} 128`, width, height: 128, role: "img", "aria-label": "A tuple and its two windows" });
+  const image = svg("svg", {
+    class: "tuple", viewBox: `0 0 ${width} 128`, width, height: 128, role: "img", "aria-label": "A tuple and its two windows",
+  });
   const x = (place) => (place + 0.5) * step;
   for (let place = 0; place < count; place += 1) {
     if (place > 0) {
@@ -133,7 +141,8 @@ function drawTuple(t, extra) {
   for (const [own, y, name] of [[t, 34, "first"], [t + extra, 94, "second"]]) {
     const [from, to] = [x(own - t) - radius, x(own + t) + radius];
     const group = svg("g", { class: `window ${name}` });
-    group.append(svg("path", { class: "window-line", d: `M${from} ${y}H${to}` }), svg("circle", { class: "window-dot", cx: x(own), cy: y, r: 4 }),
+    group.append(svg("path", { class: "window-line", d: `M${from} ${y}H${to}` }),
+      svg("circle", { class: "window-dot", cx: x(own), cy: y, r: 4 }),
       svg("text", { x: x(own), y: y < 64 ? y - 17 : y + 17 }, `what ${nameOfPlace(own)} sees`));
     image.append(group);
   }

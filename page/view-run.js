@@ -86,7 +86,8 @@ function show({ moving = false } = {}) {
   if (!ring) return stage.replaceChildren();
   if (steps) {
     const most = (lists) => Math.max(0, ...lists.flat().map((value) => String(value).length));
-    digits = [most(steps.map(({ registers }) => registers[register])), most(steps.flatMap(({ left, right }) => (left ? [left, right] : [])))];
+    const sent = steps.flatMap(({ left, right }) => (left ? [left, right] : []));
+    digits = [most(steps.map(({ registers }) => registers[register])), most(sent)];
   }
   const focused = stage.contains(document.activeElement) ? document.activeElement.dataset.place : undefined;
   drawing = drawRing({
@@ -103,9 +104,8 @@ function show({ moving = false } = {}) {
 }
 
 function showStep(step, moving) {
-  const caption = { start: ["start", ""], send: [`round ${step.round}`, "send"], assign: [`round ${step.round}`, "assign"], finish: ["finish", ""] };
-  const [big, small] = caption[step.kind];
-  say(drawing.layers.centre, small ? [[big, "centre-big"], [small, "centre-small"]] : [[big, "centre-big"]]);
+  const inRound = step.kind === "send" || step.kind === "assign";
+  say(drawing.layers.centre, inRound ? [[`round ${step.round}`, "centre-big"], [step.kind, "centre-small"]] : [[step.kind, "centre-big"]]);
   if (step.kind === "send" || (step.kind === "assign" && moving)) drawMessages(drawing, step, moving);
   if (step.kind === "assign") {
     drawing.nodes.forEach((node, place) => {
@@ -125,7 +125,8 @@ function describe(node, place, ring, step) {
   const channel = step?.channels ? `, channel ${step.channels[place]}` : "";
   node.setAttribute("tabindex", "0");
   node.setAttribute("role", "button");
-  node.setAttribute("aria-label", `Node ${ring[place]} at place ${place}: ${held}${channel}. Delete takes it out, Shift with arrows moves it.`);
+  node.setAttribute("aria-label",
+    `Node ${ring[place]} at place ${place}: ${held}${channel}. Delete takes it out, Shift with arrows moves it.`);
   node.addEventListener("pointerenter", () => highlight(place));
   node.addEventListener("pointerleave", () => highlight(null));
   node.addEventListener("focus", () => highlight(place));

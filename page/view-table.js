@@ -73,16 +73,16 @@ function showWindows() {
     if (found.length < SHOWN) found.push(i);
   });
   const all = table.windows.length.toLocaleString("en");
+  const shown = count > SHOWN ? `; the first ${SHOWN} are shown` : "";
   byId("table-say").textContent = wanted.length
-    ? `${count.toLocaleString("en")} of ${all} windows begin with ${wanted.join(" ")}${count > SHOWN ? `; the first ${SHOWN} are shown` : ""}.`
-    : `${all} windows${count > SHOWN ? `; the first ${SHOWN} are shown` : ""}. The middle identifier is the node itself.`;
+    ? `${count.toLocaleString("en")} of ${all} windows begin with ${wanted.join(" ")}${shown}.`
+    : `${all} windows${shown}. The middle identifier is the node itself.`;
   const width = 8.2 * Math.max(...found.map((i) => table.windows[i].length), 5) + 40;
   byId("windows").replaceChildren(html("ul", { style: { columnWidth: `${width}px` } }, found.map((i) => {
     const identifiers = table.windows[i].split(" ");
     const middle = (identifiers.length - 1) / 2;
-    return html("li", {},
-      html("span", { class: "code" }, identifiers.flatMap((identifier, j) => [j === middle ? html("b", {}, identifier) : identifier, " "])),
-      badgeImage(table.channels[i]));
+    const parts = identifiers.flatMap((identifier, j) => [j === middle ? html("b", {}, identifier) : identifier, " "]);
+    return html("li", {}, html("span", { class: "code" }, parts), badgeImage(table.channels[i]));
   })));
 }
 

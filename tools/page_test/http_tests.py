@@ -30,13 +30,15 @@ def address(server):
     STEPS.equal("it says its address", server.greeting, f"nbhd-page: http://{server.own}/ (Ctrl-C ends it)\n")
 
     def refused(program, *words):
-        ran = subprocess.run([sys.executable, str(ROOT / "nbhd-page"), *words], capture_output=True, text=True, env={**os.environ, "NBHD": program})
+        words = [sys.executable, str(ROOT / "nbhd-page"), *words]
+        ran = subprocess.run(words, capture_output=True, text=True, env={**os.environ, "NBHD": program})
         return ran.returncode, ran.stdout + ran.stderr
 
     status, said = refused(str(PROGRAM), "--port", str(server.port))
     STEPS.check("a port in use", status == 1 and "--port" in said, said)
     status, said = refused("/nowhere/nbhd", "--port", "0")
-    STEPS.equal("a program that is not built", (status, said), (1, "nbhd-page: there is no program at /nowhere/nbhd; ./build proves and builds it\n"))
+    wanted = "nbhd-page: there is no program at /nowhere/nbhd; ./build proves and builds it\n"
+    STEPS.equal("a program that is not built", (status, said), (1, wanted))
 
 
 def files(server):
@@ -61,7 +63,8 @@ def senders(server):
         STEPS.equal(f"Host {host}", server.ask("GET /", {"Host": host})[0], 403)
     twice = server.raw(f"GET / HTTP/1.1\r\nHost: {own}\r\nHost: evil.example\r\n\r\n".encode())
     STEPS.equal("two hosts", twice[9:12], b"403")
-    for origin in ("http://evil.example", "null", f"https://{own}", f"http://localhost:{port}", f"http://{own}.evil.example", f"http://{other}"):
+    foreign = ["http://evil.example", "null", f"https://{own}", f"http://localhost:{port}", f"http://{own}.evil.example", f"http://{other}"]
+    for origin in foreign:
         STEPS.equal(f"POST of Origin {origin}", server.run("check", {"ids": "8"}, CV1, {"Origin": origin})[0], 403)
         STEPS.equal(f"GET of Origin {origin}", server.ask("GET /", {"Origin": origin})[0], 403)
     cross = {"Sec-Fetch-Site": "cross-site"}
@@ -78,8 +81,8 @@ def bodies(server):
     broken = [b"x", b"{", b"[" * 100000, b"null", b"[]", b'"check"', b"1e999", b"\xff\xfe", b'{"command": "check"}']
     changes = [{"command": value} for value in ("audit", ["check"], "--help", None)]
     changes += [{"text": value} for value in (5, None)]
-    options = (None, ["ids"], {"ids": 8}, {"ring": "1"}, {"workers": "64"}, {"help": ""}, {"ids": "8\0"}, {"ids": "\ud800"}, {"ids": "9" * 9000})
-    changes += [{"options": value} for value in options]
+    changes += [{"options": value} for value in (None, ["ids"], {"ring": "1"}, {"workers": "64"}, {"help": ""})]
+    changes += [{"options": {"ids": value}} for value in (8, "8\0", "\ud800", "9" * 9000)]
     for body in broken + [json.dumps({**CHECK, **change}).encode() for change in changes]:
         STEPS.equal(f"body {body[:60]}", server.ask("POST /nbhd", JSON, body)[0], 400)
     headers = (
@@ -110,7 +113,10 @@ def long_requests(server):
         STEPS.equal(f"ids {ids}", server.run("check", {"ids": ids}, CV1)[1].get("status"), 2)
     STEPS.equal("ring -h", server.run("trace", {"ids": "8", "ring": "-h"}, CV1)[1].get("status"), 2)
     linial = (ROOT / "examples/linial_poly.txt").read_text(encoding="ascii")
-    STEPS.equal("a table over 8 MB", server.run("table", {"ids": "102"}, linial), (503, {"refused": "the output is longer than 8 MB"}))
+    refused = {"refused": "the output is longer than 8 MB"}
+    STEPS.equal("a table over 8 MB", server.run("table", {"ids": "102"}, linial), (503, refused))
+    twice = server.raw(2 * f"GET / HTTP/1.1\r\nHost: {server.own}\r\nConnection: keep-alive\r\n\r\n".encode())
+    STEPS.equal("two requests in one connection", twice.count(b"HTTP/1.0 200"), 1)
 
 
 def eventually(condition, seconds=5):
@@ -181,6 +187,16 @@ class Limits:
                 ended = True
         STEPS.check("a client of 3 bytes a second is cut off", ended and time.monotonic() - begin < 15)
 
+    def head(self, length):
+        """The head of a request for a run."""
+        fields = {"Host": self.server.own, "Content-Type": "application/json", "Content-Length": length}
+        return ("POST /nbhd HTTP/1.1\r\n" + "".join(f"{name}: {value}\r\n" for name, value in fields.items()) + "\r\n").encode()
+
+    def short_body(self):
+        begin = time.monotonic()
+        answer = self.server.raw(self.head(100) + b"{")
+        STEPS.check("a body that ends too soon", not answer and time.monotonic() - begin < 15, answer)
+
     def at_once(self):
         def together(*jobs):
             threads = [threading.Thread(target=job) for job in jobs]
@@ -195,14 +211,13 @@ class Limits:
         together(*four, fifth, lambda: STEPS.check("at most four run", len(self.server.children()) <= 4))
         three = [lambda: self.timed("a run of 60 s is stopped", "sleep 60", 503, 9.5, 15)] * 3
         fork = lambda: self.timed("its child is stopped too", "fork 60", 503, 9.5, 15)
-        together(*three, fork, self.slow_client, lambda: self.timed("a fifth is refused", "echo", 503, 4.5, 9))
+        together(*three, fork, self.slow_client, self.short_body, lambda: self.timed("a fifth is refused", "echo", 503, 4.5, 9))
         STEPS.equal("no run is left", self.server.children(), set())
 
     def gone_client(self):
         body = json.dumps({"command": "check", "options": {}, "text": "sleep 60"}).encode()
-        head = f"POST /nbhd HTTP/1.1\r\nHost: {self.server.own}\r\nContent-Type: application/json\r\nContent-Length: {len(body)}\r\n\r\n"
         with socket.create_connection(("127.0.0.1", self.server.port)) as link:
-            link.sendall(head.encode() + body)
+            link.sendall(self.head(len(body)) + body)
             STEPS.check("a run is under way", eventually(lambda: len(self.server.children()) == 1))
         STEPS.check("it ends with its client", eventually(lambda: not self.server.children()))
 

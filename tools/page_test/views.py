@@ -9,6 +9,7 @@ from collections import Counter
 from steps import CV1, LDB, ROOT, STEPS, nbhd, note_of
 
 IDS = ("--ids", "8")
+NO_DRAWN = "document.querySelector('.verdict.no') && document.querySelector('#witness .badge')"
 
 
 def nearest(spot, points):
@@ -65,7 +66,8 @@ def faults(page):
         shown_note(page, f"{name}: its note", text)
         has_place = line.startswith("text") or note_of(text, "check", *IDS)[0]
         STEPS.equal(f"{name}: marks", page.count(".ink .fault"), 1 if has_place else 0)
-        STEPS.equal(f"{name}: the coloured copy has the same text", page.value("document.querySelector('.ink').textContent"), text + "\n")
+        copy = page.value("document.querySelector('.ink').textContent")
+        STEPS.equal(f"{name}: the coloured copy has the same text", copy, text + "\n")
     page.fill("#text", CV1)
     page.fill("#ids", "3")
     page.wait("a refusal without a place", "document.querySelector('.check .line')?.textContent === 'check fault X1'")
@@ -108,8 +110,8 @@ def message_places(page, count):
     nodes = [page.middle(f".node[data-place='{place}'] .disc") for place in range(count)]
     centre = [sum(values) / count for values in zip(*nodes)]
     radius = math.dist(centre, nodes[0])
-    heads = page.middles(".ring .link path:last-child")
-    STEPS.equal("the arrows lead to the right neighbours", [nearest(head, nodes) for head in heads], [(place + 1) % count for place in range(count)])
+    leads = [nearest(head, nodes) for head in page.middles(".ring .link path:last-child")]
+    STEPS.equal("the arrows lead to the right neighbours", leads, [(place + 1) % count for place in range(count)])
     for way, step, outside in (("right", 1, True), ("left", -1, False)):
         spots = page.middles(f".message.{way}")
         for place, spot in enumerate(spots):
@@ -125,11 +127,14 @@ def windows_known(page):
     for step, rounds in ((0, 0), (1, 0), (2, 1), (3, 1), (4, 2), (5, 2)):
         page.click(f"#timeline li:nth-child({step + 1}) button")
         page.focus(".node[data-place='3']")
-        band = "document.querySelector('.window.known path')"
-        turns = page.value(f"(p => p.getTotalLength() / (2 * Math.PI * Number(p.getAttribute('d').match(/A([\\d.]+)/)[1])))({band})")
-        STEPS.check(f"the window known in step {step}", abs(turns * 10 - (2 * rounds + 0.6)) < 0.01, turns * 10)
-        middle = page.value(f"(p => {{ const q = p.getPointAtLength(p.getTotalLength() / 2); return (Math.atan2(q.x, -q.y) / (2 * Math.PI) + 1) % 1; }})({band})")
-        STEPS.check(f"its middle in step {step}", abs(middle - 0.3) < 0.01, middle)
+        length, x, y = page.value(
+            "(p => { const l = p.getTotalLength(), m = p.getPointAtLength(l / 2); return [l, m.x, m.y]; })"
+            "(document.querySelector('.window.known path'))"
+        )
+        places = 10 * length / (2 * math.pi * math.hypot(x, y))
+        STEPS.check(f"the window known in step {step}", abs(places - (2 * rounds + 0.6)) < 0.01, places)
+        middle = 10 * math.atan2(x, -y) / (2 * math.pi)
+        STEPS.check(f"its middle in step {step}", abs(middle - 3) < 0.01, middle)
 
 
 def equal_channels(page):
@@ -138,11 +143,14 @@ def equal_channels(page):
         page.open(view="run", ids="8", ring=ring, text=LDB)
         page.wait_ring(f"LDB on {ring}", ring)
         identifiers, channels = ring.split(","), nbhd(LDB, "run", *IDS, "--ring", ring).split()
-        equal = [place for place in range(len(channels)) if channels[place] == channels[(place + 1) % len(channels)]]
+        pairs = [(place, (place + 1) % len(channels)) for place in range(len(channels))]
+        equal = [(a, b) for a, b in pairs if channels[a] == channels[b]]
         red = "[...document.querySelectorAll('#stage .link')].flatMap((link, place) => link.matches('.equal') ? [place] : [])"
-        STEPS.equal(f"red links of {ring}", page.value(red), equal)
-        pair = f"The neighbours {identifiers[equal[0]]} and {identifiers[(equal[0] + 1) % len(channels)]} have one channel" if equal else "channels differ"
-        STEPS.check(f"the sentence on {ring}", pair in page.text("#run-say"), page.text("#run-say"))
+        STEPS.equal(f"red links of {ring}", page.value(red), [a for a, _ in equal])
+        said = "neighbours’ channels differ"
+        for a, b in equal[:1]:
+            said = f"The neighbours {identifiers[a]} and {identifiers[b]} have one channel"
+        STEPS.check(f"the sentence on {ring}", said in page.text("#run-say"), page.text("#run-say"))
 
 
 def drag(page):
@@ -185,7 +193,7 @@ def edit_ring(page):
 
 def judge(page):
     page.open(view="judge", ids="8", ring="5,1,3,7", text=LDB)
-    page.wait("the no of LDB", "document.querySelector('.verdict.no') && document.querySelectorAll('.ring .badge').length")
+    page.wait("the no of LDB", NO_DRAWN)
     found = re.fullmatch(r"no: ring ([\d ]+) place (\d+) channel (\d+)\n", nbhd(LDB, "judge", *IDS))
     ring, place, channel = found[1].split(), int(found[2]), found[3]
     STEPS.equal("its ring", page.texts(".ring .identifier"), ring)
@@ -193,7 +201,8 @@ def judge(page):
     STEPS.equal("their channels", page.texts(".node.chosen .badge-number"), [channel] * 2)
     STEPS.equal("their windows", page.texts(".seen td.code"), [" ".join(ring[:3]), " ".join(ring[1:])])
     nodes = [page.middle(f"#witness .node[data-place='{number}'] .disc") for number in range(len(ring))]
-    STEPS.equal("the middles of the windows' lines", [nearest(dot, nodes) for dot in page.middles(".ring .window-dot")], [place, place + 1])
+    middles = [nearest(dot, nodes) for dot in page.middles(".ring .window-dot")]
+    STEPS.equal("the middles of the windows' lines", middles, [place, place + 1])
     page.click("#run-this-ring")
     page.wait_ring("run this ring", ",".join(ring))
     STEPS.check("equal channels are red", page.count("#stage .link.equal") > 0)
@@ -208,7 +217,7 @@ def judge_distances(page):
     STEPS.check("its number of tuples", f"{tuples:,} tuples" in page.text(".verdict"), page.text(".verdict"))
     STEPS.check("its rings", "at least 4 distinct identifiers below 8" in page.text(".verdict"), page.text(".verdict"))
     page.fill("#far", "1")
-    page.wait("the no at distance two", "document.querySelector('.verdict.no') && document.querySelectorAll('#witness .badge').length")
+    page.wait("the no at distance two", NO_DRAWN)
     line = nbhd(CV1, "judge", *IDS, "--near", "1", "--far", "1")
     found = re.fullmatch(r"no: ring ([\d ]+) places (\d+) (\d+) channels (\d+) (\d+)\n", line)
     ring = found[1].split()
@@ -219,7 +228,7 @@ def judge_distances(page):
         page.open(view="judge", ids="8", example="identity.txt", near=near, far=far)
         line = nbhd(identity, "judge", *IDS, "--near", near, "--far", far)
         found = re.fullmatch(r"no: ring ([\d ]+) places (\d+) (\d+) channels (\d+) (\d+)\n", line)
-        page.wait(f"the no of {near} and {far}", "document.querySelector('.verdict.no') && document.querySelectorAll('#witness .badge').length")
+        page.wait(f"the no of {near} and {far}", NO_DRAWN)
         STEPS.equal(f"its ring for {near} and {far}", page.texts("#witness .identifier"), found[1].split())
         STEPS.equal(f"its channels for {near} and {far}", page.texts(".node.chosen .badge-number"), [found[4], found[5]])
     page.fill("#near", "0")
@@ -232,21 +241,22 @@ def table(page):
     text = nbhd(CV1, "table", *IDS)
     lines = [line.split(" : ") for line in text.splitlines() if " : " in line]
     counts = sorted(Counter(int(channel) for _, channel in lines).items())
-    bars = "[...document.querySelectorAll('.histogram li')].map(l => [+l.querySelector('text').textContent, +l.querySelector('.count').textContent])"
-    STEPS.equal("how often each channel occurs", page.value(bars), [list(pair) for pair in counts])
+    bars = list(zip(page.texts(".histogram text"), page.texts(".histogram .count")))
+    STEPS.equal("how often each channel occurs", bars, [(str(channel), str(count)) for channel, count in counts])
     STEPS.equal("its shares", page.texts(".histogram .share"), [f"{100 * count / len(lines):.1f} %" for _, count in counts])
     page.fill("#prefix", "1 6")
     wanted = [f"{window}:{channel}" for window, channel in lines if window.startswith("1 6 ")]
     page.wait("a search", f"document.querySelectorAll('.windows li').length === {len(wanted)}")
-    windows = "[...document.querySelectorAll('.windows li')].map(l => l.querySelector('.code').textContent.trim() + ':' + l.querySelector('text').textContent)"
-    STEPS.equal("its windows", page.value(windows), wanted)
+    windows = zip(page.texts(".windows .code"), page.texts(".windows text"))
+    STEPS.equal("its windows", [f"{window.strip()}:{channel}" for window, channel in windows], wanted)
     page.value("window.saved = ''; URL.createObjectURL = (blob) => { blob.text().then(t => window.saved = t); return '#'; }")
     page.click("#save")
     page.wait("saving", "window.saved")
     STEPS.equal("the saved text", page.value("window.saved"), text)
     page.open(view="table", ids="16", example="cv1.txt", prefix="1")
     wanted = [line for line in nbhd(CV1, "table", "--ids", "16").splitlines() if line.startswith("1 ")]
-    page.wait("a search for a whole identifier", f"document.querySelector('#table-say').textContent.startsWith('{len(wanted)} of ')")
+    found = f"document.querySelector('#table-say').textContent.startsWith('{len(wanted)} of ')"
+    page.wait("a search for a whole identifier", found)
     page.open(view="table", ids="102", example="linial_poly.txt")
     page.wait("a table that is too long", "/longer than 8 MB/.test(document.querySelector('#table-refused').textContent)")
 
@@ -298,7 +308,8 @@ def links(page):
 
 def exercises(page):
     """The links of the exercises lead to programs. Two are refused: one has too few channels, one too many rounds."""
-    links = re.findall(r"^\[\d+\]: http://127\.0\.0\.1:8765/(#.*)$", (ROOT / "docs/EXERCISES.md").read_text(encoding="utf-8"), re.MULTILINE)
+    text = (ROOT / "docs/EXERCISES.md").read_text(encoding="utf-8")
+    links = re.findall(r"^\[\d+\]: http://127\.0\.0\.1:8765/(#.*)$", text, re.MULTILINE)
     STEPS.equal("exercises with a link", len(links), 10)
     for number, fragment in enumerate(links, 1):
         page.browser.open(page.url + fragment)
@@ -316,8 +327,8 @@ def examples(page):
         page.wait(f"example {number + 1} is accepted", "document.querySelector('.check.good')")
         size = "(t => t.scrollWidth <= t.clientWidth && t.scrollHeight <= t.clientHeight)(document.querySelector('#text'))"
         STEPS.check(f"example {number + 1}: the text area is as large as the coloured copy", page.value(size))
-    unnamed = "[...document.querySelectorAll('input,select,textarea')].filter(e => !e.labels?.length && !e.ariaLabel).map(e => e.id)"
-    STEPS.equal("fields without a label", page.value(unnamed), [])
+    fields = "[...document.querySelectorAll('input,select,textarea')]"
+    STEPS.equal("fields without a label", page.value(f"{fields}.filter(e => !e.labels?.length && !e.ariaLabel).map(e => e.id)"), [])
     unnamed = "[...document.querySelectorAll('button')].filter(e => !(e.textContent.trim() || e.ariaLabel)).length"
     STEPS.equal("buttons without a name", page.value(unnamed), 0)
 
@@ -348,12 +359,13 @@ def formats(page):
         return page.call("faults.js", f"m.readRefusal({json.dumps({'out': out, 'note': note})}, {json.dumps(text)})")
 
     index = text.index("lift")
-    place = {"row": 7, "column": 8, "index": index}
-    found = refusal(f"text fault N3 at {index}\n", "nbhd: line 7, column 8: `lift` is no word of the language\n    send lift 0\n         ^\n")
-    STEPS.equal("a note with a place", found, {"code": "N3", "line": f"text fault N3 at {index}", "note": "`lift` is no word of the language", "at": place})
-    STEPS.equal("an offset without a note", refusal(f"text fault N3 at {index}\n", "")["at"], place)
-    found = refusal("check fault C4 bound 11\n", "nbhd: channels may be as large as 11: write `channels 12` or more\n")
-    STEPS.equal("a note without a place", (found["note"], found["at"]), ("channels may be as large as 11: write `channels 12` or more", None))
+    place, line, cause = {"row": 7, "column": 8, "index": index}, f"text fault N3 at {index}", "`lift` is no word of the language"
+    found = refusal(f"{line}\n", f"nbhd: line 7, column 8: {cause}\n    send lift 0\n         ^\n")
+    STEPS.equal("a note with a place", found, {"code": "N3", "line": line, "note": cause, "at": place})
+    STEPS.equal("an offset without a note", refusal(f"{line}\n", "")["at"], place)
+    cause = "channels may be as large as 11: write `channels 12` or more"
+    found = refusal("check fault C4 bound 11\n", f"nbhd: {cause}\n")
+    STEPS.equal("a note without a place", (found["note"], found["at"]), (cause, None))
     found = refusal("check fault C3\n", "nbhd: line 5, column 6: `L` and `R` can be read in a round alone\n  r0 = id\n       ^\n")
     STEPS.equal("a place of a program that is not accepted", found["at"]["index"], text.index("id"))
     found = refusal("", "nbhd: bad ring\n")
@@ -378,4 +390,5 @@ def restart(page, server):
     page.wait_ring("the ring after it", "5,1,3,7,0")
 
 
-VIEWS = [check, faults, run, windows_known, equal_channels, drag, edit_ring, judge, judge_distances, table, graph, links, exercises, examples, typing, formats]
+VIEWS = [check, faults, typing, run, windows_known, equal_channels, drag, edit_ring, judge, judge_distances, table, graph]
+VIEWS += [links, exercises, examples, formats]
