@@ -43,7 +43,8 @@ function show(table) {
   const equal = edges.filter(([a, b]) => table.channels[a] === table.channels[b]);
   sentence.className = "say";
   const joined = equal.length ? `${equal.length.toLocaleString("en")} join` : "None joins";
-  sentence.textContent = `${table.windows.length} windows, ${edges.length.toLocaleString("en")} edges. ${joined} two windows of one channel.`;
+  const counts = `${table.windows.length} windows, ${edges.length.toLocaleString("en")} edges.`;
+  sentence.textContent = `${counts} ${joined} two windows of one channel.`;
   const cycles = byId("arrange").querySelector("[value=cycle]");
   // With 2t+2 identifiers each window has one successor, so the graph consists of disjoint cycles.
   cycles.disabled = table.ids !== 2 * table.rounds + 2;
@@ -154,7 +155,8 @@ function allowKeys(points) {
   });
 }
 
-/** An arrow between two points, bent towards the centre, or away from it if `bend` is negative. */
+/** An arrow between two points, bent towards the centre, or away from it if `bend` is negative. Without `headed` its head is shown
+ * only while one of its windows is pointed at. */
 function drawEdge([x1, y1], [x2, y2], [cx, cy], { off, bend, headed }) {
   const [mx, my] = [(x1 + x2) / 2, (y1 + y2) / 2];
   const [qx, qy] = [mx + (cx - mx) * bend, my + (cy - my) * bend];
@@ -166,11 +168,9 @@ function drawEdge([x1, y1], [x2, y2], [cx, cy], { off, bend, headed }) {
   const pair = (x, y) => `${x.toFixed(1)} ${y.toFixed(1)}`;
   const group = svg("g", { class: headed ? "edge headed" : "edge" });
   group.append(svg("path", { class: "edge-line", d: `M${pair(ax, ay)}Q${pair(qx, qy)} ${pair(bx, by)}` }));
-  if (headed) {
-    const angle = (Math.atan2(by - qy, bx - qx) * 180) / Math.PI;
-    const transform = `translate(${pair(bx, by)}) rotate(${angle.toFixed(1)})`;
-    group.append(svg("path", { class: "edge-head", d: "M-7 -3.2L0 0L-7 3.2Z", transform }));
-  }
+  const angle = (Math.atan2(by - qy, bx - qx) * 180) / Math.PI;
+  const transform = `translate(${pair(bx, by)}) rotate(${angle.toFixed(1)})`;
+  group.append(svg("path", { class: "edge-head", d: "M-7 -3.2L0 0L-7 3.2Z", transform }));
   return group;
 }
 
