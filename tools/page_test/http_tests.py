@@ -127,12 +127,12 @@ def eventually(condition, seconds=5):
     return condition()
 
 
-def is_stub(process):
-    """Whether the process with this number is a run of the stub."""
+def command_line(process):
+    """The words of the process with this number, each with a zero byte after it; nothing if it has ended."""
     try:
-        return str(STUB).encode() in Path(f"/proc/{process}/cmdline").read_bytes()
+        return Path(f"/proc/{process}/cmdline").read_bytes()
     except OSError:
-        return False
+        return b""
 
 
 def limits():
@@ -210,9 +210,14 @@ class Limits:
         fifth = lambda: self.timed("the fifth waits", "sleep 1", 200, 1.5, 10)
         together(*four, fifth, lambda: STEPS.check("at most four run", len(self.server.children()) <= 4))
         three = [lambda: self.timed("a run of 60 s is stopped", "sleep 60", 503, 9.5, 15)] * 3
-        fork = lambda: self.timed("its child is stopped too", "fork 60", 503, 9.5, 15)
+        # By its number of seconds the stub's child is known.
+        seconds = f"60.{os.getpid()}"
+        fork = lambda: self.timed("a run that left a child is stopped", f"fork {seconds}", 503, 9.5, 15)
         together(*three, fork, self.slow_client, self.short_body, lambda: self.timed("a fifth is refused", "echo", 503, 4.5, 9))
         STEPS.equal("no run is left", self.server.children(), set())
+        processes = [entry.name for entry in Path("/proc").iterdir() if entry.name.isdigit()]
+        left = [process for process in processes if f"sleep\0{seconds}".encode() in command_line(process)]
+        STEPS.equal("the child is not left", left, [])
 
     def gone_client(self):
         body = json.dumps({"command": "check", "options": {}, "text": "sleep 60"}).encode()
@@ -233,4 +238,4 @@ class Limits:
         STEPS.check("a run before the end", eventually(self.server.children))
         left = self.server.children()
         STEPS.equal("Ctrl-C", self.server.end(), 0)
-        STEPS.check("it ends the runs", eventually(lambda: not any(is_stub(child) for child in left)))
+        STEPS.check("it ends the runs", eventually(lambda: not any(str(STUB).encode() in command_line(child) for child in left)))
