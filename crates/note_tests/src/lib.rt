@@ -1,0 +1,11 @@
+//! The mistakes that a newcomer makes, each with the note that names its cause, as tests through the public calls.
+#![tactic(auto)]
+
+#[cfg(test)]
+mod programs;
+#[cfg(test)]
+mod refusals;
+#[cfg(test)]
+mod tables;
+#[cfg(test)]
+mod texts;
