@@ -25,7 +25,7 @@ count_free n m [] rest = refl
 count_free n m (b ∷ bs) rest = refl
 
 -- this text begins with the same word as that, and has these tokens more
-record Extends (longer shorter : Split) (more : List Token) : Type 0 where
+pub record Extends (longer shorter : Split) (more : List Token) : Type 0 where
   pub word : longer.word ≡ shorter.word
   pub tokens : tokens_in longer.rest ≡ tokens_in shorter.rest ++ more
 
@@ -33,10 +33,10 @@ joined_same : (n m : ℕ) (w : List ℕ) (rest left : List Lexeme) (more : List 
 joined_same n m [] rest left more e = e
 joined_same n m (b ∷ bs) rest left more e = ap (λ ts. word_token (b ∷ bs) ∷ ts) e
 
-joined_extends : (n m : ℕ) (s t : Split) (more : List Token) → Extends s t more → tokens_in (joined n s.word s.rest) ≡ tokens_in (joined m t.word t.rest) ++ more
+pub joined_extends : (n m : ℕ) (s t : Split) (more : List Token) → Extends s t more → tokens_in (joined n s.word s.rest) ≡ tokens_in (joined m t.word t.rest) ++ more
 joined_extends n m s t more h = ap (λ w. tokens_in (joined n w s.rest)) h.word ∙ joined_same n m t.word s.rest t.rest more h.tokens
 
-put_extends : (b n m : ℕ) (s t : Split) (more : List Token) → Extends s t more → Extends (put_before b n s) (put_before b m t) more
+pub put_extends : (b n m : ℕ) (s t : Split) (more : List Token) → Extends s t more → Extends (put_before b n s) (put_before b m t) more
 put_extends b n m s t more h =
     elim (is_word_byte b) as (λ c. Extends
     (cond c (record { word = b ∷ s.word; rest = s.rest }) (cond (is_blank b) (record { word = []; rest = joined n s.word s.rest }) (record { word = []; rest = record { from = n + 1; token = mark_token b } ∷ joined n s.word s.rest })))
@@ -53,14 +53,14 @@ put_extends b n m s t more h =
     ]
 
 -- the tokens of a text without comments
-abbrev tokens_split : List ℕ → List Token
+abbrev pub tokens_split : List ℕ → List Token
 tokens_split text = tokens_in (joined (length text) (split_of text).word (split_of text).rest)
 
 split_extends : (xs ys : List ℕ) → Extends (split_of (xs ++ 10 ∷ ys)) (split_of xs) (tokens_split ys)
 split_extends [] ys = record { word = refl; tokens = refl }
 split_extends (b ∷ bs) ys = put_extends b (length (bs ++ 10 ∷ ys)) (length bs) (split_of (bs ++ 10 ∷ ys)) (split_of bs) (tokens_split ys) (split_extends bs ys)
 
-tokens_of-split : (text : List ℕ) → tokens_of text ≡ tokens_split (blanked false text)
+pub tokens_of-split : (text : List ℕ) → tokens_of text ≡ tokens_split (blanked false text)
 unfolding lexemes_of
 tokens_of-split text = count_free (length text) (length (blanked false text)) (split_of (blanked false text)).word (split_of (blanked false text)).rest
 

@@ -178,14 +178,14 @@ open_at (At (ANumber low high w) n) from r e read m reached =
     record { rest = ANumber low high w; nodes = n; came = e; place = reached.0; fixed = reached.1; unfinished = λ p e. cc }
 
 -- the fault of a short ASCII text is the one at which reading stops
-lexeme_fault : (text : List ℕ) (k : FaultKind) (offset : ℕ) → FaultsAt text k offset → length text ≤ LONGEST_TEXT → All (λ b. b < 128) text →
+pub lexeme_fault : (text : List ℕ) (k : FaultKind) (offset : ℕ) → FaultsAt text k offset → length text ≤ LONGEST_TEXT → All (λ b. b < 128) text →
     (from : ℕ) × (program 0 (lexemes_of text) ≡ Fault k from)
 lexeme_fault text k offset (too_long h) few ascii = absurd (omega (arith, h, few))
 lexeme_fault text k offset (not_ascii o short first) few ascii = absurd (let low = ascii o 0 first.within in omega (arith, low, first.high))
 lexeme_fault text k offset (in_lexemes j o from short low first at) few ascii = (from, stops_at_first_fault (lexemes_of text) j from first)
 
 -- a text that only ends too soon is short, and ASCII
-record IsPlain (text : List ℕ) : Type 0 where
+pub record IsPlain (text : List ℕ) : Type 0 where
   pub short : length text ≤ LONGEST_TEXT
   pub ascii : All (λ b. b < 128) text
 
