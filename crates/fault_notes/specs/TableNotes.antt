@@ -6,6 +6,10 @@ use Rattle.win_index.specs.Windows.{windows}
 use Rattle.fault_notes.specs.TextNotes.{place_head}
 use Rattle.fault_notes.specs.VerdictNotes.{parted}
 
+-- a text that is too long
+abbrev pub long_note : List ℕ
+long_note = codes "nbhd: the text of a table has at most 134217728 bytes\n"
+
 -- a line without its form; a piece of advice may follow
 pub record IsFormNote (text : List ℕ) (offset : ℕ) (note : List ℕ) : Type 0 where
   pub advice : List ℕ

@@ -15,6 +15,6 @@ mod words;
 
 pub use programs::check_note;
 pub use rings::{ring_note, segments_note};
-pub use tables::{channel_note, form_note, window_note};
+pub use tables::{channel_note, form_note, long_note, window_note};
 pub use texts::text_note;
 pub use verdicts::verdict_note;

@@ -2,7 +2,7 @@
 
 ghost use Rattle.std.specs.Prelude.{◌≡◌, ◌+◌, ◌-◌, ◌*◌, ◌<◌, ◌≤◌, ℕ, Some, length, slice_get, IfOk, IfSome, string_bytes};
 ghost use Rattle.win_index.specs.Windows.{windows};
-ghost use Rattle.fault_notes.specs.TableNotes.{IsFormNote, IsWindowNote, line_note, channel_note};
+ghost use Rattle.fault_notes.specs.TableNotes.{long_note, IsFormNote, IsWindowNote, line_note, channel_note};
 
 use crate::numbers::write_parted;
 use crate::texts::write_head;
@@ -10,6 +10,13 @@ use source_places::write_marked_line;
 use std::alloc::{AllocError, Global};
 use std::fmt::Write;
 use win_index::{MAX_ROUNDS, Shape};
+
+/// The note on a text that is too long. The error comes where memory was refused.
+pub fn long_note(alloc: Global) -> Result<String, AllocError>
+    ensures { IfOk result (λ note. string_bytes note ≡ long_note) }
+{
+    format!(in alloc; "nbhd: the text of a table has at most 134217728 bytes\n")
+}
 
 /// The note on the line that has not its form, which begins at this offset. The error comes where memory was refused.
 pub fn form_note(alloc: Global, text: &[u8], offset: usize) -> Result<String, AllocError>

@@ -1,5 +1,5 @@
 -- Why a report is a refusal or a no, and the note that tells it.
-use Rattle.std.specs.Prelude.{◌≡◌, ◌≢◌, ℕ, ◌≤◌, List, length}
+use Rattle.std.specs.Prelude.{◌≡◌, ◌≢◌, ℕ, ◌<◌, ◌≤◌, List, length}
 use Rattle.node_lang.specs.declared.limits.TheConstants.{MAX_ROUNDS}
 use Rattle.node_lang.specs.declared.fault.FaultKind.TheVariants as kind
 use Rattle.node_lang.specs.Term.{ProgramTree}
@@ -13,11 +13,12 @@ use Rattle.nbhd_check.specs.Verdicts.{IsWitness}
 use Rattle.ring_exec.specs.SegmentCounts.{IsSegmentCount}
 use Rattle.table_text.specs.declared.fault.TableFault.{TableFault}
 use Rattle.table_text.specs.declared.fault.TableFault.TheVariants as table
+use Rattle.table_text.specs.declared.limits.TheConstants.{LONGEST_TABLE_TEXT}
 use Rattle.table_text.specs.Faults.{IsFault}
 use Rattle.fault_notes.specs.TextNotes.{IsTextNote, too_long_note}
 use Rattle.fault_notes.specs.ProgramNotes.{IsCheckNote}
 use Rattle.fault_notes.specs.RingNotes.{ring_note, segments_note}
-use Rattle.fault_notes.specs.TableNotes.{IsFormNote, IsWindowNote, channel_note}
+use Rattle.fault_notes.specs.TableNotes.{long_note, IsFormNote, IsWindowNote, channel_note}
 use Rattle.fault_notes.specs.VerdictNotes.{verdict_note}
 use Rattle.plan_print.specs.declared.cause.Cause.{Cause}
 use Rattle.plan_print.specs.declared.cause.Cause.TheVariants as cause
@@ -34,7 +35,8 @@ Explains input (cause.No rounds ring places channels) = (t : ChannelTable) × (s
 
 -- the note on a fault of the text of a table; want of memory has none
 abbrev pub IsTableNote : List ℕ → TableFault → List ℕ → Type 0
-IsTableNote input (table.Syntax offset) note = IsFormNote input offset note
+IsTableNote input (table.Syntax offset) note =
+    (LONGEST_TABLE_TEXT < length input → note ≡ long_note) × (length input ≤ LONGEST_TABLE_TEXT → IsFormNote input offset note)
 IsTableNote input (table.WrongWindow line) note = IsWindowNote line note
 IsTableNote input (table.ChannelTooLarge line) note = note ≡ channel_note line
 IsTableNote input table.OutOfMemory note = ⊥

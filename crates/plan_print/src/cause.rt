@@ -6,13 +6,13 @@ ghost use Rattle.table_text.specs.Faults.{IsFault};
 ghost use Rattle.fault_notes.specs.VerdictNotes.{verdict_note};
 
 use fault_notes::{
-    channel_note, check_note, form_note, ring_note, segments_note, text_note, verdict_note,
-    window_note,
+    channel_note, check_note, form_note, long_note, ring_note, segments_note, text_note,
+    verdict_note, window_note,
 };
 use lang_check::CheckFault;
 use node_lang::TextFault;
 use std::alloc::{AllocError, Global};
-use table_text::TableFault;
+use table_text::{LONGEST_TABLE_TEXT, TableFault};
 use win_index::{MAX_IDS, MAX_ROUNDS, RingFault};
 
 /// Why a report is a refusal or a no.
@@ -82,6 +82,7 @@ fn table_note(alloc: Global, text: &[u8], fault: TableFault) -> Result<String, A
     ensures { IfOk result (λ note. IsTableNote text.now fault (string_bytes note)) }
 {
     match fault {
+        TableFault::Syntax(_) if text.len() > LONGEST_TABLE_TEXT => long_note(alloc),
         TableFault::Syntax(offset) => form_note(alloc, text, offset as usize),
         TableFault::WrongWindow(line) => window_note(alloc, text, line),
         TableFault::ChannelTooLarge(line) => channel_note(alloc, line),
