@@ -21,7 +21,7 @@ use win_index::BLOCK_WINDOWS;
 // The number of windows for each share. Fewer do not pay for a thread.
 const SHARE_WINDOWS: u32 = 64 * BLOCK_WINDOWS;
 
-// Scratch columns for the shares of a plan's entries, of which there are at most `shares`.
+// Scratch columns for at most `shares` shares of a plan's entries.
 pub(crate) fn columns_for(
     alloc: Global,
     plan: &Plan,
