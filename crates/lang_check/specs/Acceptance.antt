@@ -1,8 +1,8 @@
 -- Acceptance of programs for m identifiers.
-use Rattle.std.specs.Prelude.{◌≡◌, ℕ, ◌<◌, nat_le, Bool, false, Option, None, length, find, flat_map}
+use Rattle.std.specs.Prelude.{◌≡◌, ℕ, ◌<◌, nat_le, Bool, false, Option, None, length, find, flat_map, slice_index}
 use Rattle.std.specs.List.{list_any}
 use Rattle.node_lang.specs.Term.{ProgramTree, terms}
-use Rattle.node_lang.specs.Bounds.{finish_bound}
+use Rattle.node_lang.specs.Bounds.{finish_bound, register_bounds}
 use Rattle.win_index.specs.ShapeRange.{IsShape}
 use Rattle.lang_check.specs.Occurrences.{registers_read, reads_identifier, reads_message, terms_after_start, terms_outside_assignments}
 
@@ -26,3 +26,8 @@ pub record IsAccepted (m : ℕ) (p : ProgramTree) : Type 0 where
   pub messages : reads_message_outside_step p ≡ false
   -- each channel is below the number of channels
   pub bound : finish_bound p m < p.channels
+
+-- the first register that `finish` reads whose bound after the last round is not below the number of channels
+abbrev pub register_over_channels : ProgramTree → ℕ → Option ℕ
+register_over_channels p m =
+    find (λ j. nat_le p.channels (slice_index (register_bounds p m (length p.steps)) j)) (registers_read p.finish)

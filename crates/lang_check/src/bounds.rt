@@ -78,7 +78,7 @@ pub(crate) fn bound_of(expression: &Expr, limits: Limits<'_>) -> u32
 }
 
 // The bound of a register, or 0 if it does not exist.
-fn limit_or_zero(registers: &[u32], register: u32) -> u32
+pub(crate) fn limit_or_zero(registers: &[u32], register: u32) -> u32
     ensures { result ≡ slice_index registers.now register }
 {
     registers.get(register as usize).copied().unwrap_or(0)

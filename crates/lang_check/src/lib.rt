@@ -16,6 +16,7 @@ pub use laws::{
     registers_are_within, start_is_within,
 };
 pub use plan::Plan;
+pub use register_bounds::{bounds_after, register_over_channels};
 
 #[cfg(test)]
 mod tests;

@@ -1,8 +1,9 @@
-ghost use Rattle.std.specs.Prelude.{◌≡◌, nat_le, [], ◌∷◌, map, find, flat_map};
+ghost use Rattle.std.specs.Prelude.{◌≡◌, nat_le, [], ◌∷◌, map, find, flat_map, slice_index};
 ghost use Rattle.std.specs.List.{list_any};
 ghost use Rattle.node_lang.specs.Term.{term_of, step_of, step_terms};
 ghost use Rattle.lang_check.specs.Occurrences.{registers_read, reads_identifier, reads_message, sent_terms};
 
+use crate::bounds::limit_or_zero;
 use node_lang::{Expr, Round};
 
 // The first register that the expression reads and that is not below `count`.
@@ -28,7 +29,31 @@ pub(crate) fn missing_in_term(count: u32, expression: &Expr) -> Option<u32>
     }
 }
 
-// The same for a list of expressions.
+// The first register that the expression reads and whose bound is `limit` or more. A register without
+// a bound has the bound 0.
+#[tactic(auto, using(crate::proofs::OccurrenceLemmas::joined))]
+pub(crate) fn register_over(limit: u32, bounds: &[u32], expression: &Expr) -> Option<u32>
+    ensures { result ≡ find (λ j. nat_le limit (slice_index bounds.now j)) (registers_read (term_of expression.now)) }
+{
+    match expression {
+        Expr::Register(register) => {
+            if limit_or_zero(bounds, *register) < limit {
+                None
+            } else {
+                Some(*register)
+            }
+        }
+        Expr::One(_, a) => register_over(limit, bounds, a),
+        Expr::Two(_, a, b) => register_over(limit, bounds, a).or(register_over(limit, bounds, b)),
+        Expr::Choose(c, a, b) => {
+            let of_branches = register_over(limit, bounds, a).or(register_over(limit, bounds, b));
+            register_over(limit, bounds, c).or(of_branches)
+        }
+        Expr::Number(_) | Expr::Id | Expr::FromLeft | Expr::FromRight => None,
+    }
+}
+
+// Like `missing_in_term`, for a list of expressions.
 pub(crate) fn missing_in_terms(count: u32, expressions: &[Expr]) -> Option<u32>
     ensures { result ≡ find (λ j. nat_le count j) (flat_map registers_read (map term_of expressions.now)) }
 {
@@ -39,7 +64,7 @@ pub(crate) fn missing_in_terms(count: u32, expressions: &[Expr]) -> Option<u32>
     found
 }
 
-// The same for a list of rounds, in reading order.
+// Like `missing_in_term`, for a list of rounds, in reading order.
 pub(crate) fn missing_in_rounds(count: u32, rounds: &[Round]) -> Option<u32>
     ensures { result ≡ find (λ j. nat_le count j) (flat_map registers_read (step_terms (map step_of rounds.now))) }
 {

@@ -1,9 +1,11 @@
 ghost use Rattle.std.specs.Prelude.{◌≡◌, ℕ, ◌-◌, ◌≤◌, map, length, Some};
 ghost use Rattle.node_lang.specs.Term.{term_of, step_of};
 ghost use Rattle.node_lang.specs.Bounds as bounds;
+ghost use Rattle.lang_check.specs.Acceptance as acceptance;
 ghost use Rattle.lang_check.specs.Limits.{env_of};
 
 use crate::bounds::{Limits, bound_of};
+use crate::occurrences::register_over;
 use node_lang::{Expr, MAX_REGISTERS, Program, Round};
 
 // The bound of the channels of a program with this number of identifiers.
@@ -14,19 +16,33 @@ pub(crate) fn finish_bound(program: &Program, ids: u32) -> u32
     let mut cells = [0; MAX_REGISTERS as usize];
     let count = program.registers() as usize;
     let registers = &mut cells[..count];
-    last_bounds(program, ids, registers);
+    bounds_after(program, ids, program.rounds(), registers);
     bound_of(program.finish(), limits(ids, 0, 0, registers))
 }
 
-// Writes the bounds of the registers after the last round.
-fn last_bounds(program: &Program, ids: u32, registers: &mut [u32])
-    requires { length registers.old ≡ length program.now.start }
-    ensures { registers.new ≡ bounds.register_bounds program.now ids (length program.now.steps) }
+/// Writes the bounds of the registers after this many rounds of a program, for `ids` identifiers. The
+/// slice has one cell per register. No rounds are those after the assignments of `start`.
+pub fn bounds_after(program: &Program, ids: u32, rounds: u32, registers: &mut [u32])
+    requires rounds { rounds ≤ length program.now.steps }
+    requires cells { length registers.old ≡ length program.now.start }
+    ensures { registers.new ≡ bounds.register_bounds program.now ids rounds }
 {
     assign_bounds(program.start(), limits(ids, 0, 0, &[]), registers);
-    for round in program.steps() {
-        round_bounds(round, ids, registers);
+    for round in 0..rounds as usize {
+        round_bounds(&program.steps()[round], ids, registers);
     }
+}
+
+/// Returns the first register that the expression of `finish` reads and whose bound after the last
+/// round is not below the number of channels, for `ids` identifiers.
+pub fn register_over_channels(program: &Program, ids: u32) -> Option<u32>
+    ensures { result ≡ acceptance.register_over_channels program.now ids }
+{
+    let mut cells = [0; MAX_REGISTERS as usize];
+    let count = program.registers() as usize;
+    let registers = &mut cells[..count];
+    bounds_after(program, ids, program.rounds(), registers);
+    register_over(program.channels(), registers, program.finish())
 }
 
 // Replaces the bounds of the registers before a round by those after it.
