@@ -1,4 +1,4 @@
--- A text has at most one fault, want of memory aside, and the text of a table has none.
+-- A text has at most one fault besides OutOfMemory, and the text of a table has none.
 use Rattle.std.proofs.Common.{◌≡◌, ◌≢◌, ◌⊎◌, inl, inr, ℕ, ◌+◌, ◌*◌, ◌<◌, ◌≤◌, List, [], length, drop, refl, sym, ap, subst, ◌∙◌, arith}
 use Rattle.std.proofs.lemmas.Bool.{cases_order}
 use Rattle.win_index.specs.Laws.{NumberOfWindow, WindowsHaveNumbers}
@@ -22,7 +22,7 @@ IsAt text rest (WrongWindow line) = ⊥
 IsAt text rest (ChannelTooLarge line) = ⊥
 IsAt text rest OutOfMemory = ⊥
 
--- what is wrong where the next line of a begun table is wanted
+-- the fault of a text at the next line of a begun table
 data IsBadNext (text : List ℕ) (t : ChannelTable) (rest : List ℕ) (f : TableFault) : Type 0 where
   no_form : (¬ HasEntry (2 * t.rounds + 1) rest) → IsAt text rest f → IsBadNext text t rest f
   other_window : (ids : List ℕ) (channel : ℕ) (after : List ℕ) → IsEntry (2 * t.rounds + 1) rest ids channel after → (¬ IsNextWindow t ids)
@@ -30,12 +30,12 @@ data IsBadNext (text : List ℕ) (t : ChannelTable) (rest : List ℕ) (f : Table
   large_channel : (ids : List ℕ) (channel : ℕ) (after : List ℕ) → IsEntry (2 * t.rounds + 1) rest ids channel after → IsNextWindow t ids
       → t.channels ≤ channel → f ≡ ChannelTooLarge (length t.entries + 3) → IsBadNext text t rest f
 
--- what is wrong where the last line is wanted
+-- the fault of a text at the last line
 data IsBadEnd (text rest : List ℕ) (f : TableFault) : Type 0 where
   no_last_line : (¬ HasEnd rest) → IsAt text rest f → IsBadEnd text rest f
   more_bytes : (more : List ℕ) → rest ≡ end_then more → more ≢ [] → IsAt text more f → IsBadEnd text rest f
 
--- where a text that is not too long stops to be the text of a table
+-- the first place at which a text that is not too long differs from the text of a table
 data Stops (text : List ℕ) (f : TableFault) : Type 0 where
   at_title : (¬ HasTitle text) → IsAt text text f → Stops text f
   at_sizes : (version : Version) (rest : List ℕ) → text ≡ title_then version rest → (¬ HasSizes version rest) → IsAt text rest f → Stops text f
@@ -66,7 +66,7 @@ bad_next_once text t rest f g (large_channel ids channel after entry next large 
     absurd (other (subst (IsNextWindow t) one.0 next))
 bad_next_once text t rest f g (large_channel ids channel after entry next large is) (large_channel ids' channel' after' entry' next' large' is') = is ∙ sym is'
 
--- a good line is not wrong
+-- a correct line has no fault
 no_bad_next : NumberOfWindow → WindowsHaveNumbers → (text : List ℕ) (t : ChannelTable) (rest : List ℕ) (f : TableFault) → IsBegun t
     → HasLine (windows_of t) (length t.entries) t.channels rest → IsBadNext text t rest f → ⊥
 no_bad_next number have text t rest f begun line (no_form none at) =
@@ -87,7 +87,7 @@ bad_end_once text rest f g (more_bytes more is some at) (no_last_line none at') 
 bad_end_once text rest f g (more_bytes more is some at) (more_bytes more' is' some' at') =
     at_once text more f g at (subst (λ l. IsAt text l g) (ap (drop 4) (sym is' ∙ is)) at')
 
--- the lines of a begun table begin with both of the first lines
+-- the lines of a begun table begin with the first two lines
 lines_title : (text : List ℕ) (w : Written) (rest : List ℕ) → text ≡ lines_then w rest → HasTitle text
 unfolding lines_then
 lines_title text w rest same = (w.version, _, same)
@@ -100,7 +100,7 @@ lines_sizes text version second w rest begun title same =
     let one = title_once version w.version second _ (sym title ∙ same) in
     subst (λ v. HasSizes v second) (sym one.0) (t.rounds, t.ids, t.channels, w.separation, _, sizes_of t begun.begun, begun.told, one.1)
 
--- a line without its form
+-- a line that does not have its form
 malformed_stops : (text rest : List ℕ) (f : TableFault) → IsMalformed text rest → IsAt text rest f → Stops text f
 malformed_stops text rest f (no_title same none) at = at_title (subst (λ l. ¬ HasTitle l) same none) (subst (λ l. IsAt text l f) same at)
 malformed_stops text rest f (no_sizes version title none) at = at_sizes version rest title none at
@@ -108,7 +108,7 @@ malformed_stops text rest f (no_entry w within none) at = at_entry w rest within
 malformed_stops text rest f (no_end w is same none) at = at_end w rest is same (no_last_line none at)
 malformed_stops text rest f (bytes_after w is same some) at = at_end w (end_then rest) is same (more_bytes rest refl some at)
 
--- a text within the limit stops where its fault is
+-- a text within the limit differs at its fault
 fault_stops : (text : List ℕ) (f : TableFault) → f ≢ OutOfMemory → length text ≤ LONGEST_TABLE_TEXT → IsFault text f → Stops text f
 fault_stops text (Syntax offset) some short (inl long) = absurd (omega (arith, short, long.0))
 fault_stops text (Syntax offset) some short (inr fault) = malformed_stops text fault.1 (Syntax offset) fault.2 fault.3
@@ -120,7 +120,7 @@ fault_stops text (ChannelTooLarge line) some short fault =
     at_entry fault.1 next.0 next.2 (large_channel fault.2 fault.3 next.1 next.3 fault.5 fault.6 (ap ChannelTooLarge fault.7))
 fault_stops text OutOfMemory some short fault = absurd (some refl)
 
--- a text stops at one place where the lines of two begun tables begin it
+-- a text that begins with the lines of two begun tables differs at one place
 entries_stop : NumberOfWindow → WindowsHaveNumbers → (text : List ℕ) (v w : Written) (x y : List ℕ) (f g : TableFault) → IsWithin text v x
     → IsWithin text w y → IsBadNext text v.table x f → IsBadNext text w.table y g
     → (length v.table.entries ≡ length w.table.entries) ⊎ ((length v.table.entries < length w.table.entries) ⊎ (length w.table.entries < length v.table.entries))
@@ -134,7 +134,7 @@ entries_stop number have text v w x y f g p q bad bad' (inr (inl less)) =
 entries_stop number have text v w x y f g p q bad bad' (inr (inr more)) =
     absurd (no_bad_next number have text w.table y g q.begun.begun (lines_next w v y x q.begun p.begun (sym q.before ∙ p.before) more) bad')
 
--- a text does not stop within the lines of a table
+-- a text does not differ within the lines of a table
 within_table : NumberOfWindow → WindowsHaveNumbers → (text : List ℕ) (v w : Written) (x y : List ℕ) (f : TableFault) → IsWithin text v x
     → IsBadNext text v.table x f → IsWritten w → text ≡ lines_then w y → ⊥
 within_table number have text v w x y f p bad is same =
@@ -146,7 +146,7 @@ ends_once text v w x y f g p q same same' bad bad' =
     let one = tables_once v w x y p q (sym same ∙ same') in
     bad_end_once text x f g bad (subst (λ l. IsBadEnd text l g) (sym one.1) bad')
 
--- a text stops at its second line in one way
+-- a text differs at its second line in one way
 sizes_stop : (text : List ℕ) (v w : Version) (x y : List ℕ) (f g : TableFault) → text ≡ title_then v x → text ≡ title_then w y → IsAt text x f → IsAt text y g
     → f ≡ g
 sizes_stop text v w x y f g title title' at at' =
@@ -177,12 +177,12 @@ stops_once number have text f g (at_end w y is same bad') (at_entry v x within b
     absurd (within_table number have text v w x y g within bad is same)
 stops_once number have text f g (at_end v x is same bad) (at_end w y is' same' bad') = ends_once text v w x y f g is is' same same' bad bad'
 
--- the last line of a table is not wrong
+-- the last line of a table has no fault
 good_end : (text rest : List ℕ) (f : TableFault) → rest ≡ end_then [] → IsBadEnd text rest f → ⊥
 good_end text rest f is (no_last_line none at) = none ([], is)
 good_end text rest f is (more_bytes more is' some at) = some (ap (drop 4) (sym is' ∙ is))
 
--- the text of a table does not stop
+-- the text of a table does not differ
 never_stops : NumberOfWindow → WindowsHaveNumbers → (text : List ℕ) (w : Written) (f : TableFault) → IsWritten w → text ≡ lines_then w (end_then [])
     → Stops text f → ⊥
 never_stops number have text w f is same (at_title none at) = none (lines_title text w (end_then []) same)
@@ -192,7 +192,7 @@ never_stops number have text w f is same (at_entry v x within bad) = within_tabl
 never_stops number have text w f is same (at_end v x is' same' bad) =
     good_end text x f (tables_once v w x (end_then []) is' is (sym same' ∙ same)).1 bad
 
--- the fault of the length, or one within it
+-- the fault of the length, or one of a text within it
 fault_cases : (text : List ℕ) (f : TableFault) → IsFault text f
     → ((LONGEST_TABLE_TEXT < length text) × (f ≡ Syntax LONGEST_TABLE_TEXT)) ⊎ (length text ≤ LONGEST_TABLE_TEXT)
 fault_cases text (Syntax offset) (inl long) = inl (long.0, ap Syntax long.1)
@@ -214,7 +214,7 @@ pub one_fault : NumberOfWindow → WindowsHaveNumbers → OneTableFault
 one_fault number have text f g some some' fault fault' =
     one_of number have text f g some some' fault fault' (fault_cases text f fault) (fault_cases text g fault')
 
--- a fault is want of memory, or another one
+-- a fault is OutOfMemory or another one
 memory_or_not : (f : TableFault) → (f ≡ OutOfMemory) ⊎ (f ≢ OutOfMemory)
 memory_or_not (Syntax offset) = inr (λ same. cc)
 memory_or_not (WrongWindow line) = inr (λ same. cc)

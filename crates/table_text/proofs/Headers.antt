@@ -10,7 +10,7 @@ use Rattle.table_text.specs.TableText.{title_then, counts_then, counts_end, dist
 use Rattle.table_text.specs.LineForms.{AreSizes, IsTold, HasSizes}
 use Rattle.table_text.proofs.NumberTexts.{number_once}
 
--- what follows a name is one number
+-- the text after a name begins with one number
 pub field_once : (name : List ℕ) (end m n : ℕ) (x y : List ℕ) → end < 48 → m < 2 ^ 32 → n < 2 ^ 32
     → name ++ (decimal m ++ end ∷ x) ≡ name ++ (decimal n ++ end ∷ y) → (m ≡ n) × (x ≡ y)
 field_once name end m n x y small p q same =
@@ -30,17 +30,17 @@ sizes_fit rounds ids channels are =
       channels_fit = omega (arith, are.few_channels);
     }
 
--- what follows the first number of the second line
+-- the text after the first number of the second line
 pub after_rounds : (rounds other : ℕ) (x y : List ℕ) → rounds < 2 ^ 32 → other < 2 ^ 32
     → codes "rounds " ++ (decimal rounds ++ 32 ∷ x) ≡ codes "rounds " ++ (decimal other ++ 32 ∷ y) → (rounds ≡ other) × (x ≡ y)
 after_rounds rounds other x y p q same = field_once (codes "rounds ") 32 rounds other x y (omega arith) p q same
 
--- what follows the second one
+-- the text after the second number
 pub after_ids : (ids other : ℕ) (x y : List ℕ) → ids < 2 ^ 32 → other < 2 ^ 32
     → codes "ids " ++ (decimal ids ++ 32 ∷ x) ≡ codes "ids " ++ (decimal other ++ 32 ∷ y) → (ids ≡ other) × (x ≡ y)
 after_ids ids other x y p q same = field_once (codes "ids ") 32 ids other x y (omega arith) p q same
 
--- what follows the third one
+-- the text after the third number
 pub after_channels : (end channels other : ℕ) (x y : List ℕ) → end < 48 → channels < 2 ^ 32 → other < 2 ^ 32
     → codes "channels " ++ (decimal channels ++ end ∷ x) ≡ codes "channels " ++ (decimal other ++ end ∷ y) → (channels ≡ other) × (x ≡ y)
 after_channels end channels other x y small p q same = field_once (codes "channels ") end channels other x y small p q same
@@ -58,17 +58,17 @@ pub counts_end_small : (version : Version) → counts_end version < 48
 counts_end_small One = omega arith
 counts_end_small Two = omega arith
 
--- what follows near
+-- the text after near
 pub after_near : (near other : ℕ) (x y : List ℕ) → near < 2 ^ 32 → other < 2 ^ 32
     → codes "near " ++ (decimal near ++ 32 ∷ x) ≡ codes "near " ++ (decimal other ++ 32 ∷ y) → (near ≡ other) × (x ≡ y)
 after_near near other x y p q same = field_once (codes "near ") 32 near other x y (omega arith) p q same
 
--- what follows far
+-- the text after far
 pub after_far : (far other : ℕ) (x y : List ℕ) → far < 2 ^ 32 → other < 2 ^ 32
     → codes "far " ++ (decimal far ++ 10 ∷ x) ≡ codes "far " ++ (decimal other ++ 10 ∷ y) → (far ≡ other) × (x ≡ y)
 after_far far other x y p q same = field_once (codes "far ") 10 far other x y (omega arith) p q same
 
--- two distances that stand in one text are the same
+-- two distances in one text are the same
 pub two_once : (near far near' far' : ℕ) (x y : List ℕ) → near < 2 ^ 32 → far < 2 ^ 32 → near' < 2 ^ 32 → far' < 2 ^ 32
     → distances_then Two (record { near = near; far = far }) x ≡ distances_then Two (record { near = near'; far = far' }) y
     → (near ≡ near') × (far ≡ far') × (x ≡ y)
@@ -77,7 +77,7 @@ two_once near far near' far' x y p q p' q' same =
     let second = after_far far far' x y q q' first.1 in
     (first.0, second.0, second.1)
 
--- a text of one version tells one separation
+-- a text of one version gives one separation
 pub distances_once : (version : Version) (s u : Separation) (x y : List ℕ) → IsTold version s → IsTold version u
     → distances_then version s x ≡ distances_then version u y → (s ≡ u) × (x ≡ y)
 distances_once One s u x y p q same = (p ∙ sym q, same)
@@ -86,7 +86,7 @@ distances_once Two s u x y p q same =
     (omega (arith, q.small_far)) same in
     (λ i. record { near = one.0 i; far = one.1 i }, one.2)
 
--- where the second line is one of sizes, its first numbers are those of a table, and what follows them tells a separation
+-- if the second line gives sizes, its first numbers are those of a table, and they are followed by a separation
 pub sizes_are : (version : Version) (text : List ℕ) (r i k : ℕ) (rest : List ℕ) → Fit r i k → text ≡ counts_then r i k (counts_end version) rest
     → HasSizes version text → AreSizes r i k × (s : Separation) × (after : List ℕ) × IsTold version s × (rest ≡ distances_then version s after)
 sizes_are version text r i k rest fit same has =
@@ -94,7 +94,7 @@ sizes_are version text r i k rest fit same has =
     (sym same ∙ has.7) in
     (rw (one.0, one.1, one.2) has.5, has.3, has.4, has.6, one.3)
 
--- the second line says one thing
+-- the contents of the second line are unique
 pub sizes_once : (version : Version) (r i k r' i' k' : ℕ) (s s' : Separation) (x y : List ℕ) → Fit r i k → Fit r' i' k' → IsTold version s → IsTold version s'
     → sizes_then version r i k s x ≡ sizes_then version r' i' k' s' y → (r ≡ r') × (i ≡ i') × (k ≡ k') × (s ≡ s') × (x ≡ y)
 sizes_once version r i k r' i' k' s s' x y p q told told' same =
@@ -102,13 +102,13 @@ sizes_once version r i k r' i' k' s s' x y p q told told' same =
     let more = distances_once version s s' x y told told' one.3 in
     (one.0, one.1, one.2, more.0, more.1)
 
--- the byte at place 11 of a title is the digit of its version
+-- the byte at index 11 of a title is the digit of its version
 digits_differ : (x y : List ℕ) → title_then One x ≡ title_then Two y → ⊥
 digits_differ x y same =
     let digit : 49 ≡ 50 = ap (λ l. get_or l 11 0) same in
     omega (arith, digit)
 
--- the first line names one version, and ends at one place
+-- the first line names one version and ends at one place
 pub title_once : (v w : Version) (x y : List ℕ) → title_then v x ≡ title_then w y → (v ≡ w) × (x ≡ y)
 title_once One One x y same = (refl, append_cancel_left (codes "nbhd-table 1" ++ 10 ∷ []) x y same)
 title_once One Two x y same = absurd (digits_differ x y same)

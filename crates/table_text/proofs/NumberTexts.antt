@@ -1,4 +1,4 @@
--- Numbers in decimal digits, and the byte that ends them.
+-- Numbers in decimal, and the byte that ends them.
 use Rattle.std.proofs.Common.{◌≡◌, ◌≢◌, ℕ, zero, suc, ◌^◌, ◌<◌, true, false, nat_lt, ◌&&◌, ◌==◌, List, [], ◌∷◌, ◌++◌, length, get_or, drop, slice_index, refl, sym, ap, ◌∙◌, arith}
 use Rattle.std.specs.Fmt.{decimal}
 use Rattle.std.specs.Int.{IsInRange}
@@ -26,11 +26,11 @@ one_zero : (n : ℕ) → n < 2 ^ 32 → get_or (decimal n) 0 0 ≡ 48 → length
 one_zero zero small first = ap length (decimal_digit 0 (omega arith))
 one_zero (suc n) small first = absurd (omega (arith, first_decimal (suc n) (omega arith) (omega arith), first))
 
--- a word with a sign is no number
+-- a word with a sign is not a number
 pub signed_word : (word : List ℕ) (n : ℕ) → (slice_index word 0 == 43) ≡ true → n < 2 ^ 32 → word ≡ decimal n → ⊥
 signed_word word n signed small same = no_sign n small (ap (λ w. get_or w 0 0) (sym same) ∙ eqb-true (slice_index word 0) 43 signed)
 
--- a word with a leading zero is no number
+-- a word with a leading zero is not a number
 pub padded_word : (word : List ℕ) (n : ℕ) → (nat_lt 1 (length word) && (slice_index word 0 == 48)) ≡ true → n < 2 ^ 32 → word ≡ decimal n → ⊥
 padded_word word n padded small same =
     let parts = and_parts (nat_lt 1 (length word)) (slice_index word 0 == 48) padded in
@@ -38,7 +38,7 @@ padded_word word n padded small same =
     let one = ap length same ∙ one_zero n small zero_first in
     grind (arith, nat_tests)
 
--- the digits of a number, after a leading plus if there is one
+-- the digits of a number, after a leading plus sign if there is one
 pub digits_parse : (word : List ℕ) (n : ℕ) → n < 2 ^ 32 → word ≡ decimal n
     → IsNumeral 10 (without_leading_plus word) × (digits_value 10 (without_leading_plus word) < 2 ^ 32)
 digits_parse word n small same =
@@ -46,7 +46,7 @@ digits_parse word n small same =
     let plain = without_leading_plus_none (decimal n) (no_sign n small) in
     rw (same, plain) (is.0, omega (arith, is.1))
 
--- digits with no sign and no leading zero are those of their value
+-- digits without a sign and a leading zero are those of their value
 pub parsed_word : (word : List ℕ) (x : ℕ) → (slice_index word 0 == 43) ≡ false → (nat_lt 1 (length word) && (slice_index word 0 == 48)) ≡ false
     → IsNumeral 10 (without_leading_plus word) × (digits_value 10 (without_leading_plus word) < 2 ^ 32)
     → x ≡ digits_value 10 (without_leading_plus word) → word ≡ decimal x
@@ -66,11 +66,11 @@ lacks_digits end (c ∷ cs) small is =
     let range = digit_from_value c is.0 in
     (λ same. omega (arith, range.0, same), lacks_digits end cs small is.1)
 
--- no byte below the digits stands in a number
+-- no byte below the digits occurs in a number
 pub lacks_decimal : (end n : ℕ) → end < 48 → n < 2 ^ 32 → Lacks end (decimal n)
 lacks_decimal end n small fits = lacks_digits end (decimal n) small (digits n fits).1
 
--- a text that lacks a byte has no front that the byte ends
+-- a text without a byte has no prefix that ends with the byte
 pub no_cut : (end : ℕ) (front rest : List ℕ) → Lacks end (front ++ end ∷ rest) → ⊥
 no_cut end [] rest lacks = lacks.0 refl
 no_cut end (x ∷ front) rest lacks = no_cut end front rest lacks.1
@@ -85,7 +85,7 @@ one_cut end (x ∷ a) (y ∷ b) xs ys p q same =
     let more = one_cut end a b xs ys p.1 q.1 (ap (drop 1) same) in
     (cc, more.1)
 
--- what a text begins with before a byte below the digits is one number
+-- a text has at most one number at its start that is followed by a byte below the digits
 pub number_once : (end m n : ℕ) (xs ys : List ℕ) → end < 48 → m < 2 ^ 32 → n < 2 ^ 32
     → decimal m ++ end ∷ xs ≡ decimal n ++ end ∷ ys → (m ≡ n) × (xs ≡ ys)
 number_once end m n xs ys small p q same =

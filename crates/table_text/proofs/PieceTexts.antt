@@ -6,7 +6,7 @@ use Rattle.std.proofs.lemmas.List.FromFn.{get_or-map-range_with_len, map-range_w
 use Rattle.table_text.specs.declared.piece.Piece.{Piece}
 use Rattle.table_text.specs.Pieces.{piece_text, AreTexts}
 
--- one piece more
+-- one more piece
 pub texts_more :
     (text : ℕ → List ℕ) (pieces : List Piece) (piece : Piece) → AreTexts text pieces → piece_text piece ≡ text (length pieces)
     → AreTexts text (pieces ++ piece ∷ [])
@@ -16,7 +16,7 @@ texts_more text pieces piece are is =
     map-append piece_text pieces (piece ∷ []) ∙ (λ i. are i ++ is i ∷ []) ∙ sym (map-range_with_len_more text 0 n n (omega arith))
     ∙ ap (λ k. map text (range_with_len 0 k)) (sym size)
 
--- the text of the piece at a place
+-- the text of the piece at an index
 pub piece_at :
     (text : ℕ → List ℕ) (pieces : List Piece) (i : ℕ) (d : Piece) → AreTexts text pieces → i < length pieces → piece_text (get_or pieces i d) ≡ text i
 piece_at text pieces i d are lt =

@@ -1,4 +1,4 @@
--- The lines of a begun table, and one line more.
+-- The lines of a begun table, and one more line.
 use Rattle.std.proofs.Common.{◌≡◌, ℕ, ◌<◌, ◌≤◌, List, [], ◌∷◌, ◌++◌, Some, length, slice_get, ◌+◌, sym, ap, ◌∙◌, arith, length-append}
 use Rattle.std.specs.Prelude.{codes}
 use Rattle.std.specs.Fmt.{decimal}
@@ -10,11 +10,11 @@ use Rattle.table_text.specs.declared.version.Version.TheVariants.{One, Two}
 use Rattle.table_text.specs.TableText.{Written, written, title_then, counts_then, counts_end, distances_then, sizes_then, ids_then, entry_then, entries_then, end_then, head_then, lines_then}
 use Rattle.table_text.specs.Faults.{IsMalformed, no_title, no_sizes, no_entry, no_end, bytes_after}
 
--- a table with one entry more
+-- a table with one more entry
 abbrev pub with_entry : ChannelTable → ℕ → ChannelTable
 with_entry t channel = record t { entries = t.entries ++ channel ∷ [] }
 
--- the lines with one entry more are those of the front, and then that of the next window
+-- the lines with one more entry are the lines before, followed by that of the next window
 pub entries_more : (windows : List (List ℕ)) (channels window : List ℕ) (channel : ℕ) (rest : List ℕ)
     → slice_get windows (length channels) ≡ Some window
     → entries_then windows (channels ++ channel ∷ []) rest ≡ entries_then windows channels (entry_then window channel rest)
@@ -30,7 +30,7 @@ lines_more version t s text here window channel rest read next line =
     read ∙ ap (λ l. head_then (written version t s) (entries_then (windows_of t) t.entries l)) line
     ∙ ap (λ l. head_then (written version t s) l) (sym (entries_more (windows_of t) t.entries window channel rest next))
 
--- a begun table with one entry more
+-- a begun table with one more entry
 pub begun_more : (t : ChannelTable) (channel : ℕ) → IsBegun t → length t.entries < length (windows_of t) → channel < t.channels
     → IsBegun (with_entry t channel)
 begun_more t channel begun room below =
@@ -43,7 +43,7 @@ begun_more t channel begun room below =
       below = All-push (λ c. c < t.channels) t.entries channel begun.below below;
     }
 
--- what follows a field is no longer than the text
+-- the text after a field is no longer than the whole text
 field_length : (name : List ℕ) (number end : ℕ) (rest : List ℕ) → length rest ≤ length (name ++ (decimal number ++ end ∷ rest))
 field_length name number end rest = omega (arith, length-append name (decimal number ++ end ∷ rest), length-append (decimal number) (end ∷ rest))
 
@@ -91,7 +91,7 @@ lines_length w rest =
       title_length w.version (sizes_then w.version t.rounds t.ids t.channels w.separation entries),
     )
 
--- the rest with which a line without its form begins is no longer than the text
+-- the text from a line that does not have its form is no longer than the whole text
 pub rest_within : (text rest : List ℕ) → IsMalformed text rest → length rest ≤ length text
 rest_within text rest (no_title same none) = omega (arith, ap length same)
 rest_within text rest (no_sizes version same none) = omega (arith, ap length same, title_length version rest)

@@ -19,14 +19,14 @@ ids_same : (ids x y : List ℕ) → ids_then ids x ≡ ids_then ids y → x ≡ 
 ids_same [] x y same = same
 ids_same (id ∷ ids) x y same = ids_same ids x y (ap (drop 1) (append_cancel_left (decimal id) (32 ∷ ids_then ids x) (32 ∷ ids_then ids y) same))
 
--- lines of one window have one channel
+-- two lines of one window have one channel
 line_once : (window : List ℕ) (c d : ℕ) (x y : List ℕ) → c < 2 ^ 32 → d < 2 ^ 32 → entry_then window c x ≡ entry_then window d y
     → (c ≡ d) × (x ≡ y)
 line_once window c d x y p q same =
     field_once (codes ": ") 10 c d x y (omega arith) p q
     (ids_same window (codes ": " ++ (decimal c ++ 10 ∷ x)) (codes ": " ++ (decimal d ++ 10 ∷ y)) same)
 
--- lines that have the form of an entry have the same identifiers and the same channel
+-- two lines with the form of an entry at the start of one text have the same identifiers and the same channel
 pub entry_once : (k : ℕ) (text ids others : List ℕ) (c d : ℕ) (x y : List ℕ) → IsEntry k text ids c x → IsEntry k text others d y
     → (ids ≡ others) × (c ≡ d) × (x ≡ y)
 entry_once k text ids others c d x y p q =
@@ -35,7 +35,7 @@ entry_once k text ids others c d x y p q =
     let more = field_once (codes ": ") 10 c d x y (omega arith) p.channel_fits q.channel_fits one.1 in
     (one.0, more.0, more.1)
 
--- as many lines of the same windows have the same channels
+-- the same number of lines of the same windows have the same channels
 entries_once : (ws : List (List ℕ)) (cs ds x y : List ℕ) → All Fits32 cs → All Fits32 ds → length cs ≡ length ds → length cs ≤ length ws
     → entries_then ws cs x ≡ entries_then ws ds y → (cs ≡ ds) × (x ≡ y)
 entries_once ws [] [] x y p q size room same = (refl, same)
@@ -47,7 +47,7 @@ entries_once (w ∷ ws) (c ∷ cs) (d ∷ ds) x y p q size room same =
     let more = entries_once ws cs ds x y (All-tail Fits32 c cs p) (All-tail Fits32 d ds q) (omega (arith, size)) (omega (arith, room)) one.1 in
     (cc, more.1)
 
--- the text begins with the line of the window at a place, with a channel below a bound
+-- the text begins with the line of the window at an index, with a channel below a bound
 pub record HasLine (ws : List (List ℕ)) (place bound : ℕ) (text : List ℕ) : Type 0 where
   pub window : List ℕ
   pub channel : ℕ
@@ -56,7 +56,7 @@ pub record HasLine (ws : List (List ℕ)) (place bound : ℕ) (text : List ℕ) 
   pub line : text ≡ entry_then window channel rest
   pub below : channel < bound
 
--- where more lines of the same windows stand, the next of them follows the front
+-- if one text has more lines of the same windows, the next of them follows the lines of the other
 entries_next : (ws : List (List ℕ)) (cs ds x y : List ℕ) (bound : ℕ) → bound ≤ 2 ^ 32 → All (λ c. c < bound) cs → All (λ c. c < bound) ds
     → length cs < length ds → length ds ≤ length ws → entries_then ws cs x ≡ entries_then ws ds y → HasLine ws (length cs) bound x
 entries_next ws cs [] x y bound fits p q less room same = absurd (omega (arith, less))
@@ -94,11 +94,11 @@ sizes_of t begun =
       few_channels = begun.few_channels;
     }
 
--- a table is a begun one
+-- a table is a begun table
 pub begun_of : (w : Written) → IsWritten w → IsBegunText w
 begun_of w is = record { begun = is.table.begun; told = is.told }
 
--- what both begin with, where the lines of two begun tables begin one text, and what follows it
+-- the common start of the lines of two begun tables that begin one text, and the text after it
 pub record HaveOneHead (v w : Written) (x y : List ℕ) : Type 0 where
   pub version : v.version ≡ w.version
   pub rounds : v.table.rounds ≡ w.table.rounds
@@ -131,7 +131,7 @@ same_windows v w x y head = λ i. windows (2 * head.rounds i + 1) (head.ids i)
 entries_fit : (t : ChannelTable) → IsBegun t → All Fits32 t.entries
 entries_fit t begun = λ i d within. omega (arith, begun.below i d within, begun.few_channels)
 
--- with as many entries they are one table
+-- with the same number of entries they are one table
 pub lines_once : (v w : Written) (x y : List ℕ) → IsBegunText v → IsBegunText w → lines_then v x ≡ lines_then w y
     → length v.table.entries ≡ length w.table.entries → (v ≡ w) × (x ≡ y)
 lines_once v w x y p q same size =
@@ -149,7 +149,7 @@ lines_once v w x y p q same size =
       entries.1,
     )
 
--- where the second has more entries, the next line follows the lines of the first
+-- if the second has more entries, the next line follows the lines of the first
 pub lines_next : (v w : Written) (x y : List ℕ) → IsBegunText v → IsBegunText w → lines_then v x ≡ lines_then w y
     → length v.table.entries < length w.table.entries → HasLine (windows_of v.table) (length v.table.entries) v.table.channels x
 lines_next v w x y p q same less =
@@ -167,14 +167,14 @@ tables_once v w x y p q same =
     let count = ap length (same_windows v w x y (header_once v w x y (begun_of v p) (begun_of w q) same)) in
     lines_once v w x y (begun_of v p) (begun_of w q) same (p.table.size ∙ count ∙ sym q.table.size)
 
--- where the lines of a table begin a text, the next line follows those of a begun table that wants an entry more
+-- if the lines of a table begin a text, the next line follows those of a begun table that lacks an entry
 pub table_next : (v w : Written) (x y : List ℕ) → IsBegunText v → IsWritten w → lines_then v x ≡ lines_then w y
     → length v.table.entries < length (windows_of v.table) → HasLine (windows_of v.table) (length v.table.entries) v.table.channels x
 table_next v w x y p q same more =
     let count = ap length (same_windows v w x y (header_once v w x y p (begun_of w q) same)) in
     lines_next v w x y p (begun_of w q) same (omega (arith, more, count, q.table.size))
 
--- the list at a place among the windows is a window
+-- the list at an index among the windows is a window
 pub window_at : NumberOfWindow → WindowsHaveNumbers → (k m n : ℕ) (window : List ℕ) → slice_get (windows k m) n ≡ Some window
     → IsWindow k m window
 window_at number_of_window windows_have_numbers k m n window at =

@@ -26,14 +26,14 @@ falling_le : (k m n : ℕ) → m ≤ n → falling m k ≤ falling n k
 falling_le zero m n less = omega arith
 falling_le (suc k) m n less = mul-le-mul (falling_le k m n less) (omega (arith, less))
 
--- a bound of the identifiers, since with one more there are too many lists of this length
+-- a bound of the number of identifiers: with one more there are too many lists of this length
 at_most : (most k m : ℕ) → falling m k ≤ MAX_WINDOWS → MAX_WINDOWS < falling (most + 1) k → m ≤ most
 at_most most k m few many = elim (cases_lt most m) [
   | inl more ↦ absurd (omega (arith, falling_le k (most + 1) m (omega (arith, more)), few, many))
   | inr less ↦ less
 ]
 
--- each identifier of at most d digits takes with its blank at most d + 1 bytes
+-- an identifier of at most d digits, with its blank, has at most d + 1 bytes
 ids_of : (d : ℕ) (ids rest : List ℕ) → 0 < d → 10 ^ d < 2 ^ 64 → All (λ id. id < 10 ^ d) ids
     → length (ids_then ids rest) ≤ (d + 1) * length ids + length rest
 ids_of d [] rest some fits small = omega arith
@@ -46,15 +46,15 @@ channel_length : (channel : ℕ) (rest : List ℕ) → channel < 10 ^ 4 → leng
 channel_length channel rest small =
     omega (arith, length-decimal-le 4 channel (omega arith) small (omega (arith, small)), length-append (decimal channel) (10 ∷ rest))
 
--- the most bytes of a line of a window
+-- the maximum number of bytes of the line of a window
 abbrev most_of_line : ℕ
 most_of_line = 31
 
--- the line of the window is within them
+-- the line of the window has at most that many bytes
 abbrev IsShort : List ℕ → Type 0
 IsShort window = (channel : ℕ) (rest : List ℕ) → channel < 10 ^ 4 → length (entry_then window channel rest) ≤ most_of_line + length rest
 
--- so it is with k identifiers of at most d digits
+-- so have k identifiers of at most d digits
 short_ids : (d k : ℕ) (window : List ℕ) → 0 < d → 10 ^ d < 2 ^ 64 → (d + 1) * k + 7 ≤ most_of_line → length window ≡ k
     → All (λ id. id < 10 ^ d) window → IsShort window
 short_ids d k window some fits room size small channel rest few =
@@ -65,7 +65,7 @@ short_ids d k window some fits room size small channel rest few =
 ids_below : (m bound : ℕ) (window : List ℕ) → m ≤ bound → All (λ x. x < m) window → All (λ x. x < bound) window
 ids_below m bound window less below = λ i d within. omega (arith, less, below i d within)
 
--- two rounds leave at most 23 identifiers, three 12 and four 10
+-- two rounds allow at most 23 identifiers, three 12 and four 10
 short_window : (r m : ℕ) (window : List ℕ) → r ≤ MAX_ROUNDS → m ≤ MAX_IDS → falling m (2 * r + 1) ≤ MAX_WINDOWS → IsWindow (2 * r + 1) m window
     → IsShort window
 short_window zero m window rounds ids few is =

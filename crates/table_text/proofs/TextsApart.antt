@@ -1,4 +1,4 @@
--- No table text begins another one.
+-- No table text is a proper prefix of another.
 use Rattle.std.proofs.Common.{◌≡◌, ℕ, List, [], ◌∷◌, ◌++◌, drop, refl, sym, ap, ◌∙◌, append_assoc}
 use Rattle.std.specs.Prelude.{codes}
 use Rattle.std.specs.Fmt.{decimal}
@@ -10,7 +10,7 @@ use Rattle.table_text.specs.TableText.{Written, title_then, counts_then, counts_
 use Rattle.table_text.specs.Laws.{TableTextsAreApart}
 use Rattle.table_text.proofs.TablesOnce.{tables_once}
 
--- what follows a number goes on
+-- what is appended to a number and its rest is appended to the rest
 field_append : (number end : ℕ) (rest more : List ℕ) → (decimal number ++ end ∷ rest) ++ more ≡ decimal number ++ end ∷ (rest ++ more)
 field_append number end rest more = append_assoc (decimal number) (end ∷ rest) more
 
@@ -56,7 +56,7 @@ head_append w rest more =
     ∙ ap (title_then w.version) (counts_append t.rounds t.ids t.channels (counts_end w.version) (distances_then w.version w.separation rest) more
     ∙ ap (counts_then t.rounds t.ids t.channels (counts_end w.version)) (distances_append w.version w.separation rest more))
 
--- what follows the lines of a table goes on
+-- what is appended to the lines of a table and their rest is appended to the rest
 pub lines_append : (w : Written) (rest more : List ℕ) → lines_then w rest ++ more ≡ lines_then w (rest ++ more)
 unfolding lines_then
 lines_append w rest more =

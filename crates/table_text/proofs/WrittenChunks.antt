@@ -1,4 +1,4 @@
--- What a writer was given, and what a chunk holds.
+-- The bytes of a writer, and the contents of a chunk.
 use Rattle.std.proofs.Common.{◌≡◌, ℕ, ◌+◌, ◌≤◌, List, [], ◌++◌, length, take, drop, arith, Option, Result, Ok, Err, OnErr, subst, sym, ap, ◌∙◌, append-nil, append_assoc}
 use Rattle.std.proofs.Math.Seq.{take-append-add, take-append_seam}
 use Rattle.std.proofs.lemmas.List.{take-append-le, take-append-drop, length-take, length-take-le}
@@ -7,25 +7,25 @@ use Rattle.std.specs.Io.KnownBytes.{Appends}
 use Rattle.devices.specs.Output.{AppendsFront}
 use Rattle.table_text.specs.Pieces.{Tells}
 
--- one piece more is held
+-- one more piece in the chunk
 pub tells_more :
     (a b : Option (List ℕ)) (waiting more piece text : List ℕ) → Tells a b waiting text → more ≡ waiting ++ piece → Tells a b more (text ++ piece)
 tells_more a b waiting more piece text told longer =
     (told.0, told.1, ap (λ w. told.0 ++ w) longer ∙ sym (append_assoc told.0 waiting piece) ∙ ap (λ t. t ++ piece) told.2)
 
--- all that is held is written
+-- the contents of the chunk are written
 pub tells_all : (a b c : Option (List ℕ)) (waiting text : List ℕ) → Tells a b waiting text → Appends b c waiting → Appends a c text
 tells_all a b c waiting text told sent = subst (Appends a c) told.2 (Appends-trans a b c told.0 waiting told.1 sent)
 
--- it is written, and nothing is held
+-- they are written, and the chunk is empty
 pub tells_sent : (a b c : Option (List ℕ)) (waiting text : List ℕ) → Tells a b waiting text → Appends b c waiting → Tells a c [] text
 tells_sent a b c waiting text told sent = (text, tells_all a b c waiting text told sent, append-nil text)
 
--- a front is as many of the first items as it has
+-- a prefix is taken by its own length
 front_is : (n : ℕ) (xs : List ℕ) → take (length (take n xs)) xs ≡ take n xs
 front_is n xs = ap (take (length (take n xs))) (sym (take-append-drop n xs)) ∙ take-append_seam (take n xs) (drop n xs)
 
--- a front of what is held was written: that is a front of every text that begins with the text so far
+-- a prefix of the chunk was written, so a prefix of every text that begins with the text so far
 pub tells_front :
     (a b c : Option (List ℕ)) (waiting text whole rest : List ℕ) → Tells a b waiting text → AppendsFront b c waiting → text ++ rest ≡ whole → AppendsFront a c whole
 tells_front a b c waiting text whole rest told failed longer =
@@ -38,7 +38,7 @@ tells_front a b c waiting text whole rest told failed longer =
     ∙ ap (λ t. told.0 ++ t) (take-append-le k waiting rest short ∙ front_is count waiting) in
     (length told.0 + k, subst (Appends a c) (sym front) (Appends-trans a b c told.0 (take count waiting) told.1 failed.1))
 
--- a piece was written over the items from a place on
+-- a piece was written over the items from an index on
 pub put_front :
     (start n : ℕ) (xs piece rest : List ℕ) → start ≤ length xs → n ≤ length piece
     → take (start + n) (take start xs ++ (piece ++ rest)) ≡ take start xs ++ take n piece
@@ -47,7 +47,7 @@ put_front start n xs piece rest within le =
     ap (λ k. take (k + n) (take start xs ++ (piece ++ rest))) (sym long) ∙ take-append-add (take start xs) (piece ++ rest) n
     ∙ ap (λ t. take start xs ++ t) (take-append-le n piece rest le)
 
--- what holds holds of an error
+-- what holds of each error holds of this one
 pub on_err : {T E P : Type 0} (r : Result T E) → P → OnErr r P
 on_err (Ok x) p = tt
 on_err (Err e) p = p

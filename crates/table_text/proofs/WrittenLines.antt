@@ -1,4 +1,4 @@
--- The lines of a table, written one behind another.
+-- The lines of a table, written one after another.
 use Rattle.std.proofs.Common.{◌≡◌, ℕ, zero, suc, ◌+◌, ◌<◌, ◌≤◌, drop, List, [], ◌∷◌, ◌++◌, Some, length, take, get_or, slice_get, refl, sym, ap, ◌∙◌, arith, append_assoc}
 use Rattle.std.specs.Fmt.{decimal}
 use Rattle.std.proofs.lemmas.List.{take_more, take_all, length-take-le}
@@ -10,12 +10,12 @@ use Rattle.table_text.proofs.TableLines.{lines_more}
 use Rattle.table_text.specs.Pieces.{id_text, channel_text}
 use Rattle.table_text.proofs.TextsApart.{ids_append, lines_append}
 
--- one identifier more
+-- one more identifier
 pub ids_more : (ids : List ℕ) (id : ℕ) (rest : List ℕ) → ids_then (ids ++ id ∷ []) rest ≡ ids_then ids [] ++ (decimal id ++ 32 ∷ rest)
 ids_more [] id rest = refl
 ids_more (x ∷ ids) id rest = ap (λ l. decimal x ++ 32 ∷ l) (ids_more ids id rest) ∙ sym (append_assoc (decimal x) (32 ∷ ids_then ids []) (decimal id ++ 32 ∷ rest))
 
--- the line of a window from its front, its last identifier and its channel
+-- the line of a window, from its front, its last identifier and its channel
 pub line_of_run :
     (last : ℕ) (window : List ℕ) (channel : ℕ) → length window ≡ last + 1
     → ids_then (take last window) [] ++ (id_text (get_or window last 0) ++ channel_text channel) ≡ entry_then window channel []
@@ -25,11 +25,11 @@ line_of_run last window channel size =
     sym (append_assoc (ids_then (take last window) []) (id_text (get_or window last 0)) (channel_text channel))
     ∙ ap (λ text. text ++ channel_text channel) ids ∙ ids_append window [] (channel_text channel)
 
--- the table with its first entries alone
+-- the table with its first entries only
 abbrev pub front_of : ChannelTable → ℕ → ChannelTable
 front_of t n = record t { entries = take n t.entries }
 
--- one line more
+-- one more line
 pub front_more :
     (t : ChannelTable) (s : Separation) (n channel : ℕ) (window text line : List ℕ) → n < length t.entries → slice_get (windows_of t) n ≡ Some window
     → text ≡ lines_then (written Two (front_of t n) s) [] → channel ≡ get_or t.entries n 0 → line ≡ entry_then window channel []
@@ -45,7 +45,7 @@ front_more t s n channel window text line lt next told is wrote =
     ∙ ap (λ entries. lines_then (written Two (record t { entries = entries }) s) [])
     (ap (λ c. take n t.entries ++ c ∷ []) is ∙ sym (take_more t.entries n 0 lt))
 
--- the lines of the first entries, and then those of the others
+-- the lines of the first entries, followed by those of the others
 entries_split :
     (n : ℕ) (ws : List (List ℕ)) (cs rest : List ℕ) → length cs ≤ length ws
     → entries_then ws cs rest ≡ entries_then ws (take n cs) (entries_then (drop n ws) (drop n cs) rest)

@@ -1,4 +1,4 @@
--- What is wrong first with a text that is not the text of a table and a separation.
+-- The first fault of a text that is not the text of a table and a separation.
 use Rattle.std.specs.Prelude.{◌≡◌, ◌≢◌, ◌⊎◌, ℕ, ◌+◌, ◌*◌, ◌<◌, ◌≤◌, List, [], Some, length, slice_get}
 use Rattle.table_fill.specs.Tables.{ChannelTable, windows_of}
 use Rattle.table_text.specs.declared.version.Version.{Version}
@@ -9,13 +9,13 @@ use Rattle.table_text.specs.declared.limits.TheConstants.{LONGEST_TABLE_TEXT}
 use Rattle.table_text.specs.declared.fault.TableFault.{TableFault}
 use Rattle.table_text.specs.declared.fault.TableFault.TheVariants.{Syntax, WrongWindow, ChannelTooLarge, OutOfMemory}
 
--- the text begins with the lines of a begun table that wants an entry more, and the rest follows them
+-- the text is the lines of a begun table that lacks an entry, followed by the rest
 pub record IsWithin (text : List ℕ) (w : Written) (rest : List ℕ) : Type 0 where
   pub begun : IsBegunText w
   pub before : text ≡ lines_then w rest
   pub more : length w.table.entries < length (windows_of w.table)
 
--- the first line of the text that does not have its form begins with the rest
+-- the first line of the text that does not have its form begins at the rest
 pub data IsMalformed (text rest : List ℕ) : Type 0 where
   no_title : rest ≡ text → (¬ HasTitle rest) → IsMalformed text rest
   no_sizes : (version : Version) → text ≡ title_then version rest → (¬ HasSizes version rest) → IsMalformed text rest
@@ -23,7 +23,7 @@ pub data IsMalformed (text rest : List ℕ) : Type 0 where
   no_end : (w : Written) → IsWritten w → text ≡ lines_then w rest → (¬ HasEnd rest) → IsMalformed text rest
   bytes_after : (w : Written) → IsWritten w → text ≡ lines_then w (end_then rest) → rest ≢ [] → IsMalformed text rest
 
--- after the lines of a begun table comes a line of these identifiers and this channel
+-- the lines of a begun table are followed by a line with these identifiers and this channel
 abbrev pub HasNext : List ℕ → Written → List ℕ → ℕ → Type 0
 HasNext text w ids channel =
     (here : List ℕ) × (rest : List ℕ) × IsWithin text w here × IsEntry (2 * w.table.rounds + 1) here ids channel rest
@@ -32,8 +32,8 @@ HasNext text w ids channel =
 abbrev pub IsNextWindow : ChannelTable → List ℕ → Type 0
 IsNextWindow t ids = slice_get (windows_of t) (length t.entries) ≡ Some ids
 
--- the lines are judged in order; a line is judged first by its form, then by its window, then by its channel. Two
--- lines stand before those of the entries. Want of memory may come in place of any fault but that of the length.
+-- the lines are checked in order, and each by its form, then by its window, then by its channel. Two lines precede
+-- those of the entries. OutOfMemory can replace any fault except that of the length
 abbrev pub IsFault : List ℕ → TableFault → Type 0
 IsFault text (Syntax offset) =
     ((LONGEST_TABLE_TEXT < length text) × (offset ≡ LONGEST_TABLE_TEXT))

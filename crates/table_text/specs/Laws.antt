@@ -7,20 +7,20 @@ use Rattle.table_text.specs.declared.limits.TheConstants.{LONGEST_TABLE_TEXT}
 use Rattle.table_text.specs.declared.fault.TableFault.{TableFault}
 use Rattle.table_text.specs.declared.fault.TableFault.TheVariants.{OutOfMemory}
 
--- where one table text is another one or begins it, both have one version, one table and one separation, and are one text
+-- if a table text is a prefix of another, both are one text, with one version, one table and one separation
 abbrev pub TableTextsAreApart : Type 0
 TableTextsAreApart =
     (v w : Written) (more : List ℕ) → IsWritten v → IsWritten w → text_of w ≡ text_of v ++ more → (v ≡ w) × (more ≡ [])
 
--- a table text is within the limit
+-- a table text is at most LONGEST_TABLE_TEXT bytes long
 abbrev pub TableTextsAreShort : Type 0
 TableTextsAreShort = (w : Written) → IsWritten w → length (text_of w) ≤ LONGEST_TABLE_TEXT
 
--- a table text has no fault but want of memory
+-- a table text has no fault except OutOfMemory
 abbrev pub TableTextsAreRead : Type 0
 TableTextsAreRead = (w : Written) (fault : TableFault) → IsWritten w → IsFault (text_of w) fault → fault ≡ OutOfMemory
 
--- a text has at most one fault, want of memory aside
+-- a text has at most one fault besides OutOfMemory
 abbrev pub OneTableFault : Type 0
 OneTableFault =
     (text : List ℕ) (f g : TableFault) → f ≢ OutOfMemory → g ≢ OutOfMemory → IsFault text f → IsFault text g → f ≡ g

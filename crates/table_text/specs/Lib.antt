@@ -1,5 +1,5 @@
--- The definitions that the contracts cite: the text of a table and a separation, part by part; the forms of its lines; which
--- texts are those of tables; what is wrong first with a text; the laws; what private contracts say of the front of a text.
+-- The definitions that the contracts cite: the text of a table and a separation, part by part; the forms of its lines;
+-- the texts of tables; the first fault of a text; the laws; prefixes of a text; and the pieces of its lines.
 pub mod TableText
 pub mod LineForms
 pub mod Texts

@@ -1,4 +1,4 @@
--- The forms of the lines of a table text. A form takes in the byte 10 that ends its line.
+-- The forms of the lines of a table text. A form includes the byte 10 that ends its line.
 use Rattle.std.specs.Prelude.{◌≡◌, ℕ, ◌^◌, ◌<◌, ◌≤◌, List, All, length}
 use Rattle.node_lang.specs.declared.limits.TheConstants.{MAX_CHANNELS}
 use Rattle.win_index.specs.declared.limits.TheConstants.{MAX_ROUNDS}
@@ -21,7 +21,7 @@ pub record IsSeparation (s : Separation) : Type 0 where
   pub small_near : s.near ≤ MAX_CHANNELS
   pub small_far : s.far ≤ MAX_CHANNELS
 
--- a text of this version tells the separation: version 1 that of near 1 and far 0 alone, version 2 each
+-- a text of this version can give the separation: version 1 only near 1 and far 0, version 2 any
 abbrev pub IsTold : Version → Separation → Type 0
 IsTold One s = s ≡ record { near = 1; far = 0 }
 IsTold Two s = IsSeparation s
@@ -36,8 +36,7 @@ HasSizes version text =
     (rounds : ℕ) × (ids : ℕ) × (channels : ℕ) × (s : Separation) × (rest : List ℕ) × AreSizes rounds ids channels
     × IsTold version s × (text ≡ sizes_then version rounds ids channels s rest)
 
--- the text begins with the line of as many identifiers as width and of a channel, each a number below 2^32, and
--- the rest follows that line
+-- the text is the line of `width` identifiers and of a channel, each a number below 2^32, followed by the rest
 pub record IsEntry (width : ℕ) (text ids : List ℕ) (channel : ℕ) (rest : List ℕ) : Type 0 where
   pub size : length ids ≡ width
   pub ids_fit : All (λ id. id < 2 ^ 32) ids

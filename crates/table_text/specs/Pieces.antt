@@ -1,4 +1,4 @@
--- Short texts of which the lines of windows are made. No public contract cites this file.
+-- Short texts from which the lines of windows are made. No public contract cites this file.
 use Rattle.std.specs.Prelude.{◌≡◌, ℕ, List, [], ◌∷◌, ◌++◌, take, map, length, codes, Option}
 use Rattle.std.specs.Io.KnownBytes.{Appends}
 use Rattle.std.specs.List.{range_with_len}
@@ -21,11 +21,11 @@ front_text front = take front.len front.bytes
 abbrev pub id_text : ℕ → List ℕ
 id_text id = decimal id ++ 32 ∷ []
 
--- what follows the identifiers of a line with this channel
+-- the text after the identifiers of a line with this channel
 abbrev pub channel_text : ℕ → List ℕ
 channel_text channel = codes ": " ++ (decimal channel ++ 10 ∷ [])
 
--- each piece has the text of its place
+-- the piece at each index has the text of the index
 abbrev pub AreTexts : (ℕ → List ℕ) → List Piece → Type 0
 AreTexts text pieces = map piece_text pieces ≡ map text (range_with_len 0 (length pieces))
 
@@ -36,10 +36,10 @@ pub record ArePieces (t : ChannelTable) (pieces : Pieces) : Type 0 where
   pub channels : AreTexts channel_text pieces.channels.items
   pub all_channels : length pieces.channels.items ≡ t.channels
 
--- the bytes that a chunk holds
+-- the contents of a chunk
 abbrev pub held : Chunk → List ℕ
 held chunk = take chunk.filled chunk.bytes.items
 
--- what a writer was given since, and after it what is held, is the text
+-- the bytes written since, followed by those that wait, are the text
 abbrev pub Tells : Option (List ℕ) → Option (List ℕ) → List ℕ → List ℕ → Type 0
 Tells before now waiting text = (sent : List ℕ) × Appends before now sent × (sent ++ waiting ≡ text)

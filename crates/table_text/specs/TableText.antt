@@ -1,5 +1,6 @@
--- The one text of a table and a separation in each of two versions: each definition is a part of the text together with what
--- follows it. A number is in decimal without leading zeros, single blanks (byte 32) part the words, and byte 10 ends each line.
+-- The text of a table and a separation in each of two versions. Each definition is a part of the text followed by the
+-- rest. A number is in decimal without leading zeros, single blanks (byte 32) separate the words, and byte 10 ends each
+-- line.
 use Rattle.std.specs.Prelude.{ℕ, List, [], ◌∷◌, ◌++◌, codes}
 use Rattle.std.specs.Fmt.{decimal}
 use Rattle.table_fill.specs.Tables.{ChannelTable, windows_of}
@@ -7,7 +8,7 @@ use Rattle.nbhd_check.specs.declared.separation.Separation.{Separation}
 use Rattle.table_text.specs.declared.version.Version.{Version}
 use Rattle.table_text.specs.declared.version.Version.TheVariants.{One, Two}
 
--- what a table text tells: a table and its separation, in one of the versions
+-- the contents of a table text: a table and its separation, in one of the versions
 pub record Written : Type 0 where
   pub version : Version
   pub table : ChannelTable
@@ -22,7 +23,7 @@ abbrev pub title_then : Version → List ℕ → List ℕ
 title_then One rest = codes "nbhd-table 1" ++ 10 ∷ rest
 title_then Two rest = codes "nbhd-table 2" ++ 10 ∷ rest
 
--- the numbers of rounds, of identifiers and of channels, and the byte that stands after them
+-- the numbers of rounds, of identifiers and of channels, and the byte after them
 abbrev pub counts_then : ℕ → ℕ → ℕ → ℕ → List ℕ → List ℕ
 counts_then rounds ids channels end rest =
     codes "rounds " ++ (decimal rounds ++ 32 ∷ (codes "ids " ++ (decimal ids ++ 32 ∷ (codes "channels " ++ (decimal channels ++ end ∷ rest)))))
@@ -32,16 +33,16 @@ abbrev pub counts_end : Version → ℕ
 counts_end One = 10
 counts_end Two = 32
 
--- near and far, which version 1 leaves out
+-- near and far, which version 1 omits
 abbrev pub distances_then : Version → Separation → List ℕ → List ℕ
 distances_then One s rest = rest
 distances_then Two s rest = codes "near " ++ (decimal s.near ++ 32 ∷ (codes "far " ++ (decimal s.far ++ 10 ∷ rest)))
 
--- the line of the numbers of rounds, identifiers and channels, in version 2 of near and far too
+-- the line of the numbers of rounds, identifiers and channels, and in version 2 of near and far
 abbrev pub sizes_then : Version → ℕ → ℕ → ℕ → Separation → List ℕ → List ℕ
 sizes_then version rounds ids channels s rest = counts_then rounds ids channels (counts_end version) (distances_then version s rest)
 
--- identifiers, each before a blank
+-- identifiers, each followed by a blank
 abbrev pub ids_then : List ℕ → List ℕ → List ℕ
 ids_then [] rest = rest
 ids_then (id ∷ ids) rest = decimal id ++ 32 ∷ ids_then ids rest
@@ -50,7 +51,8 @@ ids_then (id ∷ ids) rest = decimal id ++ 32 ∷ ids_then ids rest
 abbrev pub entry_then : List ℕ → ℕ → List ℕ → List ℕ
 entry_then window channel rest = ids_then window (codes ": " ++ (decimal channel ++ 10 ∷ rest))
 
--- a line for each channel, with the windows in order: fewer channels than windows leave out the last windows
+-- a line for each channel and the window with its number; if there are fewer channels than windows, the last windows
+-- have no line
 abbrev pub entries_then : List (List ℕ) → List ℕ → List ℕ → List ℕ
 entries_then windows [] rest = rest
 entries_then [] (channel ∷ channels) rest = rest
@@ -68,10 +70,10 @@ head_then w rest = title_then w.version (sizes_then w.version w.table.rounds w.t
 unfoldable pub lines_then : Written → List ℕ → List ℕ
 lines_then w rest = head_then w (entries_then (windows_of w.table) w.table.entries rest)
 
--- those lines, the last line, and nothing after it
+-- those lines and the last line
 unfoldable pub text_of : Written → List ℕ
 text_of w = lines_then w (end_then [])
 
--- the text of a table and a separation, which is that of version 2
+-- the text of a table and a separation, in version 2
 abbrev pub table_text : ChannelTable → Separation → List ℕ
 table_text t s = text_of (written Two t s)

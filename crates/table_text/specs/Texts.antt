@@ -1,4 +1,4 @@
--- Which texts are those of tables and separations.
+-- The texts of tables and separations.
 use Rattle.std.specs.Prelude.{◌≡◌, ℕ, List}
 use Rattle.table_fill.specs.Tables.{ChannelTable, IsBegun, IsTable}
 use Rattle.nbhd_check.specs.declared.separation.Separation.{Separation}
@@ -6,12 +6,12 @@ use Rattle.table_text.specs.declared.version.Version.{Version}
 use Rattle.table_text.specs.TableText.{Written, written, text_of}
 use Rattle.table_text.specs.LineForms.{IsTold}
 
--- a begun table, and a separation that a text of the version tells
+-- a begun table, and a separation that a text of the version can give
 pub record IsBegunText (w : Written) : Type 0 where
   pub begun : IsBegun w.table
   pub told : IsTold w.version w.separation
 
--- a table, and a separation that a text of the version tells
+-- a table, and a separation that a text of the version can give
 pub record IsWritten (w : Written) : Type 0 where
   pub table : IsTable w.table
   pub told : IsTold w.version w.separation

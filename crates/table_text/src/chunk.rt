@@ -1,8 +1,8 @@
-// Bytes that are held until there are many, and then written at once.
+// A buffer that collects bytes, so that they are written in large pieces.
 ghost use Rattle.std.specs.Prelude.{◌≡◌, ◌≤◌, length};
 ghost use Rattle.table_text.specs.declared.limits.TheConstants.{CHUNK_LEN};
 
-// The bytes of the cells before `filled`.
+// A buffer of `CHUNK_LEN` bytes, of which the first `filled` are in use.
 #[derive(Drop)]
 pub(crate) struct Chunk {
     pub(crate) bytes: Vec<u8>,

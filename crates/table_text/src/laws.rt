@@ -2,12 +2,13 @@ ghost use Rattle.table_text.specs.Laws as law;
 
 use win_index::{count_of_windows, number_of_window, windows_have_numbers};
 
-/// Different pairs of a table and a separation have different texts, and no table text of either version begins another one.
+/// No table text of either version is a prefix of another one, and different pairs of a table and a
+/// separation have different texts.
 pub fn table_texts_are_apart()
     ensures { law.TableTextsAreApart }
 {}
 
-/// A table text of either version is within the limit.
+/// A table text of either version is at most `LONGEST_TABLE_TEXT` bytes long.
 pub fn table_texts_are_short()
     ensures { law.TableTextsAreShort }
 {
@@ -16,7 +17,7 @@ pub fn table_texts_are_short()
     windows_have_numbers();
 }
 
-/// A table text of either version has no fault but want of memory.
+/// A table text of either version has no fault except `OutOfMemory`.
 pub fn table_texts_are_read()
     ensures { law.TableTextsAreRead }
 {
@@ -25,7 +26,7 @@ pub fn table_texts_are_read()
     windows_have_numbers();
 }
 
-/// A text has at most one fault, want of memory aside.
+/// A text has at most one fault besides `OutOfMemory`.
 pub fn one_table_fault()
     ensures { law.OneTableFault }
 {

@@ -1,4 +1,4 @@
-//! The text of a table and its separation: reading and writing it.
+//! Reading and writing the text of a table and its separation.
 #![tactic(auto)]
 
 mod chunk;

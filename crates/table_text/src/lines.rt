@@ -13,7 +13,7 @@ use nbhd_check::Separation;
 use node_lang::MAX_CHANNELS;
 use win_index::{MAX_ROUNDS, MAX_WINDOW_LEN, Shape};
 
-// The first numbers of the second line.
+// The first three numbers of the second line.
 #[derive(Clone, Copy)]
 struct Counts {
     rounds: u32,
@@ -21,7 +21,7 @@ struct Counts {
     channels: u32,
 }
 
-// What the second line says.
+// The contents of the second line.
 #[derive(Clone, Copy)]
 pub(crate) struct Header {
     pub(crate) shape: Shape,
@@ -29,17 +29,17 @@ pub(crate) struct Header {
     pub(crate) separation: Separation,
 }
 
-// The first line of a text where the line of a window is wanted.
+// The first line of a text at a place where the line of a window is expected.
 pub(crate) enum Line<'a> {
-    // It has no form of such a line.
+    // Its form is not that of such a line.
     Malformed,
-    // Its identifiers are another list.
+    // Its identifiers are not the window.
     OtherWindow,
-    // Its identifiers are the window: its channel, and what follows the line.
+    // Its identifiers are the window. Its channel, and the text after the line.
     Entry(u32, &'a [u8]),
 }
 
-// What follows this beginning of a text.
+// Returns the text after this prefix, or `None` if the text does not begin with it.
 fn after<'a>(text: &'a [u8], beginning: &[u8]) -> Option<&'a [u8]>
     ensures { MatchOption result ((rest : List ℕ) → text.entry.now ≢ beginning.now ++ rest)
         (λ rest. text.entry.now ≡ beginning.now ++ rest.now) }
@@ -47,7 +47,7 @@ fn after<'a>(text: &'a [u8], beginning: &[u8]) -> Option<&'a [u8]>
     text.strip_prefix(beginning)
 }
 
-// The version that the first line of a table text names, and what follows that line.
+// Returns the version that the first line of a table text names, and the text after that line.
 pub(crate) fn after_title(text: &[u8]) -> Option<(Version, &[u8])>
     ensures { MatchOption result (¬ HasTitle text.now) (λ read. text.now ≡ title_then read.0 read.1.now) }
 {
@@ -60,14 +60,14 @@ pub(crate) fn after_title(text: &[u8]) -> Option<(Version, &[u8])>
     Some((Version::Two, rest))
 }
 
-// What follows the last line of a table text.
+// Returns the text after the last line of a table text.
 pub(crate) fn after_end(text: &[u8]) -> Option<&[u8]>
     ensures { MatchOption result (¬ HasEnd text.now) (λ rest. text.now ≡ end_then rest.now) }
 {
     after(text, b"end\n")
 }
 
-// The number that stands after a name and before the byte `end`, and what follows that byte.
+// Returns the number between a name and the byte `end`, and the text after that byte.
 fn field<'a>(text: &'a [u8], name: &[u8], end: u8) -> Option<(u32, &'a [u8])>
     requires { end < 48 }
     ensures field { IfSome result (λ read. text.entry.now ≡ name.now ++ (decimal read.0 ++ end ∷ read.1.now)) }
@@ -84,7 +84,8 @@ fn field<'a>(text: &'a [u8], name: &[u8], end: u8) -> Option<(u32, &'a [u8])>
     Some((value, rest))
 }
 
-// The first three numbers of the second line, the last of them before the byte `end`, and what follows that byte.
+// Returns the first three numbers of the second line, the last of which is followed by the byte
+// `end`, and the text after that byte.
 fn three_counts(text: &[u8], end: u8) -> Option<(Counts, &[u8])>
     requires { end < 48 }
     ensures counts { IfSome result (λ read. text.now ≡ counts_then read.0.rounds read.0.ids read.0.channels end read.1.now) }
@@ -109,7 +110,8 @@ fn three_counts(text: &[u8], end: u8) -> Option<(Counts, &[u8])>
     Some((counts, rest))
 }
 
-// The shape of these numbers of rounds and identifiers, where they and the number of channels are those of a table.
+// Returns the shape with these numbers of rounds and identifiers, or `None` if they and the number
+// of channels are not those of a table.
 fn shape_of(counts: Counts) -> Option<Shape>
     ensures shape { IfSome result (λ shape. (shape.ids ≡ counts.ids) × (shape.rounds ≡ counts.rounds)) }
     ensures range { IfSome result (λ _. AreSizes counts.rounds counts.ids counts.channels) }
@@ -130,7 +132,7 @@ fn shape_of(counts: Counts) -> Option<Shape>
     Some(shape)
 }
 
-// The last two numbers of the second line of version 2, and what follows the line.
+// Returns the last two numbers of the second line of version 2, and the text after the line.
 fn two_distances(text: &[u8]) -> Option<(Separation, &[u8])>
     ensures told { IfSome result (λ read. IsTold Version.Two read.0) }
     ensures distances { IfSome result (λ read. text.now ≡ distances_then Version.Two read.0 read.1.now) }
@@ -154,7 +156,8 @@ fn two_distances(text: &[u8]) -> Option<(Separation, &[u8])>
     Some((Separation { near, far }, rest))
 }
 
-// The separation that a text of this version tells behind the numbers of the table, and what follows the second line.
+// Returns the separation of a text of this version, read from the text after the first three
+// numbers of the second line, and the text after that line.
 fn separation_in(version: Version, text: &[u8]) -> Option<(Separation, &[u8])>
     ensures told { IfSome result (λ read. IsTold version read.0) }
     ensures distances { IfSome result (λ read. text.now ≡ distances_then version read.0 read.1.now) }
@@ -166,7 +169,7 @@ fn separation_in(version: Version, text: &[u8]) -> Option<(Separation, &[u8])>
     }
 }
 
-// The byte that stands after the number of channels.
+// Returns the byte after the number of channels.
 fn counts_end(version: Version) -> u8
     ensures end { result ≡ counts_end version }
     ensures below { result < 48 }
@@ -177,7 +180,7 @@ fn counts_end(version: Version) -> u8
     }
 }
 
-// What the second line of a text of this version says, and what follows it.
+// Returns the contents of the second line of a text of this version, and the text after it.
 pub(crate) fn sizes(version: Version, text: &[u8]) -> Option<(Header, &[u8])>
     ensures range { IfSome result (λ read. AreSizes read.0.shape.rounds read.0.shape.ids read.0.channels) }
     ensures told { IfSome result (λ read. IsTold version read.0.separation) }
@@ -202,7 +205,8 @@ pub(crate) fn sizes(version: Version, text: &[u8]) -> Option<(Header, &[u8])>
     Some((header, rest))
 }
 
-// Reads the identifiers of a line into the cells; its channel, and what follows the line.
+// Reads the identifiers of a line into `ids`, as many as its length. Returns the line's channel and
+// the text after the line.
 fn entry<'a>(text: &'a [u8], ids: &mut [u32]) -> Option<(u32, &'a [u8])>
     ensures len { length ids.new ≡ length ids.old }
     ensures entry { IfSome result (λ read. IsEntry (length ids.old) text.entry.now ids.new read.0 read.1.now) }
@@ -217,7 +221,8 @@ fn entry<'a>(text: &'a [u8], ids: &mut [u32]) -> Option<(u32, &'a [u8])>
     Some((channel, rest))
 }
 
-// The first line of the text, read with the help of as many cells as the window has.
+// Classifies the first line of the text, where the line of this window is expected. `ids` is
+// scratch of the window's length.
 fn line_in<'a>(window: &[u32], text: &'a [u8], ids: &mut [u32]) -> Line<'a>
     requires { length ids.old ≡ length window.now }
     ensures { IsLine window.now text.entry.now result }
@@ -234,7 +239,7 @@ fn line_in<'a>(window: &[u32], text: &'a [u8], ids: &mut [u32]) -> Line<'a>
     }
 }
 
-// The first line of the text, where the line of this window is wanted.
+// Classifies the first line of the text, where the line of this window is expected.
 pub(crate) fn line_of<'a>(window: &[u32], text: &'a [u8]) -> Line<'a>
     requires { length window.now ≤ MAX_WINDOW_LEN }
     ensures { IsLine window.now text.entry.now result }

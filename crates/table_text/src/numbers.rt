@@ -1,11 +1,11 @@
-//! Numbers at the front of a text.
+//! Numbers at the start of a text.
 
 ghost use Rattle.std.specs.Prelude.{◌≡◌, ◌==◌, ◌<◌, ◌&&◌, ◌^◌, ℕ, List, ◌∷◌, ◌++◌, All, nat_lt, length, slice_index, IfSome, IfNone};
 ghost use Rattle.std.specs.Fmt.{decimal};
 ghost use Rattle.table_text.specs.TableText.{ids_then};
 ghost use Rattle.table_text.specs.Fronts.{Lacks};
 
-// The parts of a text before and after the first byte of this value.
+// Returns the parts of a text before and after the first byte of this value.
 fn cut_at(text: &[u8], end: u8) -> Option<(&[u8], &[u8])>
     ensures cut { IfSome result (λ parts. text.now ≡ parts.0.now ++ end ∷ parts.1.now) }
     ensures first { IfSome result (λ parts. Lacks end parts.0.now) }
@@ -27,7 +27,7 @@ fn is_padded(word: &[u8]) -> bool
     word.len() > 1 && word[0] == b'0'
 }
 
-// The number of which these bytes are the decimal digits: `0`, or digits that do not begin with 0.
+// Returns the number with these decimal digits: `0`, or digits that do not begin with 0.
 fn number_of(word: &[u8]) -> Option<u32>
     ensures number { IfSome result (λ number. word.now ≡ decimal number) }
     ensures none { IfNone result ((number : ℕ) → number < 2 ^ 32 → word.now ≡ decimal number → ⊥) }
@@ -47,7 +47,7 @@ fn number_of(word: &[u8]) -> Option<u32>
     Some(number)
 }
 
-// The number that a text begins with before the byte `end`, and what follows that byte.
+// Returns the number at the start of a text, before the byte `end`, and the text after that byte.
 pub(crate) fn number_before(text: &[u8], end: u8) -> Option<(u32, &[u8])>
     requires { end < 48 }
     ensures number { IfSome result (λ read. text.now ≡ decimal read.0 ++ end ∷ read.1.now) }
@@ -64,7 +64,8 @@ pub(crate) fn number_before(text: &[u8], end: u8) -> Option<(u32, &[u8])>
     Some((number, rest))
 }
 
-// Fills the cells with as many numbers, each before a blank, and answers what follows them.
+// Fills `numbers` with the numbers at the start of a text, each followed by a blank, and returns
+// the text after them.
 pub(crate) fn numbers_in<'a>(text: &'a [u8], numbers: &mut [u32]) -> Option<&'a [u8]>
     ensures len { length numbers.new ≡ length numbers.old }
     ensures numbers { IfSome result (λ rest. text.entry.now ≡ ids_then numbers.new rest.now) }

@@ -1,7 +1,7 @@
-// Short texts, each in as many cells as the others, so that one is stored by one move.
+// Short texts in buffers of one length, so that one is stored by one copy.
 ghost use Rattle.std.specs.Prelude.{◌≤◌};
 
-// At most 8 bytes of text.
+// A text of at most 8 bytes: the first `len` of the buffer.
 #[derive(Clone, Copy)]
 pub(crate) struct Piece {
     pub(crate) bytes: [u8; 8],

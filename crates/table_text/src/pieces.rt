@@ -1,4 +1,4 @@
-// The pieces of which the lines of windows are made.
+// The pieces from which the lines of windows are made.
 ghost use Rattle.std.specs.Prelude.{◌≡◌, ◌<◌, ◌≤◌, [], All, length, IfOk};
 ghost use Rattle.node_lang.specs.declared.limits.TheConstants.{MAX_CHANNELS};
 ghost use Rattle.win_index.specs.declared.limits.TheConstants.{MAX_IDS};
@@ -12,7 +12,7 @@ use std::alloc::{AllocError, Global};
 use table_fill::Table;
 use win_index::MAX_WINDOW_LEN;
 
-// The pieces of which the lines of a table are made.
+// Returns the pieces from which the lines of a table are made.
 pub(crate) fn pieces_of(alloc: Global, table: &Table) -> Result<Pieces, AllocError>
     ensures { IfOk result (ArePieces table.now) }
 {
@@ -21,7 +21,7 @@ pub(crate) fn pieces_of(alloc: Global, table: &Table) -> Result<Pieces, AllocErr
     Ok(Pieces { ids, channels })
 }
 
-// An identifier and a blank, for each identifier below this number.
+// Returns for each identifier below `ids` the piece of the identifier and a blank.
 fn id_pieces(alloc: Global, ids: u32) -> Result<Vec<Piece>, AllocError>
     requires { ids ≤ MAX_IDS }
     ensures texts { IfOk result (λ pieces. AreTexts id_text pieces.items) }
@@ -34,7 +34,7 @@ fn id_pieces(alloc: Global, ids: u32) -> Result<Vec<Piece>, AllocError>
     Ok(pieces)
 }
 
-// What follows the identifiers of a line, for each channel below this number.
+// Returns for each channel below `channels` the piece that follows the identifiers of its lines.
 fn channel_pieces(alloc: Global, channels: u32) -> Result<Vec<Piece>, AllocError>
     requires { channels ≤ MAX_CHANNELS }
     ensures texts { IfOk result (λ pieces. AreTexts channel_text pieces.items) }
@@ -47,7 +47,7 @@ fn channel_pieces(alloc: Global, channels: u32) -> Result<Vec<Piece>, AllocError
     Ok(pieces)
 }
 
-// An identifier and a blank.
+// Returns the piece of an identifier and a blank.
 fn id_piece(alloc: Global, id: u32) -> Result<Piece, AllocError>
     requires { id < MAX_IDS }
     ensures { IfOk result (λ piece. piece_text piece ≡ id_text id) }
@@ -56,7 +56,7 @@ fn id_piece(alloc: Global, id: u32) -> Result<Piece, AllocError>
     Ok(piece_of(text.as_bytes()))
 }
 
-// What follows the identifiers of a line with this channel.
+// Returns the piece that follows the identifiers of a line with this channel.
 fn channel_piece(alloc: Global, channel: u32) -> Result<Piece, AllocError>
     requires { channel < MAX_CHANNELS }
     ensures { IfOk result (λ piece. piece_text piece ≡ channel_text channel) }
@@ -65,7 +65,7 @@ fn channel_piece(alloc: Global, channel: u32) -> Result<Piece, AllocError>
     Ok(piece_of(text.as_bytes()))
 }
 
-// A text of at most 8 bytes as a piece.
+// Copies a text of at most 8 bytes into a piece.
 pub(crate) fn piece_of(text: &[u8]) -> Piece
     requires { length text.now ≤ 8 }
     ensures { piece_text result ≡ text.now }
@@ -78,7 +78,7 @@ pub(crate) fn piece_of(text: &[u8]) -> Piece
     }
 }
 
-// The identifiers of a window but the last, each with a blank behind it.
+// Returns the front of the identifiers of a window except the last, each followed by a blank.
 pub(crate) fn front_of(ids: &[Piece], shared: &[u32]) -> Front
     requires short { length shared.now < MAX_WINDOW_LEN }
     requires ids { AreTexts id_text ids.now × All (λ id. id < length ids.now) shared.now }

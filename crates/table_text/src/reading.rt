@@ -18,16 +18,19 @@ use std::alloc::Global;
 use table_fill::{Table, TableMaker};
 use win_index::MAX_WINDOW_LEN;
 
-/// The table and the separation of which this is the text. The text of a table of `t` rounds, `m` identifiers and `C`
-/// channels with near `P` and far `Q` is the line `nbhd-table 2`, the line `rounds t ids m channels C near P far Q`, then a
-/// line for each window of `2t+1` identifiers, in the windows' order, which has the identifiers, a colon and the window's
-/// channel, and the line `end`. A text of version 1 begins with the lines `nbhd-table 1` and `rounds t ids m channels C`; it
-/// is read with near 1 and far 0. A line ends with a line feed, single blanks part its words, and numbers have no leading
-/// zeros.
+/// Returns the table and the separation whose text this is.
 ///
-/// Another text has a fault. `Syntax` comes first for a text of more than `LONGEST_TABLE_TEXT` bytes; then the lines are judged
-/// in order, and the first that has a fault is named: `Syntax`, else `WrongWindow`, else `ChannelTooLarge`.
-/// `OutOfMemory` comes where memory was refused; it may come in place of any fault but that of the length.
+/// The text of a table of `t` rounds, `m` identifiers and `C` channels with near `P` and far `Q` is
+/// the line `nbhd-table 2`, the line `rounds t ids m channels C near P far Q`, then a line for each
+/// window of `2t+1` identifiers in the windows' order, which has the identifiers, a colon and the
+/// window's channel, and the line `end`. A text of version 1 begins with the lines `nbhd-table 1`
+/// and `rounds t ids m channels C`; its separation is near 1 and far 0. A line ends with a line
+/// feed, single blanks separate its words, and numbers have no leading zeros.
+///
+/// Fails with `Syntax` if the text is longer than `LONGEST_TABLE_TEXT` bytes. Otherwise the lines
+/// are checked in order, and the fault of the first wrong line is returned: `Syntax`, else
+/// `WrongWindow`, else `ChannelTooLarge`. Fails with `OutOfMemory` if memory was refused, which can
+/// replace any fault except that of the length.
 pub fn read_table(alloc: Global, text: &[u8]) -> Result<(Table, Separation), TableFault>
     ensures table { IfOk result (λ read. IsTextOf text.now read.0 read.1) }
     ensures fault { IfErr result (IsFault text.now) }
@@ -39,7 +42,7 @@ pub fn read_table(alloc: Global, text: &[u8]) -> Result<(Table, Separation), Tab
     table_of(alloc, text)
 }
 
-// The table and the separation of a text, or a fault of the text.
+// Returns the table and the separation of a text, or a fault of the text.
 fn table_of(alloc: Global, text: &[u8]) -> Result<(Table, Separation), TableFault>
     ensures table { IfOk result (λ read. IsTextOf text.now read.0 read.1) }
     ensures fault { IfErr result (IsFault text.now) }
@@ -53,7 +56,8 @@ fn table_of(alloc: Global, text: &[u8]) -> Result<(Table, Separation), TableFaul
     Ok((table, header.separation))
 }
 
-// The fault of a text whose first line without its form begins with this rest.
+// Returns the fault of a text in which the first line that does not have its form begins with
+// `rest`.
 fn syntax(text: &[u8], rest: &[u8]) -> TableFault
     requires short { length text.now ≤ LONGEST_TABLE_TEXT }
     requires malformed { IsMalformed text.now rest.now }
@@ -62,7 +66,7 @@ fn syntax(text: &[u8], rest: &[u8]) -> TableFault
     TableFault::Syntax((text.len() - rest.len()) as u32)
 }
 
-// What the first two lines say, and what follows them.
+// Returns the version and the contents of the first two lines, and the text after them.
 fn header_of(text: &[u8]) -> Result<(Version, Header, &[u8]), TableFault>
     requires { length text.now ≤ LONGEST_TABLE_TEXT }
     ensures sizes { IfOk result (λ read. AreSizes read.1.shape.rounds read.1.shape.ids read.1.channels) }
@@ -80,7 +84,7 @@ fn header_of(text: &[u8]) -> Result<(Version, Header, &[u8]), TableFault>
     Ok((version, header, rest))
 }
 
-// The table whose entries the lines say that begin at `start`, and what follows them.
+// Returns the table whose entries are on the lines from `start` on, and the text after them.
 fn entries<'a>(
     alloc: Global,
     text: &'a [u8],
@@ -124,7 +128,7 @@ fn entries<'a>(
     Ok((maker.done(), rest))
 }
 
-// Whether the rest is the last line and nothing more.
+// Fails unless `rest` is the last line and nothing more.
 fn ends(
     text: &[u8],
     version: Version,

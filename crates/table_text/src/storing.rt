@@ -1,4 +1,4 @@
-// Storing pieces in a chunk, and writing it.
+// Storing pieces in a chunk, and writing the chunk.
 ghost use Rattle.std.specs.Prelude.{◌≡◌, ◌+◌, ◌≤◌, ◌++◌, ℕ, List, [], ◌↔◌, false, IsTrue, length, take, IfOk, IfErr, OnOk, OnErr, IsErrOf};
 ghost use Rattle.std.specs.Io.KnownBytes.{Appends};
 ghost use Rattle.devices.specs.Output.{AppendsFront};
@@ -16,7 +16,7 @@ use devices::watched::Watched;
 use std::alloc::{AllocError, Global};
 use std::io::Write;
 
-// A chunk that holds nothing.
+// Allocates an empty chunk.
 pub(crate) fn empty_chunk(alloc: Global) -> Result<Chunk, AllocError>
     ensures { IfOk result (λ chunk. chunk.filled ≡ 0) }
 {
@@ -24,7 +24,7 @@ pub(crate) fn empty_chunk(alloc: Global) -> Result<Chunk, AllocError>
     Ok(Chunk { bytes, filled: 0 })
 }
 
-// Stores a text in a chunk in place of what it holds.
+// Replaces the contents of a chunk by a text.
 pub(crate) fn store_first(chunk: &mut Chunk, text: &[u8])
     requires room { length text.now ≤ CHUNK_LEN }
     ensures held { held chunk.new ≡ text.now }
@@ -33,7 +33,7 @@ pub(crate) fn store_first(chunk: &mut Chunk, text: &[u8])
     chunk.filled = text.len();
 }
 
-// Stores a piece behind what a chunk holds.
+// Appends a piece to a chunk.
 pub(crate) fn store(chunk: &mut Chunk, piece: Piece)
     requires room { chunk.old.filled + 8 ≤ CHUNK_LEN }
     ensures held { held chunk.new ≡ held chunk.old ++ piece_text piece }
@@ -43,7 +43,7 @@ pub(crate) fn store(chunk: &mut Chunk, piece: Piece)
     chunk.filled += piece.len;
 }
 
-// Stores a front behind what a chunk holds.
+// Appends a front to a chunk.
 pub(crate) fn store_front(chunk: &mut Chunk, front: &Front)
     requires room { chunk.old.filled + FRONT_LEN ≤ CHUNK_LEN }
     ensures held { held chunk.new ≡ held chunk.old ++ front_text front.now }
@@ -53,7 +53,7 @@ pub(crate) fn store_front(chunk: &mut Chunk, front: &Front)
     chunk.filled += front.len;
 }
 
-// Writes a piece over the cells from a place on.
+// Copies a piece over the bytes from index `start` on.
 pub(crate) fn write_at(bytes: &mut [u8], start: usize, piece: &[u8])
     requires room { start + length piece.now ≤ length bytes.old }
     ensures len { length bytes.new ≡ length bytes.old }
@@ -62,7 +62,7 @@ pub(crate) fn write_at(bytes: &mut [u8], start: usize, piece: &[u8])
     bytes[start..start + piece.len()].copy_from_slice(piece);
 }
 
-// Writes what a chunk holds; it then holds nothing.
+// Writes the contents of a chunk, and empties it.
 pub(crate) fn send_held<W: Write>(
     chunk: &mut Chunk,
     writer: &mut Watched<W>,

@@ -24,14 +24,15 @@ use std::io::Write;
 use table_fill::Table;
 use win_index::{MAX_WINDOW_LEN, Shape};
 
-// Room for a front, the piece of an identifier and that of a channel.
+// The space for a line: a front, the piece of an identifier and that of a channel.
 const LINE_LEN: usize = FRONT_LEN + 16;
 
-/// Writes the text of a table and a separation, in version 2: a line with the version, a line with the numbers of rounds,
-/// identifiers and channels, near and far, a line for each window and its channel in the windows' order, and the line `end`.
+/// Writes the text of a table and a separation in version 2: a line with the version; a line with
+/// the numbers of rounds, identifiers and channels, near and far; a line with each window and its
+/// channel, in the windows' order; and the line `end`.
 ///
-/// `Write` comes exactly where a write failed or took no byte; a front of the text was then written.
-/// `Memory` comes where memory was refused; nothing was then written.
+/// Fails with `Write` exactly if a write failed or took no byte; a prefix of the text was then
+/// written. Fails with `Memory` if memory was refused; nothing was then written.
 pub fn write_table<W: Write>(
     alloc: Global,
     table: &Table,
@@ -56,7 +57,7 @@ pub fn write_table<W: Write>(
     }
 }
 
-// The lines above those of the windows.
+// Returns the lines before those of the windows.
 fn first_lines(alloc: Global, table: &Table, separation: Separation) -> Result<String, AllocError>
     ensures head { IfOk result (λ text. string_bytes text ≡ head_then (written Two table.now separation) []) }
     ensures short { IfOk result (λ text. length (string_bytes text) ≤ CHUNK_LEN) }
@@ -72,7 +73,8 @@ fn first_lines(alloc: Global, table: &Table, separation: Separation) -> Result<S
     )
 }
 
-// Writes the lines of all windows and the last line, behind the first two lines, which the chunk holds.
+// Writes the first two lines, which are the chunk's contents, the lines of all windows and the last
+// line.
 fn write_lines<W: Write>(
     writer: &mut Watched<W>,
     chunk: &mut Chunk,
@@ -95,8 +97,8 @@ fn write_lines<W: Write>(
     send_held(chunk, writer)
 }
 
-// Writes the lines of all windows behind the first two lines, which the chunk holds; the chunk has room for a piece in
-// the end.
+// Writes the first two lines, which are the chunk's contents, and the lines of all windows. The
+// last of them can be left in the chunk, which has space for one more piece.
 fn write_entries<W: Write>(
     writer: &mut Watched<W>,
     chunk: &mut Chunk,
@@ -133,7 +135,7 @@ fn write_entries<W: Write>(
     make_room(chunk, writer)
 }
 
-// Goes on to the next window and its front, where there is one.
+// Advances to the next window and its front, if there is one.
 fn go_on(shape: Shape, ids: &[Piece], window: &mut [u32], front: &mut Front)
     requires ids { AreTexts id_text ids.now × (length ids.now ≡ shape.ids) }
     requires window { IsWindow (2 * shape.rounds + 1) shape.ids window.old }
@@ -150,7 +152,7 @@ fn go_on(shape: Shape, ids: &[Piece], window: &mut [u32], front: &mut Front)
     }
 }
 
-// Writes what a chunk holds where it has no room for another line.
+// Writes the contents of a chunk if it has no space for another line.
 fn make_room<W: Write>(chunk: &mut Chunk, writer: &mut Watched<W>) -> Result<(), EngineFault>
     requires { has_failed writer.old ≡ false }
     ensures ok { OnOk result ((before : Option (List ℕ)) (text : List ℕ) → Tells before (W.contents (device_of writer.old)) (held chunk.old) text
@@ -167,7 +169,8 @@ fn make_room<W: Write>(chunk: &mut Chunk, writer: &mut Watched<W>) -> Result<(),
     Ok(())
 }
 
-// Stores a line: the front of a window, the piece of its last identifier and that of its channel.
+// Appends a line to a chunk: the front of a window, the piece of its last identifier and that of
+// its channel.
 fn store_line(chunk: &mut Chunk, front: &Front, last: Piece, end: Piece)
     requires room { chunk.old.filled + LINE_LEN ≤ CHUNK_LEN }
     ensures { held chunk.new ≡ held chunk.old ++ (front_text front.now ++ (piece_text last ++ piece_text end)) }

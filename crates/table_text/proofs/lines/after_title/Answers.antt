@@ -4,7 +4,7 @@ use Rattle.table_text.specs.declared.version.Version.{Version}
 use Rattle.table_text.specs.declared.version.Version.TheVariants.{One, Two}
 use Rattle.table_text.proofs.lines.after_title.Goals as goal
 
--- a text that begins with neither first line has none
+-- a text that begins with neither first line has no title
 no_version : (text : List ℕ) → ((rest : List ℕ) → text ≡ title_then One rest → ⊥) → ((rest : List ℕ) → text ≡ title_then Two rest → ⊥)
     → (version : Version) (rest : List ℕ) → text ≡ title_then version rest → ⊥
 no_version text first second One rest is = first rest is

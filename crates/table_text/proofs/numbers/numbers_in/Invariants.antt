@@ -3,7 +3,7 @@ use Rattle.std.specs.Prelude.{All}
 use Rattle.table_text.specs.TableText.{ids_then}
 use Rattle.table_text.proofs.numbers.numbers_in.Given as goal
 
--- the numbers so far stand at the front
+-- the numbers so far are at the start
 abbrev pub invariant-numbers : goal.invariant-numbers
 invariant-numbers l = record {
   size : length l.numbers ≡ length l.fn.numbers;

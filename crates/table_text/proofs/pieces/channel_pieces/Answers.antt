@@ -3,7 +3,7 @@ use Rattle.table_text.specs.Pieces.{channel_text, AreTexts}
 use Rattle.table_text.proofs.PieceTexts.{texts_more}
 use Rattle.table_text.proofs.pieces.channel_pieces.Goals as goal
 
--- One piece more was made.
+-- One more piece was made.
 pub loop-channel-preserved : goal.loop-channel-preserved
 loop-channel-preserved c =
     let pieces = c.loop-channel.pieces.items in

@@ -6,7 +6,7 @@ use Rattle.table_text.proofs.WrittenLines.{ids_more}
 use Rattle.table_text.proofs.PieceTexts.{piece_at}
 use Rattle.table_text.proofs.pieces.front_of.Goals as goal
 
--- One identifier more is written.
+-- One more identifier is written.
 pub loop-id-preserved : goal.loop-id-preserved
 loop-id-preserved c =
     let ids = c.args.shared.now in

@@ -3,7 +3,7 @@ use Rattle.table_text.specs.Pieces.{id_text, AreTexts}
 use Rattle.table_text.proofs.PieceTexts.{texts_more}
 use Rattle.table_text.proofs.pieces.id_pieces.Goals as goal
 
--- One piece more was made.
+-- One more piece was made.
 pub loop-id-preserved : goal.loop-id-preserved
 loop-id-preserved c =
     let pieces = c.loop-id.pieces.items in

@@ -10,7 +10,7 @@ use Rattle.table_text.specs.declared.fault.TableFault.{TableFault}
 use Rattle.table_text.specs.declared.fault.TableFault.TheVariants.{OutOfMemory}
 use Rattle.table_text.proofs.reading.read_table.Goals as goal
 
--- what answers a table text by a table and a separation or by a fault answers those of the text, or want of memory
+-- a result that is the table and the separation of a table text, or a fault of it, is the expected one or OutOfMemory
 answers_table : TableTextsAreApart → TableTextsAreRead → (text : List ℕ) (r : Result (ChannelTable × Separation) TableFault)
     → IfOk r (λ read. IsTextOf text read.0 read.1) → IfErr r (IsFault text) → (t : ChannelTable) (s : Separation) → IsTextOf text t s
     → MatchResult r (λ read. (read.0 ≡ t) × (read.1 ≡ s)) (λ fault. fault ≡ OutOfMemory)

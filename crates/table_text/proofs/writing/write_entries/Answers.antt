@@ -20,7 +20,7 @@ loop-number-init g c =
       told = ([], Appends-nil _, c.requires.first);
     }
 
--- One line more is held.
+-- One more line is in the chunk.
 pub loop-number-preserved : goal.loop-number-preserved
 loop-number-preserved g c =
     let t = c.args.table.now in

@@ -6,7 +6,8 @@ use Rattle.table_text.specs.TableText.{written, ids_then, lines_then}
 use Rattle.table_text.specs.Pieces.{held, front_text, Tells}
 use Rattle.table_text.proofs.writing.write_entries.Given as goal
 
--- the window is the next one to be written, the front is its own, and the lines of those before it were written or are held
+-- the window is the next one, the front is its front, and the lines of the windows before it are written or in the
+-- chunk
 abbrev pub invariant-loop-number : goal.invariant-loop-number
 invariant-loop-number g l =
     record {
