@@ -1,4 +1,4 @@
--- The command that was met, and its answer.
+-- The command that was parsed, and the result of its task.
 use Rattle.std.proofs.Common.{◌≡◌, ◌⊎◌, List, Option, Some, None, Result, Ok, Err, Bor, inl, inr, refl, sym, ◌∙◌, ap, ap₂, subst, true, false, Global}
 use Rattle.std.specs.Prelude.{◌↔◌, Box, IfOk, IfErr, IsOk, option_map}
 use Rattle.clap.specs.Words.{Row, Text, found_of, rows_of, subcommand_name_of, subcommand_of, subcommand_rows, subcommand_rows_of}
@@ -12,7 +12,7 @@ use Rattle.task_words.specs.WordsFault.{MemoryAside}
 use Rattle.task_words.specs.declared.words.WordsFault.{WordsFault}
 use Rattle.task_words.specs.declared.words.WordsFault.TheVariants.{BadRing, OutOfMemory}
 
--- the name and the values of the options of the command that was met
+-- the name of the command that was parsed, and the values of its options
 abbrev pub met_of : Option (Bor Text × Bor ArgMatches) → Option (Text × List Row)
 met_of = option_map (λ p. (p.0.now, rows_of (found_of p.1.now)))
 
@@ -44,7 +44,7 @@ pub call_is : (words : List Text) (m : ArgMatches) (o : Option (Bor Text × Bor 
     → subcommand_rows_of m ≡ subcommand_of command_line words → subcommand_of command_line words ≡ met_of o
 call_is words m o name rows is = sym (met o (out-ArgMatches m).subcommand name rows ∙ is)
 
--- a bad ring of the command that was met
+-- the command that was parsed has a bad ring
 IsBadMet : Option (Text × List Row) → Type 0
 IsBadMet None = ⊥
 IsBadMet (Some p) = IsRingName p.0 × IsRingBad p.1

@@ -1,4 +1,4 @@
--- What the options of each command give, where `clap` takes the words.
+-- The values of the options of each command, if `clap` accepts the words.
 use Rattle.std.proofs.Common.{◌≡◌, ℕ, Bool, true, false, List, [], Option, Some, None, Result, inl, inr, refl, sym, ◌∙◌, ap, subst, arith, codes, ◌<◌, ◌≤◌, ◌^◌}
 use Rattle.std.specs.Prelude.{◌||◌}
 use Rattle.std.specs.Option.{IsSomeAnd}
@@ -33,7 +33,7 @@ takes_ring name = is_named (codes "run") name || (is_named (codes "trace") name 
 abbrev pub takes_ids : Text → Bool
 takes_ids name = is_named (codes "check") name || (is_named (codes "table") name || (is_named (codes "judge") name || takes_ring name))
 
--- a name that passes a test is no other name that fails it
+-- a name that passes a test differs from one that fails it
 other_name : (test : Text → Bool) (name other : Text) → test other ≡ false → test name ≡ true → name ≡ other → ⊥
 other_name test name other fails passes is =
     let bad : true ≡ false = sym passes ∙ (ap test is ∙ fails) in
@@ -158,7 +158,7 @@ number_read f option r low high fits reads given =
 is_line : is_option_line command_line ≡ true
 is_line = refl
 
--- where `clap` takes the words, they name one of the commands, whose options have their values
+-- if `clap` accepts the words, they name one of the commands, whose options have their values
 taken : OptionsHaveValues → (words : List Text) → fault_of command_line words ≡ [] → IsSomeAnd (subcommand_of command_line words) (λ met. IsOneOf command_line.subs met.0 met.1)
 taken law words clean = law command_line words is_line clean
 

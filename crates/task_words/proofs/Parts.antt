@@ -1,4 +1,4 @@
--- Lemmas that lift what holds of borrowed parts to the text that they are parts of.
+-- Facts of borrowed parts, lifted to the text that they are parts of.
 use Rattle.std.proofs.Common.{◌≡◌, ℕ, ◌+◌, ◌<◌, List, [], ◌∷◌, ◌++◌, length, map, get_or, take, All, Bor, subst, sym, ap, ◌∙◌, ◌⊎◌, ◌↔◌, Result, Ok, Err, OnOk, IfErr, IsOk, IsErrOf, inl, inr, refl}
 use Rattle.std.proofs.lemmas.List.Elements.{All-map}
 use Rattle.std.proofs.lemmas.List.{map_more, get_or-map, length-map}
@@ -9,7 +9,7 @@ use Rattle.task_words.specs.WordsFault.{MemoryAside}
 use Rattle.task_words.specs.declared.words.WordsFault.{WordsFault}
 use Rattle.task_words.specs.declared.words.WordsFault.TheVariants.{BadRing, OutOfMemory}
 
--- the values of the first i parts, and then the next one
+-- the values of the first i parts, followed by the next one
 pub values_more : (parts : List (Bor (List ℕ))) (i number : ℕ) (d : Bor (List ℕ)) (before after : List ℕ) → i < length parts
     → before ≡ map (λ part. number_in part.now) (take i parts) → number ≡ number_in (get_or parts i d).now → after ≡ before ++ number ∷ []
     → after ≡ map (λ part. number_in part.now) (take (i + 1) parts)
@@ -17,7 +17,7 @@ values_more parts i number d before after within values read pushed =
     let more = map_more (λ (part : Bor (List ℕ)). number_in part.now) parts i d within in
     pushed ∙ ap (λ l. l ++ number ∷ []) values ∙ ap (λ n. map (λ part. number_in part.now) (take i parts) ++ n ∷ []) read ∙ sym more
 
--- parts that are numbers each make a ring text
+-- parts that are all numbers make a ring text
 pub ring_text_of_parts : (parts : List (Bor (List ℕ))) (text ring : List ℕ) → map (λ part. part.now) parts ≡ parts_of text
     → All (λ part. IsNumber part.now) parts × (ring ≡ map (λ part. number_in part.now) parts) → IsRingText text × (ring ≡ ring_in text)
 ring_text_of_parts parts text ring same (each, values) = (
@@ -25,7 +25,7 @@ ring_text_of_parts parts text ring same (each, values) = (
   values ∙ sym (map-map number_in (λ part. part.now) parts) ∙ ap (map number_in) same,
 )
 
--- the parts of a ring text are numbers each
+-- the parts of a ring text are all numbers
 pub parts_of_ring_text : (parts : List (Bor (List ℕ))) (text : List ℕ) → map (λ part. part.now) parts ≡ parts_of text
     → IsRingText text → All (λ part. IsNumber part.now) parts
 parts_of_ring_text parts text same ring =
@@ -34,7 +34,7 @@ parts_of_ring_text parts text same ring =
     let within' : k < length (map (λ part. part.now) parts) = simp length-map within in
     subst IsNumber (get_or-map (λ part. part.now) parts k d d.now within) (each k d.now within')
 
--- an answer that is good only at P, and bad only where P fails, tells P apart
+-- a result that is Ok only if P holds, and BadRing only if P fails, decides P
 pub told_apart : {T : Type 0} (r : Result T WordsFault) (P : Type 0) → OnOk r P
     → IfErr r (λ fault. (fault ≡ OutOfMemory) ⊎ ((fault ≡ BadRing) × ¬ P))
     → MemoryAside r (IsOk r ↔ P) × MemoryAside r (IsErrOf r BadRing ↔ ¬ P)

@@ -1,4 +1,4 @@
--- What `clap`'s answer says of the words: their matches, or the kind of an error.
+-- The result of `clap` as a fact of the words: their matches, or the kind of an error.
 use Rattle.std.proofs.Common.{◌≡◌, ◌≢◌, ◌⊎◌, true, List, [], inl, inr, refl, ap, sym, subst, ◌∙◌}
 use Rattle.clap.specs.Words.{App, HasMatchesOf, IsAmong, Text, fault_of, is_simple, is_simple_and_free, subcommand_of, subcommand_rows_of}
 use Rattle.clap.specs.declared.parser.matches.ArgMatches.{ArgMatches}
@@ -11,7 +11,7 @@ use Rattle.task_words.specs.Words.{IsCommand}
 use Rattle.task_words.specs.declared.words.WordsFault.{WordsFault}
 use Rattle.task_words.specs.declared.words.WordsFault.TheVariants.{Usage, BadRing, OutOfMemory, Help}
 
--- of this command line `clap` says exactly which kinds of fault come
+-- for this command line the contracts of `clap` give exactly the possible kinds of fault
 simple_line : is_simple_and_free command_line ≡ true
 unfolding clap_on_literals
 simple_line = refl
@@ -19,11 +19,11 @@ simple_line = refl
 pub is_simple_line : (app : App) → app ≡ command_line → is_simple_and_free app ≡ true
 is_simple_line app is = ap is_simple_and_free is ∙ simple_line
 
--- words that are taken have no fault
+-- words that `clap` accepts have no fault
 pub words_taken : (app : App) (words : List Text) → app ≡ command_line → (is_simple_and_free app ≡ true → fault_of app words ≡ []) → IsCommand words
 words_taken app words is clean = ap (λ (a : App). fault_of a words) (sym is) ∙ clean (is_simple_line app is)
 
--- of this command line `clap` says exactly which command is met, with which values
+-- for this command line the contracts of `clap` give exactly the command and its values
 met_line : is_simple command_line ≡ true
 unfolding clap_on_literals
 met_line = refl
@@ -32,7 +32,7 @@ pub words_matched : (app : App) (words : List Text) (m : ArgMatches) → app ≡
     → subcommand_rows_of m ≡ subcommand_of command_line words
 words_matched app words m is matched = (matched (ap is_simple is ∙ met_line)).1 ∙ ap (λ (a : App). subcommand_of a words) is
 
--- and words that are not taken have the fault of the error, unless memory was refused
+-- words that `clap` refuses have the fault of the error, unless memory was refused
 pub words_refused : (app : App) (words : List Text) (k : ErrorKind) (fault : WordsFault) → app ≡ command_line
     → (k ≡ kind.OutOfMemory) ⊎ IsAmong k (fault_of app words) → IsRefusalOf k fault → IsRefusalIn words fault
 words_refused app words k (Usage text) is (inl memory) told = absurd (told.1 memory)

@@ -1,4 +1,5 @@
--- The command line of the program, as `clap` reads it: one of nine commands, then its options in any order, each with one value.
+-- The command line of the program, as `clap` reads it: one of nine commands, then its options in any order, each with
+-- one value.
 use Rattle.std.specs.Prelude.{◌≡◌, ℕ, List, [], ◌∷◌, Some, true, false, codes, pos}
 use Rattle.clap.specs.Words.{App, Rule, Shape, new_app, new_rule, shape_of}
 use Rattle.clap.specs.declared.builder.command.Command.{Command}
@@ -8,7 +9,8 @@ use Rattle.clap.specs.declared.builder.value_parser.ValueParser.{ValueParser}
 use Rattle.clap.specs.declared.builder.value_parser.ValueParser.TheVariants.{String, Signed}
 use Rattle.task_words.specs.declared.limits.TheConstants.{MAX_COUNT, MAX_DISTANCE}
 
--- the option `--NAME`, given at most once, with one value, which has one name in help and is accepted by this parser
+-- the option `--NAME`, given at most once, with one value, which has one name in the help and is accepted by this
+-- parser
 abbrev pub option_rule : List ℕ → ValueParser → Rule
 option_rule name parser = record (new_rule name) {
   long = Some name;
@@ -17,11 +19,11 @@ option_rule name parser = record (new_rule name) {
   parser = Some parser;
 }
 
--- an option that has to be given
+-- a required option
 abbrev pub required_rule : List ℕ → ValueParser → Rule
 required_rule name parser = record (option_rule name parser) { required = true }
 
--- an option whose value is a number from 1 to MAX_COUNT, and 1 where the words leave it out
+-- an option whose value is a number from 1 to MAX_COUNT, 1 by default
 abbrev pub count_rule : List ℕ → Rule
 count_rule name = record (option_rule name (Signed (pos 1) (pos MAX_COUNT))) { defaults = codes "1" ∷ [] }
 
@@ -41,11 +43,11 @@ workers_rule = count_rule (codes "workers")
 abbrev pub segments_rule : Rule
 segments_rule = count_rule (codes "segments")
 
--- `--near P`: a number from 1 to MAX_DISTANCE, and 1 where the words leave it out
+-- `--near P`: a number from 1 to MAX_DISTANCE, 1 by default
 abbrev pub near_rule : Rule
 near_rule = record (option_rule (codes "near") (Signed (pos 1) (pos MAX_DISTANCE))) { defaults = codes "1" ∷ [] }
 
--- `--far Q`: a number from 0 to MAX_DISTANCE, and 0 where the words leave it out
+-- `--far Q`: a number from 0 to MAX_DISTANCE, 0 by default
 abbrev pub far_rule : Rule
 far_rule = record (option_rule (codes "far") (Signed (pos 0) (pos MAX_DISTANCE))) { defaults = codes "0" ∷ [] }
 
@@ -53,7 +55,7 @@ far_rule = record (option_rule (codes "far") (Signed (pos 0) (pos MAX_DISTANCE))
 abbrev pub command_of : List ℕ → List Rule → Shape
 command_of name options = record (new_app name).top { rules = options }
 
--- `clap`'s command has this shape, and no option that the commands below it share
+-- `clap`'s command has this shape, and no option that its subcommands share
 abbrev pub IsCommandOf : Shape → Command → Type 0
 IsCommandOf shape command = (shape_of command ≡ shape) × ((out-Command command).has_globals ≡ false)
 
@@ -93,7 +95,7 @@ audit_command = command_of (codes "audit") []
 abbrev pub migrate_command : Shape
 migrate_command = command_of (codes "migrate") []
 
--- the program, before its commands: the words are those after its name, and one command is wanted
+-- the program without its commands: the words are those after its name, and a command is required
 abbrev pub program : App
 program = record {
   top = record (new_app (codes "nbhd")).top { no_binary_name = true; subcommand_required = true };

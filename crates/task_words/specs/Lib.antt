@@ -1,5 +1,5 @@
--- The definitions that the contracts cite: numbers and ring texts, numbers of workers and segments, tasks, the command line, what words
--- ask for, and refusals of words.
+-- The definitions that the contracts cite: numbers and ring texts, numbers of workers and segments, tasks, the command
+-- line, the tasks of words, and faults of words.
 pub mod Decimal
 pub mod RingText
 pub mod Counts

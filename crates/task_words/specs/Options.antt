@@ -1,4 +1,4 @@
--- What a parse gives where `clap` takes the words or refuses them. No public contract cites this file.
+-- The results of a parse that `clap` accepts or refuses. No public contract cites this file.
 use Rattle.std.specs.Prelude.{◌≡◌, ◌≢◌, ℕ, List, Some, ⊤, pos}
 use Rattle.clap.specs.Words.{IsSignedIn, Row, Text, first_of, one_of, without_minus}
 use Rattle.clap.specs.declared.error.kind.ErrorKind.{ErrorKind}
@@ -15,14 +15,14 @@ IsNumberGiven values option low high = (text : Text) × (one_of option values �
 abbrev pub IsTextGiven : List Row → Text → Type 0
 IsTextGiven values option = (text : Text) × (first_of option values ≡ Some text)
 
--- the refusal that says what an error of this kind says
+-- the fault of the words for an error of this kind
 abbrev pub IsRefusalOf : ErrorKind → WordsFault → Type 0
 IsRefusalOf fault (Usage text) = (fault ≢ kind.DisplayHelp) × (fault ≢ kind.OutOfMemory)
 IsRefusalOf fault BadRing = ⊥
 IsRefusalOf fault OutOfMemory = ⊤
 IsRefusalOf fault (Help text) = fault ≡ kind.DisplayHelp
 
--- the refusal that says what `clap` finds in the words
+-- the fault of the words is one that `clap` finds in them, or OutOfMemory
 abbrev pub IsRefusalIn : List Text → WordsFault → Type 0
 IsRefusalIn words (Usage text) = IsRefused words
 IsRefusalIn words BadRing = ⊥

@@ -1,4 +1,4 @@
--- Ring texts: the identifiers of a ring, as a word of the program writes them.
+-- Ring texts: the identifiers of a ring in one word.
 use Rattle.std.specs.Prelude.{ℕ, ◌==◌, List, map, All}
 use Rattle.std.specs.List.{slice_split}
 use Rattle.task_words.specs.Decimal.{IsNumber, number_in}
@@ -7,7 +7,7 @@ use Rattle.task_words.specs.Decimal.{IsNumber, number_in}
 abbrev pub parts_of : List ℕ → List (List ℕ)
 parts_of text = slice_split (λ byte. byte == 44) text
 
--- a ring text: one or more numbers, parted by single commas
+-- a ring text: one or more numbers, separated by single commas
 abbrev pub IsRingText : List ℕ → Type 0
 IsRingText text = All IsNumber (parts_of text)
 

@@ -1,10 +1,10 @@
--- What a task says of itself.
+-- Properties of a task.
 use Rattle.std.specs.Prelude.{ℕ, ⊤}
 use Rattle.task_words.specs.declared.task.Task.{Task}
 use Rattle.task_words.specs.declared.task.Task.TheVariants.{Check, Print, Table, Judge, Run, Trace, Plan, Audit, Migrate}
 use Rattle.task_words.specs.Counts.{IsCount, IsNear, IsFar}
 
--- the number of segments that its ring is run in: one, where it names no number
+-- the number of segments in which its ring is run, 1 if the task has no such number
 abbrev pub segments_of : Task → ℕ
 segments_of (Check ids) = 1
 segments_of Print = 1
@@ -16,8 +16,8 @@ segments_of (Plan ids ring workers) = 1
 segments_of Audit = 1
 segments_of Migrate = 1
 
--- A task that can be done: where it names a number of workers, that is in its range, and so are the differences of channels
--- that it names. A run in any number of segments can be done, since its report tells where the number is out of range.
+-- A task that can be done: its number of workers and its minimum differences of channels, if it has any, are in their
+-- ranges. A run in any number of segments can be done, since its report covers a number out of range.
 abbrev pub IsRunnable : Task → Type 0
 IsRunnable (Check ids) = ⊤
 IsRunnable Print = ⊤

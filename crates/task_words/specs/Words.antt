@@ -1,4 +1,4 @@
--- What the words after the program's name ask for, by `clap`'s reading of them.
+-- The tasks of the words after the program's name, as `clap` reads them.
 use Rattle.std.specs.Prelude.{◌≡◌, ◌≢◌, ◌⊎◌, ℕ, List, [], Some, codes}
 use Rattle.std.specs.Str.Parse.{without_leading_plus}
 use Rattle.clap.specs.Words.{IsAmong, Row, Text, fault_of, first_of, one_of, subcommand_of}
@@ -10,7 +10,7 @@ use Rattle.task_words.specs.RingText.{IsRingText, ring_in}
 use Rattle.task_words.specs.declared.task.Task.{Task}
 use Rattle.task_words.specs.declared.task.Task.TheVariants.{Check, Print, Table, Judge, Run, Trace, Plan, Audit, Migrate}
 
--- `clap` takes the words: no kind of fault is in them
+-- `clap` accepts the words: they have no fault of any kind
 abbrev pub IsCommand : List Text → Type 0
 IsCommand words = fault_of command_line words ≡ []
 
@@ -18,7 +18,7 @@ IsCommand words = fault_of command_line words ≡ []
 abbrev pub AsksForHelp : List Text → Type 0
 AsksForHelp words = IsAmong kind.DisplayHelp (fault_of command_line words)
 
--- `clap` refuses the words, for another cause than a request for help or want of memory
+-- `clap` refuses the words, for another cause than a request for help or refused memory
 abbrev pub IsRefused : List Text → Type 0
 IsRefused words = (fault : ErrorKind) × IsAmong fault (fault_of command_line words) × (fault ≢ kind.DisplayHelp) × (fault ≢ kind.OutOfMemory)
 
@@ -26,8 +26,8 @@ IsRefused words = (fault : ErrorKind) × IsAmong fault (fault_of command_line wo
 abbrev pub IsCallOf : List Text → Text → List Row → Type 0
 IsCallOf words name values = subcommand_of command_line words ≡ Some (name, values)
 
--- the value of this option, as `clap` hands it on to be read as a number, is a decimal number up to 4294967295, which a plus may
--- lead, and this is the number
+-- the value of this option, as `clap` passes it to the parser of numbers, is a decimal number up to 4294967295, perhaps
+-- after a plus sign, and this is the number
 abbrev pub HasNumber : List Row → Text → ℕ → Type 0
 HasNumber values option number = (text : Text) × (one_of option values ≡ Some text)
     × IsNumber (without_leading_plus text) × (number ≡ number_in (without_leading_plus text))
@@ -40,15 +40,15 @@ HasRing values ring = (text : Text) × (first_of (codes "ring") values ≡ Some 
 abbrev pub IsRingName : Text → Type 0
 IsRingName name = (name ≡ codes "run") ⊎ (name ≡ codes "trace") ⊎ (name ≡ codes "plan")
 
--- the value of `--ring` is no ring text
+-- the value of `--ring` is not a ring text
 abbrev pub IsRingBad : List Row → Type 0
 IsRingBad values = (text : Text) × (first_of (codes "ring") values ≡ Some text) × ¬ IsRingText text
 
--- `clap` takes the words, and they name a command that takes a ring, but the value of `--ring` is no ring text
+-- `clap` accepts the words, and they name a command with a ring, but the value of `--ring` is not a ring text
 abbrev pub HasBadRing : List Text → Type 0
 HasBadRing words = IsCommand words × (name : Text) × (values : List Row) × IsCallOf words name values × IsRingName name × IsRingBad values
 
--- the task for which the command of this name asks, with these values of its options
+-- the task of the command with this name and these values of its options
 abbrev pub IsTaskFor : Text → List Row → Task → Type 0
 IsTaskFor name values (Check ids) = (name ≡ codes "check") × HasNumber values (codes "ids") ids
 IsTaskFor name values Print = name ≡ codes "print"
@@ -66,6 +66,6 @@ IsTaskFor name values (Plan ids ring workers) = (name ≡ codes "plan") × HasNu
 IsTaskFor name values Audit = name ≡ codes "audit"
 IsTaskFor name values Migrate = name ≡ codes "migrate"
 
--- the task for which the words ask
+-- the task that the words request
 abbrev pub IsTaskOf : List Text → Task → Type 0
 IsTaskOf words task = (name : Text) × (values : List Row) × IsCallOf words name values × IsTaskFor name values task

@@ -1,4 +1,4 @@
--- When a refusal of words comes, and the exit status after it.
+-- Faults of words, and the exit status after them.
 use Rattle.std.specs.Prelude.{◌≡◌, ℕ, Result, Err, String, codes, string_bytes}
 use Rattle.std.specs.declared.alloc.Global.{Global}
 use Rattle.task_words.specs.declared.words.WordsFault.{WordsFault}
@@ -8,19 +8,19 @@ use Rattle.task_words.specs.declared.words.WordsFault.TheVariants.{Usage, BadRin
 abbrev pub MemoryAside : {T : Type 0} → Result T WordsFault → Type 0 → Type 0
 MemoryAside result fact = ¬ (result ≡ Err OutOfMemory) → fact
 
--- the answer is a refusal with a text of `clap`
+-- the result is a fault with a text of `clap`
 abbrev pub IsUsage : {T : Type 0} → Result T WordsFault → Type 0
 IsUsage result = (text : String Global) × (result ≡ Err (Usage text))
 
--- the answer is a text of help
+-- the result is a help text
 abbrev pub IsHelp : {T : Type 0} → Result T WordsFault → Type 0
 IsHelp result = (text : String Global) × (result ≡ Err (Help text))
 
--- the refusal says that a word is not UTF-8
+-- the fault says that a word is not UTF-8
 abbrev pub IsNotUtf8 : WordsFault → Type 0
 IsNotUtf8 fault = (text : String Global) × (fault ≡ Usage text) × (string_bytes text ≡ codes "nbhd: words are not UTF-8\n")
 
--- the exit status after words that are refused, or that ask for help
+-- the exit status for each fault of the words
 abbrev pub words_fault_code : WordsFault → ℕ
 words_fault_code (Usage text) = 2
 words_fault_code BadRing = 2

@@ -1,4 +1,4 @@
-//! The command line of the program: its commands and their options, with the texts of help.
+//! The command line of the program: its commands and their options, with the help texts.
 
 ghost use Rattle.std.specs.Prelude.{◌≡◌, IfOk, false, [], ◌∷◌, codes};
 ghost use Rattle.clap.specs.Words.{app_of, rule_of};
@@ -12,7 +12,8 @@ use clap::builder::ValueParser;
 use clap::{Arg, ArgAction, Command, value_parser};
 use std::alloc::{AllocError, Global};
 
-// The words after the program's name: one of the nine commands, and its options.
+// Returns the command line of the words after the program's name: one of the nine commands, and its
+// options.
 pub(crate) fn command_line<'a>(alloc: Global) -> Result<Command<'a>, AllocError>
     ensures { IfOk result (λ line. app_of line ≡ command_line) }
 {
@@ -28,7 +29,7 @@ pub(crate) fn command_line<'a>(alloc: Global) -> Result<Command<'a>, AllocError>
         .subcommand(migrate(alloc))
 }
 
-// The program before its commands.
+// Returns the program without its commands.
 fn program<'a>(alloc: Global) -> Result<Command<'a>, AllocError>
     ensures { IfOk result (λ line. app_of line ≡ program) }
 {
@@ -40,7 +41,7 @@ fn program<'a>(alloc: Global) -> Result<Command<'a>, AllocError>
         .bin_name("nbhd")
 }
 
-// `check --ids M`.
+// Returns `check --ids M`.
 fn check<'a>(alloc: Global) -> Result<Command<'a>, AllocError>
     ensures { IfOk result (IsCommandOf check_command) }
 {
@@ -50,7 +51,7 @@ fn check<'a>(alloc: Global) -> Result<Command<'a>, AllocError>
         .arg(ids(alloc))
 }
 
-// `print`.
+// Returns `print`.
 fn print<'a>(alloc: Global) -> Command<'a>
     ensures { IsCommandOf print_command result }
 {
@@ -59,14 +60,14 @@ fn print<'a>(alloc: Global) -> Command<'a>
         .after_help(help::PRINT_DETAILS)
 }
 
-// `table --ids M [--workers W] [--near P] [--far Q]`.
+// Returns `table --ids M [--workers W] [--near P] [--far Q]`.
 fn table<'a>(alloc: Global) -> Result<Command<'a>, AllocError>
     ensures { IfOk result (IsCommandOf table_command) }
 {
     table_by_workers(alloc)?.arg(near(alloc))?.arg(far(alloc))
 }
 
-// `table` with its first two options.
+// Returns `table` with its first two options.
 fn table_by_workers<'a>(alloc: Global) -> Result<Command<'a>, AllocError>
     ensures { IfOk result (IsCommandOf (command_of (codes "table") (ids_rule ∷ workers_rule ∷ []))) }
 {
@@ -77,14 +78,14 @@ fn table_by_workers<'a>(alloc: Global) -> Result<Command<'a>, AllocError>
         .arg(workers(alloc))
 }
 
-// `judge --ids M [--workers W] [--near P] [--far Q]`.
+// Returns `judge --ids M [--workers W] [--near P] [--far Q]`.
 fn judge<'a>(alloc: Global) -> Result<Command<'a>, AllocError>
     ensures { IfOk result (IsCommandOf judge_command) }
 {
     judge_by_workers(alloc)?.arg(near(alloc))?.arg(far(alloc))
 }
 
-// `judge` with its first two options.
+// Returns `judge` with its first two options.
 fn judge_by_workers<'a>(alloc: Global) -> Result<Command<'a>, AllocError>
     ensures { IfOk result (IsCommandOf (command_of (codes "judge") (ids_rule ∷ workers_rule ∷ []))) }
 {
@@ -95,7 +96,7 @@ fn judge_by_workers<'a>(alloc: Global) -> Result<Command<'a>, AllocError>
         .arg(workers(alloc))
 }
 
-// `run --ids M --ring A,B,.. [--segments S]`.
+// Returns `run --ids M --ring A,B,.. [--segments S]`.
 fn run<'a>(alloc: Global) -> Result<Command<'a>, AllocError>
     ensures { IfOk result (IsCommandOf run_command) }
 {
@@ -107,7 +108,7 @@ fn run<'a>(alloc: Global) -> Result<Command<'a>, AllocError>
         .arg(segments(alloc))
 }
 
-// `trace --ids M --ring A,B,..`.
+// Returns `trace --ids M --ring A,B,..`.
 fn trace<'a>(alloc: Global) -> Result<Command<'a>, AllocError>
     ensures { IfOk result (IsCommandOf trace_command) }
 {
@@ -118,7 +119,7 @@ fn trace<'a>(alloc: Global) -> Result<Command<'a>, AllocError>
         .arg(ring(alloc))
 }
 
-// `plan --ids M --ring A,B,.. [--workers W]`.
+// Returns `plan --ids M --ring A,B,.. [--workers W]`.
 fn plan<'a>(alloc: Global) -> Result<Command<'a>, AllocError>
     ensures { IfOk result (IsCommandOf plan_command) }
 {
@@ -130,7 +131,7 @@ fn plan<'a>(alloc: Global) -> Result<Command<'a>, AllocError>
         .arg(workers(alloc))
 }
 
-// `audit`.
+// Returns `audit`.
 fn audit<'a>(alloc: Global) -> Command<'a>
     ensures { IsCommandOf audit_command result }
 {
@@ -139,7 +140,7 @@ fn audit<'a>(alloc: Global) -> Command<'a>
         .after_help(help::AUDIT_DETAILS)
 }
 
-// `migrate`.
+// Returns `migrate`.
 fn migrate<'a>(alloc: Global) -> Command<'a>
     ensures { IsCommandOf migrate_command result }
 {
@@ -148,7 +149,7 @@ fn migrate<'a>(alloc: Global) -> Command<'a>
         .after_help(help::MIGRATE_DETAILS)
 }
 
-// `--ids M`.
+// Returns `--ids M`.
 fn ids<'a>(alloc: Global) -> Arg<'a>
     ensures rule { rule_of result ≡ ids_rule }
     ensures local { result.global ≡ false }
@@ -158,7 +159,7 @@ fn ids<'a>(alloc: Global) -> Arg<'a>
         .help(help::IDS)
 }
 
-// `--ring A,B,..`.
+// Returns `--ring A,B,..`.
 fn ring<'a>(alloc: Global) -> Arg<'a>
     ensures rule { rule_of result ≡ ring_rule }
     ensures local { result.global ≡ false }
@@ -168,7 +169,7 @@ fn ring<'a>(alloc: Global) -> Arg<'a>
         .help(help::RING)
 }
 
-// `--workers W`.
+// Returns `--workers W`.
 fn workers<'a>(alloc: Global) -> Arg<'a>
     ensures rule { rule_of result ≡ workers_rule }
     ensures local { result.global ≡ false }
@@ -176,7 +177,7 @@ fn workers<'a>(alloc: Global) -> Arg<'a>
     count(alloc, "workers", "W").help(help::WORKERS)
 }
 
-// `--segments S`.
+// Returns `--segments S`.
 fn segments<'a>(alloc: Global) -> Arg<'a>
     ensures rule { rule_of result ≡ segments_rule }
     ensures local { result.global ≡ false }
@@ -184,7 +185,7 @@ fn segments<'a>(alloc: Global) -> Arg<'a>
     count(alloc, "segments", "S").help(help::SEGMENTS)
 }
 
-// `--near P`.
+// Returns `--near P`.
 fn near<'a>(alloc: Global) -> Arg<'a>
     ensures rule { rule_of result ≡ near_rule }
     ensures local { result.global ≡ false }
@@ -195,7 +196,7 @@ fn near<'a>(alloc: Global) -> Arg<'a>
         .help(help::NEAR)
 }
 
-// `--far Q`.
+// Returns `--far Q`.
 fn far<'a>(alloc: Global) -> Arg<'a>
     ensures rule { rule_of result ≡ far_rule }
     ensures local { result.global ≡ false }
@@ -206,7 +207,7 @@ fn far<'a>(alloc: Global) -> Arg<'a>
         .help(help::FAR)
 }
 
-// An option whose value is a number from 1 to `MAX_COUNT`, and 1 where the words leave it out.
+// Returns an option whose value is a number from 1 to `MAX_COUNT`, 1 by default.
 fn count<'a>(alloc: Global, name: &'a str, value_name: &'a str) -> Arg<'a>
     ensures rule { rule_of result ≡ count_rule name.entry.now }
     ensures local { result.global ≡ false }
@@ -215,7 +216,7 @@ fn count<'a>(alloc: Global, name: &'a str, value_name: &'a str) -> Arg<'a>
     option(alloc, name, value_name, parser).default_value("1")
 }
 
-// The option `--NAME`, which has one value that this parser accepts.
+// Returns the option `--NAME`, which has one value that this parser accepts.
 fn option<'a>(alloc: Global, name: &'a str, value_name: &'a str, parser: ValueParser<'a>) -> Arg<'a>
     ensures rule { rule_of result ≡ option_rule name.entry.now parser.entry }
     ensures local { result.global ≡ false }

@@ -1,10 +1,10 @@
-//! Numbers in decimal digits.
+//! Numbers in decimal.
 
 ghost use Rattle.std.specs.Option.{SomeIff};
 ghost use Rattle.task_words.specs.Decimal.{IsNumber, number_in};
 
-/// The value of a text of decimal digits, leading zeros allowed, with no sign and nothing else.
-/// None where the text is no such number or its value is over 4294967295.
+/// Returns the value of a text of one or more decimal digits, with leading zeros allowed. Returns
+/// `None` if the text has any other byte or no digit, or if its value is above 4294967295.
 pub fn number_of(text: &str) -> Option<u32>
     ensures { SomeIff result (IsNumber text.now) (number_in text.now) }
 {

@@ -1,8 +1,8 @@
-//! The texts of help, beside those that `clap` writes by itself.
+//! The help texts, except those that `clap` writes itself.
 
-/// What a command on a program text reads and prints: these lines, then how many identifiers each number of rounds may have
-/// (enough for a ring, and at most `win_index::MAX_WINDOWS` windows), for a command on a ring how many its ring has at least,
-/// then the other lines.
+/// The details of a command on a program text: the lines `$reads`, then the numbers of identifiers
+/// that each number of rounds allows (enough for a ring, and at most `win_index::MAX_WINDOWS`
+/// windows), for a command on a ring the minimum length of the ring, then the lines `$more`.
 macro_rules! details {
     (@ $reads:literal, $ring:literal, $more:literal) => {
         concat!(
@@ -24,12 +24,12 @@ macro_rules! details {
     };
 }
 
-/// What the program is.
+/// The description of the program.
 pub(crate) const PROGRAM: &str =
     "Compiles a node program of synchronous rounds to a table with one channel per window of identifiers,
 and judges whether neighbours' channels differ on every oriented ring.";
 
-/// A whole call of the program.
+/// An example of a call of the program.
 pub(crate) const EXAMPLE: &str =
     "Each command reads a text from standard input and prints its answer to standard output. Example:
 
@@ -71,7 +71,7 @@ pub(crate) const NEAR: &str = "By how much neighbours' channels have to differ, 
 
 pub(crate) const FAR: &str = "By how much the channels at distance two have to differ, 0 to 4096";
 
-/// What `check` reads and prints.
+/// The input, output and exit statuses of `check`.
 pub(crate) const CHECK_DETAILS: &str = details!(
     "Standard input:  a program text
 Standard output: one line: the program is accepted, or what is refused
@@ -86,7 +86,7 @@ Exit status:
   6  memory was refused"
 );
 
-/// What `print` reads and prints.
+/// The input, output and exit statuses of `print`.
 pub(crate) const PRINT_DETAILS: &str = "Standard input:  a program text
 Standard output: the same program with one line for each of its parts and without comments,
                  or one line: what is refused
@@ -100,7 +100,7 @@ Exit status:
   5  reading or writing failed
   6  memory was refused";
 
-/// What `table` reads and prints.
+/// The input, output and exit statuses of `table`.
 pub(crate) const TABLE_DETAILS: &str = details!(
     "Standard input:  a program text
 Standard output: the table text, or one line: what is refused
@@ -116,7 +116,7 @@ Exit status:
   6  memory or a thread was refused"
 );
 
-/// What `judge` reads and prints.
+/// The input, output and exit statuses of `judge`.
 pub(crate) const JUDGE_DETAILS: &str = details!(
     "Standard input:  a program text
 Standard output: one line: yes, or no with a ring where two channels are too close,
@@ -135,7 +135,7 @@ Exit status:
   6  memory or a thread was refused"
 );
 
-/// What `run` reads and prints.
+/// The input, output and exit statuses of `run`.
 pub(crate) const RUN_DETAILS: &str = details!(
     ring: "Standard input:  a program text
 Standard output: one line: the channels in the order of the ring, or what is refused
@@ -152,7 +152,7 @@ Exit status:
   6  memory or a thread was refused"
 );
 
-/// What `trace` reads and prints.
+/// The input, output and exit statuses of `trace`.
 pub(crate) const TRACE_DETAILS: &str = details!(
     ring: "Standard input:  a program text
 Standard output: lines with a number for each place of the ring, or one line: what is refused
@@ -174,7 +174,7 @@ Exit status:
   6  memory was refused"
 );
 
-/// What `plan` reads and prints.
+/// The input, output and exit statuses of `plan`.
 pub(crate) const PLAN_DETAILS: &str = details!(
     ring: "Standard input:  a program text
 Standard output: one line for each place of the ring: the place, its identifier and its channel;
@@ -191,7 +191,7 @@ Exit status:
   6  memory or a thread was refused"
 );
 
-/// What `audit` reads and prints.
+/// The input, output and exit statuses of `audit`.
 pub(crate) const AUDIT_DETAILS: &str = "Standard input:  a table text, as `nbhd table` prints it
 Standard output: one line: yes, or no with a ring where two channels are too close,
                  or what is refused
@@ -207,7 +207,7 @@ Exit status:
   5  reading or writing failed
   6  memory or a thread was refused";
 
-/// What `migrate` reads and prints.
+/// The input, output and exit statuses of `migrate`.
 pub(crate) const MIGRATE_DETAILS: &str = "Standard input:  a table text of version 1 or 2
 Standard output: the text of the same table, near and far in version 2, or one line: what is refused
 

@@ -1,4 +1,4 @@
-//! The words of the command line, and the tasks that they ask for.
+//! The words of the command line, and the tasks that they request.
 #![tactic(auto)]
 
 mod command_line;

@@ -1,7 +1,8 @@
-//! Limits of the words.
+//! Limits of numbers in the words.
 
-/// The most workers of a task, and the most segments that the words can ask for.
+/// The maximum number of workers of a task, and the maximum number of segments that the words can
+/// request.
 pub const MAX_COUNT: u32 = node_lang::MAX_THREADS;
 
-/// The largest difference of channels that the words can ask for.
+/// The largest difference of channels that the words can request.
 pub const MAX_DISTANCE: u32 = node_lang::MAX_CHANNELS;

@@ -1,4 +1,4 @@
-//! The task of a command whose options have their values.
+//! The task of a command, from the values of its options.
 
 ghost use Rattle.std.specs.Prelude.{◌≡◌, ◌⊎◌, codes, IfOk, IfErr};
 ghost use Rattle.clap.specs.Words.{found_of, rows_of};
@@ -17,7 +17,7 @@ use crate::words::WordsFault;
 use clap::ArgMatches;
 use std::alloc::Global;
 
-// The task of the command of this name, with these values of its options.
+// Returns the task of the command with this name and these values of its options.
 pub(crate) fn task_in(
     alloc: Global,
     name: &str,
@@ -68,7 +68,7 @@ pub(crate) fn task_in(
     }
 }
 
-// How many identifiers there are.
+// Returns the number of identifiers.
 fn ids_of(options: &ArgMatches<'_>) -> u32
     requires { IsNumberGiven (rows_of (found_of options.now)) (codes "ids") 0 4294967295 }
     ensures { HasNumber (rows_of (found_of options.now)) (codes "ids") result }
@@ -79,7 +79,7 @@ fn ids_of(options: &ArgMatches<'_>) -> u32
     ids
 }
 
-// How many workers or segments there are, by this option.
+// Returns the number of workers or of segments, the value of this option.
 fn count_of(options: &ArgMatches<'_>, option: &str) -> u32
     requires { IsNumberGiven (rows_of (found_of options.now)) option.now 1 MAX_COUNT }
     ensures number { HasNumber (rows_of (found_of options.now)) option.now result }
@@ -91,7 +91,7 @@ fn count_of(options: &ArgMatches<'_>, option: &str) -> u32
     count
 }
 
-// By how much neighbours' channels have to differ.
+// Returns the minimum difference of neighbours' channels.
 fn near_of(options: &ArgMatches<'_>) -> u32
     requires { IsNumberGiven (rows_of (found_of options.now)) (codes "near") 1 MAX_DISTANCE }
     ensures number { HasNumber (rows_of (found_of options.now)) (codes "near") result }
@@ -103,7 +103,7 @@ fn near_of(options: &ArgMatches<'_>) -> u32
     near
 }
 
-// By how much the channels of places at distance two have to differ.
+// Returns the minimum difference of the channels of places at distance two.
 fn far_of(options: &ArgMatches<'_>) -> u32
     requires { IsNumberGiven (rows_of (found_of options.now)) (codes "far") 0 MAX_DISTANCE }
     ensures number { HasNumber (rows_of (found_of options.now)) (codes "far") result }
@@ -115,7 +115,8 @@ fn far_of(options: &ArgMatches<'_>) -> u32
     far
 }
 
-// The identifiers of the ring's places; `BadRing` where the text is no ring text.
+// Returns the identifiers of the ring's places. Fails with `BadRing` if the text is not a ring
+// text.
 fn ring_in(alloc: Global, options: &ArgMatches<'_>) -> Result<Vec<u32>, WordsFault>
     requires { IsTextGiven (rows_of (found_of options.now)) (codes "ring") }
     ensures ring { IfOk result (λ ring. HasRing (rows_of (found_of options.now)) ring.items) }

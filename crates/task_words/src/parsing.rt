@@ -1,4 +1,4 @@
-//! What `clap` makes of the words.
+//! Parsing the words with `clap`.
 
 ghost use Rattle.std.specs.Prelude.{◌≡◌, map, IfOk, IfErr, string_bytes};
 ghost use Rattle.clap.specs.Words.{kind_of, subcommand_of, subcommand_rows_of};
@@ -12,7 +12,8 @@ use clap::error::ErrorKind;
 use clap::{ArgMatches, Error};
 use std::alloc::{AllocError, Global};
 
-// The matches of the words, where `clap` takes them.
+// Returns the matches of the words. Fails if `clap` refuses them, if they ask for help or if memory
+// was refused.
 pub(crate) fn parsed<'a>(alloc: Global, words: &'a [String]) -> Result<ArgMatches<'a>, WordsFault>
     ensures taken { IfOk result (λ _. IsCommand (map string_bytes words.entry.now)) }
     ensures rows { IfOk result (λ matches.
@@ -25,7 +26,7 @@ pub(crate) fn parsed<'a>(alloc: Global, words: &'a [String]) -> Result<ArgMatche
     }
 }
 
-// The refusal that says what an error says.
+// Returns the fault of the words for an error of `clap`.
 fn refusal(alloc: Global, error: &Error) -> Result<WordsFault, AllocError>
     ensures { IfOk result (IsRefusalOf (kind_of error.now)) }
 {

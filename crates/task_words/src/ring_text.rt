@@ -1,4 +1,4 @@
-//! Ring texts: decimal numbers parted by single commas.
+//! Ring texts: decimal numbers separated by single commas.
 
 ghost use Rattle.std.specs.Prelude.{◌≡◌, ◌⊎◌, ◌↔◌, map, All, IsOk, IsErrOf, IfOk, IfErr};
 ghost use Rattle.task_words.specs.Decimal.{IsNumber, number_in};
@@ -9,9 +9,12 @@ use crate::decimal::number_of;
 use crate::words::WordsFault;
 use std::alloc::{AllocError, Global};
 
-/// The numbers of a ring text, in order. A ring text is one or more runs of decimal digits, leading
-/// zeros allowed, each with a value up to 4294967295, parted by single commas. Another text is
-/// `BadRing`. `OutOfMemory` comes where memory was refused.
+/// Returns the numbers of a ring text, in order. A ring text is one or more numbers, separated by
+/// single commas. Each is a sequence of decimal digits, with leading zeros allowed, and has a value
+/// of at most 4294967295.
+///
+/// Fails with `BadRing` if the text is not a ring text, and with `OutOfMemory` if memory was
+/// refused.
 pub fn ring_of(alloc: Global, text: &str) -> Result<Vec<u32>, WordsFault>
     ensures ring { IfOk result (λ ring. IsRingText text.now × (ring.items ≡ ring_in text.now)) }
     ensures ok { MemoryAside result (IsOk result ↔ IsRingText text.now) }
@@ -22,14 +25,14 @@ pub fn ring_of(alloc: Global, text: &str) -> Result<Vec<u32>, WordsFault>
     numbers(alloc, &parts)
 }
 
-/// The parts of a text before, between and after its commas.
+/// Splits a text at its commas.
 fn parts(alloc: Global, text: &str) -> Result<Vec<&str>, AllocError>
     ensures { IfOk result (λ parts. map (λ part. part.now) parts.items ≡ parts_of text.now) }
 {
     text.split(',').collect(alloc)
 }
 
-/// The values of parts that are numbers each, in order; `BadRing` where one is no number.
+/// Returns the values of the parts, in order. Fails with `BadRing` if a part is not a number.
 fn numbers(alloc: Global, parts: &[&str]) -> Result<Vec<u32>, WordsFault>
     ensures numbers { IfOk result (λ numbers. All (λ part. IsNumber part.now) parts.now
         × (numbers.items ≡ map (λ part. number_in part.now) parts.now)) }

@@ -1,57 +1,58 @@
-//! The tasks that the program can be asked to do.
+//! The tasks of the program.
 
 ghost use Rattle.std.specs.Prelude.{◌↔◌, IsTrue};
 ghost use Rattle.task_words.specs.Counts.{IsCount, IsNear};
 
 use crate::limits::{MAX_COUNT, MAX_DISTANCE};
 
-/// What the words of a command ask for.
+/// A task that the words of a command request.
 #[derive(Debug, PartialEq, Eq, Drop)]
 pub enum Task {
-    /// Judges the program text of the input for identifiers below `ids`.
+    /// Checks the program text of the input for identifiers below `ids`.
     Check {
-        /// How many identifiers there are.
+        /// The number of identifiers.
         ids: u32,
     },
     /// Prints the printed form of the program text of the input.
     Print,
-    /// Makes the table of the program text of the input for identifiers below `ids`. Its text tells the separation too.
+    /// Makes the table of the program text of the input for identifiers below `ids`. Its text also
+    /// gives the separation.
     Table {
-        /// How many identifiers there are.
+        /// The number of identifiers.
         ids: u32,
-        /// How many workers do it, 1 to `MAX_COUNT`.
+        /// The number of workers, 1 to `MAX_COUNT`.
         workers: u32,
-        /// By how much neighbours' channels have to differ, 1 to `MAX_DISTANCE`.
+        /// The minimum difference of neighbours' channels, 1 to `MAX_DISTANCE`.
         near: u32,
-        /// By how much the channels of places at distance two have to differ, 0 to `MAX_DISTANCE`.
+        /// The minimum difference of the channels of places at distance two, 0 to `MAX_DISTANCE`.
         far: u32,
     },
-    /// Tells whether the channels of near places are far enough apart on every ring of identifiers below `ids`,
-    /// by the program text of the input.
+    /// Judges whether the channels of near places are far enough apart on every ring of identifiers
+    /// below `ids`, by the program text of the input.
     Judge {
-        /// How many identifiers there are.
+        /// The number of identifiers.
         ids: u32,
-        /// How many workers do it, 1 to `MAX_COUNT`.
+        /// The number of workers, 1 to `MAX_COUNT`.
         workers: u32,
-        /// By how much neighbours' channels have to differ, 1 to `MAX_DISTANCE`.
+        /// The minimum difference of neighbours' channels, 1 to `MAX_DISTANCE`.
         near: u32,
-        /// By how much the channels of places at distance two have to differ, 0 to `MAX_DISTANCE`.
+        /// The minimum difference of the channels of places at distance two, 0 to `MAX_DISTANCE`.
         far: u32,
     },
     /// Runs the program text of the input on a ring, for identifiers below `ids`.
     Run {
-        /// How many identifiers there are.
+        /// The number of identifiers.
         ids: u32,
         /// The identifiers of the ring's places, from place 0 on.
         ring: Vec<u32>,
-        /// In how many segments the ring is run. The report tells where they are not 1 to `MAX_COUNT`, or more than
-        /// the ring has places.
+        /// The number of segments in which the ring is run. The task is reported as refused if this
+        /// is not 1 to `MAX_COUNT` or is above the number of the ring's places.
         segments: u32,
     },
-    /// Tells what the places of a ring hold and send in each round of the program text of the input, for
-    /// identifiers below `ids`.
+    /// Reports the registers and the messages of a ring's places in each round of the program text
+    /// of the input, for identifiers below `ids`.
     Trace {
-        /// How many identifiers there are.
+        /// The number of identifiers.
         ids: u32,
         /// The identifiers of the ring's places, from place 0 on.
         ring: Vec<u32>,
@@ -59,14 +60,15 @@ pub enum Task {
     /// Looks up the channels of a ring's places in the table of the program text of the input, for
     /// identifiers below `ids`.
     Plan {
-        /// How many identifiers there are.
+        /// The number of identifiers.
         ids: u32,
         /// The identifiers of the ring's places, from place 0 on.
         ring: Vec<u32>,
-        /// How many workers do it, 1 to `MAX_COUNT`.
+        /// The number of workers, 1 to `MAX_COUNT`.
         workers: u32,
     },
-    /// Tells whether the channels of near places are far enough apart on every ring, by the table text of the input.
+    /// Judges whether the channels of near places are far enough apart on every ring, by the table
+    /// text of the input.
     Audit,
     /// Writes the table and the separation of the table text of the input in the newest version.
     Migrate,
@@ -76,8 +78,9 @@ impl Task {
     ghost use Rattle.std.specs.Prelude.{◌≡◌, ◌↔◌, IsTrue};
     ghost use Rattle.task_words.specs.Task.{IsRunnable, segments_of};
 
-    /// Whether the task can be done: where it names a number of workers, that is 1 to `MAX_COUNT`, and where
-    /// it names differences of channels, these are at most `MAX_DISTANCE`, and that of neighbours is at least 1.
+    /// Returns whether the task can be done: its number of workers, if it has one, is 1 to
+    /// `MAX_COUNT`, and its minimum differences of channels, if it has any, are at most
+    /// `MAX_DISTANCE`, and at least 1 for neighbours.
     pub fn is_runnable(&self) -> bool
         ensures { IsTrue result ↔ IsRunnable self.now }
     {
@@ -112,7 +115,7 @@ impl Task {
         }
     }
 
-    /// In how many segments its ring is run: one, where it names no number.
+    /// Returns the number of segments in which its ring is run, 1 if the task has no such number.
     pub fn segments(&self) -> u32
         ensures { result ≡ segments_of self.now }
     {
@@ -127,14 +130,14 @@ impl Task {
     }
 }
 
-// Whether words can ask for so many workers or segments.
+// Returns whether the words can request this number of workers or of segments.
 fn is_count(count: u32) -> bool
     ensures { IsTrue result ↔ IsCount count }
 {
     1 <= count && count <= MAX_COUNT
 }
 
-// Whether words can ask that neighbours' channels differ by so much.
+// Returns whether the words can request this minimum difference of neighbours' channels.
 fn is_near(near: u32) -> bool
     ensures { IsTrue result ↔ IsNear near }
 {

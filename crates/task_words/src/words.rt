@@ -17,22 +17,22 @@ use std::io;
 use std::io::ErrorKind;
 use thiserror::Error;
 
-/// What is told of words that are not UTF-8.
+/// The text for words that are not UTF-8.
 const NOT_UTF8: &str = "nbhd: words are not UTF-8\n";
 
-/// Why words give no task: they are refused, or they ask for help.
+/// Why words give no task.
 #[derive(Debug, PartialEq, Eq, Drop, Error)]
 pub enum WordsFault {
-    /// The words are no command; the text says what is wrong with them, and ends with a line feed.
+    /// The words are not a command. The text describes their fault, and ends with a line feed.
     #[error("{0}")]
     Usage(String),
-    /// The words are a command, but the text of its ring is no ring text.
+    /// The words are a command, but the value of `--ring` is not a ring text.
     #[error("nbhd: bad ring")]
     BadRing,
     /// Memory was refused.
     #[error("nbhd: out of memory")]
     OutOfMemory,
-    /// The words ask for help; this is its text, which ends with a line feed.
+    /// The words ask for help. This is the help text, which ends with a line feed.
     #[error("{0}")]
     Help(String),
 }
@@ -40,7 +40,8 @@ pub enum WordsFault {
 impl WordsFault {
     ghost use Rattle.task_words.specs.WordsFault.{words_fault_code};
 
-    /// The exit status of the process: 2 where the words are refused, 6 where memory was, 0 after help.
+    /// Returns the exit status of the process: 2 for refused words, 6 for refused memory, 0 after
+    /// help.
     pub fn code(&self) -> u8
         ensures { result ≡ words_fault_code self.now }
     {
@@ -68,8 +69,8 @@ impl<T: Drop> From<AllocFailed<T>> for WordsFault {
     }
 }
 
-/// The answer where the words could not be had from the environment: memory was refused, or else a word is
-/// not UTF-8, which is `Usage` with a text of one line.
+/// Returns the fault for an error in reading the words from the environment: `OutOfMemory` if
+/// memory was refused, else `Usage` with a text of one line, which says that a word is not UTF-8.
 pub fn words_fault(alloc: Global, error: io::Error) -> WordsFault
     ensures memory { error_kind error ≡ ErrorKind.OutOfMemory → result ≡ WordsFault.OutOfMemory }
     ensures not_utf8 { result ≢ WordsFault.OutOfMemory → IsNotUtf8 result }
@@ -83,15 +84,26 @@ pub fn words_fault(alloc: Global, error: io::Error) -> WordsFault
     }
 }
 
-/// The task that the words after the program's name ask for, by the rules of `clap`: the name of a command, and its
-/// options in any order, each with one value. The commands are `check --ids M`, `print`,
-/// `table --ids M [--workers W] [--near P] [--far Q]`, `judge --ids M [--workers W] [--near P] [--far Q]`,
-/// `run --ids M --ring A,B,.. [--segments S]`, `trace --ids M --ring A,B,..`, `plan --ids M --ring A,B,.. [--workers W]`,
-/// `audit` and `migrate`. `M` is a decimal number up to 4294967295; `W` and `S` are such
-/// numbers from 1 to `MAX_COUNT`, or 1 where the words leave them out; `P` is one from 1 to `MAX_DISTANCE`, or 1, and `Q`
-/// one from 0 to `MAX_DISTANCE`, or 0; and what stands after `--ring` is a ring text. `Usage` comes where `clap` refuses
-/// the words, `BadRing` where it takes them but the ring text is none, `Help` where they ask for help, and `OutOfMemory`
-/// where memory was refused.
+/// Returns the task that the words after the program's name request, by the rules of `clap`: the
+/// name of a command, and its options in any order, each with one value. The commands are:
+///
+/// - `check --ids M`
+/// - `print`
+/// - `table --ids M [--workers W] [--near P] [--far Q]`
+/// - `judge --ids M [--workers W] [--near P] [--far Q]`
+/// - `run --ids M --ring A,B,.. [--segments S]`
+/// - `trace --ids M --ring A,B,..`
+/// - `plan --ids M --ring A,B,.. [--workers W]`
+/// - `audit`
+/// - `migrate`
+///
+/// `M` is a decimal number up to 4294967295. `W` and `S` are such numbers from 1 to `MAX_COUNT`, 1
+/// by default. `P` is one from 1 to `MAX_DISTANCE`, 1 by default, and `Q` one from 0 to
+/// `MAX_DISTANCE`, 0 by default. The value of `--ring` is a ring text.
+///
+/// Fails with `Usage` if `clap` refuses the words, with `BadRing` if it accepts them but the value
+/// of `--ring` is not a ring text, with `Help` if they ask for help, and with `OutOfMemory` if
+/// memory was refused.
 pub fn task_of(alloc: Global, words: &[String]) -> Result<Task, WordsFault>
     ensures task { IfOk result (λ task. IsCommand (map string_bytes words.now) × IsTaskOf (map string_bytes words.now) task) }
     ensures runnable { IfOk result IsRunnable }

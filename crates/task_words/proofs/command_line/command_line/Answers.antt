@@ -5,12 +5,12 @@ use Rattle.clap.specs.declared.builder.command.Command.{Command}
 use Rattle.task_words.specs.CommandLine.{IsCommandOf, check_command, print_command, table_command, judge_command, run_command, trace_command, plan_command, audit_command, migrate_command}
 use Rattle.task_words.proofs.command_line.command_line.Goals as goal
 
--- what the command was and what was added to it
+-- the command line with one more command
 added : (old sub new : Command) (line : App) (shape : Shape) → app_of old ≡ line → IsCommandOf shape sub → AddsSubcommand old sub new
     → app_of new ≡ with_subcommand line shape
 added old sub new line shape was is adds = adds.shape is.1 ∙ ap₂ with_subcommand was is.0
 
--- Each command stands behind those before it.
+-- Each command comes after those before it.
 pub returns : goal.returns
 returns c =
     let first = added _ _ _ _ check_command c.in_ok-program.ensures c.in_ok-check.ensures c.in_ok-subcommand.ensures in

@@ -22,7 +22,7 @@ not_memory r bad memory =
     let same = sym bad ∙ memory in
     cc
 
--- a refusal for another cause than memory is that of a bad ring
+-- a fault other than OutOfMemory is BadRing, for a bad ring
 refused : {T : Type 0} (r : Result T WordsFault) (text : Text) (values : List Row) → first_of (codes "ring") values ≡ Some text
     → MemoryAside r (IsErrOf r BadRing ↔ (¬ IsRingText text)) → IfErr r (λ fault. (fault ≡ BadRing) ⊎ (fault ≡ OutOfMemory))
     → IfErr r (λ fault. (fault ≡ OutOfMemory) ⊎ ((fault ≡ BadRing) × IsRingBad values))

@@ -3,7 +3,7 @@ use Rattle.task_words.specs.Decimal.{IsNumber}
 use Rattle.task_words.proofs.Parts.{values_more}
 use Rattle.task_words.proofs.ring_text.numbers.Goals as goal
 
--- One part more was read.
+-- One more part was read.
 pub loop-part-preserved : goal.loop-part-preserved
 loop-part-preserved c =
     let read = c.in-Some.ensures in
