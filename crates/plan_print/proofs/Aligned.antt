@@ -1,4 +1,4 @@
--- Lemmas on numbers that are filled up with blanks.
+-- Numbers that are extended with blanks.
 use Rattle.std.proofs.Common.{◌≡◌, ℕ, zero, suc, ◌-◌, ◌^◌, List, [], ◌∷◌, ◌++◌, length, replicate, false, ap, arith, refl, append-nil}
 use Rattle.std.specs.List.{repeat}
 use lib.Utf8.{encode}
@@ -9,7 +9,7 @@ blanks : (n : ℕ) → repeat {A = ℕ} n (32 ∷ []) ≡ replicate n 32
 blanks zero = refl
 blanks (suc n) = ap (λ l. 32 ∷ l) (blanks n)
 
--- what a hole of width 4 writes that is aligned to the right
+-- the text of a right-aligned argument of width 4
 aligned_digits : (digits : List ℕ) → padded_integral (format_spec 32 3 0 4 (2 ^ 64 - 1)) false [] digits ≡ replicate (4 - length digits) 32 ++ digits
 unfolding padded_integral char_count encode
 aligned_digits digits =

@@ -1,20 +1,20 @@
--- Lemmas on numbers that are parted by single bytes.
+-- Numbers that are separated by single bytes.
 use Rattle.std.proofs.Common.{◌≡◌, ℕ, ◌-◌, ◌≤◌, List, [], ◌∷◌, ◌++◌, length, map, get_or, take, drop, ap, ◌∙◌, arith, append-nil, append_assoc}
 use Rattle.std.specs.List.{flat_map, join_with_byte}
 use Rattle.std.proofs.lemmas.List.{take_all, take_rest}
 
--- the first piece, and each other piece after a byte
+-- the first piece, followed by a byte and each other piece
 pub joined_after : (f : ℕ → List ℕ) (c n : ℕ) (ns : List ℕ) → f n ++ flat_map (λ k. c ∷ f k) ns ≡ join_with_byte c (map f (n ∷ ns))
 joined_after f c n [] = append-nil (f n)
 joined_after f c n (k ∷ ns) = ap (λ l. f n ++ (c ∷ l)) (joined_after f c k ns)
 
--- the same of a list that is not empty
+-- the same for a list that is not empty
 joined_parts : (f : ℕ → List ℕ) (c : ℕ) (ns : List ℕ) → 1 ≤ length ns
     → f (get_or ns 0 0) ++ flat_map (λ k. c ∷ f k) (drop 1 ns) ≡ join_with_byte c (map f ns)
 joined_parts f c [] some = absurd (omega arith)
 joined_parts f c (n ∷ ns) some = joined_after f c n ns
 
--- the same behind what a text held before: it got the first piece, and then the others up to a number that is past them all
+-- the same after the text so far: first the first piece, then the others up to an index past the last
 pub joined_text : (f : ℕ → List ℕ) (c : ℕ) (ns before first text : List ℕ) (i : ℕ) → 1 ≤ length ns → first ≡ before ++ f (get_or ns 0 0)
     → length (take (length ns - 1) (drop 1 ns)) ≤ i → text ≡ first ++ flat_map (λ k. c ∷ f k) (take i (take (length ns - 1) (drop 1 ns)))
     → text ≡ before ++ join_with_byte c (map f ns)

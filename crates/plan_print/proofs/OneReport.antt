@@ -1,4 +1,4 @@
--- A task and an input have at most one report: nothing that a report tells has two values.
+-- A task has at most one report on an input.
 use Rattle.std.proofs.Common.{◌≡◌, ℕ, List, [], ap, subst, sym, ◌∙◌, refl, append-nil}
 use Rattle.node_lang.specs.Term.{ProgramTree}
 use Rattle.node_lang.specs.Laws.{OneReading, OneTextFault}
@@ -22,7 +22,7 @@ use Rattle.plan_print.specs.Report as report
 use Rattle.plan_print.specs.Report.{Report, Says, IsJudgement, good, bad, IsAnswerOnRing, ring_fault, on_ring, IsRunAnswer, out_of_range, ran, IsTableText, IsTextRefusal, IsPrintReport, text_refused, in_print, IsProgramRefusal, text_fault, check_fault, IsProgramReport, program_refused, answered, IsTableRefusal, IsTableReport, table_refused, of_table, IsReport}
 use Rattle.plan_print.specs.Laws.{OneReport}
 
--- two reports that say the same are one
+-- two reports with the same bytes and the same status are equal
 said_once : (bytes other : List ℕ) (status : Status) (r s : Report) → bytes ≡ other → Says bytes status r → Says other status s → r ≡ s
 said_once bytes other status r s same says says' = λ i. record { bytes = (says.0 ∙ same ∙ sym says'.0) i; status = (says.1 ∙ sym says'.1) i }
 
@@ -35,7 +35,7 @@ one_judgement one no_witness t d r s (bad ring i c witness says) (bad other j e 
     let same = one t d ring other i j c e witness witness' in
     said_once _ _ _ r s (λ k. report.no_line d (same.0 k) (same.1 k) (same.2 k)) says says'
 
--- one answer on a list of identifiers, where one thing is said of a ring
+-- there is one report on a list of identifiers, if there is one on a ring
 one_on_ring : OneRingFault → RingsHaveNoFault → (m t : ℕ) (x : List ℕ) (said : Report → Type 0) → ((r s : Report) → said r → said s → r ≡ s)
     → (r s : Report) → IsAnswerOnRing m t x said r → IsAnswerOnRing m t x said s → r ≡ s
 one_on_ring one no_fault m t x said once r s (ring_fault f first says) (ring_fault g first' says') =
@@ -77,14 +77,14 @@ one_program_refusal one_text_fault one_reading one_refusal m input r s (check_fa
     let refused'' = subst (λ h. IsFirstRefusal m h g) (one_reading input q p reads' reads) refused' in
     said_once _ _ _ r s (ap report.check_fault_line (one_refusal m p f g refused refused'')) says says'
 
--- a program that is accepted is not refused
+-- an accepted program is not refused
 pub accepted_or_refused : OneReading → AcceptedProgramsHaveNoRefusal → (m : ℕ) (input : List ℕ) (r : Report) (p : ProgramTree)
     → Reads input p → IsAccepted m p → IsProgramRefusal m input r → ⊥
 accepted_or_refused one_reading no_refusal m input r p reads accepted (text_fault refused) = refused.none p reads
 accepted_or_refused one_reading no_refusal m input r p reads accepted (check_fault q f reads' refused says) =
     no_refusal m q f (subst (IsAccepted m) (one_reading input p q reads reads') accepted) refused
 
--- one report on a program text, where there is one answer on each program
+-- there is one report on a program text, if there is one on each program
 one_program_report : OneReading → OneTextFault → OneRefusal → AcceptedProgramsHaveNoRefusal → (m : ℕ) (answer : ProgramTree → Report → Type 0)
     → ((p : ProgramTree) (r s : Report) → answer p r → answer p s → r ≡ s)
     → (input : List ℕ) (r s : Report) → IsProgramReport m answer input r → IsProgramReport m answer input s → r ≡ s
@@ -106,7 +106,7 @@ told_or_refused : TableTextsAreRead → (input : List ℕ) (r : Report) (t : Cha
 told_or_refused read input r t d told refused =
     refused.known (read (written told.0 t d) refused.what told.1 (subst (λ x. IsFault x refused.what) told.2 refused.fault))
 
--- a text tells one table and one separation
+-- a text gives one table and one separation
 one_telling : TableTextsAreApart → (input : List ℕ) (t u : ChannelTable) (d e : Separation) → IsTextOf input t d → IsTextOf input u e → (t ≡ u) × (d ≡ e)
 one_telling apart input t u d e told told' =
     let v = written told.0 t d in
@@ -114,7 +114,7 @@ one_telling apart input t u d e told told' =
     let same = (apart v w [] told.1 told'.1 (sym told'.2 ∙ told.2 ∙ sym (append-nil (text_of v)))).0 in
     (ap (λ (x : Written). x.table) same, ap (λ (x : Written). x.separation) same)
 
--- one report on a table text, where there is one answer on each table and separation
+-- there is one report on a table text, if there is one on each table and separation
 one_table_report : OneTableFault → TableTextsAreApart → TableTextsAreRead → (answer : ChannelTable → Separation → Report → Type 0)
     → ((t : ChannelTable) (d : Separation) (r s : Report) → answer t d r → answer t d s → r ≡ s)
     → (input : List ℕ) (r s : Report) → IsTableReport answer input r → IsTableReport answer input s → r ≡ s

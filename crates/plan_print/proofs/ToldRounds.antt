@@ -1,4 +1,4 @@
--- What a report tells of global rounds, and of the program that is printed.
+-- Reports and global rounds, and the report of a print.
 use Rattle.std.proofs.Common.{◌≡◌, ℕ, List, [], ◌∷◌, ◌++◌, codes, ap, append_assoc, subst, sym, ◌∙◌}
 use Rattle.std.specs.Prelude.{◌↔◌, length}
 use Rattle.std.specs.List.{flat_map, range_with_len}
@@ -24,7 +24,7 @@ use Rattle.plan_print.specs.Report.{Report, Says, IsJudgement, good, bad, IsAnsw
 use Rattle.plan_print.specs.Laws.{IsAcceptedText, JudgeTellsRounds, RunTellsRounds, TraceTellsRounds, TraceEndsWithRun, PlanTellsRounds, TableTellsRounds, PrintsAreReadBack, SameForWorkers, SameForSegments}
 use Rattle.plan_print.proofs.OneReport.{accepted_or_refused}
 
--- the report on a program that is accepted is an answer on that program
+-- the report on an accepted program is that of the task on the program
 answer_on : OneReading → AcceptedProgramsHaveNoRefusal → (m : ℕ) (answer : ProgramTree → Report → Type 0) (input : List ℕ) (p : ProgramTree) (r : Report)
     → IsAcceptedText input m p → IsProgramReport m answer input r → answer p r
 answer_on one_reading no_refusal m answer input p r text (program_refused refused) =
@@ -32,7 +32,7 @@ answer_on one_reading no_refusal m answer input p r text (program_refused refuse
 answer_on one_reading no_refusal m answer input p r text (answered q reads accepted said) =
     subst (λ h. answer h r) (one_reading input q p reads text.0) said
 
--- a judgement by a table tells whether the channels of global rounds are apart
+-- a judgement on a table decides whether the channels of global rounds are apart
 judgement_tells : ApartTablesHaveNoWitness → ProgramTablesAreApart → (p : ProgramTree) (m : ℕ) (s : Separation) (r : Report) → IsJudgement (table_of p m) s r
     → ((r.status ≡ Done) ↔ ChannelsAreApart p m s) × ((r.status ≡ No) ↔ (¬ ChannelsAreApart p m s))
 judgement_tells no_witness tables p m s r (good apart says) =
@@ -50,7 +50,7 @@ pub judge_tells : OneReading → AcceptedProgramsHaveNoRefusal → ApartTablesHa
 judge_tells one_reading no_refusal no_witness tables m workers near far input p r text is =
     judgement_tells no_witness tables p m (record { near = near; far = far }) r (answer_on one_reading no_refusal m _ input p r text is)
 
--- what is said on a ring
+-- the report on a ring
 on_this_ring : RingsHaveNoFault → (m t : ℕ) (places : List ℕ) (said : Report → Type 0) (r : Report) → IsRing m t places → IsAnswerOnRing m t places said r → said r
 on_this_ring no_fault m t places said r ring (ring_fault f first says) = absurd (no_fault m t places f ring first)
 on_this_ring no_fault m t places said r ring (on_ring is says) = says
@@ -69,7 +69,7 @@ pub trace_tells : OneReading → AcceptedProgramsHaveNoRefusal → RingsHaveNoFa
 trace_tells one_reading no_refusal no_fault m ring input p r text is_ring is =
     on_this_ring no_fault m (length p.steps) ring.items _ r is_ring (answer_on one_reading no_refusal m _ input p r text is)
 
--- a trace is lines before the one of its channels
+-- a trace is some lines followed by the line of its channels
 ends : (p : ProgramTree) (x : List ℕ)
     → trace_lines p x
     ≡ (register_lines p x 0 ++ flat_map (round_lines p x) (range_with_len 0 (length p.steps)))
@@ -103,7 +103,7 @@ table_tells one_reading no_refusal has m workers near far input p r text is =
 pub same_for_workers : SameForWorkers
 same_for_workers m v w near far ring input r = (λ is. is, λ is. is, λ is. is)
 
--- an answer of a run in one number of segments is one in another
+-- the report of a run in one number of segments is one in another
 run_in_others : (m t : ℕ) (p : ProgramTree) (places : List ℕ) (g h : ℕ) (r : Report) → IsSegmentCount g (length places) → IsSegmentCount h (length places)
     → IsAnswerOnRing m t places (IsRunAnswer p places g) r → IsAnswerOnRing m t places (IsRunAnswer p places h) r
 run_in_others m t p places g h r within within' (ring_fault f first says) = ring_fault f first says

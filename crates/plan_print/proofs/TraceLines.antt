@@ -1,4 +1,4 @@
--- Lemmas on lines that a loop writes, one for each number below another, and on the lines of a trace.
+-- Lines that a loop writes, one for each number below a bound, and the lines of a trace.
 use Rattle.std.proofs.Common.{◌≡◌, ℕ, zero, suc, ◌+◌, ◌≤◌, List, [], ◌∷◌, ◌++◌, length, map, map-id, codes, sym, ap, ◌∙◌, append_assoc, arith}
 use Rattle.std.specs.List.{flat_map, join_with_byte, range_with_len}
 use Rattle.std.specs.Fmt.{decimal}
@@ -12,7 +12,7 @@ use Rattle.plan_print.specs.Lines.{line, numbers_text}
 use Rattle.plan_print.specs.Trace.{of_places, row_line, register_lines, message_lines, round_lines, trace_lines}
 use Rattle.plan_print.proofs.Joined.{joined_after}
 
--- one line more, behind what a text held before
+-- one more line after the text so far
 pub lines_more : (f : ℕ → List ℕ) (before : List ℕ) (n : ℕ)
     → (before ++ flat_map f (range_with_len 0 n)) ++ f n ≡ before ++ flat_map f (range_with_len 0 (n + 1))
 lines_more f before n =
@@ -26,12 +26,12 @@ after_blanks g (suc n) some =
     let joined = joined_after (λ i. decimal (g i)) 32 0 (range_with_len 1 n) in
     ap (λ l. 32 ∷ l) (joined ∙ ap (join_with_byte 32) (sym (map-map decimal g (range_with_len 0 (suc n)))))
 
--- three pieces that a text got one after the other
+-- three pieces that were appended to a text, one after another
 pub three_written : (t u v w a b c : List ℕ) → u ≡ t ++ a → v ≡ u ++ b → w ≡ v ++ c → w ≡ t ++ ((a ++ b) ++ c)
 three_written t u v w a b c first second third =
     third ∙ ap (λ l. l ++ c) (second ∙ ap (λ l. l ++ b) first ∙ append_assoc t a b) ∙ append_assoc t (a ++ b) c
 
--- the lines of one round more
+-- the lines of one more round
 pub round_more : (p : ProgramTree) (x : List ℕ) (r : ℕ) (before sent after : List ℕ)
     → before ≡ register_lines p x 0 ++ flat_map (round_lines p x) (range_with_len 0 r) → sent ≡ before ++ message_lines p x r
     → after ≡ sent ++ register_lines p x (r + 1) → after ≡ register_lines p x 0 ++ flat_map (round_lines p x) (range_with_len 0 (r + 1))

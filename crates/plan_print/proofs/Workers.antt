@@ -1,4 +1,4 @@
--- A number of workers of a task is one that a table can be filled by.
+-- The number of workers of a task is one for the filling of a table.
 use Rattle.std.proofs.Common.{ℕ}
 use Rattle.task_words.specs.Counts.{IsCount}
 use Rattle.table_fill.specs.Workers.{IsWorkerCount}

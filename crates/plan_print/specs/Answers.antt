@@ -8,13 +8,13 @@ use Rattle.plan_print.specs.declared.answer.Answer.{Answer}
 use Rattle.plan_print.specs.declared.answer.Answer.TheVariants.{Text, Told, Table}
 use Rattle.plan_print.specs.declared.status.Status.TheVariants.{Done}
 
--- what is to be written, and the status
+-- the bytes to be written, and the status
 abbrev pub report_in : Answer → Report
 report_in (Text text status) = record { bytes = string_bytes text; status = status }
 report_in (Told text status cause) = record { bytes = string_bytes text; status = status }
 report_in (Table table separation) = record { bytes = table_text table separation; status = Done }
 
--- why it is a refusal or a no
+-- the cause of a refusal or a no
 abbrev pub cause_in : Answer → Option Cause
 cause_in (Told text status cause) = Some cause
 cause_in _ = None
@@ -23,6 +23,6 @@ cause_in _ = None
 abbrev pub IsExplained : List ℕ → Answer → Type 0
 IsExplained input answer = IfSome (cause_in answer) (Explains input)
 
--- and in each input, since it is one of the ring or of the table alone
+-- the cause is found in each input, because it is one of the ring or of the table only
 abbrev pub IsOwn : Answer → Type 0
 IsOwn answer = (input : List ℕ) → IsExplained input answer

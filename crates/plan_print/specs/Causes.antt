@@ -1,4 +1,4 @@
--- Why a report is a refusal or a no, and the note that tells it.
+-- The cause of a report that is a refusal or a no, and the note on it.
 use Rattle.std.specs.Prelude.{◌≡◌, ◌≢◌, ℕ, ◌<◌, ◌≤◌, List, length}
 use Rattle.node_lang.specs.declared.limits.TheConstants.{MAX_ROUNDS}
 use Rattle.node_lang.specs.declared.fault.FaultKind.TheVariants as kind
@@ -23,8 +23,9 @@ use Rattle.fault_notes.specs.VerdictNotes.{verdict_note}
 use Rattle.plan_print.specs.declared.cause.Cause.{Cause}
 use Rattle.plan_print.specs.declared.cause.Cause.TheVariants as cause
 
--- The cause is found in this input: the fault of the text, the first refusal of the program that it reads as, what is wrong first with a ring
--- or with the text of a table, a number of segments that the ring lacks, or places at which a table breaks a separation.
+-- The cause is found in this input: the fault of the text; the first refusal of the program of the text; the first
+-- fault of a list of identifiers or of a table text; a number of segments in which the ring can't be run; or places at
+-- which a table breaks a separation.
 abbrev pub Explains : List ℕ → Cause → Type 0
 Explains input (cause.Text f) = FaultsAt input f.kind f.offset
 Explains input (cause.Program rounds ids f) = (p : ProgramTree) × Reads input p × IsFirstRefusal ids p f × (rounds ≡ length p.steps)
@@ -33,7 +34,7 @@ Explains input (cause.Segments segments places) = ¬ IsSegmentCount segments pla
 Explains input (cause.TableText f) = (f ≢ table.OutOfMemory) × IsFault input f
 Explains input (cause.No rounds ring places channels) = (t : ChannelTable) × (s : Separation) × (rounds ≡ t.rounds) × IsWitness t s ring.items places channels
 
--- the note on a fault of the text of a table; want of memory has none
+-- the note on a fault of a table text; OutOfMemory has none
 abbrev pub IsTableNote : List ℕ → TableFault → List ℕ → Type 0
 IsTableNote input (table.Syntax offset) note =
     (LONGEST_TABLE_TEXT < length input → note ≡ long_note) × (length input ≤ LONGEST_TABLE_TEXT → IsFormNote input offset note)
@@ -41,7 +42,7 @@ IsTableNote input (table.WrongWindow line) note = IsWindowNote line note
 IsTableNote input (table.ChannelTooLarge line) note = note ≡ channel_note line
 IsTableNote input table.OutOfMemory note = ⊥
 
--- the note that tells a cause
+-- the note on a cause
 abbrev pub IsNote : List ℕ → Cause → List ℕ → Type 0
 IsNote input (cause.Text f) note =
     (f.kind ≡ kind.TooLong → note ≡ too_long_note) × (f.kind ≢ kind.TooLong → IsTextNote input f.kind f.offset note)
@@ -51,7 +52,7 @@ IsNote input (cause.Segments segments places) note = note ≡ segments_note segm
 IsNote input (cause.TableText f) note = IsTableNote input f note
 IsNote input (cause.No rounds ring places channels) note = note ≡ verdict_note rounds ring.items places channels
 
--- the note tells a cause that is found in this input
+-- the note is on a cause that is found in this input
 pub record IsNoteOn (input note : List ℕ) : Type 0 where
   pub cause : Cause
   pub explains : Explains input cause

@@ -1,4 +1,4 @@
--- What the engine does to its reader and its writer.
+-- The effect of the engine on its reader and its writer.
 use Rattle.std.specs.Prelude.{◌≡◌, ◌≢◌, ◌<◌, ℕ, List, Option, IfSome, string_bytes, ⊤}
 use Rattle.std.specs.Io.KnownBytes.{Appends}
 use Rattle.devices.specs.declared.fault.EngineFault.{EngineFault}
@@ -14,7 +14,7 @@ use Rattle.plan_print.specs.Report.{Report, IsReport}
 use Rattle.plan_print.specs.Causes.{IsNoteOn}
 use Rattle.plan_print.specs.declared.engine.Told.{Told}
 
--- the most bytes that the input of a task may have: those of a program text, or of a table text for a task on such a text
+-- the maximum length of the input of a task: that of a program text, or of a table text for a task on such a text
 abbrev pub limit_of : Task → ℕ
 limit_of (Check ids) = LONGEST_TEXT
 limit_of Print = LONGEST_TEXT
@@ -26,7 +26,7 @@ limit_of (Plan ids ring workers) = LONGEST_TEXT
 limit_of Audit = LONGEST_TABLE_TEXT
 limit_of Migrate = LONGEST_TABLE_TEXT
 
--- The input was read, and the report of the task on it was written whole; the status is the report's.
+-- The input was read, and the whole report of the task on it was written. The status is the report's.
 pub record WritesReport (task : Task) (unread left before after : Option (List ℕ)) (status : Status) : Type 0 where
   pub input : List ℕ
   pub read : GivesInput unread left (limit_of task) input
@@ -35,12 +35,12 @@ pub record WritesReport (task : Task) (unread left before after : Option (List �
   pub written : Appends before after report.bytes
   pub status_is : status ≡ report.status
 
--- The report was written, and a note on it tells a cause that is found in the input.
+-- The report was written, and its note, if there is one, is on a cause that is found in the input.
 pub record TellsReport (task : Task) (unread left before after : Option (List ℕ)) (told : Told) : Type 0 where
   pub report : WritesReport task unread left before after told.status
   pub note : IfSome told.note (λ note. IsNoteOn report.input (string_bytes note))
 
--- The input was read, and a front of the report of the task on it was written.
+-- The input was read, and a prefix of the report of the task on it was written.
 pub record WritesFront (task : Task) (unread left before after : Option (List ℕ)) : Type 0 where
   pub input : List ℕ
   pub read : GivesInput unread left (limit_of task) input
@@ -60,8 +60,8 @@ crew_of (Plan ids ring workers) = workers
 crew_of Audit = 0
 crew_of Migrate = 0
 
--- a task with so many workers or segments may have the fault: only two or more are started in threads, and only a worker or a
--- segment meets a stranger
+-- the fault is possible for a task with this number of workers or of segments: threads are started only for two or
+-- more, and only a worker or a segment has the fault Stranger
 abbrev pub MayHave : ℕ → EngineFault → Type 0
 MayHave crew Read = ⊤
 MayHave crew Write = ⊤

@@ -16,19 +16,19 @@ exit_code Words = 2
 exit_code Refused = 3
 exit_code RingRefused = 4
 
--- after the engine's answer
+-- after a result of the engine
 abbrev pub answer_code : Result Status EngineFault → ℕ
 answer_code (Ok status) = exit_code status
 answer_code (Err fault) = engine_fault_code fault
 
--- the status after words that give no task: that of their refusal, and after help that of writing it
+-- the status after words that give no task: that of their fault, and after help that of writing it
 abbrev pub IsStatusAfter : WordsFault → ℕ → Type 0
 IsStatusAfter (Help text) status = (answer : Result Status EngineFault) × (status ≡ answer_code answer)
 IsStatusAfter (Usage text) status = status ≡ words_fault_code (Usage text)
 IsStatusAfter BadRing status = status ≡ words_fault_code BadRing
 IsStatusAfter OutOfMemory status = status ≡ words_fault_code OutOfMemory
 
--- the status is one after an answer of the engine, or after words that are refused
+-- the status is one after a result of the engine, or after a fault of the words
 abbrev pub IsExitStatus : ℕ → Type 0
 IsExitStatus status =
     ((answer : Result Status EngineFault) × (status ≡ answer_code answer)) ⊎ ((fault : WordsFault) × (status ≡ words_fault_code fault))

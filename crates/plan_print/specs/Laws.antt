@@ -1,4 +1,5 @@
--- The laws of this crate: that a task and an input have one report, what a report tells of global rounds, and that a print is read back.
+-- The laws of this crate: a task has one report on an input, reports agree with global rounds, and a print is read
+-- back.
 use Rattle.std.specs.Prelude.{◌≡◌, ◌↔◌, ℕ, ◌<◌, List, [], ◌∷◌, ◌++◌, Vec, Some, length, codes}
 use Rattle.std.specs.declared.alloc.Global.{Global}
 use Rattle.node_lang.specs.Term.{ProgramTree}
@@ -19,7 +20,7 @@ use Rattle.plan_print.specs.Lines.{line, numbers_text}
 use Rattle.plan_print.specs.Trace.{trace_lines}
 use Rattle.plan_print.specs.Report.{Report, Says, place_lines, IsReport}
 
--- two reports of a task on an input are one
+-- two reports of a task on an input are equal
 abbrev pub OneReport : Type 0
 OneReport = (task : Task) (input : List ℕ) (r s : Report) → IsReport task input r → IsReport task input s → r ≡ s
 
@@ -27,8 +28,8 @@ OneReport = (task : Task) (input : List ℕ) (r s : Report) → IsReport task in
 abbrev pub IsAcceptedText : List ℕ → ℕ → ProgramTree → Type 0
 IsAcceptedText input m p = Reads input p × IsAccepted m p
 
--- the report of a judge on a program that is accepted has the status of a yes exactly where on every ring the channels of global rounds are
--- as far apart as it asks, and that of a no exactly where they are not
+-- the report of a judge on an accepted program has the status of a yes exactly if on every ring the channels of global
+-- rounds are as far apart as requested, and that of a no exactly if they are not
 abbrev pub JudgeTellsRounds : Type 0
 JudgeTellsRounds =
     (m workers near far : ℕ) (input : List ℕ) (p : ProgramTree) (r : Report) → IsAcceptedText input m p → IsReport (Judge m workers near far) input r
@@ -42,13 +43,13 @@ RunTellsRounds =
     → IsRing m (length p.steps) ring.items → IsSegmentCount segments (length ring.items) → IsReport (Run m ring segments) input r
     → Says (line (numbers_text (channels_of p ring.items) ∷ [])) Done r
 
--- the report of a trace on a ring is the lines of what its places hold and send in global rounds
+-- the report of a trace on a ring is the lines of the registers and messages of its places in global rounds
 abbrev pub TraceTellsRounds : Type 0
 TraceTellsRounds =
     (m : ℕ) (ring : Vec ℕ Global) (input : List ℕ) (p : ProgramTree) (r : Report) → IsAcceptedText input m p
     → IsRing m (length p.steps) ring.items → IsReport (Trace m ring) input r → Says (trace_lines p ring.items) Done r
 
--- and its last line is what a run of the ring reports, in any number of segments in its range, after a word
+-- its last line is a word, followed by the report of a run on the ring, in any number of segments in its range
 abbrev pub TraceEndsWithRun : Type 0
 TraceEndsWithRun =
     (m segments : ℕ) (ring : Vec ℕ Global) (input : List ℕ) (p : ProgramTree) (r s : Report) → IsAcceptedText input m p
@@ -56,7 +57,7 @@ TraceEndsWithRun =
     → IsReport (Trace m ring) input r → IsReport (Run m ring segments) input s
     → (lines : List ℕ) × (r.bytes ≡ lines ++ (codes "finish " ++ s.bytes))
 
--- the report of a print on the text of a program is a text of the same program, whose print it is too
+-- the report of a print on the text of a program is a text of the same program, and the print of that text
 abbrev pub PrintsAreReadBack : Type 0
 PrintsAreReadBack =
     (input : List ℕ) (p : ProgramTree) (r : Report) → Reads input p → IsReport Print input r
@@ -68,7 +69,8 @@ PlanTellsRounds =
     (m workers : ℕ) (ring : Vec ℕ Global) (input : List ℕ) (p : ProgramTree) (r : Report) → IsAcceptedText input m p
     → IsRing m (length p.steps) ring.items → IsReport (Plan m ring workers) input r → Says (place_lines p ring.items) Done r
 
--- the report of a table is the text of a table that has, at the window of each place of every ring, the channel of global rounds
+-- the report of a table is the text of a table that has the channel of global rounds at the window of each place of
+-- every ring
 abbrev pub TableTellsRounds : Type 0
 TableTellsRounds =
     (m workers near far : ℕ) (input : List ℕ) (p : ProgramTree) (r : Report) → IsAcceptedText input m p → IsReport (Table m workers near far) input r
@@ -76,7 +78,7 @@ TableTellsRounds =
     × ((ring : List ℕ) (place : ℕ) → IsRing m (length p.steps) ring → place < length ring
     → channel_of (table_of p m) (window_around ring (length p.steps) place) ≡ Some (channel_at p ring place))
 
--- a report is one for every number of workers
+-- a report is the same for every number of workers
 abbrev pub SameForWorkers : Type 0
 SameForWorkers =
     (m v w near far : ℕ) (ring : Vec ℕ Global) (input : List ℕ) (r : Report)
@@ -84,7 +86,7 @@ SameForWorkers =
     × (IsReport (Judge m v near far) input r → IsReport (Judge m w near far) input r)
     × (IsReport (Plan m ring v) input r → IsReport (Plan m ring w) input r)
 
--- the report of a run is one for every number of segments in its range
+-- the report of a run is the same for every number of segments in its range
 abbrev pub SameForSegments : Type 0
 SameForSegments =
     (m g h : ℕ) (ring : Vec ℕ Global) (input : List ℕ) (r : Report) → IsSegmentCount g (length ring.items) → IsSegmentCount h (length ring.items)

@@ -75,18 +75,19 @@ ring_fault_line ring.TooLong = line (codes "ring fault G2" ∷ [])
 ring_fault_line (ring.IdTooLarge place) = line (codes "ring fault G3 place " ∷ decimal place ∷ [])
 ring_fault_line (ring.Repeated first second) = line (codes "ring fault G4 places " ∷ decimal first ∷ codes " " ∷ decimal second ∷ [])
 
--- the line of a ring that can't be run in so many segments
+-- the line of a ring that can't be run in the requested number of segments
 abbrev pub segments_fault_line : List ℕ
 segments_fault_line = line (codes "segments fault E1" ∷ [])
 
--- the line of a text that is not the text of a table; want of memory has none
+-- the line of a text that is not a table text; OutOfMemory has none
 abbrev pub table_fault_line : TableFault → List ℕ
 table_fault_line (table.Syntax offset) = line (codes "table fault A1 at " ∷ decimal offset ∷ [])
 table_fault_line (table.WrongWindow number) = line (codes "table fault A2 line " ∷ decimal number ∷ [])
 table_fault_line (table.ChannelTooLarge number) = line (codes "table fault A3 line " ∷ decimal number ∷ [])
 table_fault_line table.OutOfMemory = []
 
--- the line of a program that is accepted for `ids` identifiers; its windows are those of `2t+1` identifiers for `t` rounds
+-- the line of a program that is accepted for `ids` identifiers; its windows are those of `2t+1` identifiers for `t`
+-- rounds
 abbrev pub accepted_line : ℕ → ProgramTree → List ℕ
 accepted_line ids p =
     line (codes "accepted ids " ∷ decimal ids ∷ codes " rounds " ∷ decimal (length p.steps) ∷ codes " channels " ∷ decimal p.channels
@@ -97,7 +98,7 @@ accepted_line ids p =
 abbrev pub good_line : ℕ → List ℕ
 good_line count = line (codes "yes: " ∷ decimal count ∷ codes " tuples" ∷ [])
 
--- the line of a ring on which a place and its right neighbour share a channel
+-- the line of a ring on which a place and its right neighbour have the same channel
 abbrev pub bad_line : List ℕ → ℕ → ℕ → List ℕ
 bad_line ring place channel =
     line (codes "no: ring " ∷ numbers_text ring ∷ codes " place " ∷ decimal place ∷ codes " channel " ∷ decimal channel ∷ [])
@@ -108,7 +109,7 @@ close_line ring places channels =
     line (codes "no: ring " ∷ numbers_text ring ∷ codes " places " ∷ decimal places.0 ∷ codes " " ∷ decimal places.1
     ∷ codes " channels " ∷ decimal channels.0 ∷ codes " " ∷ decimal channels.1 ∷ [])
 
--- the line of a no: where neighbours' channels only have to differ, it has the one channel of both places
+-- the line of a no: if neighbours' channels only have to differ, it has the one channel of both places
 abbrev pub no_line : Separation → List ℕ → ℕ × ℕ → ℕ × ℕ → List ℕ
 no_line s ring places channels =
     if (s.near == 1) && (s.far == 0) then bad_line ring places.0 channels.0 else close_line ring places channels
@@ -118,31 +119,32 @@ abbrev pub place_line : ℕ → ℕ → ℕ → List ℕ
 place_line place id channel =
     line (right_aligned place ∷ codes " " ∷ right_aligned id ∷ codes " " ∷ right_aligned channel ∷ [])
 
--- the lines of a ring's places, from place 0 on, with the channels that global rounds give them
+-- the lines of a ring's places, from place 0 on, with their channels in global rounds
 abbrev pub place_lines : ProgramTree → List ℕ → List ℕ
 place_lines p places =
     flat_map (λ place. place_line place (slice_index places place) (channel_at p places place)) (range_with_len 0 (length places))
 
--- The judge's answer by a separation: the channels are that far apart everywhere, or this ring shows that they are not.
+-- The report of the judge: the channels are apart everywhere as the separation requires, or not on this ring.
 pub data IsJudgement (t : ChannelTable) (s : Separation) (r : Report) : Type 0 where
   good : IsApartEverywhere t s → Says (good_line (length (tuples t s))) Done r → IsJudgement t s r
   bad : (ring : List ℕ) (places channels : ℕ × ℕ) → IsWitness t s ring places channels → Says (no_line s ring places channels) No r → IsJudgement t s r
 
--- The answer on a list of identifiers, for m identifiers and t rounds: what is wrong first with a list that is no ring, or what is said of a ring.
+-- The report on a list of identifiers, for m identifiers and t rounds: the first fault of a list that is not a ring, or
+-- the report on the ring.
 pub data IsAnswerOnRing (m t : ℕ) (places : List ℕ) (said : Report → Type 0) (r : Report) : Type 0 where
   ring_fault : (f : RingFault) → IsFirstFault m t places f → Says (ring_fault_line f) RingRefused r → IsAnswerOnRing m t places said r
   on_ring : IsRing m t places → said r → IsAnswerOnRing m t places said r
 
--- The answer of a run of a ring: the ring can't be run in so many segments, or these are the channels that global rounds give its places.
+-- The report of a run on a ring: the ring can't be run in this number of segments, or its channels in global rounds.
 pub data IsRunAnswer (p : ProgramTree) (places : List ℕ) (segments : ℕ) (r : Report) : Type 0 where
   out_of_range : (¬ IsSegmentCount segments (length places)) → Says segments_fault_line Words r → IsRunAnswer p places segments r
   ran : IsSegmentCount segments (length places) → Says (line (numbers_text (channels_of p places) ∷ [])) Done r → IsRunAnswer p places segments r
 
--- the answer that is the text of a table and a separation
+-- the report with the text of a table and a separation
 abbrev pub IsTableText : ChannelTable → Separation → Report → Type 0
 IsTableText t s r = Says (table_text t s) Done r
 
--- what is wrong with a text that reads as no program
+-- the report on a text that reads as no program
 pub record IsTextRefusal (input : List ℕ) (r : Report) : Type 0 where
   pub kind : FaultKind
   pub offset : ℕ
@@ -150,37 +152,37 @@ pub record IsTextRefusal (input : List ℕ) (r : Report) : Type 0 where
   pub fault : FaultsAt input kind offset
   pub says : Says (text_fault_line kind offset) Refused r
 
--- The report of a print: what is wrong with the text, or the printed form of the program that it reads as.
+-- The report of a print: the fault of the text, or the printed form of its program.
 pub data IsPrintReport (input : List ℕ) (r : Report) : Type 0 where
   text_refused : IsTextRefusal input r → IsPrintReport input r
   in_print : (p : ProgramTree) → Reads input p → Says (printed p) Done r → IsPrintReport input r
 
--- What is wrong with a program text for m identifiers: the fault of a text that reads as no program, or the first refusal of the program
--- that it reads as.
+-- The report of a refusal of a program text for m identifiers: the fault of a text that reads as no program, or the
+-- first refusal of its program.
 pub data IsProgramRefusal (m : ℕ) (input : List ℕ) (r : Report) : Type 0 where
   text_fault : IsTextRefusal input r → IsProgramRefusal m input r
   check_fault : (p : ProgramTree) (f : CheckFault) → Reads input p → IsFirstRefusal m p f →
       Says (check_fault_line f) Refused r → IsProgramRefusal m input r
 
--- The report of a task on a program text for m identifiers: what is wrong with it, or the task's answer on the accepted program.
+-- The report of a task on a program text for m identifiers: its refusal, or the report on the accepted program.
 pub data IsProgramReport (m : ℕ) (answer : ProgramTree → Report → Type 0) (input : List ℕ) (r : Report) : Type 0 where
   program_refused : IsProgramRefusal m input r → IsProgramReport m answer input r
   answered : (p : ProgramTree) → Reads input p → IsAccepted m p → answer p r → IsProgramReport m answer input r
 
--- what is wrong first with a text that is not the text of a table and a separation
+-- the report on a text that is not a table text: its first fault
 pub record IsTableRefusal (input : List ℕ) (r : Report) : Type 0 where
   pub what : TableFault
   pub known : what ≢ table.OutOfMemory
   pub fault : IsFault input what
   pub says : Says (table_fault_line what) Refused r
 
--- The report of a task on a table text: what is wrong with it, or the task's answer on the table and the separation that it tells.
+-- The report of a task on a table text: its refusal, or the report on its table and its separation.
 pub data IsTableReport (answer : ChannelTable → Separation → Report → Type 0) (input : List ℕ) (r : Report) : Type 0 where
   table_refused : IsTableRefusal input r → IsTableReport answer input r
   of_table : (t : ChannelTable) (s : Separation) → IsTextOf input t s → answer t s r → IsTableReport answer input r
 
--- The report of a task on an input. A print and the tasks with a number of identifiers are on a program text, the others on a table text. The report
--- is the same whatever the number of workers, and whatever the number of segments that a ring can be run in.
+-- The report of a task on an input. A print and the tasks with a number of identifiers are on a program text, the
+-- others on a table text. The report does not depend on the number of workers, or on a number of segments in its range.
 abbrev pub IsReport : Task → List ℕ → Report → Type 0
 IsReport (Check ids) input r = IsProgramReport ids (λ p. Says (accepted_line ids p) Done) input r
 IsReport Print input r = IsPrintReport input r

@@ -1,4 +1,4 @@
--- The trace of a ring: lines that tell what its places hold and send, round by round, in global rounds.
+-- The trace of a ring: the registers and the messages of its places in global rounds, round by round.
 use Rattle.std.specs.Prelude.{◌==◌, if◌then◌else◌, ℕ, ◌+◌, List, [], ◌∷◌, ◌++◌, map, length, slice_index, codes}
 use Rattle.std.specs.List.{flat_map, range_with_len}
 use Rattle.std.specs.Fmt.{decimal}
@@ -15,7 +15,7 @@ of_places x number = map number (range_with_len 0 (length x))
 abbrev pub row_line : List ℕ → List ℕ → List ℕ
 row_line heading numbers = line (heading ∷ codes " " ∷ numbers_text numbers ∷ [])
 
--- the heading of what places hold after r rounds: `start` before the first one, and else the number of the last one, from 1 on
+-- the heading of the registers after r rounds: `start` for 0, else the number of the last round, counted from 1
 abbrev pub after_rounds : ℕ → List ℕ
 after_rounds r = if r == 0 then codes "start" else codes "round " ++ decimal r
 
@@ -25,17 +25,17 @@ register_lines p x r =
     flat_map (λ j. row_line (after_rounds r ++ (codes " r" ++ decimal j)) (of_places x (λ i. slice_index (state p x r i) j)))
     (range_with_len 0 (length p.start))
 
--- two lines, with what each place sends to its left and to its right after r rounds, which is in the round r + 1
+-- two lines: the messages of each place to its left and to its right after r rounds, which are those of round r + 1
 abbrev pub message_lines : ProgramTree → List ℕ → ℕ → List ℕ
 message_lines p x r =
     row_line (codes "round " ++ (decimal (r + 1) ++ codes " left")) (of_places x (λ i. to_left p r (state p x r i)))
     ++ row_line (codes "round " ++ (decimal (r + 1) ++ codes " right")) (of_places x (λ i. to_right p r (state p x r i)))
 
--- the lines of a round, which is done after r others: what is sent in it, and what places hold after it
+-- the lines of the round after r others: its messages, and the registers after it
 abbrev pub round_lines : ProgramTree → List ℕ → ℕ → List ℕ
 round_lines p x r = message_lines p x r ++ register_lines p x (r + 1)
 
--- the trace: what places hold before the first round, the lines of each round, and the channels
+-- the trace: the registers before the first round, the lines of each round, and the channels
 abbrev pub trace_lines : ProgramTree → List ℕ → List ℕ
 trace_lines p x =
     register_lines p x 0 ++ (flat_map (round_lines p x) (range_with_len 0 (length p.steps)) ++ row_line (codes "finish") (channels_of p x))

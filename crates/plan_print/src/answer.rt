@@ -1,4 +1,4 @@
-//! The answers of the tasks on a program.
+//! The reports of the tasks on a program, before they are written.
 
 ghost use Rattle.std.specs.Prelude.{◌≡◌, length, IfOk, IfErr};
 ghost use Rattle.node_lang.specs.Printed.{printed};
@@ -36,8 +36,8 @@ use std::thread::{Threads, join};
 use table_fill::{FillFault, Table, compile};
 use win_index::{Ring, RingFault, Shape};
 
-// A report before it is written: its text and its status, for a refusal or a no with its cause too, or the table and the
-// separation whose text it is.
+// A report before it is written: its text and its status, with its cause if it is a refusal or a
+// no; or the table and the separation whose text it is.
 #[derive(Drop)]
 pub(crate) enum Answer {
     Text(String, Status),
@@ -45,7 +45,7 @@ pub(crate) enum Answer {
     Table(Table, Separation),
 }
 
-// The answer of a check.
+// Returns the report of a check.
 pub(crate) fn check_answer(alloc: Global, plan: &Plan) -> Result<Answer, EngineFault>
     ensures answer { IfOk result (λ r. Says (report.accepted_line plan.now.ids plan.now.program) Status.Done (report_in r)) }
     ensures cause { IfOk result IsOwn }
@@ -54,7 +54,7 @@ pub(crate) fn check_answer(alloc: Global, plan: &Plan) -> Result<Answer, EngineF
     Ok(Answer::Text(accepted_line(alloc, plan)?, Status::Done))
 }
 
-// The answer that is the printed form of a program.
+// Returns the report with the printed form of a program.
 pub(crate) fn print_answer(alloc: Global, program: &Program) -> Result<Answer, EngineFault>
     ensures answer { IfOk result (λ r. Says (printed program.now) Status.Done (report_in r)) }
     ensures cause { IfOk result IsOwn }
@@ -66,7 +66,8 @@ pub(crate) fn print_answer(alloc: Global, program: &Program) -> Result<Answer, E
     }
 }
 
-// The answer that is the table of an accepted program, filled by so many workers, with a separation.
+// Returns the report with the table of an accepted program, which this many workers fill, and a
+// separation.
 pub(crate) fn table_answer<T: Threads + Wait + Sync>(
     rt: &T,
     alloc: Global,
@@ -82,7 +83,7 @@ pub(crate) fn table_answer<T: Threads + Wait + Sync>(
     Ok(Answer::Table(compiled(rt, alloc, plan, workers)?, separation))
 }
 
-// The answer on a list of identifiers that is no ring of this shape.
+// Returns the report on a list of identifiers that is not a ring of this shape.
 fn ring_refusal(
     alloc: Global,
     shape: Shape,
@@ -104,7 +105,7 @@ fn ring_refusal(
     Ok(Answer::Told(line, Status::RingRefused, cause))
 }
 
-// The answer of a run of a list of identifiers in segments.
+// Returns the report of a run on a list of identifiers in this many segments.
 pub(crate) fn run_answer<T: Threads + Wait + Sync>(
     rt: &T,
     alloc: Global,
@@ -123,7 +124,7 @@ pub(crate) fn run_answer<T: Threads + Wait + Sync>(
     }
 }
 
-// The answer of a run of a ring in segments.
+// Returns the report of a run on a ring in this many segments.
 fn channels_answer<T: Threads + Wait + Sync>(
     rt: &T,
     alloc: Global,
@@ -146,7 +147,7 @@ fn channels_answer<T: Threads + Wait + Sync>(
     }
 }
 
-// The answer on a number of segments that a ring lacks.
+// Returns the report on a number of segments in which the ring can't be run.
 fn segments_refusal(alloc: Global, segments: u32, ring: &Ring) -> Result<Answer, EngineFault>
     requires { ¬ IsSegmentCount segments (length ring.now.places) }
     ensures answer { IfOk result (λ r. Says report.segments_fault_line Status.Words (report_in r)) }
@@ -161,7 +162,7 @@ fn segments_refusal(alloc: Global, segments: u32, ring: &Ring) -> Result<Answer,
     Ok(Answer::Told(line, Status::Words, cause))
 }
 
-// The engine's fault where a run has this one, or `None` where the report tells of it.
+// Returns the engine's fault for this fault of a run, or `None` if the report covers it.
 fn fault_of_run(fault: RunFault) -> Option<EngineFault>
     ensures { result ≡ run_fault_told fault }
 {
@@ -173,7 +174,7 @@ fn fault_of_run(fault: RunFault) -> Option<EngineFault>
     }
 }
 
-// The answer of a trace of a list of identifiers.
+// Returns the report of a trace of a list of identifiers.
 pub(crate) fn trace_answer(alloc: Global, plan: &Plan, ids: Vec<u32>) -> Result<Answer, EngineFault>
     ensures answer { IfOk result (λ r. IsAnswerOnRing plan.now.ids (length plan.now.program.steps) ids.items
         (Says (trace_lines plan.now.program ids.items) Status.Done) (report_in r)) }
@@ -186,7 +187,7 @@ pub(crate) fn trace_answer(alloc: Global, plan: &Plan, ids: Vec<u32>) -> Result<
     }
 }
 
-// The answer of a plan for a list of identifiers, through the table that so many workers fill.
+// Returns the report of a plan for a list of identifiers, by the table that this many workers fill.
 pub(crate) fn plan_answer<T: Threads + Wait + Sync>(
     rt: &T,
     alloc: Global,
@@ -209,7 +210,8 @@ pub(crate) fn plan_answer<T: Threads + Wait + Sync>(
     }
 }
 
-// The judge's answer on the table of an accepted program by a separation, by so many workers.
+// Returns the report of the judge on the table of an accepted program. This many workers fill and
+// judge the table.
 pub(crate) fn judged<T: Threads + Wait + Sync>(
     rt: &T,
     alloc: Global,
@@ -228,8 +230,8 @@ pub(crate) fn judged<T: Threads + Wait + Sync>(
     verdict_answer(alloc, &table, separation, verdict)
 }
 
-// The judge's verdict on a table by a separation, by so many workers. More workers than one judge while the memo is
-// dropped.
+// Returns the judge's verdict on a table, by this many workers. More than one worker judge while
+// the memo is dropped.
 fn verdict_and_drop<T: Threads + Sync>(
     rt: &T,
     alloc: Global,
@@ -247,8 +249,8 @@ fn verdict_and_drop<T: Threads + Sync>(
     verdict_beside_memo(rt, alloc, table, separation, workers, memo)
 }
 
-// The judge's verdict on a table by a separation, by so many workers, while a memo is dropped. That a thread may have a memo
-// is shown here, where few values are in scope.
+// Returns the judge's verdict on a table, by this many workers, and drops a memo at the same time.
+// This function exists to prove with few values in scope that a memo can be sent to a thread.
 fn verdict_beside_memo<T: Threads + Sync>(
     rt: &T,
     alloc: Global,
@@ -262,7 +264,8 @@ fn verdict_beside_memo<T: Threads + Sync>(
     verdict_beside(rt, alloc, table, separation, workers, memo)
 }
 
-// The judge's verdict on a table by a separation, by so many workers, while this is dropped.
+// Returns the judge's verdict on a table, by this many workers, and drops `dropped` at the same
+// time.
 fn verdict_beside<T: Threads + Sync, D: Send + Drop>(
     rt: &T,
     alloc: Global,
@@ -284,7 +287,8 @@ fn verdict_beside<T: Threads + Sync, D: Send + Drop>(
     verdict
 }
 
-// The table of an accepted program, filled by so many workers. The memo is dropped here.
+// Returns the table of an accepted program, filled by this many workers. The memo is dropped before
+// the call returns.
 fn compiled<T: Threads + Wait + Sync>(
     rt: &T,
     alloc: Global,
@@ -299,7 +303,7 @@ fn compiled<T: Threads + Wait + Sync>(
     table_by(rt, alloc, plan, &memo, workers)
 }
 
-// The table of an accepted program, filled by so many workers in a memo of it.
+// Returns the table of an accepted program, filled by this many workers in a memo of it.
 #[tactic(auto, using(crate::proofs::Workers::worker_count))]
 fn table_by<T: Threads + Wait + Sync>(
     rt: &T,
@@ -323,7 +327,8 @@ fn table_by<T: Threads + Wait + Sync>(
     }
 }
 
-// The engine's fault where a filling has this one, or `None` where the number of workers is out of range.
+// Returns the engine's fault for this fault of a filling, or `None` if the number of workers is out
+// of range.
 fn fault_of_filling(fault: FillFault) -> Option<EngineFault>
     ensures { result ≡ fill_fault_told fault }
 {

@@ -1,4 +1,4 @@
-//! Why a report is a refusal or a no, and the note that tells it.
+//! The cause of a report that is a refusal or a no, and the note on it.
 
 ghost use Rattle.std.specs.Prelude.{◌≡◌, ◌≤◌, length, IfOk, IfSome, string_bytes};
 ghost use Rattle.plan_print.specs.Causes.{Explains, IsNote, IsTableNote};
@@ -15,7 +15,7 @@ use std::alloc::{AllocError, Global};
 use table_text::{LONGEST_TABLE_TEXT, TableFault};
 use win_index::{MAX_IDS, MAX_ROUNDS, RingFault};
 
-/// Why a report is a refusal or a no.
+/// The cause of a report that is a refusal or a no.
 #[derive(Drop)]
 pub enum Cause {
     /// The fault of a program text.
@@ -26,7 +26,7 @@ pub enum Cause {
         ids: u32,
         fault: CheckFault,
     },
-    /// What is wrong with a list of identifiers that is no ring.
+    /// The fault of a list of identifiers that is not a ring.
     Ring {
         rounds: u32,
         ids: u32,
@@ -38,7 +38,7 @@ pub enum Cause {
         segments: u32,
         places: usize,
     },
-    /// What is wrong with the text of a table.
+    /// The fault of a table text.
     TableText(TableFault),
     /// The ring, the places and their channels at which a table breaks a separation.
     No {
@@ -49,7 +49,7 @@ pub enum Cause {
     },
 }
 
-// The note that tells a cause that is found in this input, or `None` where memory was refused.
+// Returns the note on a cause that is found in this input, or `None` if memory was refused.
 pub(crate) fn note_on(alloc: Global, input: &[u8], cause: &Cause) -> Option<String>
     requires { Explains input.now cause.now }
     ensures { IfSome result (λ note. IsNote input.now cause.now (string_bytes note)) }
@@ -76,7 +76,7 @@ pub(crate) fn note_on(alloc: Global, input: &[u8], cause: &Cause) -> Option<Stri
     }
 }
 
-// The note on a fault of the text of a table.
+// Returns the note on a fault of a table text. Fails if memory was refused, and for `OutOfMemory`.
 fn table_note(alloc: Global, text: &[u8], fault: TableFault) -> Result<String, AllocError>
     requires { IsFault text.now fault }
     ensures { IfOk result (λ note. IsTableNote text.now fault (string_bytes note)) }
@@ -90,7 +90,7 @@ fn table_note(alloc: Global, text: &[u8], fault: TableFault) -> Result<String, A
     }
 }
 
-// The note on a no, where its places are those of the ring.
+// Returns the note on a no, or `None` if its numbers are out of range or if memory was refused.
 fn no_note(
     alloc: Global,
     rounds: u32,

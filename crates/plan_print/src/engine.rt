@@ -1,4 +1,4 @@
-//! Doing a task: the input is read whole, then its report is written.
+//! Doing a task: reading the whole input, then writing its report.
 
 ghost use Rattle.std.specs.Prelude.{◌≡◌, ◌≢◌, ◌+◌, ◌≤◌, ◌↔◌, ℕ, List, false, IsTrue, IfOk, IfErr, IfSome, OnErr, IsErrOf, string_bytes};
 ghost use Rattle.std.specs.Io.KnownBytes.{Appends, Keeps};
@@ -26,14 +26,17 @@ use std::thread::Threads;
 use table_text::{LONGEST_TABLE_TEXT, write_table};
 use task_words::task::Task;
 
-/// Reads the input of a task, all of it or one byte more than the task's limit of a longer one, in at most as
-/// many reads as that limit and one, and writes its report; the answer is the report's status. A number of workers that
-/// the task names is 1 to `MAX_COUNT`; of a number of segments that its ring can't be run in, the report tells.
+/// Reads the input of a task and writes its report. Returns the report's status.
 ///
-/// `Read` comes exactly where a read failed, `Write` exactly where a write failed or took no byte, `Memory`
-/// where memory was refused, `Thread` where the start of a thread was, and `Stranger` where a worker or a
-/// segment had that fault. `Thread` comes only for a task with two or more workers or segments, `Stranger` only for one
-/// that names their number. After `Write` a prefix of the report was written, after each other fault nothing.
+/// Reads the whole input, or one byte more than the task's limit of a longer one, in at most one
+/// read more than that limit. The task's number of workers, if it has one, must be 1 to
+/// `MAX_COUNT`. If its ring can't be run in its number of segments, the report says so.
+///
+/// Fails with `Read` exactly if a read failed, with `Write` exactly if a write failed or took no
+/// byte, with `Memory` if memory was refused, with `Thread` if the start of a thread was refused,
+/// and with `Stranger` if a worker or a segment had that fault. `Thread` is returned only for a
+/// task with two or more workers or segments, and `Stranger` only for one that names their number.
+/// After `Write` a prefix of the report was written, after each other fault nothing.
 pub fn engine<T: Threads + Wait + Sync, R: Read, W: Write>(
     rt: &T,
     alloc: Global,
@@ -64,15 +67,16 @@ pub fn engine<T: Threads + Wait + Sync, R: Read, W: Write>(
     }
 }
 
-/// The status of a report that was written, and the note that tells why it is a refusal or a no.
+/// The status of a report that was written, and a note on its cause if it is a refusal or a no.
 #[derive(Drop)]
 pub struct Told {
     pub status: Status,
-    /// `None` where there is nothing to tell, or memory for the note was refused.
+    /// `None` if there is no cause, or if memory for the note was refused.
     pub note: Option<String>,
 }
 
-/// What `engine` does, with a note on a report that is a refusal or a no. The note is not written.
+/// Does the same as `engine`, and returns a note on a report that is a refusal or a no. The note is
+/// not written.
 pub fn engine_with_note<T: Threads + Wait + Sync, R: Read, W: Write>(
     rt: &T,
     alloc: Global,
@@ -104,7 +108,7 @@ pub fn engine_with_note<T: Threads + Wait + Sync, R: Read, W: Write>(
     Ok(Told { status, note })
 }
 
-// The note on this cause, if there is one.
+// Returns the note on this cause, if there is one.
 fn note_of(alloc: Global, input: &[u8], cause: Option<Cause>) -> Option<String>
     requires { IfSome cause (Explains input.now) }
     ensures { IfSome result (λ note. IsNoteOn input.now (string_bytes note)) }
@@ -115,7 +119,7 @@ fn note_of(alloc: Global, input: &[u8], cause: Option<Cause>) -> Option<String>
     note_on(alloc, input, &cause)
 }
 
-// Writes a report; the answer is its status, and its cause where it is a refusal or a no.
+// Writes a report. Returns its status, and its cause if it is a refusal or a no.
 fn write_answer<W: Write>(
     alloc: Global,
     answer: Answer,
@@ -149,7 +153,7 @@ fn write_answer<W: Write>(
     }
 }
 
-// The most bytes that the input of a task may have.
+// Returns the maximum length in bytes of the input of a task.
 fn limit(task: &Task) -> usize
     ensures { result ≡ limit_of task.now }
 {

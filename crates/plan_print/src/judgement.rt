@@ -1,4 +1,4 @@
-//! The judge's answer on a table.
+//! The report of the judge on a table.
 
 ghost use Rattle.std.specs.Prelude.{◌≡◌, IfOk, IfErr};
 ghost use Rattle.nbhd_check.specs.Verdicts.{IsVerdict};
@@ -15,7 +15,7 @@ use std::alloc::Global;
 use std::thread::Threads;
 use table_fill::Table;
 
-// The answer that tells this verdict on the table.
+// Returns the report of this verdict on the table.
 pub(crate) fn verdict_answer(
     alloc: Global,
     table: &Table,
@@ -49,7 +49,7 @@ pub(crate) fn verdict_answer(
     }
 }
 
-// The judge's answer on a table by a separation, by at most as many threads as there are processors.
+// Returns the report of the judge on a table, by at most as many threads as there are processors.
 pub(crate) fn audited<T: Threads + Sync>(
     rt: &T,
     alloc: Global,

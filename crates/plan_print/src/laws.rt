@@ -10,8 +10,8 @@ use table_fill::table_has_the_channels_of_rounds;
 use table_text::{one_table_fault, table_texts_are_apart, table_texts_are_read};
 use win_index::one_ring_fault;
 
-/// A task and an input have at most one report, which is the same for every number of workers, and for every number of
-/// segments in its range.
+/// A task has at most one report on an input. The report is the same for every number of workers,
+/// and for every number of segments in its range.
 pub fn one_report()
     ensures one { law.OneReport }
     ensures workers { law.SameForWorkers }
@@ -27,10 +27,11 @@ pub fn one_report()
     table_texts_are_read();
 }
 
-/// What the reports on a program that is accepted tell of synchronous rounds on rings (Linial 1992): the status of a judge,
-/// whether their channels are apart on every ring; the line of a run and the lines of a plan, their channels on the ring; the
-/// lines of a trace, what the places of the ring hold and send in them, and at last what a run reports; a table, their
-/// channels at the windows of every ring.
+/// The reports on an accepted program agree with synchronous rounds on rings (Linial 1992). The
+/// status of a judge says whether their channels are apart on every ring. The line of a run and the
+/// lines of a plan have their channels on the ring. The lines of a trace have the registers and the
+/// messages of the ring's places, and end with the report of a run. A table has their channels at
+/// the windows of every ring.
 pub fn reports_tell_rounds()
     ensures judge { law.JudgeTellsRounds }
     ensures run { law.RunTellsRounds }
@@ -47,7 +48,8 @@ pub fn reports_tell_rounds()
     program_tables_are_apart();
 }
 
-/// The report of a print reads as the program that was printed, and is its own print.
+/// The report of a print is a text of the same program, and the print of that text is the same
+/// report.
 pub fn prints_are_read_back()
     ensures { law.PrintsAreReadBack }
 {

@@ -12,7 +12,7 @@ use std::fmt::Write;
 use table_text::TableFault;
 use win_index::RingFault;
 
-// Writes numbers in decimal, parted by single blanks.
+// Writes numbers in decimal, separated by single blanks.
 pub(crate) fn write_numbers(text: &mut String, numbers: &[u32]) -> Result<(), AllocError>
     ensures { OnOk result (string_bytes text.new ≡ string_bytes text.old ++ numbers_text numbers.now) }
 {
@@ -26,7 +26,7 @@ pub(crate) fn write_numbers(text: &mut String, numbers: &[u32]) -> Result<(), Al
     Ok(())
 }
 
-/// One line of numbers in decimal, parted by single blanks and ended by a line feed.
+/// Returns a line of numbers in decimal, separated by single blanks and followed by a line feed.
 pub fn numbers_line(alloc: Global, numbers: &[u32]) -> Result<String, AllocError>
     ensures { IfOk result (λ text. string_bytes text ≡ line (numbers_text numbers.now ∷ [])) }
 {
@@ -36,7 +36,7 @@ pub fn numbers_line(alloc: Global, numbers: &[u32]) -> Result<String, AllocError
     Ok(text)
 }
 
-// The number of a kind of text fault.
+// Returns the number of a kind of text fault.
 fn number_of(fault: FaultKind) -> u32
     ensures { result ≡ report.kind_number fault }
 {
@@ -54,7 +54,7 @@ fn number_of(fault: FaultKind) -> u32
     }
 }
 
-// The line of a text fault.
+// Returns the line of a text fault.
 pub(crate) fn text_fault_line(alloc: Global, fault: TextFault) -> Result<String, AllocError>
     ensures { IfOk result (λ text. string_bytes text ≡ report.text_fault_line fault.kind fault.offset) }
 {
@@ -63,7 +63,7 @@ pub(crate) fn text_fault_line(alloc: Global, fault: TextFault) -> Result<String,
     format!(in alloc; "text fault N{number} at {offset}\n")
 }
 
-// The line of a program that is not accepted.
+// Returns the line of a program that is not accepted.
 pub(crate) fn check_fault_line(alloc: Global, fault: CheckFault) -> Result<String, AllocError>
     ensures { IfOk result (λ text. string_bytes text ≡ report.check_fault_line fault) }
 {
@@ -79,7 +79,7 @@ pub(crate) fn check_fault_line(alloc: Global, fault: CheckFault) -> Result<Strin
     }
 }
 
-// The line of a list that is no ring.
+// Returns the line of a list that is not a ring.
 pub(crate) fn ring_fault_line(alloc: Global, fault: RingFault) -> Result<String, AllocError>
     ensures { IfOk result (λ text. string_bytes text ≡ report.ring_fault_line fault) }
 {
@@ -93,14 +93,14 @@ pub(crate) fn ring_fault_line(alloc: Global, fault: RingFault) -> Result<String,
     }
 }
 
-// The line of a ring that can't be run in so many segments.
+// Returns the line of a ring that can't be run in the requested number of segments.
 pub(crate) fn segments_fault_line(alloc: Global) -> Result<String, AllocError>
     ensures { IfOk result (λ text. string_bytes text ≡ report.segments_fault_line) }
 {
     format!(in alloc; "segments fault E1\n")
 }
 
-// The line of a text that is not the text of a table; nothing for want of memory.
+// Returns the line of a text that is not a table text, or an empty text for `OutOfMemory`.
 pub(crate) fn table_fault_line(alloc: Global, fault: TableFault) -> Result<String, AllocError>
     ensures { IfOk result (λ text. string_bytes text ≡ report.table_fault_line fault) }
 {
@@ -112,7 +112,7 @@ pub(crate) fn table_fault_line(alloc: Global, fault: TableFault) -> Result<Strin
     }
 }
 
-// The line of an accepted program.
+// Returns the line of an accepted program.
 pub(crate) fn accepted_line(alloc: Global, plan: &Plan) -> Result<String, AllocError>
     ensures { IfOk result (λ text. string_bytes text ≡ report.accepted_line plan.now.ids plan.now.program) }
 {
@@ -127,14 +127,14 @@ pub(crate) fn accepted_line(alloc: Global, plan: &Plan) -> Result<String, AllocE
     )
 }
 
-// The line of a table whose channels are far enough apart everywhere.
+// Returns the line of a table whose channels are far enough apart everywhere.
 pub(crate) fn good_line(alloc: Global, tuples: u64) -> Result<String, AllocError>
     ensures { IfOk result (λ text. string_bytes text ≡ report.good_line tuples) }
 {
     format!(in alloc; "yes: {tuples} tuples\n")
 }
 
-// The line of a ring on which a place and its right neighbour share a channel.
+// Returns the line of a ring on which a place and its right neighbour have the same channel.
 fn bad_line(alloc: Global, ring: &[u32], place: u32, channel: u32) -> Result<String, AllocError>
     ensures { IfOk result (λ text. string_bytes text ≡ report.bad_line ring.now place channel) }
 {
@@ -145,7 +145,7 @@ fn bad_line(alloc: Global, ring: &[u32], place: u32, channel: u32) -> Result<Str
     Ok(text)
 }
 
-// The line of a ring on which the channels of two places are too close.
+// Returns the line of a ring on which the channels of two places are too close.
 fn close_line(
     alloc: Global,
     ring: &[u32],
@@ -166,7 +166,8 @@ fn close_line(
     Ok(text)
 }
 
-// The line of a no. Where neighbours' channels only have to differ, it has the one channel of both places.
+// Returns the line of a no. If neighbours' channels only have to differ, it has the one channel of
+// both places.
 pub(crate) fn no_line(
     alloc: Global,
     separation: Separation,

@@ -11,7 +11,7 @@ use std::alloc::{AllocError, Global};
 use table_fill::{Table, table_has_the_channels_of_rounds};
 use win_index::{MAX_WINDOW_LEN, Ring};
 
-// The lines of a ring's places, from place 0 on, by the table of a plan's program.
+// Returns the lines of a ring's places, from place 0 on, by the table of a plan's program.
 pub(crate) fn places_text(
     alloc: Global,
     plan: &Plan,
@@ -31,7 +31,7 @@ pub(crate) fn places_text(
     Ok(text)
 }
 
-// The table's channel at the window around a place.
+// Returns the table's channel at the window around a place.
 fn channel_of_place(plan: &Plan, table: &Table, ring: &Ring, place: u32) -> u32
     requires table { table.now ≡ table_of plan.now.program plan.now.ids }
     requires ids { ring.now.ids ≡ plan.now.ids }

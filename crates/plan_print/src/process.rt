@@ -1,4 +1,5 @@
-//! The program `nbhd` as a process: its words, its standard input and its standard output are handed to the engine.
+//! The program `nbhd` as a process: it passes its words, its standard input and its standard output
+//! to the engine.
 
 ghost use Rattle.std.specs.Prelude.{◌≡◌, ◌↔◌, false, IsTrue, IfOk, IfErr, OnOk, IsErrOf};
 ghost use Rattle.std.specs.Io.KnownBytes.{Appends};
@@ -20,8 +21,9 @@ use std::{env, io};
 use task_words::task::Task;
 use task_words::words::{WordsFault, task_of, words_fault};
 
-/// Does what the words after the program's name ask for, and answers the exit status. Help goes to the standard
-/// output, and what is wrong with words, or with the input or output, to the standard error.
+/// Does what the words after the program's name request, and returns the exit status. Writes the
+/// report or the help text to standard output, and prints faults and the note on a report to
+/// standard error.
 pub fn exit_status<T: AllocGlobal + Env + Input + Print + Eprint + Threads + Wait + Sync>(
     rt: &T,
 ) -> u8
@@ -30,7 +32,7 @@ pub fn exit_status<T: AllocGlobal + Env + Input + Print + Eprint + Threads + Wai
     status_after(rt, asked(rt))
 }
 
-// Does the task, or tells why the words give none; the answer is the exit status.
+// Does the task, or prints the fault of the words. Returns the exit status.
 fn status_after<T: AllocGlobal + Input + Print + Eprint + Threads + Wait + Sync>(
     rt: &T,
     asked: Result<Task, WordsFault>,
@@ -49,7 +51,7 @@ fn status_after<T: AllocGlobal + Input + Print + Eprint + Threads + Wait + Sync>
     }
 }
 
-// The task that the words after the program's name ask for.
+// Returns the task that the words after the program's name request.
 fn asked<T: AllocGlobal + Env>(rt: &T) -> Result<Task, WordsFault>
     ensures { IfOk result IsRunnable }
 {
@@ -63,7 +65,7 @@ fn asked<T: AllocGlobal + Env>(rt: &T) -> Result<Task, WordsFault>
     task_of(alloc, &words)
 }
 
-// Tells on the standard error what is wrong with the words; the answer is the exit status.
+// Prints the fault of the words to standard error. Returns the exit status.
 fn refused<T: Eprint>(rt: &T, fault: &WordsFault) -> u8
     ensures { result ≡ words_fault_code fault.now }
 {
@@ -74,7 +76,7 @@ fn refused<T: Eprint>(rt: &T, fault: &WordsFault) -> u8
     fault.code()
 }
 
-// Tells a fault on the standard error; the answer is the exit status.
+// Prints a fault, if there is one, to standard error. Returns the exit status.
 fn ended<T: Eprint>(rt: &T, answer: Result<Status, EngineFault>) -> u8
     ensures { result ≡ answer_code answer }
 {
@@ -84,7 +86,7 @@ fn ended<T: Eprint>(rt: &T, answer: Result<Status, EngineFault>) -> u8
     code_of(answer)
 }
 
-// Tells the note on a report, or a fault, on the standard error; the answer is the exit status.
+// Prints the note on a report, or a fault, to standard error. Returns the exit status.
 fn noted<T: Eprint>(rt: &T, answer: Result<Told, EngineFault>) -> u8
     ensures { IsExitStatus result }
 {
@@ -94,7 +96,7 @@ fn noted<T: Eprint>(rt: &T, answer: Result<Told, EngineFault>) -> u8
     }
 }
 
-// Tells the note on a report on the standard error; the answer is the exit status.
+// Prints the note on a report, if there is one, to standard error. Returns the exit status.
 fn after_report<T: Eprint>(rt: &T, told: &Told) -> u8
     ensures { result ≡ exit_code told.now.status }
 {
@@ -114,7 +116,7 @@ fn shown<W: Write>(writer: &mut Watched<W>, text: &str) -> Result<Status, Engine
     Ok(Status::Done)
 }
 
-// The engine's answer to a task on the standard input and output.
+// Runs the engine for a task on standard input and standard output.
 fn done<T: AllocGlobal + Input + Print + Threads + Wait + Sync>(
     rt: &T,
     task: Task,

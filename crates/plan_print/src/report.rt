@@ -1,5 +1,5 @@
-//! The report of a task: a program text is read, the program is accepted, and the task is done on it; or a table text is read,
-//! and the task is done on the table and the separation that it tells.
+//! The report of a task. The task is done on the program of a program text, if the program is
+//! accepted, or on the table and the separation of a table text.
 
 ghost use Rattle.std.specs.Prelude.{◌≡◌, IfOk, IfErr};
 ghost use Rattle.node_lang.specs.Grammar.{Reads};
@@ -28,7 +28,7 @@ use table_fill::Table;
 use table_text::{TableFault, read_table};
 use task_words::task::Task;
 
-// A task's report on an input.
+// Returns the report of a task on an input.
 pub(crate) fn report_of<T: Threads + Wait + Sync>(
     rt: &T,
     alloc: Global,
@@ -94,7 +94,7 @@ pub(crate) fn report_of<T: Threads + Wait + Sync>(
     }
 }
 
-// The plan of the program text for so many identifiers, or the report of what is refused.
+// Returns the plan of the program text for `ids` identifiers, or the report of its refusal.
 fn accepted(alloc: Global, input: &[u8], ids: u32) -> Result<Result<Plan, Answer>, EngineFault>
     ensures plan { IfOk result (λ told. IfOk told (λ plan. (plan.ids ≡ ids) × Reads input.now plan.program × IsAccepted ids plan.program)) }
     ensures refusal { IfOk result (λ told. IfErr told (λ r. IsProgramRefusal ids input.now (report_in r))) }
@@ -118,7 +118,7 @@ fn accepted(alloc: Global, input: &[u8], ids: u32) -> Result<Result<Plan, Answer
     }
 }
 
-// The program of the program text, or the report of what is refused.
+// Returns the program of the program text, or the report of its refusal.
 fn program_in(alloc: Global, input: &[u8]) -> Result<Result<Program, Answer>, EngineFault>
     ensures program { IfOk result (λ told. IfOk told (λ program. Reads input.now program)) }
     ensures refusal { IfOk result (λ told. IfErr told (λ r. IsTextRefusal input.now (report_in r))) }
@@ -140,7 +140,7 @@ fn program_in(alloc: Global, input: &[u8]) -> Result<Result<Program, Answer>, En
     }
 }
 
-// The table and the separation of the table text, or the report of what is refused.
+// Returns the table and the separation of the table text, or the report of its refusal.
 fn table_in(alloc: Global, input: &[u8]) -> Result<Result<(Table, Separation), Answer>, EngineFault>
     ensures table { IfOk result (λ told. IfOk told (λ read. IsTextOf input.now read.0 read.1)) }
     ensures refusal { IfOk result (λ told. IfErr told (λ r. IsTableRefusal input.now (report_in r))) }

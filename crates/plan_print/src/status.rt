@@ -1,18 +1,18 @@
-//! How the program ends.
+//! The outcome of a task.
 
 ghost use Rattle.std.specs.Prelude.{◌≡◌};
 ghost use Rattle.plan_print.specs.ExitCodes.{exit_code, answer_code};
 
 use devices::fault::EngineFault;
 
-/// How a task ended whose report was written.
+/// The outcome of a task whose report was written.
 #[derive(Clone, Copy, Debug, PartialEq, Eq)]
 pub enum Status {
-    /// The task was done, or its answer is yes.
+    /// The task was done, or its verdict is yes.
     Done,
-    /// The answer is no.
+    /// The verdict is no.
     No,
-    /// The ring can't be run in as many segments as the words ask for.
+    /// The ring can't be run in the number of segments that the words request.
     Words,
     /// The program text, the program or the table text was refused.
     Refused,
@@ -21,7 +21,7 @@ pub enum Status {
 }
 
 impl Status {
-    /// The exit status of the process: 0 to 4, in the order of the variants.
+    /// Returns the exit status of the process: 0 to 4, in the order of the variants.
     pub fn code(self) -> u8
         ensures { result ≡ exit_code self }
     {
@@ -35,7 +35,7 @@ impl Status {
     }
 }
 
-/// The exit status of the process after the engine's answer.
+/// Returns the exit status of the process for this result of the engine.
 pub fn code_of(answer: Result<Status, EngineFault>) -> u8
     ensures { result ≡ answer_code answer }
 {

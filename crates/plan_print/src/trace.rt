@@ -1,4 +1,4 @@
-//! The trace of a ring: what its places hold and send, round by round.
+//! The trace of a ring: the registers and the messages of its places, round by round.
 
 ghost use Rattle.std.specs.Prelude.{◌≡◌, ◌+◌, ◌++◌, ◌<◌, [], ◌∷◌, codes, length, IfOk, IfErr, OnOk, string_bytes};
 ghost use Rattle.ring_trace.specs.Configuration.{told, CanTell};
@@ -12,7 +12,7 @@ use std::alloc::{AllocError, Global};
 use std::fmt::Write;
 use win_index::Ring;
 
-// The trace of a ring by a plan.
+// Returns the trace of a ring by a plan.
 pub(crate) fn trace_text(alloc: Global, plan: &Plan, ring: &Ring) -> Result<String, EngineFault>
     requires { ring.now.ids ≡ plan.now.ids }
     ensures text { IfOk result (λ text. string_bytes text ≡ trace_lines plan.now.program ring.now.places) }
@@ -44,7 +44,7 @@ fn write_registers(text: &mut String, places: &Configuration<'_>) -> Result<(), 
     Ok(())
 }
 
-// Writes the heading of what places hold after so many rounds.
+// Writes the heading of the registers after this many rounds.
 fn write_after(text: &mut String, rounds: u32) -> Result<(), AllocError>
     ensures { OnOk result (string_bytes text.new ≡ string_bytes text.old ++ after_rounds rounds) }
 {
@@ -55,7 +55,7 @@ fn write_after(text: &mut String, rounds: u32) -> Result<(), AllocError>
     }
 }
 
-// Writes the two lines of what each place sends in the next round, which has this number.
+// Writes the two lines of the messages of the next round, whose number is `round`.
 fn write_messages(
     text: &mut String,
     places: &Configuration<'_>,
@@ -72,7 +72,7 @@ fn write_messages(
     write_row(text, places, Told::Right)
 }
 
-// Writes what is told of each place, each after a blank, and ends the line.
+// Writes the number `what` of each place, each after a blank, and ends the line.
 fn write_row(text: &mut String, places: &Configuration<'_>, what: Told) -> Result<(), AllocError>
     requires { CanTell places.now what }
     ensures { OnOk result (string_bytes text.new

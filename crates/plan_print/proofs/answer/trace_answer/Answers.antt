@@ -4,7 +4,7 @@ use Rattle.win_index.specs.RingFaults.{IsFirstFault}
 use Rattle.plan_print.specs.Report.{ring_fault}
 use Rattle.plan_print.proofs.answer.trace_answer.Goals as goal
 
--- The list is no ring.
+-- The list is not a ring.
 pub returns-in-Err-clause-answer : goal.returns-in-Err-clause-answer
 returns-in-Err-clause-answer c =
     let p = c.args.plan.now in

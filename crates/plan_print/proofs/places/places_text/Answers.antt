@@ -5,7 +5,7 @@ use Rattle.plan_print.specs.Report.{place_line}
 use Rattle.plan_print.proofs.TraceLines.{lines_more}
 use Rattle.plan_print.proofs.places.places_text.Goals as goal
 
--- One line more was written.
+-- One more line was written.
 pub loop-place-preserved : goal.loop-place-preserved
 loop-place-preserved c =
     let ids = c.args.ring.now.places in

@@ -4,7 +4,7 @@ use Rattle.node_lang.specs.GlobalRounds.{channel_at}
 use Rattle.plan_print.specs.Report.{place_line}
 use Rattle.plan_print.proofs.places.places_text.Given as goal
 
--- the lines of the places that were looked at stand in the text
+-- the lines of the places so far are in the text
 abbrev pub invariant-loop-place : goal.invariant-loop-place
 invariant-loop-place l =
     string_bytes l.text

@@ -6,7 +6,7 @@ use Rattle.plan_print.specs.Trace.{of_places, register_lines, message_lines}
 use Rattle.plan_print.proofs.TraceLines.{round_more, finished}
 use Rattle.plan_print.proofs.trace.trace_text.Goals as goal
 
--- One round more is done and told.
+-- One more round was done and written.
 pub loop-round-preserved : goal.loop-round-preserved
 loop-round-preserved c =
     let was = c.loop-round.invariant.done in
@@ -20,7 +20,7 @@ loop-round-preserved c =
       text = round_more c.args.plan.now.program c.args.ring.now.places c.loop-round.round _ _ _ c.loop-round.invariant.text messages registers;
     }
 
--- The channels are told after the last round.
+-- The channels are written after the last round.
 pub returns-clause-text : goal.returns-clause-text
 returns-clause-text c =
     let rounds : c.shape.result.rounds ≡ length c.args.plan.now.program.steps = c.shape.ensures.rounds in

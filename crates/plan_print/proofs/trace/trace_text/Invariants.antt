@@ -3,7 +3,7 @@ use Rattle.std.specs.List.{flat_map, range_with_len}
 use Rattle.plan_print.specs.Trace.{register_lines, round_lines}
 use Rattle.plan_print.proofs.trace.trace_text.Given as goal
 
--- the lines of the rounds that are done stand in the text
+-- the lines of the rounds so far are in the text
 abbrev pub invariant-loop-round : goal.invariant-loop-round
 invariant-loop-round l = record {
   done : l.places ≡ record { program = l.plan.program; places = l.ring.places; round = l.round };

@@ -5,7 +5,7 @@ use Rattle.plan_print.specs.Trace.{of_places, row_line, after_rounds}
 use Rattle.plan_print.proofs.TraceLines.{lines_more, three_written}
 use Rattle.plan_print.proofs.trace.write_registers.Goals as goal
 
--- One line more was written.
+-- One more line was written.
 pub loop-register-preserved : goal.loop-register-preserved
 loop-register-preserved c =
     let places = c.args.places.now in

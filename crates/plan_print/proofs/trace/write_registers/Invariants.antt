@@ -5,7 +5,7 @@ use Rattle.node_lang.specs.GlobalRounds.{state}
 use Rattle.plan_print.specs.Trace.{of_places, row_line, after_rounds}
 use Rattle.plan_print.proofs.trace.write_registers.Given as goal
 
--- the lines of the registers that were looked at stand in the text
+-- the lines of the registers so far are in the text
 abbrev pub invariant-loop-register : goal.invariant-loop-register
 invariant-loop-register l =
     string_bytes l.text

@@ -5,7 +5,7 @@ use Rattle.ring_trace.specs.Configuration.{told}
 use Rattle.plan_print.proofs.TraceLines.{lines_more, after_blanks}
 use Rattle.plan_print.proofs.trace.write_row.Goals as goal
 
--- One number more was written.
+-- One more number was written.
 pub loop-place-preserved : goal.loop-place-preserved
 loop-place-preserved c =
     let number = told c.args.places.now c.args.what in

@@ -4,7 +4,7 @@ use Rattle.std.specs.Fmt.{decimal}
 use Rattle.ring_trace.specs.Configuration.{told}
 use Rattle.plan_print.proofs.trace.write_row.Given as goal
 
--- what is told of the places that were looked at stands in the text
+-- the numbers of the places so far are in the text
 abbrev pub invariant-loop-place : goal.invariant-loop-place
 invariant-loop-place l =
     string_bytes l.text ≡ string_bytes l.initial.text ++ flat_map (λ i. 32 ∷ decimal (told l.places l.what i)) (range_with_len 0 l.place)
