@@ -9,7 +9,7 @@ use Rattle.std.proofs.lemmas.Nat.{same_from_place}
 pub row_more : (row wide : ℕ) → (row + 1) * wide ≡ row * wide + wide
 row_more row wide = add-mul row 1 wide ∙ ap (λ n. row * wide + n) (one-mul wide)
 
--- a row stands in the cells
+-- a row is within the cells
 pub rows_within : (row most w ids len : ℕ) → row ≤ most → w ≡ ids → len ≡ (most + 1) * (ids + 1) → (row + 1) * (w + 1) ≤ len
 rows_within row most w ids len le w_is len_is =
     let more : row + 1 ≤ most + 1 = omega arith in
@@ -41,7 +41,7 @@ same_cell v row x column rows columns =
     (λ (no : (eqb v row ≡ false) × (v ≢ row)). absurd (no.1 rows))
     (eqb_tells v row)
 
--- what the cells hold after a write to one of them
+-- the cells after a write to one of them
 pub cell_set :
     (cells : List ℕ) (wide row column v x new : ℕ) → x < wide → column < wide → row * wide + column < length cells
     → get_or (set cells (row * wide + column) new) (v * wide + x) 0 ≡ cond (eqb v row && eqb x column) new (get_or cells (v * wide + x) 0)
@@ -55,7 +55,7 @@ cell_set cells wide row column v x new in_x in_column within =
     rw (other_cell v row x column wide other) (get_or-set_other cells (row * wide + column) (v * wide + x) new 0 other))
     (cases_eq (v * wide + x) (row * wide + column))
 
--- one more in one cell
+-- one cell is incremented
 pub cell_counted :
     (cells : List ℕ) (wide row column v x : ℕ) → x < wide → column < wide → row * wide + column < length cells
     → get_or (set cells (row * wide + column) (get_or cells (row * wide + column) 0 + 1)) (v * wide + x) 0
@@ -69,7 +69,7 @@ cell_counted cells wide row column v x in_x in_column within =
     rw (other_cell v row x column wide other) (omega arith))
     (cases_eq (v * wide + x) (row * wide + column))
 
--- one more cell of a row to which those of the row before are added
+-- one more cell of a row to which the row before is added
 pub cell_added :
     (cells first : List ℕ) (wide row done : ℕ) → 1 ≤ row → done < wide → row * wide + done < length cells
     → ((v y : ℕ) → y < wide → get_or cells (v * wide + y) 0

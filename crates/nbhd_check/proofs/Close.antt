@@ -22,7 +22,7 @@ some_distance distance (Some c) (Some d) close = omega arith
 some_distance distance (Some c) None close = absurd close
 some_distance distance None b close = absurd close
 
--- those that are closer than 1 are the same
+-- channels that are closer than 1 are the same
 pub same_of_close : (a b : Option ℕ) → AreClose 1 a b → a ≡ b
 same_of_close (Some c) (Some d) close =
     let equal : c ≡ d = omega arith in
@@ -37,7 +37,7 @@ close_of_same a b some same = subst (AreClose 1 a) same (own a some)
     own (Some c) some = omega arith
     own None some = absurd (false≢true some)
 
--- what equations say of close channels
+-- equal channels are equally close
 pub close_along : (distance : ℕ) (a b c d : Option ℕ) → a ≡ c → b ≡ d → AreClose distance a b → AreClose distance c d
 close_along distance a b c d first second close = subst (AreClose distance c) second (subst (λ o. AreClose distance o b) first close)
 

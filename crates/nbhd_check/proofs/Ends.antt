@@ -1,4 +1,4 @@
--- Lists by their first two and their last two elements, and what stands between these.
+-- Lists by their first two and their last two elements, and the middle between these.
 use Rattle.std.proofs.Common.{◌≡◌, ◌≢◌, ℕ, zero, suc, ◌+◌, ◌-◌, ◌*◌, ◌<◌, ◌≤◌, List, [], ◌∷◌, ◌++◌, length, get_or, take, drop, Contains, subst, sym, ap, ◌∙◌, arith, refl, ⊎_elim, length-append, length-drop}
 use Rattle.std.proofs.lemmas.Bool.{cases_lt}
 use Rattle.std.proofs.lemmas.List.{drop-take, drop-drop, drop-append-le, take_at, take_all, get_or-drop, get_or-take, get_or_default, get_or_push, append_assoc, length-take-le}
@@ -10,7 +10,7 @@ use Rattle.table_fill.specs.Tables.{ChannelTable}
 use Rattle.nbhd_check.specs.Counts.{shared_len, middle_of}
 use Rattle.nbhd_check.proofs.Fronts.{window_turned, window_drop}
 
--- a list by its last two
+-- a list by its last two elements
 pub by_last : (n : ℕ) (list : List ℕ) → length list ≡ n + 2 → list ≡ take n list ++ get_or list n 0 ∷ get_or list (n + 1) 0 ∷ []
 by_last zero (x ∷ y ∷ []) size = refl
 by_last zero [] size = absurd (omega arith)
@@ -22,7 +22,7 @@ by_last (suc n) (x ∷ list) size =
     ap (λ l. x ∷ l) (by_last n list (omega arith))
     ∙ ap (λ k. x ∷ (take n list ++ get_or list n 0 ∷ get_or (x ∷ list) k 0 ∷ [])) (sym next)
 
--- a list by its first two
+-- a list by its first two elements
 pub by_first : (list : List ℕ) → 2 ≤ length list → list ≡ get_or list 0 0 ∷ get_or list 1 0 ∷ drop 2 list
 by_first [] size = absurd (omega arith)
 by_first (x ∷ []) size = absurd (omega arith)
@@ -38,12 +38,12 @@ middle_is t list some =
     let len : 2 * t.rounds + 1 ≡ 2 + shared_len t = omega arith in
     ap (λ n. drop 2 (take n list)) len ∙ drop-take 2 (shared_len t) list
 
--- the first one does not stand there
+-- the first element is not in the middle
 pub middle_after_first : (t : ChannelTable) (x : ℕ) (list : List ℕ) → 1 ≤ t.rounds → middle_of t (x ∷ drop 1 list) ≡ middle_of t list
 middle_after_first t x list some =
     middle_is t (x ∷ drop 1 list) some ∙ ap (take (shared_len t)) (drop-drop 1 1 list) ∙ sym (middle_is t list some)
 
--- nor does the second one
+-- nor is the second one
 pub middle_after_second : (t : ChannelTable) (x y : ℕ) (list : List ℕ) → 1 ≤ t.rounds → middle_of t (x ∷ y ∷ drop 2 list) ≡ middle_of t list
 middle_after_second t x y list some = middle_is t (x ∷ y ∷ drop 2 list) some ∙ sym (middle_is t list some)
 
@@ -68,7 +68,7 @@ window_before k m a b window is below_a below_b other lacks_a lacks_b =
           (AllPairs-cons (λ x y. x ≢ y) b window (lacks b lacks_b) is.distinct);
     }
 
--- the first two identifiers of a window after the others, in one order or the other
+-- the first two identifiers of a window moved to its end, in one of the two orders
 pub window_moved : (k m i j : ℕ) (window : List ℕ) → IsWindow (k + 2) m window → i < 2 → j < 2 → i ≢ j
     → IsWindow (k + 2) m (drop 2 window ++ get_or window i 0 ∷ get_or window j 0 ∷ [])
 window_moved k m i j window is in_i in_j differ =
@@ -104,17 +104,17 @@ window_moved k m i j window is in_i in_j differ =
     get_or_front base front last l d within =
         sym (get_or-take (length front) (front ++ last ∷ []) l d within) ∙ ap (λ p. get_or p l d) (take_at front (last ∷ []) (length front) refl)
 
--- the window that a list begins with
+-- the window at the start of a list
 pub begins_is : (t : ChannelTable) (list : List ℕ) → 1 ≤ t.rounds → 2 ≤ length list
     → take (2 * t.rounds + 1) list ≡ get_or list 0 0 ∷ get_or list 1 0 ∷ middle_of t list
 begins_is t list some long =
     ap (take (2 * t.rounds + 1)) (by_first list long) ∙ begins_after_second t (get_or list 0 0) (get_or list 1 0) list some
 
--- the identifiers between the first two and the last two of a list, as the code cuts them out
+-- the middle of a list, as the code slices it
 pub middle_cut : (t : ChannelTable) (list : List ℕ) (len : ℕ) → 1 ≤ t.rounds → len ≡ shared_len t → take len (drop 2 list) ≡ middle_of t list
 middle_cut t list len some len_is = ap (λ n. take n (drop 2 list)) len_is ∙ sym (middle_is t list some)
 
--- a window's first two identifiers differ and do not stand after them
+-- a window's first two identifiers differ and are not among the others
 pub before_window : (k m a b : ℕ) (window : List ℕ) → IsWindow (k + 2) m (a ∷ b ∷ window) → (a ≢ b) × (¬ Contains window a) × (¬ Contains window b)
 before_window k m a b window is =
     let size = is.size in
@@ -126,7 +126,7 @@ before_window k m a b window is =
           (sym (sym (later at'.0) ∙ get_or_default window at'.0 0 b at'.1 ∙ at'.2)),
     )
 
--- the last window of a list after two identifiers were written over its last two
+-- the last window of a list after its last two identifiers were replaced
 pub last_is : (t : ChannelTable) (list moved : List ℕ) (x y len : ℕ) → 1 ≤ t.rounds → length list ≡ 2 * t.rounds + 3
     → moved ≡ take (length list - 2) list ++ x ∷ y ∷ [] → len ≡ 2 * t.rounds + 1 → take len (drop 2 moved) ≡ middle_of t list ++ x ∷ y ∷ []
 last_is t list moved x y len some long moved_is len_is =
@@ -140,7 +140,7 @@ last_is t list moved x y len some long moved_is len_is =
     length-append (middle_of t list) ends ∙ (let own : length (drop 2 begun) + 2 ≡ 2 * t.rounds + 1 = omega (arith, length-drop 2 begun) in own) in
     ap (take len) rest ∙ take_all len (middle_of t list ++ ends) (omega arith)
 
--- what a list begins with does not change by that
+-- that does not change the start of the list
 pub front_kept : (t : ChannelTable) (list moved : List ℕ) (x y : ℕ) → length list ≡ 2 * t.rounds + 3
     → moved ≡ take (length list - 2) list ++ x ∷ y ∷ [] → take (2 * t.rounds + 1) moved ≡ take (2 * t.rounds + 1) list
 front_kept t list moved x y long moved_is =
@@ -149,7 +149,7 @@ front_kept t list moved x y long moved_is =
     ap (take (2 * t.rounds + 1)) (moved_is ∙ ap (λ n. take n list ++ x ∷ y ∷ []) front)
     ∙ take_at begun (x ∷ y ∷ []) (2 * t.rounds + 1) (length-take-le (2 * t.rounds + 1) list (omega arith))
 
--- the first two identifiers of a list after those in its middle
+-- the middle of a list followed by its first two identifiers
 pub moved_window : (t : ChannelTable) (list : List ℕ) (i j : ℕ) → 1 ≤ t.rounds → IsWindow (2 * t.rounds + 1) t.ids (take (2 * t.rounds + 1) list)
     → i < 2 → j < 2 → i ≢ j → IsWindow (2 * t.rounds + 1) t.ids (middle_of t list ++ get_or list i 0 ∷ get_or list j 0 ∷ [])
 moved_window t list i j some is in_i in_j differ =
@@ -161,14 +161,14 @@ moved_window t list i j some is in_i in_j differ =
     (subst (λ x. IsWindow (shared_len t + 2) t.ids (drop 2 begun ++ get_or list i 0 ∷ x ∷ [])) (read j in_j)
     (subst (λ x. IsWindow (shared_len t + 2) t.ids (drop 2 begun ++ x ∷ get_or begun j 0 ∷ [])) (read i in_i) moved))
 
--- those in the middle of a list that begins with a window
+-- the middle of a list that begins with a window
 pub middle_window : (t : ChannelTable) (list : List ℕ) → 1 ≤ t.rounds → IsWindow (2 * t.rounds + 1) t.ids (take (2 * t.rounds + 1) list)
     → IsWindow (shared_len t) t.ids (middle_of t list)
 middle_window t list some is =
     let size : 2 * t.rounds + 1 ≡ 2 + shared_len t = omega arith in
     window_drop (shared_len t) t.ids 2 (take (2 * t.rounds + 1) list) (subst (λ k. IsWindow k t.ids (take (2 * t.rounds + 1) list)) size is)
 
--- a list begins with a window where its first two identifiers differ and do not stand in its middle
+-- a list begins with a window if its first two identifiers differ and are not in its middle
 pub window_of_begun : (t : ChannelTable) (list : List ℕ) → 1 ≤ t.rounds → 2 ≤ length list → get_or list 0 0 < t.ids → get_or list 1 0 < t.ids
     → IsWindow (shared_len t) t.ids (middle_of t list) → get_or list 0 0 ≢ get_or list 1 0 → ¬ Contains (middle_of t list) (get_or list 0 0)
     → ¬ Contains (middle_of t list) (get_or list 1 0) → IsWindow (2 * t.rounds + 1) t.ids (take (2 * t.rounds + 1) list)
@@ -178,7 +178,7 @@ window_of_begun t list some long below_a below_b middle differ lacks_a lacks_b =
     (subst (λ k. IsWindow k t.ids (get_or list 0 0 ∷ get_or list 1 0 ∷ middle_of t list)) size
     (window_before (shared_len t) t.ids (get_or list 0 0) (get_or list 1 0) (middle_of t list) middle below_a below_b differ lacks_a lacks_b))
 
--- and only there
+-- and only if they do
 pub begun_of_window : (t : ChannelTable) (list : List ℕ) → 1 ≤ t.rounds → 2 ≤ length list
     → IsWindow (2 * t.rounds + 1) t.ids (take (2 * t.rounds + 1) list)
     → (get_or list 0 0 ≢ get_or list 1 0) × (¬ Contains (middle_of t list) (get_or list 0 0)) × (¬ Contains (middle_of t list) (get_or list 1 0))

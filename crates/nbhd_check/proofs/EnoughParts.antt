@@ -1,9 +1,9 @@
--- Parts that have all tuples together.
+-- Parts that cover all tuples.
 use Rattle.std.proofs.Common.{◌≡◌, ℕ, ◌+◌, ◌*◌, ◌/◌, ◌%◌, ◌<◌, ◌≤◌, max, min, ap, ◌∙◌, arith}
 use Rattle.std.proofs.Math.Nat.{mul-le-mul_right, mul_comm, mul_assoc}
 use Rattle.std.proofs.lemmas.Grind.{div_ceil_times}
 
--- so many parts of whole runs have all tuples, where a part has at least that share of the windows
+-- `most` parts of whole runs cover all tuples, if each part has at least that share of the windows
 pub enough_parts : (windows free most need : ℕ) → 0 < most → windows * free ≤ most * (max (windows / most + min 1 (windows % most)) need * free)
 enough_parts windows free most need some =
     let runs = windows / most + min 1 (windows % most) in

@@ -1,4 +1,4 @@
--- Whether a tuple that begins with a window has a third window that is too close, by counts.
+-- Counts decide whether a tuple that begins with a window has a third window that is too close.
 use Rattle.std.proofs.Common.{◌≡◌, ◌≢◌, ℕ, ◌+◌, ◌*◌, ◌<◌, ◌≤◌, ◌⊎◌, Bool, true, false, not, ◌&&◌, ◌||◌, eqb, nat_lt, List, [], ◌∷◌, ◌++◌, length, get_or, take, drop, slice_get, count_by, Some, subst, sym, ap, ◌∙◌, arith, refl, inl, inr, ⊎_elim}
 use Rattle.std.specs.Int.{abs_diff}
 use Rattle.std.specs.List.{range_with_len}
@@ -28,7 +28,7 @@ own_true p a b passed no_a no_b = rw (passed, no_a, no_b) refl
 held_always : (t : ChannelTable) (k : ℕ) → is_held t t.ids k ≡ true
 held_always t k = rw (eq-eqb t.ids t.ids refl) refl
 
--- what a window holds as one of its last two identifiers
+-- an identifier that a window does not hold as one of its last two
 not_held : (t : ChannelTable) (x k : ℕ) (window : List ℕ) → slice_get (windows_of t) k ≡ Some window → x ≢ t.ids
     → x ≢ get_or window (shared_len t) 0 → x ≢ get_or window (shared_len t + 1) 0 → is_held t x k ≡ false
 not_held t x k window item below one two =
@@ -48,7 +48,7 @@ held_at t x k window item below is =
     (or_cases (eqb x one) (eqb x two) held)
 
 module _ (laws : WindowsAreNumbered) where
-  -- a window of the block that holds two identifiers has them in one order or the other
+  -- a window of the block that holds two identifiers has them in one of the two orders
   two_orders :
       (t : ChannelTable) (z : List ℕ) (a b first n i j : ℕ) → 1 ≤ t.rounds → IsBlock t z first n → a ≢ t.ids → b ≢ t.ids → a ≢ b
       → slice_get (windows_of t) i ≡ Some (z ++ a ∷ b ∷ []) → slice_get (windows_of t) j ≡ Some (z ++ b ∷ a ∷ [])
@@ -81,8 +81,9 @@ module _ (laws : WindowsAreNumbered) where
       (held_at t b k window item in_b has_b))
       (held_at t a k window item in_a has_a)
 
-  -- The third windows that are close to the channel and hold neither of the window's first two identifiers, counted: all that are close, less those that
-  -- hold the one and those that hold the other, and once more those with both, which are two windows at most.
+  -- The number of third windows that are close to the channel and hold neither of the window's first two identifiers:
+  -- all that are close, less those that hold the one and those that hold the other, plus those with both, which are at
+  -- most two.
   pub none_far :
       (t : ChannelTable) (distance channel first n i j most_i most_j : ℕ) (window : List ℕ) → 1 ≤ t.rounds
       → IsWindow (2 * t.rounds + 1) t.ids window → channel_of t window ≡ Some channel → IsBlock t (drop 2 window) first n

@@ -1,4 +1,4 @@
--- Which windows begin no tuple with a close third window, and the blocks of these third windows.
+-- Windows that begin no tuple with a close third window, and the blocks of these third windows.
 use Rattle.std.proofs.Common.{◌≡◌, ℕ, ◌+◌, ◌-◌, ◌*◌, ◌/◌, ◌<◌, ◌≤◌, ◌⊎◌, List, [], ◌∷◌, length, get_or, take, drop, slice_get, Some, subst, sym, ap, ◌∙◌, arith, refl, inl, inr, ⊎_elim}
 use Rattle.std.proofs.Math.Nat.{mul-div_cancel_left, one-mul}
 use Rattle.std.proofs.lemmas.Bool.{cases_lt}
@@ -29,7 +29,7 @@ free_in_two t distance a b less first second both le_a le_b split free_a free_b 
     (split number window item own)
 
 module _ (laws : WindowsAreNumbered) where
-  -- the windows that begin with the list of identifiers that two windows share
+  -- the windows that begin with a list of shared identifiers
   pub block_is : (t : ChannelTable) (z : List ℕ) (number count : ℕ) → 1 ≤ t.rounds → slice_get (shared_lists t) number ≡ Some z
       → count ≡ falling (t.ids - shared_len t) 2 → number * count + count ≤ length (windows_of t) → IsBlock t z (number * count) count
   block_is t z number count some item count_is within =
@@ -52,13 +52,13 @@ module _ (laws : WindowsAreNumbered) where
             same_Some (take shared window) z (sym run.front_at ∙ ap (slice_get (windows shared t.ids)) same ∙ item);
       }
 
-  -- a list that is no window is none that was found
+  -- a list that is not a window is not one of the windows
   pub none_at : (t : ChannelTable) (distance least : ℕ) (list : List ℕ) → ¬ IsWindow (2 * t.rounds + 1) t.ids list
       → AreFarFreeIn t distance least (λ window. window ≡ list)
   none_at t distance least list none number window below item own =
       absurd (none (subst (IsWindow (2 * t.rounds + 1) t.ids) own (window_at laws (2 * t.rounds + 1) t.ids number window item)))
 
-  -- one second identifier more
+  -- one more second identifier
   pub more_seconds :
       (t : ChannelTable) (distance first second least less : ℕ) (z list : List ℕ) → 1 ≤ t.rounds → less ≤ least → list ≡ first ∷ second ∷ z
       → AreFarFreeIn t distance least (λ window. (get_or window 0 0 ≡ first) × (get_or window 1 0 < second) × (drop 2 window ≡ z))

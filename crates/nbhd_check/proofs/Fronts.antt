@@ -1,4 +1,4 @@
--- Windows by the windows that they begin with.
+-- Windows and the windows that they begin with.
 use Rattle.std.proofs.Common.{◌≡◌, ◌≢◌, ℕ, zero, suc, ◌+◌, ◌-◌, ◌*◌, ◌<◌, ◌≤◌, Option, List, [], ◌∷◌, ◌++◌, get_or, take, drop, slice_get, Some, None, IsSome, subst, sym, ap, ◌∙◌, arith, refl, ⊎_elim, length-drop}
 use Rattle.std.proofs.Math.Nat.{suc-mul, add-mul, mul_assoc, mul-le-mul_right}
 use Rattle.std.proofs.lemmas.Bool.{cases_lt, false≢true}
@@ -11,7 +11,7 @@ use Rattle.win_index.specs.Windows.{windows, number_of, IsWindow}
 use Rattle.nbhd_check.specs.Laws.{WindowsAreNumbered}
 use Rattle.nbhd_check.specs.Runs.{place_of_last}
 
--- a list that has a number stands at it
+-- a list with a number
 pub some_number : (o : Option ℕ) → IsSome o → (n : ℕ) × (o ≡ Some n)
 some_number (Some n) is = (n, refl)
 some_number None is = absurd (false≢true is)
@@ -42,7 +42,7 @@ window_drop k m j list is =
           (sym (get_or-drop j list a d) ∙ same ∙ get_or-drop j list b d);
     }
 
--- a window without its first identifiers, one of which comes last instead
+-- a window without its first identifiers, followed by one of these
 pub window_turned :
     (k m offset i : ℕ) (list : List ℕ) → IsWindow (k + offset) m list → i < offset
     → IsWindow (k + 1) m (drop offset list ++ get_or list i 0 ∷ [])
@@ -61,7 +61,7 @@ window_turned k m offset i list is lt =
           (sym same ∙ get_or-drop offset list j d ∙ get_or_default list (offset + j) d 0 (omega arith)));
     }
 
--- a number is at one place of one run
+-- a number is at one index of one run
 pub one_run : (c place rest number n : ℕ) → rest < c → n ≡ place * c + rest → number * c ≤ n → n < number * c + c → place ≡ number
 one_run c place rest number n short is from to =
     ⊎_elim
@@ -108,7 +108,7 @@ module _ (laws : WindowsAreNumbered) where
       let numbered = some_number (number_of k m window) ((laws.has_number k m window).1 is) in
       (numbered.0, laws.item_of k m numbered.0 window numbered.1)
 
-  -- and stands at it alone
+  -- and it is the only one
   pub one_number :
       (k m i j : ℕ) (window : List ℕ) → slice_get (windows k m) i ≡ Some window → slice_get (windows k m) j ≡ Some window → i ≡ j
   one_number k m i j window at_i at_j = same_Some i j (sym (laws.number_at k m i window at_i) ∙ laws.number_at k m j window at_j)
@@ -129,7 +129,7 @@ module _ (laws : WindowsAreNumbered) where
         number_is = one_number (k + 1) m n (front.0 * (m - k) + place_of_last k longer) longer at' numbered.1;
       }
 
-  -- windows that begin with one window and whose last identifiers have one place are the same
+  -- windows with the same start and the same index of the last identifier are the same
   pub same_from_place :
       (k m : ℕ) (a b : List ℕ) → IsWindow (k + 1) m a → IsWindow (k + 1) m b → take k a ≡ take k b
       → place_of_last k a ≡ place_of_last k b → a ≡ b
@@ -139,7 +139,7 @@ module _ (laws : WindowsAreNumbered) where
       let second = laws.longer_number k m front.0 b is_b (front.1 ∙ ap Some fronts) in
       same_Some a b (sym first.1 ∙ ap (λ p. slice_get (windows (k + 1) m) (front.0 * (m - k) + p)) places ∙ second.1)
 
-  -- a window of more identifiers stands in the run of the window of k that it begins with
+  -- a longer window is in the run of the window of k identifiers that it begins with
   pub in_longer_run : (k m more n : ℕ) (longer : List ℕ) → slice_get (windows (k + more) m) n ≡ Some longer → InLongerRun k m more n longer
   in_longer_run k m zero n longer at' =
       let same : k + zero ≡ k = omega arith in

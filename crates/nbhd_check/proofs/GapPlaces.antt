@@ -1,20 +1,20 @@
--- Where close channels stand in a list, but for some places.
+-- The indices of close channels in a list, outside some gaps.
 use Rattle.std.proofs.Common.{◌≡◌, ℕ, ◌+◌, ◌-◌, ◌<◌, ◌≤◌, List, length, get_or, take, drop, All, AllPairs, Contains, subst, sym, ap, ◌∙◌, arith, ⊎_elim, length-drop}
 use Rattle.std.proofs.lemmas.Bool.{cases_lt}
 use Rattle.std.proofs.lemmas.List.{get_or-take, get_or-drop, get_or_default, length-take-le}
 use Rattle.std.specs.Int.{abs_diff}
 use Rattle.nbhd_check.specs.Runs.{HasClose, HasCloseOutside}
 
--- the first gaps are before a place, and the others are not
+-- the first gaps are before an index, and the others are not
 pub record ArePassed (gaps : List ℕ) (count from : ℕ) : Type 0 where
   pub before : (i : ℕ) → i < count → get_or gaps i 0 < from
   pub after : (i : ℕ) → count ≤ i → i < length gaps → from ≤ get_or gaps i 0
 
--- before a place such channels stand at gaps alone
+-- before an index only the gaps have close channels
 pub record NoneBefore (list gaps : List ℕ) (distance channel from : ℕ) : Type 0 where
   pub none : (place : ℕ) → place < from → ¬ Contains gaps place → ¬ (abs_diff channel (get_or list place 0) < distance)
 
--- one gap more
+-- one more gap
 pub passed_more :
     (gaps : List ℕ) (count from : ℕ) → AllPairs (λ a b. a < b) gaps → count < length gaps → ArePassed gaps count from
     → ArePassed gaps (count + 1) (get_or gaps count 0 + 1)
@@ -27,7 +27,7 @@ passed_more gaps count from rising within passed =
       after = λ i le lt. let more = rising count i 0 (omega arith) lt in omega arith;
     }
 
--- the part of the list from one place on and before another one
+-- the part of the list from one index on and before another
 pub found_between :
     (list gaps : List ℕ) (distance channel count from to : ℕ) → to ≤ length list → from ≤ to → ArePassed gaps count from
     → ((i : ℕ) → count ≤ i → i < length gaps → to ≤ get_or gaps i 0)
@@ -64,7 +64,7 @@ found_before_gap list gaps distance channel count from rising inside within pass
     (λ (le_own : i ≤ count). let same : i ≡ count = omega arith in omega (arith, ap (λ j. get_or gaps j 0) same))
     (cases_lt count i)) found
 
--- a place of a part of the list
+-- an index in a part of the list
 has_close_between :
     (list : List ℕ) (distance channel from to place : ℕ) → to ≤ length list → from ≤ place → place < to
     → abs_diff channel (get_or list place 0) < distance → HasClose (take (to - from) (drop from list)) distance channel
@@ -88,7 +88,7 @@ none_between list gaps distance channel from to within order earlier none =
           (cases_lt place from);
     }
 
--- and the gap itself
+-- and at the gap itself
 pub none_at_gap :
     (list gaps : List ℕ) (distance channel count : ℕ) → count < length gaps → NoneBefore list gaps distance channel (get_or gaps count 0)
     → NoneBefore list gaps distance channel (get_or gaps count 0 + 1)
@@ -102,7 +102,7 @@ none_at_gap list gaps distance channel count within earlier =
           (cases_lt place (get_or gaps count 0));
     }
 
--- a close channel that is not before a place stands after it
+-- a close channel that is not before an index is after it
 pub found_after :
     (list gaps : List ℕ) (distance channel from : ℕ) → NoneBefore list gaps distance channel from → HasCloseOutside list gaps distance channel
     → HasClose (take (length list - from) (drop from list)) distance channel

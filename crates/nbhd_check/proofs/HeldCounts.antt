@@ -16,7 +16,7 @@ pub count_few : (t : ChannelTable) (first n x : ℕ) (passes : ℕ → Bool) →
 count_few t first n x passes =
     omega (arith, count_by-le-length (λ k. passes (get_or t.entries k 0) && is_held t x k) (range_with_len first n), length-range_with_len first n)
 
--- a channel below a limit is the one before it, or it is below that one
+-- a channel below a limit is the last one below it, or it is below that one
 one_step : (row e : ℕ) (h : Bool) → 1 ≤ row → cond (eqb row (e + 1) && h) 1 0 + cond (ltb e (row - 1) && h) 1 0 ≡ cond (ltb e row && h) 1 0
 one_step row e true some =
     ⊎_elim
@@ -81,7 +81,7 @@ close_of_sums t first n x channel distance low high most some below low_is high_
     (λ k. one_close channel distance low high (get_or t.entries k 0) most (is_held t x k) some (below k) low_is high_is) in
     omega arith
 
--- the marks of a window: its last two identifiers, and the number of identifiers
+-- the three marks of a window: its last two identifiers, and the number of identifiers
 one_mark : (a p q r : Bool) → (p && q ≡ false) → (p && r ≡ false) → (q && r ≡ false)
     → cond (a && q) 1 0 + cond (a && r) 1 0 + cond (a && p) 1 0 ≡ cond (a && (p || (q || r))) 1 0
 one_mark true true true r none_pq none_pr none_qr = absurd (false≢true (sym none_pq))
@@ -104,7 +104,7 @@ not_both x y z other =
     (λ (no : (eqb x y ≡ false) × (x ≢ y)). rw no.0 refl)
     (eqb_tells x y)
 
--- one window more is counted in three cells of the row of its channel and one more
+-- one more window is counted in three cells of the row after that of its channel
 pub window_counted :
     (t : ChannelTable) (first number n x v channel one two : ℕ) (window : List ℕ) → first + n ≡ number
     → slice_get (windows_of t) number ≡ Some window → channel ≡ get_or t.entries number 0 → one ≡ shared_len t → two ≡ shared_len t + 1
@@ -126,7 +126,7 @@ window_counted t first number n x v channel one two window here item own one_is 
     ∙ (λ q. cond {A = ℕ} (eqb v (channel + 1) && (eqb x t.ids || (eqb x (get_or window (sym one_is q) 0) || eqb x (get_or window (sym two_is q) 0)))) 1 0) in
     omega (arith, held, marks, last)
 
--- each entry of a table, and what is read past the last one, is a channel
+-- each entry of a table is a channel, and so is what is read past the last one
 pub entries_below : (entries : List ℕ) (most : ℕ) → 1 ≤ most → All (λ c. c < most) entries → (k : ℕ) → get_or entries k 0 < most
 entries_below entries most some below k =
     ⊎_elim
@@ -134,7 +134,7 @@ entries_below entries most some below k =
     (λ (past : length entries ≤ k). omega (arith, get_or_past entries k 0 past))
     (cases_lt k (length entries))
 
--- the row of a window's channel stands in the cells
+-- the row of a window's channel is within the cells
 pub row_within : (t : ChannelTable) (number row len room : ℕ) → row ≡ get_or t.entries number 0 + 1 → len ≡ room → number < length t.entries
     → All (λ channel. (channel + 2) * (t.ids + 1) ≤ room) t.entries → (row + 1) * (t.ids + 1) ≤ len
 row_within t number row len room row_is len_is within rows =

@@ -1,10 +1,11 @@
--- Inclusion and exclusion, and counts over numbers that follow one another.
+-- Inclusion and exclusion, and counts over consecutive numbers.
 use Rattle.std.proofs.Common.{◌≡◌, ℕ, zero, suc, ◌+◌, ◌<◌, ◌≤◌, ◌⊎◌, Bool, true, false, not, ◌&&◌, cond, List, [], ◌∷◌, count_by, subst, sym, add_assoc, ap, ◌∙◌, arith, add-one, refl, ⊎_elim}
 use Rattle.std.specs.List.{range_with_len}
 use Rattle.std.proofs.lemmas.List.Sums.{sum_by-cons}
 use Rattle.std.proofs.lemmas.Bool.{cases_lt, cases_Bool}
 
--- of those that pass, the ones with neither mark, the ones with the first and the ones with the second are all and, once more, those with both
+-- of those that pass: the ones with neither mark, with the first and with the second are as many as all and, once more,
+-- those with both
 one_included : (p a b : Bool)
     → cond (p && (not a && not b)) 1 0 + cond (p && a) 1 0 + cond (p && b) 1 0 ≡ cond p 1 0 + cond (p && (a && b)) 1 0
 one_included true true true = refl
@@ -19,11 +20,12 @@ one_included false false false = refl
 count_cons : {X : Type 0} (p : X → Bool) (k : X) (list : List X) → count_by p (k ∷ list) ≡ cond (p k) 1 0 + count_by p list
 count_cons p k list = sum_by-cons (λ x. cond (p x) 1 0) k list
 
--- the first of the numbers, and the others
+-- the first number, and the others
 count_step : (p : ℕ → Bool) (first n : ℕ) → count_by p (range_with_len first (suc n)) ≡ cond (p first) 1 0 + count_by p (range_with_len (first + 1) n)
 count_step p first n = count_cons p first (range_with_len (first + 1) n)
 
--- two tests of which each number passes at most one, and a third one that it passes where it passes one of these
+-- two tests, of which each number passes at most one, and a third test that is passed by the numbers that pass one of
+-- these
 pub count_sum :
     (p q r : ℕ → Bool) (list : List ℕ) → ((k : ℕ) → cond (p k) 1 0 + cond (q k) 1 0 ≡ cond (r k) 1 0)
     → count_by p list + count_by q list ≡ count_by r list
@@ -33,7 +35,7 @@ count_sum p q r (k ∷ list) one =
     let rest = count_sum p q r list one in
     omega (arith, count_cons p k list, count_cons q k list, count_cons r k list)
 
--- in a list, too
+-- the same for a list
 pub included :
     {X : Type 0} (p a b : X → Bool) (list : List X)
     → count_by (λ k. p k && (not (a k) && not (b k))) list + count_by (λ k. p k && a k) list + count_by (λ k. p k && b k) list
@@ -51,7 +53,7 @@ included p a b (k ∷ list) =
       count_cons (λ k. p k && (a k && b k)) k list,
     )
 
--- the numbers from first on, one more
+-- one more number
 pub count_more : (p : ℕ → Bool) (first n : ℕ) → count_by p (range_with_len first (n + 1)) ≡ count_by p (range_with_len first n) + cond (p (first + n)) 1 0
 count_more p first n = rw (add-one n) (longer p first n)
   where
@@ -81,7 +83,7 @@ count_some p first (suc n) k from to is =
     subst (λ m. 1 ≤ m) (sym (count_step p first n)) (omega arith))
     (cases_lt first k)
 
--- where only two numbers may pass, no more than these are counted
+-- if only two numbers can pass, at most these are counted
 pub count_two :
     (p : ℕ → Bool) (i j most_i most_j first n : ℕ) → ((k : ℕ) → first ≤ k → k < first + n → p k ≡ true → (k ≡ i) ⊎ (k ≡ j))
     → (first ≤ i → p i ≡ true → 1 ≤ most_i) → (first ≤ j → p j ≡ true → 1 ≤ most_j)
@@ -108,7 +110,7 @@ count_two p i j most_i most_j first (suc n) only of_i of_j =
     subst (λ m. m ≤ most_i + most_j) (sym (count_step p first n)) (omega arith))
     (cases_Bool (p first))
 
--- none passes that has neither mark, where those with one mark are as many as all and those with both
+-- none without a mark passes, if those with one mark are as many as all and those with both
 pub none_without :
     (p a b : ℕ → Bool) (first n i j most_i most_j k : ℕ)
     → ((k : ℕ) → first ≤ k → k < first + n → p k && (a k && b k) ≡ true → (k ≡ i) ⊎ (k ≡ j))

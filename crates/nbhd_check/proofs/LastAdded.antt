@@ -1,11 +1,11 @@
--- A window with one identifier more at its end.
+-- A window followed by one more identifier.
 use Rattle.std.proofs.Common.{◌≡◌, ◌≢◌, ℕ, ◌+◌, ◌<◌, List, [], ◌∷◌, ◌++◌, length, set, take, drop, Contains, ap, ◌∙◌, arith, length-append, length-drop}
 use Rattle.std.proofs.lemmas.List.{take_more_set, take_at, get_or_default, length_push}
 use Rattle.std.proofs.lemmas.List.Elements.{All-push}
 use Rattle.std.proofs.lemmas.List.Quantifiers.{all_pairs_push}
 use Rattle.win_index.specs.Windows.{IsWindow}
 
--- what the cells hold after the window and the identifier were written into them
+-- the cells after the window and the identifier were written to them
 pub written : (n id : ℕ) (window copied rest : List ℕ) → copied ≡ window → length window ≡ n → n < length (copied ++ rest)
     → take (n + 1) (set (copied ++ rest) n id) ≡ window ++ id ∷ []
 written n id window copied rest same size within =
@@ -13,7 +13,7 @@ written n id window copied rest same size within =
     ∙ ap (λ l. l ++ id ∷ []) (take_at copied rest n (ap length same ∙ size))
     ∙ ap (λ l. l ++ id ∷ []) same
 
--- there is room for both
+-- the cells have space for both
 pub room : (n : ℕ) (copied cells : List ℕ) → length copied ≡ n → n < length cells → n < length (copied ++ drop n cells)
 room n copied cells size within = omega (arith, length-append copied (drop n cells), length-drop n cells)
 

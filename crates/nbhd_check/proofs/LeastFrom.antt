@@ -14,7 +14,7 @@ none_in_both t s low high before after n tuple ge lt item =
     (λ (more : low ≤ n). after n tuple more lt item)
     (cases_lt n low)
 
--- what is found from a number on, before which no tuple is bad, is the least of all
+-- if no tuple before a number is bad, the least one found from there on is the least
 pub least_from_low : (t : ChannelTable) (s : Separation) (low high : ℕ) (found : Option ℕ) → NoneIsBad t s 0 low → IsLeastIn t s low high found
     → IsLeastIn t s 0 high found
 least_from_low t s low high None before after = none_in_both t s low high before after
@@ -32,7 +32,7 @@ least_from_low t s low high (Some n) before after =
       ),
     )
 
--- the number of the window that a tuple begins with
+-- the number of the window at the start of a tuple
 pub quotient_below : (n k count : ℕ) → n < count * k → n / k < count
 quotient_below n zero count lt = absurd (omega (arith, mul-zero count))
 quotient_below n (suc k) count lt = (div-lt_iff_lt-mul {k = suc k} {x = n} {y = count} (omega arith)).1 lt

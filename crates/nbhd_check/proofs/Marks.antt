@@ -1,4 +1,4 @@
--- Parts that are marked.
+-- Marked parts.
 use Rattle.std.proofs.Common.{◌≡◌, ℕ, zero, suc, false, get_or, replicate, sym, ◌∙◌, refl}
 use Rattle.std.proofs.lemmas.Bool.{false≢true}
 use Rattle.table_fill.specs.Tables.{ChannelTable}
@@ -10,6 +10,6 @@ unmarked zero part = refl
 unmarked (suc n) zero = refl
 unmarked (suc n) (suc part) = unmarked n part
 
--- where none is marked, nothing is said
+-- marks with no part marked
 pub none_marked : (t : ChannelTable) (s : Separation) (len n : ℕ) → AreGoodParts t s len (replicate n false)
 none_marked t s len n = λ part marked. absurd (false≢true (sym (unmarked n part) ∙ marked))

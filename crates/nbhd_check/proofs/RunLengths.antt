@@ -1,4 +1,4 @@
--- How many tuples begin with one window.
+-- The number of tuples that begin with one window.
 use Rattle.std.proofs.Common.{◌≡◌, ℕ, zero, suc, ◌+◌, ◌-◌, ◌*◌, length, sym, ap, ◌∙◌, arith, refl}
 use Rattle.std.proofs.Math.Nat.{mul_assoc, one-mul, mul-one}
 use Rattle.win_index.specs.Falling.{falling}
@@ -8,7 +8,7 @@ use Rattle.nbhd_check.specs.declared.separation.Separation.{Separation}
 use Rattle.nbhd_check.specs.Apart.{extra, tuples}
 use Rattle.nbhd_check.specs.Runs.{run_len}
 
--- a product of more numbers, by its first ones and the others
+-- a falling product, by its first factors and the others
 pub falling-add : (m k more : ℕ) → falling m (k + more) ≡ falling m k * falling (m - k) more
 falling-add m k zero =
     let same : k + zero ≡ k = omega arith in

@@ -18,7 +18,7 @@ use Rattle.nbhd_check.proofs.Close.{close_along}
 use Rattle.nbhd_check.proofs.Tuples.{two_of_far}
 use Rattle.nbhd_check.proofs.Fronts.{number_of_window, one_number, window_take, window_drop, window_turned, one_run, in_run, in_longer_run, same_from_place, window_at}
 
--- the identifiers of a list but for the first ones, and then one of these again
+-- the identifiers of a list without the first ones, followed by one of these
 turned_front : (k m offset i : ℕ) (list : List ℕ) → IsWindow (k + offset) m list → take k (drop offset list ++ get_or list i 0 ∷ []) ≡ drop offset list
 turned_front k m offset i list is =
     let size = is.size in
@@ -29,7 +29,7 @@ turned_last k m offset i list is =
     let size = is.size in
     get_or_push (drop offset list) (get_or list i 0) 0 k (omega (arith, length-drop offset list))
 
--- its place is that of this identifier among those that the others lack
+-- the index of that last identifier is the one among the identifiers that the others lack
 turned_place :
     (k m offset i : ℕ) (list : List ℕ) → IsWindow (k + offset) m list
     → place_of_last k (drop offset list ++ get_or list i 0 ∷ []) ≡ length (unused (get_or list i 0) (drop offset list))
@@ -37,18 +37,18 @@ turned_place k m offset i list is =
     ap (λ x. length (unused x (take k (drop offset list ++ get_or list i 0 ∷ [])))) (turned_last k m offset i list is)
     ∙ ap (λ front. length (unused (get_or list i 0) front)) (turned_front k m offset i list is)
 
--- where a window stands that begins with a front
+-- the number of a window that begins with a list
 stands_in_run :
     (k m start : ℕ) (front window : List ℕ) → IsRunStart k m front start → IsWindow (k + 1) m window → take k window ≡ front
     → slice_get (windows (k + 1) m) (start + place_of_last k window) ≡ Some window
 stands_in_run k m start front window run is begins =
     ap (λ l. slice_get (windows (k + 1) m) (start + length (unused (get_or window k 0) l))) begins ∙ run.each window is begins
 
--- the gaps are the places of the first identifiers among those that the others lack
+-- the gaps are the indices of the first identifiers among those that the others lack
 pub record AreGaps (k offset : ℕ) (list gaps : List ℕ) : Type 0 where
   pub each : (gap : ℕ) → Contains gaps gap → (i : ℕ) × (i < offset) × (gap ≡ length (unused (get_or list i 0) (drop offset list)))
 
--- a gap is a place of the run
+-- a gap is an index of the run
 pub gap_inside :
     (t : ChannelTable) (list channels : List ℕ) (offset i : ℕ) → IsWindow (2 * t.rounds + offset) t.ids list → i < offset
     → AreChannelsAfter t (drop offset list) channels → length (unused (get_or list i 0) (drop offset list)) < length channels
@@ -59,7 +59,7 @@ gap_inside t list channels offset i is lt after =
     let short = found.0 in
     omega (arith, turned_place k t.ids offset i list is)
 
--- the identifiers of a list but for the first ones, as the code cuts them out
+-- the identifiers of a list without the first ones, as the code slices them
 pub cut_front : (offset : ℕ) (list : List ℕ) → take (length list - offset) (drop offset list) ≡ drop offset list
 cut_front offset list = take_all (length list - offset) (drop offset list) (omega (arith, length-drop offset list))
 
@@ -71,7 +71,7 @@ front_window k m offset list j ids is j_is ids_is =
     rw (j_is, ids_is, cut_front offset list) (window_drop k m offset list (subst (λ n. IsWindow n m list) swapped is))
 
 module _ (laws : WindowsAreNumbered) where
-  -- identifiers that stand at two places have two gaps
+  -- different first identifiers have different gaps
   pub gaps_differ :
       (k m offset i j : ℕ) (list : List ℕ) → IsWindow (k + offset) m list → i < j → j < offset
       → length (unused (get_or list i 0) (drop offset list)) ≢ length (unused (get_or list j 0) (drop offset list))
@@ -85,7 +85,7 @@ module _ (laws : WindowsAreNumbered) where
       is.distinct i j 0 lt (omega arith)
       (sym (turned_last k m offset i list is) ∙ ap (λ l. get_or l k 0) equal ∙ turned_last k m offset j list is)
 
-  -- where no close channel stands outside the gaps, none is close
+  -- if no close channel is outside the gaps, none is close
   pub none_close_after :
       (t : ChannelTable) (list channels gaps : List ℕ) (offset distance channel : ℕ) → IsWindow (2 * t.rounds + offset) t.ids list
       → AreChannelsAfter t (drop offset list) channels → AreGaps (2 * t.rounds) offset list gaps
@@ -121,7 +121,7 @@ module _ (laws : WindowsAreNumbered) where
       (sym first ∙ sym (turned_last k t.ids offset i list is) ∙ ap (λ l. get_or l k 0) (sym equal) ∙ last) in
       none (place, found.0, outside, near)
 
-  -- where with no identifier a third window is close, no tuple that begins with the window has a close one
+  -- if no third window is close after any identifier, no tuple that begins with the window has a close one
   pub none_begins_far :
       (t : ChannelTable) (distance channel : ℕ) (window : List ℕ) → channel_of t window ≡ Some channel
       → ((id : ℕ) → id < t.ids → ¬ Contains window id → NoneCloseAfter t (window ++ id ∷ []) 2 distance channel)
@@ -150,7 +150,7 @@ module _ (laws : WindowsAreNumbered) where
       after id (is.below (k + 1) 0 (omega arith)) other tuple longer front
       (close_along distance (part 0) (part 2) (Some channel) (part 2) first refl far.3)
 
-  -- where no second window and no third one is close, no tuple that begins with the window is bad
+  -- if no second window and no third one is close, no tuple that begins with the window is bad
   pub none_begins :
       (t : ChannelTable) (s : Separation) (window : List ℕ) (channel : ℕ) → channel_of t window ≡ Some channel
       → NoneCloseAfter t window 1 s.near channel → ¬ BeginsFarTuple t s.far window → ¬ BeginsBadTuple t s window
@@ -233,7 +233,7 @@ module _ (laws : WindowsAreNumbered) where
       let wide : count ≡ t.ids - 2 * t.rounds = omega arith in
       rw (entries_are, wide) (channels_after t list offset start some is starts full)
 
-  -- no tuple of a run is bad where none that begins with its window is
+  -- no tuple of a run is bad if none that begins with its window is
   pub none_in_run :
       (t : ChannelTable) (s : Separation) (window : List ℕ) (number from to : ℕ) → slice_get (windows_of t) number ≡ Some window
       → ¬ BeginsBadTuple t s window → number * run_len t s ≤ from → to ≤ number * run_len t s + run_len t s → NoneIsBad t s from to
@@ -247,7 +247,7 @@ module _ (laws : WindowsAreNumbered) where
       same_Some (take k tuple) window (sym run.front_at ∙ ap (slice_get (windows k t.ids)) same ∙ at') in
       none (tuple, window_at laws (k + extra s) t.ids n tuple item, front, bad)
 
-  -- no window begins a bad tuple where none is bad
+  -- no window begins a bad tuple if none is bad
   pub free_of_none :
       (t : ChannelTable) (s : Separation) (n count : ℕ) → NoneIsBad t s 0 n
       → ((m : ℕ) → m < length (tuples t s) → m < count * run_len t s → m < n) → AreFree t s count
@@ -264,7 +264,7 @@ module _ (laws : WindowsAreNumbered) where
       none numbered.0 tuple (omega arith)
       (few numbered.0 within (omega (arith, mul-le-mul_right (run_len t s) le, suc-mul run.number (run_len t s)))) numbered.1 bad.3
 
-  -- no tuple is bad that begins with one of so many windows that begin none
+  -- no tuple is bad that begins with one of the first windows, if these begin none
   pub none_of_free :
       (t : ChannelTable) (s : Separation) (n count : ℕ) → AreFree t s count → n ≤ count * run_len t s → NoneIsBad t s 0 n
   none_of_free t s n count free le m tuple ge lt item bad =
@@ -277,7 +277,7 @@ module _ (laws : WindowsAreNumbered) where
       (λ (past : count ≤ run.number). absurd (omega (arith, mul-le-mul_right (run_len t s) past)))
       (cases_lt run.number count)
 
-  -- no second window is close where no shorter tuple is bad by near
+  -- no second window is close if no tuple without a third window is bad
   next_of_free :
       (t : ChannelTable) (near channel : ℕ) (window : List ℕ) → channel_of t window ≡ Some channel
       → ¬ BeginsBadTuple t (record { near = near; far = 0 }) window → NoneCloseAfter t window 1 near channel

@@ -18,7 +18,7 @@ channel_some t window has_number is =
     let numbered = some_number (number_of (2 * t.rounds + 1) t.ids window) ((has_number (2 * t.rounds + 1) t.ids window).1 is) in
     subst (λ o. IsSome (option_map (λ n. get_or t.entries n 0) o)) (sym numbered.1) refl
 
--- far is not 0 where channels are closer than it, so that a tuple has a third window
+-- far is not 0 if channels are closer than far, so a tuple has a third window
 pub two_of_far : (s : Separation) (a b : Option ℕ) → AreClose s.far a b → 2 ≤ extra s
 two_of_far s a b close =
     let some = some_distance s.far a b close in
@@ -91,7 +91,7 @@ module _ (has_number : WindowsHaveNumbers) (item_of : WindowOfNumber) (number_at
   pub suffice : TuplesSuffice
   suffice t s = (everywhere_of_apart t s, apart_of_everywhere t s)
 
--- a table none of whose tuples is bad
+-- a table without a bad tuple
 pub none_is_apart :
     (t : ChannelTable) (s : Separation) (count : ℕ) → TuplesSuffice → count ≡ length (tuples t s) → NoneIsBad t s 0 count → IsApartEverywhere t s
 none_is_apart t s count suffice all none =
@@ -106,11 +106,11 @@ bad_is_not_apart t s n tuple suffice bad good =
 pub no_witness : TuplesSuffice → ApartTablesHaveNoWitness
 no_witness suffice t s ring places channels good w = bad_is_not_apart t s w.number ring suffice w.least good
 
--- no number stands before that of a least bad tuple
+-- no bad tuple has a lower number than the least one
 least : (t : ChannelTable) (s : Separation) (n k : ℕ) (x y : List ℕ) → IsLeastBad t s 0 n x → IsLeastBad t s 0 k y → n ≤ k
 least t s n k x y a b = let none : ¬ (k < n) = λ lt. a.least k y (omega arith) lt b.item b.bad in omega arith
 
--- a ring has one step
+-- the step of a ring is unique
 one_step : (t : ChannelTable) (s : Separation) (ring other : List ℕ) (i j : ℕ) → ring ≡ other → IsStep t s ring i → IsStep t s other j → i ≡ j
 one_step t s ring other i j same a b =
     let close : List ℕ → Type 0 = λ r. AreClose s.near (channel_of t (window_around r t.rounds t.rounds)) (channel_of t (window_around r t.rounds (t.rounds + 1))) in

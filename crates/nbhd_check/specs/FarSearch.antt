@@ -6,12 +6,12 @@ use Rattle.nbhd_check.specs.declared.far_parts.TheConstants.{MOST_FAR_PARTS}
 use Rattle.nbhd_check.specs.Counts.{shared_lists, CountsFit}
 use Rattle.nbhd_check.specs.Runs.{BeginsFarTuple}
 
--- so many windows, the first ones, begin no tuple whose third window is closer than the distance
+-- none of the first `count` windows begins a tuple whose third window is closer than the distance
 abbrev pub AreFarFree : ChannelTable → ℕ → ℕ → Type 0
 AreFarFree t distance count =
     (number : ℕ) (window : List ℕ) → number < count → slice_get (windows_of t) number ≡ Some window → ¬ BeginsFarTuple t distance window
 
--- of these windows, those that pass do not
+-- none of the first `count` windows that pass begins such a tuple
 abbrev pub AreFarFreeIn : ChannelTable → ℕ → ℕ → (List ℕ → Type 0) → Type 0
 AreFarFreeIn t distance count passes =
     (number : ℕ) (window : List ℕ) → number < count → slice_get (windows_of t) number ≡ Some window → passes window
@@ -22,12 +22,12 @@ abbrev pub HasBlockIn : ChannelTable → ℕ → ℕ → List ℕ → Type 0
 HasBlockIn t low high window =
     (block : ℕ) × (low ≤ block) × (block < high) × (slice_get (shared_lists t) block ≡ Some (drop 2 window))
 
--- how many blocks a part has: all blocks are in MOST_FAR_PARTS parts, of which the last ones may have fewer or none
+-- the number of blocks of a part: all blocks are in MOST_FAR_PARTS parts, of which the last can have fewer or none
 abbrev pub blocks_per_part : ChannelTable → ℕ
 blocks_per_part t = length (shared_lists t) / MOST_FAR_PARTS + 1
 
--- a searcher's counts fit the table; of the windows with a block in a part, so many as it has free there, the first ones of all,
--- begin no tuple whose third window is closer than the distance
+-- a searcher's counts fit the table; for each part, none of the windows below its number there that have a block in the
+-- part begins a tuple whose third window is closer than the distance
 pub record IsSearcherOf (t : ChannelTable) (distance : ℕ) (s : Searcher) : Type 0 where
   pub fit : CountsFit t s.counts
   pub free : (part : ℕ) → AreFarFreeIn t distance (slice_index s.free part)

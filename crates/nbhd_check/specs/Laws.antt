@@ -10,7 +10,7 @@ use Rattle.nbhd_check.specs.Apart.{extra, AreClose, IsBad, IsApart, IsApartEvery
 use Rattle.nbhd_check.specs.Proper.{IsProper, IsGoodEverywhere}
 use Rattle.nbhd_check.specs.Verdicts.{IsWitness}
 
--- the tuples of a table are apart where its channels are apart on every ring, and only there
+-- the tuples of a table are apart exactly if its channels are apart on every ring
 abbrev pub TuplesSuffice : Type 0
 TuplesSuffice = (t : ChannelTable) (s : Separation) → IsApart t s ↔ IsApartEverywhere t s
 
@@ -23,11 +23,11 @@ BadTuplesAreRings =
     IsRing table.ids t tuple
     × (AreClose s.near (channel_at t) (channel_at (t + 1)) ⊎ AreClose s.far (channel_at t) (channel_at (t + 2)))
 
--- with near 1 and far 0 the tuples of a proper table are apart, and only they
+-- with near 1 and far 0 the tuples of a table are apart exactly if it is proper
 abbrev pub OneApartIsProper : Type 0
 OneApartIsProper = (t : ChannelTable) → IsApart t (record { near = 1; far = 0 }) ↔ IsProper t
 
--- and its channels are apart on every ring where those of neighbours differ
+-- and its channels are apart on every ring exactly if those of neighbours differ on every ring
 abbrev pub OneApartIsGood : Type 0
 OneApartIsGood = (t : ChannelTable) → IsApartEverywhere t (record { near = 1; far = 0 }) ↔ IsGoodEverywhere t
 
@@ -42,7 +42,7 @@ abbrev pub ApartTablesHaveNoWitness : Type 0
 ApartTablesHaveNoWitness =
     (t : ChannelTable) (s : Separation) (ring : List ℕ) (places channels : ℕ × ℕ) → IsApartEverywhere t s → IsWitness t s ring places channels → ⊥
 
--- windows and their numbers determine each other, and the windows that begin with one window stand together
+-- windows and their numbers determine each other, and the windows that begin with one window have consecutive numbers
 pub record WindowsAreNumbered : Type 0 where
   pub number_at : NumberOfWindow
   pub item_of : WindowOfNumber

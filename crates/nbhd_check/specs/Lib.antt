@@ -1,4 +1,5 @@
--- The definitions that the contracts cite: separations, proper tables, runs of tuples, searches for bad ones, the judge's verdict, and the laws.
+-- The definitions that the contracts cite: separations, proper tables, runs of tuples, searches for bad tuples, the
+-- judge's verdict, and the laws.
 pub mod Apart
 pub mod Proper
 pub mod Runs

@@ -5,7 +5,7 @@ use Rattle.win_index.specs.Arcs.{window_around, part_at}
 use Rattle.win_index.specs.Windows.{windows}
 use Rattle.table_fill.specs.Tables.{ChannelTable, channel_of}
 
--- the first and the last window of no list of `2t+2` distinct identifiers have one channel
+-- for each list of `2t+2` distinct identifiers, the channels of the first and the last window differ
 abbrev pub IsProper : ChannelTable → Type 0
 IsProper t =
     All (λ tuple. channel_of t (part_at t.rounds 0 tuple) ≢ channel_of t (part_at t.rounds 1 tuple)) (windows (2 * t.rounds + 2) t.ids)

@@ -8,7 +8,7 @@ use Rattle.table_fill.specs.Tables.{ChannelTable, channel_of, windows_of}
 use Rattle.nbhd_check.specs.declared.separation.Separation.{Separation}
 use Rattle.nbhd_check.specs.Apart.{extra, AreClose, IsBad}
 
--- how many tuples begin with one window
+-- the number of tuples that begin with one window
 abbrev pub run_len : ChannelTable → Separation → ℕ
 run_len t s = falling (t.ids - (2 * t.rounds + 1)) (extra s)
 
@@ -23,23 +23,23 @@ BeginsFarTuple t distance window =
     (tuple : List ℕ) × IsWindow (2 * t.rounds + 3) t.ids tuple × (part_at t.rounds 0 tuple ≡ window)
     × AreClose distance (channel_of t (part_at t.rounds 0 tuple)) (channel_of t (part_at t.rounds 2 tuple))
 
--- so many windows, the first ones, begin no bad tuple
+-- none of the first `count` windows begins a bad tuple
 abbrev pub AreFree : ChannelTable → Separation → ℕ → Type 0
 AreFree t s count =
     (number : ℕ) (window : List ℕ) → number < count → slice_get (windows_of t) number ≡ Some window → ¬ BeginsBadTuple t s window
 
--- no list that has one identifier more than this one, its last, has at this offset a window that is closer than the distance to
--- the channel
+-- no list that extends this one by one identifier has a window at this offset that is closer than the distance to the
+-- channel
 abbrev pub NoneCloseAfter : ChannelTable → List ℕ → ℕ → ℕ → ℕ → Type 0
 NoneCloseAfter t list offset distance channel =
     (longer : List ℕ) → IsWindow (2 * t.rounds + offset + 1) t.ids longer → take (2 * t.rounds + offset) longer ≡ list
     → ¬ AreClose distance (Some channel) (channel_of t (part_at t.rounds offset longer))
 
--- the place of identifier k of a list among the identifiers that the k before it lack
+-- the index of identifier k of a list among the identifiers that are not among the k before it
 abbrev pub place_of_last : ℕ → List ℕ → ℕ
 place_of_last k list = length (unused (slice_index list k) (take k list))
 
--- the channels of the windows that begin with the 2t identifiers of the front, in the order of their last identifiers
+-- the channels of the windows that begin with the 2t identifiers `front`, in the order of their last identifiers
 pub record AreChannelsAfter (t : ChannelTable) (front channels : List ℕ) : Type 0 where
   pub each : (window : List ℕ) → IsWindow (2 * t.rounds + 1) t.ids window → take (2 * t.rounds) window ≡ front
       → let place = place_of_last (2 * t.rounds) window in
@@ -52,7 +52,7 @@ pub record AreChannelsAfter (t : ChannelTable) (front channels : List ℕ) : Typ
 abbrev pub HasClose : List ℕ → ℕ → ℕ → Type 0
 HasClose list distance channel = (place : ℕ) × (place < length list) × (abs_diff channel (slice_index list place) < distance)
 
--- such a channel stands in the list at a place that is none of the gaps
+-- the list has such a channel at an index that is not a gap
 abbrev pub HasCloseOutside : List ℕ → List ℕ → ℕ → ℕ → Type 0
 HasCloseOutside list gaps distance channel =
     (place : ℕ) × (place < length list) × (¬ Contains gaps place) × (abs_diff channel (slice_index list place) < distance)

@@ -1,15 +1,15 @@
--- What a search for the least bad tuple finds.
+-- The result of a search for the least bad tuple.
 use Rattle.std.specs.Prelude.{◌≡◌, ℕ, ◌+◌, ◌*◌, ◌<◌, Bool, true, false, List, Option, MatchOption, slice_index_or}
 use Rattle.table_fill.specs.Tables.{ChannelTable}
 use Rattle.nbhd_check.specs.declared.separation.Separation.{Separation}
 use Rattle.nbhd_check.specs.Apart.{NoneIsBad, IsLeastBad}
 
--- what is found is the least number of a bad tuple from low on and below high; where nothing is, none of these is bad
+-- the result is the least number of a bad tuple from low on and below high, or None if none of these is bad
 abbrev pub IsLeastIn : ChannelTable → Separation → ℕ → ℕ → Option ℕ → Type 0
 IsLeastIn t s low high found =
     MatchOption found (NoneIsBad t s low high) (λ n. (n < high) × ((tuple : List ℕ) × IsLeastBad t s low n tuple))
 
--- where the tuples are cut into parts of len each, none of a part that is marked is bad
+-- for parts of `len` tuples, no tuple of a marked part is bad
 abbrev pub AreGoodParts : ChannelTable → Separation → ℕ → List Bool → Type 0
 AreGoodParts t s len marks =
     (part : ℕ) → slice_index_or marks part false ≡ true → NoneIsBad t s (part * len) (part * len + len)

@@ -1,4 +1,4 @@
--- What the judge says of a table.
+-- The verdict of the judge on a table.
 use Rattle.std.specs.Prelude.{◌≡◌, ℕ, ◌+◌, ◌⊎◌, List, Some}
 use Rattle.win_index.specs.Arcs.{window_around}
 use Rattle.table_fill.specs.Tables.{ChannelTable, channel_of}
@@ -7,13 +7,13 @@ use Rattle.nbhd_check.specs.Apart.{AreClose, IsApartEverywhere, IsLeastBad}
 use Rattle.nbhd_check.specs.declared.verdict.Verdict.{Verdict}
 use Rattle.nbhd_check.specs.declared.verdict.Verdict.TheVariants.{Yes, No}
 
--- how far the second place of a no is from place t: 1 where the neighbours there are closer than near, else 2
+-- the distance of the second place of a no from place t: 1 if the neighbours there are closer than near, else 2
 abbrev pub IsStep : ChannelTable → Separation → List ℕ → ℕ → Type 0
 IsStep t s ring step =
     let close = AreClose s.near (channel_of t (window_around ring t.rounds t.rounds)) (channel_of t (window_around ring t.rounds (t.rounds + 1))) in
     (close × (step ≡ 1)) ⊎ ((¬ close) × (step ≡ 2))
 
--- the ring is the least bad tuple of all, and the two places, with their channels, are the ones at which it breaks the separation
+-- the ring is the least bad tuple, and the two places, with their channels, are those at which it breaks the separation
 pub record IsWitness (t : ChannelTable) (s : Separation) (ring : List ℕ) (places channels : ℕ × ℕ) : Type 0 where
   pub number : ℕ
   pub least : IsLeastBad t s 0 number ring

@@ -1,5 +1,5 @@
-// Counts of third windows: how many of those that begin with one list of identifiers have a channel below a limit and hold
-// another identifier. A row has the counts below one limit, and a row's last cell those of all windows.
+// Counts of the third windows that begin with one list of identifiers. Row `v` counts those with a
+// channel below `v`: cell `x` those that hold identifier `x`, and the last cell all of them.
 ghost use Rattle.std.specs.Prelude.{◌≡◌, ◌==◌, ℕ, List, ◌+◌, ◌-◌, ◌*◌, ◌^◌, ◌<◌, ◌≤◌, ◌&&◌, true, Some, IfOk, All, if◌then◌else◌, nat_lt, length, slice_get, slice_index};
 ghost use Rattle.std.specs.Int.{abs_diff};
 ghost use Rattle.win_index.specs.Windows.{IsWindow};
@@ -13,19 +13,20 @@ use std::alloc::Global;
 use table_fill::Table;
 use win_index::{MAX_WINDOW_LEN, count_of_windows};
 
-/// The counts of one block of windows, which begin with the same identifiers.
+/// The counts of one block: of the windows that begin with the same identifiers, all but two.
 #[derive(Drop)]
 pub(crate) struct Counts {
     /// The rows, one after another.
     pub(crate) cells: Vec<u32>,
-    /// The number of the last row, which all channels are below.
+    /// The number of the last row. All channels are below it.
     pub(crate) limit: u32,
-    /// Whether the block has been counted.
+    /// Whether the current block was counted.
     pub(crate) are_made: bool,
 }
 
 impl Counts {
-    /// Counts for the blocks of a table whose channels are below the limit. `OutOfMemory` comes where memory was refused.
+    /// Allocates counts for the blocks of a table whose channels are below `limit`. Fails with
+    /// `OutOfMemory` if memory was refused.
     pub(crate) fn new(alloc: Global, table: &Table, limit: u32) -> Result<Counts, OutOfMemory>
         requires limit { All (λ channel. channel < limit) table.now.entries }
         requires few { limit < 2 ^ 17 }
@@ -41,7 +42,7 @@ impl Counts {
     }
 }
 
-/// One more than the greatest channel of the table.
+/// Returns the greatest channel of the table plus one.
 pub(crate) fn channel_limit(table: &Table) -> u32
     ensures limit { All (λ channel. channel < result) table.now.entries }
     ensures few { result < 2 ^ 17 }
@@ -53,7 +54,7 @@ pub(crate) fn channel_limit(table: &Table) -> u32
     limit
 }
 
-// Adds one to the cell of this row and this column.
+// Adds one to the cell in this row and column. `wide` is the length of a row.
 fn count_in(cells: &mut [u32], wide: usize, row: usize, column: usize)
     requires column { column < wide }
     requires within { (row + 1) * wide ≤ length cells.old }
@@ -64,7 +65,7 @@ fn count_in(cells: &mut [u32], wide: usize, row: usize, column: usize)
     cells[row * wide + column] += 1;
 }
 
-// Adds the row before this one to it.
+// Adds the row before `row` to it.
 fn add_row_before(cells: &mut [u32], wide: usize, row: usize)
     requires row { 1 ≤ row }
     requires within { (row + 1) * wide ≤ length cells.old }
@@ -77,7 +78,8 @@ fn add_row_before(cells: &mut [u32], wide: usize, row: usize)
     }
 }
 
-// Counts each window of the block in the row of its channel and one more.
+// Counts each window of the block in the row after that of its channel. `window` is the block's
+// first window, and is advanced in place.
 fn count_windows(table: &Table, first: u32, count: u32, window: &mut [u32], cells: &mut [u32])
     requires some { 1 ≤ table.now.rounds }
     requires rows { All (λ channel. (channel + 2) * (table.now.ids + 1) ≤ length cells.old) table.now.entries }
@@ -99,7 +101,7 @@ fn count_windows(table: &Table, first: u32, count: u32, window: &mut [u32], cell
     }
 }
 
-// Adds up the rows, of which this one is the last.
+// Turns the rows up to row `limit` into sums with all rows before them.
 fn add_rows(table: &Table, first: u32, count: u32, limit: u32, cells: &mut [u32])
     requires room { length cells.old ≡ (limit + 1) * (table.now.ids + 1) }
     requires few { count < 2 ^ 31 }
@@ -112,7 +114,7 @@ fn add_rows(table: &Table, first: u32, count: u32, limit: u32, cells: &mut [u32]
     }
 }
 
-/// Counts the windows that begin with these identifiers, all but two of a window.
+/// Counts the windows that begin with the identifiers `shared`, which are all but two of a window.
 pub(crate) fn count_block(table: &Table, shared: &[u32], counts: &mut Counts)
     requires some { 1 ≤ table.now.rounds }
     requires shared { IsWindow (shared_len table.now) table.now.ids shared.now }
@@ -124,7 +126,7 @@ pub(crate) fn count_block(table: &Table, shared: &[u32], counts: &mut Counts)
     counts.are_made = true;
 }
 
-// The same, where the cells are those of the counts and the limit is theirs.
+// Like `count_block`, for the cells and the limit of some counts.
 fn count_cells(table: &Table, shared: &[u32], limit: u32, cells: &mut [u32])
     requires some { 1 ≤ table.now.rounds }
     requires shared { IsWindow (shared_len table.now) table.now.ids shared.now }
@@ -146,7 +148,8 @@ fn count_cells(table: &Table, shared: &[u32], limit: u32, cells: &mut [u32])
     add_rows(table, first, count, limit, cells);
 }
 
-/// How many windows of the block that hold `x` have a channel that differs from this one by less than the distance.
+/// Returns the number of windows of the block that hold `x` and have a channel that differs from
+/// `channel` by less than `distance`. The number of identifiers as `x` stands for all windows.
 pub(crate) fn close_count(
     table: &Table,
     counts: &Counts,

@@ -1,5 +1,6 @@
-// The windows of a table that begin no tuple whose third window is too close, by counts: the third windows of the tuples that
-// begin with (a, b, z), for a list z of identifiers, are those that begin with z and hold neither a nor b.
+// Windows that begin no tuple whose third window is too close, found by counts. For a list z of
+// identifiers, the third windows of the tuples that begin with (a, b, z) are the windows that begin
+// with z and hold neither a nor b.
 ghost use Rattle.std.specs.Prelude.{◌≡◌, ◌≢◌, ℕ, ◌+◌, ◌-◌, ◌*◌, ◌<◌, ◌≤◌, ◌↔◌, ◌⊎◌, [], ◌∷◌, ◌++◌, List, Some, IsTrue, Contains, length, take, drop, slice_get, slice_index};
 ghost use Rattle.std.specs.Int.{abs_diff};
 ghost use Rattle.std.specs.Bool.{OnFalse};
@@ -17,8 +18,9 @@ use crate::tuple::channel_of_window;
 use table_fill::Table;
 use win_index::{count_of_windows, windows_are_in_order};
 
-/// How many of the first windows, `least` at most, begin no tuple whose third window is closer than the distance, of those that
-/// end in the identifiers that stand between the first two and the last two cells of the list. The other cells are scratch.
+/// Returns a number of windows, at most `least`, such that none of the windows below it that end in
+/// the middle of `list` begins a tuple whose third window is closer than `distance`. The middle is
+/// the list without its first two and its last two cells, which are scratch.
 pub(crate) fn far_free_in_block(
     table: &Table,
     counts: &mut Counts,
@@ -48,7 +50,8 @@ pub(crate) fn far_free_in_block(
     least
 }
 
-// The number of the first window that begins with this identifier: those that begin with it or a greater one have no less.
+// Returns the number of the first window that begins with this identifier. No window that begins
+// with it or with a greater one has a lower number.
 fn start_of(table: &Table, first: u32) -> u64
     requires { first < table.now.ids }
     ensures { (number : ℕ) (window : List ℕ) → slice_get (windows_of table.now) number ≡ Some window
@@ -62,7 +65,7 @@ fn start_of(table: &Table, first: u32) -> u64
     u64::from(shape.window_number(0, &[first])) * u64::from(each)
 }
 
-// The same for those that also begin with the first identifier of the list.
+// Like `far_free_in_block`, for the windows that also begin with the first identifier of `list`.
 fn far_free_from(
     table: &Table,
     counts: &mut Counts,
@@ -93,7 +96,8 @@ fn far_free_from(
     least
 }
 
-// The same for the window that the list begins with, where its identifiers are distinct.
+// Like `far_free_in_block`, for the window at the start of `list`. Returns `least` if its
+// identifiers are not distinct.
 fn far_free_with(
     table: &Table,
     counts: &mut Counts,
@@ -122,7 +126,7 @@ fn far_free_with(
     far_free_at(table, counts, list, distance, least)
 }
 
-// Whether the list begins with a window.
+// Returns whether the list begins with a window.
 fn begins_with_window(table: &Table, list: &[u32]) -> bool
     requires some { 1 ≤ table.now.rounds }
     requires long { length list.now ≡ 2 * table.now.rounds + 3 }
@@ -141,14 +145,14 @@ fn begins_with_window(table: &Table, list: &[u32]) -> bool
     !stands_in(middle, list[1])
 }
 
-// Whether the identifier stands in the list.
+// Returns whether the list contains the identifier.
 fn stands_in(list: &[u32], id: u32) -> bool
     ensures { IsTrue result ↔ Contains list.now id }
 {
     list.contains(&id)
 }
 
-// The same for the window that the list begins with.
+// Like `far_free_in_block`, for the window at the start of `list`.
 fn far_free_at(
     table: &Table,
     counts: &mut Counts,
@@ -183,7 +187,7 @@ fn far_free_at(
     }
 }
 
-// Counts the block of these identifiers, where that was not done before.
+// Counts the block of these identifiers, unless it was counted before.
 fn count_once(table: &Table, shared: &[u32], counts: &mut Counts)
     requires some { 1 ≤ table.now.rounds }
     requires shared { IsWindow (shared_len table.now) table.now.ids shared.now }
@@ -197,7 +201,9 @@ fn count_once(table: &Table, shared: &[u32], counts: &mut Counts)
     }
 }
 
-// Whether the window that the list begins with may begin such a tuple: where not, it begins none.
+// Returns `false` only if the window at the start of `list` begins no tuple whose third window is
+// closer than `distance` to `channel`, the channel of the window. The last two cells of `list` are
+// scratch.
 fn may_begin_far_tuple(
     table: &Table,
     counts: &Counts,
@@ -228,7 +234,7 @@ fn may_begin_far_tuple(
     u64::from(all) + one + other > u64::from(with_first) + u64::from(with_second)
 }
 
-// One where the window's channel is closer to this one than the distance, else none.
+// Returns 1 if the window's channel differs from `channel` by less than `distance`, else 0.
 fn close_one(table: &Table, window: &[u32], channel: u32, distance: u32) -> u64
     requires window { IsWindow (2 * table.now.rounds + 1) table.now.ids window.now }
     ensures few { result ≤ 1 }
@@ -243,7 +249,7 @@ fn close_one(table: &Table, window: &[u32], channel: u32, distance: u32) -> u64
     }
 }
 
-// Writes an identifier over the first one of a list.
+// Writes an identifier to the first cell of a list.
 fn set_first(list: &mut [u32], first: u32)
     requires { 1 ≤ length list.old }
     ensures { list.new ≡ first ∷ drop 1 list.old }
@@ -251,7 +257,7 @@ fn set_first(list: &mut [u32], first: u32)
     list[0] = first;
 }
 
-// Writes an identifier over the second one of a list.
+// Writes an identifier to the second cell of a list.
 fn set_second(list: &mut [u32], second: u32)
     requires { 2 ≤ length list.old }
     ensures { list.new ≡ slice_index list.old 0 ∷ second ∷ drop 2 list.old }
@@ -259,7 +265,7 @@ fn set_second(list: &mut [u32], second: u32)
     list[1] = second;
 }
 
-// Writes two identifiers over the last two of a list.
+// Writes two identifiers to the last two cells of a list.
 fn set_last(list: &mut [u32], one: u32, other: u32)
     requires { 2 ≤ length list.old }
     ensures { list.new ≡ take (length list.old - 2) list.old ++ one ∷ other ∷ [] }

@@ -1,5 +1,5 @@
-// The search for windows that begin a tuple whose third window is too close: the blocks are cut into parts, which several
-// threads draw.
+// The search for windows that begin a tuple whose third window is too close. The blocks are divided
+// into parts, which several threads draw.
 ghost use Rattle.std.specs.Prelude.{◌≡◌, ℕ, ◌+◌, ◌*◌, ◌<◌, ◌≤◌, ◌^◌, IfOk, All, Some, length, slice_get, slice_index};
 ghost use Rattle.win_index.specs.Windows.{IsWindow};
 ghost use Rattle.nbhd_check.specs.Counts.{middle_of, shared_len, shared_lists, CountsFit};
@@ -15,18 +15,19 @@ use std::thread::{Threads, for_each_mut};
 use table_fill::Table;
 use win_index::MAX_TUPLE_LEN;
 
-/// There are no more parts of the blocks than these.
+/// The maximum number of parts of the blocks.
 pub(crate) const MOST_FAR_PARTS: usize = 64;
 
-/// What one thread counts with, and what it has found.
+/// The counts of one thread, and what it has found.
 #[derive(Drop)]
 pub(crate) struct Searcher {
     counts: Counts,
-    // For each part so many windows, the first ones, that begin no such tuple: none where it was not searched.
+    // For each part a number of windows: none of the windows below it with a block in the part
+    // begins such a tuple. It is 0 for a part that was not searched.
     free: [u32; MOST_FAR_PARTS],
 }
 
-/// Room for a search by so many threads. `OutOfMemory` comes where memory was refused.
+/// Allocates one searcher per thread. Fails with `OutOfMemory` if memory was refused.
 pub(crate) fn searchers(
     alloc: Global,
     table: &Table,
@@ -46,7 +47,7 @@ pub(crate) fn searchers(
     Ok(searchers)
 }
 
-// A searcher that has found nothing.
+// Allocates a searcher that has found nothing.
 fn fresh_searcher(
     alloc: Global,
     table: &Table,
@@ -62,15 +63,16 @@ fn fresh_searcher(
     Ok(Searcher { counts, free })
 }
 
-// No free windows in any part.
+// Returns 0 for each part.
 fn nothing_found() -> [u32; MOST_FAR_PARTS]
     ensures { (part : ℕ) → slice_index result part ≡ 0 }
 {
     [0; MOST_FAR_PARTS]
 }
 
-/// How many of the first windows, `least` at most, begin no tuple whose third window is closer than the distance. As many
-/// threads as there are searchers draw parts; what they leave is searched on the calling thread, with the counts.
+/// Returns a number of windows, at most `least`, such that none of the windows below it begins a
+/// tuple whose third window is closer than `distance`. At most as many threads as there are
+/// searchers draw parts. The calling thread searches the parts that they leave, with `counts`.
 pub(crate) fn far_free_windows<R: Threads + Sync>(
     rt: &R,
     table: &Table,
@@ -90,7 +92,7 @@ pub(crate) fn far_free_windows<R: Threads + Sync>(
     least_of_parts(table, distance, searchers, counts, least)
 }
 
-// Lets each searcher draw parts in a thread of its own, and waits for them.
+// Makes each searcher draw parts, each on a thread of its own, and waits for them.
 fn search<R: Threads + Sync>(
     rt: &R,
     table: &Table,
@@ -113,8 +115,9 @@ fn search<R: Threads + Sync>(
     );
 }
 
-// Draws parts and searches them, until none is left. Nothing need be known of the counter or of the best window that any
-// thread has found: a part that no searcher has searched has no free windows.
+// Draws parts and searches them, until none is left. The proof needs no fact about the counter, or
+// about the best window that any thread has found: a part that no searcher has searched has no free
+// windows.
 fn search_drawn(
     table: &Table,
     distance: u32,
@@ -139,8 +142,8 @@ fn search_drawn(
     }
 }
 
-// How many of the first windows, `least` at most, begin no such tuple, over all parts. One that no searcher has searched is
-// searched now.
+// Like `far_free_windows`, from the results of the searchers. Searches the parts that no searcher
+// has searched.
 fn least_of_parts(
     table: &Table,
     distance: u32,
@@ -168,7 +171,7 @@ fn least_of_parts(
     least
 }
 
-// How many of the first windows with a block in this part begin no such tuple, by what the searchers have found.
+// Returns the greatest number that a searcher has found for this part, 0 if none has searched it.
 fn found_free(table: &Table, distance: u32, searchers: &[Searcher], part: usize) -> u32
     requires part { part < MOST_FAR_PARTS }
     requires searchers { All (IsSearcherOf table.now distance) searchers.now }
@@ -182,7 +185,7 @@ fn found_free(table: &Table, distance: u32, searchers: &[Searcher], part: usize)
     most
 }
 
-// How many of the first windows with a block in this part, `least` at most, begin no such tuple.
+// Like `far_free_windows`, for the windows with a block in this part, on the calling thread.
 fn far_free_in_part(
     table: &Table,
     counts: &mut Counts,
@@ -214,7 +217,7 @@ fn far_free_in_part(
     least
 }
 
-// How many blocks there are.
+// Returns the number of blocks.
 fn block_count(table: &Table) -> u32
     requires { 1 ≤ table.now.rounds }
     ensures { result ≡ length (shared_lists table.now) }
@@ -223,7 +226,7 @@ fn block_count(table: &Table) -> u32
     shape.count(shape.rounds() - 1)
 }
 
-// Writes the identifiers that the windows of this block begin with between the first two and the last two cells of the list.
+// Writes the identifiers with which the windows of this block begin to the middle of the list.
 fn set_middle(table: &Table, block: u32, list: &mut [u32])
     requires some { 1 ≤ table.now.rounds }
     requires long { length list.old ≡ 2 * table.now.rounds + 3 }

@@ -1,9 +1,9 @@
-// Close channels in a list but for some places.
+// Close channels in a list, outside some gaps.
 ghost use Rattle.std.specs.Prelude.{◌<◌, ◌↔◌, IsTrue, length, All, AllPairs, Contains};
 ghost use Rattle.nbhd_check.specs.Runs.{HasClose, HasCloseOutside};
 
-// Whether a channel that differs from this one by less than the distance stands in the list outside the gaps, which are
-// places in rising order.
+// Returns whether the list has a channel outside the gaps that differs from `channel` by less than
+// `distance`. The gaps are indices in ascending order.
 pub(crate) fn has_close_outside(list: &[u16], gaps: &[usize], distance: u32, channel: u16) -> bool
     requires rising { AllPairs (λ a b. a < b) gaps.now }
     requires inside { All (λ gap. gap < length list.now) gaps.now }
@@ -19,7 +19,8 @@ pub(crate) fn has_close_outside(list: &[u16], gaps: &[usize], distance: u32, cha
     has_close(&list[from..], distance, channel)
 }
 
-// Whether such a channel stands in the list. Only the channel itself is closer than 1.
+// Returns whether the list has a channel that differs from `channel` by less than `distance`. At
+// distance 1 that is `channel` itself.
 fn has_close(list: &[u16], distance: u32, channel: u16) -> bool
     ensures { IsTrue result ↔ HasClose list.now distance channel }
 {
@@ -29,14 +30,14 @@ fn has_close(list: &[u16], distance: u32, channel: u16) -> bool
     has_closer(list, distance, channel)
 }
 
-// Whether the channel stands in the list.
+// Returns whether the list contains the channel.
 fn stands_in(list: &[u16], channel: u16) -> bool
     ensures { IsTrue result ↔ Contains list.now channel }
 {
     list.contains(&channel)
 }
 
-// Whether a channel of the list differs from this one by less than the distance. All are looked at, many at a time.
+// Does the same as `has_close`. Compares with all channels of the list, many at a time.
 fn has_closer(list: &[u16], distance: u32, channel: u16) -> bool
     ensures { IsTrue result ↔ HasClose list.now distance channel }
 {

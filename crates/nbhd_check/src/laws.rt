@@ -6,8 +6,8 @@ use win_index::{
     tuples_are_rings, window_of_number, windows_have_numbers,
 };
 
-/// Tuples suffice: no tuple breaks a separation exactly where no ring does, and a bad tuple, taken as a ring,
-/// breaks it at the places `t` and `t+1`, or `t` and `t+2`.
+/// No tuple breaks a separation exactly if no ring with as many nodes as a tuple or more does. A
+/// bad tuple, taken as a ring, breaks it at the places `t` and `t+1`, or `t` and `t+2`.
 pub fn tuples_suffice()
     ensures exact { law.TuplesSuffice }
     ensures bad_ring { law.BadTuplesAreRings }
@@ -20,8 +20,9 @@ pub fn tuples_suffice()
     number_of_window();
 }
 
-/// The separation of near 1 and far 0 is kept where tables are proper, and on every ring where neighbours'
-/// channels differ.
+/// The tuples of a table keep the separation of near 1 and far 0 exactly if the table is proper.
+/// Its channels keep that separation on every ring exactly if neighbours' channels differ on every
+/// ring.
 pub fn one_apart_differs()
     ensures proper { law.OneApartIsProper }
     ensures good { law.OneApartIsGood }
@@ -31,8 +32,8 @@ pub fn one_apart_differs()
     number_of_window();
 }
 
-/// A table has at most one witness, which is the ring, the places and the channels of the judge's no, and one
-/// whose channels are apart everywhere has none.
+/// A table has at most one witness: the ring, the places and the channels of the judge's no. A
+/// table whose channels are apart everywhere has none.
 pub fn one_witness()
     ensures one { law.OneWitness }
     ensures none { law.ApartTablesHaveNoWitness }
@@ -40,13 +41,15 @@ pub fn one_witness()
     tuples_suffice();
 }
 
-/// Inclusion and exclusion: of the pairs of a list that are in a class, those that hold neither of two elements are all, less
-/// those that hold the one, less those that hold the other, and once more those that hold both.
+/// Inclusion and exclusion: the number of pairs of a class that hold neither of two elements is
+/// that of all its pairs, less those that hold the one, less those that hold the other, plus those
+/// that hold both.
 pub fn pairs_that_avoid_two()
     ensures { PairsThatAvoidTwo }
 {}
 
-// What windows and their numbers have in common.
+// Windows and their numbers determine each other, and windows with a common prefix have consecutive
+// numbers.
 pub(crate) fn numbers_of_windows()
     ensures { law.WindowsAreNumbered }
 {

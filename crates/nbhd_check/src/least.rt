@@ -1,4 +1,4 @@
-// The least bad tuple of all: by counts where these serve, else by runs.
+// The least bad tuple of a table: by counts if these help, else by runs.
 ghost use Rattle.std.specs.Prelude.{◌≡◌, ℕ, ◌+◌, ◌*◌, ◌<◌, ◌≤◌, ◌^◌, IfSome, length};
 ghost use Rattle.nbhd_check.specs.Apart.{tuples};
 ghost use Rattle.nbhd_check.specs.Runs.{AreFree};
@@ -15,7 +15,7 @@ use std::alloc::Global;
 use std::thread::Threads;
 use table_fill::Table;
 
-/// The least number of a bad tuple of all, by at most so many threads.
+/// Returns the least number of a bad tuple, by at most `threads` threads.
 pub(crate) fn least_of_all<R: Threads + Sync>(
     rt: &R,
     alloc: Global,
@@ -31,8 +31,9 @@ pub(crate) fn least_of_all<R: Threads + Sync>(
     }
 }
 
-// How many of the first windows begin no bad tuple, by counts of third windows. `None` where these don't serve: at no round,
-// where far is 0, where looking through a block takes less time, and where memory for the counts was refused.
+// Returns a number of windows such that none of the windows below it begins a bad tuple, by counts
+// of third windows. Returns `None` if counts are no help: if there are no rounds, if far is 0, if a
+// scan of a block takes less time, or if memory was refused.
 fn free_windows<R: Threads + Sync>(
     rt: &R,
     alloc: Global,
@@ -61,7 +62,8 @@ fn free_windows<R: Threads + Sync>(
     Some(far_free_windows(rt, table, separation.far, &mut searchers, &mut counts, near))
 }
 
-// Whether counting a block takes less time than looking through it once for each of its first windows.
+// Estimates whether counting a block takes less time than scanning it once for each of its first
+// windows.
 fn are_worth_counting(table: &Table, limit: u32) -> bool
     requires some { 1 ≤ table.now.rounds }
     requires few { limit < 2 ^ 17 }
@@ -72,7 +74,8 @@ fn are_worth_counting(table: &Table, limit: u32) -> bool
     block * block > 4 * block + u64::from(limit) * (u64::from(shape.ids()) + 1)
 }
 
-// How many of the first windows begin no tuple whose second window is closer than near.
+// Returns a number of windows such that none of the windows below it begins a tuple whose second
+// window is closer than `near`.
 fn near_free_windows<R: Threads + Sync>(rt: &R, table: &Table, near: u32, threads: u64) -> u32
     ensures { AreFree table.now (record { near = near; far = 0 }) result }
 {
@@ -85,7 +88,7 @@ fn near_free_windows<R: Threads + Sync>(rt: &R, table: &Table, near: u32, thread
     }
 }
 
-// The least number of a bad tuple, where so many windows, the first ones, begin none.
+// Returns the least number of a bad tuple, if none of the windows below number `first` begins one.
 fn least_from(table: &Table, separation: Separation, first: u32) -> Option<u64>
     requires { AreFree table.now separation first }
     ensures { IsLeastIn table.now separation 0 (length (tuples table.now separation)) result }

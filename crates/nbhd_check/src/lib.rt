@@ -1,4 +1,4 @@
-//! The judge: whether the channels of near places are far enough apart on every ring.
+//! The judge, which decides whether the channels of near places are far enough apart on every ring.
 #![tactic(auto)]
 
 mod counts;

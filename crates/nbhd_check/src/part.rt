@@ -12,9 +12,12 @@ use crate::tuple::least_bad_tuple;
 use table_fill::Table;
 use win_index::{MAX_WINDOW_LEN, count_of_windows};
 
-/// The least number from `low` on and below `high` of a tuple that breaks the separation, or `None` where none does.
-/// A tuple has `2t+2` identifiers where far is 0, else `2t+3`. It breaks the separation where the channels of its first
-/// and its second window differ by less than near, or those of its first and its third one by less than far.
+/// Returns the least number, from `low` on and below `high`, of a tuple that breaks the separation,
+/// or `None` if none does.
+///
+/// A tuple has `2t+2` identifiers if far is 0, else `2t+3`. It breaks the separation if the
+/// channels of its first and its second window differ by less than near, or those of its first and
+/// its third window by less than far.
 pub fn judge_part(table: &Table, separation: Separation, low: u64, high: u64) -> Option<u64>
     requires order { low ≤ high }
     requires within { high ≤ length (tuples table.now separation) }
@@ -33,7 +36,8 @@ pub fn judge_part(table: &Table, separation: Separation, low: u64, high: u64) ->
     scan_runs(table, separation, window, first, low, high)
 }
 
-// How many tuples begin with one window: none where a tuple has more identifiers than there are.
+// Returns the number of tuples that begin with one window, 0 if a tuple has more identifiers than
+// there are.
 pub(crate) fn run_len(table: &Table, separation: Separation) -> u64
     ensures value { result ≡ run_len table.now separation }
     ensures few { result ≤ MAX_IDS * MAX_IDS }
@@ -49,7 +53,7 @@ pub(crate) fn run_len(table: &Table, separation: Separation) -> u64
     }
 }
 
-// How many windows there are: as many as entries.
+// Returns the number of windows, which is the number of entries.
 pub(crate) fn window_count(table: &Table) -> u32
     ensures value { result ≡ length (windows_of table.now) }
     ensures table { IsTable table.now }
@@ -58,7 +62,8 @@ pub(crate) fn window_count(table: &Table) -> u32
     shape.count(shape.rounds())
 }
 
-// The least number of a bad tuple, where the tuple with the number `low` begins with this window, whose number is `first`.
+// Like `judge_part`. The tuple with number `low` begins with `window`, whose number is `first`;
+// `window` is advanced in place.
 fn scan_runs(
     table: &Table,
     separation: Separation,
@@ -86,7 +91,7 @@ fn scan_runs(
     None
 }
 
-// The least number of a bad tuple that begins with this window.
+// Like `judge_part`, for the tuples that begin with this window.
 fn least_in_run(
     table: &Table,
     separation: Separation,

@@ -1,4 +1,5 @@
-// The least bad tuple of all, run by run: the tuples are cut into parts, which several threads draw and judge.
+// The least bad tuple of a table, run by run. The tuples are divided into parts, which several
+// threads draw and judge.
 ghost use Rattle.std.specs.Prelude.{ℕ, ◌+◌, ◌*◌, ◌<◌, ◌≤◌, length};
 ghost use Rattle.std.specs.Thread.{IsSync};
 ghost use Rattle.nbhd_check.specs.Apart.{tuples};
@@ -12,16 +13,16 @@ use std::sync::atomic::{AtomicUsize, Ordering};
 use std::thread::Threads;
 use table_fill::Table;
 
-// Fewer tuples than these are not worth a part.
+// The minimum number of tuples of a part, except the last one.
 const LEAST_PART: u64 = 1 << 16;
 
-// There are no more parts than these.
+// The maximum number of parts.
 pub(crate) const MOST_PARTS: usize = 64;
 
-// Which parts are known to have no bad tuple.
+// For each part, whether it is known to have no bad tuple.
 type Marks = [bool; MOST_PARTS];
 
-// The least number of a bad tuple of all, by at most so many threads.
+// Returns the least number of a bad tuple, by at most `most` threads.
 pub(crate) fn least_by_runs<R: Threads + Sync>(
     rt: &R,
     table: &Table,
@@ -33,7 +34,7 @@ pub(crate) fn least_by_runs<R: Threads + Sync>(
     least_by_parts(rt, table, separation, part_len(table, separation), most)
 }
 
-// How many tuples a part has: those of whole runs.
+// Returns the number of tuples of a part, which is that of whole runs.
 fn part_len(table: &Table, separation: Separation) -> u64
     ensures some { 0 < result }
     ensures enough { length (tuples table.now separation) ≤ MOST_PARTS * result }
@@ -46,8 +47,8 @@ fn part_len(table: &Table, separation: Separation) -> u64
         * free
 }
 
-// The least number of a bad tuple of all, by parts of so many tuples and at most so many threads. Where there is one part,
-// or one thread is wanted, none is started.
+// Returns the least number of a bad tuple, by parts of `len` tuples and at most `most` threads.
+// Starts no thread if there is one part, or if `most` is below 2.
 pub(crate) fn least_by_parts<R: Threads + Sync>(
     rt: &R,
     table: &Table,
@@ -77,8 +78,8 @@ pub(crate) fn least_by_parts<R: Threads + Sync>(
     least_unmarked(table, separation, len, parts as usize, &marks)
 }
 
-// The parts that so many threads found without a bad tuple. Each judges the parts that it has drawn, and this thread waits
-// for them.
+// Returns marks of parts that have no bad tuple. Each of `threads` threads judges the parts that it
+// draws, and this thread waits for them.
 #[cycle(threads)]
 fn judged_by<R: Threads + Sync>(
     rt: &R,
@@ -110,15 +111,16 @@ fn judged_by<R: Threads + Sync>(
     marked_in_either(table, separation, len, own, &others)
 }
 
-// No part is marked.
+// Returns marks with no part marked.
 fn no_marks(table: &Table, separation: Separation, len: u64) -> Marks
     ensures { AreGoodParts table.now separation len result }
 {
     [false; MOST_PARTS]
 }
 
-// Draws parts and judges them, until none is left or one has a bad tuple; then no thread draws another. Nothing need be
-// known of the counter: a part that no thread has drawn is not marked.
+// Draws parts and judges them, until none is left or one has a bad tuple; then no thread draws
+// another one. The proof needs no fact about the counter: a part that no thread has drawn is not
+// marked.
 fn draw_parts(
     table: &Table,
     separation: Separation,
@@ -145,7 +147,7 @@ fn draw_parts(
     marks
 }
 
-// The parts that are marked in one or in the other.
+// Returns the marks of the parts that are marked in one list or in the other.
 fn marked_in_either(
     table: &Table,
     separation: Separation,
@@ -165,7 +167,8 @@ fn marked_in_either(
     marks
 }
 
-// The least number of a bad tuple of all: that of the first part that has one. Parts that are marked are not looked at.
+// Returns the least number of a bad tuple, which is that of the first part that has one. Skips the
+// marked parts.
 fn least_unmarked(
     table: &Table,
     separation: Separation,
@@ -189,7 +192,7 @@ fn least_unmarked(
     None
 }
 
-// The least number of a bad tuple of a part.
+// Returns the least number of a bad tuple of a part.
 fn least_of_part(table: &Table, separation: Separation, len: u64, part: usize) -> Option<u64>
     requires begin { part * len < length (tuples table.now separation) }
     ensures { IsLeastIn table.now separation (part * len) (part * len + len) result }

@@ -1,5 +1,5 @@
-// The tuples that begin with one window. Their second windows stand in one run of windows, but for a gap, and their third
-// windows, with each second one, in one run, but for two gaps.
+// The tuples that begin with one window. Their second windows are one run of windows except a gap,
+// and their third windows, after each second one, are one run except two gaps.
 ghost use Rattle.std.specs.Prelude.{◌≡◌, ℕ, ◌+◌, ◌*◌, ◌<◌, ◌≤◌, [], ◌∷◌, ◌++◌, ◌↔◌, IsTrue, Some, Contains, length, drop, slice_get, slice_index};
 ghost use Rattle.std.specs.Bool.{OnFalse};
 ghost use Rattle.win_index.specs.Windows.{IsWindow};
@@ -12,7 +12,7 @@ use crate::separation::Separation;
 use table_fill::Table;
 use win_index::{MAX_TUPLE_LEN, place_among_unused};
 
-// Whether a tuple that begins with this window may be bad: where not, none is.
+// Returns `false` only if no tuple that begins with this window is bad.
 pub(crate) fn may_begin_bad_tuple(
     table: &Table,
     separation: Separation,
@@ -29,7 +29,8 @@ pub(crate) fn may_begin_bad_tuple(
         || may_begin_far_tuple(table, separation.far, window, number)
 }
 
-// Whether the third window of a tuple that begins with this window may be too close: where not, none is.
+// Returns `false` only if no tuple that begins with this window has a third window closer than
+// `distance`.
 fn may_begin_far_tuple(table: &Table, distance: u32, window: &[u32], number: u32) -> bool
     requires window { IsWindow (2 * table.now.rounds + 1) table.now.ids window.now }
     requires item { slice_get (windows_of table.now) number ≡ Some window.now }
@@ -40,8 +41,9 @@ fn may_begin_far_tuple(table: &Table, distance: u32, window: &[u32], number: u32
     may_be_close_at_two(table, window, distance, channel)
 }
 
-// Whether the second window of a list that begins with this window may be so close to the channel. The gap is where the
-// window's first identifier comes once more.
+// Returns `false` only if no list that begins with this window has a second window closer than
+// `distance` to the channel. The gap is the window that would end in the first identifier of this
+// one.
 fn may_be_close_next(table: &Table, window: &[u32], distance: u32, channel: u16) -> bool
     requires window { IsWindow (2 * table.now.rounds + 1) table.now.ids window.now }
     ensures { OnFalse result (NoneCloseAfter table.now window.now 1 distance channel) }
@@ -51,8 +53,8 @@ fn may_be_close_next(table: &Table, window: &[u32], distance: u32, channel: u16)
     has_close_outside(channels_after(table, window, 1), &[gap], distance, channel)
 }
 
-// Whether the third window of a list that begins with this window may be so close to the channel. No channel is where the
-// distance is 0.
+// Returns `false` only if no list that begins with this window has a third window closer than
+// `distance` to the channel. Returns `false` if the distance is 0.
 fn may_be_close_at_two(table: &Table, window: &[u32], distance: u32, channel: u16) -> bool
     requires window { IsWindow (2 * table.now.rounds + 1) table.now.ids window.now }
     ensures { OnFalse result ((id : ℕ) → id < table.now.ids → ¬ Contains window.now id
@@ -69,14 +71,14 @@ fn may_be_close_at_two(table: &Table, window: &[u32], distance: u32, channel: u1
     false
 }
 
-// Whether the identifier stands in the list.
+// Returns whether the list contains the identifier.
 fn stands_in(list: &[u32], id: u32) -> bool
     ensures { IsTrue result ↔ Contains list.now id }
 {
     list.contains(&id)
 }
 
-// The same for lists that begin with this window and this identifier.
+// Like `may_be_close_at_two`, for the lists that begin with this window and this identifier.
 fn may_be_close_with(table: &Table, window: &[u32], id: u32, distance: u32, channel: u16) -> bool
     requires window { IsWindow (2 * table.now.rounds + 1) table.now.ids window.now }
     requires below { id < table.now.ids }
@@ -90,8 +92,8 @@ fn may_be_close_with(table: &Table, window: &[u32], id: u32, distance: u32, chan
     may_be_close_second(table, &cells[..last + 1], distance, channel)
 }
 
-// Whether the window at offset two of a list that begins with this one, of 2t+2 identifiers, may be so close to the
-// channel. The gaps are where the first two identifiers come once more.
+// Like `may_be_close_at_two`, for the lists that begin with this one, of 2t+2 identifiers. The gaps
+// are the windows that would end in one of its first two identifiers.
 fn may_be_close_second(table: &Table, list: &[u32], distance: u32, channel: u16) -> bool
     requires list { IsWindow (2 * table.now.rounds + 2) table.now.ids list.now }
     ensures { OnFalse result (NoneCloseAfter table.now list.now 2 distance channel) }
@@ -108,7 +110,8 @@ fn may_be_close_second(table: &Table, list: &[u32], distance: u32, channel: u16)
     )
 }
 
-// The channels of the windows that begin with all identifiers of this list but for the first `offset`.
+// Returns the channels of the windows that begin with this list without its first `offset`
+// identifiers.
 fn channels_after<'a>(table: &'a Table, list: &[u32], offset: usize) -> &'a [u16]
     requires some { 1 ≤ offset }
     requires list { IsWindow (2 * table.now.rounds + offset) table.now.ids list.now }

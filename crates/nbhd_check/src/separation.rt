@@ -1,6 +1,6 @@
-/// How far apart channels have to be (the labellings L(p,q) of Griggs and Yeh 1992): those of neighbours by at least `near`,
-/// those of places at distance two by at least `far`. With `near` 1 and `far` 0 neighbours' channels have to differ, and
-/// no more.
+/// The minimum differences of channels (the labellings L(p,q) of Griggs and Yeh 1992): `near` for
+/// neighbours, `far` for places at distance two. With `near` 1 and `far` 0 neighbours' channels
+/// have to differ, and nothing else is required.
 #[derive(Clone, Copy, Debug, PartialEq, Eq)]
 pub struct Separation {
     pub near: u32,
@@ -10,7 +10,8 @@ pub struct Separation {
 ghost use Rattle.std.specs.Prelude.{◌≡◌};
 ghost use Rattle.nbhd_check.specs.Apart.{extra};
 
-// How many identifiers a tuple has more than a window: 1 where only neighbours are judged, else 2.
+// Returns by how many identifiers a tuple is longer than a window: 1 if far is 0, so that only
+// neighbours are judged, else 2.
 pub(crate) fn extra_of(separation: Separation) -> u32
     ensures { result ≡ extra separation }
 {

@@ -14,7 +14,7 @@ use win_index::{MAX_WINDOW_LEN, Shape};
 // Neighbours' channels differ.
 const NEIGHBOURS: Separation = Separation { near: 1, far: 0 };
 
-// The table that gives each window its channel, of so many.
+// Returns the table that gives each window its channel, with `count` channels.
 fn table_of(
     rt: &impl Abort,
     alloc: Global,
@@ -32,7 +32,7 @@ fn table_of(
     Ok(maker.done())
 }
 
-// The table of no rounds that gives each identifier its channel, of as many.
+// Returns the table of 0 rounds that gives each identifier its channel.
 fn table_of_identifiers(rt: &impl Abort, alloc: Global, channels: &[u32]) -> Result<Table, Fail> {
     assert!(rt; channels.len() <= 1024);
     let count = channels.len() as u32;
@@ -40,7 +40,7 @@ fn table_of_identifiers(rt: &impl Abort, alloc: Global, channels: &[u32]) -> Res
     table_of(rt, alloc, shape, count, channels)
 }
 
-// The identifiers in the middle of all windows.
+// Returns the middle identifiers of all windows.
 fn middles(alloc: Global, shape: Shape) -> Result<Vec<u32>, AllocError> {
     let level = shape.rounds();
     let mut channels = Vec::new(alloc);
@@ -53,7 +53,8 @@ fn middles(alloc: Global, shape: Shape) -> Result<Vec<u32>, AllocError> {
     Ok(channels)
 }
 
-// The table that gives each window its middle, but one window another channel.
+// Returns the table that gives each window its middle identifier, except one window, which has
+// another channel.
 fn table_of_middles(
     rt: &impl Abort,
     alloc: Global,
@@ -67,7 +68,8 @@ fn table_of_middles(
     table_of(rt, alloc, shape, shape.ids(), &channels)
 }
 
-// The least number of a bad tuple, by parts of so many tuples, or of more where there would be too many parts.
+// Returns the least number of a bad tuple, by parts of `len` tuples, or of more if there would be
+// too many parts.
 fn least_in_parts<R: Abort + Threads + Sync>(
     rt: &R,
     table: &Table,
@@ -82,7 +84,7 @@ fn least_in_parts<R: Abort + Threads + Sync>(
     least_by_parts(rt, table, separation, len, threads)
 }
 
-// The ring of a no, with its places and their channels.
+// Returns the ring of a no, its places and their channels.
 fn found_in(verdict: &Verdict) -> Option<(&[u32], (u32, u32), (u32, u32))> {
     match verdict {
         Verdict::Yes => None,
@@ -94,7 +96,7 @@ fn found_in(verdict: &Verdict) -> Option<(&[u32], (u32, u32), (u32, u32))> {
     }
 }
 
-// The channels 0 to 126, and 32 once more.
+// Returns the channels 0 to 126, followed by 32.
 fn repeated_once(alloc: Global) -> Result<Vec<u32>, AllocError> {
     let mut channels = Vec::new(alloc);
     for channel in 0..127 {
@@ -142,7 +144,7 @@ fn the_least_bad_tuple_of_a_part(rt: HostRuntime) -> Result<(), Fail> {
     Ok(())
 }
 
-// The identifiers 1 and 2 share a channel: each stands beside the other's gap.
+// The identifiers 1 and 2 have the same channel; each is next to the other's gap.
 #[test]
 fn bad_tuples_beside_the_gap(rt: HostRuntime) -> Result<(), Fail> {
     let table = table_of_identifiers(&rt, rt.alloc(), &[0, 1, 1, 3])?;
@@ -189,7 +191,7 @@ fn bad_tuples_of_one_round(rt: HostRuntime) -> Result<(), Fail> {
     Ok(())
 }
 
-// The identifiers as channels, of so many.
+// Returns the identifiers below `count`, as channels.
 fn identifiers(alloc: Global, count: u32) -> Result<Vec<u32>, AllocError> {
     let mut channels = Vec::new(alloc);
     for channel in 0..count {
@@ -198,8 +200,8 @@ fn identifiers(alloc: Global, count: u32) -> Result<Vec<u32>, AllocError> {
     Ok(channels)
 }
 
-// Places at distance two, neighbours that are not far enough apart, and a ring of three nodes, where both demands hold for
-// each pair. Where there are two identifiers, no ring has three nodes.
+// Covers places at distance two, neighbours that are not far enough apart, and a ring of three
+// nodes, on which both limits hold for each pair. With two identifiers no ring has three nodes.
 #[test]
 fn channels_that_are_too_close(rt: HostRuntime) -> Result<(), Fail> {
     let rows: [(u32, u32, u32, Option<(&[u32], (u32, u32), (u32, u32))>); 7] = [

@@ -1,4 +1,4 @@
-// Tuples one by one.
+// Tuples, one by one.
 ghost use Rattle.std.specs.Prelude.{◌≡◌, ℕ, List, ◌+◌, ◌*◌, ◌<◌, ◌≤◌, ◌↔◌, ◌⊎◌, IsTrue, MatchOption, Some, length, slice_get};
 ghost use Rattle.win_index.specs.declared.limits.TheConstants.{MAX_EXTRA};
 ghost use Rattle.win_index.specs.Windows.{IsWindow};
@@ -10,7 +10,7 @@ use crate::separation::{Separation, extra_of};
 use table_fill::Table;
 use win_index::MAX_TUPLE_LEN;
 
-// The least number from `low` on and below `high` of a bad tuple.
+// Returns the least number of a bad tuple from `low` on and below `high`.
 pub(crate) fn least_bad_tuple(
     table: &Table,
     separation: Separation,
@@ -31,14 +31,15 @@ pub(crate) fn least_bad_tuple(
     scan(table, separation, tuple, low, high)
 }
 
-/// How many tuples the judge tests: of `2t+2` identifiers where far is 0, else of `2t+3`.
+/// Returns the number of tuples that the judge tests, of `2t+2` identifiers if far is 0, else of
+/// `2t+3`.
 pub fn tuple_count(table: &Table, separation: Separation) -> u64
     ensures { result ≡ length (tuples table.now separation) }
 {
     table.shape().tuples(extra_of(separation))
 }
 
-// How many identifiers a tuple has.
+// Returns the number of identifiers of a tuple.
 pub(crate) fn tuple_len(table: &Table, separation: Separation) -> usize
     ensures length { result ≡ 2 * table.now.rounds + 1 + extra separation }
     ensures few { result ≤ MAX_TUPLE_LEN }
@@ -56,7 +57,7 @@ pub(crate) fn write_tuple(table: &Table, separation: Separation, number: u64, ou
     table.shape().tuple(extra_of(separation), number, out);
 }
 
-// The least number of a bad tuple, from the tuple with the number `low` on.
+// Like `least_bad_tuple`. `tuple` is the tuple with number `low`, and is advanced in place.
 fn scan(
     table: &Table,
     separation: Separation,
@@ -80,7 +81,7 @@ fn scan(
     None
 }
 
-// Whether a tuple is bad.
+// Returns whether a tuple is bad.
 fn is_bad(table: &Table, separation: Separation, tuple: &[u32]) -> bool
     requires { IsWindow (2 * table.now.rounds + 1 + extra separation) table.now.ids tuple.now }
     ensures { IsTrue result ↔ IsBad table.now separation tuple.now }
@@ -88,7 +89,8 @@ fn is_bad(table: &Table, separation: Separation, tuple: &[u32]) -> bool
     is_close_next(table, separation, tuple) || is_close_at_two(table, separation, tuple)
 }
 
-// Whether the first and the second window of a tuple are closer than near.
+// Returns whether the channels of the first and the second window of a tuple differ by less than
+// near.
 pub(crate) fn is_close_next(table: &Table, separation: Separation, tuple: &[u32]) -> bool
     requires { IsWindow (2 * table.now.rounds + 1 + extra separation) table.now.ids tuple.now }
     ensures { IsTrue result ↔ AreClose separation.near (channel_of table.now (part_at table.now.rounds 0 tuple.now)) (channel_of table.now (part_at table.now.rounds 1 tuple.now)) }
@@ -97,7 +99,8 @@ pub(crate) fn is_close_next(table: &Table, separation: Separation, tuple: &[u32]
     here.abs_diff(channel_from(table, separation, tuple, 1)) < separation.near
 }
 
-// Whether the first and the third window of a tuple are closer than far.
+// Returns whether the channels of the first and the third window of a tuple differ by less than
+// far.
 fn is_close_at_two(table: &Table, separation: Separation, tuple: &[u32]) -> bool
     requires { IsWindow (2 * table.now.rounds + 1 + extra separation) table.now.ids tuple.now }
     ensures { IsTrue result ↔ AreClose separation.far (channel_of table.now (part_at table.now.rounds 0 tuple.now)) (channel_of table.now (part_at table.now.rounds 2 tuple.now)) }
@@ -109,7 +112,7 @@ fn is_close_at_two(table: &Table, separation: Separation, tuple: &[u32]) -> bool
     here.abs_diff(channel_from(table, separation, tuple, 2)) < separation.far
 }
 
-// The channel of the window that a tuple has from this offset on.
+// Returns the channel of the window at this offset in a tuple.
 pub(crate) fn channel_from(
     table: &Table,
     separation: Separation,
@@ -124,7 +127,7 @@ pub(crate) fn channel_from(
     channel_of_window(table, &tuple[offset..offset + len])
 }
 
-// The channel of a window.
+// Returns the channel of a window.
 pub(crate) fn channel_of_window(table: &Table, window: &[u32]) -> u32
     requires { IsWindow (2 * table.now.rounds + 1) table.now.ids window.now }
     ensures { channel_of table.now window.now ≡ Some result }

@@ -9,18 +9,18 @@ use std::thread::Threads;
 use table_fill::Table;
 use win_index::{MAX_TUPLE_LEN, tuples_are_rings};
 
-/// The judge's answer.
+/// The verdict of the judge.
 #[derive(Debug, PartialEq, Eq, Drop)]
 pub enum Verdict {
-    /// On every ring channels are as far apart as the separation wants.
+    /// On every ring the channels are as far apart as the separation requires.
     Yes,
-    /// At two places of a ring channels are closer.
+    /// The channels of two places of a ring are closer.
     No {
-        /// The identifiers from place 0 on.
+        /// The ring's identifiers, from place 0 on.
         ring: Vec<u32>,
-        /// The place `t` for `t` rounds, and its right neighbour or the one after that.
+        /// Place `t` for `t` rounds, and its right neighbour or the place after that.
         places: (u32, u32),
-        /// The channels there.
+        /// The channels of the two places.
         channels: (u32, u32),
     },
 }
@@ -32,11 +32,16 @@ ghost use Rattle.table_fill.specs.Tables.{channel_of};
 ghost use Rattle.nbhd_check.specs.Apart.{extra, AreClose, IsBad, IsApartEverywhere, IsLeastBad};
 ghost use Rattle.nbhd_check.specs.Verdicts.{IsVerdict};
 
-/// Whether channels are as far apart as the separation wants on every ring of the table's shape, of at least `2t+3` nodes
-/// where far is not 0. `No` has the least tuple that breaks it, as a ring, and the places `t` and `t+1` for `t` rounds
-/// where these are too close, else `t` and `t+2`, with their channels. The answer is `Yes` where there is no such ring.
-/// `OutOfMemory` comes where memory for that ring was refused, so only where the answer is no.
-/// At most as many threads judge as there are processors.
+/// Judges whether channels are as far apart as the separation requires on every ring of the table's
+/// shape, of at least `2t+3` nodes if far is not 0. At most as many threads judge as there are
+/// processors.
+///
+/// `No` has the least tuple that breaks the separation, as a ring, and the places `t` and `t+1` for
+/// `t` rounds if these are too close, else `t` and `t+2`, with their channels. The verdict is `Yes`
+/// if there is no ring of that length.
+///
+/// Fails with `OutOfMemory` if memory for the ring was refused, which happens only if the verdict
+/// is no.
 pub fn judge<R: Threads + Sync>(
     rt: &R,
     alloc: Global,
@@ -50,8 +55,8 @@ pub fn judge<R: Threads + Sync>(
     judge_in(rt, alloc, table, separation, current_num_threads(rt) as u64)
 }
 
-/// What `judge` answers, by at most so many threads. Where that is one or none, it is the
-/// caller's alone.
+/// Does the same as `judge` with at most `workers` threads. If that is 0 or 1, only the calling
+/// thread judges.
 pub fn judge_with_workers<R: Threads + Sync>(
     rt: &R,
     alloc: Global,
@@ -66,7 +71,7 @@ pub fn judge_with_workers<R: Threads + Sync>(
     judge_in(rt, alloc, table, separation, u64::from(workers))
 }
 
-// The answer on a table, by at most so many threads.
+// Does the same as `judge` with at most `threads` threads.
 fn judge_in<R: Threads + Sync>(
     rt: &R,
     alloc: Global,
@@ -85,7 +90,7 @@ fn judge_in<R: Threads + Sync>(
     }
 }
 
-// The answer that the tuple with this number is the least bad one.
+// Returns the verdict on a table whose least bad tuple has this number.
 #[tactic(auto, using(crate::proofs::Tuples::bad_is_not_apart))]
 fn no(
     alloc: Global,
@@ -115,7 +120,8 @@ fn no(
     })
 }
 
-// How far the second window of a bad tuple is from the first that it is too close to: 1 where the neighbours are, else 2.
+// Returns the distance of the two places at which a bad tuple is too close: 1 if neighbours are,
+// else 2.
 fn broken_step(table: &Table, separation: Separation, tuple: &[u32]) -> u32
     requires tuple { IsWindow (2 * table.now.rounds + 1 + extra separation) table.now.ids tuple.now }
     requires bad { IsBad table.now separation tuple.now }

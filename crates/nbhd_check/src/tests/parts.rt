@@ -1,4 +1,4 @@
-// The answer is the same for every number of parts and of threads.
+// The verdict is the same for every number of parts and of threads.
 
 use super::{NEIGHBOURS, found_in, least_in_parts, table_of, table_of_identifiers};
 use crate::tuple::{tuple_count, tuple_len, write_tuple};
@@ -10,7 +10,7 @@ use std::thread::Threads;
 use table_fill::Table;
 use win_index::{MAX_TUPLE_LEN, Shape};
 
-// The table of one round that gives each window a channel of its own: its number.
+// Returns the table of one round that gives each window its number as its channel.
 fn table_of_numbers(rt: &impl Abort, alloc: Global, ids: u32) -> Result<Table, Fail> {
     let shape = Shape::new(ids, 1).expect(rt, "a shape");
     assert!(rt; shape.rounds() == 1);
@@ -18,7 +18,7 @@ fn table_of_numbers(rt: &impl Abort, alloc: Global, ids: u32) -> Result<Table, F
     table_of(rt, alloc, shape, count, &numbers(alloc, count)?)
 }
 
-// The numbers below `count`.
+// Returns the numbers below `count`.
 fn numbers(alloc: Global, count: u32) -> Result<Vec<u32>, AllocError> {
     let mut list = Vec::new(alloc);
     for number in 0..count {
@@ -27,7 +27,8 @@ fn numbers(alloc: Global, count: u32) -> Result<Vec<u32>, AllocError> {
     Ok(list)
 }
 
-// The same table, but the last window of the tuple with this number has the channel of the first one.
+// Returns the same table, except that the last window of the tuple with this number has the channel
+// of the first one.
 fn table_of_one_bad_tuple(
     rt: &impl Abort,
     alloc: Global,
@@ -50,7 +51,8 @@ fn table_of_one_bad_tuple(
     table_of(rt, alloc, all.shape(), all.channels(), &channels)
 }
 
-// Each tuple of a table in turn is the only bad one: the first, the last, those at the edges of parts and those beside gaps.
+// Makes each tuple of a table in turn the only bad one, with the first, the last, those at the ends
+// of parts and those next to gaps.
 fn assert_one_bad_tuple<R: Abort + Threads + Sync>(
     rt: &R,
     alloc: Global,
@@ -89,7 +91,7 @@ fn one_far_tuple_anywhere(rt: HostRuntime) -> Result<(), Fail> {
     assert_one_bad_tuple(&rt, rt.alloc(), &all, separation)
 }
 
-// The least of all comes from an earlier part than other bad tuples do.
+// The least bad tuple is in an earlier part than the others.
 #[test]
 fn many_bad_tuples(rt: HostRuntime) -> Result<(), Fail> {
     let table = table_of_identifiers(&rt, rt.alloc(), &[0, 1, 2, 3, 2, 1, 0, 0])?;
@@ -106,7 +108,8 @@ fn many_bad_tuples(rt: HostRuntime) -> Result<(), Fail> {
     Ok(())
 }
 
-// The table of 1,024 identifiers, each with a channel of its own, but these have those of others.
+// Returns a table of 1,024 identifiers with different channels, except that the first of each pair
+// has the channel of the second.
 fn table_of_pairs(rt: &impl Abort, alloc: Global, pairs: &[(usize, u32)]) -> Result<Table, Fail> {
     let mut channels = numbers(alloc, 1024)?;
     for (place, channel) in pairs {
@@ -116,7 +119,7 @@ fn table_of_pairs(rt: &impl Abort, alloc: Global, pairs: &[(usize, u32)]) -> Res
     table_of_identifiers(rt, alloc, &channels)
 }
 
-// The two identifiers of the judge's no, for each number of workers.
+// Checks the two identifiers of the judge's no, for each number of workers.
 fn assert_no<R: Abort + Threads + Sync>(
     rt: &R,
     alloc: Global,
@@ -134,13 +137,13 @@ fn assert_no<R: Abort + Threads + Sync>(
     Ok(())
 }
 
-// The identifiers of a no at place 0.
+// Returns the identifiers of a no at place 0.
 fn ring_of(verdict: &Verdict) -> Option<&[u32]> {
     let (ring, places, _) = found_in(verdict)?;
     if places == (0, 1) { Some(ring) } else { None }
 }
 
-// 1,047,552 tuples, in runs of 1,023: a part has 65 runs.
+// There are 1,047,552 tuples, in runs of 1,023. A part has 65 runs.
 #[test]
 fn as_many_workers_as_one_likes(rt: HostRuntime) -> Result<(), Fail> {
     let rows: [(&[(usize, u32)], Option<&[u32]>); 10] = [

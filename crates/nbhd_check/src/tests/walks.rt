@@ -1,4 +1,4 @@
-// The judge beside a plain walk over all tuples.
+// The judge compared with a plain walk over all tuples.
 
 ghost use Rattle.std.specs.Prelude.{◌+◌, ◌*◌, ◌≤◌, length};
 
@@ -12,14 +12,14 @@ use std::thread::Threads;
 use table_fill::Table;
 use win_index::{MAX_ROUNDS, MAX_TUPLE_LEN, Shape};
 
-// Numbers that look random, by a linear congruence.
+// A linear congruential generator.
 #[derive(Drop)]
 struct Numbers {
     state: u32,
 }
 
 impl Numbers {
-    // The next number below 128.
+    // Returns the next number, below 128.
     fn next(&mut self) -> u32 {
         self.state = self
             .state
@@ -29,7 +29,7 @@ impl Numbers {
     }
 }
 
-// A table of this shape with channels below 128.
+// Returns a table of this shape with channels below 128.
 fn random_table(
     rt: &impl Abort,
     alloc: Global,
@@ -43,7 +43,7 @@ fn random_table(
     table_of(rt, alloc, shape, 128, &channels)
 }
 
-// The places of a tuple that break the separation, and their channels.
+// Returns the places at which a tuple breaks the separation, and their channels.
 fn broken(table: &Table, separation: Separation, tuple: &[u32]) -> Option<((u32, u32), (u32, u32))>
     requires { 2 * table.now.rounds + 2 ≤ length tuple.now }
 {
@@ -61,7 +61,7 @@ fn broken(table: &Table, separation: Separation, tuple: &[u32]) -> Option<((u32,
     None
 }
 
-// The number of the first bad tuple, and the tuple.
+// Returns the number of the first bad tuple, and leaves the tuple in `cells`.
 fn first_bad_tuple(
     table: &Table,
     separation: Separation,
@@ -77,7 +77,8 @@ fn first_bad_tuple(
     None
 }
 
-// Whether a table is good: the judge and its parts say so, or name the first bad tuple of a walk.
+// Returns whether a table is good. Checks that the judge and its parts agree with a walk, and name
+// the same bad tuple.
 fn is_good<R: Abort + Threads + Sync>(
     rt: &R,
     alloc: Global,
@@ -101,7 +102,7 @@ fn is_good<R: Abort + Threads + Sync>(
     Ok(bad.is_none())
 }
 
-// How many of thirty tables of so many identifiers and rounds are good, each for a separation of near 1 to 3 and far 0 to 3.
+// Returns how many of thirty tables are good, each for a separation of near 1 to 3 and far 0 to 3.
 fn good_of_thirty<R: Abort + Threads + Sync>(
     rt: &R,
     alloc: Global,
@@ -123,7 +124,7 @@ fn good_of_thirty<R: Abort + Threads + Sync>(
     Ok(good)
 }
 
-// Three hundred and thirty tables.
+// Judges three hundred and thirty tables.
 #[test]
 fn the_judge_beside_a_walk(rt: HostRuntime) -> Result<(), Fail> {
     let shapes = [
@@ -149,8 +150,9 @@ fn the_judge_beside_a_walk(rt: HostRuntime) -> Result<(), Fail> {
     Ok(())
 }
 
-// The judge beside a walk, on tables that give each window its middle, but one window another channel: one window in so many in
-// turn, and the last. With near 1 and far 1 a bad tuple has that window first, second or third.
+// Compares the judge with a walk, on tables that give each window its middle, except one window,
+// which has another channel: each window in turn whose number is a multiple of `each`, and the
+// last. With near 1 and far 1 it is the first, second or third of a bad tuple.
 fn assert_middles<R: Abort + Threads + Sync>(
     rt: &R,
     alloc: Global,
@@ -170,7 +172,7 @@ fn assert_middles<R: Abort + Threads + Sync>(
     Ok(())
 }
 
-// The verdict is the same for every number of workers.
+// Checks that the verdict is the same for every number of workers.
 fn assert_workers_agree<R: Abort + Threads + Sync>(
     rt: &R,
     alloc: Global,
@@ -187,7 +189,7 @@ fn assert_workers_agree<R: Abort + Threads + Sync>(
     Ok(())
 }
 
-// These shapes have blocks that are counted.
+// The blocks of these shapes are counted.
 #[test]
 fn one_other_channel_beside_a_walk(rt: HostRuntime) -> Result<(), Fail> {
     let rows = [

@@ -1,7 +1,7 @@
 use Rattle.std.proofs.Common.{◌≡◌, ℕ, ◌+◌, ◌-◌, ◌*◌, ◌<◌, ◌&&◌, eqb, ltb, cond, get_or}
 use Rattle.nbhd_check.proofs.counts.add_row_before.Given as goal
 
--- the cells of the row so far have those of the row before added
+-- the row before was added to the cells of the row so far
 abbrev pub invariant-loop-x : goal.invariant-loop-x
 invariant-loop-x l =
     (v y : ℕ) → y < l.wide → get_or l.cells (v * l.wide + y) 0

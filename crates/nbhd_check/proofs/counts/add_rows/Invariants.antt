@@ -2,7 +2,7 @@ use Rattle.std.proofs.Common.{◌≡◌, ◌==◌, ℕ, ◌+◌, ◌*◌, ◌<�
 use Rattle.nbhd_check.specs.Counts.{held_count}
 use Rattle.nbhd_check.proofs.counts.add_rows.Given as goal
 
--- the rows before this one are sums, and the others are not
+-- the rows before this one are sums, and the others are counts
 abbrev pub invariant-loop-row : goal.invariant-loop-row
 invariant-loop-row l =
     ((v x : ℕ) → x < l.wide → v < l.row → get_or l.cells (v * l.wide + x) 0 ≡ held_count l.table l.fn.first l.fn.count x (λ channel. nat_lt channel v))

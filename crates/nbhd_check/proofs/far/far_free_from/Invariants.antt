@@ -3,7 +3,7 @@ use Rattle.nbhd_check.specs.Counts.{middle_of, AreCountsOnceMade, CountsFit}
 use Rattle.nbhd_check.specs.FarSearch.{AreFarFreeIn}
 use Rattle.nbhd_check.proofs.far.far_free_from.Given as goal
 
--- the list has the same first identifier and the same ones in its middle, and the windows so far are searched
+-- the list has the same first identifier and the same middle, and the windows so far are searched
 abbrev pub invariant-loop-second : goal.invariant-loop-second
 invariant-loop-second l =
     (get_or l.list 0 0 ≡ get_or l.initial.list 0 0) × (middle_of l.table l.list ≡ middle_of l.table l.initial.list)

@@ -3,7 +3,7 @@ use Rattle.nbhd_check.specs.Counts.{middle_of, AreCountsOnceMade, CountsFit}
 use Rattle.nbhd_check.specs.FarSearch.{AreFarFreeIn}
 use Rattle.nbhd_check.proofs.far.far_free_in_block.Given as goal
 
--- the list has the same identifiers in its middle, and the windows so far are searched
+-- the list has the same middle, and the windows so far are searched
 abbrev pub invariant-loop-first : goal.invariant-loop-first
 invariant-loop-first l =
     (middle_of l.table l.list ≡ middle_of l.table l.initial.list)

@@ -5,7 +5,7 @@ use Rattle.nbhd_check.specs.Apart.{NoneIsBad}
 use Rattle.nbhd_check.specs.Runs.{run_len}
 use Rattle.nbhd_check.proofs.part.scan_runs.Given as goal
 
--- the window is the next one to be looked at, and no tuple that begins with one before it is bad
+-- the window is the next one, and no tuple that begins with one before it is bad
 abbrev pub invariant-loop-number : goal.invariant-loop-number
 invariant-loop-number l =
     (l.number < l.last + 1 → slice_get (windows_of l.table) l.number ≡ Some l.window)

@@ -1,7 +1,7 @@
 use Rattle.std.proofs.Common.{◌≡◌, length}
 use Rattle.nbhd_check.proofs.tests.table_of.Given as goal
 
--- as many windows have their channel as channels were looked at
+-- the windows so far have their channels
 abbrev pub invariant-loop-channel : goal.invariant-loop-channel
 invariant-loop-channel g l =
     (l.maker.channels ≡ l.count)

@@ -3,7 +3,7 @@ use Rattle.win_index.specs.Windows.{IsWindow}
 use Rattle.nbhd_check.specs.Apart.{extra, tuples, NoneIsBad}
 use Rattle.nbhd_check.proofs.tuple.scan.Given as goal
 
--- the tuple is the next one to be looked at, and none before it is bad
+-- the tuple is the next one, and none before it is bad
 abbrev pub invariant-loop-number : goal.invariant-loop-number
 invariant-loop-number l =
     (l.number < l.high → slice_get (tuples l.table l.separation) l.number ≡ Some l.tuple)
