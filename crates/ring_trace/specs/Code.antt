@@ -1,4 +1,4 @@
--- A code by which a proof tells configurations apart. No contract cites it.
+-- An injective code of configurations, which their model asks for. No contract cites it.
 use Rattle.std.specs.Prelude.{ℕ, List, refl}
 use Rattle.std.specs.Coded.{Coded, code_by, coded×, coded_ℕ, coded_list}
 use Rattle.node_lang.specs.Term.{ProgramTree}

@@ -1,4 +1,4 @@
-//! The configuration of a ring: what all its places hold between two rounds.
+//! The configuration of a ring: the registers of all its places between two rounds.
 
 ghost use Rattle.std.specs.Prelude.{◌≡◌, IfOk, length};
 
@@ -13,21 +13,21 @@ use std::marker::Model;
 use std::mem;
 use win_index::Ring;
 
-/// What is told of a place of a ring.
+/// A number that a configuration reports of a place.
 #[derive(Clone, Copy, Debug, PartialEq, Eq)]
 pub enum Told {
-    /// What it holds in this register.
+    /// The value of this register.
     Register(u32),
-    /// What it sends to its left in the next round.
+    /// Its message to the left in the next round.
     Left,
-    /// What it sends to its right in the next round.
+    /// Its message to the right in the next round.
     Right,
-    /// Its channel, by the registers that it holds.
+    /// Its channel, from its registers.
     Channel,
 }
 
-/// What all places of a ring hold after some rounds of a plan: in each round all of them send, and then all of them
-/// step. It takes a cell for each register of each place, twice.
+/// The registers of all places of a ring after some rounds of a plan. In each round all places
+/// send, and then all of them step. It allocates two cells for each register of each place.
 #[derive(Drop)]
 pub struct Configuration<'a> {
     plan: &'a Plan,
@@ -57,7 +57,8 @@ impl<'a> Configuration<'a> {
     ghost use Rattle.node_lang.specs.GlobalRounds.{state};
     ghost use Rattle.ring_trace.specs.Configuration.{told, CanTell};
 
-    /// What the places hold before the first round. The ring is one of the plan's identifiers.
+    /// Returns the configuration before the first round. The ring must have the plan's number of
+    /// identifiers. Fails with `OutOfMemory` if memory was refused.
     #[tactic(auto, using(std::proofs::lemmas::Nat::row_fits))]
     pub fn new(
         alloc: Global,
@@ -81,7 +82,7 @@ impl<'a> Configuration<'a> {
         })
     }
 
-    /// How many places the ring has.
+    /// Returns the number of places of the ring.
     pub fn places(&self) -> u32
         ensures value { result ≡ length self.now.places }
         ensures some { 2 ≤ result }
@@ -89,14 +90,14 @@ impl<'a> Configuration<'a> {
         self.ring.len()
     }
 
-    /// How many registers a place has.
+    /// Returns the number of registers of a place.
     pub fn registers(&self) -> u32
         ensures { result ≡ length self.now.program.start }
     {
         self.plan.program().registers()
     }
 
-    /// How many rounds are done, at most those of the program.
+    /// Returns the number of rounds that are done, at most those of the program.
     pub fn round(&self) -> u32
         ensures value { result ≡ self.now.round }
         ensures few { result ≤ length self.now.program.steps }
@@ -104,7 +105,7 @@ impl<'a> Configuration<'a> {
         self.round
     }
 
-    /// One round more.
+    /// Does one more round. The program must have one more.
     #[tactic(auto, using(std::proofs::lemmas::Nat::row_fits))]
     pub fn advance(&mut self)
         requires { self.old.round < length self.old.program.steps }
@@ -129,7 +130,8 @@ impl<'a> Configuration<'a> {
         self.round += 1;
     }
 
-    /// What is told of a place. Registers are those of the program, and messages are those of the next round.
+    /// Returns the number `what` of a place. A register must be one of the program, and for
+    /// messages the program must have a next round.
     pub fn told(&self, what: Told, place: u32) -> u32
         requires place { place < length self.now.places }
         requires what { CanTell self.now what }
@@ -144,7 +146,7 @@ impl<'a> Configuration<'a> {
         }
     }
 
-    // What a place holds.
+    // Returns the registers of a place.
     #[tactic(auto, using(std::proofs::lemmas::Nat::row_fits))]
     fn held_by(&self, place: u32) -> &[u32]
         requires { place < length self.now.places }
@@ -155,7 +157,7 @@ impl<'a> Configuration<'a> {
     }
 }
 
-// A list of zeros.
+// Returns a list of `len` zeros.
 fn zeros(alloc: Global, len: usize) -> Result<Vec<u32>, OutOfMemory>
     ensures { IfOk result (λ cells. length cells.items ≡ len) }
 {

@@ -1,4 +1,4 @@
-//! A run of a ring in one thread that can be looked at before and after each round.
+//! A run of a ring in one thread, whose state can be read before and after each round.
 #![tactic(auto)]
 
 mod configuration;

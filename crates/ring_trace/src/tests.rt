@@ -6,7 +6,7 @@ use std::test::Fail;
 use test_programs::{TWO_REGISTERS, plan_of};
 use win_index::Ring;
 
-// What is told of each place of a ring of four.
+// Returns the number `what` of each place of a ring of four.
 fn of_all(places: &Configuration<'_>, what: Told) -> [u32; 4]
     requires four { length places.now.places ≡ 4 }
     requires what { CanTell places.now what }
