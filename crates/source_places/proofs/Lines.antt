@@ -1,4 +1,4 @@
--- Slices of the code as parts of a line, and blanks below what is shown.
+-- Slices of the code as parts of a line, and blanks below the bytes shown.
 use Rattle.std.proofs.Common.{◌≡◌, ℕ, ◌+◌, ◌-◌, ◌<◌, List, [], ◌∷◌, ◌++◌, length, take, drop, get_or, replicate, sym, ap, ◌∙◌, add-one, append_assoc, append-nil, length-append}
 use Rattle.std.proofs.Math.Seq.{take-suc}
 use Rattle.std.proofs.lemmas.Grind.{flat_map-append}
@@ -7,12 +7,12 @@ use Rattle.std.specs.List.{prefix_len, suffix_len}
 use Rattle.source_places.specs.Places.{in_line, line_before, line_from}
 use Rattle.source_places.specs.Shown.{shown_byte, shown}
 
--- the rest of the front of a text from here on
+-- the end of the prefix of a text
 pub before_is : (text : List ℕ) (offset n : ℕ) → n ≡ suffix_len in_line (take offset text) →
     take (length (take offset text) - (length (take offset text) - n)) (drop (length (take offset text) - n) (take offset text)) ≡ line_before text offset
 before_is text offset n e = take_rest (take offset text) (length (take offset text) - n) ∙ ap (λ k. drop (length (take offset text) - k) (take offset text)) e
 
--- the front of the rest of a text
+-- the start of the rest of a text
 pub from_is : (text : List ℕ) (offset n : ℕ) → n ≡ prefix_len in_line (take (length text - offset) (drop offset text)) →
     take n (take (length text - offset) (drop offset text)) ≡ line_from text offset
 from_is text offset n e = ap (λ k. take k (take (length text - offset) (drop offset text))) e ∙ ap (λ xs. take (prefix_len in_line xs) xs) (take_rest text offset)
@@ -26,7 +26,7 @@ blanks n = replicate n 32
 blanks-append : (xs ys : List ℕ) → blanks (length xs) ++ blanks (length ys) ≡ blanks (length (xs ++ ys))
 blanks-append xs ys = replicate-append-replicate (length xs) (length ys) 32 ∙ ap blanks (sym (length-append xs ys))
 
--- after blanks for one more byte
+-- after the blanks of one more byte
 pub blanks_next : (x y z bs : List ℕ) (i : ℕ) → i < length bs → y ≡ x ++ replicate (length (shown (take i bs))) 32 →
     z ≡ y ++ replicate (length (shown_byte (get_or bs i 0))) 32 → z ≡ x ++ replicate (length (shown (take (i + 1) bs))) 32
 blanks_next x y z bs i h before e =

@@ -1,4 +1,4 @@
--- Where a byte stands in a text: its line and its column, and the line around it.
+-- The place of a byte in a text: its line and its column, and the line around it.
 use Rattle.std.specs.Prelude.{ℕ, ◌+◌, ◌==◌, Bool, not, List, length, take, drop, count_by}
 use Rattle.std.specs.List.{before_first, after_last}
 
@@ -14,7 +14,7 @@ in_line b = not (is_feed b)
 abbrev pub line_number : List ℕ → ℕ → ℕ
 line_number text offset = count_by is_feed (take offset text) + 1
 
--- what stands on its line before it: all behind the last line feed before it
+-- the bytes before it on its line: those after the last line feed before it
 abbrev pub line_before : List ℕ → ℕ → List ℕ
 line_before text offset = after_last is_feed (take offset text)
 
@@ -22,6 +22,6 @@ line_before text offset = after_last is_feed (take offset text)
 abbrev pub column : List ℕ → ℕ → ℕ
 column text offset = length (line_before text offset) + 1
 
--- what stands on its line from it on: all up to the next line feed
+-- the bytes from it on that are on its line: those before the next line feed
 abbrev pub line_from : List ℕ → ℕ → List ℕ
 line_from text offset = before_first is_feed (drop offset text)

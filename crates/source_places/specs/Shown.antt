@@ -1,4 +1,4 @@
--- A line of a text and a mark below a place, as notes show them.
+-- A line of a text with a mark below a place, in a note.
 use Rattle.std.specs.Prelude.{ℕ, ◌-◌, ◌/◌, ◌%◌, ◌==◌, false, ◌&&◌, ◌||◌, ◌++◌, nat_lt, nat_le, List, [], ◌∷◌, length, take, drop, codes, replicate, if◌then◌else◌}
 use Rattle.std.specs.List.{flat_map}
 use Rattle.std.specs.Fmt.{digit_glyph}
@@ -9,8 +9,8 @@ use Rattle.source_places.specs.Places.{line_before, line_from}
 abbrev pub escaped : ℕ → List ℕ
 escaped b = 92 ∷ 120 ∷ digit_glyph false (b / 16) ∷ digit_glyph false (b % 16) ∷ []
 
--- A byte as it is shown: a tab (9) and a carriage return (13) as a blank, a printable ASCII byte as it is, and any other as `\x` and two
--- hexadecimal digits.
+-- A byte as it is shown: a tab (9) or a carriage return (13) as a blank, a printable ASCII byte unchanged, and any
+-- other as `\x` and two hexadecimal digits.
 abbrev pub shown_byte : ℕ → List ℕ
 shown_byte b = if (b == 9) || (b == 13) then 32 ∷ []
     else if nat_le 32 b && nat_lt b 127 then b ∷ []
@@ -19,18 +19,18 @@ shown_byte b = if (b == 9) || (b == 13) then 32 ∷ []
 abbrev pub shown : List ℕ → List ℕ
 shown bytes = flat_map shown_byte bytes
 
--- the last bytes of a list, at most so many
+-- the last `count` bytes of a list, or all if there are fewer
 abbrev pub last_bytes : ℕ → List ℕ → List ℕ
 last_bytes count bytes = drop (length bytes - count) bytes
 
--- what is shown of a line before a place, and from it on: at most SHOWN_BYTES bytes each
+-- the bytes shown before a place on its line, and from it on: at most SHOWN_BYTES of the line each
 abbrev pub shown_before : List ℕ → ℕ → List ℕ
 shown_before text offset = shown (last_bytes SHOWN_BYTES (line_before text offset))
 
 abbrev pub shown_from : List ℕ → ℕ → List ℕ
 shown_from text offset = shown (take SHOWN_BYTES (line_from text offset))
 
--- the line of a place, and a mark below the place; each is two blanks further to the right
+-- the line of a place, and a mark below the place; each after two blanks
 unfoldable pub marked_line : List ℕ → ℕ → List ℕ
 marked_line text offset =
     codes "  " ++ (shown_before text offset ++ (shown_from text offset

@@ -1,4 +1,4 @@
-//! Where a byte stands in a text: its line and its column, and its line with a mark below it.
+//! The place of a byte in a text: its line and its column, and its line with a mark below it.
 #![tactic(auto)]
 
 mod places;

@@ -4,7 +4,8 @@ ghost use Rattle.std.specs.Prelude.{◌≡◌, ◌≤◌, length};
 ghost use Rattle.std.specs.List.{prefix_len, suffix_len};
 ghost use Rattle.source_places.specs.Places.{in_line, line_number, column, line_before as before, line_from as from};
 
-/// The line of the byte at this offset, counted from 1. The text's length is an offset too.
+/// Returns the line of the byte at this offset, counted from 1. The offset can be the text's
+/// length.
 pub fn line_of(text: &[u8], offset: usize) -> usize
     requires { offset ≤ length text.now }
     ensures { result ≡ line_number text.now offset }
@@ -12,7 +13,8 @@ pub fn line_of(text: &[u8], offset: usize) -> usize
     text[..offset].iter().filter(|byte| **byte == b'\n').count() + 1
 }
 
-/// The column of the byte at this offset, counted from 1. Each byte of a line is one column.
+/// Returns the column of the byte at this offset, counted from 1. Each byte of a line is one
+/// column. The offset can be the text's length.
 pub fn column_of(text: &[u8], offset: usize) -> usize
     requires { offset ≤ length text.now }
     ensures { result ≡ column text.now offset }
@@ -20,7 +22,7 @@ pub fn column_of(text: &[u8], offset: usize) -> usize
     line_before(text, offset).len() + 1
 }
 
-// How many bytes there are behind the last line feed.
+// Returns the number of bytes after the last line feed.
 fn last_line_len(text: &[u8]) -> usize
     ensures value { result ≡ suffix_len in_line text.now }
     ensures within { result ≤ length text.now }
@@ -28,7 +30,7 @@ fn last_line_len(text: &[u8]) -> usize
     text.iter().rev().take_while(|byte| **byte != b'\n').count()
 }
 
-// How many bytes there are before the first line feed.
+// Returns the number of bytes before the first line feed.
 fn first_line_len(text: &[u8]) -> usize
     ensures value { result ≡ prefix_len in_line text.now }
     ensures within { result ≤ length text.now }
@@ -36,7 +38,7 @@ fn first_line_len(text: &[u8]) -> usize
     text.iter().take_while(|byte| **byte != b'\n').count()
 }
 
-// What stands on its line before this offset.
+// Returns the bytes before this offset that are on its line.
 #[tactic(auto, using(crate::proofs::Lines::before_is))]
 pub(crate) fn line_before(text: &[u8], offset: usize) -> &[u8]
     requires { offset ≤ length text.now }
@@ -46,7 +48,7 @@ pub(crate) fn line_before(text: &[u8], offset: usize) -> &[u8]
     &front[front.len() - last_line_len(front)..]
 }
 
-// What stands on its line from this offset on.
+// Returns the bytes from this offset on that are on its line.
 #[tactic(auto, using(crate::proofs::Lines::from_is))]
 pub(crate) fn line_from(text: &[u8], offset: usize) -> &[u8]
     requires { offset ≤ length text.now }

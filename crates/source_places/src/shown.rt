@@ -1,4 +1,4 @@
-//! A line of a text, and a mark below a place of it.
+//! A line of a text, with a mark below one of its bytes.
 
 ghost use Rattle.std.specs.Prelude.{◌≡◌, ◌≤◌, ◌++◌, length, take, replicate, OnOk, string_bytes};
 ghost use Rattle.source_places.specs.Shown.{escaped, shown_byte, shown, marked_line, last_bytes};
@@ -7,12 +7,14 @@ use crate::places::{line_before, line_from};
 use std::alloc::AllocError;
 use std::fmt::Write;
 
-/// How many bytes of a line are shown at most before a place, and how many from it on.
+/// The maximum number of bytes of a line that are shown before a place, and from it on.
 pub const SHOWN_BYTES: usize = 60;
 
-/// Writes the line of the byte at this offset, and a line with a mark below the byte. Of a long line the part around
-/// the byte is written. A byte that is no printable ASCII byte is written as `\x` and two hexadecimal digits, a tab
-/// and a carriage return as a blank.
+/// Writes the line of the byte at this offset, and a line with a mark below the byte. At most
+/// `SHOWN_BYTES` bytes before the byte and as many from it on are written, as `write_shown` writes
+/// them. The offset can be the text's length.
+///
+/// Fails if memory was refused; `out` can then have a part of the lines.
 #[tactic(auto, unfolding(crate::specs::Shown::marked_line))]
 pub fn write_marked_line(out: &mut String, text: &[u8], offset: usize) -> Result<(), AllocError>
     requires { offset ≤ length text.now }
@@ -29,14 +31,14 @@ pub fn write_marked_line(out: &mut String, text: &[u8], offset: usize) -> Result
     Ok(())
 }
 
-// The last bytes, as many as this, or all.
+// Returns the last `count` bytes, or all if there are fewer.
 fn last_of(bytes: &[u8], count: usize) -> &[u8]
     ensures { result.now ≡ last_bytes count bytes.entry.now }
 {
     &bytes[bytes.len().saturating_sub(count)..]
 }
 
-// The first bytes, as many as this, or all.
+// Returns the first `count` bytes, or all if there are fewer.
 #[tactic(auto, using(std::proofs::lemmas::List::take_all))]
 fn first_of(bytes: &[u8], count: usize) -> &[u8]
     ensures { result.now ≡ take count bytes.entry.now }
@@ -68,8 +70,8 @@ fn write_byte(out: &mut String, byte: u8) -> Result<(), AllocError>
     write_escape(out, byte)
 }
 
-/// Writes bytes as they are shown: a printable ASCII byte as it is, a tab and a carriage return as a blank, and any other byte
-/// as `\x` and two hexadecimal digits.
+/// Writes bytes as they are shown: a printable ASCII byte unchanged, a tab or a carriage return as
+/// a blank, and any other byte as `\x` and two hexadecimal digits.
 pub fn write_shown(out: &mut String, bytes: &[u8]) -> Result<(), AllocError>
     ensures { OnOk result (string_bytes out.new ≡ string_bytes out.old ++ shown bytes.now) }
 {
@@ -79,7 +81,7 @@ pub fn write_shown(out: &mut String, bytes: &[u8]) -> Result<(), AllocError>
     Ok(())
 }
 
-// A blank for each byte that a byte is shown as.
+// Returns a blank for each byte that `write_byte` writes for this byte.
 fn blanks_of(byte: u8) -> &'static str
     ensures { result.now ≡ replicate (length (shown_byte byte)) 32 }
 {
@@ -92,7 +94,7 @@ fn blanks_of(byte: u8) -> &'static str
     "    "
 }
 
-// Writes a blank for each byte that these bytes are shown as.
+// Writes a blank for each byte that `write_shown` writes for these bytes.
 fn write_blanks(out: &mut String, bytes: &[u8]) -> Result<(), AllocError>
     ensures { OnOk result (string_bytes out.new ≡ string_bytes out.old ++ replicate (length (shown bytes.now)) 32) }
 {
