@@ -19,12 +19,12 @@ blanked-append false (b ∷ bs) ys =
       | false ↦ ap (λ (t : List ℕ). b ∷ t) (blanked-append false bs ys)
     ]
 
--- how many bytes follow does not matter for the tokens
+-- the tokens do not depend on the number of bytes that follow
 count_free : (n m : ℕ) (word : List ℕ) (rest : List Lexeme) → tokens_in (joined n word rest) ≡ tokens_in (joined m word rest)
 count_free n m [] rest = refl
 count_free n m (b ∷ bs) rest = refl
 
--- this text begins with the same word as that, and has these tokens more
+-- this text begins with the same word as that one, and has these tokens more
 pub record Extends (longer shorter : Split) (more : List Token) : Type 0 where
   pub word : longer.word ≡ shorter.word
   pub tokens : tokens_in longer.rest ≡ tokens_in shorter.rest ++ more

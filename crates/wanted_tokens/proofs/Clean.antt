@@ -1,4 +1,4 @@
--- The text before the fault of a text has no fault but that it ends too soon.
+-- The text before the fault of a text has no other fault than that it ends too soon.
 use Rattle.std.proofs.Common.{◌≡◌, ◌≢◌, ℕ, ◌+◌, ◌-◌, ◌<◌, ◌≤◌, List, [], ◌∷◌, ◌++◌, length, take, refl, sym, ap, ◌∙◌, subst, arith}
 use Rattle.std.specs.Prelude.{All}
 use Rattle.std.proofs.Math.Seq.{take-length}
@@ -20,7 +20,7 @@ use Rattle.wanted_tokens.proofs.Prefix.{tokens_of-before}
 use Rattle.wanted_tokens.proofs.Reached.{Came, Halted, At, come, went_on, Matches, program_matches_come, Reaches, program_reaches}
 use Rattle.wanted_tokens.proofs.Following.{lexeme_fault}
 
--- the lexeme at which reading stops, and where it was before it
+-- the lexeme at which reading stops, and the place before it
 record Halt (w : Rest) (n from : ℕ) (ls : List Lexeme) : Type 0 where
   pub before : List Lexeme
   pub lexeme : Lexeme
@@ -57,7 +57,7 @@ halts [] (ANumber low high w) n from k other e = absurd (other (cc))
 halts (l ∷ ls) w n from k other e =
     halt_met w n from l ls k (meets w n l.token) refl (sym (read_next w n l.from l.token ls) ∙ e) (λ v read. halts ls v (counted w n) from k other read)
 
--- a text that leads to a place has no fault but that it ends there
+-- a text that leads to a place has no other fault than that it ends there
 ends_only : (c : Came) (r : Read ProgramTree) (v : Rest) (n from : ℕ) (k : FaultKind) → c ≡ At v n → Matches c r → r ≡ Fault k from → k ≡ kind.EndOfText
 ends_only (Halted j) r v n from k e m f = absurd (cc)
 ends_only (At (Nothing p) j) r v n from k e m f = absurd (let both : Got p j [] ≡ Fault k from = sym m ∙ f in cc)
@@ -109,7 +109,7 @@ nothing_said : (text : List ℕ) (o from : ℕ) (j : FaultKind) → length text 
 nothing_said text o from j short ascii read at (faulty k offset fault other) = absurd (other (before_is_clean text o from j short ascii read at k offset fault))
 nothing_said text o from j short ascii read at (full h) = let fits : length (take o text) ≡ o = length-take-le o text (omega (arith, at)) in omega (arith, h, fits)
 
--- so before such a fault something is said to be wanted
+-- so something can follow before such a fault
 pub faults_have_wanted : FaultsHaveWanted
 faults_have_wanted text k offset (too_long h) long ascii says = absurd (long refl)
 faults_have_wanted text k offset (not_ascii o short h) long ascii says = absurd (ascii refl)

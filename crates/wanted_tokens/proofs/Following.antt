@@ -1,4 +1,4 @@
--- What can follow a text that ends too soon, and what is wanted there.
+-- What can follow a text that ends too soon.
 use Rattle.std.proofs.Common.{◌≡◌, ◌≢◌, ℕ, suc, ◌+◌, ◌<◌, ◌≤◌, Bool, true, false, List, [], ◌∷◌, ◌++◌, length, get_or, Option, Some, None, lit<, length-append, append_assoc, append-nil, refl, sym, subst, ap, ◌∙◌, arith, inl, inr}
 use Rattle.std.specs.Prelude.{All, replicate}
 use Rattle.std.proofs.lemmas.Bool.{cases_order, cond_both, eq-eqb}
@@ -59,7 +59,7 @@ viable_completed t d p c = viable_marks t c.program p.marks c.more d c.each_regi
 viable_node : {before : List Token} {t : Token} {depth count : ℕ} → BeginsNode before t depth count → IsViable (before ++ t ∷ [])
 viable_node {t = t} {depth = depth} b = viable_marks t b.program b.marks_before b.marks_after depth b.each_register b.tokens_before b.are
 
--- a program of so many rounds, channels and registers
+-- a program with these numbers of rounds, channels and registers
 abbrev plain_program : ℕ → ℕ → ℕ → ProgramTree
 plain_program r c k = record {
   channels = c;
@@ -78,7 +78,7 @@ plain_is_program r c k = each_same r _ _ refl
 abbrev plain_step : ℕ → Step
 plain_step k = record { left = Identifier; right = Identifier; next = replicate k Identifier }
 
--- so each number of the header goes on to a program, out of its range too
+-- so each number of the header goes on to a program, even out of its range
 viable_out : {before : List Token} {t : Token} → IsOutOfRange before t → IsViable (before ++ t ∷ [])
 viable_out (rounds r h) =
     let p : ProgramTree = plain_program r 0 0 in
@@ -99,7 +99,7 @@ viable_out (registers r c k h) =
       spells = ap (λ m. all m k) (sym (length-replicate r (plain_step k))) ∙ ap (λ n. all (length p.steps) n) (sym (length-replicate k Identifier));
     }
 
--- a token that can come next goes on to a program
+-- a token that can be next goes on to a program
 abbrev CompletedIf : (List Mark → List Mark) → Option Rest → Type 0
 CompletedIf f None = Unit {0}
 CompletedIf f (Some v) = Completed f
@@ -135,7 +135,7 @@ viable_number {before} {low = low} {high = high} {w = w} n p =
       | inr (inr e) ↦ elim (cases_order n high) [ inl f ↦ inside (omega arith) (omega arith) | inr (inl f) ↦ inside (omega arith) (omega arith) | inr (inr f) ↦ out (inr f) ]
     ]
 
--- what can come next goes on to a program
+-- a next token of the rest goes on to a program
 step_viable : {before : List Token} {nodes : ℕ} (w : Rest) (t : Token) {v : Rest} → Place before nodes w → step w t ≡ Some v → IsViable (before ++ t ∷ [])
 step_viable (Nothing q) t p e = absurd (cc)
 step_viable {before} (AToken s w) t {v} p e =
@@ -145,7 +145,7 @@ step_viable (AnExpression d w) t p e = viable_if t (d + 1) p (following d w t) e
 step_viable (ANumber low high w) (token.Number n) p e = viable_number n p
 step_viable (ANumber low high w) t p e = absurd (cc)
 
--- and what goes on to a program can come next
+-- and a token that goes on to a program can be next
 viable_steps : {before : List Token} {nodes : ℕ} {w : Rest} (t : Token) → Place before nodes w → IsViable (before ++ t ∷ []) → (v : Rest) × (step w t ≡ Some v)
 viable_steps {before} t p v =
     let n = next_of t v.more p v.program v.each_register (sym v.spells ∙ append_assoc before (t ∷ []) v.more) in (n.rest, n.steps)
@@ -158,7 +158,7 @@ goes_if w n t (Some u) e = (u, refl)
 step_goes : {before : List Token} {n : ℕ} (w : Rest) (t : Token) {v : Rest} → Place before n w → meets w n t ≡ Goes v → IsViable (before ++ t ∷ [])
 step_goes {n = n} w t p e = step_viable w t p (goes_if w n t (step w t) e).1
 
--- the place that a text reaches, where it only ends too soon
+-- the place that a text reaches, if it only ends too soon
 pub record OpenPlace (before : List Token) : Type 0 where
   pub rest : Rest
   pub nodes : ℕ
@@ -200,11 +200,11 @@ open_place text offset fault =
     let stop = lexeme_fault text kind.EndOfText offset fault plain.short plain.ascii in
     open_at (come a_program 0 (tokens_of text)) stop.0 (program 0 (lexemes_of text)) refl stop.1 (program_matches_come (lexemes_of text)) (program_reaches (tokens_of text))
 
--- a program that is read shows that its tokens go on to one
+-- the tokens of a text that is read go on to a program
 pub reads_viable : (text : List ℕ) (p : ProgramTree) (ts : List Token) → Reads text p → tokens_of text ≡ ts → IsViable ts
 reads_viable text p ts reads e = record { program = p; more = []; each_register = reads.limits.each_register; spells = append-nil ts ∙ sym e ∙ reads.tokens }
 
--- what a fault at the last token, or behind it, says of that token
+-- the fault at the last token, or after it, decides whether that token is refused
 pub record Judged (before : List Token) (t : Token) (k : FaultKind) : Type 0 where
   pub refused : k ≡ kind.Unexpected → IsViable (before ++ t ∷ []) → ⊥
   pub taken : k ≢ kind.Unexpected → IsViable (before ++ t ∷ [])
@@ -230,7 +230,7 @@ came_judged t k from r w (Goes (AnExpression d v)) p met known small read m says
 came_judged t k from r w (Goes (ANumber low high v)) p met known small read m says =
     let both : Fault kind.EndOfText 0 ≡ Fault k from = sym m ∙ read in record { refused = λ e. absurd (cc); taken = λ _. step_goes w t p met }
 
--- a text with one token more, which is refused there or not
+-- a text with one more token, which is refused there or not
 pub probe_refused : {before : List Token} (o : OpenPlace before) (t : Token) (text : List ℕ) (k : FaultKind) (offset : ℕ) → t ≢ token.Unknown → t ≢ token.LargeNumber →
     tokens_of text ≡ before ++ t ∷ [] → FaultsAt text k offset → length text ≤ LONGEST_TEXT → All (λ b. b < 128) text → Judged before t k
 probe_refused {before} o t text k offset known small tokens fault short ascii =
@@ -241,7 +241,7 @@ probe_refused {before} o t text k offset known small tokens fault short ascii =
     (subst (λ c. Matches c (program 0 (lexemes_of text))) came (program_matches_come (lexemes_of text)))
     (says o.rest t o.place)
 
--- what is wanted where nothing is left
+-- what can follow if there is no rest
 whole_at : (ts : List Token) (c : Came) (r : Read ProgramTree) (p : ProgramTree) (n : ℕ) → r ≡ Got p n [] → Matches c r → Reaches ts c → (m : ℕ) × Place ts m (Nothing p)
 whole_at ts (Halted k) r p n read m reached = absurd (cc (m.1))
 whole_at ts (At (Nothing q) k) r p n read m reached = let both : Got q k [] ≡ Got p n [] = sym m ∙ read in let same : q ≡ p = cc in (k, subst (λ q. Place ts k (Nothing q)) same reached.0)
@@ -260,11 +260,11 @@ end_is_wanted text p reads =
     let at = whole_at (tokens_of text) (come a_program 0 (tokens_of text)) (program 0 (lexemes_of text)) p _ (readable_is_read text p reads) (program_matches_come (lexemes_of text)) (program_reaches (tokens_of text)) in
     ends_wanted at.1 (record { program = p; each_register = reads.limits.each_register; spells = reads.tokens })
 
--- where something is left the tokens are no program
+-- if there is a rest, the tokens are not a whole program
 not_whole : {before : List Token} (o : OpenPlace before) → IsWhole before → ⊥
 not_whole o whole = o.unfinished whole.program (none_of o.place whole.program whole.each_register (sym whole.spells))
 
--- an expression is wanted where `id` can follow
+-- an expression can follow if `id` can
 begins_follows : (d : ℕ) (w : Term → Rest) (t : Token) → BeginsExpression t → (v : Rest) × (following d w t ≡ Some v)
 begins_follows d w (token.Number n) h = (_, refl)
 begins_follows d w token.Id h = (_, refl)
@@ -302,7 +302,7 @@ expression_wanted (AToken s w) p lacks v = absurd (let s = viable_steps token.Id
 expression_wanted (AnExpression d w) p lacks v = term_wanted p lacks
 expression_wanted (ANumber low high w) p lacks v = absurd (let s = viable_steps token.Id p v in let e = s.1 in cc)
 
--- a number is wanted where 0 can follow and `id` cannot
+-- a number can follow if 0 can and `id` cannot
 number_steps : (low high : ℕ) (w : ℕ → Rest) (t : Token) {v : Rest} → step (ANumber low high w) t ≡ Some v → IsNumber t
 number_steps low high w (token.Number n) e = tt
 number_steps low high w t e = absurd (cc)
@@ -327,7 +327,7 @@ number_wanted (AToken s w) p lacks other v = absurd (let s = viable_steps (token
 number_wanted (AnExpression d w) p lacks other v = absurd (other (step_viable (AnExpression d w) token.Id p refl))
 number_wanted (ANumber low high w) p lacks other v = count_wanted p lacks
 
--- a word or a mark, or a register, is wanted where it can follow and `id` cannot
+-- a word, a mark or a register can follow if it can be next and `id` cannot
 no_kind : (x : Wanted) (t u : Token) → token_of x ≡ Some t → MeansAny x u → ⊥
 no_kind wanted.Number t u e h = cc
 no_kind wanted.Expression t u e h = cc
@@ -362,7 +362,7 @@ word_wanted (AToken s w) x t p lacks other names f v = token_wanted s x t p lack
 word_wanted (AnExpression d w) x t p lacks other names f v = absurd (other (step_viable (AnExpression d w) token.Id p refl))
 word_wanted (ANumber low high w) x t p lacks other names f v = absurd (fixed_not_number t f (number_steps low high w t (viable_steps t p v).1))
 
--- what is left begins with a token that can follow, where no expression and no number can
+-- the rest begins with a token that can follow, if no expression and no number can
 same_fixed : (t : Token) → IsFixed t → same_token t t ≡ true
 same_fixed token.Rounds f = refl
 same_fixed token.Channels f = refl
@@ -413,12 +413,12 @@ passed before token.Equals f w r v = w 12 (omega arith) v
 passed before (token.Register j) f w r v = r j f v
 passed before t f w r v = absurd f
 
--- so not all of them are passed
+-- so not all of them are excluded
 pub none_passed : {before : List Token} → OpenPlace before → (IsViable (before ++ token.Id ∷ []) → ⊥) → (IsViable (before ++ token.Number 0 ∷ []) → ⊥) →
     WordsPassed before 13 → RegistersPassed before MAX_REGISTERS → ⊥
 none_passed {before} o a b words others = let s = a_token o a b in passed before s.token s.fixed words others s.viable
 
--- a text with the word behind it that stands for what is wanted
+-- a text followed by a probe
 probe_known : (x : Wanted) → IsProbe x → (probe_of x ≢ token.Unknown) × (probe_of x ≢ token.LargeNumber)
 probe_known wanted.Rounds h = (λ e. cc, λ e. cc)
 probe_known wanted.Channels h = (λ e. cc, λ e. cc)
@@ -456,7 +456,7 @@ probe_judged text word longer x k offset e o probe is fault =
     probe_refused (open_place text o.offset o.fault) (probe_of x) longer k offset known.0 known.1 (probe_tokens text word longer (probe_of x) e is) fault
     (omega (arith, size, is.short, o.room)) (subst (All (λ b. b < 128)) (sym e) ascii)
 
--- where the code finds what can follow
+-- the place of a text in the code
 abbrev at_text : (text : List ℕ) → IsOpen text → OpenPlace (tokens_of text)
 at_text text o = open_place text o.offset o.fault
 

@@ -4,7 +4,7 @@ use Rattle.node_lang.specs.Words.{is_blank, is_word_byte, word_token, mark_token
 use Rattle.node_lang.specs.Lexemes.{Lexeme, Split, blanked, joined, put_before, split_of, lexemes_of, tokens_in, tokens_of}
 use Rattle.wanted_tokens.proofs.Appended.{Extends, put_extends, joined_extends, tokens_split, tokens_of-split}
 
--- lexemes that begin at most so many bytes before the end
+-- lexemes that begin at most this many bytes before the end
 abbrev Within : ℕ → List Lexeme → Type 0
 Within n [] = Unit {0}
 Within n (l ∷ ls) = (l.from ≤ n) × Within n ls
@@ -39,29 +39,30 @@ split_within : (t : List ℕ) → Within (length t) (split_of t).rest
 split_within [] = tt
 split_within (b ∷ bs) = put_within b (length bs) (split_of bs) (split_within bs)
 
--- The front of a text that ends where a lexeme of it begins has the word at its front, and the lexemes before that one.
+-- The prefix of a text that ends where one of its lexemes begins has the word at its start, and the lexemes before that
+-- one.
 abbrev HasCut : (t : List ℕ) (s : Split) (before : List Lexeme) (l : Lexeme) → Type 0
 HasCut t s before l = Extends (split_of (take (length t - l.from) t)) (record { word = s.word; rest = before }) []
 
--- so after one more byte in front, where the lexeme is not of that byte
+-- the same with one more byte before it, if the lexeme does not include that byte
 longer_cut : (b from : ℕ) (bs : List ℕ) → from ≤ length bs → take (suc (length bs) - from) (b ∷ bs) ≡ b ∷ take (length bs - from) bs
 longer_cut b from bs h = ap (λ n. take n (b ∷ bs)) (let e : suc (length bs) - from ≡ suc (length bs - from) = omega (arith, h) in e)
 
--- the lexemes of a split, each with the front of the text before it
+-- the lexemes of a split, each with the prefix of the text before it
 abbrev Cuts : List ℕ → Split → Type 0
 Cuts t s = (before more : List Lexeme) (l : Lexeme) → s.rest ≡ before ++ l ∷ more → HasCut t s before l
 
 same_from : (a b : Lexeme) → a ≡ b → a.from ≡ b.from
 same_from a b e = ap (λ (l : Lexeme). l.from) e
 
--- a lexeme behind a word that ends before a byte
+-- a lexeme after a word that ends before a byte
 joined_cut : (n : ℕ) (word : List ℕ) (rest before more : List Lexeme) (l : Lexeme) → joined n word rest ≡ before ++ l ∷ more →
     (P : Type 0) → ((ms : List Lexeme) → before ≡ joined n word ms → rest ≡ ms ++ l ∷ more → P) → (0 < length word → before ≡ [] → l.from ≡ n → P) → P
 joined_cut n [] rest before more l e P later first = later before refl e
 joined_cut n (b ∷ bs) rest [] more l e P later first = first (omega arith) refl (sym (same_from _ _ (let h : record { from = n; token = word_token (b ∷ bs) } ≡ l = cc in h)))
 joined_cut n (b ∷ bs) rest (m ∷ ms) more l e P later first = later ms (let h : record { from = n; token = word_token (b ∷ bs) } ≡ m = cc in ap (λ x. x ∷ ms) (sym h)) (cc)
 
--- what a byte in front makes of the word, by whether it belongs to it
+-- the word with one more byte before it, by whether the byte belongs to it
 abbrev if_word : Bool → Bool → ℕ → ℕ → Split → Split
 if_word c d b n s = cond c (record { word = b ∷ s.word; rest = s.rest }) (cond d (record { word = []; rest = joined n s.word s.rest })
     (record { word = []; rest = record { from = n + 1; token = mark_token b } ∷ joined n s.word s.rest }))
@@ -78,7 +79,7 @@ no_word false b n s = refl
 put_is : (b n : ℕ) (s : Split) (c d : Bool) → is_word_byte b ≡ c → is_blank b ≡ d → put_before b n s ≡ if_word c d b n s
 put_is b n s c d w k = λ i. if_word (w i) (k i) b n s
 
--- the lexeme stands behind the word that the byte is in front of
+-- the lexeme is after the word that the byte precedes
 cut_later : (b : ℕ) (bs : List ℕ) (before ms : List Lexeme) (l : Lexeme) → l.from ≤ length bs → HasCut bs (split_of bs) ms l →
     tokens_in (put_before b (length bs) (record { word = (split_of bs).word; rest = ms })).rest ≡ tokens_in before → HasCut (b ∷ bs) (split_of (b ∷ bs)) before l
 cut_later b bs before ms l less x e =
@@ -92,7 +93,7 @@ cut_later b bs before ms l less x e =
       tokens = ap (λ u. tokens_in (split_of u).rest) t ∙ y.tokens ∙ ap (λ ts. ts ++ []) e;
     }
 
--- the lexeme is that word, behind a byte of no word
+-- the lexeme is that word, after a byte of no word
 cut_first : (b : ℕ) (bs : List ℕ) (before : List Lexeme) (l : Lexeme) (d : Bool) → is_word_byte b ≡ false → is_blank b ≡ d → l.from ≡ length bs →
     tokens_in (if_word false d b 0 (record { word = []; rest = [] })).rest ≡ tokens_in before → HasCut (b ∷ bs) (split_of (b ∷ bs)) before l
 cut_first b bs before l d w k at e =
@@ -105,7 +106,7 @@ cut_first b bs before l d w k at e =
       tokens = ap (λ u. tokens_in (split_of u).rest) t ∙ ap (λ (s : Split). tokens_in s.rest) one ∙ e ∙ sym (append-nil (tokens_in before));
     }
 
--- the lexeme is a mark, which the byte is
+-- the lexeme is a mark, and the byte is the mark
 cut_mark : (b : ℕ) (bs : List ℕ) (l : Lexeme) → is_word_byte b ≡ false → is_blank b ≡ false → l.from ≡ length bs + 1 → HasCut (b ∷ bs) (split_of (b ∷ bs)) [] l
 cut_mark b bs l w k at =
     let t : take (suc (length bs) - l.from) (b ∷ bs) ≡ [] = ap (λ n. take n (b ∷ bs)) (let m : suc (length bs) - l.from ≡ 0 = omega (arith, at) in m) in
@@ -149,7 +150,7 @@ split_cuts : (t : List ℕ) → Cuts t (split_of t)
 split_cuts [] = λ before more l e. absurd (elim before as (λ before. [] ≡ before ++ l ∷ more → ⊥) [ [] ↦ λ e. cc | m ∷ ms ↦ λ e. cc ] e)
 split_cuts (b ∷ bs) = cuts_byte b bs (is_word_byte b) (is_blank b) refl refl (split_cuts bs)
 
--- a text without its comments, and its fronts
+-- a text without its comments, and its prefixes
 blanked-take : (inside : Bool) (n : ℕ) (text : List ℕ) → blanked inside (take n text) ≡ take n (blanked inside text)
 blanked-take true zero text = elim text as (λ text. blanked true (take 0 text) ≡ take 0 (blanked true text)) [ [] ↦ refl | b ∷ bs ↦ refl ]
 blanked-take false zero text = elim text as (λ text. blanked false (take 0 text) ≡ take 0 (blanked false text)) [ [] ↦ refl | b ∷ bs ↦ refl ]

@@ -1,4 +1,4 @@
--- Where reading the tokens of a text ends: at a fault, or at a place with what is left of a program.
+-- The end of reading the tokens of a text: a fault, or a place with the rest of a program.
 use Rattle.std.proofs.Common.{◌≡◌, ℕ, zero, suc, ◌+◌, ◌-◌, ◌<◌, ◌≤◌, ◌==◌, nat_le, ◌&&◌, List, [], ◌∷◌, ◌++◌, Option, Some, None, append_assoc, append-nil, refl, sym, subst, arith}
 use Rattle.std.proofs.lemmas.Bool.{cond_both}
 use Rattle.std.proofs.lemmas.Bool.Decides.{nat_tests}
@@ -14,7 +14,7 @@ use Rattle.node_lang.specs.Viable.{Stands, unknown, large, out_of_range, unexpec
 use Rattle.node_lang.proofs.Rest.{Rest, Nothing, AToken, AnExpression, ANumber, following, counted, Met, Stops, Goes, checked, meets, assignments, some_rounds, a_program, read, went, read_next, program_read}
 use Rattle.node_lang.proofs.Places.{Place, first_place, Says, says}
 
--- what is met after some tokens
+-- the state after some tokens
 pub data Came : Type 0 where
   Halted : FaultKind → Came
   At : Rest → ℕ → Came
@@ -39,7 +39,7 @@ come-append (t ∷ ts) us w n =
       | Goes v ↦ come-append ts us v (counted w n)
     ]
 
--- what reading lexemes with such tokens answers
+-- the result of reading lexemes with such tokens
 abbrev pub Matches : Came → Read ProgramTree → Type 0
 Matches (Halted k) r = (from : ℕ) × (r ≡ Fault k from)
 Matches (At (Nothing p) n) r = r ≡ Got p n []
@@ -81,7 +81,7 @@ IsFixed token.Equals = Unit {0}
 IsFixed (token.Register j) = j < MAX_REGISTERS
 IsFixed _ = ⊥
 
--- each token that is left is one of them, where the numbers of the header are in their ranges
+-- each token of the rest is one of them, if the numbers of the header are in their ranges
 abbrev pub AllFixed : Rest → Type 0
 AllFixed (Nothing p) = Unit {0}
 AllFixed (AToken t w) = IsFixed t × AllFixed w
@@ -100,7 +100,7 @@ rounds_fixed (suc count) many w few h =
 program_fixed : AllFixed a_program
 program_fixed = (tt, λ i _ _. (tt, λ c _ _. (tt, λ r _ most. (tt, assignments_fixed r 0 _ (omega arith) (λ start. rounds_fixed i r _ most (λ steps. (tt, λ finish. tt)))))))
 
--- so it is after one more token
+-- and so is each one after one more token
 abbrev FixedIf : Option Rest → Type 0
 FixedIf None = Unit {0}
 FixedIf (Some w) = AllFixed w
@@ -133,7 +133,7 @@ fixed_next (ANumber low high w) n (token.Number k) h =
     cond_both (nat_le low k && nat_le k high) (Goes (w k)) (Stops kind.HeaderRange) FixedMet (λ e. h k (grind (arith, nat_tests)) (grind (arith, nat_tests))) (λ _. tt)
 fixed_next (ANumber low high w) n t h = tt
 
--- a fault that stands at a token is not that the text ends
+-- a fault at a token is not that the text ends
 stands_no_end : {before : List Token} {t : Token} (k : FaultKind) → Stands before t k → k ≡ kind.EndOfText → ⊥
 stands_no_end k (unknown e) end = cc
 stands_no_end k (large e) end = cc
@@ -142,7 +142,7 @@ stands_no_end k (unexpected _ _ _ _) end = cc
 stands_no_end k (too_deep _ _ _ _) end = cc
 stands_no_end k (too_many _ _ _ _ _) end = cc
 
--- a place after these tokens with what is left, or a fault other than that the text ends
+-- a place after these tokens with a rest, or a fault other than that the text ends
 abbrev pub Reaches : List Token → Came → Type 0
 Reaches before (Halted k) = k ≡ kind.EndOfText → ⊥
 Reaches before (At w n) = Place before n w × AllFixed w

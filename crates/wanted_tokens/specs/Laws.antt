@@ -6,7 +6,7 @@ use Rattle.node_lang.specs.declared.fault.FaultKind.TheVariants as kind
 use Rattle.node_lang.specs.Faults.{FaultsAt}
 use Rattle.wanted_tokens.specs.Wanted.{SaysNothing, longest_word}
 
--- before a fault that stands in the tokens of a text something is said to be wanted, but where there is no room for a word
+-- before each fault except TooLong and NotAscii something can follow, unless no more word fits
 abbrev pub FaultsHaveWanted : Type 0
 FaultsHaveWanted = (text : List ℕ) (k : FaultKind) (offset : ℕ) → FaultsAt text k offset → k ≢ kind.TooLong → k ≢ kind.NotAscii →
     SaysNothing (take offset text) → LONGEST_TEXT < offset + longest_word

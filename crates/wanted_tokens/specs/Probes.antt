@@ -1,4 +1,4 @@
--- The words by which it is found out what is wanted. No public contract cites this file.
+-- The words with which texts are probed. No public contract cites this file.
 use Rattle.std.specs.Prelude.{◌≡◌, ℕ, ◌+◌, ◌<◌, ◌≤◌, List, [], ◌∷◌, ◌++◌, length, slice_index_or, All}
 use Rattle.node_lang.specs.declared.limits.TheConstants.{LONGEST_TEXT, MAX_REGISTERS}
 use Rattle.node_lang.specs.declared.fault.FaultKind.TheVariants as kind
@@ -12,13 +12,13 @@ use Rattle.wanted_tokens.specs.declared.wanted.Wanted.{Wanted}
 use Rattle.wanted_tokens.specs.declared.wanted.Wanted.TheVariants as wanted
 use Rattle.wanted_tokens.specs.Wanted.{longest_word}
 
--- a text that only ends too soon, with room for one word more
+-- a text that has no other fault than that it ends too soon, and after which one more word fits
 pub record IsOpen (text : List ℕ) : Type 0 where
   pub offset : ℕ
   pub fault : FaultsAt text kind.EndOfText offset
   pub room : length text + longest_word ≤ LONGEST_TEXT
 
--- the token that is put behind a text to see whether this is wanted; none stands for the end
+-- the token that is appended to a text to probe whether this can follow; the end has none
 abbrev pub probe_of : Wanted → Token
 probe_of wanted.Rounds = token.Rounds
 probe_of wanted.Channels = token.Channels
@@ -38,13 +38,13 @@ probe_of wanted.Number = token.Number 0
 probe_of wanted.Expression = token.Id
 probe_of wanted.End = token.Unknown
 
--- all but the end, and registers that a program can have
+-- everything except the end, with registers that a program can have
 abbrev pub IsProbe : Wanted → Type 0
 IsProbe (wanted.Register j) = j < MAX_REGISTERS
 IsProbe wanted.End = ⊥
 IsProbe _ = Unit {0}
 
--- a word that is this token alone
+-- a word whose only token is this one
 pub record IsWordOf (word : List ℕ) (t : Token) : Type 0 where
   pub tokens : tokens_of word ≡ t ∷ []
   pub ascii : All (λ b. b < 128) word

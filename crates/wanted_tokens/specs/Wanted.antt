@@ -1,4 +1,4 @@
--- What can stand at a place of a program text, by the tokens before it.
+-- What can follow at a place of a program text, by the tokens before it.
 use Rattle.std.specs.Prelude.{◌≡◌, ◌≢◌, ◌↔◌, ◌⊎◌, ℕ, ◌+◌, ◌<◌, List, [], ◌∷◌, ◌++◌, length, Option, Some, None}
 use Rattle.node_lang.specs.declared.limits.TheConstants.{LONGEST_TEXT}
 use Rattle.node_lang.specs.declared.fault.FaultKind.{FaultKind}
@@ -10,7 +10,7 @@ use Rattle.node_lang.specs.Viable.{IsViable, IsWhole}
 use Rattle.wanted_tokens.specs.declared.wanted.Wanted.{Wanted}
 use Rattle.wanted_tokens.specs.declared.wanted.Wanted.TheVariants as wanted
 
--- the one token that is wanted, where it is one
+-- the one token that is meant, if it is one
 abbrev pub token_of : Wanted → Option Token
 token_of wanted.Rounds = Some token.Rounds
 token_of wanted.Channels = Some token.Channels
@@ -33,7 +33,7 @@ abbrev pub IsNumber : Token → Type 0
 IsNumber (token.Number n) = Unit {0}
 IsNumber _ = ⊥
 
--- a token with which an expression begins
+-- a token with which an expression can begin
 abbrev pub BeginsExpression : Token → Type 0
 BeginsExpression (token.Number n) = Unit {0}
 BeginsExpression token.Id = Unit {0}
@@ -45,26 +45,28 @@ BeginsExpression (token.Binary o) = Unit {0}
 BeginsExpression token.If = Unit {0}
 BeginsExpression _ = ⊥
 
--- any number, and any token with which an expression begins
+-- any number, or any token with which an expression can begin
 abbrev pub MeansAny : Wanted → Token → Type 0
 MeansAny wanted.Number t = IsNumber t
 MeansAny wanted.Expression t = BeginsExpression t
 MeansAny _ t = ⊥
 
--- the tokens that are meant: the one token, or any of their kind; none where the end is wanted
+-- the tokens that are meant: the one token, or any of its kind; none for the end
 abbrev pub Means : Wanted → Token → Type 0
 Means w t = (token_of w ≡ Some t) ⊎ MeansAny w t
 
--- After these tokens just those that are meant can go on to a program, and the tokens are a program just where the end is wanted.
+-- After these tokens exactly the tokens that are meant can go on to a program, and the tokens are a whole program
+-- exactly if the end is meant.
 pub record IsWanted (before : List Token) (w : Wanted) : Type 0 where
   pub tokens : (t : Token) → Means w t ↔ IsViable (before ++ t ∷ [])
   pub ended : (w ≡ wanted.End) ↔ IsWhole before
 
--- the length of the longest of the words that are looked for, and of a line feed in front of it
+-- the length of the longest word that is probed, and of a line feed before it
 abbrev pub longest_word : ℕ
 longest_word = 10
 
--- Why nothing is said of what is wanted after a text: it has another fault than that it ends too soon, or it is so long that no word fits.
+-- Why there is no result after a text: it has another fault than that it ends too soon, or it is so long that no more
+-- word fits.
 pub data SaysNothing (text : List ℕ) : Type 0 where
   faulty : (k : FaultKind) (offset : ℕ) → FaultsAt text k offset → k ≢ kind.EndOfText → SaysNothing text
   full : LONGEST_TEXT < length text + longest_word → SaysNothing text

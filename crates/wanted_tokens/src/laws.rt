@@ -2,8 +2,9 @@
 
 ghost use Rattle.wanted_tokens.specs.Laws as law;
 
-/// The text before a fault that stands in the tokens of a text has no other fault than that it ends too soon: something is
-/// said to be wanted there, but where there is no room for one word more.
+/// For each fault of a text except `TooLong` and `NotAscii`, the text before it has no fault, or
+/// only ends too soon. So `wanted_after` finds what can follow there, unless the text before is so
+/// long that no more word fits.
 pub fn faults_have_wanted()
     ensures { law.FaultsHaveWanted }
 {}

@@ -1,4 +1,4 @@
-//! What can stand at a place of a program text.
+//! The tokens that can follow at a place of a program text.
 #![tactic(auto)]
 
 mod laws;

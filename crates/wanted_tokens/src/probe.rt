@@ -1,4 +1,5 @@
-//! What is wanted after a text is found out by the parser itself: it reads the text with one more word behind it.
+//! Finds what can follow a text with the parser itself, which reads the text with one more word
+//! after it.
 
 ghost use Rattle.std.specs.Prelude.{◌≡◌, ◌↔◌, [], ◌∷◌, ◌++◌, IsTrue, IfOk, IfSome, IfNone};
 ghost use Rattle.node_lang.specs.Lexemes.{tokens_of};
@@ -11,11 +12,12 @@ use crate::wanted::{WORDS, Wanted, probe_word};
 use node_lang::{FaultKind, LONGEST_TEXT, MAX_REGISTERS, OutOfMemory, TextFault, parse};
 use std::alloc::{AllocError, Global};
 
-// The length of the longest word, and of a line feed in front of it.
+// The length of the longest word and of a line feed before it.
 const LONGEST_WORD: usize = 10;
 
-/// What can stand after a program text, or `None` where the text has another fault than that it ends too soon, or is
-/// so long that nothing more fits. The error comes where memory was refused.
+/// Returns what can follow a program text. Returns `None` if the text has another fault than that
+/// it ends too soon, or if it is so long that no more word fits. Fails with `OutOfMemory` if memory
+/// was refused.
 pub fn wanted_after(alloc: Global, text: &[u8]) -> Result<Option<Wanted>, OutOfMemory>
     ensures wanted { IfOk result (λ found. IfSome found (IsWanted (tokens_of text.now))) }
     ensures none { IfOk result (λ found. IfNone found (SaysNothing text.now)) }
@@ -33,7 +35,7 @@ pub fn wanted_after(alloc: Global, text: &[u8]) -> Result<Option<Wanted>, OutOfM
     }
 }
 
-// What is wanted after a text that ends too soon.
+// Returns what can follow a text that ends too soon.
 fn more_wanted(alloc: Global, text: &[u8]) -> Result<Wanted, OutOfMemory>
     requires { IsOpen text.now }
     ensures { IfOk result (IsWanted (tokens_of text.now)) }
@@ -53,7 +55,7 @@ fn more_wanted(alloc: Global, text: &[u8]) -> Result<Wanted, OutOfMemory>
     Ok(register)
 }
 
-// The word or the mark that is wanted, where no expression is.
+// Returns the word or the mark that can follow, if no expression can.
 fn wanted_word(alloc: Global, text: &[u8]) -> Result<Option<Wanted>, OutOfMemory>
     requires open { IsOpen text.now }
     requires other { ¬ IsViable (tokens_of text.now ++ token.Id ∷ []) }
@@ -68,7 +70,7 @@ fn wanted_word(alloc: Global, text: &[u8]) -> Result<Option<Wanted>, OutOfMemory
     Ok(None)
 }
 
-// The register that is wanted, where no expression is.
+// Returns the register that can follow, if no expression can.
 fn wanted_register(alloc: Global, text: &[u8]) -> Result<Option<Wanted>, OutOfMemory>
     requires open { IsOpen text.now }
     requires other { ¬ IsViable (tokens_of text.now ++ token.Id ∷ []) }
@@ -83,7 +85,7 @@ fn wanted_register(alloc: Global, text: &[u8]) -> Result<Option<Wanted>, OutOfMe
     Ok(None)
 }
 
-// Whether what stands for this can follow a text that ends too soon.
+// Returns whether the probe of `wanted` can follow a text that ends too soon.
 fn can_follow(alloc: Global, text: &[u8], wanted: Wanted) -> Result<bool, OutOfMemory>
     requires open { IsOpen text.now }
     requires probe { IsProbe wanted }
@@ -102,7 +104,7 @@ fn can_follow(alloc: Global, text: &[u8], wanted: Wanted) -> Result<bool, OutOfM
     }
 }
 
-// A text with one more line.
+// Returns the text with one more line.
 fn with_word(alloc: Global, text: &[u8], word: &str) -> Result<Vec<u8>, AllocError>
     ensures { IfOk result (λ longer. longer.items ≡ text.now ++ 10 ∷ word.now) }
 {

@@ -1,12 +1,12 @@
-//! What is wanted at a place.
+//! What can follow at a place of a program text.
 
 ghost use Rattle.node_lang.specs.declared.limits.TheConstants.{MAX_REGISTERS};
 ghost use Rattle.node_lang.specs.declared.token.Token.TheVariants as token;
 ghost use Rattle.std.specs.Prelude.{◌<◌};
 ghost use Rattle.wanted_tokens.specs.Probes.{probe_of, IsProbe, IsWordOf};
 
-/// What can stand at a place of a program text: one word or mark, the register of the next assignment, a number, an
-/// expression, or nothing more.
+/// What can follow at a place of a program text: one word or mark, the register of the next
+/// assignment, a number, an expression, or the end.
 #[derive(Clone, Copy, Debug, PartialEq, Eq)]
 pub enum Wanted {
     Rounds,
@@ -22,7 +22,7 @@ pub enum Wanted {
     Close,
     Comma,
     Equals,
-    /// The register of this number, with which its assignment begins.
+    /// The register of this number, at the start of its assignment.
     Register(u32),
     /// Any number.
     Number,
@@ -32,7 +32,7 @@ pub enum Wanted {
     End,
 }
 
-// The words and marks that may be wanted, but the registers.
+// The words and marks that can follow, without the registers.
 pub(crate) const WORDS: [Wanted; 13] = [
     Wanted::Rounds,
     Wanted::Channels,
@@ -49,7 +49,7 @@ pub(crate) const WORDS: [Wanted; 13] = [
     Wanted::Equals,
 ];
 
-// The name of a register.
+// Returns the name of a register.
 #[tactic(auto, unfolding(node_lang::specs::Lexemes::lexemes_of, node_lang::specs::Words::word_token))]
 pub(crate) fn register_name(register: u32) -> &'static str
     requires { register < MAX_REGISTERS }
@@ -67,7 +67,7 @@ pub(crate) fn register_name(register: u32) -> &'static str
     }
 }
 
-// A word that stands for what is wanted.
+// Returns a word that stands for `wanted` in a probe.
 #[tactic(auto, unfolding(node_lang::specs::Lexemes::lexemes_of, node_lang::specs::Words::word_token))]
 pub(crate) fn probe_word(wanted: Wanted) -> &'static str
     requires { IsProbe wanted }
