@@ -1,4 +1,4 @@
--- Pieces of a note that were written one after the other.
+-- Pieces of a note that were written one after another.
 use Rattle.std.proofs.Common.{◌≡◌, ℕ, List, [], ◌∷◌, ◌++◌, ap, ◌∙◌, append_assoc}
 
 regroup : (a b c d : List ℕ) → (((a ++ b) ++ c) ++ 10 ∷ []) ++ d ≡ a ++ (b ++ (c ++ 10 ∷ d))

@@ -15,7 +15,7 @@ pub record IsMostIds (t most : ℕ) : Type 0 where
 abbrev pub rounds_take : ℕ → List ℕ
 rounds_take t = if t == 1 then codes " round takes " else codes " rounds take "
 
--- a number of identifiers that makes no shape with t rounds: how many do
+-- a number of identifiers that makes no shape with t rounds: the possible numbers
 pub data IsIdsNote (t ids : ℕ) (note : List ℕ) : Type 0 where
   some : (most : ℕ) → IsMostIds t most →
       note ≡ codes "nbhd: " ++ (decimal t ++ (rounds_take t ++ (decimal (2 * t + 2) ++ (codes " to " ++ (decimal most ++ (codes " identifiers, not " ++ (decimal ids ++ codes "\n"))))))) →
@@ -31,13 +31,13 @@ id_cause = codes "`id` can be read in `start` alone; keep it in a register"
 abbrev pub message_cause : List ℕ
 message_cause = codes "`L` and `R` can be read in the assignments of a round alone"
 
--- the bound of the channels, and the number of channels that it takes
+-- the bound of the channels, and the number of channels that it requires
 abbrev pub bound_note : ℕ → List ℕ
 bound_note b = if nat_lt b MAX_CHANNELS
     then codes "nbhd: channels may be as large as " ++ (decimal b ++ (codes ": write `channels " ++ (decimal (b + 1) ++ codes "` or more\n")))
     else codes "nbhd: channels may be as large as " ++ (decimal b ++ codes ", and `channels` is at most 4096\n")
 
--- the note on a refusal of the program of this text, of t rounds, for so many identifiers
+-- the note on a refusal of the program of this text, with t rounds, for `ids` identifiers
 abbrev pub IsCheckNote : List ℕ → ℕ → ℕ → CheckFault → List ℕ → Type 0
 IsCheckNote text t ids check.IdsOutOfRange note = IsIdsNote t ids note
 IsCheckNote text t ids check.TooManyWindows note = IsIdsNote t ids note

@@ -1,14 +1,14 @@
--- The notes on a list that is no ring, and on a number of segments.
+-- The notes on a list that is not a ring, and on a number of segments.
 use Rattle.std.specs.Prelude.{ℕ, ◌+◌, ◌-◌, ◌*◌, ◌==◌, ◌&&◌, ◌++◌, List, length, slice_index, codes, if◌then◌else◌}
 use Rattle.std.specs.Fmt.{decimal}
 use Rattle.win_index.specs.declared.ring.RingFault.{RingFault}
 use Rattle.win_index.specs.declared.ring.RingFault.TheVariants as ring
 
--- what follows where the last place repeats the first one
+-- the end of the note: advice if the last place repeats the first one
 abbrev pub closing : ℕ → ℕ → ℕ → List ℕ
 closing count first second = if (first == 0) && (second + 1 == count) then codes "; a ring closes by itself\n" else codes "\n"
 
--- what is wrong with a list for m identifiers and t rounds
+-- the note on the fault of a list for m identifiers and t rounds
 abbrev pub ring_note : ℕ → ℕ → List ℕ → RingFault → List ℕ
 ring_note m t x ring.TooShort =
     codes "nbhd: a ring has at least " ++ (decimal (2 * t + 2) ++ (codes " places here, and this one has " ++ (decimal (length x) ++ codes "\n")))

@@ -10,17 +10,17 @@ use Rattle.fault_notes.specs.VerdictNotes.{parted}
 abbrev pub long_note : List ℕ
 long_note = codes "nbhd: the text of a table has at most 134217728 bytes\n"
 
--- a line without its form; a piece of advice may follow
+-- a line that does not have its form; advice can follow
 pub record IsFormNote (text : List ℕ) (offset : ℕ) (note : List ℕ) : Type 0 where
   pub advice : List ℕ
   pub is : note ≡ place_head text offset ++ (codes "this line has not the form that `nbhd table` writes" ++ (advice ++ 10 ∷ marked_line text offset))
 
--- a line that is to have this window
+-- a line that should have this window
 abbrev pub line_note : ℕ → List ℕ → List ℕ
 line_note line window = codes "nbhd: line " ++ (decimal line ++ (codes " is not the line of window " ++ (parted (codes " ") window ++ codes "\n")))
 
--- The line of another window: which window it is to have, of those of a number of rounds and of identifiers, which the first lines tell. The
--- windows begin in line 3.
+-- A line with another window: the window that it should have, for some numbers of rounds and of identifiers, or a note
+-- without it. The first window is on line 3.
 pub data IsWindowNote (line : ℕ) (note : List ℕ) : Type 0 where
   of_window : (t m number : ℕ) (window : List ℕ) → line ≡ number + 3 → slice_get (windows (2 * t + 1) m) number ≡ Some window →
       note ≡ line_note line window → IsWindowNote line note

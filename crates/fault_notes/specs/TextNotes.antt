@@ -10,15 +10,15 @@ use Rattle.wanted_tokens.specs.declared.wanted.Wanted.{Wanted}
 use Rattle.wanted_tokens.specs.Wanted.{IsWanted, SaysNothing}
 use Rattle.fault_notes.specs.Words.{wanted_part, first_word}
 
--- the beginning of a note on a place of a text
+-- the start of a note on a place of a text
 abbrev pub place_head : List ℕ → ℕ → List ℕ
 place_head text offset = codes "nbhd: line " ++ (decimal (line_number text offset) ++ (codes ", column " ++ (decimal (column text offset) ++ codes ": ")))
 
--- a word in quotes, as notes show it
+-- a word in quotes, as it is shown
 abbrev pub quoted : List ℕ → List ℕ
 quoted word = codes "`" ++ (shown word ++ codes "`")
 
--- What is wrong at a place, by the word there and what is wanted there. A text that is too long has no such place.
+-- The cause at a place, from the word there and what can follow there. A text that is too long has no such place.
 abbrev pub cause_of : FaultKind → List ℕ → Option Wanted → List ℕ
 cause_of kind.TooLong word w = []
 cause_of kind.NotAscii word w = codes "a byte over 127; a program text is ASCII, in its comments too"
@@ -31,8 +31,8 @@ cause_of kind.TooManyNodes word w = codes "the expressions of a program have at 
 cause_of kind.EndOfText word w = codes "the text ends here" ++ wanted_part w
 cause_of kind.OutOfMemory word w = []
 
--- The note on this fault tells its place and its cause; what is wanted is what can stand after the text before the place. A piece of advice
--- may follow. Where nothing is said of what is wanted, the text before is faulty itself, or too long.
+-- The note on this fault has its place and its cause, with what can follow the text before the place, perhaps followed
+-- by advice. Unless the note says what can follow, the text before is faulty itself or too long.
 pub record IsTextNote (text : List ℕ) (k : FaultKind) (offset : ℕ) (note : List ℕ) : Type 0 where
   pub wanted : Option Wanted
   pub exact : IfSome wanted (IsWanted (tokens_of (take offset text)))

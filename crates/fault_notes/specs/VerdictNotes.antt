@@ -4,12 +4,12 @@ use Rattle.std.specs.List.{flat_map}
 use Rattle.std.specs.Fmt.{decimal}
 use Rattle.win_index.specs.Arcs.{window_around}
 
--- numbers in decimal, with this between any two of them
+-- numbers in decimal, separated by `between`
 abbrev pub parted : List ℕ → List ℕ → List ℕ
 parted between [] = []
 parted between (n ∷ ns) = decimal n ++ flat_map (λ m. between ++ decimal m) ns
 
--- how the two places lie
+-- whether the two places are neighbours
 abbrev pub nodes_text : ℕ × ℕ → List ℕ
 nodes_text places = if places.1 == places.0 + 1 then codes " the neighbours " else codes " the nodes at distance two "
 
@@ -27,7 +27,7 @@ abbrev pub windows_text : ℕ → List ℕ → ℕ × ℕ → List ℕ
 windows_text t ring places =
     codes "; their windows are " ++ (parted (codes " ") (window_around ring t places.0) ++ (codes " and " ++ (parted (codes " ") (window_around ring t places.1) ++ codes "\n")))
 
--- on this ring the nodes at two places have these channels; t is the number of rounds
+-- the note that on this ring the nodes at two places have these channels; t is the number of rounds
 abbrev pub verdict_note : ℕ → List ℕ → ℕ × ℕ → ℕ × ℕ → List ℕ
 verdict_note t ring places channels =
     codes "nbhd: on the ring " ++ (parted (codes ",") ring ++ (nodes_text places ++ (pair_text ring places ++ (channels_text channels ++ windows_text t ring places))))

@@ -1,4 +1,4 @@
--- How notes name what is wanted at a place, and what stands there.
+-- The texts of notes for what can follow at a place, and for the word there.
 use Rattle.std.specs.Prelude.{ℕ, ◌==◌, ◌++◌, List, [], take, codes, Option, Some, None, if◌then◌else◌}
 use Rattle.std.specs.List.{prefix_len}
 use Rattle.std.specs.Fmt.{decimal}
@@ -6,7 +6,7 @@ use Rattle.node_lang.specs.Words.{is_word_byte}
 use Rattle.wanted_tokens.specs.declared.wanted.Wanted.{Wanted}
 use Rattle.wanted_tokens.specs.declared.wanted.Wanted.TheVariants as wanted
 
--- what is wanted, in the words of a note
+-- the text for what can follow
 abbrev pub wanted_text : Wanted → List ℕ
 wanted_text wanted.Rounds = codes "`rounds`"
 wanted_text wanted.Channels = codes "`channels`"
@@ -26,11 +26,11 @@ wanted_text wanted.Number = codes "a number"
 wanted_text wanted.Expression = codes "an expression"
 wanted_text wanted.End = codes "the end of the text"
 
--- and behind what stands there
+-- the part of a note for what can follow, if it is known
 abbrev pub wanted_part : Option Wanted → List ℕ
 wanted_part None = []
 wanted_part (Some w) = codes "; wanted " ++ wanted_text w
 
--- the word at the front of a text, or its first byte where it begins with no word
+-- the word at the start of a text, or its first byte if it does not begin with a word
 abbrev pub first_word : List ℕ → List ℕ
 first_word text = if prefix_len is_word_byte text == 0 then take 1 text else take (prefix_len is_word_byte text) text

@@ -1,9 +1,10 @@
-//! Advice on faults of a program text: what is written in place of words of other languages, and what else is often meant.
+//! Advice on faults of a program text: replacements for words of other languages, and other common
+//! mistakes.
 
 use crate::operands::operands_advice;
 use wanted_tokens::Wanted;
 
-// Advice on a word that is none of the language, where this is wanted.
+// Returns advice on a word that is not of the language, at a place where `wanted` can follow.
 pub(crate) fn word_advice(word: &[u8], wanted: Option<Wanted>) -> &'static str {
     let known = known_advice(word);
     if !known.is_empty() {
@@ -16,7 +17,7 @@ pub(crate) fn word_advice(word: &[u8], wanted: Option<Wanted>) -> &'static str {
     }
 }
 
-// Advice on words and marks of other languages.
+// Returns advice on words and marks of other languages.
 fn known_advice(word: &[u8]) -> &'static str {
     match word {
         b"mul" | b"times" | b"mult" | b"*" => "; there is no product: twice x is `shl(x, 1)`",
@@ -65,7 +66,7 @@ fn known_advice(word: &[u8]) -> &'static str {
     }
 }
 
-// Advice on a word by its first letter.
+// Returns advice on a word by its first letters.
 fn spelling_advice(word: &[u8]) -> &'static str {
     match word {
         [b'0', b'x' | b'X' | b'b' | b'B' | b'o', ..] => "; numbers are decimal",
@@ -77,7 +78,7 @@ fn spelling_advice(word: &[u8]) -> &'static str {
     }
 }
 
-// Advice on a byte over 127 at the front of a text.
+// Returns advice on a byte above 127 at the start of a text.
 pub(crate) fn byte_advice(text: &[u8]) -> &'static str {
     match text {
         [0xef, 0xbb, 0xbf, ..] => "; this is a byte order mark: save the file without one",
@@ -87,7 +88,7 @@ pub(crate) fn byte_advice(text: &[u8]) -> &'static str {
     }
 }
 
-// Advice on a word that cannot stand where this is wanted, after the text before it.
+// Returns advice on a word that cannot follow the text before it, after which `wanted` can follow.
 pub(crate) fn place_advice(before: &[u8], word: &[u8], wanted: Wanted) -> &'static str {
     match (wanted, word) {
         (Wanted::Comma, b"=") | (Wanted::Close, b"=") => "; write `eq(a, b)` to compare",

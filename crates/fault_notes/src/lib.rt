@@ -1,4 +1,4 @@
-//! Notes on refusals: what is wrong in plain words, and where.
+//! Notes on refusals: the cause and its place.
 #![tactic(auto)]
 
 mod advice;

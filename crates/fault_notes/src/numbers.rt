@@ -6,7 +6,7 @@ ghost use Rattle.fault_notes.specs.VerdictNotes.{parted};
 use std::alloc::AllocError;
 use std::fmt::Write;
 
-// Writes numbers in decimal, with this between any two of them.
+// Writes numbers in decimal, separated by `between`.
 pub(crate) fn write_parted(
     out: &mut String,
     numbers: &[u32],

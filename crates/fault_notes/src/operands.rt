@@ -1,10 +1,10 @@
-//! The operation whose operands a text breaks off in.
+//! The operation whose operands are incomplete at the end of a text.
 
 ghost use Rattle.std.specs.Prelude.{◌<◌, ◌≤◌, length, IfSome};
 
 use crate::words::is_word_byte;
 
-// The last bracket of a text that is not closed.
+// Returns the index of the last bracket of a text that is not closed.
 fn open_bracket(text: &[u8]) -> Option<usize>
     ensures { IfSome result (λ at. at < length text.now) }
 {
@@ -22,7 +22,7 @@ fn open_bracket(text: &[u8]) -> Option<usize>
     None
 }
 
-// How many letters and digits stand at the end.
+// Returns the number of letters and digits at the end.
 fn last_word_len(text: &[u8]) -> usize
     ensures { result ≤ length text.now }
 {
@@ -32,7 +32,8 @@ fn last_word_len(text: &[u8]) -> usize
         .count()
 }
 
-// The word before the last bracket of a text that is not closed; empty where there is none.
+// Returns the word before the last bracket of a text that is not closed, an empty word if there is
+// none.
 fn open_operation(text: &[u8]) -> &[u8] {
     let front = match open_bracket(text) {
         Some(at) => &text[..at],
@@ -41,7 +42,8 @@ fn open_operation(text: &[u8]) -> &[u8] {
     &front[front.len() - last_word_len(front)..]
 }
 
-// How many operands the operation takes whose brackets are open at the end of a text.
+// Returns advice on the number of operands of the operation whose bracket is open at the end of a
+// text.
 pub(crate) fn operands_advice(text: &[u8]) -> &'static str {
     match open_operation(text) {
         b"not" => "; `not` takes 1 operand",

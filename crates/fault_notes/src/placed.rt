@@ -1,4 +1,4 @@
-//! Notes that say where in a text the cause is found.
+//! Notes with the place of the cause in a text.
 
 ghost use Rattle.std.specs.Prelude.{◌<◌, length, IfOk, IfSome, string_bytes};
 ghost use Rattle.fault_notes.specs.Placed.{IsPlaced};
@@ -7,7 +7,7 @@ use crate::texts::write_head;
 use source_places::write_marked_line;
 use std::alloc::{AllocError, Global};
 
-// The note on a cause that is found here, or nowhere.
+// Returns the note on a cause at this place, or at no place.
 pub(crate) fn placed_note(
     alloc: Global,
     text: &[u8],

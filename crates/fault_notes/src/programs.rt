@@ -14,8 +14,9 @@ use node_lang::MAX_CHANNELS;
 use std::alloc::{AllocError, Global};
 use win_index::{MAX_IDS, MAX_ROUNDS, Shape};
 
-/// The note on a refusal of the program of a text, of so many rounds, for so many identifiers: how many identifiers there may
-/// be, or what is wrong and where. The error comes where memory was refused.
+/// Returns the note on a refusal of the program of a text with `rounds` rounds, for `ids`
+/// identifiers: the possible numbers of identifiers, or the cause and its place. Fails if memory
+/// was refused.
 pub fn check_note(
     alloc: Global,
     text: &[u8],
@@ -35,7 +36,7 @@ pub fn check_note(
     }
 }
 
-// Whether so many identifiers and rounds make a shape.
+// Returns whether these numbers of identifiers and of rounds make a shape.
 fn makes_shape(ids: u32, rounds: u32) -> bool
     requires { rounds ≤ MAX_ROUNDS }
     ensures { IsTrue result ↔ IsShape ids rounds }
@@ -43,7 +44,7 @@ fn makes_shape(ids: u32, rounds: u32) -> bool
     Shape::new(ids, rounds).is_ok()
 }
 
-// The greatest number of identifiers that makes a shape with so many rounds.
+// Returns the greatest number of identifiers that makes a shape with `rounds` rounds.
 fn most_ids(rounds: u32) -> Option<u32>
     requires { rounds ≤ MAX_ROUNDS }
     ensures most { IfSome result (IsMostIds rounds) }
@@ -58,7 +59,7 @@ fn most_ids(rounds: u32) -> Option<u32>
     None
 }
 
-// What follows a number of rounds.
+// Returns the text after a number of rounds.
 fn rounds_take(rounds: u32) -> &'static str
     ensures { result.now ≡ rounds_take rounds }
 {
@@ -68,7 +69,7 @@ fn rounds_take(rounds: u32) -> &'static str
     " rounds take "
 }
 
-// The note on a number of identifiers.
+// Returns the note on a number of identifiers.
 fn ids_note(alloc: Global, rounds: u32, ids: u32) -> Result<String, AllocError>
     requires { rounds ≤ MAX_ROUNDS }
     ensures { IfOk result (λ note. IsIdsNote rounds ids (string_bytes note)) }
@@ -82,7 +83,7 @@ fn ids_note(alloc: Global, rounds: u32, ids: u32) -> Result<String, AllocError>
     Ok(note)
 }
 
-// The note on a register that the program does not have.
+// Returns the note on a register that the program does not have.
 fn register_note(alloc: Global, text: &[u8], register: u32) -> Result<String, AllocError>
     ensures { IfOk result (λ note. IsPlaced text.now (register_cause register) (string_bytes note)) }
 {
@@ -93,7 +94,7 @@ fn register_note(alloc: Global, text: &[u8], register: u32) -> Result<String, Al
     placed_note(alloc, text, place_of(text, name.as_bytes()), &cause)
 }
 
-// The note on an `id` outside of `start`.
+// Returns the note on an `id` outside `start`.
 fn id_note(alloc: Global, text: &[u8]) -> Result<String, AllocError>
     ensures { IfOk result (λ note. IsPlaced text.now id_cause (string_bytes note)) }
 {
@@ -101,7 +102,7 @@ fn id_note(alloc: Global, text: &[u8]) -> Result<String, AllocError>
     placed_note(alloc, text, misplaced_id(text), cause)
 }
 
-// The note on an `L` or an `R` outside of the assignments of a round.
+// Returns the note on an `L` or an `R` outside the assignments of a round.
 fn message_note(alloc: Global, text: &[u8]) -> Result<String, AllocError>
     ensures { IfOk result (λ note. IsPlaced text.now message_cause (string_bytes note)) }
 {
@@ -109,7 +110,7 @@ fn message_note(alloc: Global, text: &[u8]) -> Result<String, AllocError>
     placed_note(alloc, text, misplaced_message(text), cause)
 }
 
-// The note on channels that could be too large.
+// Returns the note on channels that could be too large.
 fn channels_note(alloc: Global, bound: u32) -> Result<String, AllocError>
     ensures { IfOk result (λ note. string_bytes note ≡ bound_note bound) }
 {

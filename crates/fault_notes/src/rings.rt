@@ -1,4 +1,4 @@
-//! The notes on a list that is no ring, and on a number of segments.
+//! The notes on a list that is not a ring, and on a number of segments.
 
 ghost use Rattle.std.specs.Prelude.{◌≡◌, ◌+◌, ◌*◌, ◌<◌, ◌≤◌, ◌^◌, length, IfOk, string_bytes};
 ghost use Rattle.win_index.specs.declared.limits.TheConstants.{MAX_ROUNDS};
@@ -8,8 +8,8 @@ ghost use Rattle.fault_notes.specs.RingNotes.{ring_note, segments_note, closing}
 use std::alloc::{AllocError, Global};
 use win_index::RingFault;
 
-/// The note on what is wrong first with a list of identifiers that is no ring, for so many identifiers and so many rounds. The
-/// error comes where memory was refused.
+/// Returns the note on the first fault of a list of identifiers that is not a ring, for `ids`
+/// identifiers and `rounds` rounds. Fails if memory was refused.
 pub fn ring_note(
     alloc: Global,
     ids: u32,
@@ -37,7 +37,7 @@ pub fn ring_note(
     }
 }
 
-// The note on an identifier that is too large.
+// Returns the note on an identifier that is too large.
 fn id_note(alloc: Global, ids: u32, places: &[u32], place: u32) -> Result<String, AllocError>
     requires { place < length places.now }
     ensures { IfOk result (λ note. string_bytes note ≡ ring_note ids 0 places.now (RingFault.IdTooLarge place)) }
@@ -49,7 +49,7 @@ fn id_note(alloc: Global, ids: u32, places: &[u32], place: u32) -> Result<String
     )
 }
 
-// The note on an identifier at two places.
+// Returns the note on an identifier at two places.
 fn repeated_note(
     alloc: Global,
     places: &[u32],
@@ -67,7 +67,7 @@ fn repeated_note(
     Ok(note)
 }
 
-// What follows where the last place repeats the first one.
+// Returns the end of the note: advice if the last place repeats the first one.
 fn closing(count: usize, first: u32, second: u32) -> &'static str
     ensures { result.now ≡ closing count first second }
 {
@@ -77,7 +77,8 @@ fn closing(count: usize, first: u32, second: u32) -> &'static str
     "\n"
 }
 
-/// The note on a ring of so many places that cannot be run in so many segments. The error comes where memory was refused.
+/// Returns the note on a ring of `places` places that cannot be run in `segments` segments. Fails
+/// if memory was refused.
 pub fn segments_note(alloc: Global, segments: u32, places: usize) -> Result<String, AllocError>
     ensures { IfOk result (λ note. string_bytes note ≡ segments_note segments places) }
 {

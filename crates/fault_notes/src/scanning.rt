@@ -1,17 +1,17 @@
-//! Where a program text has a word that cannot stand there.
+//! The places of misplaced words in a program text.
 
 ghost use Rattle.std.specs.Prelude.{◌<◌, ◌≤◌, length, IfSome};
 
 use crate::words::{is_word_byte, word_len};
 
-// A word of a text: where it begins and where it ends.
+// The start and the end of a word of a text.
 #[derive(Clone, Copy)]
 struct Word {
     start: usize,
     end: usize,
 }
 
-// The first word from this place on, outside of comments.
+// Returns the first word from this index on, outside comments.
 fn next_word(text: &[u8], at: usize) -> Option<Word>
     requires { at ≤ length text.now }
     ensures order { IfSome result (λ w. w.start ≤ w.end) }
@@ -35,7 +35,7 @@ fn next_word(text: &[u8], at: usize) -> Option<Word>
     None
 }
 
-// The first place of this word.
+// Returns the first index of this word, outside comments.
 pub(crate) fn place_of(text: &[u8], wanted: &[u8]) -> Option<usize>
     ensures { IfSome result (λ offset. offset < length text.now) }
 {
@@ -50,7 +50,7 @@ pub(crate) fn place_of(text: &[u8], wanted: &[u8]) -> Option<usize>
     None
 }
 
-// The first place where `id` stands behind the assignments of `start`.
+// Returns the index of the first `id` after the assignments of `start`.
 pub(crate) fn misplaced_id(text: &[u8]) -> Option<usize>
     ensures { IfSome result (λ offset. offset < length text.now) }
 {
@@ -68,14 +68,14 @@ pub(crate) fn misplaced_id(text: &[u8]) -> Option<usize>
     None
 }
 
-// Whether the first byte that is no blank is `=`.
+// Returns whether the first byte that is not a blank is `=`.
 fn is_assigned(text: &[u8]) -> bool {
     text.iter()
         .find(|byte| !matches!(**byte, b' ' | b'\t' | b'\r' | b'\n'))
         == Some(&b'=')
 }
 
-// The first place where `L` or `R` stands outside of the assignments of a round.
+// Returns the index of the first `L` or `R` outside the assignments of a round.
 pub(crate) fn misplaced_message(text: &[u8]) -> Option<usize>
     ensures { IfSome result (λ offset. offset < length text.now) }
 {

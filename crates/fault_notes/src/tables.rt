@@ -11,14 +11,15 @@ use std::alloc::{AllocError, Global};
 use std::fmt::Write;
 use win_index::{MAX_ROUNDS, Shape};
 
-/// The note on a text that is too long. The error comes where memory was refused.
+/// Returns the note on a text that is too long. Fails if memory was refused.
 pub fn long_note(alloc: Global) -> Result<String, AllocError>
     ensures { IfOk result (λ note. string_bytes note ≡ long_note) }
 {
     format!(in alloc; "nbhd: the text of a table has at most 134217728 bytes\n")
 }
 
-/// The note on the line that has not its form, which begins at this offset. The error comes where memory was refused.
+/// Returns the note on the line at this offset, which does not have its form. Fails if memory was
+/// refused.
 pub fn form_note(alloc: Global, text: &[u8], offset: usize) -> Result<String, AllocError>
     requires { offset ≤ length text.now }
     ensures { IfOk result (λ note. IsFormNote text.now offset (string_bytes note)) }
@@ -32,7 +33,7 @@ pub fn form_note(alloc: Global, text: &[u8], offset: usize) -> Result<String, Al
     Ok(note)
 }
 
-// Advice on a text whose line at this offset has not its form.
+// Returns advice on a text whose line at this offset does not have its form.
 fn form_advice(text: &[u8], offset: usize) -> &'static str {
     if text.is_empty() {
         return "; the text is empty, so no file was given";
@@ -49,7 +50,7 @@ fn form_advice(text: &[u8], offset: usize) -> &'static str {
     }
 }
 
-// Advice on the text from a line on that has not its form.
+// Returns advice on a line that does not have its form, from the text from the line on.
 fn line_advice(rest: &[u8]) -> &'static str {
     let len = rest.iter().take_while(|byte| **byte != b'\n').count();
     match rest {
@@ -64,7 +65,7 @@ fn line_advice(rest: &[u8]) -> &'static str {
     }
 }
 
-// Advice on a line that has not its form.
+// Returns advice on the bytes of a line that does not have its form.
 fn bytes_advice(line: &[u8]) -> &'static str {
     match line {
         [.., b' '] => "; a blank stands at its end",
@@ -76,7 +77,7 @@ fn bytes_advice(line: &[u8]) -> &'static str {
     }
 }
 
-// Advice on a text that does not begin as the text of a table does.
+// Returns advice on a text that does not begin like a table text.
 fn first_advice(text: &[u8]) -> &'static str {
     match text {
         [0xef, 0xbb, 0xbf, ..] =>
@@ -92,7 +93,7 @@ fn first_advice(text: &[u8]) -> &'static str {
     }
 }
 
-// The number that stands in the first lines behind this name.
+// Returns the number after the first occurrence of this name in a text.
 fn number_behind(text: &[u8], name: &[u8]) -> Option<u32>
     requires { 0 < length name.now }
 {
@@ -108,7 +109,7 @@ fn number_behind(text: &[u8], name: &[u8]) -> Option<u32>
         .ok()
 }
 
-// The shape that the first lines of a table text tell.
+// Returns the shape that the first lines of a table text give.
 fn shape_of(text: &[u8]) -> Option<Shape> {
     let rounds = number_behind(text, b"rounds ")?;
     let ids = number_behind(text, b"ids ")?;
@@ -118,7 +119,8 @@ fn shape_of(text: &[u8]) -> Option<Shape> {
     Shape::new(ids, rounds).ok()
 }
 
-/// The note on a line that is not that of its window; lines are counted from 1. The error comes where memory was refused.
+/// Returns the note on a line that does not have its window. Lines are counted from 1. Fails if
+/// memory was refused.
 pub fn window_note(alloc: Global, text: &[u8], line: u32) -> Result<String, AllocError>
     ensures { IfOk result (λ note. IsWindowNote line (string_bytes note)) }
 {
@@ -130,7 +132,7 @@ pub fn window_note(alloc: Global, text: &[u8], line: u32) -> Result<String, Allo
     format!(in alloc; "nbhd: line {line} is not the line of the window that follows there\n")
 }
 
-// The window of this shape with this number.
+// Returns the window of this shape with this number.
 fn window_in(alloc: Global, shape: Shape, number: u32) -> Result<Vec<u32>, AllocError>
     requires { number < length (windows (2 * shape.rounds + 1) shape.ids) }
     ensures { IfOk result (λ window. slice_get (windows (2 * shape.rounds + 1) shape.ids) number ≡ Some window.items) }
@@ -141,7 +143,7 @@ fn window_in(alloc: Global, shape: Shape, number: u32) -> Result<Vec<u32>, Alloc
     Ok(window)
 }
 
-// The note on the line that is to have a window of this shape.
+// Returns the note on the line that should have a window of this shape.
 fn shape_note(alloc: Global, shape: Shape, line: u32) -> Result<String, AllocError>
     requires begins { 3 ≤ line }
     requires ends { line - 3 < length (windows (2 * shape.rounds + 1) shape.ids) }
@@ -152,7 +154,7 @@ fn shape_note(alloc: Global, shape: Shape, line: u32) -> Result<String, AllocErr
     Ok(note)
 }
 
-// The note on the line that is to have this window.
+// Returns the note on the line that should have this window.
 fn line_note(alloc: Global, line: u32, window: &[u32]) -> Result<String, AllocError>
     ensures { IfOk result (λ note. string_bytes note ≡ line_note line window.now) }
 {
@@ -163,7 +165,8 @@ fn line_note(alloc: Global, line: u32, window: &[u32]) -> Result<String, AllocEr
     Ok(note)
 }
 
-/// The note on a line whose channel is too large; lines are counted from 1. The error comes where memory was refused.
+/// Returns the note on a line whose channel is too large. Lines are counted from 1. Fails if memory
+/// was refused.
 pub fn channel_note(alloc: Global, line: u32) -> Result<String, AllocError>
     ensures { IfOk result (λ note. string_bytes note ≡ channel_note line) }
 {

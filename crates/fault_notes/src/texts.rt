@@ -15,8 +15,9 @@ use std::alloc::{AllocError, Global};
 use std::fmt::Write;
 use wanted_tokens::{Wanted, wanted_after};
 
-/// The note on a fault of a program text: its line and its column, what is wrong there and what is wanted, a piece of advice,
-/// and the line with a mark below the place. The error comes where memory was refused.
+/// Returns the note on a fault of a program text: its line and its column, the cause and what can
+/// follow there, advice, and the line with a mark below the place. The note on a text that is too
+/// long has no place. Fails if memory was refused.
 pub fn text_note(alloc: Global, text: &[u8], fault: TextFault) -> Result<String, AllocError>
     requires { fault.offset ≤ length text.now }
     ensures too_long { fault.kind ≡ kind.TooLong → IfOk result (λ note. string_bytes note ≡ too_long_note) }
@@ -36,7 +37,7 @@ pub fn text_note(alloc: Global, text: &[u8], fault: TextFault) -> Result<String,
     Ok(note)
 }
 
-// The word at a place, or the byte there.
+// Returns the word at an offset, or the byte there.
 #[tactic(auto, using(std::proofs::lemmas::List::take_rest))]
 fn word_at(text: &[u8], offset: usize) -> &[u8]
     requires { offset ≤ length text.now }
@@ -45,7 +46,7 @@ fn word_at(text: &[u8], offset: usize) -> &[u8]
     first_word(&text[offset..])
 }
 
-// What can stand at the place of a fault, but for a byte over 127.
+// Returns what can follow at the place of a fault, `None` for a byte above 127.
 fn wanted_at(alloc: Global, text: &[u8], fault: TextFault) -> Result<Option<Wanted>, AllocError>
     requires { fault.offset ≤ length text.now }
     ensures exact { IfOk result (λ found. IfSome found (IsWanted (tokens_of (take fault.offset text.now)))) }
@@ -61,7 +62,7 @@ fn wanted_at(alloc: Global, text: &[u8], fault: TextFault) -> Result<Option<Want
     }
 }
 
-// Writes the place.
+// Writes the line and the column of an offset.
 pub(crate) fn write_head(out: &mut String, text: &[u8], offset: usize) -> Result<(), AllocError>
     requires { offset ≤ length text.now }
     ensures { OnOk result (string_bytes out.new ≡ string_bytes out.old ++ place_head text.now offset) }
@@ -80,7 +81,7 @@ fn write_quoted(out: &mut String, word: &[u8]) -> Result<(), AllocError>
     out.push_str("`")
 }
 
-// Writes what is wrong.
+// Writes the cause.
 fn write_cause(
     out: &mut String,
     fault: FaultKind,
@@ -124,7 +125,7 @@ fn write_end(out: &mut String, wanted: Option<Wanted>) -> Result<(), AllocError>
     Ok(())
 }
 
-// A piece of advice, or nothing.
+// Returns advice, or an empty text.
 fn advice_on(text: &[u8], fault: TextFault, word: &[u8], wanted: Option<Wanted>) -> &'static str
     requires { fault.offset ≤ length text.now }
 {

@@ -9,8 +9,8 @@ use crate::numbers::write_parted;
 use std::alloc::{AllocError, Global};
 use std::fmt::Write;
 
-/// The note on a no of the judge for so many rounds: the ring, the nodes at the two places, their channels and their windows. The
-/// error comes where memory was refused.
+/// Returns the note on a no of the judge for `rounds` rounds: the ring, the nodes at the two
+/// places, their channels and their windows. Fails if memory was refused.
 pub fn verdict_note(
     alloc: Global,
     rounds: u32,
@@ -35,7 +35,7 @@ pub fn verdict_note(
     Ok(note)
 }
 
-// How the two places lie.
+// Returns the text that says whether the two places are neighbours.
 fn nodes_text(places: (u32, u32)) -> &'static str
     requires { places.0 < MAX_IDS }
     ensures { result.now ≡ nodes_text places }
@@ -73,7 +73,7 @@ fn write_channels(out: &mut String, channels: (u32, u32)) -> Result<(), AllocErr
     write!(out, "channels {first} and {second}")
 }
 
-// The window of a place.
+// Returns the window of a place.
 fn window_of(alloc: Global, rounds: u32, ring: &[u32], place: u32) -> Result<Vec<u32>, AllocError>
     requires rounds { rounds ≤ MAX_ROUNDS }
     requires long { rounds ≤ length ring.now }

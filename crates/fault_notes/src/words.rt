@@ -1,4 +1,4 @@
-//! The words in which notes tell what stands at a place and what is wanted there.
+//! The texts of notes for the word at a place, and for what can follow there.
 
 ghost use Rattle.std.specs.Prelude.{◌≡◌, ◌≤◌, ◌++◌, length, take, OnOk, string_bytes};
 ghost use Rattle.std.specs.List.{prefix_len};
@@ -9,14 +9,14 @@ use std::alloc::AllocError;
 use std::fmt::Write;
 use wanted_tokens::Wanted;
 
-// Whether this is an ASCII letter or digit.
+// Returns whether this is an ASCII letter or digit.
 pub(crate) fn is_word_byte(byte: u8) -> bool
     ensures { result ≡ word_byte byte }
 {
     matches!(byte, b'0'..=b'9' | b'A'..=b'Z' | b'a'..=b'z')
 }
 
-// How many letters and digits stand at the front.
+// Returns the number of letters and digits at the start.
 pub(crate) fn word_len(text: &[u8]) -> usize
     ensures value { result ≡ prefix_len word_byte text.now }
     ensures within { result ≤ length text.now }
@@ -24,7 +24,7 @@ pub(crate) fn word_len(text: &[u8]) -> usize
     text.iter().take_while(|byte| is_word_byte(**byte)).count()
 }
 
-// The first bytes, as many as this, or all.
+// Returns the first `count` bytes, or all if there are fewer.
 #[tactic(auto, using(std::proofs::lemmas::List::take_all))]
 fn front_of(text: &[u8], count: usize) -> &[u8]
     ensures { result.now ≡ take count text.entry.now }
@@ -35,7 +35,7 @@ fn front_of(text: &[u8], count: usize) -> &[u8]
     &text[..count]
 }
 
-// The word at the front of a text, or its first byte where it begins with no word.
+// Returns the word at the start of a text, or its first byte if it does not begin with a word.
 pub(crate) fn first_word(text: &[u8]) -> &[u8]
     ensures { result.now ≡ first text.entry.now }
 {
@@ -46,7 +46,7 @@ pub(crate) fn first_word(text: &[u8]) -> &[u8]
     front_of(text, len)
 }
 
-// Writes what is wanted.
+// Writes the text for what can follow.
 fn write_wanted(out: &mut String, wanted: Wanted) -> Result<(), AllocError>
     ensures { OnOk result (string_bytes out.new ≡ string_bytes out.old ++ wanted_text wanted) }
 {
@@ -71,7 +71,7 @@ fn write_wanted(out: &mut String, wanted: Wanted) -> Result<(), AllocError>
     }
 }
 
-// Writes what is wanted behind what stands there.
+// Writes the part of a note for what can follow, if it is known.
 pub(crate) fn write_wanted_part(out: &mut String, wanted: Option<Wanted>) -> Result<(), AllocError>
     ensures { OnOk result (string_bytes out.new ≡ string_bytes out.old ++ wanted_part wanted) }
 {

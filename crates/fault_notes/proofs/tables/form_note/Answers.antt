@@ -3,7 +3,7 @@ use Rattle.fault_notes.specs.TextNotes.{place_head}
 use Rattle.fault_notes.proofs.Joined.{four_pieces}
 use Rattle.fault_notes.proofs.tables.form_note.Goals as goal
 
--- The pieces of the note, one after the other.
+-- The pieces of the note, one after another.
 pub returns : goal.returns
 returns c = record {
   advice = c.form_advice.result.now;

@@ -3,7 +3,7 @@ use Rattle.fault_notes.specs.TextNotes.{cause_of, place_head}
 use Rattle.fault_notes.proofs.Joined.{four_pieces}
 use Rattle.fault_notes.proofs.texts.text_note.Goals as goal
 
--- The pieces of the note, one after the other.
+-- The pieces of the note, one after another.
 pub returns-clause-note : goal.returns-clause-note
 returns-clause-note c = λ _. record {
   wanted = c.in_ok-wanted.wanted;
