@@ -1,4 +1,4 @@
-//! The texts of the faults, and the input and the output over memory.
+//! The texts of the faults, and the input and the output in memory.
 
 use devices::fault::{EngineFault, OutFault};
 use devices::input::read_input;

@@ -1,5 +1,5 @@
-//! Tests of the crates of the program, of what no clause says: devices, table texts, words and lines. A crate with tests is
-//! proved twice, so they stand here.
+//! Tests of the crates of the program, for what no clause states: devices, table texts, words and
+//! lines. They are in a crate of their own, because a crate with tests is proved twice.
 #![tactic(auto)]
 
 #[cfg(test)]

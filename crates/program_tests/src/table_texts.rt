@@ -1,4 +1,4 @@
-//! Table texts that are read and written, and the faults of others.
+//! Reading and writing table texts, and the faults of other texts.
 
 mod faults;
 mod making;
@@ -14,7 +14,7 @@ const IDENTIFIERS: &[u8] = b"nbhd-table 1\nrounds 0 ids 2 channels 2\n0 : 0\n1 :
 const IDENTIFIERS_2: &[u8] =
     b"nbhd-table 2\nrounds 0 ids 2 channels 2 near 1 far 0\n0 : 0\n1 : 1\nend\n";
 
-// The fault of a text, or none where it is read.
+// Returns the fault of a text, or `None` if it is read.
 fn fault_of(alloc: Global, text: &[u8]) -> Option<TableFault> {
     read_table(alloc, text).err()
 }

@@ -1,4 +1,4 @@
-//! The words, their tasks and refusals, the texts of help, and the ring texts.
+//! The words, their tasks and faults, the help texts, and the ring texts.
 
 mod refusals;
 mod rings;
@@ -9,7 +9,7 @@ use std::alloc::{AllocError, Global};
 use task_words::task::Task;
 use task_words::words::{WordsFault, task_of};
 
-/// Which answer words have.
+/// The kinds of results of words.
 #[derive(Clone, Copy, Debug, PartialEq, Eq)]
 enum Answer {
     Task,
@@ -19,7 +19,7 @@ enum Answer {
     Help,
 }
 
-/// The words that stand parted by blanks in a line; an empty line has none.
+/// Splits a line into words at its blanks. An empty line has no words.
 fn words_of(alloc: Global, line: &str) -> Result<Vec<String>, AllocError> {
     let mut words = Vec::new(alloc);
     if line.is_empty() {
@@ -31,13 +31,13 @@ fn words_of(alloc: Global, line: &str) -> Result<Vec<String>, AllocError> {
     Ok(words)
 }
 
-/// The task of the words of a line.
+/// Returns the task of the words of a line.
 fn asked(alloc: Global, line: &str) -> Result<Task, WordsFault> {
     let words = words_of(alloc, line)?;
     task_of(alloc, &words)
 }
 
-/// Which answer the words of a line have.
+/// Returns the kind of the result of the words of a line.
 fn answer_to(alloc: Global, line: &str) -> Answer {
     let asked = asked(alloc, line);
     match &asked {

@@ -26,7 +26,7 @@ fn a_text_that_stops_early(rt: HostRuntime) {
     }
 }
 
-// The fault of a text of five lines, the first four of which are these.
+// Returns the fault of a text of five lines, of which these are the first four.
 fn fault_with(alloc: Global, lines: [&str; 4]) -> Result<Option<TableFault>, AllocError> {
     let [first, second, third, fourth] = lines;
     let text = format!(in alloc; "{first}\n{second}\n{third}\n{fourth}\nend\n")?;
@@ -104,7 +104,7 @@ fn a_line_of_a_window_with_a_fault(rt: HostRuntime) -> Result<(), Fail> {
     Ok(())
 }
 
-// The fault of a text with these bytes after it.
+// Returns the fault of a text followed by these bytes.
 fn fault_before(alloc: Global, text: &[u8], more: &[u8]) -> Result<Option<TableFault>, AllocError> {
     let mut text = Vec::from_slice(alloc, text)?;
     text.extend_from_slice(more)?;
@@ -122,7 +122,7 @@ fn bytes_after_the_end(rt: HostRuntime) -> Result<(), Fail> {
     Ok(())
 }
 
-// The fault of a text of so many blanks.
+// Returns the fault of a text of `count` blanks.
 fn fault_of_blanks(alloc: Global, count: usize) -> Result<Option<TableFault>, AllocError> {
     let blanks = Vec::from_elem(alloc, b' ', count)?;
     Ok(fault_of(alloc, &blanks))

@@ -9,7 +9,8 @@ use table_fill::{Table, TableMaker};
 use table_text::write_table;
 use win_index::Shape;
 
-/// The table of two identifiers and no rounds that gives each identifier itself as its channel.
+/// Returns the table of two identifiers and no rounds that gives each identifier itself as its
+/// channel.
 fn table_of_identifiers(rt: &impl Abort, alloc: Global) -> Result<Table, Fail> {
     let shape = Shape::new(2, 0).expect(rt, "a shape");
     assert!(rt; shape.count(shape.rounds()) == 2);

@@ -12,7 +12,8 @@ const ONE_CHANNEL: &[u8] = b"nbhd-table 2\nrounds 1 ids 4 channels 1 near 2 far 
 3 0 1 : 0\n3 0 2 : 0\n3 1 0 : 0\n3 1 2 : 0\n3 2 0 : 0\n3 2 1 : 0\n\
 end\n";
 
-// The numbers of rounds, identifiers and channels of the table of a text, near and far, and the table's entries.
+// Returns the numbers of rounds, identifiers and channels of the table of a text, near and far, and
+// the table's entries.
 fn numbers_of(alloc: Global, text: &[u8]) -> Result<Vec<u32>, Fail> {
     let (table, separation) = read_table(alloc, text).ok().ok_or("a table")?;
     let shape = table.shape();
@@ -48,7 +49,7 @@ fn a_table_of_one_channel(rt: HostRuntime) -> Result<(), Fail> {
     Ok(())
 }
 
-// The table and the separation of a text, written again.
+// Reads the table and the separation of a text, and returns the text that is written for them.
 fn written_again(alloc: Global, text: &[u8]) -> Result<Vec<u8>, Fail> {
     let (table, separation) = read_table(alloc, text).ok().ok_or("a table")?;
     let mut writer = Watched::new(Vec::new(alloc));

@@ -38,7 +38,7 @@ fn words_that_are_not_utf8_are_refused(rt: HostRuntime) -> Result<(), Fail> {
     Ok(())
 }
 
-/// The words of each of the lines, which are parted by bars, are no command.
+/// Checks that the words of each of the lines, which are separated by bars, are no command.
 fn are_no_commands(rt: &(impl Abort + AllocGlobal), lines: &str) {
     for line in lines.split('|') {
         assert_eq!(rt; answer_to(rt.alloc(), line), Answer::Usage, "at {line}");

@@ -24,7 +24,8 @@ fn checks_are_tasks(rt: HostRuntime) {
     }
 }
 
-/// Options of a table and of a judge, with the numbers of workers, near and far that they give for eight identifiers.
+/// Options of a table and of a judge for eight identifiers, with the numbers of workers, near and
+/// far that they give.
 const BY_WORKERS: [(&str, u32, u32, u32); 8] = [
     ("--ids 8", 1, 1, 0),
     ("--ids 8 --workers 1", 1, 1, 0),

@@ -3,7 +3,7 @@ use std::alloc::Global;
 use std::test::Fail;
 use task_words::words::WordsFault;
 
-/// The text that the words of a line are answered with.
+/// Returns the text of the fault or of the help for the words of a line.
 fn text_of(alloc: Global, line: &str) -> Result<String, Fail> {
     match asked(alloc, line) {
         Err(WordsFault::Usage(text)) | Err(WordsFault::Help(text)) => Ok(text),
@@ -198,7 +198,7 @@ Exit status:
     Ok(())
 }
 
-/// Words that are refused, and what is told of them.
+/// Words that are refused, and the texts of their faults.
 const REFUSED: [(&str, &str); 4] = [
     (
         "",
