@@ -1,4 +1,5 @@
-//! The mistakes that a newcomer makes, each with the note that names its cause, as tests through the public calls.
+//! Common mistakes of newcomers, each with the note on its cause, as tests through the public
+//! calls.
 #![tactic(auto)]
 
 #[cfg(test)]

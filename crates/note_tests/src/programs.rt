@@ -16,7 +16,7 @@ r0 = add(shl(ldb(r0, L), 1), bit(r0, ldb(r0, L)))
 finish r0
 ";
 
-/// The program with `new` in place of the first `old`.
+/// Returns the program with the first `old` replaced by `new`.
 pub(crate) fn edited(alloc: Global, old: &str, new: &str) -> Result<String, Fail> {
     let (front, back) = CV1.split_once(old).ok_or("a part of the program")?;
     Ok(format!(in alloc; "{front}{new}{back}")?)

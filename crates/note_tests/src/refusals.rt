@@ -9,7 +9,7 @@ use std::process::Abort;
 use std::test::Fail;
 use win_index::{Ring, Shape};
 
-/// The note on the program with another part, for so many identifiers.
+/// Returns the note on the program with the first `old` replaced by `new`, for `ids` identifiers.
 fn refusal_of(alloc: Global, old: &str, new: &str, ids: u32) -> Result<String, Fail> {
     let text = edited(alloc, old, new)?;
     let program = parse(alloc, text.as_bytes()).ok().ok_or("a program")?;
@@ -91,7 +91,7 @@ fn programs(rt: HostRuntime) -> Result<(), Fail> {
     Ok(())
 }
 
-/// The note on a list of identifiers that is no ring for 8 identifiers and one round.
+/// Returns the note on a list of identifiers that is not a ring of 8 identifiers and one round.
 fn ring_refusal(alloc: Global, places: &[u32]) -> Result<String, Fail> {
     let shape = Shape::new(8, 1).ok().ok_or("a shape")?;
     let Err((ids, fault)) = Ring::new(shape, places.to_vec(alloc)?) else {

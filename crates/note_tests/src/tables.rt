@@ -6,7 +6,7 @@ use std::process::Abort;
 use std::test::Fail;
 use table_text::{TableFault, read_table};
 
-/// The note on what is wrong with a text.
+/// Returns the note on the fault of a table text.
 fn note_on(alloc: Global, text: &[u8]) -> Result<String, Fail> {
     let fault = read_table(alloc, text).err().ok_or("a fault")?;
     match fault {

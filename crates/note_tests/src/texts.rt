@@ -7,7 +7,7 @@ use std::alloc::Global;
 use std::process::Abort;
 use std::test::Fail;
 
-/// The note on the fault of a program text.
+/// Returns the note on the fault of a program text.
 fn note_on(alloc: Global, text: &[u8]) -> Result<String, Fail> {
     let fault = parse(alloc, text).err().ok_or("a fault")?;
     if fault.offset > text.len() {
@@ -16,7 +16,7 @@ fn note_on(alloc: Global, text: &[u8]) -> Result<String, Fail> {
     Ok(text_note(alloc, text, fault)?)
 }
 
-/// The notes on texts begin so.
+/// Checks that the note on each text begins with the text beside it.
 fn notes_begin<R: Abort>(rt: &R, alloc: Global, rows: &[(&[u8], &str)]) -> Result<(), Fail> {
     for (text, want) in rows {
         let note = note_on(alloc, text)?;
@@ -25,7 +25,8 @@ fn notes_begin<R: Abort>(rt: &R, alloc: Global, rows: &[(&[u8], &str)]) -> Resul
     Ok(())
 }
 
-/// The notes on the program with another part begin so: a row has the part, what stands in its place, and the note.
+/// Checks the start of the note on the program with one part replaced: a row has the part, its
+/// replacement and the start.
 fn edits_begin<R: Abort>(rt: &R, alloc: Global, rows: &[(&str, &str, &str)]) -> Result<(), Fail> {
     for (old, new, want) in rows {
         let text = edited(alloc, old, new)?;
