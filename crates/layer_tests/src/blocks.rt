@@ -5,7 +5,7 @@ use std::test::Fail;
 use test_programs::{CV1, RED, SHIFT4, TWO_REGISTERS, plan_of};
 use unroll::{Block, MakeFault, Source, make_block, window_state};
 
-// A source that knows the first of the blocks that are lent to it.
+// A source whose only entry is the first of some borrowed blocks.
 #[derive(Drop)]
 struct Lent<'s> {
     plan: &'s Plan,
@@ -108,7 +108,8 @@ fn the_last_block_of_a_level(rt: HostRuntime) -> Result<(), Fail> {
 fn a_block_below_is_missing(rt: HostRuntime) -> Result<(), Fail> {
     let plan = plan_of(rt.alloc(), RED, 8)?;
     let shape = plan.shape();
-    // the first window of block 26 of level 2 has number 6,656; its first part has number 332, in block 1
+    // The first window of block 26 of level 2 has number 6,656. Its first part has number 332,
+    // which is in block 1.
     for (level, number, missing) in [(1, 0, 0), (2, 0, 0), (2, 26, 1)] {
         assert!(rt; level <= shape.rounds() && number < shape.blocks(level));
         let mut nothing = Lent {

@@ -28,7 +28,7 @@ impl Dated for Note {
     }
 }
 
-// A message to the right of this round.
+// Returns a message to the right of this round.
 fn to_the_right(round: u32, value: u32) -> Note {
     Note {
         side: Side::Rightward,
@@ -37,7 +37,7 @@ fn to_the_right(round: u32, value: u32) -> Note {
     }
 }
 
-// A message to the left of this round.
+// Returns a message to the left of this round.
 fn to_the_left(round: u32, value: u32) -> Note {
     Note {
         side: Side::Leftward,

@@ -1,5 +1,5 @@
-//! Tests of the crates from the language to segments, of what no clause says. A crate with tests is proved twice, so they
-//! stand here.
+//! Tests of the crates from the language to segments, for what no clause states. They are in a
+//! crate of their own, because a crate with tests is proved twice.
 #![tactic(auto)]
 
 #[cfg(test)]

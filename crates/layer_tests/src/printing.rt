@@ -4,16 +4,16 @@ use node_lang::{parse, print};
 use std::alloc::{AllocError, Global};
 use std::test::Fail;
 
-// What stands in front of the last expression of a program of one register that starts with 0.
+// The text before the last expression of a program of one register that starts with 0.
 const HEAD: &str = "rounds 0\nchannels 1\nregisters 1\nstart\nr0 = 0\nfinish ";
 
-// The printed form of the program of a text, or none where one of the two calls refuses.
+// Returns the printed form of the program of a text, or `None` if one of the two calls fails.
 fn printed(alloc: Global, text: &[u8]) -> Option<String> {
     let program = parse(alloc, text).ok()?;
     print(alloc, &program).ok()
 }
 
-// A program that ends in this expression, with its line feed.
+// Returns a program that ends in this expression and a line feed.
 fn finishing(alloc: Global, expression: &str) -> Result<String, AllocError> {
     format!(in alloc; "{HEAD}{expression}\n")
 }

@@ -10,7 +10,7 @@ use std::alloc::Global;
 use std::test::Fail;
 use win_index::Ring;
 
-// The ring of these identifiers for a plan.
+// Returns the ring of these identifiers for a plan.
 fn ring_of(alloc: Global, plan: &Plan, ids: &[u32]) -> Result<Ring, Fail>
     ensures { IfOk result (λ ring. (ring.ids ≡ plan.now.ids) × (ring.rounds ≡ length plan.now.program.steps) × (ring.places ≡ ids.now)) }
 {

@@ -3,7 +3,7 @@
 use std::test::Fail;
 use win_index::{MAX_ROUNDS, Ring, RingFault, Shape, ShapeFault};
 
-// A shape of 8 identifiers.
+// Returns a shape of 8 identifiers.
 fn shape_of_eight(rounds: u32) -> Option<Shape>
     requires { rounds ≤ MAX_ROUNDS }
     ensures { IfSome result (λ shape. shape.rounds ≡ rounds) }

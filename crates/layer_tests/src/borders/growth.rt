@@ -7,7 +7,7 @@ use std::marker::Brand;
 use std::sync::Wait;
 use std::sync::ledger::{Blank, Ledger};
 
-// Puts a message; where its growth was refused, once more.
+// Puts a message, a second time if memory for it was refused.
 fn put_again<R: Ledger, L: Ledger, W: Wait>(
     rt: &W,
     border: &Border<Note, R, L>,
@@ -22,8 +22,9 @@ fn put_again<R: Ledger, L: Ledger, W: Wait>(
     }
 }
 
-// How many messages a border has after eight puts, each of which is tried once more where its growth was refused, and
-// whether they are those that were put. None where there is no border.
+// Makes a border and puts eight messages, each a second time if memory for it was refused. Returns
+// the number of messages of the border, and whether they are those that were put. Returns `None` if
+// there is no border.
 fn after_eight_puts<R: Ledger, L: Ledger, W: Wait>(
     rt: &W,
     alloc: Global,

@@ -9,7 +9,7 @@ use std::sync::Wait;
 use std::sync::ledger::{Blank, Ledger};
 use std::test::Fail;
 
-// Puts and takes on a border of the ledgers R and L.
+// Puts and takes messages on a border of the ledgers R and L.
 fn puts_and_takes<R: Ledger, L: Ledger, W: Abort + Wait>(
     rt: &W,
     alloc: Global,

@@ -11,16 +11,16 @@ use std::sync::ledger::{Blank, Ledger};
 use std::thread;
 use std::thread::Threads;
 
-// Looks at a counter, at most.
+// The maximum number of reads of a counter.
 const TURNS: u64 = 1_000_000_000;
 
-// The rounds of a test.
+// The number of rounds of a test.
 const ROUNDS: u32 = 100;
 
-// Threads that take each message.
+// The number of threads that take each message.
 const TAKERS: u64 = 2;
 
-// Waits until the counter is this or more, and answers whether it was.
+// Waits until the counter is at least `least`, and returns whether it was.
 fn comes_to(counter: &AtomicU64, least: u64) -> bool {
     for _turn in 0..TURNS {
         if counter.load(SeqCst) >= least {
@@ -30,8 +30,8 @@ fn comes_to(counter: &AtomicU64, least: u64) -> bool {
     false
 }
 
-// Puts a message in each round, once all takers are about to take it. A taker that an earlier put did not wake never is. Answers
-// whether each was put.
+// Puts a message in each round, once all takers are about to take it. A taker that an earlier put
+// did not wake never gets there. Returns whether each message was put.
 fn put_each<R: Ledger, L: Ledger, W: Wait>(
     rt: &W,
     border: &Border<Note, R, L>,
@@ -50,7 +50,8 @@ fn put_each<R: Ledger, L: Ledger, W: Wait>(
     true
 }
 
-// Puts in each round, and then closes the border, so that no taker waits for what was not put.
+// Puts a message in each round, and then closes the border, so that no taker waits for a message
+// that was not put.
 fn put_all<R: Ledger, L: Ledger, W: Wait>(
     rt: &W,
     border: &Border<Note, R, L>,
@@ -62,7 +63,7 @@ fn put_all<R: Ledger, L: Ledger, W: Wait>(
     done
 }
 
-// Takes the message of each round, and answers whether each was the one put.
+// Takes the message of each round, and returns whether each was the one that was put.
 fn take_each<R: Ledger, L: Ledger, W: Wait>(
     rt: &W,
     border: &Border<Note, R, L>,
@@ -78,7 +79,8 @@ fn take_each<R: Ledger, L: Ledger, W: Wait>(
     true
 }
 
-// Takes in each round, and then lets all puts go on, so that no put waits for what is not taken.
+// Takes the message of each round, and then lets all puts continue, so that no put waits for a
+// taker.
 fn take_all<R: Ledger, L: Ledger, W: Wait>(
     rt: &W,
     border: &Border<Note, R, L>,
@@ -89,7 +91,7 @@ fn take_all<R: Ledger, L: Ledger, W: Wait>(
     done
 }
 
-// One thread puts and two take each message: whether each did all that it had to.
+// Puts on one thread and takes each message on two. Returns whether each thread did all of it.
 fn put_and_take<R: Ledger + Send + Sync, L: Ledger + Send + Sync, W: Threads + Wait + Sync>(
     rt: &W,
     alloc: Global,
@@ -113,7 +115,7 @@ fn put_and_take<R: Ledger + Send + Sync, L: Ledger + Send + Sync, W: Threads + W
     ))
 }
 
-// Closes the border once a taker is about to take. Answers whether it came.
+// Closes the border once a taker is about to take. Returns whether it was.
 fn close_late<R: Ledger, L: Ledger, W: Wait>(
     rt: &W,
     border: &Border<Note, R, L>,
@@ -124,7 +126,7 @@ fn close_late<R: Ledger, L: Ledger, W: Wait>(
     came
 }
 
-// Takes a message that is never put, and answers whether there was none.
+// Takes a message that is never put. Returns whether there was none.
 fn take_none<R: Ledger, L: Ledger, W: Wait>(
     rt: &W,
     border: &Border<Note, R, L>,
@@ -134,7 +136,7 @@ fn take_none<R: Ledger, L: Ledger, W: Wait>(
     border.take(rt, Side::Leftward, 0).is_none()
 }
 
-// One thread closes and another takes: whether each did all that it had to.
+// Closes a border on one thread and takes on another. Returns whether each thread did all of it.
 fn close_and_take<R: Ledger + Send + Sync, L: Ledger + Send + Sync, W: Threads + Wait + Sync>(
     rt: &W,
     alloc: Global,

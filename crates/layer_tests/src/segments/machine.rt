@@ -9,7 +9,8 @@ use std::test::Fail;
 use test_programs::{CV1, RED, plan_of};
 use win_index::Ring;
 
-// CV1 on the ring 5 1 3 7 in two segments, 5 1 and 3 7. Segment 0 advances at the third try, and then segment 1.
+// Events of CV1 on the ring 5 1 3 7 in two segments, 5 1 and 3 7. Segment 0 advances at the third
+// try, and then segment 1.
 const EVENTS: [RingEvent; 8] = [
     RingEvent::SendRight(0),
     RingEvent::SendLeft(0),
@@ -21,7 +22,7 @@ const EVENTS: [RingEvent; 8] = [
     RingEvent::Advance(1),
 ];
 
-// Two segments after these events.
+// Returns two segments after these events.
 fn after<'a>(
     alloc: Global,
     plan: &'a Plan,
@@ -37,7 +38,7 @@ fn after<'a>(
     Ok(world)
 }
 
-// The rounds of two segments, and their registers.
+// Returns the rounds of two segments, and their registers.
 fn segments_of<'w>(world: &'w World<'_>) -> [(u32, &'w [u32]); 2]
     requires { length world.now.segments ≡ 2 }
 {
@@ -47,7 +48,7 @@ fn segments_of<'w>(world: &'w World<'_>) -> [(u32, &'w [u32]); 2]
     ]
 }
 
-// How many messages stand at border 0 to the right and to the left, and at border 1.
+// Returns the numbers of messages at border 0 to the right and to the left, and at border 1.
 fn counts_of(world: &World<'_>) -> [usize; 4]
     requires { length world.now.segments ≡ 2 }
 {
@@ -59,7 +60,7 @@ fn counts_of(world: &World<'_>) -> [usize; 4]
     ]
 }
 
-// The place and the value of the first message that stands at a border on the way to a side.
+// Returns the place and the value of the first message at a border to a side.
 fn first_sent(world: &World<'_>, border: u32, side: Side) -> Option<(u32, u32)>
     requires at { border ≤ 1 }
     requires segments { length world.now.segments ≡ 2 }
@@ -128,7 +129,7 @@ fn events_that_are_not_enabled_change_nothing(rt: HostRuntime) -> Result<(), Fai
         RingEvent::SendLeft(2),
         RingEvent::Advance(2),
         RingEvent::Advance(u32::MAX),
-        // segment 0 has sent to the right in its round, and nothing has come to it
+        // segment 0 has sent to the right in its round, and has received nothing
         RingEvent::SendRight(0),
         RingEvent::Advance(0),
         // segment 1 has not sent
