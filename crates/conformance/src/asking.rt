@@ -1,4 +1,4 @@
-//! Asks the engine, over memory, by a task or by the words of a command line.
+//! Calls the engine in memory, for a task or for the words of a command line.
 
 use plan_print::engine::engine;
 use plan_print::status::Status;
@@ -11,7 +11,7 @@ use std::sync::Wait;
 use std::test::Fail;
 use std::thread::Threads;
 
-/// Does a task on an input: the report and its status.
+/// Does a task on an input. Returns the report and its status.
 pub(crate) fn report_of<R: Abort + Threads + Wait + Sync>(
     rt: &R,
     alloc: Global,
@@ -25,7 +25,7 @@ pub(crate) fn report_of<R: Abort + Threads + Wait + Sync>(
     Ok((writer.into_device(), status))
 }
 
-/// Does a task on an input and compares the report, byte for byte, and its status.
+/// Does a task on an input, and checks the report, byte for byte, and its status.
 pub(crate) fn reports<R: Abort + Threads + Wait + Sync>(
     rt: &R,
     alloc: Global,
@@ -40,7 +40,7 @@ pub(crate) fn reports<R: Abort + Threads + Wait + Sync>(
     Ok(())
 }
 
-/// The task of the words of a line, which are parted by single blanks.
+/// Returns the task of the words of a line, which are separated by single blanks.
 fn task_by(alloc: Global, line: &str) -> Result<Task, Fail> {
     let mut words = Vec::new(alloc);
     for word in line.split(' ') {
@@ -49,7 +49,7 @@ fn task_by(alloc: Global, line: &str) -> Result<Task, Fail> {
     Ok(task_of(alloc, &words).ok().ok_or("a task")?)
 }
 
-/// The report for the words of a line and an input, and its status.
+/// Returns the report for the words of a line and an input, and its status.
 pub(crate) fn report_by<R: Abort + Threads + Wait + Sync>(
     rt: &R,
     alloc: Global,
@@ -59,7 +59,7 @@ pub(crate) fn report_by<R: Abort + Threads + Wait + Sync>(
     report_of(rt, alloc, task_by(alloc, words)?, input)
 }
 
-/// The report for the words of a line and an input, where the task is done.
+/// Returns the report for the words of a line and an input. Checks that the task is done.
 pub(crate) fn done<R: Abort + Threads + Wait + Sync>(
     rt: &R,
     alloc: Global,
@@ -71,7 +71,8 @@ pub(crate) fn done<R: Abort + Threads + Wait + Sync>(
     Ok(report)
 }
 
-/// Compares reports, byte for byte, and their status. A row has the words, the input, the report and the status.
+/// Checks reports, byte for byte, and their status. A row has the words, the input, the report and
+/// the status.
 pub(crate) fn all_report<R: Abort + Threads + Wait + Sync>(
     rt: &R,
     alloc: Global,

@@ -1,4 +1,5 @@
-//! Reports on table texts: an audit's verdict, a migration's text, and the faults of a text that is no table's.
+//! Reports on table texts: the verdict of an audit, the text of a migration, and the faults of
+//! other texts.
 
 use crate::asking::{all_report, done, report_by};
 use plan_print::status::Status;
@@ -9,7 +10,8 @@ use std::test::Fail;
 use std::thread::Threads;
 use test_programs::{CV1, CV1_OF_12, ID0, ID0_OF_4, LDB, RED, TWICE_ID, ZERO};
 
-/// The text of the table of two identifiers and no rounds that gives each identifier itself as its channel, in version 1.
+/// The text of the table of two identifiers and no rounds that gives each identifier itself as its
+/// channel, in version 1.
 const OLD_TABLE_OF_IDENTIFIERS: &[u8] =
     b"nbhd-table 1\nrounds 0 ids 2 channels 2\n0 : 0\n1 : 1\nend\n";
 
@@ -17,8 +19,9 @@ const OLD_TABLE_OF_IDENTIFIERS: &[u8] =
 pub(crate) const TABLE_OF_IDENTIFIERS: &[u8] =
     b"nbhd-table 2\nrounds 0 ids 2 channels 2 near 1 far 0\n0 : 0\n1 : 1\nend\n";
 
-/// Audits the table text of a program: the line and the status are those of the judge on the program. A migration leaves
-/// the text as it is. The answer is the length of the text.
+/// Audits the table text of a program, and checks that the line and the status are those of the
+/// judge on the program, and that a migration does not change the text. Returns the length of the
+/// text.
 fn judged_alike<R: Abort + Threads + Wait + Sync>(
     rt: &R,
     alloc: Global,
@@ -67,7 +70,7 @@ fn an_audit_of_a_table_that_tells_near_and_far(rt: HostRuntime) -> Result<(), Fa
     all_report(&rt, rt.alloc(), &[row])
 }
 
-// A table text may be far longer than a program text.
+// A table text can be far longer than a program text.
 #[test]
 fn long_table_texts_are_read_whole(rt: HostRuntime) -> Result<(), Fail> {
     for (program, options) in [(RED, "--ids 8"), (CV1_OF_12, "--ids 24")] {
@@ -77,7 +80,8 @@ fn long_table_texts_are_read_whole(rt: HostRuntime) -> Result<(), Fail> {
     Ok(())
 }
 
-/// The old text of the table of two identifiers with other lines in the place of its second, third and fourth.
+/// Returns the old text of the table of two identifiers, with its second, third and fourth line
+/// replaced.
 fn text_of(alloc: Global, lines: [&str; 3]) -> Result<String, AllocError> {
     let [sizes, first, second] = lines;
     format!(in alloc; "nbhd-table 1\n{sizes}\n{first}\n{second}\nend\n")
@@ -108,7 +112,8 @@ fn lines_that_are_no_lines_of_a_table(rt: HostRuntime) -> Result<(), Fail> {
     Ok(())
 }
 
-/// What an audit and a migration say of the first bytes of a text.
+/// Checks the reports of an audit and a migration on prefixes of a text. A row has the length of
+/// the prefix and the report.
 fn refused_alike<R: Abort + Threads + Wait + Sync>(
     rt: &R,
     alloc: Global,

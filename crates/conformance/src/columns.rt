@@ -1,4 +1,4 @@
-//! Tables that are filled by columns, beside the states of single windows.
+//! Tables that are filled by columns, compared with the states of single windows.
 
 use lang_check::Plan;
 use node_lang::MAX_REGISTERS;
@@ -13,7 +13,7 @@ use test_programs::{CV1, EIGHT_REGISTERS, RED, TWO_REGISTERS, plan_of};
 use unroll::window_state;
 use win_index::MAX_WINDOW_LEN;
 
-/// The table of a plan, filled by two workers.
+/// Returns the table of a plan, filled by two workers.
 fn table_of<R: Threads + Wait + Sync>(rt: &R, alloc: Global, plan: &Plan) -> Result<Table, Fail> {
     let memo = Memo::new(alloc, plan).ok().ok_or("a memo")?;
     let mut pass = memo.pass(alloc).ok().ok_or("a pass")?;
@@ -21,7 +21,7 @@ fn table_of<R: Threads + Wait + Sync>(rt: &R, alloc: Global, plan: &Plan) -> Res
     Ok(table.ok().ok_or("a table")?)
 }
 
-/// Whether the window with this number has the channel of the state that its rounds leave.
+/// Returns whether the window with this number has the channel of its state after the rounds.
 fn has_its_channel(plan: &Plan, table: &Table, number: u32) -> bool {
     let shape = plan.shape();
     let level = shape.rounds();

@@ -13,7 +13,8 @@ use test_programs::{
     CV1_OF_11, CV1_OF_14, CV1_OF_16, CV1_OF_THREE, CV1_SENDS_L, ID0, NOT_HEAD, SHIFT4,
 };
 
-/// Every task for `ids` identifiers refuses a program text with this line, whatever its ring and its segments are.
+/// Checks that every task for `ids` identifiers refuses a program text with this line, whatever its
+/// ring and its number of segments.
 fn all_refuse<R: Abort + Threads + Wait + Sync>(
     rt: &R,
     alloc: Global,
@@ -56,7 +57,7 @@ fn all_refuse<R: Abort + Threads + Wait + Sync>(
     Ok(())
 }
 
-/// Every task for eight identifiers, and a print, refuse a text that is no program with this line.
+/// Checks that every task for eight identifiers, and a print, refuse a text with this line.
 fn is_no_program<R: Abort + Threads + Wait + Sync>(
     rt: &R,
     alloc: Global,

@@ -1,4 +1,4 @@
-//! What is found of a program and a ring in one call.
+//! The findings on a program and a ring from one call.
 
 use headline::{FindingsFault, compile_run_and_judge};
 use nbhd_check::{Separation, Verdict};
@@ -12,10 +12,11 @@ use table_fill::FillFault;
 use test_programs::{CV1, LDB, plan_of};
 use win_index::Ring;
 
-// Neighbours' channels differ, and no more is wanted.
+// Neighbours' channels have to differ, and nothing else is required.
 const NEIGHBOURS_DIFFER: Separation = Separation { near: 1, far: 0 };
 
-// What was found: the table's channel around 7 5 1, the channels of the ring, and the judge's answer.
+// The findings: the table's channel around 7 5 1, the channels of the ring, and the judge's
+// verdict.
 #[derive(Debug, PartialEq, Eq, Drop)]
 struct Found {
     around: Option<u32>,
@@ -23,7 +24,7 @@ struct Found {
     verdict: Verdict,
 }
 
-// What is found of a program of one round for 8 identifiers, on the ring 5 1 3 7.
+// Returns the findings on a program of one round for 8 identifiers, on the ring 5 1 3 7.
 fn findings_of<R: Threads + Wait + Sync>(
     rt: &R,
     alloc: Global,

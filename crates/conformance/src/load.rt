@@ -1,4 +1,4 @@
-//! Many threads, many times: one answer.
+//! Many threads, many times: the report is always the same.
 
 use crate::asking::{done, report_of};
 use plan_print::lines::numbers_line;
@@ -7,7 +7,7 @@ use std::alloc::Global;
 use std::test::Fail;
 use test_programs::{CV1, TWO_REGISTERS_OF_200};
 
-/// How often a test asks for its answer; a test has a minute.
+/// How many times a test repeats a task; a test has a minute.
 const TIMES: u32 = 250;
 
 #[test]
@@ -20,7 +20,7 @@ fn tables_by_64_workers_agree(rt: HostRuntime) -> Result<(), Fail> {
     Ok(())
 }
 
-/// Sixty-four identifiers below 100, each 37 more than the one before it.
+/// Returns sixty-four identifiers below 100, each 37 more than the one before it, modulo 100.
 fn identifiers(alloc: Global) -> Result<Vec<u32>, Fail> {
     let mut ring = Vec::new(alloc);
     for place in 0..64u32 {
@@ -29,7 +29,7 @@ fn identifiers(alloc: Global) -> Result<Vec<u32>, Fail> {
     Ok(ring)
 }
 
-/// What each place of a ring has after one round in which it adds its left neighbour's identifier to its own.
+/// Returns for each place of a ring the sum of its identifier and its left neighbour's.
 fn sums(alloc: Global, ring: &[u32]) -> Result<Vec<u32>, Fail> {
     let mut sums = Vec::new(alloc);
     let mut left = ring.last().copied().unwrap_or(0);

@@ -8,7 +8,7 @@ use test_programs::{
     TWICE_ID, TWO_REGISTERS, ZERO,
 };
 
-/// Row by row: the words, the program, the report, the status.
+/// A row has the words, the program, the report and the status.
 const CHECKS: [(&str, &[u8], &str, Status); 6] = [
     (
         "check --ids 64",
@@ -287,7 +287,8 @@ const PLANS: [(&str, &[u8], &str, Status); 1] = [(
     Status::Done,
 )];
 
-// Fifteen and three million tuples, and tables of four rounds: too many for a run that is not built.
+// Fifteen and three million tuples, and tables of four rounds: too many for a run that is not
+// built.
 const LARGE: [(&str, &[u8], &str, Status); 3] = [
     (
         "judge --ids 64",

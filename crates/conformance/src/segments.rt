@@ -13,7 +13,7 @@ use std::thread::Threads;
 use test_programs::{CV1, RED, TWO_REGISTERS_OF_200, plan_of};
 use win_index::Ring;
 
-/// The line of a plain run of a program on a ring of identifiers below `ids`.
+/// Returns the line of a plain run of a program on a ring of identifiers below `ids`.
 fn plain_line(alloc: Global, text: &[u8], ids: u32, ring: &[u32]) -> Result<String, Fail> {
     let plan = plan_of(alloc, text, ids)?;
     let ring = Ring::new(plan.shape(), ring.to_vec(alloc)?)
@@ -23,8 +23,8 @@ fn plain_line(alloc: Global, text: &[u8], ids: u32, ring: &[u32]) -> Result<Stri
     Ok(numbers_line(alloc, &channels)?)
 }
 
-/// Whether the engine's run of a program on a ring of identifiers below `ids`, in each of these numbers of segments,
-/// has the line of a plain run.
+/// Returns whether the engine's run of a program on a ring of identifiers below `ids` has the line
+/// of a plain run, in each of these numbers of segments.
 fn runs_are_plain<R: Abort + Threads + Wait + Sync>(
     rt: &R,
     alloc: Global,
@@ -48,7 +48,7 @@ fn runs_are_plain<R: Abort + Threads + Wait + Sync>(
     Ok(true)
 }
 
-/// The hundred identifiers below 100, each 37 more than the one before it.
+/// Returns the hundred identifiers below 100, each 37 more than the one before it, modulo 100.
 fn hundred_identifiers(alloc: Global) -> Result<Vec<u32>, Fail> {
     let mut ring = Vec::new(alloc);
     for place in 0..100u32 {

@@ -1,10 +1,12 @@
-//! Devices for tests: they give or take few bytes a call, and fail at a call that the test names.
+//! Devices for tests, which give or take few bytes per call, and fail at a call that the test
+//! names.
 
 use std::alloc::Global;
 use std::io;
 use std::io::{ErrorKind, Read, Write};
 
-/// The calls of a device, counted from 1 on. The one with the number `failing` fails, with an error of this kind.
+/// The calls of a device, counted from 1. The call with number `failing` fails, with an error of
+/// this kind.
 #[derive(Drop)]
 struct Calls {
     made: usize,
@@ -13,7 +15,7 @@ struct Calls {
 }
 
 impl Calls {
-    /// Counts a call, which fails where it is the one.
+    /// Counts a call. Fails if it is the one to fail.
     fn count(&mut self) -> io::Result<()> {
         self.made = self.made.saturating_add(1);
         if self.made == self.failing {
@@ -23,7 +25,7 @@ impl Calls {
     }
 }
 
-/// A reader of a text that gives at most so many bytes a call.
+/// A reader of a text that gives at most `most` bytes per call.
 #[derive(Drop)]
 pub(crate) struct SlowReader<'a> {
     rest: &'a [u8],
@@ -32,12 +34,12 @@ pub(crate) struct SlowReader<'a> {
 }
 
 impl<'a> SlowReader<'a> {
-    /// A reader of a text of which no call fails.
+    /// Returns a reader of a text, no call of which fails.
     pub(crate) fn new(text: &'a [u8], most: usize) -> SlowReader<'a> {
         SlowReader::failing_at(0, ErrorKind::Other, text, most)
     }
 
-    /// A reader of a text of which the call with this number fails, and no other.
+    /// Returns a reader of a text. Only the call with this number fails.
     pub(crate) fn failing_at(
         call: usize,
         kind: ErrorKind,
@@ -55,7 +57,7 @@ impl<'a> SlowReader<'a> {
         }
     }
 
-    /// How often it was called.
+    /// Returns the number of calls.
     pub(crate) fn calls(&self) -> usize {
         self.calls.made
     }
@@ -72,7 +74,7 @@ impl<'a> Read for SlowReader<'a> {
     }
 }
 
-/// A writer into memory that takes at most so many bytes a call.
+/// A writer to memory that takes at most `most` bytes per call.
 #[derive(Drop)]
 pub(crate) struct SlowWriter {
     taken: Vec<u8>,
@@ -81,12 +83,12 @@ pub(crate) struct SlowWriter {
 }
 
 impl SlowWriter {
-    /// A writer of which no call fails.
+    /// Returns a writer, no call of which fails.
     pub(crate) fn new(alloc: Global, most: usize) -> SlowWriter {
         SlowWriter::failing_at(0, ErrorKind::Other, alloc, most)
     }
 
-    /// A writer of which the call with this number fails, and no other.
+    /// Returns a writer. Only the call with this number fails.
     pub(crate) fn failing_at(
         call: usize,
         kind: ErrorKind,
@@ -104,12 +106,12 @@ impl SlowWriter {
         }
     }
 
-    /// How often it was called.
+    /// Returns the number of calls.
     pub(crate) fn calls(&self) -> usize {
         self.calls.made
     }
 
-    /// What it took.
+    /// Returns the bytes that it took.
     pub(crate) fn into_taken(self) -> Vec<u8> {
         self.taken
     }

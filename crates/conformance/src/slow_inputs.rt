@@ -1,4 +1,4 @@
-//! Inputs that come a few bytes a call, and reads that fail.
+//! Inputs that come a few bytes per call, and reads that fail.
 
 use crate::slow_devices::{SlowReader, SlowWriter};
 use plan_print::engine::engine;
@@ -15,10 +15,11 @@ use std::test::Fail;
 use std::thread::Threads;
 use test_programs::CV1;
 
-/// The report of the run that these tests make.
+/// The report of the run in these tests.
 pub(crate) const REPORT: &[u8] = b"2 4 3 5\n";
 
-/// What became of a task: the engine's answer, how often its reader and its writer were called, and what was written.
+/// The outcome of a task: the engine's result, the numbers of reads and of writes, and the bytes
+/// written.
 #[derive(Drop)]
 pub(crate) struct Outcome {
     pub(crate) answer: Result<Status, EngineFault>,
@@ -27,7 +28,7 @@ pub(crate) struct Outcome {
     pub(crate) taken: Vec<u8>,
 }
 
-/// Does a task over these devices.
+/// Does a task with these devices.
 pub(crate) fn outcome_of<R: Abort + Threads + Wait + Sync>(
     rt: &R,
     alloc: Global,
@@ -48,7 +49,7 @@ pub(crate) fn outcome_of<R: Abort + Threads + Wait + Sync>(
     }
 }
 
-/// Runs the program of one round on the ring 5 1 3 7 over these devices.
+/// Runs the program of one round on the ring 5 1 3 7 with these devices.
 pub(crate) fn outcome_of_run<R: Abort + Threads + Wait + Sync>(
     rt: &R,
     alloc: Global,
@@ -75,8 +76,8 @@ fn an_input_of_single_bytes_has_the_same_report(rt: HostRuntime) -> Result<(), F
     Ok(())
 }
 
-/// Runs with a reader of at most so many bytes a call that fails at the call with this number: it is not called again, and
-/// nothing is written.
+/// Runs with a reader that gives at most `most` bytes per call and fails at the call with this
+/// number. Checks that it is not called again, and that nothing is written.
 fn fails_at<R: Abort + Threads + Wait + Sync>(
     rt: &R,
     alloc: Global,

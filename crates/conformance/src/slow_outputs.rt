@@ -1,4 +1,4 @@
-//! Outputs that take a few bytes a call, and writes that fail.
+//! Outputs that take a few bytes per call, and writes that fail.
 
 use crate::asking::done;
 use crate::audits::TABLE_OF_IDENTIFIERS;
@@ -78,8 +78,8 @@ fn a_table_report_whose_write_fails_at_each_call(rt: HostRuntime) -> Result<(), 
     Ok(())
 }
 
-/// Writes the text of a table to a writer: the answer, and what the writer took. The fault `Write` is the one that the
-/// writer noted.
+/// Writes the text of a table to a writer. Returns the result, and the bytes that the writer took.
+/// Checks that the fault is `Write` exactly if the writer noted a failure.
 fn written<R: Abort>(
     rt: &R,
     alloc: Global,
@@ -124,8 +124,9 @@ fn a_table_of_which_no_byte_is_taken(rt: HostRuntime) -> Result<(), Fail> {
     Ok(())
 }
 
-/// Writes a table to a writer that takes all it is given and fails at the call with this number: how many bytes it took,
-/// which are the first ones of the table's text, or none where the whole text went out.
+/// Writes a table to a writer that takes all bytes it is given and fails at the call with this
+/// number. Returns the number of bytes that it took, which are a prefix of the table's text, or
+/// `None` if the whole text was written.
 fn edge_before<R: Abort>(
     rt: &R,
     alloc: Global,
@@ -144,7 +145,8 @@ fn edge_before<R: Abort>(
     Some(taken.len())
 }
 
-/// Writes a table to a writer that takes a byte a call and fails once it has taken so many: exactly these went out.
+/// Checks that a writer that takes one byte per call and fails after `bytes` bytes has exactly that
+/// prefix of the table's text.
 fn stops_at<R: Abort>(rt: &R, alloc: Global, table: &Table, text: &[u8], bytes: usize) {
     let call = bytes.saturating_add(1);
     let writer = SlowWriter::failing_at(call, ErrorKind::Other, alloc, 1);
@@ -156,7 +158,8 @@ fn stops_at<R: Abort>(rt: &R, alloc: Global, table: &Table, text: &[u8], bytes: 
     );
 }
 
-// The text goes out in chunks of at most 65,536 bytes, so one of more than 131,072 bytes has two edges or more.
+// The text is written in chunks of at most 65,536 bytes, so a text of more than 131,072 bytes has
+// at least three.
 #[test]
 fn a_long_table_whose_write_fails_at_each_edge_of_a_chunk(rt: HostRuntime) -> Result<(), Fail> {
     let text = done(&rt, rt.alloc(), "table --ids 24", CV1_OF_12)?;
@@ -176,7 +179,7 @@ fn a_long_table_whose_write_fails_at_each_edge_of_a_chunk(rt: HostRuntime) -> Re
             stops_at(&rt, rt.alloc(), &table, &text, bytes);
         }
     }
-    // The edges before the first, the second and the third chunk.
+    // The calls for the first, the second and the third chunk.
     assert_eq!(rt; edges, 3);
     stops_at(&rt, rt.alloc(), &table, &text, text.len().saturating_sub(1));
     Ok(())

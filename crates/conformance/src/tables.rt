@@ -8,7 +8,7 @@ use std::test::Fail;
 use std::thread::Threads;
 use test_programs::{CV1, CV1_OF_12, ID0, RED, SHIFT4, TWO_REGISTERS};
 
-/// The line with this number, from 1 on, without its line feed.
+/// Returns the line with this number, counted from 1, without its line feed.
 fn line_of(text: &[u8], number: usize) -> Option<&[u8]> {
     text.split(|byte| *byte == b'\n')
         .nth(number.saturating_sub(1))
@@ -48,7 +48,7 @@ fn lines_of_tables(rt: HostRuntime) -> Result<(), Fail> {
     Ok(())
 }
 
-/// The table of a program by these numbers of workers is that of one worker.
+/// Checks that the table of a program is the same with these numbers of workers as with one worker.
 fn workers_agree<R: Abort + Threads + Wait + Sync>(
     rt: &R,
     alloc: Global,
@@ -74,7 +74,7 @@ fn each_number_of_workers_prints_the_same_table(rt: HostRuntime) -> Result<(), F
     Ok(())
 }
 
-// The bytes of 3,628,800 lines.
+// Compares the bytes of 3,628,800 lines.
 #[test]
 fn each_number_of_workers_prints_the_table_of_four_rounds(rt: HostRuntime) -> Result<(), Fail> {
     workers_agree(&rt, rt.alloc(), SHIFT4, 10, &[2, 64])

@@ -1,11 +1,12 @@
-//! Program texts that parse, and their printed form. Those that don't parse stand in the reports.
+//! Program texts that parse, and their printed form. Those that do not parse are tested with the
+//! reports.
 
 use node_lang::{parse, print};
 use std::alloc::{AllocError, Global};
 use std::test::Fail;
 use test_programs::{CV1, CV1_WITH_BLANKS, EIGHT_REGISTERS, ID0, LDB, RED, ZERO, ZERO_HEAD};
 
-/// `not` nested this many times, with 0 in the middle.
+/// Returns a program text that ends in `depth` nested calls of `not`, with 0 in the middle.
 pub(crate) fn nested(alloc: Global, depth: usize) -> Result<Vec<u8>, AllocError> {
     let mut text = ZERO_HEAD.to_vec(alloc)?;
     for _ in 0..depth {
@@ -18,7 +19,7 @@ pub(crate) fn nested(alloc: Global, depth: usize) -> Result<Vec<u8>, AllocError>
     Ok(text)
 }
 
-/// A full tree of operations with leaves 0: depth 1 is a leaf.
+/// Returns `head` followed by a full tree of operations with leaves 0, which at depth 1 is a leaf.
 pub(crate) fn full_tree(alloc: Global, head: &[u8], depth: usize) -> Result<Vec<u8>, AllocError> {
     let mut tree = b"0".to_vec(alloc)?;
     for _ in 1..depth {

@@ -1,4 +1,4 @@
-//! Traces, and prints: reports byte for byte, and a trace beside a simulation by hand.
+//! Traces and prints: reports byte for byte, and a trace compared with a simulation by hand.
 
 use crate::asking::{all_report, done};
 use plan_print::status::Status;
@@ -9,7 +9,7 @@ use test_programs::{
     CV1, CV1_OF_THREE, CV1_WITH_BLANKS, EIGHT_REGISTERS, ID0, RED, SHIFT4, TWO_REGISTERS, ZERO,
 };
 
-/// Row by row: the words, the program, the report, the status.
+/// A row has the words, the program, the report and the status.
 const TRACES: [(&str, &[u8], &str, Status); 4] = [
     (
         "trace --ids 8 --ring 5,1,3,7",
@@ -64,23 +64,24 @@ const RINGS_REFUSED: [(&str, &[u8], &str, Status); 4] = [
     ),
 ];
 
-// A program is printed whether or not it is accepted: the second one has more channels than it says.
+// A program is printed whether or not it is accepted: the second one has channels above its number
+// of channels.
 const PRINTS: [(&str, &[u8], &[u8]); 2] = [
     ("print", CV1_WITH_BLANKS, CV1),
     ("print", CV1_OF_THREE, CV1_OF_THREE),
 ];
 
-/// Three rounds of two registers, no two of which are alike.
+/// Three rounds of two registers, each different.
 const THREE_ROUNDS: &[u8] =
     b"rounds 3\nchannels 256\nregisters 2\nstart\nr0 = add(id, 1)\nr1 = and(id, 1)\nround\nsend left r0\nsend right add(r0, r1)\nr0 = add(L, r1)\nr1 = xor(R, r0)\nround\nsend left r1\nsend right r0\nr0 = max(L, R)\nr1 = sub(r0, L)\nround\nsend left add(r0, r1)\nsend right xor(r0, 3)\nr0 = add(R, r1)\nr1 = min(L, r0)\nfinish and(add(r0, r1), 255)\n";
 
 /// A ring of ten places.
 const TEN: [u32; 10] = [3, 0, 11, 7, 5, 1, 9, 2, 10, 4];
 
-/// The two registers of a node, or what it sends to its left and to its right.
+/// The two registers of a node, or its messages to its left and to its right.
 type Pair = (u32, u32);
 
-// What a node sends in a round of that program; rounds count from 1.
+// Returns the messages of a node in a round of that program. Rounds are counted from 1.
 fn sent(round: u32, (a, b): Pair) -> Pair {
     match round {
         1 => (a, a.wrapping_add(b)),
@@ -89,7 +90,8 @@ fn sent(round: u32, (a, b): Pair) -> Pair {
     }
 }
 
-// What a node holds after a round of that program, by what comes from its left and from its right.
+// Returns the registers of a node after a round of that program, from the messages of its left and
+// its right neighbour.
 fn stepped(round: u32, (a, b): Pair, left: u32, right: u32) -> Pair {
     match round {
         1 => (left.wrapping_add(b), right ^ a),
@@ -116,7 +118,7 @@ fn write_pairs(
     text.push_str("\n")
 }
 
-// What ten nodes send in a round.
+// Returns the messages of ten nodes in a round.
 fn all_sent(round: u32, nodes: &[Pair; 10]) -> [Pair; 10] {
     let mut messages = [(0, 0); 10];
     for place in 0..10 {
@@ -125,7 +127,7 @@ fn all_sent(round: u32, nodes: &[Pair; 10]) -> [Pair; 10] {
     messages
 }
 
-// What ten nodes hold after a round.
+// Returns the registers of ten nodes after a round.
 fn all_stepped(round: u32, nodes: &[Pair; 10], messages: &[Pair; 10]) -> [Pair; 10] {
     let mut after = [(0, 0); 10];
     for place in 0..10 {
@@ -136,7 +138,7 @@ fn all_stepped(round: u32, nodes: &[Pair; 10], messages: &[Pair; 10]) -> [Pair; 
     after
 }
 
-// The channels of ten nodes, each after a blank.
+// Writes the channels of ten nodes, each after a blank.
 fn write_channels(text: &mut String, nodes: &[Pair; 10]) -> Result<(), AllocError> {
     for (a, b) in nodes {
         let channel = a.wrapping_add(*b) & 255;
@@ -145,7 +147,7 @@ fn write_channels(text: &mut String, nodes: &[Pair; 10]) -> Result<(), AllocErro
     text.push_str("\n")
 }
 
-// The trace of that program on the ring of ten places, by hand.
+// Returns the trace of that program on the ring of ten places, computed by hand.
 fn by_hand(alloc: Global) -> Result<String, AllocError> {
     let mut text = String::new(alloc);
     let mut nodes = [(0, 0); 10];
