@@ -9,8 +9,9 @@ use shared_memo::{Memo, Reader};
 use test_programs::CV1;
 use unroll::{Block, BlockMaker, MakeFault, make_block};
 
-/// `make_block`: how many states the second block of level 1 has, with the first of them; and without blocks below,
-/// the level and the number of the block that is missing.
+/// `make_block`: prints the level and the number of the block that is missing for the first block
+/// of level 1; then, with the first block of level 0, the number of states of the second block of
+/// level 1 and its first state.
 pub(crate) fn do_make_block<R: AllocGlobal + Print>(rt: &R) -> Result<(), Miss> {
     let alloc = rt.alloc();
     let plan = plan_of(alloc, CV1, 8)?;
@@ -20,8 +21,8 @@ pub(crate) fn do_make_block<R: AllocGlobal + Print>(rt: &R) -> Result<(), Miss> 
     tell_blocks(rt, &plan, &mut reader)
 }
 
-/// `BlockMaker`: how many states the block of level 0 has, with the first of them. A maker that was refused memory for a
-/// block makes it once more.
+/// `BlockMaker`: prints the number of states of the first block of level 0, and its first state. A
+/// maker that was refused memory for the block makes it a second time.
 pub(crate) fn do_block_maker<R: AllocGlobal + Print>(rt: &R) -> Result<(), Miss> {
     let alloc = rt.alloc();
     let plan = plan_of(alloc, CV1, 8)?;
@@ -42,7 +43,7 @@ pub(crate) fn do_block_maker<R: AllocGlobal + Print>(rt: &R) -> Result<(), Miss>
     tell_states(rt, &block)
 }
 
-// Tells what `make_block` gives at level 1, without blocks below and with the first of them.
+// Prints the results of `make_block` at level 1, without blocks below and with the first of them.
 fn tell_blocks<'a, R: AllocGlobal + Print>(
     rt: &R,
     plan: &'a Plan,
@@ -58,7 +59,7 @@ fn tell_blocks<'a, R: AllocGlobal + Print>(
     tell_states(rt, &made(rt, plan, reader, 1, 1)?)
 }
 
-// Puts the first block of level 0 into a reader's memo.
+// Installs the first block of level 0 in a reader's memo.
 fn install_first<'a, R: AllocGlobal + Print>(
     rt: &R,
     plan: &'a Plan,
@@ -74,7 +75,7 @@ fn install_first<'a, R: AllocGlobal + Print>(
     Ok(())
 }
 
-// Tells how many states a block has, and the first of them.
+// Prints the number of states of a block, and the first state.
 fn tell_states<R: Print>(rt: &R, block: &Block<'_>) -> Result<(), Miss> {
     let count = block.len();
     if count == 0 {
@@ -84,7 +85,7 @@ fn tell_states<R: Print>(rt: &R, block: &Block<'_>) -> Result<(), Miss> {
     tell_numbers(rt, block.state(0))
 }
 
-// Tells which block is missing below the first one of level 1.
+// Prints the block that is missing below the first block of level 1.
 fn tell_missing<R: AllocGlobal + Print>(
     rt: &R,
     plan: &Plan,
@@ -108,7 +109,7 @@ fn tell_missing<R: AllocGlobal + Print>(
     }
 }
 
-// A block that a reader's blocks below give.
+// Returns a block that is made from a reader's blocks.
 fn made<'a, R: AllocGlobal + Print>(
     rt: &R,
     plan: &'a Plan,

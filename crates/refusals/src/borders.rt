@@ -30,14 +30,15 @@ impl Dated for Note {
     }
 }
 
-/// What became of a border: it could not be made, or all was told.
+/// The outcome of a border: it could not be made, or its results were printed.
 #[derive(Clone, Copy)]
 enum Course {
     NotMade,
     Told,
 }
 
-/// `Border::new` and `Border::put`: puts and takes on a border, and its messages at the end.
+/// `Border::new` and `Border::put`: prints the results of puts and takes on a border, and its
+/// messages at the end.
 pub(crate) fn do_border<R: AllocGlobal + Print + Wait>(rt: &R) -> Result<(), Miss> {
     let (right, left) = (Blank::new(1), Blank::new(1));
     match puts_and_takes::<Brand, Brand, _>(rt, rt.alloc(), right, left)? {
@@ -46,7 +47,7 @@ pub(crate) fn do_border<R: AllocGlobal + Print + Wait>(rt: &R) -> Result<(), Mis
     }
 }
 
-// Puts and takes on a border after the first one could not be made.
+// Puts and takes on a second border, after the first one could not be made.
 fn do_border_again<R: AllocGlobal + Print + Wait>(rt: &R) -> Result<(), Miss> {
     tell(rt, "OutOfMemory")?;
     let (right, left) = (Blank::new(1), Blank::new(1));
@@ -56,7 +57,8 @@ fn do_border_again<R: AllocGlobal + Print + Wait>(rt: &R) -> Result<(), Miss> {
     }
 }
 
-/// `Border::put`, as often as the list of a side grows twice: the values that the border has at the end.
+/// `Border::put`: prints the results of eight puts, in which the list of a side grows twice, and
+/// the border's messages at the end.
 pub(crate) fn do_put<R: AllocGlobal + Print + Wait>(rt: &R) -> Result<(), Miss> {
     let (right, left) = (Blank::new(1), Blank::new(1));
     match eight_puts::<Brand, Brand, _>(rt, rt.alloc(), right, left)? {
@@ -65,7 +67,7 @@ pub(crate) fn do_put<R: AllocGlobal + Print + Wait>(rt: &R) -> Result<(), Miss> 
     }
 }
 
-// Puts and takes on a border of the ledgers L and M, and tells what they gave.
+// Puts and takes on a border of the ledgers L and M, and prints the results.
 fn puts_and_takes<L: Ledger, M: Ledger, R: Print + Wait>(
     rt: &R,
     alloc: Global,
@@ -100,7 +102,7 @@ fn exchange<L: Ledger, M: Ledger, R: Print + Wait>(
     take(rt, border, Side::Leftward, 0)
 }
 
-// Takes from a closed border what was put and what was not, and puts one message more.
+// Takes from a closed border a message that was put and one that was not, and puts one more.
 fn go_on_when_closed<L: Ledger, M: Ledger, R: Print + Wait>(
     rt: &R,
     border: &Border<Note, L, M>,
@@ -111,7 +113,7 @@ fn go_on_when_closed<L: Ledger, M: Ledger, R: Print + Wait>(
     put(rt, border, right, to_the_right(1, 4))
 }
 
-// Puts eight messages to the right, and tells those that the border has at the end.
+// Puts eight messages to the right, and prints the messages of the border at the end.
 fn eight_puts<L: Ledger, M: Ledger, R: Print + Wait>(
     rt: &R,
     alloc: Global,
@@ -131,7 +133,8 @@ fn eight_puts<L: Ledger, M: Ledger, R: Print + Wait>(
     Ok(Course::Told)
 }
 
-// Puts a message, and tells what became of it. Where memory was refused, the message that came back is put once more.
+// Puts a message, and prints the result. If memory was refused, puts the returned message a second
+// time.
 fn put<L: Ledger, M: Ledger, R: Print + Wait>(
     rt: &R,
     border: &Border<Note, L, M>,
@@ -157,7 +160,7 @@ fn put<L: Ledger, M: Ledger, R: Print + Wait>(
     }
 }
 
-// Takes the message of a side and a round, and tells its value.
+// Takes the message of a side and a round, and prints its value.
 fn take<L: Ledger, M: Ledger, R: Print + Wait>(
     rt: &R,
     border: &Border<Note, L, M>,
@@ -171,7 +174,8 @@ fn take<L: Ledger, M: Ledger, R: Print + Wait>(
     Ok(())
 }
 
-// Tells the values of all messages of a border, those to the right first, and how many there are on each side.
+// Prints the numbers of messages of a border to the right and to the left, then their values in
+// that order.
 fn settle<L: Ledger, M: Ledger, R: Print>(
     rt: &R,
     border: Border<Note, L, M>,
@@ -191,7 +195,7 @@ fn settle<L: Ledger, M: Ledger, R: Print>(
     Ok(())
 }
 
-// A message to the right of this round.
+// Returns a message to the right of this round.
 fn to_the_right(round: u32, value: u32) -> Note {
     Note {
         side: Side::Rightward,
@@ -200,7 +204,7 @@ fn to_the_right(round: u32, value: u32) -> Note {
     }
 }
 
-// A message to the left of this round.
+// Returns a message to the left of this round.
 fn to_the_left(round: u32, value: u32) -> Note {
     Note {
         side: Side::Leftward,

@@ -9,7 +9,7 @@ use lang_check::Plan;
 use round_columns::{Code, Columns, Work, channel_columns, step_columns};
 use test_programs::{CV1, LDB};
 
-/// `Code::new`: how many columns the expressions of two programs hold.
+/// `Code::new`: prints the numbers of columns that the expressions of two programs need.
 pub(crate) fn do_code<R: AllocGlobal + Print>(rt: &R) -> Result<(), Miss> {
     let alloc = rt.alloc();
     let first = plan_of(alloc, CV1, 8)?;
@@ -19,7 +19,8 @@ pub(crate) fn do_code<R: AllocGlobal + Print>(rt: &R) -> Result<(), Miss> {
     tell_numbers(rt, &[first.stack(), second.stack()])
 }
 
-/// `Columns::new` and `Work::new`: the registers of three nodes after a round, and their channels then.
+/// `Columns::new` and `Work::new`: prints the registers of three nodes after a round, and their
+/// channels then.
 pub(crate) fn do_columns<R: AllocGlobal + Print>(rt: &R) -> Result<(), Miss> {
     let plan = plan_of(rt.alloc(), CV1, 8)?;
     if plan.shape().rounds() != 1 || plan.program().registers() != 1 {
@@ -32,7 +33,8 @@ pub(crate) fn do_columns<R: AllocGlobal + Print>(rt: &R) -> Result<(), Miss> {
     tell_round(rt, &code, &left, &own, &right)
 }
 
-// Tells the registers of three nodes of one register after the first round, and their channels then.
+// Prints the registers of three nodes of one register after the first round, and their channels
+// then.
 fn tell_round<R: AllocGlobal + Print>(
     rt: &R,
     code: &Code,
@@ -56,7 +58,7 @@ fn tell_round<R: AllocGlobal + Print>(
     tell_numbers(rt, &channels)
 }
 
-// The code of a plan.
+// Returns the code of a plan.
 fn code_of<R: AllocGlobal + Print>(rt: &R, plan: &Plan) -> Result<Code, Miss>
     ensures { IfOk result (λ code. code ≡ plan.now) }
 {
@@ -66,7 +68,7 @@ fn code_of<R: AllocGlobal + Print>(rt: &R, plan: &Plan) -> Result<Code, Miss>
     }
 }
 
-// Room for a code at three nodes.
+// Allocates scratch for a code at three nodes.
 fn work_of<R: AllocGlobal + Print>(rt: &R, code: &Code) -> Result<Work, Miss>
     ensures { IfOk result (λ work. (work.columns ≡ most_columns (terms code.now.program)) × (work.width ≡ 3)) }
 {
@@ -76,7 +78,7 @@ fn work_of<R: AllocGlobal + Print>(rt: &R, code: &Code) -> Result<Work, Miss>
     }
 }
 
-// Three nodes with one register, which holds these values.
+// Returns columns of three nodes with one register, which has these values.
 fn one_column<R: AllocGlobal + Print>(rt: &R, values: [u32; 3]) -> Result<Columns, Miss>
     ensures { IfOk result (λ columns. (columns.registers ≡ 1) × (length columns.states ≡ 3)) }
 {

@@ -5,7 +5,8 @@ use crate::miss::Miss;
 use crate::tell::{beside, given, surely};
 use shared_memo::{Desk, Ticket};
 
-/// `Desk::new`: two tickets draw three numbers in turn, and one ticket draws where there is none.
+/// `Desk::new`: prints the results of two tickets that draw three numbers in turn, and of one at a
+/// desk without numbers.
 pub(crate) fn do_desk<R: AllocGlobal + Print>(rt: &R) -> Result<(), Miss> {
     let (desk, mut tickets) = match given(rt, Desk::new(rt.alloc(), 3, 2))? {
         Some(made) => made,
@@ -26,7 +27,7 @@ pub(crate) fn do_desk<R: AllocGlobal + Print>(rt: &R) -> Result<(), Miss> {
     do_empty_desk(rt)
 }
 
-// One ticket at a desk without numbers.
+// Draws with one ticket at a desk without numbers.
 fn do_empty_desk<R: AllocGlobal + Print>(rt: &R) -> Result<(), Miss> {
     let (desk, mut tickets) = match given(rt, Desk::new(rt.alloc(), 0, 1))? {
         Some(made) => made,
@@ -41,7 +42,7 @@ fn do_empty_desk<R: AllocGlobal + Print>(rt: &R) -> Result<(), Miss> {
     Ok(())
 }
 
-// Takes the last ticket off.
+// Removes the last ticket.
 fn taken(desk: &Desk, tickets: &mut Vec<Ticket>) -> Result<Ticket, Miss>
     requires { All (λ t. IsTicketOf desk.now t × (drawn t ≡ []) × (told t ≡ 0)) tickets.old.items }
     ensures rest { All (λ t. IsTicketOf desk.now t × (drawn t ≡ []) × (told t ≡ 0)) tickets.new.items }
@@ -50,7 +51,7 @@ fn taken(desk: &Desk, tickets: &mut Vec<Ticket>) -> Result<Ticket, Miss>
     tickets.pop().ok_or(Miss::Wrong)
 }
 
-// The next number of a ticket.
+// Draws the next number for a ticket.
 fn number(desk: &Desk, ticket: &mut Ticket) -> Result<u32, Miss>
     requires { IsTicketOf desk.now ticket.old × (told ticket.old ≡ 0) }
     ensures { OnOk result (IsTicketOf desk.now ticket.new × (told ticket.new ≡ 0)) }

@@ -19,7 +19,7 @@ const FILLED: [FillEvent; 10] = [
     FillEvent::Draw(1),
 ];
 
-/// A worker installs into a full cell.
+/// A worker installs a block in a full cell.
 const FULL: [FillEvent; 4] = [
     FillEvent::Draw(0),
     FillEvent::Draw(1),
@@ -27,15 +27,16 @@ const FULL: [FillEvent; 4] = [
     FillEvent::Install(1, 0, 0),
 ];
 
-/// `fill_core::replay`: who made the blocks of the three cells, the next job, and of each worker whether it is stopped
-/// and the job in its hand, after two lists of events; last whether worker 1 knows the first block.
+/// `fill_core::replay`: after each of two lists of events prints the makers of the blocks in the
+/// three cells, the next job, for each worker whether it is stopped and its job in hand, and
+/// whether worker 1 knows the first block.
 pub(crate) fn do_fill_replay<R: AllocGlobal + Print>(rt: &R) -> Result<(), Miss> {
     let plan = plan_of(rt.alloc(), CV1, 8)?;
     tell_world(rt, &after(rt, &plan, &FILLED)?)?;
     tell_world(rt, &after(rt, &plan, &FULL)?)
 }
 
-// Two workers after these events.
+// Returns two workers after these events.
 fn after<'a, R: AllocGlobal + Print>(
     rt: &R,
     plan: &'a Plan,
@@ -47,7 +48,7 @@ fn after<'a, R: AllocGlobal + Print>(
     }
 }
 
-// Tells what the cells hold, and the workers.
+// Prints the contents of the cells, and the workers.
 fn tell_world<R: Print>(rt: &R, world: &FillWorld<'_>) -> Result<(), Miss> {
     for (level, number) in [(0, 0), (1, 0), (1, 1)] {
         let maker = maker(world, level, number);
@@ -62,7 +63,7 @@ fn tell_world<R: Print>(rt: &R, world: &FillWorld<'_>) -> Result<(), Miss> {
     Ok(())
 }
 
-// Who made the block in the cell of a level and a number.
+// Returns the maker of the block in the cell of a level and a number.
 fn maker(world: &FillWorld<'_>, level: u32, number: u32) -> Option<u32> {
     Some(world.cell(level, number)?.maker())
 }

@@ -8,8 +8,8 @@ use std::sync::Wait;
 use std::thread::Threads;
 use test_programs::CV1;
 
-/// `compile_run_and_judge`: the channels of four places of a program for eight identifiers, and the verdict on its table,
-/// by so many workers and segments.
+/// `compile_run_and_judge`: prints the channels of four places for a program for eight identifiers,
+/// and the verdict on its table, with these numbers of workers and segments.
 pub(crate) fn do_findings<R: AllocGlobal + Print + Threads + Wait + Sync>(
     rt: &R,
     workers: u32,

@@ -4,7 +4,7 @@ use devices::input::read_input;
 use devices::watched::Watched;
 use test_programs::CV1;
 
-/// `read_input`: a program's text as it was read.
+/// `read_input`: prints a program's text as it was read.
 pub(crate) fn do_read_input<R: AllocGlobal + Print>(rt: &R) -> Result<(), Miss> {
     let alloc = rt.alloc();
     let mut reader = Watched::new(CV1);

@@ -6,7 +6,8 @@ use node_lang::{Program, parse, print};
 use round_eval::plain_run;
 use test_programs::{CV1, CV1_WITH_BLANKS};
 
-/// `parse`: the channels of a run of the program that was parsed, on the eight identifiers in their order.
+/// `parse`: prints the channels of a run of the parsed program on the eight identifiers in
+/// ascending order.
 pub(crate) fn do_parse<R: AllocGlobal + Print>(rt: &R) -> Result<(), Miss> {
     let alloc = rt.alloc();
     let program = parsed(rt, CV1)?;
@@ -16,7 +17,7 @@ pub(crate) fn do_parse<R: AllocGlobal + Print>(rt: &R) -> Result<(), Miss> {
     tell_numbers(rt, &channels)
 }
 
-// The program of a text, where `parse` was refused from the second call.
+// Returns the program of a text. Parses it a second time if memory was refused.
 fn parsed<R: AllocGlobal + Print>(rt: &R, text: &[u8]) -> Result<Program, Miss> {
     match given(rt, parse(rt.alloc(), text))? {
         Some(program) => Ok(program),
@@ -24,7 +25,7 @@ fn parsed<R: AllocGlobal + Print>(rt: &R, text: &[u8]) -> Result<Program, Miss> 
     }
 }
 
-/// `print`: the printed form of a text with a comment and more blanks.
+/// `print`: prints the printed form of a text with a comment and doubled blanks.
 pub(crate) fn do_print<R: AllocGlobal + Print>(rt: &R) -> Result<(), Miss> {
     let alloc = rt.alloc();
     let program = beside(parse(alloc, CV1_WITH_BLANKS))?;

@@ -1,7 +1,8 @@
-//! Does the worked example of one call that takes memory or starts threads, named by the one word after the program's
-//! name, and prints its result. Where the call is refused memory or a thread, the program prints the refusal's name,
-//! makes the same call once more, and goes on with what that gives. So what is printed shows both that the refusal has
-//! its own name, and that a refused call leaves what it was lent as it was.
+//! Runs the worked example of one call that allocates or starts threads, and prints its result. The
+//! word after the program's name selects the example. If the call is refused memory or a thread,
+//! the program prints the refusal's name, makes the same call a second time, and continues with
+//! that result. So the output shows both that the refusal has a name of its own, and that a refused
+//! call does not change its arguments.
 //!
 //! The program is run while each growth and each thread start of the process is refused in turn.
 #![tactic(auto)]
@@ -42,7 +43,7 @@ fn main(rt: HostRuntime) -> ExitCode {
     ExitCode::from(exit_status(&rt))
 }
 
-/// Does the row that the words name. The exit status is 0, or 2 where there is no such row.
+/// Runs the row that the words name. Returns the exit status: 0, or 2 if there is no such row.
 fn exit_status<R: AllocGlobal + Env + Print + Threads + Wait + Sync>(rt: &R) -> u8 {
     match named_row(rt) {
         Ok(()) => 0,
@@ -54,7 +55,7 @@ fn exit_status<R: AllocGlobal + Env + Print + Threads + Wait + Sync>(rt: &R) -> 
     }
 }
 
-/// Does the row that the first word after the program's name names.
+/// Runs the row that the first word after the program's name names.
 fn named_row<R: AllocGlobal + Env + Print + Threads + Wait + Sync>(rt: &R) -> Result<(), Miss> {
     let mut args = args_of(rt)?;
     let _name = args.next();
@@ -64,7 +65,7 @@ fn named_row<R: AllocGlobal + Env + Print + Threads + Wait + Sync>(rt: &R) -> Re
     }
 }
 
-/// The words of the process, its name first.
+/// Returns the words of the process, the first of which is its name.
 fn args_of<R: AllocGlobal + Env>(rt: &R) -> Result<env::Args<Global>, Miss> {
     let args: io::Result<env::Args<Global>> = env::args(rt);
     args.ok().ok_or(Miss::Beside)

@@ -9,15 +9,15 @@ use shared_memo::{Installed, Memo, Pass, Reader};
 use test_programs::{CV1, RED};
 use unroll::{Block, make_block};
 
-/// `Memo::new` and `Memo::pass`: two passes hand in the same block, made by 1 and by 2, and look at it; then one hands
-/// in a block of another plan.
+/// `Memo::new` and `Memo::pass`: prints the results of two passes that install the same block, made
+/// by 1 and by 2, and look at it, and of an install of a block of another plan.
 pub(crate) fn do_memo<R: AllocGlobal + Print>(rt: &R) -> Result<(), Miss> {
     let plan = plan_of(rt.alloc(), CV1, 8)?;
     let other = plan_of(rt.alloc(), RED, 8)?;
     hand_in_all(rt, &plan, &other)
 }
 
-// Hands in two blocks of a plan and one of another plan.
+// Installs two blocks of a plan and one of another plan.
 fn hand_in_all<'a, R: AllocGlobal + Print>(
     rt: &R,
     plan: &'a Plan,
@@ -36,7 +36,7 @@ fn hand_in_all<'a, R: AllocGlobal + Print>(
     hand_in(rt, &memo, &mut a, stranger)
 }
 
-// A memo of empty cells.
+// Returns a memo of empty cells.
 fn memo_of<'a, R: AllocGlobal + Print>(rt: &R, plan: &'a Plan) -> Result<Memo<'a>, Miss> {
     match given(rt, Memo::new(rt.alloc(), plan))? {
         Some(memo) => Ok(memo),
@@ -44,7 +44,7 @@ fn memo_of<'a, R: AllocGlobal + Print>(rt: &R, plan: &'a Plan) -> Result<Memo<'a
     }
 }
 
-// A pass of a memo.
+// Returns a pass of a memo.
 fn pass_of<'a, R: AllocGlobal + Print>(rt: &R, memo: &Memo<'a>) -> Result<Pass<'a>, Miss>
     ensures { IfOk result (IsPassOf memo.now) }
 {
@@ -54,7 +54,7 @@ fn pass_of<'a, R: AllocGlobal + Print>(rt: &R, memo: &Memo<'a>) -> Result<Pass<'
     }
 }
 
-// The first block of level 0, made over a memo of its own.
+// Returns the first block of level 0, made with a memo of its own.
 fn first_block<'a, R: AllocGlobal>(
     rt: &R,
     plan: &'a Plan,
@@ -71,7 +71,7 @@ fn first_block<'a, R: AllocGlobal>(
     beside(Box::new(alloc, block))
 }
 
-// Hands in a block, and tells what became of it and its maker.
+// Installs a block, and prints the result and the block's maker.
 fn hand_in<'a, R: Print>(
     rt: &R,
     memo: &Memo<'a>,
@@ -88,7 +88,7 @@ fn hand_in<'a, R: Print>(
     }
 }
 
-// Looks at the first block of level 0, and tells its maker.
+// Looks at the first block of level 0, and prints its maker.
 fn look<'a, R: Print>(rt: &R, memo: &Memo<'a>, pass: &mut Pass<'a>) -> Result<(), Miss>
     requires { IsPassOf memo.now pass.old }
     ensures { IsPassOf memo.now pass.new }
@@ -102,7 +102,7 @@ fn look<'a, R: Print>(rt: &R, memo: &Memo<'a>, pass: &mut Pass<'a>) -> Result<()
     }
 }
 
-// Tells a block's maker behind a word.
+// Prints a block's maker after a word.
 fn tell_maker<R: Print>(rt: &R, word: &str, block: &Block<'_>) -> Result<(), Miss> {
     println!(rt; "{word} {}", block.maker())?;
     Ok(())

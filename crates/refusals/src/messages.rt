@@ -6,7 +6,8 @@ use round_eval::OpenGate;
 use std::sync::Wait;
 use std::thread::Threads;
 
-/// `run`: the channels of a ring of a program for eight identifiers, in so many segments.
+/// `run`: prints the channels of a ring for a program for eight identifiers, in `segments`
+/// segments.
 pub(crate) fn do_run<R: AllocGlobal + Print + Threads + Wait + Sync>(
     rt: &R,
     text: &[u8],

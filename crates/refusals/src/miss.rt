@@ -3,18 +3,18 @@ use std::io;
 /// Why a row has no result.
 #[derive(Clone, Copy)]
 pub(crate) enum Miss {
-    /// Memory was refused to what stands before or behind the call.
+    /// Memory was refused to code before or after the call.
     Beside,
-    /// The call answered neither its result nor a refusal, or refused once more.
+    /// The call returned neither its result nor a refusal, or was refused a second time.
     Wrong,
-    /// The standard output failed.
+    /// A write to standard output failed.
     Output,
     /// No row has this name.
     NoRow,
 }
 
 impl Miss {
-    /// The word that is printed in the place of the result.
+    /// Returns the word that is printed instead of the result.
     pub(crate) fn name(self) -> &'static str {
         match self {
             Miss::Beside => "beside",

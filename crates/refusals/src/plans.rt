@@ -8,13 +8,13 @@ use node_lang::parse;
 use std::alloc::Global;
 use win_index::Ring;
 
-/// The plan of a program text for this many identifiers.
+/// Returns the plan of a program text for this many identifiers.
 pub(crate) fn plan_of(alloc: Global, text: &[u8], ids: u32) -> Result<Plan, Miss> {
     let program = beside(parse(alloc, text))?;
     beside(accept(program, ids))
 }
 
-/// The ring of these identifiers for a plan.
+/// Returns the ring of these identifiers for a plan.
 pub(crate) fn ring_for(alloc: Global, plan: &Plan, ids: &[u32]) -> Result<Ring, Miss>
     ensures { IfOk result (λ ring. (ring.ids ≡ plan.now.ids) × (ring.rounds ≡ length plan.now.program.steps) × (ring.places ≡ ids.now)) }
 {
@@ -22,7 +22,7 @@ pub(crate) fn ring_for(alloc: Global, plan: &Plan, ids: &[u32]) -> Result<Ring, 
     beside(Ring::new(plan.shape(), ids))
 }
 
-/// Whether the plan has a block of this level and number.
+/// Returns whether the plan has a block of this level and number.
 pub(crate) fn has_block(plan: &Plan, level: u32, number: u32) -> bool
     ensures { result ≡ true → IsKey plan.now level number }
 {

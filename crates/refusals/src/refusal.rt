@@ -8,9 +8,9 @@ use table_text::TableFault;
 use task_words::words::WordsFault;
 use unroll::MakeFault;
 
-/// A fault of a call that may be a refusal of memory or of a thread.
+/// A fault of a call, which can be a refusal of memory or of a thread.
 pub(crate) trait Refusal {
-    /// The refusal's name, where the fault is one.
+    /// Returns the refusal's name, if the fault is one.
     fn name(&self) -> Option<&'static str>;
 }
 

@@ -11,7 +11,7 @@ use std::thread::Threads;
 use task_words::task::Task;
 use test_programs::CV1;
 
-/// `engine`: the report of a run on four places in so many segments, and its status.
+/// `engine`: prints the report of a run on four places in `segments` segments, and its status.
 pub(crate) fn do_run_report<R: AllocGlobal + Print + Threads + Wait + Sync>(
     rt: &R,
     segments: u32,
@@ -22,7 +22,8 @@ pub(crate) fn do_run_report<R: AllocGlobal + Print + Threads + Wait + Sync>(
     do_report(rt, first, again)
 }
 
-/// `engine`: the report of the table of a program that so many workers filled, and its status.
+/// `engine`: prints the report of the table of a program, filled by `workers` workers, and its
+/// status.
 pub(crate) fn do_table_report<R: AllocGlobal + Print + Threads + Wait + Sync>(
     rt: &R,
     workers: u32,
@@ -30,7 +31,7 @@ pub(crate) fn do_table_report<R: AllocGlobal + Print + Threads + Wait + Sync>(
     do_report(rt, table_task(workers), table_task(workers))
 }
 
-/// `engine`: the report of the trace of a ring of four places, and its status.
+/// `engine`: prints the report of the trace of a ring of four places, and its status.
 pub(crate) fn do_trace_report<R: AllocGlobal + Print + Threads + Wait + Sync>(
     rt: &R,
 ) -> Result<(), Miss> {
@@ -40,7 +41,7 @@ pub(crate) fn do_trace_report<R: AllocGlobal + Print + Threads + Wait + Sync>(
     do_report(rt, first, again)
 }
 
-/// `numbers_line`: the line of four numbers.
+/// `numbers_line`: prints the line of four numbers.
 pub(crate) fn do_numbers_line<R: AllocGlobal + Print>(rt: &R) -> Result<(), Miss> {
     let numbers = [5, 1, 3, 7];
     let line = match given(rt, numbers_line(rt.alloc(), &numbers))? {
@@ -51,7 +52,7 @@ pub(crate) fn do_numbers_line<R: AllocGlobal + Print>(rt: &R) -> Result<(), Miss
     Ok(())
 }
 
-// Does a task, and where it was refused the same task once more.
+// Does the task `first`. If it was refused, does `again`, which is the same task.
 fn do_report<R: AllocGlobal + Print + Threads + Wait + Sync>(
     rt: &R,
     first: Task,
@@ -74,7 +75,7 @@ fn do_report<R: AllocGlobal + Print + Threads + Wait + Sync>(
     tell_status(rt, status)
 }
 
-// The task of the table for eight identifiers by so many workers.
+// Returns the task of the table for eight identifiers by `workers` workers.
 fn table_task(workers: u32) -> Task {
     Task::Table {
         ids: 8,
@@ -84,7 +85,7 @@ fn table_task(workers: u32) -> Task {
     }
 }
 
-// The task of a run on four places.
+// Returns the task of a run on four places.
 fn run_task(alloc: Global, segments: u32) -> Result<Task, Miss> {
     let ring = beside([5, 1, 3, 7].to_vec(alloc))?;
     Ok(Task::Run {
@@ -94,13 +95,13 @@ fn run_task(alloc: Global, segments: u32) -> Result<Task, Miss> {
     })
 }
 
-// The task of the trace of a ring of four places.
+// Returns the task of the trace of a ring of four places.
 fn trace_task(alloc: Global) -> Result<Task, Miss> {
     let ring = beside([5, 1, 3, 7].to_vec(alloc))?;
     Ok(Task::Trace { ids: 8, ring })
 }
 
-// Tells a status.
+// Prints a status.
 fn tell_status<R: Print>(rt: &R, status: Status) -> Result<(), Miss> {
     println!(rt; "{}", status.code())?;
     Ok(())

@@ -9,7 +9,7 @@ use round_eval::plain_run;
 use test_programs::CV1;
 use win_index::Ring;
 
-/// `plain_run`: the channels of four places.
+/// `plain_run`: prints the channels of four places.
 pub(crate) fn do_plain_run<R: AllocGlobal + Print>(rt: &R) -> Result<(), Miss> {
     let alloc = rt.alloc();
     let plan = plan_of(alloc, CV1, 8)?;
@@ -21,7 +21,8 @@ pub(crate) fn do_plain_run<R: AllocGlobal + Print>(rt: &R) -> Result<(), Miss> {
     tell_numbers(rt, &channels)
 }
 
-/// `Configuration::new`: what the channels of four places are by what they hold before the round, and after it.
+/// `Configuration::new`: prints the channels of four places, by their registers before the round
+/// and by those after it.
 pub(crate) fn do_configuration<R: AllocGlobal + Print>(rt: &R) -> Result<(), Miss> {
     let alloc = rt.alloc();
     let plan = plan_of(alloc, CV1, 8)?;
@@ -35,7 +36,7 @@ pub(crate) fn do_configuration<R: AllocGlobal + Print>(rt: &R) -> Result<(), Mis
     tell_channels(rt, &places)
 }
 
-// The configuration of a ring before the first round.
+// Returns the configuration of a ring before the first round.
 fn at_the_start<'a, R: AllocGlobal + Print>(
     rt: &R,
     plan: &'a Plan,
@@ -50,7 +51,7 @@ fn at_the_start<'a, R: AllocGlobal + Print>(
     }
 }
 
-// Tells the channels of a ring's places, parted by single blanks.
+// Prints the channels of a ring's places, separated by single blanks.
 fn tell_channels<R: Print>(rt: &R, places: &Configuration<'_>) -> Result<(), Miss> {
     for place in 0..places.places() {
         let channel = places.told(Told::Channel, place);

@@ -26,7 +26,7 @@ const EIGHT: [u32; 8] = [5, 1, 3, 7, 0, 2, 4, 6];
 /// A ring of four places.
 const FOUR: [u32; 4] = [5, 1, 3, 7];
 
-/// Does the row with this name.
+/// Runs the row with this name.
 pub(crate) fn do_row<R: AllocGlobal + Print + Threads + Wait + Sync>(
     rt: &R,
     name: &str,
@@ -56,7 +56,7 @@ pub(crate) fn do_row<R: AllocGlobal + Print + Threads + Wait + Sync>(
     }
 }
 
-/// Does the row with this name, of those that start threads or wait.
+/// Runs the row with this name, if it is one of those that start threads or wait.
 fn do_row_of_threads<R: AllocGlobal + Print + Threads + Wait + Sync>(
     rt: &R,
     name: &str,

@@ -8,7 +8,7 @@ use ring_core::{RingEvent, Segment, World, replay};
 use test_programs::CV1;
 use win_index::Ring;
 
-/// Segment 0 advances at the third try, and then segment 1.
+/// Events in which segment 0 advances at the third try, and then segment 1.
 const EVENTS: [RingEvent; 8] = [
     RingEvent::SendRight(0),
     RingEvent::SendLeft(0),
@@ -20,8 +20,8 @@ const EVENTS: [RingEvent; 8] = [
     RingEvent::Advance(1),
 ];
 
-/// `Segment::new`: the registers of the first of two segments, and the values that it sends to the right and to the
-/// left.
+/// `Segment::new`: prints the registers of the first of two segments, and the values that it sends
+/// to the right and to the left.
 pub(crate) fn do_segment<R: AllocGlobal + Print>(rt: &R) -> Result<(), Miss> {
     let alloc = rt.alloc();
     let plan = plan_of(alloc, CV1, 8)?;
@@ -35,7 +35,7 @@ pub(crate) fn do_segment<R: AllocGlobal + Print>(rt: &R) -> Result<(), Miss> {
     tell_numbers(rt, &[right.value(), left.value()])
 }
 
-// The first of two segments.
+// Returns the first of two segments.
 fn first_segment<'a, R: AllocGlobal + Print>(
     rt: &R,
     plan: &'a Plan,
@@ -52,7 +52,8 @@ fn first_segment<'a, R: AllocGlobal + Print>(
     }
 }
 
-/// `ring_core::replay`: the round and the registers of both segments after seven events and after one more.
+/// `ring_core::replay`: prints the rounds and the registers of both segments after seven events and
+/// after one more.
 pub(crate) fn do_ring_replay<R: AllocGlobal + Print>(rt: &R) -> Result<(), Miss> {
     let alloc = rt.alloc();
     let plan = plan_of(alloc, CV1, 8)?;
@@ -63,7 +64,7 @@ pub(crate) fn do_ring_replay<R: AllocGlobal + Print>(rt: &R) -> Result<(), Miss>
     tell_world(rt, &eight)
 }
 
-// Two segments after these events.
+// Returns two segments after these events.
 fn after<'a, R: AllocGlobal + Print>(
     rt: &R,
     plan: &'a Plan,
@@ -81,7 +82,7 @@ fn after<'a, R: AllocGlobal + Print>(
     }
 }
 
-// Tells the rounds and the registers of two segments.
+// Prints the rounds and the registers of two segments.
 fn tell_world<R: Print>(rt: &R, world: &World<'_>) -> Result<(), Miss>
     requires { length world.now.segments ≡ 2 }
 {

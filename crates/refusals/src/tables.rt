@@ -9,8 +9,8 @@ use table_fill::{Table, TableMaker, compile};
 use test_programs::CV1;
 use win_index::Shape;
 
-/// `TableMaker::new`: the numbers of rounds, identifiers and channels of a table that gives each of two identifiers
-/// itself as its channel, and its entries.
+/// `TableMaker::new`: prints the numbers of rounds, identifiers and channels of a table that gives
+/// each of two identifiers itself as its channel, and its entries.
 pub(crate) fn do_table_maker<R: AllocGlobal + Print>(rt: &R) -> Result<(), Miss> {
     let shape = Shape::new(2, 0).ok().ok_or(Miss::Wrong)?;
     if shape.count(0) != 2 {
@@ -28,8 +28,8 @@ pub(crate) fn do_table_maker<R: AllocGlobal + Print>(rt: &R) -> Result<(), Miss>
     tell_entries(rt, &table)
 }
 
-/// `compile`: the entries of a table that so many workers filled. Where they were refused, the same memo and the same
-/// pass serve once more.
+/// `compile`: prints the entries of a table that `workers` workers filled. If they were refused,
+/// the second call has the same memo and the same pass.
 pub(crate) fn do_compile<R: AllocGlobal + Print + Threads + Wait + Sync>(
     rt: &R,
     workers: u32,
@@ -49,7 +49,8 @@ pub(crate) fn do_compile<R: AllocGlobal + Print + Threads + Wait + Sync>(
     tell_entries(rt, &table)
 }
 
-/// The table of a program text for this many identifiers, beside the row's own call.
+/// Returns the table of a program text for this many identifiers. A refusal is not that of the
+/// row's own call.
 pub(crate) fn table_of<R: AllocGlobal + Threads + Wait + Sync>(
     rt: &R,
     text: &[u8],
@@ -62,7 +63,7 @@ pub(crate) fn table_of<R: AllocGlobal + Threads + Wait + Sync>(
     beside(compile(rt, alloc, &plan, &memo, &mut pass, 1, &OpenGate))
 }
 
-// Tells the entries of a table, in the order of their windows.
+// Prints the entries of a table, in the order of their windows.
 fn tell_entries<R: Print>(rt: &R, table: &Table) -> Result<(), Miss> {
     let shape = table.shape();
     for number in 0..shape.count(shape.rounds()) {

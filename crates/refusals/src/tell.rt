@@ -9,7 +9,7 @@ pub(crate) fn tell<R: Print>(rt: &R, line: &str) -> Result<(), Miss> {
     Ok(())
 }
 
-/// Prints numbers on a line, parted by single blanks. It takes no memory.
+/// Prints numbers on a line, separated by single blanks. Allocates no memory.
 pub(crate) fn tell_numbers<R: Print>(rt: &R, numbers: &[u32]) -> Result<(), Miss> {
     for (i, number) in numbers.iter().enumerate() {
         let blank = if i == 0 { "" } else { " " };
@@ -19,8 +19,8 @@ pub(crate) fn tell_numbers<R: Print>(rt: &R, numbers: &[u32]) -> Result<(), Miss
     Ok(())
 }
 
-/// What a call gave. `None` where it was refused memory or a thread: the refusal's name is then printed. Any other fault
-/// is `Wrong`.
+/// Returns the value of a call. If it was refused memory or a thread, prints the refusal's name and
+/// returns `None`. Fails with `Wrong` for any other fault.
 pub(crate) fn given<R: Print, T: Drop, F: Refusal + Drop>(
     rt: &R,
     answer: Result<T, F>,
@@ -39,7 +39,7 @@ pub(crate) fn given<R: Print, T: Drop, F: Refusal + Drop>(
     }
 }
 
-/// What a call gave that is made once more.
+/// Returns the value of a call that is made a second time. Fails with `Wrong` if it has none.
 pub(crate) fn surely<T: Drop, F: Drop>(answer: Result<T, F>) -> Result<T, Miss>
     ensures { IfOk result (λ value. answer ≡ Ok value) }
 {
@@ -49,7 +49,7 @@ pub(crate) fn surely<T: Drop, F: Drop>(answer: Result<T, F>) -> Result<T, Miss>
     }
 }
 
-/// What a call beside the row's own gave.
+/// Returns the value of a call other than the row's own. Fails with `Beside` if it has none.
 pub(crate) fn beside<T: Drop, F: Drop>(answer: Result<T, F>) -> Result<T, Miss>
     ensures { IfOk result (λ value. answer ≡ Ok value) }
 {

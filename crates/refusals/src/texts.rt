@@ -19,7 +19,7 @@ const EXCHANGED: &[u8] = b"nbhd-table 1\nrounds 0 ids 2 channels 2\n1 : 1\n0 : 0
 /// A text of version 1 with a channel of 2.
 const OVER: &[u8] = b"nbhd-table 1\nrounds 0 ids 2 channels 2\n0 : 0\n1 : 2\nend\n";
 
-/// `write_table`: the text of the table of two identifiers, and where it was refused memory, what went out before.
+/// `write_table`: prints the text of the table of two identifiers.
 pub(crate) fn do_write_table<R: AllocGlobal + Print + Threads + Wait + Sync>(
     rt: &R,
 ) -> Result<(), Miss> {
@@ -34,8 +34,8 @@ pub(crate) fn do_write_table<R: AllocGlobal + Print + Threads + Wait + Sync>(
     Ok(())
 }
 
-/// `read_table`: the numbers of rounds, identifiers and channels and the entries of the table of a text, near and far, and
-/// what is wrong with three others.
+/// `read_table`: prints the numbers of rounds, identifiers and channels and the entries of the
+/// table of a text, near and far, and the faults of three other texts.
 pub(crate) fn do_read_table<R: AllocGlobal + Print>(rt: &R) -> Result<(), Miss> {
     for text in [TABLE, EXCHANGED, OVER, &TABLE[..66]] {
         match read(rt, text)? {
@@ -49,7 +49,7 @@ pub(crate) fn do_read_table<R: AllocGlobal + Print>(rt: &R) -> Result<(), Miss> 
     Ok(())
 }
 
-// The table and the separation of a text, or its fault.
+// Returns the table and the separation of a text, or its fault.
 fn read<R: AllocGlobal + Print>(
     rt: &R,
     text: &[u8],
@@ -63,7 +63,7 @@ fn read<R: AllocGlobal + Print>(
     }
 }
 
-// Tells the numbers of rounds, identifiers and channels of a table, and its entries.
+// Prints the numbers of rounds, identifiers and channels of a table, and its entries.
 fn tell_table<R: Print>(rt: &R, table: &Table) -> Result<(), Miss> {
     let shape = table.shape();
     tell_numbers(rt, &[shape.rounds(), shape.ids(), table.channels()])?;

@@ -5,10 +5,10 @@ use nbhd_check::{Separation, Verdict, judge, judge_with_workers};
 use std::sync::Wait;
 use std::thread::Threads;
 
-/// Neighbours' channels differ, and no more is wanted.
+/// Neighbours' channels have to differ, and nothing else is required.
 pub(crate) const NEIGHBOURS_DIFFER: Separation = Separation { near: 1, far: 0 };
 
-/// `judge`: the verdict on the table of a program for this many identifiers: yes, or the ring, the place and the channel.
+/// `judge`: prints the verdict on the table of a program for this many identifiers.
 pub(crate) fn do_judge<R: AllocGlobal + Print + Threads + Wait + Sync>(
     rt: &R,
     text: &[u8],
@@ -23,7 +23,7 @@ pub(crate) fn do_judge<R: AllocGlobal + Print + Threads + Wait + Sync>(
     tell_verdict(rt, &verdict)
 }
 
-/// `judge_with_workers`: the verdict as `judge` gives it, by so many threads at most.
+/// `judge_with_workers`: prints the same verdict, found by at most `workers` threads.
 pub(crate) fn do_judge_with_workers<R: AllocGlobal + Print + Threads + Wait + Sync>(
     rt: &R,
     text: &[u8],
@@ -42,7 +42,7 @@ pub(crate) fn do_judge_with_workers<R: AllocGlobal + Print + Threads + Wait + Sy
     tell_verdict(rt, &verdict)
 }
 
-/// Tells a verdict: yes, or the ring, the place and the channel.
+/// Prints a verdict: yes, or the ring, the place and the channel.
 pub(crate) fn tell_verdict<R: Print>(rt: &R, verdict: &Verdict) -> Result<(), Miss> {
     match verdict {
         Verdict::Yes => tell(rt, "yes"),

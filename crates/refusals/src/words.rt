@@ -7,7 +7,7 @@ use task_words::ring_text::ring_of;
 use task_words::task::Task;
 use task_words::words::{WordsFault, task_of, words_fault};
 
-/// `ring_of`: the identifiers of a ring text, and what is said of three other texts.
+/// `ring_of`: prints the identifiers of a ring text, and the faults of three other texts.
 pub(crate) fn do_ring_of<R: AllocGlobal + Print>(rt: &R) -> Result<(), Miss> {
     for text in ["5,1,3,7", "5,,1", "", "4294967296"] {
         let answer = match ring_of(rt.alloc(), text) {
@@ -25,7 +25,8 @@ pub(crate) fn do_ring_of<R: AllocGlobal + Print>(rt: &R) -> Result<(), Miss> {
     Ok(())
 }
 
-/// `task_of`: the ring and the numbers of identifiers and segments of a run, and what is said of no workers.
+/// `task_of`: prints the ring and the numbers of identifiers and segments of a run, and the fault
+/// of a table by no workers.
 pub(crate) fn do_task_of<R: AllocGlobal + Print>(rt: &R) -> Result<(), Miss> {
     for line in ["run --ids 8 --ring 5,1,3,7", "table --ids 8 --workers 0"] {
         let words = words_of(rt.alloc(), line)?;
@@ -54,7 +55,7 @@ pub(crate) fn do_task_of<R: AllocGlobal + Print>(rt: &R) -> Result<(), Miss> {
     Ok(())
 }
 
-/// `words_fault`: what is said of words that are not UTF-8.
+/// `words_fault`: prints the text for words that are not UTF-8.
 pub(crate) fn do_words_fault<R: AllocGlobal + Print>(rt: &R) -> Result<(), Miss> {
     let answer = match words_fault(rt.alloc(), io::Error::from(ErrorKind::InvalidData)) {
         WordsFault::OutOfMemory => {
@@ -69,7 +70,7 @@ pub(crate) fn do_words_fault<R: AllocGlobal + Print>(rt: &R) -> Result<(), Miss>
     }
 }
 
-// The words that stand parted by blanks in a line.
+// Splits a line into words at its blanks.
 fn words_of(alloc: Global, line: &str) -> Result<Vec<String>, Miss> {
     let mut words = Vec::new(alloc);
     for word in line.split(' ') {
@@ -79,7 +80,7 @@ fn words_of(alloc: Global, line: &str) -> Result<Vec<String>, Miss> {
     Ok(words)
 }
 
-// The name of a fault of words.
+// Returns the name of a fault of words.
 fn fault_name(fault: &WordsFault) -> &'static str {
     match fault {
         WordsFault::Usage(_) => "Usage",
