@@ -1,4 +1,5 @@
-//! Program texts that several crates' tests use, and their plans. The first ones are the files of the folder `programs/`.
+//! Program texts that the tests of several crates use, and their plans. `CV1`, `LDB`, `ID0`, `ZERO`
+//! and `RED` are the files of the folder `programs/`.
 #![tactic(auto)]
 
 mod plans;

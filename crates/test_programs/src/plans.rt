@@ -4,8 +4,11 @@ use lang_check::{Plan, accept};
 use node_lang::parse;
 use std::alloc::Global;
 
-/// The plan of a program text for this many identifiers, or the name of what there is none of. A text that is refused is
-/// parsed once more, since memory for it may have been refused the first time.
+/// Returns the plan of a program text for this many identifiers. Fails with the name of what it
+/// lacks: a program or a plan.
+///
+/// A text that is refused is parsed a second time, since memory for it could have been refused the
+/// first time.
 pub fn plan_of(alloc: Global, text: &[u8], ids: u32) -> Result<Plan, &'static str>
     ensures { IfOk result (λ plan. plan.ids ≡ ids) }
 {

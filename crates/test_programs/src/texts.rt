@@ -22,7 +22,7 @@ pub const CV1_OF_14: &[u8] =
 pub const CV1_OF_16: &[u8] =
     b"rounds 1\nchannels 16\nregisters 1\nstart\nr0 = id\nround\nsend left 0\nsend right r0\nr0 = add(shl(ldb(r0, L), 1), bit(r0, ldb(r0, L)))\nfinish r0\n";
 
-/// `CV1` that sends what it receives.
+/// `CV1` with `send right L`, which is not accepted.
 pub const CV1_SENDS_L: &[u8] =
     b"rounds 1\nchannels 6\nregisters 1\nstart\nr0 = id\nround\nsend left 0\nsend right L\nr0 = add(shl(ldb(r0, L), 1), bit(r0, ldb(r0, L)))\nfinish r0\n";
 
@@ -43,7 +43,7 @@ pub const TWICE_ID: &[u8] =
 /// No round: always 0.
 pub const ZERO: &[u8] = b"rounds 0\nchannels 1\nregisters 1\nstart\nr0 = id\nfinish 0\n";
 
-/// `CV1` and then two rounds that take its channels down to four.
+/// `CV1` and two more rounds, which reduce its channels to four.
 pub const RED: &[u8] =
     b"rounds 3\nchannels 4\nregisters 1\nstart\nr0 = id\nround\nsend left 0\nsend right r0\nr0 = add(shl(ldb(r0, L), 1), bit(r0, ldb(r0, L)))\nround\nsend left r0\nsend right r0\nr0 = min(if(eq(r0, 5), if(and(ne(L, 0), ne(R, 0)), 0, if(and(ne(L, 1), ne(R, 1)), 1, 2)), r0), 4)\nround\nsend left r0\nsend right r0\nr0 = min(if(eq(r0, 4), if(and(ne(L, 0), ne(R, 0)), 0, if(and(ne(L, 1), ne(R, 1)), 1, 2)), r0), 3)\nfinish r0\n";
 
@@ -51,11 +51,13 @@ pub const RED: &[u8] =
 pub const CV1_WITH_BLANKS: &[u8] =
     b"# note\nrounds  1\nchannels  6\nregisters  1\nstart\nr0  =  id\nround\nsend  left  0\nsend  right  r0\nr0  =  add(shl(ldb(r0,  L),  1),  bit(r0,  ldb(r0,  L)))\nfinish  r0\n";
 
-/// Four rounds, in each of which a node takes what its left neighbour had: the channel is the identifier four places to the left.
+/// Four rounds, in each of which a node takes its left neighbour's register. The channel is the
+/// identifier four places to the left.
 pub const SHIFT4: &[u8] =
     b"rounds 4\nchannels 10\nregisters 1\nstart\nr0 = id\nround\nsend left 0\nsend right r0\nr0 = L\nround\nsend left 0\nsend right r0\nr0 = L\nround\nsend left 0\nsend right r0\nr0 = L\nround\nsend left 0\nsend right r0\nr0 = L\nfinish r0\n";
 
-/// Two registers, each of which reads the other: the channel is the identifier and the left neighbour's.
+/// Two registers, each computed from the other. The channel is the sum of the identifier and the
+/// left neighbour's.
 pub const TWO_REGISTERS: &[u8] =
     b"rounds 1\nchannels 64\nregisters 2\nstart\nr0 = id\nr1 = 0\nround\nsend left r1\nsend right r0\nr0 = r1\nr1 = add(r0, L)\nfinish r1\n";
 
@@ -63,13 +65,14 @@ pub const TWO_REGISTERS: &[u8] =
 pub const TWO_REGISTERS_OF_200: &[u8] =
     b"rounds 1\nchannels 200\nregisters 2\nstart\nr0 = id\nr1 = 0\nround\nsend left r1\nsend right r0\nr0 = r1\nr1 = add(r0, L)\nfinish r1\n";
 
-/// Eight registers in three rounds: each round moves them down by one and puts what came from the left last. So
-/// at the end register 0 is what register 3 was, and register 5 what the left neighbour's register 1 was.
+/// Eight registers and three rounds. Each round moves the registers down by one, and the message
+/// from the left becomes the last. So in the end register 0 has the value of register 3, and
+/// register 5 that of the left neighbour's register 1.
 pub const EIGHT_REGISTERS: &[u8] =
     b"rounds 3\nchannels 64\nregisters 8\nstart\nr0 = id\nr1 = add(id, 1)\nr2 = add(id, 2)\nr3 = add(id, 3)\nr4 = add(id, 4)\nr5 = add(id, 5)\nr6 = add(id, 6)\nr7 = add(id, 7)\nround\nsend left 0\nsend right r1\nr0 = r1\nr1 = r2\nr2 = r3\nr3 = r4\nr4 = r5\nr5 = r6\nr6 = r7\nr7 = L\nround\nsend left 0\nsend right r1\nr0 = r1\nr1 = r2\nr2 = r3\nr3 = r4\nr4 = r5\nr5 = r6\nr6 = r7\nr7 = L\nround\nsend left 0\nsend right r1\nr0 = r1\nr1 = r2\nr2 = r3\nr3 = r4\nr4 = r5\nr5 = r6\nr6 = r7\nr7 = L\nfinish add(r0, r5)\n";
 
-/// What stands in front of the last expression of a program of one register that starts with 0.
+/// The text before the last expression of a program of one register that starts with 0.
 pub const ZERO_HEAD: &[u8] = b"rounds 0\nchannels 1\nregisters 1\nstart\nr0 = 0\nfinish ";
 
-/// The same with an operation at the start.
+/// The same text with an operation in `start`.
 pub const NOT_HEAD: &[u8] = b"rounds 0\nchannels 1\nregisters 1\nstart\nr0 = not(0)\nfinish ";
