@@ -2,6 +2,7 @@
 pub mod Words
 pub mod TextNotes
 pub mod Placed
+pub mod BoundNotes
 pub mod ProgramNotes
 pub mod RingNotes
 pub mod VerdictNotes

@@ -1,11 +1,13 @@
 -- The note on a program that is not accepted.
-use Rattle.std.specs.Prelude.{◌≡◌, ℕ, ◌+◌, ◌*◌, ◌<◌, ◌==◌, nat_lt, ◌++◌, List, codes, if◌then◌else◌}
+use Rattle.std.specs.Prelude.{◌≡◌, ℕ, ◌+◌, ◌*◌, ◌<◌, ◌==◌, nat_lt, ◌++◌, List, length, codes, if◌then◌else◌}
 use Rattle.std.specs.Fmt.{decimal}
 use Rattle.node_lang.specs.declared.limits.TheConstants.{MAX_CHANNELS}
 use Rattle.win_index.specs.ShapeRange.{IsShape}
 use Rattle.lang_check.specs.declared.acceptance.CheckFault.{CheckFault}
 use Rattle.lang_check.specs.declared.acceptance.CheckFault.TheVariants as check
+use Rattle.node_lang.specs.Term.{ProgramTree}
 use Rattle.fault_notes.specs.Placed.{IsPlaced}
+use Rattle.fault_notes.specs.BoundNotes.{growth_text}
 
 -- the greatest number of identifiers that makes a shape with t rounds
 pub record IsMostIds (t most : ℕ) : Type 0 where
@@ -37,11 +39,11 @@ bound_note b = if nat_lt b MAX_CHANNELS
     then codes "nbhd: channels may be as large as " ++ (decimal b ++ (codes ": write `channels " ++ (decimal (b + 1) ++ codes "` or more\n")))
     else codes "nbhd: channels may be as large as " ++ (decimal b ++ codes ", and `channels` is at most 4096\n")
 
--- the note on a refusal of the program of this text, with t rounds, for `ids` identifiers
-abbrev pub IsCheckNote : List ℕ → ℕ → ℕ → CheckFault → List ℕ → Type 0
-IsCheckNote text t ids check.IdsOutOfRange note = IsIdsNote t ids note
-IsCheckNote text t ids check.TooManyWindows note = IsIdsNote t ids note
-IsCheckNote text t ids (check.RegisterOutOfRange j) note = IsPlaced text (register_cause j) note
-IsCheckNote text t ids check.IdOutsideStart note = IsPlaced text id_cause note
-IsCheckNote text t ids check.MessageOutsideStep note = IsPlaced text message_cause note
-IsCheckNote text t ids (check.ChannelBound b) note = note ≡ bound_note b
+-- the note on the refusal of the program p of this text for `ids` identifiers
+abbrev pub IsCheckNote : List ℕ → ProgramTree → ℕ → CheckFault → List ℕ → Type 0
+IsCheckNote text p ids check.IdsOutOfRange note = IsIdsNote (length p.steps) ids note
+IsCheckNote text p ids check.TooManyWindows note = IsIdsNote (length p.steps) ids note
+IsCheckNote text p ids (check.RegisterOutOfRange j) note = IsPlaced text (register_cause j) note
+IsCheckNote text p ids check.IdOutsideStart note = IsPlaced text id_cause note
+IsCheckNote text p ids check.MessageOutsideStep note = IsPlaced text message_cause note
+IsCheckNote text p ids (check.ChannelBound b) note = note ≡ bound_note b ++ growth_text p ids

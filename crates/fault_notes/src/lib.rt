@@ -2,6 +2,7 @@
 #![tactic(auto)]
 
 mod advice;
+mod bounds;
 mod numbers;
 mod operands;
 mod placed;

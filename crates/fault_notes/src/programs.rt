@@ -1,38 +1,42 @@
 //! The note on a program that is not accepted.
 
-ghost use Rattle.std.specs.Prelude.{◌≡◌, ◌≤◌, ◌<◌, ◌↔◌, ℕ, IsTrue, IfOk, IfSome, IfNone, string_bytes};
+ghost use Rattle.std.specs.Prelude.{◌≡◌, ◌≤◌, ◌<◌, ◌↔◌, ◌++◌, ℕ, IsTrue, IfOk, IfSome, IfNone, string_bytes};
 ghost use Rattle.node_lang.specs.declared.limits.TheConstants as limits;
 ghost use Rattle.win_index.specs.declared.limits.TheConstants.{MAX_ROUNDS};
 ghost use Rattle.win_index.specs.ShapeRange.{IsShape};
 ghost use Rattle.fault_notes.specs.Placed.{IsPlaced};
-ghost use Rattle.fault_notes.specs.ProgramNotes.{IsMostIds, IsIdsNote, IsCheckNote, register_cause, id_cause, message_cause, bound_note, rounds_take};
+ghost use Rattle.fault_notes.specs.ProgramNotes.{IsMostIds, IsIdsNote, IsCheckNote, register_cause, id_cause, message_cause, rounds_take};
+ghost use Rattle.fault_notes.specs.ProgramNotes as notes;
+ghost use Rattle.fault_notes.specs.BoundNotes.{growth_text};
 
+use crate::bounds::write_growth;
 use crate::placed::placed_note;
 use crate::scanning::{misplaced_id, misplaced_message, place_of};
 use lang_check::CheckFault;
-use node_lang::MAX_CHANNELS;
+use node_lang::{MAX_CHANNELS, Program};
 use std::alloc::{AllocError, Global};
 use win_index::{MAX_IDS, MAX_ROUNDS, Shape};
 
-/// Returns the note on a refusal of the program of a text with `rounds` rounds, for `ids`
-/// identifiers: the possible numbers of identifiers, or the cause and its place. Fails if memory
-/// was refused.
+/// Returns the note on the refusal of the program of a text for `ids` identifiers: the possible
+/// numbers of identifiers, or the cause and its place, or the bound of the channels and the bounds
+/// of the register that makes it so large. Fails if memory was refused.
 pub fn check_note(
     alloc: Global,
     text: &[u8],
-    rounds: u32,
+    program: &Program,
     ids: u32,
     fault: CheckFault,
 ) -> Result<String, AllocError>
-    requires { rounds ≤ MAX_ROUNDS }
-    ensures { IfOk result (λ note. IsCheckNote text.now rounds ids fault (string_bytes note)) }
+    ensures { IfOk result (λ note. IsCheckNote text.now program.now ids fault (string_bytes note)) }
 {
     match fault {
-        CheckFault::IdsOutOfRange | CheckFault::TooManyWindows => ids_note(alloc, rounds, ids),
+        CheckFault::IdsOutOfRange | CheckFault::TooManyWindows => {
+            ids_note(alloc, program.rounds(), ids)
+        }
         CheckFault::RegisterOutOfRange(register) => register_note(alloc, text, register),
         CheckFault::IdOutsideStart => id_note(alloc, text),
         CheckFault::MessageOutsideStep => message_note(alloc, text),
-        CheckFault::ChannelBound(bound) => channels_note(alloc, bound),
+        CheckFault::ChannelBound(bound) => bound_note(alloc, program, ids, bound),
     }
 }
 
@@ -110,9 +114,18 @@ fn message_note(alloc: Global, text: &[u8]) -> Result<String, AllocError>
     placed_note(alloc, text, misplaced_message(text), cause)
 }
 
-// Returns the note on channels that could be too large.
+// Returns the note on channels that could be too large, and on the register that makes them so.
+fn bound_note(alloc: Global, program: &Program, ids: u32, bound: u32) -> Result<String, AllocError>
+    ensures { IfOk result (λ note. string_bytes note ≡ notes.bound_note bound ++ growth_text program.now ids) }
+{
+    let mut note = channels_note(alloc, bound)?;
+    write_growth(alloc, &mut note, program, ids)?;
+    Ok(note)
+}
+
+// Returns the note on channels that could be as large as `bound`.
 fn channels_note(alloc: Global, bound: u32) -> Result<String, AllocError>
-    ensures { IfOk result (λ note. string_bytes note ≡ bound_note bound) }
+    ensures { IfOk result (λ note. string_bytes note ≡ notes.bound_note bound) }
 {
     if bound >= MAX_CHANNELS {
         return format!(in alloc;

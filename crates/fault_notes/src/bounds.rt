@@ -1,0 +1,93 @@
+//! The bounds of the register that makes channels too large.
+
+ghost use Rattle.std.specs.Prelude.{◌≡◌, ◌≤◌, ◌++◌, length, slice_index, codes, IfOk, OnOk, string_bytes};
+ghost use Rattle.node_lang.specs.Bounds as bounds;
+ghost use Rattle.fault_notes.specs.BoundNotes as notes;
+ghost use Rattle.fault_notes.specs.VerdictNotes.{parted};
+
+use crate::numbers::write_parted;
+use lang_check::{bounds_after, register_over_channels};
+use node_lang::{MAX_REGISTERS, Program};
+use std::alloc::{AllocError, Global};
+use std::fmt::Write;
+
+/// Writes a line with the bounds, after `start` and after each round, of the first register that
+/// `finish` reads and whose last bound is not below the number of channels. Writes nothing if there
+/// is none. Fails if memory was refused.
+pub(crate) fn write_growth(
+    alloc: Global,
+    out: &mut String,
+    program: &Program,
+    ids: u32,
+) -> Result<(), AllocError>
+    ensures { OnOk result (string_bytes out.new ≡ string_bytes out.old ++ notes.growth_text program.now ids) }
+{
+    match register_over_channels(program, ids) {
+        Some(register) => write_bounds(alloc, out, program, ids, register),
+        None => Ok(()),
+    }
+}
+
+// Writes the line with the bounds of a register.
+fn write_bounds(
+    alloc: Global,
+    out: &mut String,
+    program: &Program,
+    ids: u32,
+    register: u32,
+) -> Result<(), AllocError>
+    ensures { OnOk result (string_bytes out.new ≡ string_bytes out.old ++ notes.bounds_line program.now ids register) }
+{
+    write!(
+        out,
+        "nbhd: bounds of r{register} after `start` and each round: "
+    )?;
+    write_numbers(alloc, out, program, ids, register)?;
+    out.push_str("\n")?;
+    Ok(())
+}
+
+// Writes the bounds of a register, separated by blanks.
+fn write_numbers(
+    alloc: Global,
+    out: &mut String,
+    program: &Program,
+    ids: u32,
+    register: u32,
+) -> Result<(), AllocError>
+    ensures { OnOk result (string_bytes out.new ≡ string_bytes out.old ++ parted (codes " ") (notes.bounds_in_time program.now ids register)) }
+{
+    let bounds = bounds_in_time(alloc, program, ids, register)?;
+    write_parted(out, &bounds, " ")?;
+    Ok(())
+}
+
+// Returns the bounds of a register after `start` and after each round.
+fn bounds_in_time(
+    alloc: Global,
+    program: &Program,
+    ids: u32,
+    register: u32,
+) -> Result<Vec<u32>, AllocError>
+    ensures { IfOk result (λ bounds. bounds.items ≡ notes.bounds_in_time program.now ids register) }
+{
+    let mut bounds = Vec::new(alloc);
+    for rounds in 0..program.rounds() + 1 {
+        let bound = bound_after(program, ids, rounds, register);
+        let Ok(()) = bounds.push(bound) else {
+            return Err(AllocError);
+        };
+    }
+    Ok(bounds)
+}
+
+// Returns the bound of a register after this many rounds, or 0 if the program lacks it.
+fn bound_after(program: &Program, ids: u32, rounds: u32, register: u32) -> u32
+    requires { rounds ≤ length program.now.steps }
+    ensures { result ≡ slice_index (bounds.register_bounds program.now ids rounds) register }
+{
+    let mut cells = [0; MAX_REGISTERS as usize];
+    let registers = &mut cells[..program.registers() as usize];
+    bounds_after(program, ids, rounds, registers);
+    registers.get(register as usize).copied().unwrap_or(0)
+}
