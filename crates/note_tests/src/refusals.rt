@@ -13,11 +13,10 @@ use win_index::{Ring, Shape};
 fn refusal_of(alloc: Global, old: &str, new: &str, ids: u32) -> Result<String, Fail> {
     let text = edited(alloc, old, new)?;
     let program = parse(alloc, text.as_bytes()).ok().ok_or("a program")?;
-    let rounds = program.rounds();
-    let Err((_program, fault)) = accept(program, ids) else {
+    let Err((program, fault)) = accept(program, ids) else {
         return Err(Fail::from("a refusal"));
     };
-    Ok(check_note(alloc, text.as_bytes(), rounds, ids, fault)?)
+    Ok(check_note(alloc, text.as_bytes(), &program, ids, fault)?)
 }
 
 #[test]

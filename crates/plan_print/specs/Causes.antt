@@ -2,7 +2,6 @@
 use Rattle.std.specs.Prelude.{◌≡◌, ◌≢◌, ℕ, ◌<◌, ◌≤◌, List, length}
 use Rattle.node_lang.specs.declared.limits.TheConstants.{MAX_ROUNDS}
 use Rattle.node_lang.specs.declared.fault.FaultKind.TheVariants as kind
-use Rattle.node_lang.specs.Term.{ProgramTree}
 use Rattle.node_lang.specs.Grammar.{Reads}
 use Rattle.node_lang.specs.Faults.{FaultsAt}
 use Rattle.lang_check.specs.Refusals.{IsFirstRefusal}
@@ -28,7 +27,7 @@ use Rattle.plan_print.specs.declared.cause.Cause.TheVariants as cause
 -- which a table breaks a separation.
 abbrev pub Explains : List ℕ → Cause → Type 0
 Explains input (cause.Text f) = FaultsAt input f.kind f.offset
-Explains input (cause.Program rounds ids f) = (p : ProgramTree) × Reads input p × IsFirstRefusal ids p f × (rounds ≡ length p.steps)
+Explains input (cause.Program p ids f) = Reads input p × IsFirstRefusal ids p f
 Explains input (cause.Ring rounds ids places f) = (rounds ≤ MAX_ROUNDS) × IsFirstFault ids rounds places.items f
 Explains input (cause.Segments segments places) = ¬ IsSegmentCount segments places
 Explains input (cause.TableText f) = (f ≢ table.OutOfMemory) × IsFault input f
@@ -46,7 +45,7 @@ IsTableNote input table.OutOfMemory note = ⊥
 abbrev pub IsNote : List ℕ → Cause → List ℕ → Type 0
 IsNote input (cause.Text f) note =
     (f.kind ≡ kind.TooLong → note ≡ too_long_note) × (f.kind ≢ kind.TooLong → IsTextNote input f.kind f.offset note)
-IsNote input (cause.Program rounds ids f) note = IsCheckNote input rounds ids f note
+IsNote input (cause.Program p ids f) note = IsCheckNote input p ids f note
 IsNote input (cause.Ring rounds ids places f) note = note ≡ ring_note ids rounds places.items f
 IsNote input (cause.Segments segments places) note = note ≡ segments_note segments places
 IsNote input (cause.TableText f) note = IsTableNote input f note

@@ -10,7 +10,7 @@ use fault_notes::{
     verdict_note, window_note,
 };
 use lang_check::CheckFault;
-use node_lang::TextFault;
+use node_lang::{Program, TextFault};
 use std::alloc::{AllocError, Global};
 use table_text::{LONGEST_TABLE_TEXT, TableFault};
 use win_index::{MAX_IDS, MAX_ROUNDS, RingFault};
@@ -22,7 +22,7 @@ pub enum Cause {
     Text(TextFault),
     /// The refusal of a program.
     Program {
-        rounds: u32,
+        program: Program,
         ids: u32,
         fault: CheckFault,
     },
@@ -56,9 +56,11 @@ pub(crate) fn note_on(alloc: Global, input: &[u8], cause: &Cause) -> Option<Stri
 {
     match cause {
         Cause::Text(fault) => text_note(alloc, input, *fault).ok(),
-        Cause::Program { rounds, ids, fault } => {
-            check_note(alloc, input, *rounds, *ids, *fault).ok()
-        }
+        Cause::Program {
+            program,
+            ids,
+            fault,
+        } => check_note(alloc, input, program, *ids, *fault).ok(),
         Cause::Ring {
             rounds,
             ids,

@@ -107,7 +107,7 @@ fn accepted(alloc: Global, input: &[u8], ids: u32) -> Result<Result<Plan, Answer
             Err((program, fault)) => {
                 let line = check_fault_line(alloc, fault)?;
                 let cause = Cause::Program {
-                    rounds: program.rounds(),
+                    program,
                     ids,
                     fault,
                 };
