@@ -20,6 +20,7 @@ use std::thread::Threads;
 use std::{env, io};
 use task_words::task::Task;
 use task_words::words::{WordsFault, task_of, words_fault};
+use word_tips::{ring_tip, ring_word, usage_tip};
 
 /// Does what the words after the program's name request, and returns the exit status. Writes the
 /// report or the help text to standard output, and prints faults and the note on a report to
@@ -33,7 +34,7 @@ pub fn exit_status<T: AllocGlobal + Env + Input + Print + Eprint + Threads + Wai
 }
 
 // Does the task, or prints the fault of the words. Returns the exit status.
-fn status_after<T: AllocGlobal + Input + Print + Eprint + Threads + Wait + Sync>(
+fn status_after<T: AllocGlobal + Env + Input + Print + Eprint + Threads + Wait + Sync>(
     rt: &T,
     asked: Result<Task, WordsFault>,
 ) -> u8
@@ -65,15 +66,35 @@ fn asked<T: AllocGlobal + Env>(rt: &T) -> Result<Task, WordsFault>
     task_of(alloc, &words)
 }
 
-// Prints the fault of the words to standard error. Returns the exit status.
-fn refused<T: Eprint>(rt: &T, fault: &WordsFault) -> u8
+// Prints the fault of the words to standard error, and a tip if there is one. Returns the exit
+// status.
+fn refused<T: AllocGlobal + Env + Eprint>(rt: &T, fault: &WordsFault) -> u8
     ensures { result ≡ words_fault_code fault.now }
 {
     let _ = match fault {
         WordsFault::Usage(text) | WordsFault::Help(text) => eprint!(rt; "{text}"),
         WordsFault::BadRing | WordsFault::OutOfMemory => eprintln!(rt; "{fault}"),
     };
+    if let Some(tip) = tip_on(rt, fault) {
+        let _ = eprintln!(rt; "{tip}");
+    }
     fault.code()
+}
+
+// Returns a tip on refused words, or `None` if there is none, or if memory was refused.
+fn tip_on<T: AllocGlobal + Env>(rt: &T, fault: &WordsFault) -> Option<String> {
+    let alloc = rt.alloc();
+    let mut args = env::args(rt).ok()?;
+    let _name = args.next();
+    let words = args.collect::<Vec<_>>(alloc).ok()?;
+    match fault {
+        WordsFault::BadRing => ring_tip(alloc, ring_word(&words)?).ok()?,
+        WordsFault::Usage(_) => {
+            let tip = usage_tip(&words)?;
+            format!(in alloc; "{tip}").ok()
+        }
+        WordsFault::Help(_) | WordsFault::OutOfMemory => None,
+    }
 }
 
 // Prints a fault, if there is one, to standard error. Returns the exit status.

@@ -14,8 +14,8 @@ fn text_of(alloc: Global, line: &str) -> Result<String, Fail> {
 #[test]
 fn help_of_the_program(rt: HostRuntime) -> Result<(), Fail> {
     let expected =
-        "Compiles a node program of synchronous rounds to a table with one channel per window of identifiers,
-and judges whether neighbours' channels differ on every oriented ring.
+        "nbhd 1.0 compiles a node program of synchronous rounds to a table with one channel per window of
+identifiers, and judges whether neighbours' channels differ on every oriented ring.
 
 Usage: nbhd <COMMAND>
 
@@ -40,6 +40,9 @@ Each command reads a text from standard input and prints its answer to standard 
 
 runs the program of that file on the ring of the nodes 5, 1, 3 and 7, where identifiers are 0 to 7,
 and prints the channels of these four nodes: 2 4 3 5
+
+Pages: docs/TUTORIAL.md teaches from the start, docs/LANGUAGE.md has programs, commands and texts,
+docs/FAULTS.md each refusal and its note, and docs/GALLERY.md classical programs.
 ";
     assert_eq!(rt; text_of(rt.alloc(), "--help")?.as_str(), expected);
     Ok(())
