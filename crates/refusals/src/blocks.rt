@@ -3,7 +3,7 @@ ghost use Rattle.shared_memo.specs.PlanJobs.{IsKey};
 
 use crate::miss::Miss;
 use crate::plans::{has_block, plan_of};
-use crate::tell::{beside, given, surely, tell, tell_numbers};
+use crate::tell::{other_call, retried, tell, tell_numbers, value_or_refusal};
 use lang_check::Plan;
 use shared_memo::{Memo, Reader};
 use test_programs::CV1;
@@ -15,8 +15,8 @@ use unroll::{Block, BlockMaker, MakeFault, make_block};
 pub(crate) fn do_make_block<R: AllocGlobal + Print>(rt: &R) -> Result<(), Miss> {
     let alloc = rt.alloc();
     let plan = plan_of(alloc, CV1, 8)?;
-    let memo = beside(Memo::new(alloc, &plan))?;
-    let mut pass = beside(memo.pass(alloc))?;
+    let memo = other_call(Memo::new(alloc, &plan))?;
+    let mut pass = other_call(memo.pass(alloc))?;
     let mut reader = Reader::new(&memo, &mut pass);
     tell_blocks(rt, &plan, &mut reader)
 }
@@ -26,19 +26,19 @@ pub(crate) fn do_make_block<R: AllocGlobal + Print>(rt: &R) -> Result<(), Miss> 
 pub(crate) fn do_block_maker<R: AllocGlobal + Print>(rt: &R) -> Result<(), Miss> {
     let alloc = rt.alloc();
     let plan = plan_of(alloc, CV1, 8)?;
-    let memo = beside(Memo::new(alloc, &plan))?;
-    let mut pass = beside(memo.pass(alloc))?;
+    let memo = other_call(Memo::new(alloc, &plan))?;
+    let mut pass = other_call(memo.pass(alloc))?;
     let mut reader = Reader::new(&memo, &mut pass);
-    let mut maker = match given(rt, BlockMaker::new(alloc, &plan))? {
+    let mut maker = match value_or_refusal(rt, BlockMaker::new(alloc, &plan))? {
         Some(maker) => maker,
-        None => surely(BlockMaker::new(alloc, &plan))?,
+        None => retried(BlockMaker::new(alloc, &plan))?,
     };
     if !has_block(&plan, 0, 0) {
         return Err(Miss::Wrong);
     }
-    let block = match given(rt, maker.make(alloc, &mut reader, 0, 0, 4))? {
+    let block = match value_or_refusal(rt, maker.make(alloc, &mut reader, 0, 0, 4))? {
         Some(block) => block,
-        None => surely(maker.make(alloc, &mut reader, 0, 0, 4))?,
+        None => retried(maker.make(alloc, &mut reader, 0, 0, 4))?,
     };
     tell_states(rt, &block)
 }
@@ -70,7 +70,7 @@ fn install_first<'a, R: AllocGlobal + Print>(
     ensures { reader.new.pass.now.plan.now ≡ reader.old.pass.now.plan.now }
 {
     let block = made(rt, plan, reader, 0, 0)?;
-    let block = beside(Box::new(rt.alloc(), block))?;
+    let block = other_call(Box::new(rt.alloc(), block))?;
     let _ = reader.keep(block);
     Ok(())
 }
@@ -123,8 +123,8 @@ fn made<'a, R: AllocGlobal + Print>(
     ensures plan { IfOk result (λ block. block.plan ≡ plan.now) }
 {
     let alloc = rt.alloc();
-    match given(rt, make_block(alloc, plan, reader, level, number, 4))? {
+    match value_or_refusal(rt, make_block(alloc, plan, reader, level, number, 4))? {
         Some(block) => Ok(block),
-        None => surely(make_block(alloc, plan, reader, level, number, 4)),
+        None => retried(make_block(alloc, plan, reader, level, number, 4)),
     }
 }

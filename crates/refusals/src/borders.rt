@@ -32,7 +32,7 @@ impl Dated for Note {
 
 /// The outcome of a border: it could not be made, or its results were printed.
 #[derive(Clone, Copy)]
-enum Course {
+enum Outcome {
     NotMade,
     Told,
 }
@@ -42,8 +42,8 @@ enum Course {
 pub(crate) fn do_border<R: AllocGlobal + Print + Wait>(rt: &R) -> Result<(), Miss> {
     let (right, left) = (Blank::new(1), Blank::new(1));
     match puts_and_takes::<Brand, Brand, _>(rt, rt.alloc(), right, left)? {
-        Course::Told => Ok(()),
-        Course::NotMade => do_border_again(rt),
+        Outcome::Told => Ok(()),
+        Outcome::NotMade => do_border_again(rt),
     }
 }
 
@@ -52,8 +52,8 @@ fn do_border_again<R: AllocGlobal + Print + Wait>(rt: &R) -> Result<(), Miss> {
     tell(rt, "OutOfMemory")?;
     let (right, left) = (Blank::new(1), Blank::new(1));
     match puts_and_takes::<Brand, Brand, _>(rt, rt.alloc(), right, left)? {
-        Course::Told => Ok(()),
-        Course::NotMade => Err(Miss::Wrong),
+        Outcome::Told => Ok(()),
+        Outcome::NotMade => Err(Miss::Wrong),
     }
 }
 
@@ -62,8 +62,8 @@ fn do_border_again<R: AllocGlobal + Print + Wait>(rt: &R) -> Result<(), Miss> {
 pub(crate) fn do_put<R: AllocGlobal + Print + Wait>(rt: &R) -> Result<(), Miss> {
     let (right, left) = (Blank::new(1), Blank::new(1));
     match eight_puts::<Brand, Brand, _>(rt, rt.alloc(), right, left)? {
-        Course::Told => Ok(()),
-        Course::NotMade => Err(Miss::Beside),
+        Outcome::Told => Ok(()),
+        Outcome::NotMade => Err(Miss::OtherCall),
     }
 }
 
@@ -73,18 +73,18 @@ fn puts_and_takes<L: Ledger, M: Ledger, R: Print + Wait>(
     alloc: Global,
     right: Blank,
     left: Blank,
-) -> Result<Course, Miss>
+) -> Result<Outcome, Miss>
     requires right { (right.name ≡ L.name) × (right.parts ≡ L.parts) × (right.parts ≡ 1) }
     requires left { (left.name ≡ M.name) × (left.parts ≡ M.parts) × (left.parts ≡ 1) }
 {
     let Ok((border, mut right, mut left)) = Border::<Note, L, M>::new(alloc, right, left) else {
-        return Ok(Course::NotMade);
+        return Ok(Outcome::NotMade);
     };
     exchange(rt, &border, &mut right, &mut left)?;
     border.close(rt);
     go_on_when_closed(rt, &border, &mut right)?;
     settle(rt, border, right, left)?;
-    Ok(Course::Told)
+    Ok(Outcome::Told)
 }
 
 // Puts messages from both sides, two of them out of turn, and takes those of the first round.
@@ -119,18 +119,18 @@ fn eight_puts<L: Ledger, M: Ledger, R: Print + Wait>(
     alloc: Global,
     right: Blank,
     left: Blank,
-) -> Result<Course, Miss>
+) -> Result<Outcome, Miss>
     requires right { (right.name ≡ L.name) × (right.parts ≡ L.parts) × (right.parts ≡ 1) }
     requires left { (left.name ≡ M.name) × (left.parts ≡ M.parts) × (left.parts ≡ 1) }
 {
     let Ok((border, mut right, left)) = Border::<Note, L, M>::new(alloc, right, left) else {
-        return Ok(Course::NotMade);
+        return Ok(Outcome::NotMade);
     };
     for round in 0..8 {
         put(rt, &border, &mut right, to_the_right(round, round))?;
     }
     settle(rt, border, right, left)?;
-    Ok(Course::Told)
+    Ok(Outcome::Told)
 }
 
 // Puts a message, and prints the result. If memory was refused, puts the returned message a second

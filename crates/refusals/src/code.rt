@@ -4,7 +4,7 @@ ghost use Rattle.round_columns.specs.StackNeed.{most_columns};
 
 use crate::miss::Miss;
 use crate::plans::plan_of;
-use crate::tell::{given, surely, tell_numbers};
+use crate::tell::{retried, tell_numbers, value_or_refusal};
 use lang_check::Plan;
 use round_columns::{Code, Columns, Work, channel_columns, step_columns};
 use test_programs::{CV1, LDB};
@@ -62,9 +62,9 @@ fn tell_round<R: AllocGlobal + Print>(
 fn code_of<R: AllocGlobal + Print>(rt: &R, plan: &Plan) -> Result<Code, Miss>
     ensures { IfOk result (λ code. code ≡ plan.now) }
 {
-    match given(rt, Code::new(rt.alloc(), plan))? {
+    match value_or_refusal(rt, Code::new(rt.alloc(), plan))? {
         Some(code) => Ok(code),
-        None => surely(Code::new(rt.alloc(), plan)),
+        None => retried(Code::new(rt.alloc(), plan)),
     }
 }
 
@@ -72,9 +72,9 @@ fn code_of<R: AllocGlobal + Print>(rt: &R, plan: &Plan) -> Result<Code, Miss>
 fn work_of<R: AllocGlobal + Print>(rt: &R, code: &Code) -> Result<Work, Miss>
     ensures { IfOk result (λ work. (work.columns ≡ most_columns (terms code.now.program)) × (work.width ≡ 3)) }
 {
-    match given(rt, Work::new(rt.alloc(), code, 3))? {
+    match value_or_refusal(rt, Work::new(rt.alloc(), code, 3))? {
         Some(work) => Ok(work),
-        None => surely(Work::new(rt.alloc(), code, 3)),
+        None => retried(Work::new(rt.alloc(), code, 3)),
     }
 }
 
@@ -82,9 +82,9 @@ fn work_of<R: AllocGlobal + Print>(rt: &R, code: &Code) -> Result<Work, Miss>
 fn one_column<R: AllocGlobal + Print>(rt: &R, values: [u32; 3]) -> Result<Columns, Miss>
     ensures { IfOk result (λ columns. (columns.registers ≡ 1) × (length columns.states ≡ 3)) }
 {
-    let mut columns = match given(rt, Columns::new(rt.alloc(), 1, 3))? {
+    let mut columns = match value_or_refusal(rt, Columns::new(rt.alloc(), 1, 3))? {
         Some(columns) => columns,
-        None => surely(Columns::new(rt.alloc(), 1, 3))?,
+        None => retried(Columns::new(rt.alloc(), 1, 3))?,
     };
     columns.set(0, 0, values[0]);
     columns.set(0, 1, values[1]);

@@ -2,15 +2,15 @@ ghost use Rattle.std.specs.Prelude.{◌≡◌, [], All, IfOk, OnOk};
 ghost use Rattle.shared_memo.specs.Tickets.{drawn, told, IsTicketOf};
 
 use crate::miss::Miss;
-use crate::tell::{beside, given, surely};
+use crate::tell::{other_call, retried, value_or_refusal};
 use shared_memo::{Desk, Ticket};
 
 /// `Desk::new`: prints the results of two tickets that draw three numbers in turn, and of one at a
 /// desk without numbers.
 pub(crate) fn do_desk<R: AllocGlobal + Print>(rt: &R) -> Result<(), Miss> {
-    let (desk, mut tickets) = match given(rt, Desk::new(rt.alloc(), 3, 2))? {
+    let (desk, mut tickets) = match value_or_refusal(rt, Desk::new(rt.alloc(), 3, 2))? {
         Some(made) => made,
-        None => surely(Desk::new(rt.alloc(), 3, 2))?,
+        None => retried(Desk::new(rt.alloc(), 3, 2))?,
     };
     let mut b = taken(&desk, &mut tickets)?;
     let mut a = taken(&desk, &mut tickets)?;
@@ -20,8 +20,8 @@ pub(crate) fn do_desk<R: AllocGlobal + Print>(rt: &R) -> Result<(), Miss> {
     let of_b = desk.draw(&mut b);
     let of_a = desk.draw(&mut a);
     let mut back = Vec::new(rt.alloc());
-    beside(back.push(a))?;
-    beside(back.push(b))?;
+    other_call(back.push(a))?;
+    other_call(back.push(b))?;
     let count = desk.close(back);
     println!(rt; "{first} {second} {third} {of_b:?} {of_a:?} {count}")?;
     do_empty_desk(rt)
@@ -29,14 +29,14 @@ pub(crate) fn do_desk<R: AllocGlobal + Print>(rt: &R) -> Result<(), Miss> {
 
 // Draws with one ticket at a desk without numbers.
 fn do_empty_desk<R: AllocGlobal + Print>(rt: &R) -> Result<(), Miss> {
-    let (desk, mut tickets) = match given(rt, Desk::new(rt.alloc(), 0, 1))? {
+    let (desk, mut tickets) = match value_or_refusal(rt, Desk::new(rt.alloc(), 0, 1))? {
         Some(made) => made,
-        None => surely(Desk::new(rt.alloc(), 0, 1))?,
+        None => retried(Desk::new(rt.alloc(), 0, 1))?,
     };
     let mut ticket = taken(&desk, &mut tickets)?;
     let found = desk.draw(&mut ticket);
     let mut back = Vec::new(rt.alloc());
-    beside(back.push(ticket))?;
+    other_call(back.push(ticket))?;
     let count = desk.close(back);
     println!(rt; "{found:?} {count}")?;
     Ok(())

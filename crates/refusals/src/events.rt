@@ -1,6 +1,6 @@
 use crate::miss::Miss;
 use crate::plans::plan_of;
-use crate::tell::{given, surely};
+use crate::tell::{retried, value_or_refusal};
 use lang_check::Plan;
 use table_fill::fill_core::{FillEvent, FillWorld, replay};
 use test_programs::CV1;
@@ -42,9 +42,9 @@ fn after<'a, R: AllocGlobal + Print>(
     plan: &'a Plan,
     events: &[FillEvent],
 ) -> Result<FillWorld<'a>, Miss> {
-    match given(rt, replay(rt.alloc(), plan, 2, events))? {
+    match value_or_refusal(rt, replay(rt.alloc(), plan, 2, events))? {
         Some(world) => Ok(world),
-        None => surely(replay(rt.alloc(), plan, 2, events)),
+        None => retried(replay(rt.alloc(), plan, 2, events)),
     }
 }
 

@@ -1,6 +1,6 @@
 use crate::miss::Miss;
 use crate::plans::{plan_of, ring_for};
-use crate::tell::{given, surely, tell_numbers};
+use crate::tell::{retried, tell_numbers, value_or_refusal};
 use crate::verdicts::{NEIGHBOURS_DIFFER, tell_verdict};
 use headline::compile_run_and_judge;
 use round_eval::OpenGate;
@@ -29,7 +29,7 @@ pub(crate) fn do_findings<R: AllocGlobal + Print + Threads + Wait + Sync>(
         segments,
         &gate,
     );
-    let findings = match given(rt, answer)? {
+    let findings = match value_or_refusal(rt, answer)? {
         Some(findings) => findings,
         None => {
             let answer = compile_run_and_judge(
@@ -42,7 +42,7 @@ pub(crate) fn do_findings<R: AllocGlobal + Print + Threads + Wait + Sync>(
                 segments,
                 &gate,
             );
-            surely(answer)?
+            retried(answer)?
         }
     };
     tell_numbers(rt, &findings.channels)?;

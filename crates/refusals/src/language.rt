@@ -1,6 +1,6 @@
 use crate::miss::Miss;
 use crate::plans::ring_for;
-use crate::tell::{beside, given, surely, tell, tell_numbers};
+use crate::tell::{other_call, retried, tell, tell_numbers, value_or_refusal};
 use lang_check::accept;
 use node_lang::{Program, parse, print};
 use round_eval::plain_run;
@@ -11,27 +11,27 @@ use test_programs::{CV1, CV1_WITH_BLANKS};
 pub(crate) fn do_parse<R: AllocGlobal + Print>(rt: &R) -> Result<(), Miss> {
     let alloc = rt.alloc();
     let program = parsed(rt, CV1)?;
-    let plan = beside(accept(program, 8))?;
+    let plan = other_call(accept(program, 8))?;
     let ring = ring_for(alloc, &plan, &[0, 1, 2, 3, 4, 5, 6, 7])?;
-    let channels = beside(plain_run(alloc, &plan, &ring))?;
+    let channels = other_call(plain_run(alloc, &plan, &ring))?;
     tell_numbers(rt, &channels)
 }
 
 // Returns the program of a text. Parses it a second time if memory was refused.
 fn parsed<R: AllocGlobal + Print>(rt: &R, text: &[u8]) -> Result<Program, Miss> {
-    match given(rt, parse(rt.alloc(), text))? {
+    match value_or_refusal(rt, parse(rt.alloc(), text))? {
         Some(program) => Ok(program),
-        None => surely(parse(rt.alloc(), text)),
+        None => retried(parse(rt.alloc(), text)),
     }
 }
 
 /// `print`: prints the printed form of a text with a comment and doubled blanks.
 pub(crate) fn do_print<R: AllocGlobal + Print>(rt: &R) -> Result<(), Miss> {
     let alloc = rt.alloc();
-    let program = beside(parse(alloc, CV1_WITH_BLANKS))?;
-    let text = match given(rt, print(alloc, &program))? {
+    let program = other_call(parse(alloc, CV1_WITH_BLANKS))?;
+    let text = match value_or_refusal(rt, print(alloc, &program))? {
         Some(text) => text,
-        None => surely(print(alloc, &program))?,
+        None => retried(print(alloc, &program))?,
     };
     tell(rt, text.as_str())
 }

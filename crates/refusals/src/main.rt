@@ -68,5 +68,5 @@ fn named_row<R: AllocGlobal + Env + Print + Threads + Wait + Sync>(rt: &R) -> Re
 /// Returns the words of the process, the first of which is its name.
 fn args_of<R: AllocGlobal + Env>(rt: &R) -> Result<env::Args<Global>, Miss> {
     let args: io::Result<env::Args<Global>> = env::args(rt);
-    args.ok().ok_or(Miss::Beside)
+    args.ok().ok_or(Miss::OtherCall)
 }

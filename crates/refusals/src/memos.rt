@@ -3,7 +3,7 @@ ghost use Rattle.shared_memo.specs.Passes.{IsPassOf};
 
 use crate::miss::Miss;
 use crate::plans::{has_block, plan_of};
-use crate::tell::{beside, given, surely, tell};
+use crate::tell::{other_call, retried, tell, value_or_refusal};
 use lang_check::Plan;
 use shared_memo::{Installed, Memo, Pass, Reader};
 use test_programs::{CV1, RED};
@@ -38,9 +38,9 @@ fn hand_in_all<'a, R: AllocGlobal + Print>(
 
 // Returns a memo of empty cells.
 fn memo_of<'a, R: AllocGlobal + Print>(rt: &R, plan: &'a Plan) -> Result<Memo<'a>, Miss> {
-    match given(rt, Memo::new(rt.alloc(), plan))? {
+    match value_or_refusal(rt, Memo::new(rt.alloc(), plan))? {
         Some(memo) => Ok(memo),
-        None => surely(Memo::new(rt.alloc(), plan)),
+        None => retried(Memo::new(rt.alloc(), plan)),
     }
 }
 
@@ -48,9 +48,9 @@ fn memo_of<'a, R: AllocGlobal + Print>(rt: &R, plan: &'a Plan) -> Result<Memo<'a
 fn pass_of<'a, R: AllocGlobal + Print>(rt: &R, memo: &Memo<'a>) -> Result<Pass<'a>, Miss>
     ensures { IfOk result (IsPassOf memo.now) }
 {
-    match given(rt, memo.pass(rt.alloc()))? {
+    match value_or_refusal(rt, memo.pass(rt.alloc()))? {
         Some(pass) => Ok(pass),
-        None => surely(memo.pass(rt.alloc())),
+        None => retried(memo.pass(rt.alloc())),
     }
 }
 
@@ -61,14 +61,14 @@ fn first_block<'a, R: AllocGlobal>(
     maker: u32,
 ) -> Result<Box<Block<'a>>, Miss> {
     let alloc = rt.alloc();
-    let memo = beside(Memo::new(alloc, plan))?;
-    let mut pass = beside(memo.pass(alloc))?;
+    let memo = other_call(Memo::new(alloc, plan))?;
+    let mut pass = other_call(memo.pass(alloc))?;
     let mut reader = Reader::new(&memo, &mut pass);
     if !has_block(plan, 0, 0) {
         return Err(Miss::Wrong);
     }
-    let block = beside(make_block(alloc, plan, &mut reader, 0, 0, maker))?;
-    beside(Box::new(alloc, block))
+    let block = other_call(make_block(alloc, plan, &mut reader, 0, 0, maker))?;
+    other_call(Box::new(alloc, block))
 }
 
 // Installs a block, and prints the result and the block's maker.

@@ -1,6 +1,6 @@
 use crate::miss::Miss;
 use crate::plans::{plan_of, ring_for};
-use crate::tell::{given, surely, tell_numbers};
+use crate::tell::{retried, tell_numbers, value_or_refusal};
 use ring_exec::run;
 use round_eval::OpenGate;
 use std::sync::Wait;
@@ -17,9 +17,9 @@ pub(crate) fn do_run<R: AllocGlobal + Print + Threads + Wait + Sync>(
     let alloc = rt.alloc();
     let plan = plan_of(alloc, text, 8)?;
     let ring = ring_for(alloc, &plan, ids)?;
-    let channels = match given(rt, run(rt, alloc, &plan, &ring, segments, &OpenGate))? {
+    let channels = match value_or_refusal(rt, run(rt, alloc, &plan, &ring, segments, &OpenGate))? {
         Some(channels) => channels,
-        None => surely(run(rt, alloc, &plan, &ring, segments, &OpenGate))?,
+        None => retried(run(rt, alloc, &plan, &ring, segments, &OpenGate))?,
     };
     tell_numbers(rt, &channels)
 }

@@ -4,7 +4,7 @@ use std::io;
 #[derive(Clone, Copy)]
 pub(crate) enum Miss {
     /// Memory was refused to code before or after the call.
-    Beside,
+    OtherCall,
     /// The call returned neither its result nor a refusal, or was refused a second time.
     Wrong,
     /// A write to standard output failed.
@@ -17,7 +17,7 @@ impl Miss {
     /// Returns the word that is printed instead of the result.
     pub(crate) fn name(self) -> &'static str {
         match self {
-            Miss::Beside => "beside",
+            Miss::OtherCall => "other call",
             Miss::Wrong => "wrong",
             Miss::Output => "output",
             Miss::NoRow => "no row",

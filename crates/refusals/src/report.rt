@@ -1,5 +1,5 @@
 use crate::miss::Miss;
-use crate::tell::{beside, given, surely};
+use crate::tell::{other_call, retried, value_or_refusal};
 use devices::watched::Watched;
 use plan_print::engine::engine;
 use plan_print::lines::numbers_line;
@@ -44,9 +44,9 @@ pub(crate) fn do_trace_report<R: AllocGlobal + Print + Threads + Wait + Sync>(
 /// `numbers_line`: prints the line of four numbers.
 pub(crate) fn do_numbers_line<R: AllocGlobal + Print>(rt: &R) -> Result<(), Miss> {
     let numbers = [5, 1, 3, 7];
-    let line = match given(rt, numbers_line(rt.alloc(), &numbers))? {
+    let line = match value_or_refusal(rt, numbers_line(rt.alloc(), &numbers))? {
         Some(line) => line,
-        None => surely(numbers_line(rt.alloc(), &numbers))?,
+        None => retried(numbers_line(rt.alloc(), &numbers))?,
     };
     print!(rt; "{line}")?;
     Ok(())
@@ -64,12 +64,12 @@ fn do_report<R: AllocGlobal + Print + Threads + Wait + Sync>(
     let alloc = rt.alloc();
     let mut reader = Watched::new(CV1);
     let mut writer = Watched::new(io::writer(rt));
-    let status = match given(rt, engine(rt, alloc, first, &mut reader, &mut writer))? {
+    let status = match value_or_refusal(rt, engine(rt, alloc, first, &mut reader, &mut writer))? {
         Some(status) => status,
         None => {
             let mut reader = Watched::new(CV1);
             let mut writer = Watched::new(io::writer(rt));
-            surely(engine(rt, alloc, again, &mut reader, &mut writer))?
+            retried(engine(rt, alloc, again, &mut reader, &mut writer))?
         }
     };
     tell_status(rt, status)
@@ -87,7 +87,7 @@ fn table_task(workers: u32) -> Task {
 
 // Returns the task of a run on four places.
 fn run_task(alloc: Global, segments: u32) -> Result<Task, Miss> {
-    let ring = beside([5, 1, 3, 7].to_vec(alloc))?;
+    let ring = other_call([5, 1, 3, 7].to_vec(alloc))?;
     Ok(Task::Run {
         ids: 8,
         ring,
@@ -97,7 +97,7 @@ fn run_task(alloc: Global, segments: u32) -> Result<Task, Miss> {
 
 // Returns the task of the trace of a ring of four places.
 fn trace_task(alloc: Global) -> Result<Task, Miss> {
-    let ring = beside([5, 1, 3, 7].to_vec(alloc))?;
+    let ring = other_call([5, 1, 3, 7].to_vec(alloc))?;
     Ok(Task::Trace { ids: 8, ring })
 }
 

@@ -2,7 +2,7 @@ ghost use Rattle.std.specs.Prelude.{◌≡◌, IfOk};
 
 use crate::miss::Miss;
 use crate::plans::{plan_of, ring_for};
-use crate::tell::{given, surely, tell_numbers};
+use crate::tell::{retried, tell_numbers, value_or_refusal};
 use lang_check::Plan;
 use ring_trace::{Configuration, Told};
 use round_eval::plain_run;
@@ -14,9 +14,9 @@ pub(crate) fn do_plain_run<R: AllocGlobal + Print>(rt: &R) -> Result<(), Miss> {
     let alloc = rt.alloc();
     let plan = plan_of(alloc, CV1, 8)?;
     let ring = ring_for(alloc, &plan, &[5, 1, 3, 7])?;
-    let channels = match given(rt, plain_run(alloc, &plan, &ring))? {
+    let channels = match value_or_refusal(rt, plain_run(alloc, &plan, &ring))? {
         Some(channels) => channels,
-        None => surely(plain_run(alloc, &plan, &ring))?,
+        None => retried(plain_run(alloc, &plan, &ring))?,
     };
     tell_numbers(rt, &channels)
 }
@@ -45,9 +45,9 @@ fn at_the_start<'a, R: AllocGlobal + Print>(
     requires { ring.now.ids ≡ plan.now.ids }
     ensures { IfOk result (λ places. (places.program ≡ plan.now.program) × (places.round ≡ 0)) }
 {
-    match given(rt, Configuration::new(rt.alloc(), plan, ring))? {
+    match value_or_refusal(rt, Configuration::new(rt.alloc(), plan, ring))? {
         Some(places) => Ok(places),
-        None => surely(Configuration::new(rt.alloc(), plan, ring)),
+        None => retried(Configuration::new(rt.alloc(), plan, ring)),
     }
 }
 

@@ -2,7 +2,7 @@ ghost use Rattle.std.specs.Prelude.{◌≡◌, ◌≤◌, IfOk, length};
 
 use crate::miss::Miss;
 use crate::plans::{plan_of, ring_for};
-use crate::tell::{given, surely, tell_numbers};
+use crate::tell::{retried, tell_numbers, value_or_refusal};
 use lang_check::Plan;
 use ring_core::{RingEvent, Segment, World, replay};
 use test_programs::CV1;
@@ -46,9 +46,9 @@ fn first_segment<'a, R: AllocGlobal + Print>(
     requires places { 2 ≤ length ring.now.places }
     ensures { IfOk result (λ segment. segment.round ≡ 0) }
 {
-    match given(rt, Segment::new(rt.alloc(), plan, ring, 2, 0))? {
+    match value_or_refusal(rt, Segment::new(rt.alloc(), plan, ring, 2, 0))? {
         Some(segment) => Ok(segment),
-        None => surely(Segment::new(rt.alloc(), plan, ring, 2, 0)),
+        None => retried(Segment::new(rt.alloc(), plan, ring, 2, 0)),
     }
 }
 
@@ -76,9 +76,9 @@ fn after<'a, R: AllocGlobal + Print>(
     requires places { 2 ≤ length ring.now.places }
     ensures { IfOk result (λ world. length world.segments ≡ 2) }
 {
-    match given(rt, replay(rt.alloc(), plan, ring, 2, events))? {
+    match value_or_refusal(rt, replay(rt.alloc(), plan, ring, 2, events))? {
         Some(world) => Ok(world),
-        None => surely(replay(rt.alloc(), plan, ring, 2, events)),
+        None => retried(replay(rt.alloc(), plan, ring, 2, events)),
     }
 }
 

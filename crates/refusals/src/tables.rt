@@ -1,6 +1,6 @@
 use crate::miss::Miss;
 use crate::plans::plan_of;
-use crate::tell::{beside, given, surely, tell_numbers};
+use crate::tell::{other_call, retried, tell_numbers, value_or_refusal};
 use round_eval::OpenGate;
 use shared_memo::Memo;
 use std::sync::Wait;
@@ -16,9 +16,9 @@ pub(crate) fn do_table_maker<R: AllocGlobal + Print>(rt: &R) -> Result<(), Miss>
     if shape.count(0) != 2 {
         return Err(Miss::Wrong);
     }
-    let mut maker = match given(rt, TableMaker::new(rt.alloc(), shape, 2))? {
+    let mut maker = match value_or_refusal(rt, TableMaker::new(rt.alloc(), shape, 2))? {
         Some(maker) => maker,
-        None => surely(TableMaker::new(rt.alloc(), shape, 2))?,
+        None => retried(TableMaker::new(rt.alloc(), shape, 2))?,
     };
     maker.push(0);
     maker.push(1);
@@ -36,14 +36,14 @@ pub(crate) fn do_compile<R: AllocGlobal + Print + Threads + Wait + Sync>(
 ) -> Result<(), Miss> {
     let alloc = rt.alloc();
     let plan = plan_of(alloc, CV1, 8)?;
-    let memo = beside(Memo::new(alloc, &plan))?;
-    let mut pass = beside(memo.pass(alloc))?;
+    let memo = other_call(Memo::new(alloc, &plan))?;
+    let mut pass = other_call(memo.pass(alloc))?;
     let answer = compile(rt, alloc, &plan, &memo, &mut pass, workers, &OpenGate);
-    let table = match given(rt, answer)? {
+    let table = match value_or_refusal(rt, answer)? {
         Some(table) => table,
         None => {
             let answer = compile(rt, alloc, &plan, &memo, &mut pass, workers, &OpenGate);
-            surely(answer)?
+            retried(answer)?
         }
     };
     tell_entries(rt, &table)
@@ -58,9 +58,9 @@ pub(crate) fn table_of<R: AllocGlobal + Threads + Wait + Sync>(
 ) -> Result<Table, Miss> {
     let alloc = rt.alloc();
     let plan = plan_of(alloc, text, ids)?;
-    let memo = beside(Memo::new(alloc, &plan))?;
-    let mut pass = beside(memo.pass(alloc))?;
-    beside(compile(rt, alloc, &plan, &memo, &mut pass, 1, &OpenGate))
+    let memo = other_call(Memo::new(alloc, &plan))?;
+    let mut pass = other_call(memo.pass(alloc))?;
+    other_call(compile(rt, alloc, &plan, &memo, &mut pass, 1, &OpenGate))
 }
 
 // Prints the entries of a table, in the order of their windows.

@@ -21,7 +21,7 @@ pub(crate) fn tell_numbers<R: Print>(rt: &R, numbers: &[u32]) -> Result<(), Miss
 
 /// Returns the value of a call. If it was refused memory or a thread, prints the refusal's name and
 /// returns `None`. Fails with `Wrong` for any other fault.
-pub(crate) fn given<R: Print, T: Drop, F: Refusal + Drop>(
+pub(crate) fn value_or_refusal<R: Print, T: Drop, F: Refusal + Drop>(
     rt: &R,
     answer: Result<T, F>,
 ) -> Result<Option<T>, Miss>
@@ -40,7 +40,7 @@ pub(crate) fn given<R: Print, T: Drop, F: Refusal + Drop>(
 }
 
 /// Returns the value of a call that is made a second time. Fails with `Wrong` if it has none.
-pub(crate) fn surely<T: Drop, F: Drop>(answer: Result<T, F>) -> Result<T, Miss>
+pub(crate) fn retried<T: Drop, F: Drop>(answer: Result<T, F>) -> Result<T, Miss>
     ensures { IfOk result (λ value. answer ≡ Ok value) }
 {
     match answer {
@@ -49,12 +49,12 @@ pub(crate) fn surely<T: Drop, F: Drop>(answer: Result<T, F>) -> Result<T, Miss>
     }
 }
 
-/// Returns the value of a call other than the row's own. Fails with `Beside` if it has none.
-pub(crate) fn beside<T: Drop, F: Drop>(answer: Result<T, F>) -> Result<T, Miss>
+/// Returns the value of a call other than the row's own. Fails with `OtherCall` if it has none.
+pub(crate) fn other_call<T: Drop, F: Drop>(answer: Result<T, F>) -> Result<T, Miss>
     ensures { IfOk result (λ value. answer ≡ Ok value) }
 {
     match answer {
         Ok(value) => Ok(value),
-        Err(_) => Err(Miss::Beside),
+        Err(_) => Err(Miss::OtherCall),
     }
 }

@@ -1,6 +1,6 @@
 use crate::miss::Miss;
 use crate::tables::table_of;
-use crate::tell::{given, surely, tell_numbers};
+use crate::tell::{retried, tell_numbers, value_or_refusal};
 use devices::watched::Watched;
 use nbhd_check::Separation;
 use std::io;
@@ -27,9 +27,9 @@ pub(crate) fn do_write_table<R: AllocGlobal + Print + Threads + Wait + Sync>(
     let table = table_of(rt, ID0, 2)?;
     let separation = Separation { near: 1, far: 0 };
     let mut writer = Watched::new(io::writer(rt));
-    if given(rt, write_table(alloc, &table, separation, &mut writer))?.is_none() {
+    if value_or_refusal(rt, write_table(alloc, &table, separation, &mut writer))?.is_none() {
         let mut writer = Watched::new(io::writer(rt));
-        surely(write_table(alloc, &table, separation, &mut writer))?;
+        retried(write_table(alloc, &table, separation, &mut writer))?;
     }
     Ok(())
 }

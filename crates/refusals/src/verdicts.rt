@@ -1,6 +1,6 @@
 use crate::miss::Miss;
 use crate::tables::table_of;
-use crate::tell::{given, surely, tell, tell_numbers};
+use crate::tell::{retried, tell, tell_numbers, value_or_refusal};
 use nbhd_check::{Separation, Verdict, judge, judge_with_workers};
 use std::sync::Wait;
 use std::thread::Threads;
@@ -16,9 +16,9 @@ pub(crate) fn do_judge<R: AllocGlobal + Print + Threads + Wait + Sync>(
 ) -> Result<(), Miss> {
     let alloc = rt.alloc();
     let table = table_of(rt, text, ids)?;
-    let verdict = match given(rt, judge(rt, alloc, &table, NEIGHBOURS_DIFFER))? {
+    let verdict = match value_or_refusal(rt, judge(rt, alloc, &table, NEIGHBOURS_DIFFER))? {
         Some(verdict) => verdict,
-        None => surely(judge(rt, alloc, &table, NEIGHBOURS_DIFFER))?,
+        None => retried(judge(rt, alloc, &table, NEIGHBOURS_DIFFER))?,
     };
     tell_verdict(rt, &verdict)
 }
@@ -32,12 +32,12 @@ pub(crate) fn do_judge_with_workers<R: AllocGlobal + Print + Threads + Wait + Sy
 ) -> Result<(), Miss> {
     let alloc = rt.alloc();
     let table = table_of(rt, text, ids)?;
-    let verdict = match given(
+    let verdict = match value_or_refusal(
         rt,
         judge_with_workers(rt, alloc, &table, NEIGHBOURS_DIFFER, workers),
     )? {
         Some(verdict) => verdict,
-        None => surely(judge_with_workers(rt, alloc, &table, NEIGHBOURS_DIFFER, workers))?,
+        None => retried(judge_with_workers(rt, alloc, &table, NEIGHBOURS_DIFFER, workers))?,
     };
     tell_verdict(rt, &verdict)
 }

@@ -1,5 +1,5 @@
 use crate::miss::Miss;
-use crate::tell::{beside, tell, tell_numbers};
+use crate::tell::{other_call, tell, tell_numbers};
 use std::alloc::Global;
 use std::io;
 use std::io::ErrorKind;
@@ -74,8 +74,8 @@ pub(crate) fn do_words_fault<R: AllocGlobal + Print>(rt: &R) -> Result<(), Miss>
 fn words_of(alloc: Global, line: &str) -> Result<Vec<String>, Miss> {
     let mut words = Vec::new(alloc);
     for word in line.split(' ') {
-        let word = beside(String::from_str(alloc, word))?;
-        beside(words.push(word))?;
+        let word = other_call(String::from_str(alloc, word))?;
+        other_call(words.push(word))?;
     }
     Ok(words)
 }
