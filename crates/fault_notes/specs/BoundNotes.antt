@@ -5,7 +5,7 @@ use Rattle.std.specs.Fmt.{decimal}
 use Rattle.node_lang.specs.Term.{ProgramTree}
 use Rattle.node_lang.specs.Bounds.{register_bounds}
 use Rattle.lang_check.specs.Acceptance.{register_over_channels}
-use Rattle.fault_notes.specs.VerdictNotes.{parted}
+use Rattle.fault_notes.specs.VerdictNotes.{joined}
 
 abbrev pub bounds_heading : ℕ → List ℕ
 bounds_heading j = codes "nbhd: bounds of r" ++ (decimal j ++ codes " after `start` and each round: ")
@@ -16,7 +16,7 @@ bounds_in_time p m j = map (λ r. slice_index (register_bounds p m r) j) (range_
 
 -- the line with the bounds of register j
 abbrev pub bounds_line : ProgramTree → ℕ → ℕ → List ℕ
-bounds_line p m j = bounds_heading j ++ (parted (codes " ") (bounds_in_time p m j) ++ codes "\n")
+bounds_line p m j = bounds_heading j ++ (joined (codes " ") (bounds_in_time p m j) ++ codes "\n")
 
 -- the line of a register, if there is one
 abbrev pub line_if_some : ProgramTree → ℕ → Option ℕ → List ℕ

@@ -5,8 +5,8 @@ use Rattle.win_index.specs.declared.ring.RingFault.{RingFault}
 use Rattle.win_index.specs.declared.ring.RingFault.TheVariants as ring
 
 -- the end of the note: advice if the last place repeats the first one
-abbrev pub closing : ℕ → ℕ → ℕ → List ℕ
-closing count first second = if (first == 0) && (second + 1 == count) then codes "; a ring closes by itself\n" else codes "\n"
+abbrev pub note_end : ℕ → ℕ → ℕ → List ℕ
+note_end count first second = if (first == 0) && (second + 1 == count) then codes "; a ring closes by itself\n" else codes "\n"
 
 -- the note on the fault of a list for m identifiers and t rounds
 abbrev pub ring_note : ℕ → ℕ → List ℕ → RingFault → List ℕ
@@ -17,7 +17,7 @@ ring_note m t x ring.TooLong =
 ring_note m t x (ring.IdTooLarge place) =
     codes "nbhd: place " ++ (decimal place ++ (codes " has the identifier " ++ (decimal (slice_index x place) ++ (codes "; of " ++ (decimal m ++ (codes " identifiers the largest is " ++ (decimal (m - 1) ++ codes "\n")))))))
 ring_note m t x (ring.Repeated first second) =
-    codes "nbhd: places " ++ (decimal first ++ (codes " and " ++ (decimal second ++ (codes " have the same identifier " ++ (decimal (slice_index x second) ++ closing (length x) first second)))))
+    codes "nbhd: places " ++ (decimal first ++ (codes " and " ++ (decimal second ++ (codes " have the same identifier " ++ (decimal (slice_index x second) ++ note_end (length x) first second)))))
 
 -- more segments than places
 abbrev pub segments_note : ℕ → ℕ → List ℕ

@@ -4,7 +4,7 @@ use Rattle.std.specs.Fmt.{decimal}
 use Rattle.source_places.specs.Shown.{marked_line}
 use Rattle.win_index.specs.Windows.{windows}
 use Rattle.fault_notes.specs.TextNotes.{place_head}
-use Rattle.fault_notes.specs.VerdictNotes.{parted}
+use Rattle.fault_notes.specs.VerdictNotes.{joined}
 
 -- a text that is too long
 abbrev pub long_note : List ℕ
@@ -17,7 +17,7 @@ pub record IsFormNote (text : List ℕ) (offset : ℕ) (note : List ℕ) : Type 
 
 -- a line that should have this window
 abbrev pub line_note : ℕ → List ℕ → List ℕ
-line_note line window = codes "nbhd: line " ++ (decimal line ++ (codes " is not the line of window " ++ (parted (codes " ") window ++ codes "\n")))
+line_note line window = codes "nbhd: line " ++ (decimal line ++ (codes " is not the line of window " ++ (joined (codes " ") window ++ codes "\n")))
 
 -- A line with another window: the window that it should have, for some numbers of rounds and of identifiers, or a note
 -- without it. The first window is on line 3.

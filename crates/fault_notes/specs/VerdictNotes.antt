@@ -5,13 +5,13 @@ use Rattle.std.specs.Fmt.{decimal}
 use Rattle.win_index.specs.Arcs.{window_around}
 
 -- numbers in decimal, separated by `between`
-abbrev pub parted : List ℕ → List ℕ → List ℕ
-parted between [] = []
-parted between (n ∷ ns) = decimal n ++ flat_map (λ m. between ++ decimal m) ns
+abbrev pub joined : List ℕ → List ℕ → List ℕ
+joined between [] = []
+joined between (n ∷ ns) = decimal n ++ flat_map (λ m. between ++ decimal m) ns
 
 -- whether the two places are neighbours
-abbrev pub nodes_text : ℕ × ℕ → List ℕ
-nodes_text places = if places.1 == places.0 + 1 then codes " the neighbours " else codes " the nodes at distance two "
+abbrev pub distance_text : ℕ × ℕ → List ℕ
+distance_text places = if places.1 == places.0 + 1 then codes " the neighbours " else codes " the nodes at distance two "
 
 -- the nodes at the two places
 abbrev pub pair_text : List ℕ → ℕ × ℕ → List ℕ
@@ -25,9 +25,9 @@ channels_text channels = if channels.0 == channels.1 then codes "channel " ++ de
 -- the windows of the two places
 abbrev pub windows_text : ℕ → List ℕ → ℕ × ℕ → List ℕ
 windows_text t ring places =
-    codes "; their windows are " ++ (parted (codes " ") (window_around ring t places.0) ++ (codes " and " ++ (parted (codes " ") (window_around ring t places.1) ++ codes "\n")))
+    codes "; their windows are " ++ (joined (codes " ") (window_around ring t places.0) ++ (codes " and " ++ (joined (codes " ") (window_around ring t places.1) ++ codes "\n")))
 
 -- the note that on this ring the nodes at two places have these channels; t is the number of rounds
 abbrev pub verdict_note : ℕ → List ℕ → ℕ × ℕ → ℕ × ℕ → List ℕ
 verdict_note t ring places channels =
-    codes "nbhd: on the ring " ++ (parted (codes ",") ring ++ (nodes_text places ++ (pair_text ring places ++ (channels_text channels ++ windows_text t ring places))))
+    codes "nbhd: on the ring " ++ (joined (codes ",") ring ++ (distance_text places ++ (pair_text ring places ++ (channels_text channels ++ windows_text t ring places))))

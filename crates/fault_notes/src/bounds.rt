@@ -3,9 +3,9 @@
 ghost use Rattle.std.specs.Prelude.{◌≡◌, ◌≤◌, ◌++◌, length, slice_index, codes, IfOk, OnOk, string_bytes};
 ghost use Rattle.node_lang.specs.Bounds as bounds;
 ghost use Rattle.fault_notes.specs.BoundNotes as notes;
-ghost use Rattle.fault_notes.specs.VerdictNotes.{parted};
+ghost use Rattle.fault_notes.specs.VerdictNotes.{joined};
 
-use crate::numbers::write_parted;
+use crate::numbers::write_joined;
 use lang_check::{bounds_after, register_over_channels};
 use node_lang::{MAX_REGISTERS, Program};
 use std::alloc::{AllocError, Global};
@@ -55,10 +55,10 @@ fn write_numbers(
     ids: u32,
     register: u32,
 ) -> Result<(), AllocError>
-    ensures { OnOk result (string_bytes out.new ≡ string_bytes out.old ++ parted (codes " ") (notes.bounds_in_time program.now ids register)) }
+    ensures { OnOk result (string_bytes out.new ≡ string_bytes out.old ++ joined (codes " ") (notes.bounds_in_time program.now ids register)) }
 {
     let bounds = bounds_in_time(alloc, program, ids, register)?;
-    write_parted(out, &bounds, " ")?;
+    write_joined(out, &bounds, " ")?;
     Ok(())
 }
 

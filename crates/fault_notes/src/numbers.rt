@@ -1,18 +1,18 @@
 //! Lists of numbers in notes.
 
 ghost use Rattle.std.specs.Prelude.{◌≡◌, ◌++◌, OnOk, string_bytes};
-ghost use Rattle.fault_notes.specs.VerdictNotes.{parted};
+ghost use Rattle.fault_notes.specs.VerdictNotes.{joined};
 
 use std::alloc::AllocError;
 use std::fmt::Write;
 
 // Writes numbers in decimal, separated by `between`.
-pub(crate) fn write_parted(
+pub(crate) fn write_joined(
     out: &mut String,
     numbers: &[u32],
     between: &str,
 ) -> Result<(), AllocError>
-    ensures { OnOk result (string_bytes out.new ≡ string_bytes out.old ++ parted between.now numbers.now) }
+    ensures { OnOk result (string_bytes out.new ≡ string_bytes out.old ++ joined between.now numbers.now) }
 {
     let [first, others @ ..] = numbers else {
         return Ok(());

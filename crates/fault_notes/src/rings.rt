@@ -3,7 +3,7 @@
 ghost use Rattle.std.specs.Prelude.{◌≡◌, ◌+◌, ◌*◌, ◌<◌, ◌≤◌, ◌^◌, length, IfOk, string_bytes};
 ghost use Rattle.win_index.specs.declared.limits.TheConstants.{MAX_ROUNDS};
 ghost use Rattle.win_index.specs.RingFaults.{IsFirstFault};
-ghost use Rattle.fault_notes.specs.RingNotes.{ring_note, segments_note, closing};
+ghost use Rattle.fault_notes.specs.RingNotes.{ring_note, segments_note, note_end};
 
 use std::alloc::{AllocError, Global};
 use win_index::RingFault;
@@ -60,7 +60,7 @@ fn repeated_note(
     ensures { IfOk result (λ note. string_bytes note ≡ ring_note 0 0 places.now (RingFault.Repeated first second)) }
 {
     let id = places[second as usize];
-    let end = closing(places.len(), first, second);
+    let end = note_end(places.len(), first, second);
     let note = format!(in alloc;
         "nbhd: places {first} and {second} have the same identifier {id}{end}"
     )?;
@@ -68,8 +68,8 @@ fn repeated_note(
 }
 
 // Returns the end of the note: advice if the last place repeats the first one.
-fn closing(count: usize, first: u32, second: u32) -> &'static str
-    ensures { result.now ≡ closing count first second }
+fn note_end(count: usize, first: u32, second: u32) -> &'static str
+    ensures { result.now ≡ note_end count first second }
 {
     if first == 0 && second as usize + 1 == count {
         return "; a ring closes by itself\n";

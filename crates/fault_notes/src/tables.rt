@@ -4,7 +4,7 @@ ghost use Rattle.std.specs.Prelude.{◌≡◌, ◌+◌, ◌-◌, ◌*◌, ◌<�
 ghost use Rattle.win_index.specs.Windows.{windows};
 ghost use Rattle.fault_notes.specs.TableNotes.{long_note, IsFormNote, IsWindowNote, line_note, channel_note};
 
-use crate::numbers::write_parted;
+use crate::numbers::write_joined;
 use crate::texts::write_head;
 use source_places::write_marked_line;
 use std::alloc::{AllocError, Global};
@@ -94,7 +94,7 @@ fn first_advice(text: &[u8]) -> &'static str {
 }
 
 // Returns the number after the first occurrence of this name in a text.
-fn number_behind(text: &[u8], name: &[u8]) -> Option<u32>
+fn number_after(text: &[u8], name: &[u8]) -> Option<u32>
     requires { 0 < length name.now }
 {
     let at = text.windows(name.len()).position(|part| part == name)?;
@@ -111,8 +111,8 @@ fn number_behind(text: &[u8], name: &[u8]) -> Option<u32>
 
 // Returns the shape that the first lines of a table text give.
 fn shape_of(text: &[u8]) -> Option<Shape> {
-    let rounds = number_behind(text, b"rounds ")?;
-    let ids = number_behind(text, b"ids ")?;
+    let rounds = number_after(text, b"rounds ")?;
+    let ids = number_after(text, b"ids ")?;
     if rounds > MAX_ROUNDS {
         return None;
     }
@@ -160,7 +160,7 @@ fn line_note(alloc: Global, line: u32, window: &[u32]) -> Result<String, AllocEr
 {
     let mut note = String::new(alloc);
     write!(note, "nbhd: line {line} is not the line of window ")?;
-    write_parted(&mut note, window, " ")?;
+    write_joined(&mut note, window, " ")?;
     note.push_str("\n")?;
     Ok(note)
 }

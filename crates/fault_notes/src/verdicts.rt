@@ -3,9 +3,9 @@
 ghost use Rattle.std.specs.Prelude.{◌≡◌, ◌++◌, ◌<◌, ◌≤◌, length, codes, IfOk, OnOk, string_bytes};
 ghost use Rattle.win_index.specs.Arcs.{window_around};
 ghost use Rattle.win_index.specs.declared.limits.TheConstants.{MAX_IDS, MAX_ROUNDS};
-ghost use Rattle.fault_notes.specs.VerdictNotes.{parted, nodes_text, pair_text, channels_text, windows_text, verdict_note};
+ghost use Rattle.fault_notes.specs.VerdictNotes.{joined, distance_text, pair_text, channels_text, windows_text, verdict_note};
 
-use crate::numbers::write_parted;
+use crate::numbers::write_joined;
 use std::alloc::{AllocError, Global};
 use std::fmt::Write;
 
@@ -27,8 +27,8 @@ pub fn verdict_note(
 {
     let mut note = String::new(alloc);
     note.push_str("nbhd: on the ring ")?;
-    write_parted(&mut note, ring, ",")?;
-    note.push_str(nodes_text(places))?;
+    write_joined(&mut note, ring, ",")?;
+    note.push_str(distance_text(places))?;
     write_pair(&mut note, ring, places)?;
     write_channels(&mut note, channels)?;
     write_windows(alloc, &mut note, rounds, ring, places)?;
@@ -36,9 +36,9 @@ pub fn verdict_note(
 }
 
 // Returns the text that says whether the two places are neighbours.
-fn nodes_text(places: (u32, u32)) -> &'static str
+fn distance_text(places: (u32, u32)) -> &'static str
     requires { places.0 < MAX_IDS }
-    ensures { result.now ≡ nodes_text places }
+    ensures { result.now ≡ distance_text places }
 {
     let (first, second) = places;
     if second == first + 1 {
@@ -100,10 +100,10 @@ fn write_window(
     requires long { rounds ≤ length ring.now }
     requires few { length ring.now ≤ MAX_IDS }
     requires place { place < length ring.now }
-    ensures { OnOk result (string_bytes out.new ≡ string_bytes out.old ++ parted (codes " ") (window_around ring.now rounds place)) }
+    ensures { OnOk result (string_bytes out.new ≡ string_bytes out.old ++ joined (codes " ") (window_around ring.now rounds place)) }
 {
     let window = window_of(alloc, rounds, ring, place)?;
-    write_parted(out, &window, " ")?;
+    write_joined(out, &window, " ")?;
     Ok(())
 }
 

@@ -26,7 +26,7 @@ pub(crate) fn word_len(text: &[u8]) -> usize
 
 // Returns the first `count` bytes, or all if there are fewer.
 #[tactic(auto, using(std::proofs::lemmas::List::take_all))]
-fn front_of(text: &[u8], count: usize) -> &[u8]
+fn prefix_of(text: &[u8], count: usize) -> &[u8]
     ensures { result.now ≡ take count text.entry.now }
 {
     if text.len() <= count {
@@ -41,9 +41,9 @@ pub(crate) fn first_word(text: &[u8]) -> &[u8]
 {
     let len = word_len(text);
     if len == 0 {
-        return front_of(text, 1);
+        return prefix_of(text, 1);
     }
-    front_of(text, len)
+    prefix_of(text, len)
 }
 
 // Writes the text for what can follow.
