@@ -35,11 +35,11 @@ parts_of_ring_text parts text same ring =
     subst IsNumber (get_or-map (λ part. part.now) parts k d d.now within) (each k d.now within')
 
 -- a result that is Ok only if P holds, and BadRing only if P fails, decides P
-pub told_apart : {T : Type 0} (r : Result T WordsFault) (P : Type 0) → OnOk r P
+pub decided : {T : Type 0} (r : Result T WordsFault) (P : Type 0) → OnOk r P
     → IfErr r (λ fault. (fault ≡ OutOfMemory) ⊎ ((fault ≡ BadRing) × ¬ P))
     → MemoryAside r (IsOk r ↔ P) × MemoryAside r (IsErrOf r BadRing ↔ ¬ P)
-told_apart (Ok x) P good bad = (λ aside. (λ ok. good, λ p. refl), λ aside. (λ is. cc, λ not_p. absurd (not_p good)))
-told_apart (Err e) P good bad =
+decided (Ok x) P good bad = (λ aside. (λ ok. good, λ p. refl), λ aside. (λ is. cc, λ not_p. absurd (not_p good)))
+decided (Err e) P good bad =
     elim bad [
       | inl none ↦ (λ aside. absurd (aside (ap Err none)), λ aside. absurd (aside (ap Err none)))
       | inr b ↦ (λ aside. (λ is. cc, λ p. absurd (b.1 p)), λ aside. (λ is. b.1, λ not_p. ap Err b.0))

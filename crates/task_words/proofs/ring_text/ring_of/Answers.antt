@@ -2,7 +2,7 @@ use Rattle.std.proofs.Common.{◌≡◌, ◌⊎◌, map, ap, ◌∙◌, inl, inr
 use Rattle.std.proofs.lemmas.Result.{IfOk-weaker, IfErr-weaker}
 use Rattle.task_words.specs.RingText.{parts_of, IsRingText}
 use Rattle.task_words.specs.declared.words.WordsFault.TheVariants.{BadRing, OutOfMemory}
-use Rattle.task_words.proofs.Parts.{ring_text_of_parts, parts_of_ring_text, told_apart}
+use Rattle.task_words.proofs.Parts.{ring_text_of_parts, parts_of_ring_text, decided}
 use Rattle.task_words.proofs.ring_text.ring_of.Goals as goal
 
 -- The parts that were read are those of the text.
@@ -17,7 +17,7 @@ returns c =
       | inl none ↦ inl none
       | inr bad ↦ inr (bad.0, λ ring. bad.1 (parts_of_ring_text c.deref.result.now c.args.text.now same ring))
     ]) c.numbers.ensures.refused in
-    let told = told_apart c.numbers.result (IsRingText c.args.text.now) good bad in
+    let told = decided c.numbers.result (IsRingText c.args.text.now) good bad in
     record {
       ring = ring;
       ok = told.0;
