@@ -8,7 +8,7 @@ use Rattle.std.proofs.lemmas.List.Quantifiers.{all_pairs_push}
 use Rattle.win_index.specs.Windows.{IsWindow}
 use Rattle.table_fill.specs.Tables.{ChannelTable}
 use Rattle.nbhd_check.specs.Counts.{shared_len, middle_of}
-use Rattle.nbhd_check.proofs.Fronts.{window_turned, window_drop}
+use Rattle.nbhd_check.proofs.Prefixes.{window_turned, window_drop}
 
 -- a list by its last two elements
 pub by_last : (n : ℕ) (list : List ℕ) → length list ≡ n + 2 → list ≡ take n list ++ get_or list n 0 ∷ get_or list (n + 1) 0 ∷ []

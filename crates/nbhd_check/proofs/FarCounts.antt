@@ -13,7 +13,7 @@ use Rattle.nbhd_check.specs.Laws.{WindowsAreNumbered}
 use Rattle.nbhd_check.specs.Runs.{BeginsFarTuple}
 use Rattle.nbhd_check.proofs.Close.{close_along}
 use Rattle.nbhd_check.proofs.Ends.{by_last}
-use Rattle.nbhd_check.proofs.Fronts.{window_take, window_drop, window_at, one_number}
+use Rattle.nbhd_check.proofs.Prefixes.{window_take, window_drop, window_at, one_number}
 use Rattle.nbhd_check.proofs.Included.{none_without}
 use Rattle.nbhd_check.proofs.Runs.{channel_at}
 

@@ -14,7 +14,7 @@ use Rattle.nbhd_check.specs.Laws.{WindowsAreNumbered}
 use Rattle.nbhd_check.specs.Runs.{BeginsFarTuple}
 use Rattle.nbhd_check.proofs.Cells.{row_more}
 use Rattle.nbhd_check.proofs.Ends.{by_first}
-use Rattle.nbhd_check.proofs.Fronts.{number_of_window, one_number, window_at, window_drop, in_longer_run, one_run}
+use Rattle.nbhd_check.proofs.Prefixes.{number_of_window, one_number, window_at, window_drop, in_longer_run, one_run}
 use Rattle.nbhd_check.proofs.RunLengths.{falling-add}
 
 -- windows that pass one test or the other

@@ -1,7 +1,7 @@
 pub mod Cells
 pub mod Close
 pub mod Ends
-pub mod Fronts
+pub mod Prefixes
 pub mod GapPlaces
 pub mod EnoughParts
 pub mod HeldCounts

@@ -9,7 +9,7 @@ use Rattle.nbhd_check.specs.Apart.{AreClose, IsBad, IsApart, IsApartEverywhere}
 use Rattle.nbhd_check.specs.Laws.{OneApartIsProper, OneApartIsGood}
 use Rattle.nbhd_check.specs.Proper.{IsProper, IsGoodEverywhere}
 use Rattle.nbhd_check.proofs.Close.{apart_not_close, apart_of_not_close, some_distance, same_of_close, close_of_same, some_of_apart}
-use Rattle.nbhd_check.proofs.Fronts.{window_take}
+use Rattle.nbhd_check.proofs.Prefixes.{window_take}
 use Rattle.nbhd_check.proofs.Tuples.{channel_some}
 
 -- no channels are closer than 0

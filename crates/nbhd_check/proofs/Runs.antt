@@ -16,7 +16,7 @@ use Rattle.nbhd_check.specs.FarSearch.{AreFarFree}
 use Rattle.nbhd_check.specs.Runs.{run_len, AreFree, BeginsBadTuple, BeginsFarTuple, NoneCloseAfter, AreChannelsAfter, HasCloseOutside, place_of_last}
 use Rattle.nbhd_check.proofs.Close.{close_along}
 use Rattle.nbhd_check.proofs.Tuples.{two_of_far}
-use Rattle.nbhd_check.proofs.Fronts.{number_of_window, one_number, window_take, window_drop, window_turned, one_run, in_run, in_longer_run, same_from_place, window_at}
+use Rattle.nbhd_check.proofs.Prefixes.{number_of_window, one_number, window_take, window_drop, window_turned, one_run, in_run, in_longer_run, same_from_place, window_at}
 
 -- the identifiers of a list without the first ones, followed by one of these
 turned_front : (k m offset i : ℕ) (list : List ℕ) → IsWindow (k + offset) m list → take k (drop offset list ++ get_or list i 0 ∷ []) ≡ drop offset list

@@ -10,7 +10,7 @@ use Rattle.nbhd_check.specs.Apart.{extra, tuples, AreClose, IsBad, IsApart, IsAp
 use Rattle.nbhd_check.specs.Laws.{TuplesSuffice, BadTuplesAreRings, OneWitness, ApartTablesHaveNoWitness}
 use Rattle.nbhd_check.specs.Verdicts.{IsStep, IsWitness}
 use Rattle.nbhd_check.proofs.Close.{apart_not_close, apart_of_not_close, some_distance, close_along}
-use Rattle.nbhd_check.proofs.Fronts.{some_number}
+use Rattle.nbhd_check.proofs.Prefixes.{some_number}
 
 -- a window has a channel
 pub channel_some : (t : ChannelTable) (window : List ℕ) → WindowsHaveNumbers → IsWindow (2 * t.rounds + 1) t.ids window → IsSome (channel_of t window)

@@ -2,7 +2,7 @@
 use Rattle.std.specs.Prelude.{◌≡◌, ℕ, ◌+◌, ◌*◌, ◌/◌, ◌<◌, ◌≤◌, List, length, drop, slice_get, slice_index, Some}
 use Rattle.table_fill.specs.Tables.{ChannelTable, windows_of}
 use Rattle.nbhd_check.specs.declared.far_parts.Searcher.{Searcher}
-use Rattle.nbhd_check.specs.declared.far_parts.TheConstants.{MOST_FAR_PARTS}
+use Rattle.nbhd_check.specs.declared.far_parts.TheConstants.{MAX_FAR_PARTS}
 use Rattle.nbhd_check.specs.Counts.{shared_lists, CountsFit}
 use Rattle.nbhd_check.specs.Runs.{BeginsFarTuple}
 
@@ -22,9 +22,9 @@ abbrev pub HasBlockIn : ChannelTable → ℕ → ℕ → List ℕ → Type 0
 HasBlockIn t low high window =
     (block : ℕ) × (low ≤ block) × (block < high) × (slice_get (shared_lists t) block ≡ Some (drop 2 window))
 
--- the number of blocks of a part: all blocks are in MOST_FAR_PARTS parts, of which the last can have fewer or none
+-- the number of blocks of a part: all blocks are in MAX_FAR_PARTS parts, of which the last can have fewer or none
 abbrev pub blocks_per_part : ChannelTable → ℕ
-blocks_per_part t = length (shared_lists t) / MOST_FAR_PARTS + 1
+blocks_per_part t = length (shared_lists t) / MAX_FAR_PARTS + 1
 
 -- a searcher's counts fit the table; for each part, none of the windows below its number there that have a block in the
 -- part begins a tuple whose third window is closer than the distance

@@ -1,7 +1,7 @@
 // Windows that begin no tuple whose third window is too close, found by counts. For a list z of
 // identifiers, the third windows of the tuples that begin with (a, b, z) are the windows that begin
 // with z and hold neither a nor b.
-ghost use Rattle.std.specs.Prelude.{◌≡◌, ◌≢◌, ℕ, ◌+◌, ◌-◌, ◌*◌, ◌<◌, ◌≤◌, ◌↔◌, ◌⊎◌, [], ◌∷◌, ◌++◌, List, Some, IsTrue, Contains, length, take, drop, slice_get, slice_index};
+ghost use Rattle.std.specs.Prelude.{◌≡◌, ◌≢◌, ℕ, ◌+◌, ◌-◌, ◌*◌, ◌<◌, ◌≤◌, ◌↔◌, ◌⊎◌, [], ◌∷◌, ◌++◌, List, Some, IsTrue, length, take, drop, slice_get, slice_index};
 ghost use Rattle.std.specs.Int.{abs_diff};
 ghost use Rattle.std.specs.Bool.{OnFalse};
 ghost use Rattle.win_index.specs.Falling.{falling};
@@ -14,7 +14,7 @@ ghost use Rattle.nbhd_check.specs.Runs.{BeginsFarTuple};
 use crate::counts::{Counts, close_count, count_block};
 use crate::laws::numbers_of_windows;
 use crate::part::window_count;
-use crate::tuple::channel_of_window;
+use crate::tuple::{channel_of_window, contains};
 use table_fill::Table;
 use win_index::{count_of_windows, windows_are_in_order};
 
@@ -45,7 +45,7 @@ pub(crate) fn far_free_in_block(
             return least;
         }
         set_first(list, first);
-        least = far_free_from(table, counts, list, distance, least);
+        least = far_free_with_first(table, counts, list, distance, least);
     }
     least
 }
@@ -66,7 +66,7 @@ fn start_of(table: &Table, first: u32) -> u64
 }
 
 // Like `far_free_in_block`, for the windows that also begin with the first identifier of `list`.
-fn far_free_from(
+fn far_free_with_first(
     table: &Table,
     counts: &mut Counts,
     list: &mut [u32],
@@ -91,14 +91,14 @@ fn far_free_from(
     let mut least = least;
     for second in 0..table.shape().ids() {
         set_second(list, second);
-        least = far_free_with(table, counts, list, distance, least);
+        least = far_free_with_prefix(table, counts, list, distance, least);
     }
     least
 }
 
 // Like `far_free_in_block`, for the window at the start of `list`. Returns `least` if its
 // identifiers are not distinct.
-fn far_free_with(
+fn far_free_with_prefix(
     table: &Table,
     counts: &mut Counts,
     list: &mut [u32],
@@ -123,7 +123,7 @@ fn far_free_with(
     if !begins_with_window(table, list) {
         return least;
     }
-    far_free_at(table, counts, list, distance, least)
+    far_free_at_window(table, counts, list, distance, least)
 }
 
 // Returns whether the list begins with a window.
@@ -139,21 +139,14 @@ fn begins_with_window(table: &Table, list: &[u32]) -> bool
     if list[0] == list[1] {
         return false;
     }
-    if stands_in(middle, list[0]) {
+    if contains(middle, list[0]) {
         return false;
     }
-    !stands_in(middle, list[1])
-}
-
-// Returns whether the list contains the identifier.
-fn stands_in(list: &[u32], id: u32) -> bool
-    ensures { IsTrue result ↔ Contains list.now id }
-{
-    list.contains(&id)
+    !contains(middle, list[1])
 }
 
 // Like `far_free_in_block`, for the window at the start of `list`.
-fn far_free_at(
+fn far_free_at_window(
     table: &Table,
     counts: &mut Counts,
     list: &mut [u32],

@@ -16,7 +16,7 @@ use table_fill::Table;
 use win_index::MAX_TUPLE_LEN;
 
 /// The maximum number of parts of the blocks.
-pub(crate) const MOST_FAR_PARTS: usize = 64;
+pub(crate) const MAX_FAR_PARTS: usize = 64;
 
 /// The counts of one thread, and what it has found.
 #[derive(Drop)]
@@ -24,7 +24,7 @@ pub(crate) struct Searcher {
     counts: Counts,
     // For each part a number of windows: none of the windows below it with a block in the part
     // begins such a tuple. It is 0 for a part that was not searched.
-    free: [u32; MOST_FAR_PARTS],
+    free: [u32; MAX_FAR_PARTS],
 }
 
 /// Allocates one searcher per thread. Fails with `OutOfMemory` if memory was refused.
@@ -59,15 +59,15 @@ fn fresh_searcher(
     ensures { IfOk result (IsSearcherOf table.now distance) }
 {
     let counts = Counts::new(alloc, table, limit)?;
-    let free = nothing_found();
+    let free = zero_counts();
     Ok(Searcher { counts, free })
 }
 
 // Returns 0 for each part.
-fn nothing_found() -> [u32; MOST_FAR_PARTS]
+fn zero_counts() -> [u32; MAX_FAR_PARTS]
     ensures { (part : ℕ) → slice_index result part ≡ 0 }
 {
-    [0; MOST_FAR_PARTS]
+    [0; MAX_FAR_PARTS]
 }
 
 /// Returns a number of windows, at most `least`, such that none of the windows below it begins a
@@ -130,9 +130,9 @@ fn search_drawn(
     requires searcher { IsSearcherOf table.now distance searcher.old }
     ensures { IsSearcherOf table.now distance searcher.new }
 {
-    for _draw in 0..MOST_FAR_PARTS {
+    for _draw in 0..MAX_FAR_PARTS {
         let part = next.fetch_add(1, Ordering::SeqCst);
-        if part >= MOST_FAR_PARTS {
+        if part >= MAX_FAR_PARTS {
             return;
         }
         let least = best.load(Ordering::SeqCst);
@@ -160,7 +160,7 @@ fn least_of_parts(
 {
     numbers_of_windows();
     let mut least = least;
-    for part in 0..MOST_FAR_PARTS {
+    for part in 0..MAX_FAR_PARTS {
         let free = found_free(table, distance, searchers, part);
         least = if free > 0 {
             least.min(free)
@@ -173,7 +173,7 @@ fn least_of_parts(
 
 // Returns the greatest number that a searcher has found for this part, 0 if none has searched it.
 fn found_free(table: &Table, distance: u32, searchers: &[Searcher], part: usize) -> u32
-    requires part { part < MOST_FAR_PARTS }
+    requires part { part < MAX_FAR_PARTS }
     requires searchers { All (IsSearcherOf table.now distance) searchers.now }
     ensures { AreFarFreeIn table.now distance result
         (HasBlockIn table.now (part * blocks_per_part table.now) (part * blocks_per_part table.now + blocks_per_part table.now)) }
@@ -195,7 +195,7 @@ fn far_free_in_part(
 ) -> u32
     requires some { 1 ≤ table.now.rounds }
     requires distance { 1 ≤ distance }
-    requires part { part < MOST_FAR_PARTS }
+    requires part { part < MAX_FAR_PARTS }
     requires fit { CountsFit table.now counts.old }
     ensures fit { CountsFit table.now counts.new }
     ensures less { result ≤ least }
@@ -204,7 +204,7 @@ fn far_free_in_part(
 {
     numbers_of_windows();
     let blocks = block_count(table) as usize;
-    let each = blocks / MOST_FAR_PARTS + 1;
+    let each = blocks / MAX_FAR_PARTS + 1;
     let low = (part * each).min(blocks);
     let mut cells = [0; MAX_TUPLE_LEN];
     let list = &mut cells[..2 * table.shape().rounds() as usize + 3];

@@ -25,13 +25,13 @@ fn has_close(list: &[u16], distance: u32, channel: u16) -> bool
     ensures { IsTrue result ↔ HasClose list.now distance channel }
 {
     if distance == 1 {
-        return stands_in(list, channel);
+        return contains(list, channel);
     }
     has_closer(list, distance, channel)
 }
 
 // Returns whether the list contains the channel.
-fn stands_in(list: &[u16], channel: u16) -> bool
+fn contains(list: &[u16], channel: u16) -> bool
     ensures { IsTrue result ↔ Contains list.now channel }
 {
     list.contains(&channel)

@@ -5,7 +5,7 @@ ghost use Rattle.nbhd_check.specs.Runs.{AreFree};
 ghost use Rattle.nbhd_check.specs.Searches.{IsLeastIn};
 
 use crate::counts::{Counts, channel_limit};
-use crate::far_parts::{MOST_FAR_PARTS, far_free_windows, searchers};
+use crate::far_parts::{MAX_FAR_PARTS, far_free_windows, searchers};
 use crate::laws::numbers_of_windows;
 use crate::part::{judge_part, run_len, window_count};
 use crate::parts::least_by_runs;
@@ -55,7 +55,7 @@ fn free_windows<R: Threads + Sync>(
     let more = if threads < 2 {
         0
     } else {
-        threads.min(MOST_FAR_PARTS as u64)
+        threads.min(MAX_FAR_PARTS as u64)
     };
     let mut searchers = searchers(alloc, table, separation.far, limit, more as usize).ok()?;
     let near = near_free_windows(rt, table, separation.near, threads);

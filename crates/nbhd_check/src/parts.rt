@@ -14,13 +14,13 @@ use std::thread::Threads;
 use table_fill::Table;
 
 // The minimum number of tuples of a part, except the last one.
-const LEAST_PART: u64 = 1 << 16;
+const MIN_PART_LEN: u64 = 1 << 16;
 
 // The maximum number of parts.
-pub(crate) const MOST_PARTS: usize = 64;
+pub(crate) const MAX_PARTS: usize = 64;
 
 // For each part, whether it is known to have no bad tuple.
-type Marks = [bool; MOST_PARTS];
+type Marks = [bool; MAX_PARTS];
 
 // Returns the least number of a bad tuple, by at most `most` threads.
 pub(crate) fn least_by_runs<R: Threads + Sync>(
@@ -37,13 +37,13 @@ pub(crate) fn least_by_runs<R: Threads + Sync>(
 // Returns the number of tuples of a part, which is that of whole runs.
 fn part_len(table: &Table, separation: Separation) -> u64
     ensures some { 0 < result }
-    ensures enough { length (tuples table.now separation) ≤ MOST_PARTS * result }
+    ensures enough { length (tuples table.now separation) ≤ MAX_PARTS * result }
 {
     let windows = u64::from(window_count(table));
     let free = run_len(table, separation).max(1);
     windows
-        .div_ceil(MOST_PARTS as u64)
-        .max(LEAST_PART.div_ceil(free))
+        .div_ceil(MAX_PARTS as u64)
+        .max(MIN_PART_LEN.div_ceil(free))
         * free
 }
 
@@ -57,7 +57,7 @@ pub(crate) fn least_by_parts<R: Threads + Sync>(
     most: u64,
 ) -> Option<u64>
     requires some { 0 < len }
-    requires enough { length (tuples table.now separation) ≤ MOST_PARTS * len }
+    requires enough { length (tuples table.now separation) ≤ MAX_PARTS * len }
     ensures { IsLeastIn table.now separation 0 (length (tuples table.now separation)) result }
 {
     let parts = tuple_count(table, separation).div_ceil(len);
@@ -65,7 +65,7 @@ pub(crate) fn least_by_parts<R: Threads + Sync>(
     let marks = if threads < 2 {
         no_marks(table, separation, len)
     } else {
-        judged_by(
+        judge_parts(
             rt,
             table,
             separation,
@@ -81,7 +81,7 @@ pub(crate) fn least_by_parts<R: Threads + Sync>(
 // Returns marks of parts that have no bad tuple. Each of `threads` threads judges the parts that it
 // draws, and this thread waits for them.
 #[cycle(threads)]
-fn judged_by<R: Threads + Sync>(
+fn judge_parts<R: Threads + Sync>(
     rt: &R,
     table: &Table,
     separation: Separation,
@@ -90,7 +90,7 @@ fn judged_by<R: Threads + Sync>(
     next: &AtomicUsize,
     threads: u64,
 ) -> Marks
-    requires few { parts ≤ MOST_PARTS }
+    requires few { parts ≤ MAX_PARTS }
     requires begin { (part : ℕ) → part < parts → part * len < length (tuples table.now separation) }
     ensures { AreGoodParts table.now separation len result }
 {
@@ -100,13 +100,13 @@ fn judged_by<R: Threads + Sync>(
     let (own, others) = join(
         rt,
         move || -> Marks
-            requires { (parts ≤ MOST_PARTS) × ((part : ℕ) → part < parts → part * len < length (tuples table.now separation)) }
+            requires { (parts ≤ MAX_PARTS) × ((part : ℕ) → part < parts → part * len < length (tuples table.now separation)) }
             ensures { AreGoodParts table.entry.now separation len result }
         { draw_parts(table, separation, len, parts, next) },
         move || -> Marks
-            requires { IsSync R.row × (0 < threads) × (parts ≤ MOST_PARTS) × ((part : ℕ) → part < parts → part * len < length (tuples table.now separation)) }
+            requires { IsSync R.row × (0 < threads) × (parts ≤ MAX_PARTS) × ((part : ℕ) → part < parts → part * len < length (tuples table.now separation)) }
             ensures { AreGoodParts table.entry.now separation len result }
-        { judged_by(rt, table, separation, len, parts, next, threads - 1) },
+        { judge_parts(rt, table, separation, len, parts, next, threads - 1) },
     );
     marked_in_either(table, separation, len, own, &others)
 }
@@ -115,7 +115,7 @@ fn judged_by<R: Threads + Sync>(
 fn no_marks(table: &Table, separation: Separation, len: u64) -> Marks
     ensures { AreGoodParts table.now separation len result }
 {
-    [false; MOST_PARTS]
+    [false; MAX_PARTS]
 }
 
 // Draws parts and judges them, until none is left or one has a bad tuple; then no thread draws
@@ -128,7 +128,7 @@ fn draw_parts(
     parts: usize,
     next: &AtomicUsize,
 ) -> Marks
-    requires few { parts ≤ MOST_PARTS }
+    requires few { parts ≤ MAX_PARTS }
     requires begin { (part : ℕ) → part < parts → part * len < length (tuples table.now separation) }
     ensures { AreGoodParts table.now separation len result }
 {
@@ -159,7 +159,7 @@ fn marked_in_either(
     requires other { AreGoodParts table.now separation len other.now }
     ensures { AreGoodParts table.entry.now separation len result }
 {
-    for part in 0..MOST_PARTS {
+    for part in 0..MAX_PARTS {
         if other[part] {
             marks[part] = true;
         }
@@ -176,7 +176,7 @@ fn least_unmarked(
     parts: usize,
     marks: &Marks,
 ) -> Option<u64>
-    requires few { parts ≤ MOST_PARTS }
+    requires few { parts ≤ MAX_PARTS }
     requires begin { (part : ℕ) → part < parts → part * len < length (tuples table.now separation) }
     requires all { length (tuples table.now separation) ≤ parts * len }
     requires marks { AreGoodParts table.now separation len marks.now }

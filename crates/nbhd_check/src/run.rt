@@ -1,6 +1,6 @@
 // The tuples that begin with one window. Their second windows are one run of windows except a gap,
 // and their third windows, after each second one, are one run except two gaps.
-ghost use Rattle.std.specs.Prelude.{◌≡◌, ℕ, ◌+◌, ◌*◌, ◌<◌, ◌≤◌, [], ◌∷◌, ◌++◌, ◌↔◌, IsTrue, Some, Contains, length, drop, slice_get, slice_index};
+ghost use Rattle.std.specs.Prelude.{◌≡◌, ℕ, ◌+◌, ◌*◌, ◌<◌, ◌≤◌, [], ◌∷◌, ◌++◌, Some, Contains, length, drop, slice_get, slice_index};
 ghost use Rattle.std.specs.Bool.{OnFalse};
 ghost use Rattle.win_index.specs.Windows.{IsWindow};
 ghost use Rattle.table_fill.specs.Tables.{windows_of};
@@ -9,6 +9,7 @@ ghost use Rattle.nbhd_check.specs.Runs.{BeginsBadTuple, BeginsFarTuple, NoneClos
 use crate::gaps::has_close_outside;
 use crate::laws::numbers_of_windows;
 use crate::separation::Separation;
+use crate::tuple::contains;
 use table_fill::Table;
 use win_index::{MAX_TUPLE_LEN, place_among_unused};
 
@@ -64,18 +65,11 @@ fn may_be_close_at_two(table: &Table, window: &[u32], distance: u32, channel: u1
         return false;
     }
     for id in 0..table.shape().ids() {
-        if !stands_in(window, id) && may_be_close_with(table, window, id, distance, channel) {
+        if !contains(window, id) && may_be_close_with(table, window, id, distance, channel) {
             return true;
         }
     }
     false
-}
-
-// Returns whether the list contains the identifier.
-fn stands_in(list: &[u32], id: u32) -> bool
-    ensures { IsTrue result ↔ Contains list.now id }
-{
-    list.contains(&id)
 }
 
 // Like `may_be_close_at_two`, for the lists that begin with this window and this identifier.

@@ -1,7 +1,7 @@
 mod parts;
 mod walks;
 
-use crate::parts::{MOST_PARTS, least_by_parts};
+use crate::parts::{MAX_PARTS, least_by_parts};
 use crate::tuple::tuple_count;
 use crate::{Separation, Verdict, judge, judge_part};
 use std::alloc::{AllocError, Global};
@@ -41,7 +41,7 @@ fn table_of_identifiers(rt: &impl Abort, alloc: Global, channels: &[u32]) -> Res
 }
 
 // Returns the middle identifiers of all windows.
-fn middles(alloc: Global, shape: Shape) -> Result<Vec<u32>, AllocError> {
+fn middle_ids(alloc: Global, shape: Shape) -> Result<Vec<u32>, AllocError> {
     let level = shape.rounds();
     let mut channels = Vec::new(alloc);
     let mut cells = [0; MAX_WINDOW_LEN];
@@ -62,7 +62,7 @@ fn table_of_middles(
     changed: usize,
     channel: u32,
 ) -> Result<Table, Fail> {
-    let mut channels = middles(alloc, shape)?;
+    let mut channels = middle_ids(alloc, shape)?;
     assert!(rt; changed < channels.len());
     channels[changed] = channel;
     table_of(rt, alloc, shape, shape.ids(), &channels)
@@ -77,7 +77,7 @@ fn least_in_parts<R: Abort + Threads + Sync>(
     len: u64,
     threads: u64,
 ) -> Option<u64> {
-    let most = MOST_PARTS as u64;
+    let most = MAX_PARTS as u64;
     let count = tuple_count(table, separation);
     let len = len.max(count.div_ceil(most));
     assert!(rt; 0 < len && len <= 1 << 32 && count <= most * len);

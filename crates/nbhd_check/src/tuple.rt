@@ -1,5 +1,5 @@
 // Tuples, one by one.
-ghost use Rattle.std.specs.Prelude.{◌≡◌, ℕ, List, ◌+◌, ◌*◌, ◌<◌, ◌≤◌, ◌↔◌, ◌⊎◌, IsTrue, MatchOption, Some, length, slice_get};
+ghost use Rattle.std.specs.Prelude.{◌≡◌, ℕ, List, ◌+◌, ◌*◌, ◌<◌, ◌≤◌, ◌↔◌, ◌⊎◌, IsTrue, Contains, MatchOption, Some, length, slice_get};
 ghost use Rattle.win_index.specs.declared.limits.TheConstants.{MAX_EXTRA};
 ghost use Rattle.win_index.specs.Windows.{IsWindow};
 ghost use Rattle.win_index.specs.Arcs.{part_at};
@@ -134,4 +134,11 @@ pub(crate) fn channel_of_window(table: &Table, window: &[u32]) -> u32
 {
     let shape = table.shape();
     table.entry(shape.window_number(shape.rounds(), window))
+}
+
+// Returns whether the list contains the identifier.
+pub(crate) fn contains(list: &[u32], id: u32) -> bool
+    ensures { IsTrue result ↔ Contains list.now id }
+{
+    list.contains(&id)
 }

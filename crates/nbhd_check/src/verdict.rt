@@ -111,7 +111,7 @@ fn no(
     let step = broken_step(table, separation, tuple);
     let first = channel_from(table, separation, tuple, 0);
     let second = channel_from(table, separation, tuple, step as usize);
-    let ring = copied(alloc, tuple)?;
+    let ring = to_vec(alloc, tuple)?;
     let place = table.shape().rounds();
     Ok(Verdict::No {
         ring,
@@ -137,7 +137,7 @@ fn broken_step(table: &Table, separation: Separation, tuple: &[u32]) -> u32
     }
 }
 
-fn copied(alloc: Global, list: &[u32]) -> Result<Vec<u32>, OutOfMemory>
+fn to_vec(alloc: Global, list: &[u32]) -> Result<Vec<u32>, OutOfMemory>
     ensures { IfOk result (λ copy. copy.items ≡ list.now) }
 {
     list.to_vec(alloc).map_err(|_| OutOfMemory)

@@ -145,7 +145,7 @@ fn ring_of(verdict: &Verdict) -> Option<&[u32]> {
 
 // There are 1,047,552 tuples, in runs of 1,023. A part has 65 runs.
 #[test]
-fn as_many_workers_as_one_likes(rt: HostRuntime) -> Result<(), Fail> {
+fn any_number_of_workers(rt: HostRuntime) -> Result<(), Fail> {
     let rows: [(&[(usize, u32)], Option<&[u32]>); 10] = [
         (&[], None),
         (&[(65, 64)], Some(&[64, 65])),

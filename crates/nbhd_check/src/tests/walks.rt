@@ -44,7 +44,11 @@ fn random_table(
 }
 
 // Returns the places at which a tuple breaks the separation, and their channels.
-fn broken(table: &Table, separation: Separation, tuple: &[u32]) -> Option<((u32, u32), (u32, u32))>
+fn violation_in(
+    table: &Table,
+    separation: Separation,
+    tuple: &[u32],
+) -> Option<((u32, u32), (u32, u32))>
     requires { 2 * table.now.rounds + 2 ≤ length tuple.now }
 {
     let place = table.shape().rounds();
@@ -70,7 +74,7 @@ fn first_bad_tuple(
     let len = tuple_len(table, separation);
     for number in 0..tuple_count(table, separation) {
         write_tuple(table, separation, number, &mut cells[..len]);
-        if broken(table, separation, &cells[..len]).is_some() {
+        if violation_in(table, separation, &cells[..len]).is_some() {
             return Some(number);
         }
     }
@@ -97,7 +101,10 @@ fn is_good<R: Abort + Threads + Sync>(
     if let Some((ring, places, channels)) = found_in(&verdict) {
         let tuple = &cells[..tuple_len(table, separation)];
         assert_eq!(rt; ring, tuple);
-        assert_eq!(rt; broken(table, separation, tuple), Some((places, channels)));
+        assert_eq!(rt;
+            violation_in(table, separation, tuple),
+            Some((places, channels))
+        );
     }
     Ok(bad.is_none())
 }

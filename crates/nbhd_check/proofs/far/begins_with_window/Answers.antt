@@ -9,14 +9,14 @@ returns-then-list c = (
   λ is. absurd ((begun_of_window c.args.table.now c.args.list.now c.requires.some (omega arith) is).0 c.if-list.true),
 )
 
-pub returns-then-stands_in : goal.returns-then-stands_in
-returns-then-stands_in c =
+pub returns-then-contains : goal.returns-then-contains
+returns-then-contains c =
     let t = c.args.table.now in
     let list = c.args.list.now in
     let cut = middle_cut t list (length list - 2 - 2) c.requires.some (omega arith) in (
       λ no. absurd (false≢true no),
       λ is. absurd ((begun_of_window t list c.requires.some (omega arith) is).1
-          (subst (λ l. Contains l (get_or list 0 0)) cut (c.stands_in.ensures.0 c.if-stands_in.true))),
+          (subst (λ l. Contains l (get_or list 0 0)) cut (c.contains.ensures.0 c.if-contains.true))),
     )
 
 pub returns : goal.returns
@@ -25,10 +25,10 @@ returns c =
     let list = c.args.list.now in
     let cut = middle_cut t list (length list - 2 - 2) c.requires.some (omega arith) in (
       λ yes_is. window_of_begun t list c.requires.some (omega arith) c.requires.first c.requires.second c.requires.middle c.if-list.false
-          (λ has. false≢true (sym c.if-stands_in.false ∙ c.stands_in.ensures.1 (subst (λ l. Contains l (get_or list 0 0)) (sym cut) has)))
-          (λ has. false≢true (sym (ap not (c.stands_in-2.ensures.1 (subst (λ l. Contains l (get_or list 1 0)) (sym cut) has))) ∙ yes_is)),
-      λ is. not_true c.stands_in-2.result (λ own.
-          (begun_of_window t list c.requires.some (omega arith) is).2 (subst (λ l. Contains l (get_or list 1 0)) cut (c.stands_in-2.ensures.0 own))),
+          (λ has. false≢true (sym c.if-contains.false ∙ c.contains.ensures.1 (subst (λ l. Contains l (get_or list 0 0)) (sym cut) has)))
+          (λ has. false≢true (sym (ap not (c.contains-2.ensures.1 (subst (λ l. Contains l (get_or list 1 0)) (sym cut) has))) ∙ yes_is)),
+      λ is. not_true c.contains-2.result (λ own.
+          (begun_of_window t list c.requires.some (omega arith) is).2 (subst (λ l. Contains l (get_or list 1 0)) cut (c.contains-2.ensures.0 own))),
     )
   where
     not_true : (b : Bool) → (b ≡ true → ⊥) → not b ≡ true

@@ -12,8 +12,8 @@ returns-then-start_of-from-clause-free c = λ number window below item own.
     (λ (ge : c.loop-first.first ≤ get_or window 0 0). absurd (omega (arith, c.start_of.ensures number window item ge)))
     (cases_lt (get_or window 0 0) c.loop-first.first)
 
-pub far_free_from-least-requires-clause-counts : goal.far_free_from-least-requires-clause-counts
-far_free_from-least-requires-clause-counts c =
+pub far_free_with_first-least-requires-clause-counts : goal.far_free_with_first-least-requires-clause-counts
+far_free_with_first-least-requires-clause-counts c =
     let t = c.args.table.now in
     let old = c.loop-first.list in
     let middle = ap (middle_of t) c.set_first.ensures ∙ middle_after_first t c.loop-first.first old c.requires.some ∙ c.loop-first.invariant.0 in
@@ -28,18 +28,18 @@ loop-first-preserved c =
     let z : List ℕ = middle_of t c.args.list.now in
     let middle : middle_of t set ≡ z = ap (middle_of t) c.set_first.ensures ∙ middle_after_first t first old c.requires.some ∙ c.loop-first.invariant.0 in
     let begun : get_or set 0 0 ≡ first = ap (λ l. get_or l 0 0) c.set_first.ensures in (
-      c.far_free_from-least.ensures.same ∙ middle,
-      c.far_free_from-least.ensures.fit,
-      subst (λ l. AreCountsOnceMade t l c.far_free_from-least.new.counts) middle c.far_free_from-least.ensures.counts,
-      omega (arith, c.far_free_from-least.ensures.less, c.loop-first.invariant.3),
-      free_in_two t c.args.distance c.loop-first.least c.far_free_from-least.result c.far_free_from-least.result _ _ _
-          c.far_free_from-least.ensures.less (omega arith) (λ number window item own.
+      c.far_free_with_first-least.ensures.same ∙ middle,
+      c.far_free_with_first-least.ensures.fit,
+      subst (λ l. AreCountsOnceMade t l c.far_free_with_first-least.new.counts) middle c.far_free_with_first-least.ensures.counts,
+      omega (arith, c.far_free_with_first-least.ensures.less, c.loop-first.invariant.3),
+      free_in_two t c.args.distance c.loop-first.least c.far_free_with_first-least.result c.far_free_with_first-least.result _ _ _
+          c.far_free_with_first-least.ensures.less (omega arith) (λ number window item own.
           ⊎_elim
           (λ (lt : get_or window 0 0 < first). inl (lt, own.1))
           (λ (ge : first ≤ get_or window 0 0).
           let same : get_or window 0 0 ≡ first = omega (arith, own.0) in
           inr (same ∙ sym begun, own.1 ∙ sym middle))
-          (cases_lt (get_or window 0 0) first)) c.loop-first.invariant.4 c.far_free_from-least.ensures.free,
+          (cases_lt (get_or window 0 0) first)) c.loop-first.invariant.4 c.far_free_with_first-least.ensures.free,
     )
 
 pub returns-clause-free : goal.returns-clause-free

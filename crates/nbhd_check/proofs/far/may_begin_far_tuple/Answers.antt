@@ -7,7 +7,7 @@ use Rattle.nbhd_check.specs.Counts.{held_count, middle_of}
 use Rattle.nbhd_check.specs.Runs.{BeginsFarTuple}
 use Rattle.nbhd_check.proofs.Ends.{last_is, front_kept, moved_window}
 use Rattle.nbhd_check.proofs.FarCounts.{none_far}
-use Rattle.nbhd_check.proofs.Fronts.{number_of_window}
+use Rattle.nbhd_check.proofs.Prefixes.{number_of_window}
 use Rattle.nbhd_check.proofs.far.may_begin_far_tuple.Goals as goal
 
 pub close_one-one-requires : goal.close_one-one-requires

@@ -4,5 +4,5 @@ use Rattle.nbhd_check.proofs.far_parts.fresh_searcher.Goals as goal
 pub returns : goal.returns
 returns c = record {
   fit = c.in_ok-counts.ensures;
-  free = λ part number window below. absurd (omega (arith, c.nothing_found-free.ensures part));
+  free = λ part number window below. absurd (omega (arith, c.zero_counts-free.ensures part));
 }

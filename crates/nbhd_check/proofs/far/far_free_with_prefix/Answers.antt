@@ -1,7 +1,7 @@
 use Rattle.std.proofs.Common.{◌+◌, ◌*◌, take, sym, ◌∙◌}
 use Rattle.std.proofs.lemmas.Bool.{false≢true}
 use Rattle.nbhd_check.proofs.FarFree.{none_at}
-use Rattle.nbhd_check.proofs.far.far_free_with.Goals as goal
+use Rattle.nbhd_check.proofs.far.far_free_with_prefix.Goals as goal
 
 pub returns-then-not-begins_with_window-clause-free : goal.returns-then-not-begins_with_window-clause-free
 returns-then-not-begins_with_window-clause-free c =

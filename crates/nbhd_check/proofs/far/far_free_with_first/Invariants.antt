@@ -1,7 +1,7 @@
 use Rattle.std.proofs.Common.{◌≡◌, ◌<◌, ◌≤◌, drop, get_or}
 use Rattle.nbhd_check.specs.Counts.{middle_of, AreCountsOnceMade, CountsFit}
 use Rattle.nbhd_check.specs.FarSearch.{AreFarFreeIn}
-use Rattle.nbhd_check.proofs.far.far_free_from.Given as goal
+use Rattle.nbhd_check.proofs.far.far_free_with_first.Given as goal
 
 -- the list has the same first identifier and the same middle, and the windows so far are searched
 abbrev pub invariant-loop-second : goal.invariant-loop-second

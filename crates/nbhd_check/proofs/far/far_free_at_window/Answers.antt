@@ -4,7 +4,7 @@ use Rattle.win_index.specs.Windows.{windows, IsWindow}
 use Rattle.table_fill.specs.Tables.{windows_of}
 use Rattle.nbhd_check.specs.Counts.{shared_len, AreCountsOf}
 use Rattle.nbhd_check.proofs.Ends.{middle_cut, middle_window}
-use Rattle.nbhd_check.proofs.far.far_free_at.Goals as goal
+use Rattle.nbhd_check.proofs.far.far_free_at_window.Goals as goal
 
 pub count_once-requires-clause-shared : goal.count_once-requires-clause-shared
 count_once-requires-clause-shared c =
