@@ -7,7 +7,7 @@ use Rattle.nbhd_check.specs.declared.separation.Separation.{Separation}
 use Rattle.table_text.specs.declared.version.Version.{Version}
 use Rattle.table_text.specs.declared.version.Version.TheVariants.{One, Two}
 use Rattle.table_text.specs.TableText.{title_then, counts_then, counts_end, distances_then, sizes_then}
-use Rattle.table_text.specs.LineForms.{AreSizes, IsTold, HasSizes}
+use Rattle.table_text.specs.LineForms.{AreSizes, IsSeparationOf, HasSizes}
 use Rattle.table_text.proofs.NumberTexts.{number_once}
 
 -- the text after a name begins with one number
@@ -78,7 +78,7 @@ two_once near far near' far' x y p q p' q' same =
     (first.0, second.0, second.1)
 
 -- a text of one version gives one separation
-pub distances_once : (version : Version) (s u : Separation) (x y : List ℕ) → IsTold version s → IsTold version u
+pub distances_once : (version : Version) (s u : Separation) (x y : List ℕ) → IsSeparationOf version s → IsSeparationOf version u
     → distances_then version s x ≡ distances_then version u y → (s ≡ u) × (x ≡ y)
 distances_once One s u x y p q same = (p ∙ sym q, same)
 distances_once Two s u x y p q same =
@@ -88,14 +88,14 @@ distances_once Two s u x y p q same =
 
 -- if the second line gives sizes, its first numbers are those of a table, and they are followed by a separation
 pub sizes_are : (version : Version) (text : List ℕ) (r i k : ℕ) (rest : List ℕ) → Fit r i k → text ≡ counts_then r i k (counts_end version) rest
-    → HasSizes version text → AreSizes r i k × (s : Separation) × (after : List ℕ) × IsTold version s × (rest ≡ distances_then version s after)
+    → HasSizes version text → AreSizes r i k × (s : Separation) × (after : List ℕ) × IsSeparationOf version s × (rest ≡ distances_then version s after)
 sizes_are version text r i k rest fit same has =
     let one = counts_once (counts_end version) r i k has.0 has.1 has.2 rest _ (counts_end_small version) fit (sizes_fit has.0 has.1 has.2 has.5)
     (sym same ∙ has.7) in
     (rw (one.0, one.1, one.2) has.5, has.3, has.4, has.6, one.3)
 
 -- the contents of the second line are unique
-pub sizes_once : (version : Version) (r i k r' i' k' : ℕ) (s s' : Separation) (x y : List ℕ) → Fit r i k → Fit r' i' k' → IsTold version s → IsTold version s'
+pub sizes_once : (version : Version) (r i k r' i' k' : ℕ) (s s' : Separation) (x y : List ℕ) → Fit r i k → Fit r' i' k' → IsSeparationOf version s → IsSeparationOf version s'
     → sizes_then version r i k s x ≡ sizes_then version r' i' k' s' y → (r ≡ r') × (i ≡ i') × (k ≡ k') × (s ≡ s') × (x ≡ y)
 sizes_once version r i k r' i' k' s s' x y p q told told' same =
     let one = counts_once (counts_end version) r i k r' i' k' _ _ (counts_end_small version) p q same in

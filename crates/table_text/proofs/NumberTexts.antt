@@ -9,7 +9,7 @@ use Rattle.std.proofs.lemmas.Bool.Decides.{nat_tests}
 use Rattle.std.proofs.lemmas.Fmt.{decimal_is_IsNumeral, decimal_digit, first_decimal, IsAscii-decimal, decimal_injective, decimal-digits_value}
 use Rattle.std.proofs.lemmas.Str.{IsUtf8-from_ascii}
 use Rattle.std.proofs.lemmas.Str.Parse.{digit_at, digit_from_value, without_leading_plus_none, numerals_by_value, tells_digits}
-use Rattle.table_text.specs.Fronts.{Lacks}
+use Rattle.table_text.specs.LinePrefixes.{Lacks}
 
 digits : (n : ℕ) → n < 2 ^ 32 → IsNumeral 10 (decimal n)
 digits n small = (decimal_is_IsNumeral n (omega arith)).0

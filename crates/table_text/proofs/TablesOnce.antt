@@ -10,7 +10,7 @@ use Rattle.table_fill.specs.Tables.{ChannelTable, IsBegun, windows_of}
 use Rattle.nbhd_check.specs.declared.separation.Separation.{Separation}
 use Rattle.table_text.specs.declared.version.Version.{Version}
 use Rattle.table_text.specs.TableText.{Written, ids_then, entry_then, entries_then, sizes_then, lines_then}
-use Rattle.table_text.specs.LineForms.{AreSizes, IsTold, IsEntry}
+use Rattle.table_text.specs.LineForms.{AreSizes, IsSeparationOf, IsEntry}
 use Rattle.table_text.specs.Texts.{IsBegunText, IsWritten}
 use Rattle.table_text.proofs.IdTexts.{Fits32, ids_once}
 use Rattle.table_text.proofs.Headers.{field_once, sizes_fit, sizes_once, title_once}
@@ -107,7 +107,7 @@ pub record HaveOneHead (v w : Written) (x y : List ℕ) : Type 0 where
   pub separation : v.separation ≡ w.separation
   pub entries : entries_then (windows_of v.table) v.table.entries x ≡ entries_then (windows_of w.table) w.table.entries y
 
-sizes_same : (version : Version) (t u : ChannelTable) (r s : Separation) (x y : List ℕ) → IsBegun t → IsBegun u → IsTold version r → IsTold version s
+sizes_same : (version : Version) (t u : ChannelTable) (r s : Separation) (x y : List ℕ) → IsBegun t → IsBegun u → IsSeparationOf version r → IsSeparationOf version s
     → sizes_then version t.rounds t.ids t.channels r x ≡ sizes_then version u.rounds u.ids u.channels s y
     → (t.rounds ≡ u.rounds) × (t.ids ≡ u.ids) × (t.channels ≡ u.channels) × (r ≡ s) × (x ≡ y)
 sizes_same version t u r s x y p q told told' same =
@@ -120,7 +120,7 @@ header_once v w x y p q same =
     let title = title_once v.version w.version _ _ same in
     let moved = title.1 ∙ ap (λ version. sizes_then version w.table.rounds w.table.ids w.table.channels w.separation
     (entries_then (windows_of w.table) w.table.entries y)) (sym title.0) in
-    let told = subst (λ version. IsTold version w.separation) (sym title.0) q.told in
+    let told = subst (λ version. IsSeparationOf version w.separation) (sym title.0) q.told in
     let one = sizes_same v.version v.table w.table v.separation w.separation _ _ p.begun q.begun p.told told moved in
     record { version = title.0; rounds = one.0; ids = one.1; channels = one.2; separation = one.3; entries = one.4 }
 

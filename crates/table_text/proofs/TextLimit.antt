@@ -16,7 +16,7 @@ use Rattle.nbhd_check.specs.declared.separation.Separation.{Separation}
 use Rattle.table_text.specs.declared.version.Version.{Version}
 use Rattle.table_text.specs.declared.version.Version.TheVariants.{One, Two}
 use Rattle.table_text.specs.TableText.{Written, counts_then, counts_end, distances_then, ids_then, entry_then, entries_then, end_then, head_then, lines_then, text_of}
-use Rattle.table_text.specs.LineForms.{AreSizes, IsTold}
+use Rattle.table_text.specs.LineForms.{AreSizes, IsSeparationOf}
 use Rattle.table_text.specs.Texts.{IsBegunText}
 use Rattle.table_text.specs.Laws.{TableTextsAreShort}
 use Rattle.table_text.proofs.TablesOnce.{begun_of, sizes_of, window_at}
@@ -123,7 +123,7 @@ two_short d s rest some fits near far =
       length-append (decimal s.far) (10 ∷ rest),
     )
 
-distances_short : (version : Version) (s : Separation) (rest : List ℕ) → IsTold version s → length (distances_then version s rest) ≤ 19 + length rest
+distances_short : (version : Version) (s : Separation) (rest : List ℕ) → IsSeparationOf version s → length (distances_then version s rest) ≤ 19 + length rest
 distances_short One s rest told = omega arith
 distances_short Two s rest told =
     let short = two_short 4 s rest (omega arith) (omega arith) (omega (arith, told.small_near)) (omega (arith, told.small_far)) in

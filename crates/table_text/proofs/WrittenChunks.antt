@@ -5,20 +5,20 @@ use Rattle.std.proofs.lemmas.List.{take-append-le, take-append-drop, length-take
 use Rattle.std.proofs.KnownBytes.{Appends-trans}
 use Rattle.std.specs.Io.KnownBytes.{Appends}
 use Rattle.devices.specs.Output.{AppendsFront}
-use Rattle.table_text.specs.Pieces.{Tells}
+use Rattle.table_text.specs.Pieces.{IsWrittenSoFar}
 
 -- one more piece in the chunk
 pub tells_more :
-    (a b : Option (List ℕ)) (waiting more piece text : List ℕ) → Tells a b waiting text → more ≡ waiting ++ piece → Tells a b more (text ++ piece)
+    (a b : Option (List ℕ)) (waiting more piece text : List ℕ) → IsWrittenSoFar a b waiting text → more ≡ waiting ++ piece → IsWrittenSoFar a b more (text ++ piece)
 tells_more a b waiting more piece text told longer =
     (told.0, told.1, ap (λ w. told.0 ++ w) longer ∙ sym (append_assoc told.0 waiting piece) ∙ ap (λ t. t ++ piece) told.2)
 
 -- the contents of the chunk are written
-pub tells_all : (a b c : Option (List ℕ)) (waiting text : List ℕ) → Tells a b waiting text → Appends b c waiting → Appends a c text
+pub tells_all : (a b c : Option (List ℕ)) (waiting text : List ℕ) → IsWrittenSoFar a b waiting text → Appends b c waiting → Appends a c text
 tells_all a b c waiting text told sent = subst (Appends a c) told.2 (Appends-trans a b c told.0 waiting told.1 sent)
 
 -- they are written, and the chunk is empty
-pub tells_sent : (a b c : Option (List ℕ)) (waiting text : List ℕ) → Tells a b waiting text → Appends b c waiting → Tells a c [] text
+pub tells_sent : (a b c : Option (List ℕ)) (waiting text : List ℕ) → IsWrittenSoFar a b waiting text → Appends b c waiting → IsWrittenSoFar a c [] text
 tells_sent a b c waiting text told sent = (text, tells_all a b c waiting text told sent, append-nil text)
 
 -- a prefix is taken by its own length
@@ -27,7 +27,7 @@ front_is n xs = ap (take (length (take n xs))) (sym (take-append-drop n xs)) ∙
 
 -- a prefix of the chunk was written, so a prefix of every text that begins with the text so far
 pub tells_front :
-    (a b c : Option (List ℕ)) (waiting text whole rest : List ℕ) → Tells a b waiting text → AppendsFront b c waiting → text ++ rest ≡ whole → AppendsFront a c whole
+    (a b c : Option (List ℕ)) (waiting text whole rest : List ℕ) → IsWrittenSoFar a b waiting text → AppendsFront b c waiting → text ++ rest ≡ whole → AppendsFront a c whole
 tells_front a b c waiting text whole rest told failed longer =
     let count = failed.0 in
     let k = length (take count waiting) in

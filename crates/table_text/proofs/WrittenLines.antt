@@ -15,7 +15,7 @@ pub ids_more : (ids : List ℕ) (id : ℕ) (rest : List ℕ) → ids_then (ids +
 ids_more [] id rest = refl
 ids_more (x ∷ ids) id rest = ap (λ l. decimal x ++ 32 ∷ l) (ids_more ids id rest) ∙ sym (append_assoc (decimal x) (32 ∷ ids_then ids []) (decimal id ++ 32 ∷ rest))
 
--- the line of a window, from its front, its last identifier and its channel
+-- the line of a window, from its prefix, its last identifier and its channel
 pub line_of_run :
     (last : ℕ) (window : List ℕ) (channel : ℕ) → length window ≡ last + 1
     → ids_then (take last window) [] ++ (id_text (get_or window last 0) ++ channel_text channel) ≡ entry_then window channel []

@@ -5,5 +5,5 @@ pub mod LineForms
 pub mod Texts
 pub mod Faults
 pub mod Laws
-pub mod Fronts
+pub mod LinePrefixes
 pub mod Pieces

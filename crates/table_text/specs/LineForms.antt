@@ -22,9 +22,9 @@ pub record IsSeparation (s : Separation) : Type 0 where
   pub small_far : s.far ≤ MAX_CHANNELS
 
 -- a text of this version can give the separation: version 1 only near 1 and far 0, version 2 any
-abbrev pub IsTold : Version → Separation → Type 0
-IsTold One s = s ≡ record { near = 1; far = 0 }
-IsTold Two s = IsSeparation s
+abbrev pub IsSeparationOf : Version → Separation → Type 0
+IsSeparationOf One s = s ≡ record { near = 1; far = 0 }
+IsSeparationOf Two s = IsSeparation s
 
 -- the text begins with the first line of a version
 abbrev pub HasTitle : List ℕ → Type 0
@@ -34,7 +34,7 @@ HasTitle text = (version : Version) × (rest : List ℕ) × (text ≡ title_then
 abbrev pub HasSizes : Version → List ℕ → Type 0
 HasSizes version text =
     (rounds : ℕ) × (ids : ℕ) × (channels : ℕ) × (s : Separation) × (rest : List ℕ) × AreSizes rounds ids channels
-    × IsTold version s × (text ≡ sizes_then version rounds ids channels s rest)
+    × IsSeparationOf version s × (text ≡ sizes_then version rounds ids channels s rest)
 
 -- the text is the line of `width` identifiers and of a channel, each a number below 2^32, followed by the rest
 pub record IsEntry (width : ℕ) (text ids : List ℕ) (channel : ℕ) (rest : List ℕ) : Type 0 where

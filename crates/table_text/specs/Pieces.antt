@@ -6,16 +6,16 @@ use Rattle.std.specs.Fmt.{decimal}
 use Rattle.table_fill.specs.Tables.{ChannelTable}
 use Rattle.table_text.specs.declared.piece.Piece.{Piece}
 use Rattle.table_text.specs.declared.piece.Pieces.{Pieces}
-use Rattle.table_text.specs.declared.front.Front.{Front}
+use Rattle.table_text.specs.declared.line_prefix.LinePrefix.{LinePrefix}
 use Rattle.table_text.specs.declared.chunk.Chunk.{Chunk}
 
 -- the text of a piece
 abbrev pub piece_text : Piece → List ℕ
 piece_text piece = take piece.len piece.bytes
 
--- the text of a front
-abbrev pub front_text : Front → List ℕ
-front_text front = take front.len front.bytes
+-- the text of a prefix
+abbrev pub prefix_text : LinePrefix → List ℕ
+prefix_text prefix = take prefix.len prefix.bytes
 
 -- an identifier and a blank
 abbrev pub id_text : ℕ → List ℕ
@@ -41,5 +41,5 @@ abbrev pub held : Chunk → List ℕ
 held chunk = take chunk.filled chunk.bytes.items
 
 -- the bytes written since, followed by those that wait, are the text
-abbrev pub Tells : Option (List ℕ) → Option (List ℕ) → List ℕ → List ℕ → Type 0
-Tells before now waiting text = (sent : List ℕ) × Appends before now sent × (sent ++ waiting ≡ text)
+abbrev pub IsWrittenSoFar : Option (List ℕ) → Option (List ℕ) → List ℕ → List ℕ → Type 0
+IsWrittenSoFar before now waiting text = (sent : List ℕ) × Appends before now sent × (sent ++ waiting ≡ text)

@@ -4,17 +4,17 @@ use Rattle.table_fill.specs.Tables.{ChannelTable, IsBegun, IsTable}
 use Rattle.nbhd_check.specs.declared.separation.Separation.{Separation}
 use Rattle.table_text.specs.declared.version.Version.{Version}
 use Rattle.table_text.specs.TableText.{Written, written, text_of}
-use Rattle.table_text.specs.LineForms.{IsTold}
+use Rattle.table_text.specs.LineForms.{IsSeparationOf}
 
 -- a begun table, and a separation that a text of the version can give
 pub record IsBegunText (w : Written) : Type 0 where
   pub begun : IsBegun w.table
-  pub told : IsTold w.version w.separation
+  pub told : IsSeparationOf w.version w.separation
 
 -- a table, and a separation that a text of the version can give
 pub record IsWritten (w : Written) : Type 0 where
   pub table : IsTable w.table
-  pub told : IsTold w.version w.separation
+  pub told : IsSeparationOf w.version w.separation
 
 -- the text is that of the table and the separation, in one of the versions
 abbrev pub IsTextOf : List ℕ → ChannelTable → Separation → Type 0

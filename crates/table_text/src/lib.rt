@@ -3,9 +3,9 @@
 
 mod chunk;
 mod fault;
-mod front;
 mod laws;
 mod limits;
+mod line_prefix;
 mod lines;
 mod numbers;
 mod piece;

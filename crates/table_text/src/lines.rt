@@ -4,8 +4,8 @@ ghost use Rattle.std.specs.Prelude.{◌≡◌, ◌≢◌, ◌<◌, ◌≤◌, �
 ghost use Rattle.std.specs.Fmt.{decimal};
 ghost use Rattle.nbhd_check.specs.declared.separation.Separation.{Separation};
 ghost use Rattle.table_text.specs.TableText.{title_then, counts_then, counts_end, distances_then, sizes_then, end_then};
-ghost use Rattle.table_text.specs.LineForms.{HasTitle, AreSizes, IsTold, HasSizes, IsEntry, HasEntry, HasEnd};
-ghost use Rattle.table_text.specs.Fronts.{IsLine};
+ghost use Rattle.table_text.specs.LineForms.{HasTitle, AreSizes, IsSeparationOf, HasSizes, IsEntry, HasEntry, HasEnd};
+ghost use Rattle.table_text.specs.LinePrefixes.{IsLine};
 
 use crate::numbers::{number_before, numbers_in};
 use crate::version::Version;
@@ -134,9 +134,9 @@ fn shape_of(counts: Counts) -> Option<Shape>
 
 // Returns the last two numbers of the second line of version 2, and the text after the line.
 fn two_distances(text: &[u8]) -> Option<(Separation, &[u8])>
-    ensures told { IfSome result (λ read. IsTold Version.Two read.0) }
+    ensures told { IfSome result (λ read. IsSeparationOf Version.Two read.0) }
     ensures distances { IfSome result (λ read. text.now ≡ distances_then Version.Two read.0 read.1.now) }
-    ensures none { IfNone result ((s : Separation) (rest : List ℕ) → IsTold Version.Two s → text.now ≡ distances_then Version.Two s rest → ⊥) }
+    ensures none { IfNone result ((s : Separation) (rest : List ℕ) → IsSeparationOf Version.Two s → text.now ≡ distances_then Version.Two s rest → ⊥) }
 {
     let Some((near, rest)) = field(text, b"near ", b' ') else {
         return None;
@@ -159,9 +159,9 @@ fn two_distances(text: &[u8]) -> Option<(Separation, &[u8])>
 // Returns the separation of a text of this version, read from the text after the first three
 // numbers of the second line, and the text after that line.
 fn separation_in(version: Version, text: &[u8]) -> Option<(Separation, &[u8])>
-    ensures told { IfSome result (λ read. IsTold version read.0) }
+    ensures told { IfSome result (λ read. IsSeparationOf version read.0) }
     ensures distances { IfSome result (λ read. text.now ≡ distances_then version read.0 read.1.now) }
-    ensures none { IfNone result ((s : Separation) (rest : List ℕ) → IsTold version s → text.now ≡ distances_then version s rest → ⊥) }
+    ensures none { IfNone result ((s : Separation) (rest : List ℕ) → IsSeparationOf version s → text.now ≡ distances_then version s rest → ⊥) }
 {
     match version {
         Version::One => Some((Separation { near: 1, far: 0 }, text)),
@@ -183,7 +183,7 @@ fn counts_end(version: Version) -> u8
 // Returns the contents of the second line of a text of this version, and the text after it.
 pub(crate) fn sizes(version: Version, text: &[u8]) -> Option<(Header, &[u8])>
     ensures range { IfSome result (λ read. AreSizes read.0.shape.rounds read.0.shape.ids read.0.channels) }
-    ensures told { IfSome result (λ read. IsTold version read.0.separation) }
+    ensures told { IfSome result (λ read. IsSeparationOf version read.0.separation) }
     ensures sizes { IfSome result (λ read. text.now ≡ sizes_then version read.0.shape.rounds read.0.shape.ids
         read.0.channels read.0.separation read.1.now) }
     ensures none { IfNone result (¬ HasSizes version text.now) }

@@ -3,7 +3,7 @@
 ghost use Rattle.std.specs.Prelude.{◌≡◌, ◌==◌, ◌<◌, ◌&&◌, ◌^◌, ℕ, List, ◌∷◌, ◌++◌, All, nat_lt, length, slice_index, IfSome, IfNone};
 ghost use Rattle.std.specs.Fmt.{decimal};
 ghost use Rattle.table_text.specs.TableText.{ids_then};
-ghost use Rattle.table_text.specs.Fronts.{Lacks};
+ghost use Rattle.table_text.specs.LinePrefixes.{Lacks};
 
 // Returns the parts of a text before and after the first byte of this value.
 fn cut_at(text: &[u8], end: u8) -> Option<(&[u8], &[u8])>

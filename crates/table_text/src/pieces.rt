@@ -2,10 +2,10 @@
 ghost use Rattle.std.specs.Prelude.{◌≡◌, ◌<◌, ◌≤◌, [], All, length, IfOk};
 ghost use Rattle.node_lang.specs.declared.limits.TheConstants.{MAX_CHANNELS};
 ghost use Rattle.win_index.specs.declared.limits.TheConstants.{MAX_IDS};
-ghost use Rattle.table_text.specs.Pieces.{piece_text, front_text, id_text, channel_text, AreTexts, ArePieces};
+ghost use Rattle.table_text.specs.Pieces.{piece_text, prefix_text, id_text, channel_text, AreTexts, ArePieces};
 ghost use Rattle.table_text.specs.TableText.{ids_then};
 
-use crate::front::{FRONT_LEN, Front};
+use crate::line_prefix::{LinePrefix, PREFIX_LEN};
 use crate::piece::{Piece, Pieces};
 use crate::storing::write_at;
 use std::alloc::{AllocError, Global};
@@ -78,18 +78,18 @@ pub(crate) fn piece_of(text: &[u8]) -> Piece
     }
 }
 
-// Returns the front of the identifiers of a window except the last, each followed by a blank.
-pub(crate) fn front_of(ids: &[Piece], shared: &[u32]) -> Front
+// Returns the prefix of the identifiers of a window except the last, each followed by a blank.
+pub(crate) fn line_prefix_of(ids: &[Piece], shared: &[u32]) -> LinePrefix
     requires short { length shared.now < MAX_WINDOW_LEN }
     requires ids { AreTexts id_text ids.now × All (λ id. id < length ids.now) shared.now }
-    ensures { front_text result ≡ ids_then shared.now [] }
+    ensures { prefix_text result ≡ ids_then shared.now [] }
 {
-    let mut bytes = [0; FRONT_LEN];
+    let mut bytes = [0; PREFIX_LEN];
     let mut len = 0;
     for id in shared {
         let piece = ids[*id as usize];
         write_at(&mut bytes, len, &piece.bytes);
         len += piece.len;
     }
-    Front { bytes, len }
+    LinePrefix { bytes, len }
 }

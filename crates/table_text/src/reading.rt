@@ -4,7 +4,7 @@ ghost use Rattle.std.specs.Prelude.{◌≡◌, ◌≤◌, length, MatchResult, I
 ghost use Rattle.nbhd_check.specs.declared.separation.Separation.{Separation};
 ghost use Rattle.table_fill.specs.Tables.{ChannelTable, IsTable};
 ghost use Rattle.table_text.specs.TableText.{written, title_then, sizes_then, lines_then, text_of};
-ghost use Rattle.table_text.specs.LineForms.{AreSizes, IsTold};
+ghost use Rattle.table_text.specs.LineForms.{AreSizes, IsSeparationOf};
 ghost use Rattle.table_text.specs.Texts.{IsTextOf, IsWritten};
 ghost use Rattle.table_text.specs.Faults.{IsMalformed, IsFault};
 
@@ -70,7 +70,7 @@ fn syntax(text: &[u8], rest: &[u8]) -> TableFault
 fn header_of(text: &[u8]) -> Result<(Version, Header, &[u8]), TableFault>
     requires { length text.now ≤ LONGEST_TABLE_TEXT }
     ensures sizes { IfOk result (λ read. AreSizes read.1.shape.rounds read.1.shape.ids read.1.channels) }
-    ensures told { IfOk result (λ read. IsTold read.0 read.1.separation) }
+    ensures told { IfOk result (λ read. IsSeparationOf read.0 read.1.separation) }
     ensures header { IfOk result (λ read. text.now ≡ title_then read.0 (sizes_then read.0 read.1.shape.rounds read.1.shape.ids
         read.1.channels read.1.separation read.2.now)) }
     ensures fault { IfErr result (IsFault text.now) }
@@ -94,7 +94,7 @@ fn entries<'a>(
 ) -> Result<(Table, &'a [u8]), TableFault>
     requires short { length text.now ≤ LONGEST_TABLE_TEXT }
     requires sizes { AreSizes header.shape.rounds header.shape.ids header.channels }
-    requires told { IsTold version header.separation }
+    requires told { IsSeparationOf version header.separation }
     requires header { text.now ≡ title_then version (sizes_then version header.shape.rounds header.shape.ids header.channels
         header.separation start.now) }
     ensures table { IfOk result (λ read. IsTable read.0) }

@@ -3,12 +3,12 @@ ghost use Rattle.std.specs.Prelude.{◌≡◌, ◌+◌, ◌≤◌, ◌++◌, ℕ
 ghost use Rattle.std.specs.Io.KnownBytes.{Appends};
 ghost use Rattle.devices.specs.Output.{AppendsFront};
 ghost use Rattle.devices.specs.Watched.{device_of, has_failed};
-ghost use Rattle.table_text.specs.declared.front.TheConstants.{FRONT_LEN};
-ghost use Rattle.table_text.specs.Pieces.{held, front_text, piece_text};
+ghost use Rattle.table_text.specs.declared.line_prefix.TheConstants.{PREFIX_LEN};
+ghost use Rattle.table_text.specs.Pieces.{held, prefix_text, piece_text};
 
 use crate::chunk::Chunk;
-use crate::front::Front;
 use crate::limits::CHUNK_LEN;
+use crate::line_prefix::LinePrefix;
 use crate::piece::Piece;
 use devices::fault::EngineFault;
 use devices::output::send;
@@ -43,14 +43,14 @@ pub(crate) fn store(chunk: &mut Chunk, piece: Piece)
     chunk.filled += piece.len;
 }
 
-// Appends a front to a chunk.
-pub(crate) fn store_front(chunk: &mut Chunk, front: &Front)
-    requires room { chunk.old.filled + FRONT_LEN ≤ CHUNK_LEN }
-    ensures held { held chunk.new ≡ held chunk.old ++ front_text front.now }
-    ensures filled { chunk.new.filled ≤ chunk.old.filled + FRONT_LEN }
+// Appends a prefix to a chunk.
+pub(crate) fn store_prefix(chunk: &mut Chunk, prefix: &LinePrefix)
+    requires room { chunk.old.filled + PREFIX_LEN ≤ CHUNK_LEN }
+    ensures held { held chunk.new ≡ held chunk.old ++ prefix_text prefix.now }
+    ensures filled { chunk.new.filled ≤ chunk.old.filled + PREFIX_LEN }
 {
-    write_at(&mut chunk.bytes, chunk.filled, &front.bytes);
-    chunk.filled += front.len;
+    write_at(&mut chunk.bytes, chunk.filled, &prefix.bytes);
+    chunk.filled += prefix.len;
 }
 
 // Copies a piece over the bytes from index `start` on.

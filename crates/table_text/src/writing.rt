@@ -8,14 +8,14 @@ ghost use Rattle.win_index.specs.Windows.{windows, IsWindow};
 ghost use Rattle.nbhd_check.specs.declared.separation.Separation.{Separation};
 ghost use Rattle.table_text.specs.declared.version.Version.TheVariants.{Two};
 ghost use Rattle.table_text.specs.TableText.{written, head_then, ids_then, lines_then, table_text};
-ghost use Rattle.table_text.specs.Pieces.{held, front_text, piece_text, id_text, AreTexts, ArePieces, Tells};
+ghost use Rattle.table_text.specs.Pieces.{held, prefix_text, piece_text, id_text, AreTexts, ArePieces, IsWrittenSoFar};
 
 use crate::chunk::Chunk;
-use crate::front::{FRONT_LEN, Front};
 use crate::limits::CHUNK_LEN;
+use crate::line_prefix::{LinePrefix, PREFIX_LEN};
 use crate::piece::{Piece, Pieces};
-use crate::pieces::{front_of, piece_of, pieces_of};
-use crate::storing::{empty_chunk, send_held, store, store_first, store_front};
+use crate::pieces::{line_prefix_of, piece_of, pieces_of};
+use crate::storing::{empty_chunk, send_held, store, store_first, store_prefix};
 use devices::fault::{EngineFault, OutFault};
 use devices::watched::Watched;
 use nbhd_check::Separation;
@@ -24,8 +24,8 @@ use std::io::Write;
 use table_fill::Table;
 use win_index::{MAX_WINDOW_LEN, Shape};
 
-// The space for a line: a front, the piece of an identifier and that of a channel.
-const LINE_LEN: usize = FRONT_LEN + 16;
+// The space for a line: a prefix, the piece of an identifier and that of a channel.
+const LINE_LEN: usize = PREFIX_LEN + 16;
 
 /// Writes the text of a table and a separation in version 2: a line with the version; a line with
 /// the numbers of rounds, identifiers and channels, near and far; a line with each window and its
@@ -109,7 +109,7 @@ fn write_entries<W: Write>(
     requires working { has_failed writer.old ≡ false }
     requires first { held chunk.old ≡ head_then (written Two table.now separation) [] }
     requires pieces { ArePieces table.now pieces.now }
-    ensures ok { OnOk result (Tells (W.contents (device_of writer.old)) (W.contents (device_of writer.new))
+    ensures ok { OnOk result (IsWrittenSoFar (W.contents (device_of writer.old)) (W.contents (device_of writer.new))
         (held chunk.new) (lines_then (written Two table.now separation) [])) }
     ensures room { OnOk result (chunk.new.filled + 8 ≤ CHUNK_LEN) }
     ensures err { OnErr result (AppendsFront (W.contents (device_of writer.old))
@@ -125,38 +125,38 @@ fn write_entries<W: Write>(
     shape.window(level, 0, window);
     let ids: &[Piece] = &pieces.ids;
     let ends: &[Piece] = &pieces.channels;
-    let mut front = front_of(ids, &window[..2 * level as usize]);
+    let mut prefix = line_prefix_of(ids, &window[..2 * level as usize]);
     for number in 0..count {
-        make_room(chunk, writer)?;
+        flush_if_full(chunk, writer)?;
         let last = ids[window[2 * level as usize] as usize];
-        store_line(chunk, &front, last, ends[table.entry(number) as usize]);
-        go_on(shape, ids, window, &mut front);
+        store_line(chunk, &prefix, last, ends[table.entry(number) as usize]);
+        advance(shape, ids, window, &mut prefix);
     }
-    make_room(chunk, writer)
+    flush_if_full(chunk, writer)
 }
 
-// Advances to the next window and its front, if there is one.
-fn go_on(shape: Shape, ids: &[Piece], window: &mut [u32], front: &mut Front)
+// Advances to the next window and its prefix, if there is one.
+fn advance(shape: Shape, ids: &[Piece], window: &mut [u32], prefix: &mut LinePrefix)
     requires ids { AreTexts id_text ids.now × (length ids.now ≡ shape.ids) }
     requires window { IsWindow (2 * shape.rounds + 1) shape.ids window.old }
-    requires front { front_text front.old ≡ ids_then (take (2 * shape.rounds) window.old) [] }
+    requires prefix { prefix_text prefix.old ≡ ids_then (take (2 * shape.rounds) window.old) [] }
     ensures next { (n : ℕ) → slice_get (windows (2 * shape.rounds + 1) shape.ids) n ≡ Some window.old
         → n + 1 < length (windows (2 * shape.rounds + 1) shape.ids) → slice_get (windows (2 * shape.rounds + 1) shape.ids) (n + 1) ≡ Some window.new }
     ensures window { IsWindow (2 * shape.rounds + 1) shape.ids window.new }
-    ensures front { front_text front.new ≡ ids_then (take (2 * shape.rounds) window.new) [] }
+    ensures prefix { prefix_text prefix.new ≡ ids_then (take (2 * shape.rounds) window.new) [] }
 {
     let level = shape.rounds();
     if !shape.next_in_run(level, window) {
         shape.next_window(level, window);
-        *front = front_of(ids, &window[..2 * level as usize]);
+        *prefix = line_prefix_of(ids, &window[..2 * level as usize]);
     }
 }
 
 // Writes the contents of a chunk if it has no space for another line.
-fn make_room<W: Write>(chunk: &mut Chunk, writer: &mut Watched<W>) -> Result<(), EngineFault>
+fn flush_if_full<W: Write>(chunk: &mut Chunk, writer: &mut Watched<W>) -> Result<(), EngineFault>
     requires { has_failed writer.old ≡ false }
-    ensures ok { OnOk result ((before : Option (List ℕ)) (text : List ℕ) → Tells before (W.contents (device_of writer.old)) (held chunk.old) text
-        → Tells before (W.contents (device_of writer.new)) (held chunk.new) text) }
+    ensures ok { OnOk result ((before : Option (List ℕ)) (text : List ℕ) → IsWrittenSoFar before (W.contents (device_of writer.old)) (held chunk.old) text
+        → IsWrittenSoFar before (W.contents (device_of writer.new)) (held chunk.new) text) }
     ensures room { OnOk result (chunk.new.filled + LINE_LEN ≤ CHUNK_LEN) }
     ensures err { OnErr result (AppendsFront (W.contents (device_of writer.old))
         (W.contents (device_of writer.new)) (held chunk.old)) }
@@ -169,13 +169,13 @@ fn make_room<W: Write>(chunk: &mut Chunk, writer: &mut Watched<W>) -> Result<(),
     Ok(())
 }
 
-// Appends a line to a chunk: the front of a window, the piece of its last identifier and that of
+// Appends a line to a chunk: the prefix of a window, the piece of its last identifier and that of
 // its channel.
-fn store_line(chunk: &mut Chunk, front: &Front, last: Piece, end: Piece)
+fn store_line(chunk: &mut Chunk, prefix: &LinePrefix, last: Piece, end: Piece)
     requires room { chunk.old.filled + LINE_LEN ≤ CHUNK_LEN }
-    ensures { held chunk.new ≡ held chunk.old ++ (front_text front.now ++ (piece_text last ++ piece_text end)) }
+    ensures { held chunk.new ≡ held chunk.old ++ (prefix_text prefix.now ++ (piece_text last ++ piece_text end)) }
 {
-    store_front(chunk, front);
+    store_prefix(chunk, prefix);
     store(chunk, last);
     store(chunk, end);
 }

@@ -1,6 +1,6 @@
 use Rattle.std.proofs.Common.{sym, subst, ◌∙◌}
 use Rattle.std.specs.Fmt.{decimal}
-use Rattle.table_text.specs.Fronts.{Lacks}
+use Rattle.table_text.specs.LinePrefixes.{Lacks}
 use Rattle.table_text.proofs.NumberTexts.{no_cut, one_cut, lacks_decimal}
 use Rattle.table_text.proofs.numbers.number_before.Goals as goal
 

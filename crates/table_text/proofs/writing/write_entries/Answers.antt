@@ -3,7 +3,7 @@ use Rattle.std.proofs.lemmas.Result.{on_err_weaker}
 use Rattle.std.proofs.KnownBytes.{Appends-nil}
 use Rattle.table_fill.specs.Tables.{windows_of}
 use Rattle.table_text.specs.TableText.{lines_then, entry_then}
-use Rattle.table_text.specs.Pieces.{held, piece_text, id_text, channel_text, AreTexts, Tells}
+use Rattle.table_text.specs.Pieces.{held, piece_text, id_text, channel_text, AreTexts, IsWrittenSoFar}
 use Rattle.table_text.proofs.PieceTexts.{piece_at}
 use Rattle.table_text.proofs.WrittenLines.{front_more, lines_front, line_of_run}
 use Rattle.table_text.proofs.WrittenChunks.{tells_more, tells_front, on_err}
@@ -15,7 +15,7 @@ loop-number-init g c =
     record {
       next = search rules;
       window = search rules;
-      front = search rules;
+      prefix = search rules;
       working = c.requires.working;
       told = ([], Appends-nil _, c.requires.first);
     }
@@ -38,28 +38,28 @@ loop-number-preserved g c =
     let last_text : piece_text c.index-ids-window.result ≡ id_text last =
     rw level at (ap piece_text c.index-ids-window.is ∙ piece_at id_text c.deref-ids.result.now (get_or window (2 * c.rounds-level.result) 0) _ ids (search rules)) in
     let end_text = ap piece_text c.index-ends-entry.is ∙ piece_at channel_text c.deref-ends.result.now channel _ ends (search rules) in
-    let stored : held c.store_line.new.chunk ≡ held c.make_room.new.chunk ++ line =
-    c.store_line.ensures ∙ ap (λ text. held c.make_room.new.chunk ++ text)
-    ((λ i. c.loop-number.invariant.front i ++ (last_text i ++ end_text i)) ∙ line_of_run (2 * t.rounds) window channel own.size) in
-    let before = c.in_ok-make_room.ensures.ok _ _ c.loop-number.invariant.told in
+    let stored : held c.store_line.new.chunk ≡ held c.flush_if_full.new.chunk ++ line =
+    c.store_line.ensures ∙ ap (λ text. held c.flush_if_full.new.chunk ++ text)
+    ((λ i. c.loop-number.invariant.prefix i ++ (last_text i ++ end_text i)) ∙ line_of_run (2 * t.rounds) window channel own.size) in
+    let before = c.in_ok-flush_if_full.ensures.ok _ _ c.loop-number.invariant.told in
     let more = tells_more _ _ _ (held c.store_line.new.chunk) line _ before stored in
     let lines = front_more t c.args.separation n c.entry.result window _ line (omega (arith, size, within)) (c.loop-number.invariant.next within) refl c.entry.ensures.value refl in
     record {
       next = search rules;
       window = search rules;
-      front = search rules;
+      prefix = search rules;
       working = search rules;
-      told = subst (Tells _ _ (held c.store_line.new.chunk)) lines more;
+      told = subst (IsWrittenSoFar _ _ (held c.store_line.new.chunk)) lines more;
     }
 
-pub returns-in_err-make_room-clause-err : goal.returns-in_err-make_room-clause-err
-returns-in_err-make_room-clause-err g c =
+pub returns-in_err-flush_if_full-clause-err : goal.returns-in_err-flush_if_full-clause-err
+returns-in_err-flush_if_full-clause-err g c =
     let t = c.args.table.now in
     let front = lines_front t c.args.separation c.loop-number.number (search rules) in
-    on_err c.from_residual.result (tells_front _ _ _ _ _ _ front.0 c.loop-number.invariant.told c.in_err-make_room.ensures.err front.1)
+    on_err c.from_residual.result (tells_front _ _ _ _ _ _ front.0 c.loop-number.invariant.told c.in_err-flush_if_full.ensures.err front.1)
 
 pub returns-clause-err : goal.returns-clause-err
 returns-clause-err g c =
     let t = c.args.table.now in
     let front = lines_front t c.args.separation c.loop-number.number (search rules) in
-    on_err_weaker c.make_room-2.result (λ failed. tells_front _ _ _ _ _ _ front.0 c.loop-number.invariant.told failed front.1) c.make_room-2.ensures.err
+    on_err_weaker c.flush_if_full-2.result (λ failed. tells_front _ _ _ _ _ _ front.0 c.loop-number.invariant.told failed front.1) c.flush_if_full-2.ensures.err

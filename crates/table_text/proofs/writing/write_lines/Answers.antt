@@ -2,7 +2,7 @@ use Rattle.std.proofs.Common.{◌≡◌, [], ◌++◌, subst, ◌∙◌, ap, app
 use Rattle.std.proofs.lemmas.Result.{on_ok_weaker, on_err_weaker}
 use Rattle.table_text.specs.declared.version.Version.TheVariants.{Two}
 use Rattle.table_text.specs.TableText.{written, end_then, lines_then, text_of}
-use Rattle.table_text.specs.Pieces.{held, Tells}
+use Rattle.table_text.specs.Pieces.{held, IsWrittenSoFar}
 use Rattle.table_text.proofs.TextsApart.{lines_append}
 use Rattle.table_text.proofs.WrittenChunks.{tells_more, tells_all, tells_front}
 use Rattle.table_text.proofs.writing.write_lines.Goals as goal
@@ -14,7 +14,7 @@ returns-clause-ok g c =
     let held_is : held c.store.new.chunk ≡ held c.write_entries.new.chunk ++ end_then [] = c.store.ensures.held ∙ ap (λ piece. held c.write_entries.new.chunk ++ piece) c.piece_of.ensures in
     let told = tells_more _ _ _ (held c.store.new.chunk) (end_then []) (lines_then w []) c.in_ok-write_entries.ensures.ok held_is in
     on_ok_weaker c.send_held.result
-    (λ sent. tells_all _ _ _ _ _ (subst (Tells _ _ (held c.store.new.chunk)) (lines_append w [] (end_then [])) told) sent) c.send_held.ensures.ok
+    (λ sent. tells_all _ _ _ _ _ (subst (IsWrittenSoFar _ _ (held c.store.new.chunk)) (lines_append w [] (end_then [])) told) sent) c.send_held.ensures.ok
 
 pub returns-clause-err : goal.returns-clause-err
 unfolding text_of

@@ -4,7 +4,7 @@ use Rattle.table_text.specs.TableText.{ids_then}
 use Rattle.table_text.specs.Pieces.{piece_text, id_text}
 use Rattle.table_text.proofs.WrittenLines.{ids_more}
 use Rattle.table_text.proofs.PieceTexts.{piece_at}
-use Rattle.table_text.proofs.pieces.front_of.Goals as goal
+use Rattle.table_text.proofs.pieces.line_prefix_of.Goals as goal
 
 -- One more identifier is written.
 pub loop-id-preserved : goal.loop-id-preserved

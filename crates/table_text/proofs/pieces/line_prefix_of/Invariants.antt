@@ -1,6 +1,6 @@
 use Rattle.std.proofs.Common.{◌≡◌, ◌*◌, ◌≤◌, [], take}
 use Rattle.table_text.specs.TableText.{ids_then}
-use Rattle.table_text.proofs.pieces.front_of.Given as goal
+use Rattle.table_text.proofs.pieces.line_prefix_of.Given as goal
 
 -- the identifiers so far are written
 abbrev pub invariant-loop-id : goal.invariant-loop-id
