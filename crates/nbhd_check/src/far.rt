@@ -217,28 +217,31 @@ fn may_begin_far_tuple(
 {
     numbers_of_windows();
     let (first, second) = (list[0], list[1]);
-    set_last(list, first, second);
-    let one = close_one(table, &list[2..], channel, distance);
-    set_last(list, second, first);
-    let other = close_one(table, &list[2..], channel, distance);
     let all = close_count(table, counts, table.shape().ids(), channel, distance);
     let with_first = close_count(table, counts, first, channel, distance);
     let with_second = close_count(table, counts, second, channel, distance);
-    u64::from(all) + one + other > u64::from(with_first) + u64::from(with_second)
+    let held = u64::from(with_first) + u64::from(with_second);
+    let all = u64::from(all);
+    set_last(list, first, second);
+    let one = close_one(table, &list[2..], channel, distance, all + 2 > held);
+    set_last(list, second, first);
+    let other = close_one(table, &list[2..], channel, distance, all + one + 1 > held);
+    all + one + other > held
 }
 
-// Returns 1 if the window's channel differs from `channel` by less than `distance`, else 0.
-fn close_one(table: &Table, window: &[u32], channel: u32, distance: u32) -> u64
+// Returns 1 if the window's channel differs from `channel` by less than `distance`, else 0. Returns 1
+// without a look at the window unless it `decides`.
+fn close_one(table: &Table, window: &[u32], channel: u32, distance: u32, decides: bool) -> u64
     requires window { IsWindow (2 * table.now.rounds + 1) table.now.ids window.now }
     ensures few { result ≤ 1 }
     ensures close { (number : ℕ) → slice_get (windows_of table.now) number ≡ Some window.now
         → abs_diff channel (slice_index table.now.entries number) < distance → 1 ≤ result }
 {
     numbers_of_windows();
-    if channel.abs_diff(channel_of_window(table, window)) < distance {
-        1
-    } else {
+    if decides && channel.abs_diff(channel_of_window(table, window)) >= distance {
         0
+    } else {
+        1
     }
 }
 

@@ -82,9 +82,9 @@ returns-clause-far c =
     let second_is : c.close_count-with_second.result ≡ count (get_or window 1 0) = c.close_count-with_second.ensures low n sums ∙ ap count (sym begin_b) in
     let ids_is : c.ids.result ≡ t.ids = omega arith in
     let all_is : c.close_count-all.result ≡ count t.ids = c.close_count-all.ensures low n sums ∙ ap count ids_is in
-    OnFalse_from (nat_lt (c.from-2.result + c.from-3.result) (c.from.result + c.close_one-one.result + c.close_one-other.result)) (¬ BeginsFarTuple t c.args.distance window)
+    OnFalse_from (nat_lt (c.from.result + c.from-2.result) (c.from-all.result + c.close_one-one.result + c.close_one-other.result)) (¬ BeginsFarTuple t c.args.distance window)
     (λ no.
-    let few = ltb-false (c.from-2.result + c.from-3.result) (c.from.result + c.close_one-one.result + c.close_one-other.result) no in
+    let few = ltb-false (c.from.result + c.from-2.result) (c.from-all.result + c.close_one-one.result + c.close_one-other.result) no in
     none_far laws t c.args.distance c.args.channel low n first.0 second.0 c.close_one-one.result c.close_one-other.result window c.requires.some c.requires.window
     c.requires.channel block
     (first.1 ∙ (λ q. Some (middle_of t list ++ sym begin_a q ∷ sym begin_b q ∷ [])))
