@@ -17,7 +17,7 @@ fn note_on(alloc: Global, text: &[u8]) -> Result<String, Fail> {
 }
 
 /// Checks that the note on each text begins with the text beside it.
-fn notes_begin<R: Abort>(rt: &R, alloc: Global, rows: &[(&[u8], &str)]) -> Result<(), Fail> {
+fn assert_notes_start<R: Abort>(rt: &R, alloc: Global, rows: &[(&[u8], &str)]) -> Result<(), Fail> {
     for (text, want) in rows {
         let note = note_on(alloc, text)?;
         assert!(rt; note.as_str().starts_with(want), "{want} in {note}");
@@ -27,7 +27,11 @@ fn notes_begin<R: Abort>(rt: &R, alloc: Global, rows: &[(&[u8], &str)]) -> Resul
 
 /// Checks the start of the note on the program with one part replaced: a row has the part, its
 /// replacement and the start.
-fn edits_begin<R: Abort>(rt: &R, alloc: Global, rows: &[(&str, &str, &str)]) -> Result<(), Fail> {
+fn assert_edit_notes_start<R: Abort>(
+    rt: &R,
+    alloc: Global,
+    rows: &[(&str, &str, &str)],
+) -> Result<(), Fail> {
     for (old, new, want) in rows {
         let text = edited(alloc, old, new)?;
         let note = note_on(alloc, text.as_bytes())?;
@@ -110,7 +114,7 @@ fn marks_and_order(rt: HostRuntime) -> Result<(), Fail> {
             "nbhd: line 1, column 8: `=` cannot stand here; wanted a number",
         ),
     ];
-    edits_begin(&rt, rt.alloc(), &rows)
+    assert_edit_notes_start(&rt, rt.alloc(), &rows)
 }
 
 #[test]
@@ -167,7 +171,7 @@ fn registers_and_rounds(rt: HostRuntime) -> Result<(), Fail> {
             "nbhd: line 10, column 8: a number is at most 4294967295",
         ),
     ];
-    edits_begin(&rt, rt.alloc(), &rows)
+    assert_edit_notes_start(&rt, rt.alloc(), &rows)
 }
 
 #[test]
@@ -199,7 +203,7 @@ fn operands(rt: HostRuntime) -> Result<(), Fail> {
             "nbhd: line 10, column 14: `=` cannot stand here; wanted `,`; write `eq(a, b)` to compare",
         ),
     ];
-    edits_begin(&rt, rt.alloc(), &rows)
+    assert_edit_notes_start(&rt, rt.alloc(), &rows)
 }
 
 #[test]
@@ -301,7 +305,7 @@ fn words_of_other_languages(rt: HostRuntime) -> Result<(), Fail> {
             "nbhd: line 11, column 1: `rounds` cannot stand here; wanted the end of the text",
         ),
     ];
-    edits_begin(&rt, rt.alloc(), &rows)
+    assert_edit_notes_start(&rt, rt.alloc(), &rows)
 }
 
 #[test]
@@ -356,7 +360,7 @@ fn other_files(rt: HostRuntime) -> Result<(), Fail> {
             "nbhd: line 1, column 39: `r1` cannot stand here; wanted the assignment of r0",
         ),
     ];
-    notes_begin(&rt, rt.alloc(), &rows)
+    assert_notes_start(&rt, rt.alloc(), &rows)
 }
 
 #[test]
