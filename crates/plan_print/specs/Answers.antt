@@ -24,5 +24,5 @@ abbrev pub IsExplained : List ℕ → Answer → Type 0
 IsExplained input answer = IfSome (cause_in answer) (Explains input)
 
 -- the cause is found in each input, because it is one of the ring or of the table only
-abbrev pub IsOwn : Answer → Type 0
-IsOwn answer = (input : List ℕ) → IsExplained input answer
+abbrev pub HasOwnCause : Answer → Type 0
+HasOwnCause answer = (input : List ℕ) → IsExplained input answer

@@ -49,26 +49,26 @@ pub record WritesFront (task : Task) (unread left before after : Option (List �
   pub written : AppendsFront before after report.bytes
 
 -- the number of workers or of segments that the task names, or 0
-abbrev pub crew_of : Task → ℕ
-crew_of (Check ids) = 0
-crew_of Print = 0
-crew_of (Table ids workers near far) = workers
-crew_of (Judge ids workers near far) = workers
-crew_of (Run ids ring segments) = segments
-crew_of (Trace ids ring) = 0
-crew_of (Plan ids ring workers) = workers
-crew_of Audit = 0
-crew_of Migrate = 0
+abbrev pub thread_count_of : Task → ℕ
+thread_count_of (Check ids) = 0
+thread_count_of Print = 0
+thread_count_of (Table ids workers near far) = workers
+thread_count_of (Judge ids workers near far) = workers
+thread_count_of (Run ids ring segments) = segments
+thread_count_of (Trace ids ring) = 0
+thread_count_of (Plan ids ring workers) = workers
+thread_count_of Audit = 0
+thread_count_of Migrate = 0
 
 -- the fault is possible for a task with this number of workers or of segments: threads are started only for two or
 -- more, and only a worker or a segment has the fault Stranger
 abbrev pub MayHave : ℕ → EngineFault → Type 0
-MayHave crew Read = ⊤
-MayHave crew Write = ⊤
-MayHave crew Memory = ⊤
-MayHave crew Thread = 1 < crew
-MayHave crew Stranger = 0 < crew
+MayHave count Read = ⊤
+MayHave count Write = ⊤
+MayHave count Memory = ⊤
+MayHave count Thread = 1 < count
+MayHave count Stranger = 0 < count
 
 -- The fault is of the task itself: no read and no write failed.
 abbrev pub IsTaskFault : ℕ → EngineFault → Type 0
-IsTaskFault crew fault = MayHave crew fault × (fault ≢ Read) × (fault ≢ Write)
+IsTaskFault count fault = MayHave count fault × (fault ≢ Read) × (fault ≢ Write)

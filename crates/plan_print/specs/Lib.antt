@@ -46,4 +46,4 @@ pub use Rattle.fault_notes.specs.VerdictNotes
 pub mod Causes
 pub mod Engine
 pub mod Answers
-pub mod ToldFaults
+pub mod ReportedFaults

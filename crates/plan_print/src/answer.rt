@@ -6,8 +6,8 @@ ghost use Rattle.table_fill.specs.ProgramTables.{table_of};
 ghost use Rattle.task_words.specs.Counts.{IsCount};
 ghost use Rattle.shared_memo.specs.Passes.{memo_plan};
 ghost use Rattle.plan_print.specs.Engine.{IsTaskFault};
-ghost use Rattle.plan_print.specs.ToldFaults.{fill_fault_told, run_fault_told};
-ghost use Rattle.plan_print.specs.Answers.{report_in, IsOwn};
+ghost use Rattle.plan_print.specs.ReportedFaults.{fill_fault_told, run_fault_told};
+ghost use Rattle.plan_print.specs.Answers.{report_in, HasOwnCause};
 ghost use Rattle.plan_print.specs.Trace.{trace_lines};
 ghost use Rattle.plan_print.specs.Report as report;
 ghost use Rattle.plan_print.specs.Report.{Says, IsAnswerOnRing, IsJudgement, IsRunAnswer, IsTableText};
@@ -48,7 +48,7 @@ pub(crate) enum Answer {
 // Returns the report of a check.
 pub(crate) fn check_answer(alloc: Global, plan: &Plan) -> Result<Answer, EngineFault>
     ensures answer { IfOk result (λ r. Says (report.accepted_line plan.now.ids plan.now.program) Status.Done (report_in r)) }
-    ensures cause { IfOk result IsOwn }
+    ensures cause { IfOk result HasOwnCause }
     ensures fault { IfErr result (λ fault. fault ≡ EngineFault.Memory) }
 {
     Ok(Answer::Text(accepted_line(alloc, plan)?, Status::Done))
@@ -57,7 +57,7 @@ pub(crate) fn check_answer(alloc: Global, plan: &Plan) -> Result<Answer, EngineF
 // Returns the report with the printed form of a program.
 pub(crate) fn print_answer(alloc: Global, program: &Program) -> Result<Answer, EngineFault>
     ensures answer { IfOk result (λ r. Says (printed program.now) Status.Done (report_in r)) }
-    ensures cause { IfOk result IsOwn }
+    ensures cause { IfOk result HasOwnCause }
     ensures fault { IfErr result (λ fault. fault ≡ EngineFault.Memory) }
 {
     match print(alloc, program) {
@@ -77,10 +77,10 @@ pub(crate) fn table_answer<T: Threads + Wait + Sync>(
 ) -> Result<Answer, EngineFault>
     requires { IsCount workers }
     ensures answer { IfOk result (λ r. IsTableText (table_of plan.now.program plan.now.ids) separation (report_in r)) }
-    ensures cause { IfOk result IsOwn }
+    ensures cause { IfOk result HasOwnCause }
     ensures fault { IfErr result (IsTaskFault workers) }
 {
-    Ok(Answer::Table(compiled(rt, alloc, plan, workers)?, separation))
+    Ok(Answer::Table(compile_table(rt, alloc, plan, workers)?, separation))
 }
 
 // Returns the report on a list of identifiers that is not a ring of this shape.
@@ -92,7 +92,7 @@ fn ring_refusal(
 ) -> Result<Answer, EngineFault>
     requires { IsFirstFault shape.ids shape.rounds places.items fault }
     ensures answer { IfOk result (λ r. Says (report.ring_fault_line fault) Status.RingRefused (report_in r)) }
-    ensures cause { IfOk result IsOwn }
+    ensures cause { IfOk result HasOwnCause }
     ensures fault { IfErr result (λ fault. fault ≡ EngineFault.Memory) }
 {
     let line = ring_fault_line(alloc, fault)?;
@@ -115,7 +115,7 @@ pub(crate) fn run_answer<T: Threads + Wait + Sync>(
 ) -> Result<Answer, EngineFault>
     ensures answer { IfOk result (λ r. IsAnswerOnRing plan.now.ids (length plan.now.program.steps) ids.items
         (IsRunAnswer plan.now.program ids.items segments) (report_in r)) }
-    ensures cause { IfOk result IsOwn }
+    ensures cause { IfOk result HasOwnCause }
     ensures fault { IfErr result (IsTaskFault segments) }
 {
     match Ring::new(plan.shape(), ids) {
@@ -135,7 +135,7 @@ fn channels_answer<T: Threads + Wait + Sync>(
     requires ids { ring.now.ids ≡ plan.now.ids }
     requires rounds { ring.now.rounds ≡ length plan.now.program.steps }
     ensures answer { IfOk result (λ r. IsRunAnswer plan.now.program ring.now.places segments (report_in r)) }
-    ensures cause { IfOk result IsOwn }
+    ensures cause { IfOk result HasOwnCause }
     ensures fault { IfErr result (IsTaskFault segments) }
 {
     match run(rt, alloc, plan, ring, segments, &OpenGate) {
@@ -151,7 +151,7 @@ fn channels_answer<T: Threads + Wait + Sync>(
 fn segments_refusal(alloc: Global, segments: u32, ring: &Ring) -> Result<Answer, EngineFault>
     requires { ¬ IsSegmentCount segments (length ring.now.places) }
     ensures answer { IfOk result (λ r. Says report.segments_fault_line Status.Words (report_in r)) }
-    ensures cause { IfOk result IsOwn }
+    ensures cause { IfOk result HasOwnCause }
     ensures fault { IfErr result (λ fault. fault ≡ EngineFault.Memory) }
 {
     let line = segments_fault_line(alloc)?;
@@ -178,7 +178,7 @@ fn fault_of_run(fault: RunFault) -> Option<EngineFault>
 pub(crate) fn trace_answer(alloc: Global, plan: &Plan, ids: Vec<u32>) -> Result<Answer, EngineFault>
     ensures answer { IfOk result (λ r. IsAnswerOnRing plan.now.ids (length plan.now.program.steps) ids.items
         (Says (trace_lines plan.now.program ids.items) Status.Done) (report_in r)) }
-    ensures cause { IfOk result IsOwn }
+    ensures cause { IfOk result HasOwnCause }
     ensures fault { IfErr result (λ fault. fault ≡ EngineFault.Memory) }
 {
     match Ring::new(plan.shape(), ids) {
@@ -198,12 +198,12 @@ pub(crate) fn plan_answer<T: Threads + Wait + Sync>(
     requires { IsCount workers }
     ensures answer { IfOk result (λ r. IsAnswerOnRing plan.now.ids (length plan.now.program.steps) ids.items
         (Says (report.place_lines plan.now.program ids.items) Status.Done) (report_in r)) }
-    ensures cause { IfOk result IsOwn }
+    ensures cause { IfOk result HasOwnCause }
     ensures fault { IfErr result (IsTaskFault workers) }
 {
     match Ring::new(plan.shape(), ids) {
         Ok(ring) => {
-            let table = compiled(rt, alloc, plan, workers)?;
+            let table = compile_table(rt, alloc, plan, workers)?;
             Ok(Answer::Text(places_text(alloc, plan, &table, &ring)?, Status::Done))
         }
         Err((ids, fault)) => ring_refusal(alloc, plan.shape(), ids, fault),
@@ -212,7 +212,7 @@ pub(crate) fn plan_answer<T: Threads + Wait + Sync>(
 
 // Returns the report of the judge on the table of an accepted program. This many workers fill and
 // judge the table.
-pub(crate) fn judged<T: Threads + Wait + Sync>(
+pub(crate) fn judge_report<T: Threads + Wait + Sync>(
     rt: &T,
     alloc: Global,
     plan: &Plan,
@@ -221,7 +221,7 @@ pub(crate) fn judged<T: Threads + Wait + Sync>(
 ) -> Result<Answer, EngineFault>
     requires { IsCount workers }
     ensures answer { IfOk result (λ r. IsJudgement (table_of plan.now.program plan.now.ids) separation (report_in r)) }
-    ensures cause { IfOk result IsOwn }
+    ensures cause { IfOk result HasOwnCause }
     ensures fault { IfErr result (IsTaskFault workers) }
 {
     let memo = Memo::new(alloc, plan)?;
@@ -246,12 +246,12 @@ fn verdict_and_drop<T: Threads + Sync>(
         drop(memo);
         return judge_with_workers(rt, alloc, table, separation, workers);
     }
-    verdict_beside_memo(rt, alloc, table, separation, workers, memo)
+    judge_and_drop_memo(rt, alloc, table, separation, workers, memo)
 }
 
 // Returns the judge's verdict on a table, by this many workers, and drops a memo at the same time.
 // This function exists to prove with few values in scope that a memo can be sent to a thread.
-fn verdict_beside_memo<T: Threads + Sync>(
+fn judge_and_drop_memo<T: Threads + Sync>(
     rt: &T,
     alloc: Global,
     table: &Table,
@@ -261,12 +261,12 @@ fn verdict_beside_memo<T: Threads + Sync>(
 ) -> Result<Verdict, OutOfMemory>
     ensures { IfOk result (IsVerdict table.now separation) }
 {
-    verdict_beside(rt, alloc, table, separation, workers, memo)
+    judge_and_drop(rt, alloc, table, separation, workers, memo)
 }
 
 // Returns the judge's verdict on a table, by this many workers, and drops `dropped` at the same
 // time.
-fn verdict_beside<T: Threads + Sync, D: Send + Drop>(
+fn judge_and_drop<T: Threads + Sync, D: Send + Drop>(
     rt: &T,
     alloc: Global,
     table: &Table,
@@ -289,7 +289,7 @@ fn verdict_beside<T: Threads + Sync, D: Send + Drop>(
 
 // Returns the table of an accepted program, filled by this many workers. The memo is dropped before
 // the call returns.
-fn compiled<T: Threads + Wait + Sync>(
+fn compile_table<T: Threads + Wait + Sync>(
     rt: &T,
     alloc: Global,
     plan: &Plan,

@@ -8,7 +8,7 @@ ghost use Rattle.devices.specs.Output.{AppendsFront};
 ghost use Rattle.devices.specs.Watched.{device_of, has_failed, calls_of};
 ghost use Rattle.plan_print.specs.Answers.{report_in, cause_in};
 ghost use Rattle.plan_print.specs.Causes.{Explains, IsNoteOn};
-ghost use Rattle.plan_print.specs.Engine.{limit_of, WritesReport, TellsReport, WritesFront, crew_of, MayHave};
+ghost use Rattle.plan_print.specs.Engine.{limit_of, WritesReport, TellsReport, WritesFront, thread_count_of, MayHave};
 
 use crate::answer::Answer;
 use crate::cause::{Cause, note_on};
@@ -57,7 +57,7 @@ pub fn engine<T: Threads + Wait + Sync, R: Read, W: Write>(
         → Keeps (W.contents (device_of writer.old)) (W.contents (device_of writer.new))) }
     ensures taken { OnErr result (TakesFront (R.remaining (device_of reader.old)) (R.remaining (device_of reader.new)) (limit_of task)) }
     ensures asked { calls_of reader.new ≤ calls_of reader.old + (limit_of task + 1) }
-    ensures crew { IfErr result (MayHave (crew_of task)) }
+    ensures threads { IfErr result (MayHave (thread_count_of task)) }
     ensures reader_failed { IsErrOf result EngineFault.Read ↔ IsTrue (has_failed reader.new) }
     ensures writer_failed { IsErrOf result EngineFault.Write ↔ IsTrue (has_failed writer.new) }
 {
@@ -97,7 +97,7 @@ pub fn engine_with_note<T: Threads + Wait + Sync, R: Read, W: Write>(
         → Keeps (W.contents (device_of writer.old)) (W.contents (device_of writer.new))) }
     ensures taken { OnErr result (TakesFront (R.remaining (device_of reader.old)) (R.remaining (device_of reader.new)) (limit_of task)) }
     ensures asked { calls_of reader.new ≤ calls_of reader.old + (limit_of task + 1) }
-    ensures crew { IfErr result (MayHave (crew_of task)) }
+    ensures threads { IfErr result (MayHave (thread_count_of task)) }
     ensures reader_failed { IsErrOf result EngineFault.Read ↔ IsTrue (has_failed reader.new) }
     ensures writer_failed { IsErrOf result EngineFault.Write ↔ IsTrue (has_failed writer.new) }
 {

@@ -2,7 +2,7 @@
 
 ghost use Rattle.std.specs.Prelude.{◌≡◌, IfOk, IfErr};
 ghost use Rattle.nbhd_check.specs.Verdicts.{IsVerdict};
-ghost use Rattle.plan_print.specs.Answers.{report_in, IsOwn};
+ghost use Rattle.plan_print.specs.Answers.{report_in, HasOwnCause};
 ghost use Rattle.plan_print.specs.Report.{IsJudgement};
 
 use crate::answer::Answer;
@@ -24,7 +24,7 @@ pub(crate) fn verdict_answer(
 ) -> Result<Answer, EngineFault>
     requires { IsVerdict table.now separation verdict }
     ensures answer { IfOk result (λ r. IsJudgement table.now separation (report_in r)) }
-    ensures cause { IfOk result IsOwn }
+    ensures cause { IfOk result HasOwnCause }
     ensures fault { IfErr result (λ fault. fault ≡ EngineFault.Memory) }
 {
     match verdict {
@@ -50,14 +50,14 @@ pub(crate) fn verdict_answer(
 }
 
 // Returns the report of the judge on a table, by at most as many threads as there are processors.
-pub(crate) fn audited<T: Threads + Sync>(
+pub(crate) fn audit_report<T: Threads + Sync>(
     rt: &T,
     alloc: Global,
     table: &Table,
     separation: Separation,
 ) -> Result<Answer, EngineFault>
     ensures answer { IfOk result (λ r. IsJudgement table.now separation (report_in r)) }
-    ensures cause { IfOk result IsOwn }
+    ensures cause { IfOk result HasOwnCause }
     ensures fault { IfErr result (λ fault. fault ≡ EngineFault.Memory) }
 {
     let verdict = judge(rt, alloc, table, separation)?;

@@ -30,30 +30,30 @@ pub fn exit_status<T: AllocGlobal + Env + Input + Print + Eprint + Threads + Wai
 ) -> u8
     ensures { IsExitStatus result }
 {
-    status_after(rt, asked(rt))
+    status_after(rt, parse_task(rt))
 }
 
 // Does the task, or prints the fault of the words. Returns the exit status.
 fn status_after<T: AllocGlobal + Env + Input + Print + Eprint + Threads + Wait + Sync>(
     rt: &T,
-    asked: Result<Task, WordsFault>,
+    parsed: Result<Task, WordsFault>,
 ) -> u8
-    requires { IfOk asked IsRunnable }
+    requires { IfOk parsed IsRunnable }
     ensures status { IsExitStatus result }
-    ensures refused { IfErr asked (λ fault. IsStatusAfter fault result) }
+    ensures refused { IfErr parsed (λ fault. IsStatusAfter fault result) }
 {
-    match asked {
-        Ok(task) => noted(rt, done(rt, task)),
+    match parsed {
+        Ok(task) => print_result(rt, run_engine(rt, task)),
         Err(WordsFault::Help(text)) => {
             let mut writer = Watched::new(io::writer(rt));
-            ended(rt, shown(&mut writer, &text))
+            print_fault(rt, write_text(&mut writer, &text))
         }
-        Err(fault) => refused(rt, &fault),
+        Err(fault) => print_words_fault(rt, &fault),
     }
 }
 
 // Returns the task that the words after the program's name request.
-fn asked<T: AllocGlobal + Env>(rt: &T) -> Result<Task, WordsFault>
+fn parse_task<T: AllocGlobal + Env>(rt: &T) -> Result<Task, WordsFault>
     ensures { IfOk result IsRunnable }
 {
     let alloc = rt.alloc();
@@ -68,7 +68,7 @@ fn asked<T: AllocGlobal + Env>(rt: &T) -> Result<Task, WordsFault>
 
 // Prints the fault of the words to standard error, and a tip if there is one. Returns the exit
 // status.
-fn refused<T: AllocGlobal + Env + Eprint>(rt: &T, fault: &WordsFault) -> u8
+fn print_words_fault<T: AllocGlobal + Env + Eprint>(rt: &T, fault: &WordsFault) -> u8
     ensures { result ≡ words_fault_code fault.now }
 {
     let _ = match fault {
@@ -98,7 +98,7 @@ fn tip_on<T: AllocGlobal + Env>(rt: &T, fault: &WordsFault) -> Option<String> {
 }
 
 // Prints a fault, if there is one, to standard error. Returns the exit status.
-fn ended<T: Eprint>(rt: &T, answer: Result<Status, EngineFault>) -> u8
+fn print_fault<T: Eprint>(rt: &T, answer: Result<Status, EngineFault>) -> u8
     ensures { result ≡ answer_code answer }
 {
     if let Err(fault) = answer {
@@ -108,17 +108,17 @@ fn ended<T: Eprint>(rt: &T, answer: Result<Status, EngineFault>) -> u8
 }
 
 // Prints the note on a report, or a fault, to standard error. Returns the exit status.
-fn noted<T: Eprint>(rt: &T, answer: Result<Told, EngineFault>) -> u8
+fn print_result<T: Eprint>(rt: &T, answer: Result<Told, EngineFault>) -> u8
     ensures { IsExitStatus result }
 {
     match answer {
-        Ok(told) => after_report(rt, &told),
-        Err(fault) => ended(rt, Err(fault)),
+        Ok(told) => print_note(rt, &told),
+        Err(fault) => print_fault(rt, Err(fault)),
     }
 }
 
 // Prints the note on a report, if there is one, to standard error. Returns the exit status.
-fn after_report<T: Eprint>(rt: &T, told: &Told) -> u8
+fn print_note<T: Eprint>(rt: &T, told: &Told) -> u8
     ensures { result ≡ exit_code told.now.status }
 {
     if let Some(note) = &told.note {
@@ -128,7 +128,7 @@ fn after_report<T: Eprint>(rt: &T, told: &Told) -> u8
 }
 
 // Writes a text.
-fn shown<W: Write>(writer: &mut Watched<W>, text: &str) -> Result<Status, EngineFault>
+fn write_text<W: Write>(writer: &mut Watched<W>, text: &str) -> Result<Status, EngineFault>
     requires { has_failed writer.old ≡ false }
     ensures done { OnOk result (Appends (W.contents (device_of writer.old)) (W.contents (device_of writer.new)) text.now) }
     ensures failed { IsErrOf result EngineFault.Write ↔ IsTrue (has_failed writer.new) }
@@ -138,7 +138,7 @@ fn shown<W: Write>(writer: &mut Watched<W>, text: &str) -> Result<Status, Engine
 }
 
 // Runs the engine for a task on standard input and standard output.
-fn done<T: AllocGlobal + Input + Print + Threads + Wait + Sync>(
+fn run_engine<T: AllocGlobal + Input + Print + Threads + Wait + Sync>(
     rt: &T,
     task: Task,
 ) -> Result<Told, EngineFault>

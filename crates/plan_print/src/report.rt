@@ -5,16 +5,17 @@ ghost use Rattle.std.specs.Prelude.{◌≡◌, IfOk, IfErr};
 ghost use Rattle.node_lang.specs.Grammar.{Reads};
 ghost use Rattle.lang_check.specs.Acceptance.{IsAccepted};
 ghost use Rattle.table_text.specs.Texts.{IsTextOf};
-ghost use Rattle.plan_print.specs.Engine.{crew_of, IsTaskFault};
+ghost use Rattle.plan_print.specs.Engine.{thread_count_of, IsTaskFault};
 ghost use Rattle.plan_print.specs.Answers.{report_in, IsExplained};
 ghost use Rattle.plan_print.specs.Report.{IsReport, IsTextRefusal, IsProgramRefusal, IsTableRefusal};
 ghost use Rattle.task_words.specs.Task.{IsRunnable};
 
 use crate::answer::{
-    Answer, check_answer, judged, plan_answer, print_answer, run_answer, table_answer, trace_answer,
+    Answer, check_answer, judge_report, plan_answer, print_answer, run_answer, table_answer,
+    trace_answer,
 };
 use crate::cause::Cause;
-use crate::judgement::audited;
+use crate::judgement::audit_report;
 use crate::lines::{check_fault_line, table_fault_line, text_fault_line};
 use crate::status::Status;
 use devices::fault::EngineFault;
@@ -38,10 +39,10 @@ pub(crate) fn report_of<T: Threads + Wait + Sync>(
     requires { IsRunnable task }
     ensures report { IfOk result (λ r. IsReport task input.now (report_in r)) }
     ensures cause { IfOk result (IsExplained input.now) }
-    ensures fault { IfErr result (IsTaskFault (crew_of task)) }
+    ensures fault { IfErr result (IsTaskFault (thread_count_of task)) }
 {
     match task {
-        Task::Check { ids } => match accepted(alloc, input, ids)? {
+        Task::Check { ids } => match plan_in(alloc, input, ids)? {
             Ok(plan) => check_answer(alloc, &plan),
             Err(refusal) => Ok(refusal),
         },
@@ -54,7 +55,7 @@ pub(crate) fn report_of<T: Threads + Wait + Sync>(
             workers,
             near,
             far,
-        } => match accepted(alloc, input, ids)? {
+        } => match plan_in(alloc, input, ids)? {
             Ok(plan) => table_answer(rt, alloc, &plan, Separation { near, far }, workers),
             Err(refusal) => Ok(refusal),
         },
@@ -63,28 +64,28 @@ pub(crate) fn report_of<T: Threads + Wait + Sync>(
             workers,
             near,
             far,
-        } => match accepted(alloc, input, ids)? {
-            Ok(plan) => judged(rt, alloc, &plan, Separation { near, far }, workers),
+        } => match plan_in(alloc, input, ids)? {
+            Ok(plan) => judge_report(rt, alloc, &plan, Separation { near, far }, workers),
             Err(refusal) => Ok(refusal),
         },
         Task::Run {
             ids,
             ring,
             segments,
-        } => match accepted(alloc, input, ids)? {
+        } => match plan_in(alloc, input, ids)? {
             Ok(plan) => run_answer(rt, alloc, &plan, ring, segments),
             Err(refusal) => Ok(refusal),
         },
-        Task::Trace { ids, ring } => match accepted(alloc, input, ids)? {
+        Task::Trace { ids, ring } => match plan_in(alloc, input, ids)? {
             Ok(plan) => trace_answer(alloc, &plan, ring),
             Err(refusal) => Ok(refusal),
         },
-        Task::Plan { ids, ring, workers } => match accepted(alloc, input, ids)? {
+        Task::Plan { ids, ring, workers } => match plan_in(alloc, input, ids)? {
             Ok(plan) => plan_answer(rt, alloc, &plan, ring, workers),
             Err(refusal) => Ok(refusal),
         },
         Task::Audit => match table_in(alloc, input)? {
-            Ok((table, separation)) => audited(rt, alloc, &table, separation),
+            Ok((table, separation)) => audit_report(rt, alloc, &table, separation),
             Err(refusal) => Ok(refusal),
         },
         Task::Migrate => match table_in(alloc, input)? {
@@ -95,7 +96,7 @@ pub(crate) fn report_of<T: Threads + Wait + Sync>(
 }
 
 // Returns the plan of the program text for `ids` identifiers, or the report of its refusal.
-fn accepted(alloc: Global, input: &[u8], ids: u32) -> Result<Result<Plan, Answer>, EngineFault>
+fn plan_in(alloc: Global, input: &[u8], ids: u32) -> Result<Result<Plan, Answer>, EngineFault>
     ensures plan { IfOk result (λ told. IfOk told (λ plan. (plan.ids ≡ ids) × Reads input.now plan.program × IsAccepted ids plan.program)) }
     ensures refusal { IfOk result (λ told. IfErr told (λ r. IsProgramRefusal ids input.now (report_in r))) }
     ensures cause { IfOk result (λ told. IfErr told (IsExplained input.now)) }

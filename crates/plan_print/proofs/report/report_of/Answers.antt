@@ -51,7 +51,7 @@ returns-in-Ok-4-clause-report g c =
     let ids : c.in-Ok-4.plan.ids ≡ c.in-Judge.ids = search rules in
     let reads : Reads c.args.input.now p = search rules in
     let accepted : IsAccepted c.in-Judge.ids p = search rules in
-    IfOk-weaker c.judged.result _ _ (λ r said. rw c.in-Judge.is (answered p reads accepted (rw ids at said))) c.judged.ensures.answer
+    IfOk-weaker c.judge_report.result _ _ (λ r said. rw c.in-Judge.is (answered p reads accepted (rw ids at said))) c.judge_report.ensures.answer
 
 pub returns-in-Err-4-clause-report : goal.returns-in-Err-4-clause-report
 returns-in-Err-4-clause-report g c =
@@ -104,7 +104,7 @@ returns-in-Err-7-clause-report g c =
 pub returns-in-Ok-8-clause-report : goal.returns-in-Ok-8-clause-report
 returns-in-Ok-8-clause-report g c =
     let told : IsTextOf c.args.input.now c.in-Ok-8.table c.in-Ok-8.separation = search rules in
-    IfOk-weaker c.audited.result _ _ (λ r said. rw c.in-Audit.is (of_table c.in-Ok-8.table c.in-Ok-8.separation told said)) c.audited.ensures.answer
+    IfOk-weaker c.audit_report.result _ _ (λ r said. rw c.in-Audit.is (of_table c.in-Ok-8.table c.in-Ok-8.separation told said)) c.audit_report.ensures.answer
 
 pub returns-in-Ok-9-clause-report : goal.returns-in-Ok-9-clause-report
 returns-in-Ok-9-clause-report g c =
@@ -121,7 +121,7 @@ pub returns-in-Ok-3-clause-cause : goal.returns-in-Ok-3-clause-cause
 returns-in-Ok-3-clause-cause g c = IfOk-weaker c.table_answer.result _ _ (λ r own. own c.args.input.now) c.table_answer.ensures.cause
 
 pub returns-in-Ok-4-clause-cause : goal.returns-in-Ok-4-clause-cause
-returns-in-Ok-4-clause-cause g c = IfOk-weaker c.judged.result _ _ (λ r own. own c.args.input.now) c.judged.ensures.cause
+returns-in-Ok-4-clause-cause g c = IfOk-weaker c.judge_report.result _ _ (λ r own. own c.args.input.now) c.judge_report.ensures.cause
 
 pub returns-in-Ok-5-clause-cause : goal.returns-in-Ok-5-clause-cause
 returns-in-Ok-5-clause-cause g c = IfOk-weaker c.run_answer.result _ _ (λ r own. own c.args.input.now) c.run_answer.ensures.cause
@@ -133,4 +133,4 @@ pub returns-in-Ok-7-clause-cause : goal.returns-in-Ok-7-clause-cause
 returns-in-Ok-7-clause-cause g c = IfOk-weaker c.plan_answer.result _ _ (λ r own. own c.args.input.now) c.plan_answer.ensures.cause
 
 pub returns-in-Ok-8-clause-cause : goal.returns-in-Ok-8-clause-cause
-returns-in-Ok-8-clause-cause g c = IfOk-weaker c.audited.result _ _ (λ r own. own c.args.input.now) c.audited.ensures.cause
+returns-in-Ok-8-clause-cause g c = IfOk-weaker c.audit_report.result _ _ (λ r own. own c.args.input.now) c.audit_report.ensures.cause

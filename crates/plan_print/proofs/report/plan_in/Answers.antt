@@ -2,7 +2,7 @@ use Rattle.std.proofs.Common.{rules}
 use Rattle.node_lang.specs.Grammar.{Reads}
 use Rattle.lang_check.specs.Refusals.{IsFirstRefusal}
 use Rattle.plan_print.specs.Report.{check_fault}
-use Rattle.plan_print.proofs.report.accepted.Goals as goal
+use Rattle.plan_print.proofs.report.plan_in.Goals as goal
 
 -- The program is refused.
 pub returns-in_ok-line-in-Err-accept-clause-refusal :
