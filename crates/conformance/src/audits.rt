@@ -1,7 +1,7 @@
 //! Reports on table texts: the verdict of an audit, the text of a migration, and the faults of
 //! other texts.
 
-use crate::asking::{all_report, done, report_by};
+use crate::engine_calls::{all_report, done, report_by};
 use plan_print::status::Status;
 use std::alloc::{AllocError, Global};
 use std::process::Abort;
@@ -22,7 +22,7 @@ pub(crate) const TABLE_OF_IDENTIFIERS: &[u8] =
 /// Audits the table text of a program, and checks that the line and the status are those of the
 /// judge on the program, and that a migration does not change the text. Returns the length of the
 /// text.
-fn judged_alike<R: Abort + Threads + Wait + Sync>(
+fn assert_same_verdict<R: Abort + Threads + Wait + Sync>(
     rt: &R,
     alloc: Global,
     program: &[u8],
@@ -52,7 +52,7 @@ fn tables_of_programs_are_judged_alike(rt: HostRuntime) -> Result<(), Fail> {
         (TWICE_ID, "--ids 4 --near 2 --far 1"),
     ];
     for (program, options) in rows {
-        judged_alike(&rt, rt.alloc(), program, options)?;
+        assert_same_verdict(&rt, rt.alloc(), program, options)?;
     }
     Ok(())
 }
@@ -74,7 +74,7 @@ fn an_audit_of_a_table_that_tells_near_and_far(rt: HostRuntime) -> Result<(), Fa
 #[test]
 fn long_table_texts_are_read_whole(rt: HostRuntime) -> Result<(), Fail> {
     for (program, options) in [(RED, "--ids 8"), (CV1_OF_12, "--ids 24")] {
-        let length = judged_alike(&rt, rt.alloc(), program, options)?;
+        let length = assert_same_verdict(&rt, rt.alloc(), program, options)?;
         assert!(rt; length > 65_536, "{length} bytes");
     }
     Ok(())
@@ -114,7 +114,7 @@ fn lines_that_are_no_lines_of_a_table(rt: HostRuntime) -> Result<(), Fail> {
 
 /// Checks the reports of an audit and a migration on prefixes of a text. A row has the length of
 /// the prefix and the report.
-fn refused_alike<R: Abort + Threads + Wait + Sync>(
+fn assert_same_refusal<R: Abort + Threads + Wait + Sync>(
     rt: &R,
     alloc: Global,
     text: &[u8],
@@ -141,13 +141,13 @@ fn texts_that_are_cut(rt: HostRuntime) -> Result<(), Fail> {
         (13, "table fault A1 at 13\n"),
         (53, "table fault A1 at 51\n"),
     ];
-    refused_alike(&rt, rt.alloc(), OLD_TABLE_OF_IDENTIFIERS, &old)?;
+    assert_same_refusal(&rt, rt.alloc(), OLD_TABLE_OF_IDENTIFIERS, &old)?;
     let new = [
         (12, "table fault A1 at 0\n"),
         (51, "table fault A1 at 13\n"),
         (66, "table fault A1 at 64\n"),
     ];
-    refused_alike(&rt, rt.alloc(), TABLE_OF_IDENTIFIERS, &new)
+    assert_same_refusal(&rt, rt.alloc(), TABLE_OF_IDENTIFIERS, &new)
 }
 
 #[test]

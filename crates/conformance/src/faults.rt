@@ -1,6 +1,6 @@
 //! Program texts and programs that every task refuses.
 
-use crate::asking::reports;
+use crate::engine_calls::reports;
 use crate::texts::{full_tree, nested};
 use plan_print::status::Status;
 use plan_print::task::Task;

@@ -2,11 +2,11 @@
 #![tactic(auto)]
 
 #[cfg(test)]
-mod asking;
-#[cfg(test)]
 mod audits;
 #[cfg(test)]
 mod columns;
+#[cfg(test)]
+mod engine_calls;
 #[cfg(test)]
 mod faults;
 #[cfg(test)]

@@ -1,6 +1,6 @@
 //! Many threads, many times: the report is always the same.
 
-use crate::asking::{done, report_of};
+use crate::engine_calls::{done, report_of};
 use plan_print::lines::numbers_line;
 use plan_print::task::Task;
 use std::alloc::Global;

@@ -1,6 +1,6 @@
 //! Reports of programs, byte for byte, with their status.
 
-use crate::asking::{all_report, done};
+use crate::engine_calls::{all_report, done};
 use plan_print::status::Status;
 use std::test::Fail;
 use test_programs::{

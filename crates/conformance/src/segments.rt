@@ -1,6 +1,6 @@
 //! Runs of a ring in segments, through the engine.
 
-use crate::asking::{report_of, reports};
+use crate::engine_calls::{report_of, reports};
 use plan_print::lines::numbers_line;
 use plan_print::status::Status;
 use plan_print::task::Task;

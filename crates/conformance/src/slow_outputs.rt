@@ -1,7 +1,7 @@
 //! Outputs that take a few bytes per call, and writes that fail.
 
-use crate::asking::done;
 use crate::audits::TABLE_OF_IDENTIFIERS;
+use crate::engine_calls::done;
 use crate::slow_devices::{SlowReader, SlowWriter};
 use crate::slow_inputs::{REPORT, outcome_of, outcome_of_run};
 use nbhd_check::Separation;
@@ -127,7 +127,7 @@ fn a_table_of_which_no_byte_is_taken(rt: HostRuntime) -> Result<(), Fail> {
 /// Writes a table to a writer that takes all bytes it is given and fails at the call with this
 /// number. Returns the number of bytes that it took, which are a prefix of the table's text, or
 /// `None` if the whole text was written.
-fn edge_before<R: Abort>(
+fn chunk_end<R: Abort>(
     rt: &R,
     alloc: Global,
     table: &Table,
@@ -168,7 +168,7 @@ fn a_long_table_whose_write_fails_at_each_edge_of_a_chunk(rt: HostRuntime) -> Re
     let mut edges = 0u32;
     let mut before = 0;
     for call in 1..9usize {
-        let Some(edge) = edge_before(&rt, rt.alloc(), &table, &text, call) else {
+        let Some(edge) = chunk_end(&rt, rt.alloc(), &table, &text, call) else {
             break;
         };
         assert!(rt; edge.saturating_sub(before) <= 65_536);

@@ -1,6 +1,6 @@
 //! Tables of programs, by one worker and by many.
 
-use crate::asking::done;
+use crate::engine_calls::done;
 use std::alloc::Global;
 use std::process::Abort;
 use std::sync::Wait;

@@ -1,6 +1,6 @@
 //! Traces and prints: reports byte for byte, and a trace compared with a simulation by hand.
 
-use crate::asking::{all_report, done};
+use crate::engine_calls::{all_report, done};
 use plan_print::status::Status;
 use std::alloc::{AllocError, Global};
 use std::fmt::Write;

@@ -32,15 +32,15 @@ fn words_of(alloc: Global, line: &str) -> Result<Vec<String>, AllocError> {
 }
 
 /// Returns the task of the words of a line.
-fn asked(alloc: Global, line: &str) -> Result<Task, WordsFault> {
+fn task_of_line(alloc: Global, line: &str) -> Result<Task, WordsFault> {
     let words = words_of(alloc, line)?;
     task_of(alloc, &words)
 }
 
 /// Returns the kind of the result of the words of a line.
 fn answer_to(alloc: Global, line: &str) -> Answer {
-    let asked = asked(alloc, line);
-    match &asked {
+    let task = task_of_line(alloc, line);
+    match &task {
         Ok(_) => Answer::Task,
         Err(WordsFault::Usage(_)) => Answer::Usage,
         Err(WordsFault::BadRing) => Answer::BadRing,

@@ -82,7 +82,7 @@ fn puts_and_takes<L: Ledger, M: Ledger, R: Print + Wait>(
     };
     exchange(rt, &border, &mut right, &mut left)?;
     border.close(rt);
-    go_on_when_closed(rt, &border, &mut right)?;
+    use_closed_border(rt, &border, &mut right)?;
     settle(rt, border, right, left)?;
     Ok(Outcome::Told)
 }
@@ -103,7 +103,7 @@ fn exchange<L: Ledger, M: Ledger, R: Print + Wait>(
 }
 
 // Takes from a closed border a message that was put and one that was not, and puts one more.
-fn go_on_when_closed<L: Ledger, M: Ledger, R: Print + Wait>(
+fn use_closed_border<L: Ledger, M: Ledger, R: Print + Wait>(
     rt: &R,
     border: &Border<Note, L, M>,
     right: &mut Seat<L, M>,

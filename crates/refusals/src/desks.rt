@@ -12,11 +12,11 @@ pub(crate) fn do_desk<R: AllocGlobal + Print>(rt: &R) -> Result<(), Miss> {
         Some(made) => made,
         None => retried(Desk::new(rt.alloc(), 3, 2))?,
     };
-    let mut b = taken(&desk, &mut tickets)?;
-    let mut a = taken(&desk, &mut tickets)?;
-    let first = number(&desk, &mut a)?;
-    let second = number(&desk, &mut b)?;
-    let third = number(&desk, &mut a)?;
+    let mut b = pop_ticket(&desk, &mut tickets)?;
+    let mut a = pop_ticket(&desk, &mut tickets)?;
+    let first = draw_number(&desk, &mut a)?;
+    let second = draw_number(&desk, &mut b)?;
+    let third = draw_number(&desk, &mut a)?;
     let of_b = desk.draw(&mut b);
     let of_a = desk.draw(&mut a);
     let mut back = Vec::new(rt.alloc());
@@ -33,7 +33,7 @@ fn do_empty_desk<R: AllocGlobal + Print>(rt: &R) -> Result<(), Miss> {
         Some(made) => made,
         None => retried(Desk::new(rt.alloc(), 0, 1))?,
     };
-    let mut ticket = taken(&desk, &mut tickets)?;
+    let mut ticket = pop_ticket(&desk, &mut tickets)?;
     let found = desk.draw(&mut ticket);
     let mut back = Vec::new(rt.alloc());
     other_call(back.push(ticket))?;
@@ -43,7 +43,7 @@ fn do_empty_desk<R: AllocGlobal + Print>(rt: &R) -> Result<(), Miss> {
 }
 
 // Removes the last ticket.
-fn taken(desk: &Desk, tickets: &mut Vec<Ticket>) -> Result<Ticket, Miss>
+fn pop_ticket(desk: &Desk, tickets: &mut Vec<Ticket>) -> Result<Ticket, Miss>
     requires { All (λ t. IsTicketOf desk.now t × (drawn t ≡ []) × (told t ≡ 0)) tickets.old.items }
     ensures rest { All (λ t. IsTicketOf desk.now t × (drawn t ≡ []) × (told t ≡ 0)) tickets.new.items }
     ensures ticket { IfOk result (λ t. IsTicketOf desk.now t × (told t ≡ 0)) }
@@ -52,7 +52,7 @@ fn taken(desk: &Desk, tickets: &mut Vec<Ticket>) -> Result<Ticket, Miss>
 }
 
 // Draws the next number for a ticket.
-fn number(desk: &Desk, ticket: &mut Ticket) -> Result<u32, Miss>
+fn draw_number(desk: &Desk, ticket: &mut Ticket) -> Result<u32, Miss>
     requires { IsTicketOf desk.now ticket.old × (told ticket.old ≡ 0) }
     ensures { OnOk result (IsTicketOf desk.now ticket.new × (told ticket.new ≡ 0)) }
 {

@@ -14,11 +14,11 @@ use unroll::{Block, make_block};
 pub(crate) fn do_memo<R: AllocGlobal + Print>(rt: &R) -> Result<(), Miss> {
     let plan = plan_of(rt.alloc(), CV1, 8)?;
     let other = plan_of(rt.alloc(), RED, 8)?;
-    hand_in_all(rt, &plan, &other)
+    install_all(rt, &plan, &other)
 }
 
 // Installs two blocks of a plan and one of another plan.
-fn hand_in_all<'a, R: AllocGlobal + Print>(
+fn install_all<'a, R: AllocGlobal + Print>(
     rt: &R,
     plan: &'a Plan,
     other: &'a Plan,
@@ -29,11 +29,11 @@ fn hand_in_all<'a, R: AllocGlobal + Print>(
     let memo = memo_of(rt, plan)?;
     let mut a = pass_of(rt, &memo)?;
     let mut b = pass_of(rt, &memo)?;
-    hand_in(rt, &memo, &mut a, one)?;
-    hand_in(rt, &memo, &mut b, two)?;
+    install(rt, &memo, &mut a, one)?;
+    install(rt, &memo, &mut b, two)?;
     look(rt, &memo, &mut a)?;
     look(rt, &memo, &mut b)?;
-    hand_in(rt, &memo, &mut a, stranger)
+    install(rt, &memo, &mut a, stranger)
 }
 
 // Returns a memo of empty cells.
@@ -72,7 +72,7 @@ fn first_block<'a, R: AllocGlobal>(
 }
 
 // Installs a block, and prints the result and the block's maker.
-fn hand_in<'a, R: Print>(
+fn install<'a, R: Print>(
     rt: &R,
     memo: &Memo<'a>,
     pass: &mut Pass<'a>,

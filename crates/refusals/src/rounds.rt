@@ -27,7 +27,7 @@ pub(crate) fn do_configuration<R: AllocGlobal + Print>(rt: &R) -> Result<(), Mis
     let alloc = rt.alloc();
     let plan = plan_of(alloc, CV1, 8)?;
     let ring = ring_for(alloc, &plan, &[5, 1, 3, 7])?;
-    let mut places = at_the_start(rt, &plan, &ring)?;
+    let mut places = initial_configuration(rt, &plan, &ring)?;
     tell_channels(rt, &places)?;
     if plan.shape().rounds() != 1 {
         return Err(Miss::Wrong);
@@ -37,7 +37,7 @@ pub(crate) fn do_configuration<R: AllocGlobal + Print>(rt: &R) -> Result<(), Mis
 }
 
 // Returns the configuration of a ring before the first round.
-fn at_the_start<'a, R: AllocGlobal + Print>(
+fn initial_configuration<'a, R: AllocGlobal + Print>(
     rt: &R,
     plan: &'a Plan,
     ring: &'a Ring,

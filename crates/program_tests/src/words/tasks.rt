@@ -1,4 +1,4 @@
-use super::{Answer, answer_to, asked};
+use super::{Answer, answer_to, task_of_line};
 use std::test::Fail;
 use task_words::task::Task;
 
@@ -17,7 +17,7 @@ fn checks_are_tasks(rt: HostRuntime) {
     ];
     for (line, ids) in rows {
         assert_eq!(rt;
-            asked(rt.alloc(), line),
+            task_of_line(rt.alloc(), line),
             Ok(Task::Check { ids }),
             "at {line}"
         );
@@ -47,7 +47,7 @@ fn tables_and_judges_are_tasks(rt: HostRuntime) -> Result<(), Fail> {
             near,
             far,
         };
-        assert_eq!(rt; asked(rt.alloc(), &line), Ok(table), "at {line}");
+        assert_eq!(rt; task_of_line(rt.alloc(), &line), Ok(table), "at {line}");
         let line = format!(in rt.alloc(); "judge {options}")?;
         let judge = Task::Judge {
             ids: 8,
@@ -55,7 +55,7 @@ fn tables_and_judges_are_tasks(rt: HostRuntime) -> Result<(), Fail> {
             near,
             far,
         };
-        assert_eq!(rt; asked(rt.alloc(), &line), Ok(judge), "at {line}");
+        assert_eq!(rt; task_of_line(rt.alloc(), &line), Ok(judge), "at {line}");
     }
     Ok(())
 }
@@ -76,7 +76,7 @@ fn runs_are_tasks(rt: HostRuntime) -> Result<(), Fail> {
             ring,
             segments,
         };
-        assert_eq!(rt; asked(rt.alloc(), line)?, task, "at {line}");
+        assert_eq!(rt; task_of_line(rt.alloc(), line)?, task, "at {line}");
     }
     Ok(())
 }
@@ -86,7 +86,7 @@ fn traces_are_tasks(rt: HostRuntime) -> Result<(), Fail> {
     for line in "trace --ids 8 --ring 5,1,3,7|trace --ring=05,01,3,7 --ids=+8".split('|') {
         let ring = [5, 1, 3, 7].to_vec(rt.alloc())?;
         let task = Task::Trace { ids: 8, ring };
-        assert_eq!(rt; asked(rt.alloc(), line)?, task, "at {line}");
+        assert_eq!(rt; task_of_line(rt.alloc(), line)?, task, "at {line}");
     }
     Ok(())
 }
@@ -105,16 +105,16 @@ fn plans_are_tasks(rt: HostRuntime) -> Result<(), Fail> {
             ring,
             workers,
         };
-        assert_eq!(rt; asked(rt.alloc(), line)?, task, "at {line}");
+        assert_eq!(rt; task_of_line(rt.alloc(), line)?, task, "at {line}");
     }
     Ok(())
 }
 
 #[test]
 fn a_print_an_audit_and_a_migration_are_tasks(rt: HostRuntime) {
-    assert_eq!(rt; asked(rt.alloc(), "print"), Ok(Task::Print));
-    assert_eq!(rt; asked(rt.alloc(), "audit"), Ok(Task::Audit));
-    assert_eq!(rt; asked(rt.alloc(), "migrate"), Ok(Task::Migrate));
+    assert_eq!(rt; task_of_line(rt.alloc(), "print"), Ok(Task::Print));
+    assert_eq!(rt; task_of_line(rt.alloc(), "audit"), Ok(Task::Audit));
+    assert_eq!(rt; task_of_line(rt.alloc(), "migrate"), Ok(Task::Migrate));
 }
 
 #[test]

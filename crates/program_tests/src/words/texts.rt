@@ -1,11 +1,11 @@
-use super::asked;
+use super::task_of_line;
 use std::alloc::Global;
 use std::test::Fail;
 use task_words::words::WordsFault;
 
 /// Returns the text of the fault or of the help for the words of a line.
 fn text_of(alloc: Global, line: &str) -> Result<String, Fail> {
-    match asked(alloc, line) {
+    match task_of_line(alloc, line) {
         Err(WordsFault::Usage(text)) | Err(WordsFault::Help(text)) => Ok(text),
         _ => Err(Fail::from("there is no text")),
     }
