@@ -1,5 +1,7 @@
 // The state of the page. It is kept in the fragment of the address, so that a link can carry an exercise.
 
+import { withCommas } from "./ring-text.js";
+
 const DEFAULTS = { view: "run", ids: "8", ring: "5,1,3,7", near: "1", far: "0", prefix: "", arrange: "channel" };
 const VIEWS = ["run", "judge", "table", "graph"];
 
@@ -52,6 +54,7 @@ function read() {
   const said = Object.fromEntries(new URLSearchParams(location.hash.slice(1)));
   const values = {};
   for (const name of Object.keys(DEFAULTS)) values[name] = said[name] ?? DEFAULTS[name];
+  values.ring = withCommas(values.ring);
   if (!VIEWS.includes(values.view)) values.view = DEFAULTS.view;
   const example = examples.find(({ name }) => name === (said.example ?? "cv1.txt"));
   values.text = said.text ?? example?.text ?? "";

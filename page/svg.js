@@ -23,6 +23,9 @@ function fill(element, attributes, text) {
   return element;
 }
 
+/** A sentence with its parts in backquotes as code. */
+export const coded = (sentence) => sentence.split("`").map((part, i) => (i % 2 ? html("code", {}, part) : part));
+
 export const byId = (id) => document.getElementById(id);
 
 /** The point at `turn` on the circle with this radius around (0, 0). */

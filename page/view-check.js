@@ -1,7 +1,7 @@
 // Check: whether the text is accepted for the number of identifiers, shown below the text while one types.
 
 import { ask } from "./ask.js";
-import { byId, html } from "./svg.js";
+import { byId, coded, html } from "./svg.js";
 import { goToFault, markFault } from "./editor.js";
 import { readRefusal } from "./faults.js";
 
@@ -55,9 +55,4 @@ function showRefusal({ code, line, note, at }) {
       html("code", { class: "line" }, line)),
     ...(note ? [html("p", { class: "note" }, ...coded(note))] : []),
   );
-}
-
-/** A sentence with its parts in backquotes as code. */
-function coded(sentence) {
-  return sentence.split("`").map((part, i) => (i % 2 ? html("code", {}, part) : part));
 }

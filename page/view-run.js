@@ -1,10 +1,11 @@
 // Run: the drawing of a ring, and the steps of its run.
 
 import { ask, drop } from "./ask.js";
-import { byId, html } from "./svg.js";
+import { byId, coded, html } from "./svg.js";
 import { change, state } from "./state.js";
 import { drawRing, drawWindow, say } from "./ring.js";
 import { drawMessages } from "./messages.js";
+import { readRing, whyNoRing, withCommas } from "./ring-text.js";
 import { allowDragging, dragIn } from "./drag.js";
 import { nameOf, sentenceOf, stepsOf } from "./trace.js";
 import { showTrace, markStep, markPlace } from "./trace-table.js";
@@ -24,21 +25,17 @@ let digits = [1, 1]; // the most digits of labels and of messages, so that all s
 let drawing = null;
 let player = 0;
 
-/** The identifiers of a ring text, or `null` if it cannot be drawn. */
-export function readRing(text) {
-  const parts = text.split(",");
-  return parts.every((part) => /^[0-9]{1,10}$/.test(part)) ? parts.map(Number) : null;
-}
-
 export async function updateRun(checked) {
   pause();
-  if (byId("ring").value !== state.ring) byId("ring").value = state.ring;
+  if (withCommas(byId("ring").value) !== state.ring) byId("ring").value = state.ring;
   const ring = readRing(state.ring) ?? [];
   fillTray(ring, Number(state.ids), (identifier) => edit([...ring, identifier]),
     (event, identifier) => drawing && dragIn(event, drawing, ring, identifier, edit));
   drop("run");
   byId("run").classList.remove("pending");
   if (checked.refusal) return showRefused("The program is not accepted yet: see below its text.");
+  const why = whyNoRing(state.ring);
+  if (why) return showRefused(why);
   // The ring of the state is drawn at once, and its run when it is known.
   steps = null;
   show();
@@ -68,7 +65,7 @@ export async function updateRun(checked) {
 /** Shows the ring without a run, and why. */
 function showRefused(why) {
   steps = null;
-  refused.textContent = why;
+  refused.replaceChildren(...coded(why));
   refused.hidden = false;
   byId("trace").replaceChildren();
   timeline.replaceChildren();
@@ -203,7 +200,7 @@ export function startRun() {
   byId("forward").addEventListener("click", () => { pause(); go(at + 1, true); });
   byId("play").addEventListener("click", play);
   byId("shown-register").addEventListener("change", (event) => { register = Number(event.target.value); show(); });
-  byId("ring").addEventListener("input", (event) => change({ ring: event.target.value.trim() }));
+  byId("ring").addEventListener("input", (event) => change({ ring: withCommas(event.target.value) }));
   byId("random").addEventListener("click", randomRing);
   stage.addEventListener("keydown", (event) => {
     if (event.target !== stage) return;

@@ -58,6 +58,18 @@ class Page:
             f"(document.querySelector(`{selector}`))"
         )
 
+    def listen(self):
+        """Notes from now on what the page asks of nbhd."""
+        self.value(
+            "window.asked ??= (ask => (window.fetch = (...words) => { window.asked.push(words[1]?.body); return ask(...words); }, []))(fetch),"
+            " window.asked.length = 0"
+        )
+
+    def asked(self, option):
+        """The values of an option in what the page asked of nbhd, in order."""
+        bodies = [json.loads(body) for body in self.value("window.asked") if body]
+        return [body["options"][option] for body in bodies if option in body["options"]]
+
     def call(self, module, expression):
         """The value of an expression over a module `m` of the page."""
         return self.value(f"import('/{module}').then((m) => JSON.stringify({expression})).then(JSON.parse)")

@@ -187,8 +187,33 @@ def edit_ring(page):
     STEPS.equal("its identifiers are distinct", sorted(page.texts(".ring .identifier")), list("01234567"))
     page.fill("#ring", "5,1,9,7")
     page.wait("a ring with an identifier that is too large", "document.querySelector('.node.faulty')?.dataset.place === '2'")
-    page.fill("#ring", "5,x,9")
-    page.wait("no ring", "/ring/.test(document.querySelector('#run-refused').textContent)")
+    # nbhd refuses a number that is too large for it.
+    page.fill("#ring", "5,4294967296,9")
+    page.wait("a number that is too large", "/ring/.test(document.querySelector('#run-refused').textContent)")
+
+
+def typed_rings(page):
+    """The field takes blanks in place of commas. Of a text that is no ring it tells why, and nbhd is not asked."""
+    page.open(view="run", example="cv1.txt", ids="8", ring="6,0 2 4")
+    page.wait("the ring of a link with blanks", "document.querySelector('#ring').value === '6,0,2,4'")
+    page.listen()
+    for typed in ("5 1 3 7", "5, 1, 3, 7,", " 5 ,1\t3  7 "):
+        page.fill("#ring", "0,1,2,3")
+        page.wait("the ring before", "document.querySelectorAll('#stage .badge').length === 4")
+        page.fill("#ring", typed)
+        page.wait(f"the ring {typed!r}", "document.querySelector('#stage .identifier')?.textContent === '5'")
+        page.wait(f"the run of {typed!r}", "document.querySelectorAll('#stage .badge').length === 4")
+        STEPS.equal(f"the channels of {typed!r}", page.texts(".ring .badge-number"), nbhd(CV1, "run", *IDS, "--ring", "5,1,3,7").split())
+        page.wait(f"the address of {typed!r}", "location.hash.includes('ring=5,1,3,7&')")
+        STEPS.equal(f"the field keeps {typed!r}", page.value("document.querySelector('#ring').value"), typed)
+    STEPS.equal("the rings that nbhd was asked about", sorted({ring for ring in page.asked("ring")}), ["0,1,2,3", "5,1,3,7"])
+    page.listen()
+    empty, part = "Write a ring, or take a random one.", "{} is no identifier: write numbers, as 5,1,3,7."
+    for typed, said in (("", empty), (" , ", empty), ("5 x 9", part.format("x")), ("5,-1", part.format("-1")), ("5;1", part.format("5;1"))):
+        page.fill("#ring", typed)
+        page.wait(f"why {typed!r} is no ring", f"document.querySelector('#run-refused').textContent === {json.dumps(said)}")
+    time.sleep(0.2)
+    STEPS.equal("nbhd is not asked about them", page.asked("ring"), [])
 
 
 def judge(page):
@@ -390,5 +415,5 @@ def restart(page, server):
     page.wait_ring("the ring after it", "5,1,3,7,0")
 
 
-VIEWS = [check, faults, typing, run, windows_known, equal_channels, drag, edit_ring, judge, judge_distances, table, graph]
+VIEWS = [check, faults, typing, run, windows_known, equal_channels, drag, edit_ring, typed_rings, judge, judge_distances, table, graph]
 VIEWS += [links, exercises, examples, formats]
