@@ -1,9 +1,9 @@
 // The list of examples.
 
 import { byId, html } from "./svg.js";
-import { change, exampleOf, state } from "./state.js";
+import { change, exampleOf, isLinked, state } from "./state.js";
 
-/** The programs of examples/: name, title, text, and the number of identifiers that a comment recommends, else 8. */
+/** The examples: name, title, text, and the number of identifiers that a comment recommends, else 8. */
 export async function loadExamples() {
   try {
     const examples = await (await fetch("examples.json")).json();
@@ -45,7 +45,8 @@ export function fillExamples(examples) {
 export function showExample() {
   const example = exampleOf(state.text);
   byId("examples-button").title = example ? `${example.name}: ${example.title}` : "";
-  byId("example-name").textContent = example ? example.title.replace(/\.$/, "") : "Own program";
+  const other = isLinked() ? "Program of the link" : "Own program";
+  byId("example-name").textContent = example ? example.title.replace(/\.$/, "") : other;
   for (const item of byId("examples").children) {
     item.setAttribute("aria-current", String(item.firstElementChild.textContent === example?.title));
   }

@@ -10,6 +10,7 @@ export const state = { ...DEFAULTS, text: "" };
 const listeners = [];
 let examples = [];
 let written = "";
+let linked = "";
 let timer;
 let first = true; // before the first change nothing is shown, so all values count as changed
 
@@ -48,6 +49,9 @@ export function link() {
   return location.href.split("#")[0] + fragment();
 }
 
+/** Whether the text is that of the address, as it was read. */
+export const isLinked = () => state.text === linked;
+
 export const exampleOf = (text) => examples.find((example) => example.text === text);
 
 function read() {
@@ -58,6 +62,7 @@ function read() {
   if (!VIEWS.includes(values.view)) values.view = DEFAULTS.view;
   const example = examples.find(({ name }) => name === (said.example ?? "cv1.txt"));
   values.text = said.text ?? example?.text ?? "";
+  linked = values.text;
   written = location.hash;
   change(values);
 }

@@ -327,8 +327,15 @@ def links(page):
         page.open(view="run", example="cv1.txt", ids="8", ring="5,1,3,7")
         page.wait("the page", "document.querySelector('.check.good')")
         page.click(f".steps a:nth-of-type({example})")
-        shown = {1: ".ring .badge", 2: ".verdict.no", 3: ".check.bad"}[example]
+        shown, name = {
+            1: (".ring .badge", "Cole and Vishkin"), 2: (".verdict.no", "LDB: "), 3: (".check.bad", "Program of the link")
+        }[example]
         page.wait(f"first step {example}", f"document.querySelector('{shown}')")
+        STEPS.check(f"first step {example}: its name", page.text("#example-name").startswith(name), page.text("#example-name"))
+        if example == 2:
+            STEPS.equal("the rule that fails is LDB", page.value("document.querySelector('#text').value"), LDB)
+    page.fill("#text", CV1 + "\n")
+    STEPS.equal("the name of an edited text", page.text("#example-name"), "Own program")
 
 
 def exercises(page):
@@ -345,11 +352,15 @@ def exercises(page):
 
 def examples(page):
     page.open(view="run", ids="8", ring="5,1,3,7", example="cv1.txt")
-    count = len(list((ROOT / "examples").glob("*.txt")))
-    STEPS.equal("the number of examples", page.count("#examples button"), count)
+    names = sorted(file.name for file in (ROOT / "examples").glob("*.txt"))
+    names = ["cv1.txt", "ldb.txt", *(name for name in names if name != "cv1.txt")]
+    facts = page.value("[...document.querySelectorAll('#examples .aside')].map(e => e.textContent)")
+    STEPS.equal("the list of examples", [fact.split(" ")[0] for fact in facts], names)
+    count = len(names)
     for number in range(count):
         page.value(f"document.querySelectorAll('#examples button')[{number}].click()")
         page.wait(f"example {number + 1} is accepted", "document.querySelector('.check.good')")
+        STEPS.equal(f"example {number + 1}: its name", page.value("document.querySelector('#examples-button').title").split(":")[0], names[number])
         size = "(t => t.scrollWidth <= t.clientWidth && t.scrollHeight <= t.clientHeight)(document.querySelector('#text'))"
         STEPS.check(f"example {number + 1}: the text area is as large as the coloured copy", page.value(size))
     fields = "[...document.querySelectorAll('input,select,textarea')]"
