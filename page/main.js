@@ -12,7 +12,7 @@ import { startGraph, updateGraph } from "./view-graph.js";
 
 const VIEWS = { run: updateRun, judge: updateJudge, table: updateTable, graph: updateGraph };
 // The view that a value of the state belongs to. The text and the number of identifiers belong to all views.
-const USERS = { ring: "run", near: "judge", far: "judge", prefix: "table", arrange: "graph" };
+const USERS = { ring: "run", step: "run", near: "judge", far: "judge", prefix: "table", arrange: "graph" };
 const PAUSE_MS = 250;
 
 let checked = null;
@@ -68,12 +68,12 @@ function startTools() {
   byId("copy-link").addEventListener("click", async ({ target }) => {
     try {
       await navigator.clipboard.writeText(link());
-      target.textContent = "Copied";
+      target.textContent = "Copied: it opens where ./nbhd-page runs";
     } catch {
       target.textContent = "In the address";
       location.replace(link());
     }
-    setTimeout(() => (target.textContent = "Copy link"), 1600);
+    setTimeout(() => (target.textContent = "Copy link"), 4000);
   });
   const system = matchMedia("(prefers-color-scheme: dark)");
   const theme = byId("theme");

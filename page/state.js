@@ -2,7 +2,8 @@
 
 import { withCommas } from "./ring-text.js";
 
-const DEFAULTS = { view: "run", ids: "8", ring: "5,1,3,7", near: "1", far: "0", prefix: "", arrange: "channel" };
+// The step of a run is its number, from 0, and empty for the last one.
+const DEFAULTS = { view: "run", ids: "8", ring: "5,1,3,7", step: "", near: "1", far: "0", prefix: "", arrange: "channel" };
 const VIEWS = ["run", "judge", "table", "graph"];
 
 export const state = { ...DEFAULTS, text: "" };
@@ -19,14 +20,17 @@ export function onChange(listener) {
   listeners.push(listener);
 }
 
-/** Changes some values. With `keep` the change is an entry of the history, so that the browser's Back undoes it. */
-export function change(values, { keep = false } = {}) {
+/**
+ * Changes some values. With `keep` the change is an entry of the history, so that the browser's Back undoes it; with `shown` the open
+ * view shows it already, and no listener is called.
+ */
+export function change(values, { keep = false, shown = false } = {}) {
   const changed = new Set(Object.keys(values).filter((name) => state[name] !== values[name] || first));
   first = false;
   if (changed.size === 0) return;
   if (keep) write(true);
   Object.assign(state, values);
-  for (const listener of listeners) listener(changed);
+  if (!shown) for (const listener of listeners) listener(changed);
   clearTimeout(timer);
   if (keep) write(true);
   else timer = setTimeout(write, 300);

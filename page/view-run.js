@@ -19,7 +19,6 @@ const refused = byId("run-refused");
 
 let steps = null; // of the ring that is shown, or `null` while it has no run
 let at = 0;
-let count = 0; // the number of steps of the last run
 let register = 0;
 let digits = [1, 1]; // the most digits of labels and of messages, so that all steps have the same size
 let drawing = null;
@@ -53,8 +52,7 @@ export async function updateRun(checked) {
   refused.hidden = true;
   steps = stepsOf(answer.out);
   // The same step stays open after an edit of the ring.
-  if (steps.length !== count) at = steps.length - 1;
-  count = steps.length;
+  at = /^[0-9]+$/.test(state.step) ? Math.min(Number(state.step), steps.length - 1) : steps.length - 1;
   register = Math.min(register, steps[0].registers.length - 1);
   fillTimeline();
   fillRegisters();
@@ -161,6 +159,7 @@ function edit(ring, focusPlace) {
 function go(step, moving = false) {
   if (!steps || step < 0 || step >= steps.length) return;
   at = step;
+  change({ step: at === steps.length - 1 ? "" : String(at) }, { shown: true });
   show({ moving });
 }
 

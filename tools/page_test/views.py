@@ -338,6 +338,31 @@ def links(page):
     STEPS.equal("the name of an edited text", page.text("#example-name"), "Own program")
 
 
+def step_of_link(page):
+    """The step of a run is in the address too, but for the last one."""
+    current = "[...document.querySelectorAll('#timeline button')].findIndex(e => e.ariaCurrent === 'step')"
+    page.open(view="run", ids="16", ring="5,1,3,7,0,2,4", example="cv2.txt", step="3")
+    page.wait("a link to a step", f"{current} === 3")
+    page.click("#timeline li:nth-child(3) button")
+    page.wait("the address follows the step", "location.hash.includes('step=2&')")
+    page.fill("#ring", "5,1,3,7,0,2")
+    page.wait("the step stays after an edit of the ring", f"document.querySelectorAll('#stage .label').length === 6 && {current} === 2")
+    page.value("navigator.clipboard.writeText = async (text) => { window.copied = text; }")
+    page.click("#copy-link")
+    copied = "document.querySelector('#copy-link').textContent === 'Copied: it opens where ./nbhd-page runs'"
+    page.wait("the link is copied", copied)
+    page.browser.open(page.value("window.copied"))
+    page.wait("the copied link leads to the step", f"{current} === 2")
+    STEPS.equal("the copied link leads to the ring", page.texts(".ring .identifier"), list("513702"))
+    page.value("location.hash = location.hash.replace('step=2', 'step=1')")
+    page.wait("the step follows the address", f"{current} === 1")
+    page.click("#timeline li:last-child button")
+    page.wait("the address of the last step", "!location.hash.includes('step=')")
+    for step in ("99", "x", ""):
+        page.open(view="run", ids="8", ring="5,1,3,7", example="cv1.txt", step=step)
+        page.wait(f"a link to step {step!r} opens the last one", f"{current} === 3")
+
+
 def exercises(page):
     """The links of the exercises lead to programs. Two are refused: one has too few channels, one too many rounds."""
     text = (ROOT / "docs/EXERCISES.md").read_text(encoding="utf-8")
@@ -427,4 +452,4 @@ def restart(page, server):
 
 
 VIEWS = [check, faults, typing, run, windows_known, equal_channels, drag, edit_ring, typed_rings, judge, judge_distances, table, graph]
-VIEWS += [links, exercises, examples, formats]
+VIEWS += [links, step_of_link, exercises, examples, formats]
