@@ -217,7 +217,10 @@ def typed_rings(page):
 
 
 def judge(page):
-    page.open(view="judge", ids="8", ring="5,1,3,7", text=LDB)
+    page.open(view="run", ids="8", ring="5,1,3,7", text=LDB)
+    page.wait_ring("a run of LDB", "5,1,3,7")
+    page.click("#timeline li:nth-child(2) button")
+    page.click("#tab-judge")
     page.wait("the no of LDB", NO_DRAWN)
     found = re.fullmatch(r"no: ring ([\d ]+) place (\d+) channel (\d+)\n", nbhd(LDB, "judge", *IDS))
     ring, place, channel = found[1].split(), int(found[2]), found[3]
@@ -230,7 +233,10 @@ def judge(page):
     STEPS.equal("the middles of the windows' lines", middles, [place, place + 1])
     page.click("#run-this-ring")
     page.wait_ring("run this ring", ",".join(ring))
-    STEPS.check("equal channels are red", page.count("#stage .link.equal") > 0)
+    STEPS.equal("it opens at its finish", page.texts("#timeline [aria-current=step]"), ["finish"])
+    channels = nbhd(LDB, "run", *IDS, "--ring", ",".join(ring)).split()
+    equal = sum(a == b for a, b in zip(channels, channels[1:] + channels[:1]))
+    STEPS.equal("equal channels are red", page.count("#stage .link.equal"), equal)
     page.value("history.back()")
     page.wait("back to the judge", "!document.querySelector('#judge').hidden")
 
