@@ -33,17 +33,19 @@ export function drawMessages({ layers, size, nodes }, step, moving) {
   requestAnimationFrame(frame);
 }
 
+/** Whether a message is a dot, as there is no room for its value. */
+export const isDot = ({ n, free }, value) => pillWidth(String(value).length) + 12 > free + (n <= 6 ? 30 : 14);
+
 /** A message that leaves `place` to the right (way 1) or to the left (way -1). */
 function drawMessage(size, place, value, way) {
   const text = String(value);
-  const free = (2 * Math.PI * size.radius) / size.n - 2 * size.node;
   const width = pillWidth(text.length);
-  const fits = width + 12 <= free + (size.n <= 6 ? 30 : 14);
+  const fits = !isDot(size, value);
   const group = svg("g", { class: way > 0 ? "message right" : "message left" });
   if (fits) {
     group.append(svg("rect", { x: -width / 2, y: -PILL / 2, width, height: PILL, rx: PILL / 2 }), svg("text", {}, text));
   } else {
-    group.append(svg("circle", { r: Math.min(4, free / 2.5) }));
+    group.append(svg("circle", { r: Math.min(4, size.free / 2.5) }));
   }
   const tip = fits ? arrowhead(0, 0, 7, way) : null;
   if (tip) group.append(tip);

@@ -16,7 +16,8 @@ export function measure(n, digits = 0, sentDigits = 0) {
   const label = digits === 0 ? 0 : digits * 8 + 8;
   const across = Math.max(radius + node + 16 + label, n <= 12 && sentDigits ? radius + pillWidth(sentDigits) + 12 : 0);
   const up = radial ? radius + node + 16 + label : radius + node + (digits ? 34 : 16);
-  return { n, node, radius, radial, width: 2 * across, height: 2 * up, numbered: n <= 64 };
+  const free = (2 * Math.PI * radius) / n - 2 * node; // between neighbours' discs
+  return { n, node, radius, free, radial, width: 2 * across, height: 2 * up, numbered: n <= 64 };
 }
 
 /**
@@ -47,13 +48,14 @@ export function drawRing({ ring, channels, labels, digits, sentDigits, label, ma
   return { image, size, layers, nodes };
 }
 
-function drawLink({ n, node, radius }, place, equal) {
+/** A link, which keeps 5 from both discs. Whether there is room for it and its arrowhead is the same for all links of a ring. */
+function drawLink({ n, node, radius, free }, place, equal) {
   const off = (node + 5) / radius / (2 * Math.PI);
   const group = svg("g", { class: equal ? "link equal" : "link" });
   const [from, to] = [place / n + off, (place + 1) / n - off];
-  if (to <= from) return group;
+  if (free <= 10) return group;
   group.append(svg("path", { d: arc(from, to, radius), class: "link-line" }));
-  if (to - from > 6 / radius / (2 * Math.PI)) group.append(arrowhead(to, radius, n <= 20 ? 9 : 5));
+  if (free > 15) group.append(arrowhead(to, radius, n <= 20 ? 9 : 5));
   return group;
 }
 

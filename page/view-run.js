@@ -4,7 +4,7 @@ import { ask, drop } from "./ask.js";
 import { byId, coded, html } from "./svg.js";
 import { change, state } from "./state.js";
 import { drawRing, drawWindow, say } from "./ring.js";
-import { drawMessages } from "./messages.js";
+import { drawMessages, isDot } from "./messages.js";
 import { readRing, whyNoRing, withCommas } from "./ring-text.js";
 import { allowDragging, dragIn } from "./drag.js";
 import { nameOf, sentenceOf, stepsOf } from "./trace.js";
@@ -100,6 +100,9 @@ function show({ moving = false } = {}) {
 
 function showStep(step, moving) {
   const inRound = step.kind === "send" || step.kind === "assign";
+  if (step.kind === "send" && [...step.left, ...step.right].some((value) => isDot(drawing.size, value))) {
+    byId("run-say").append(" The values are in the table below.");
+  }
   say(drawing.layers.centre, inRound ? [[`round ${step.round}`, "centre-big"], [step.kind, "centre-small"]] : [[step.kind, "centre-big"]]);
   if (step.kind === "send" || (step.kind === "assign" && moving)) drawMessages(drawing, step, moving);
   if (step.kind === "assign") {

@@ -120,6 +120,22 @@ def message_places(page, count):
             STEPS.equal(f"the message {way} of place {place} is outside", math.dist(centre, spot) > radius, outside)
 
 
+def large_rings(page):
+    """All links of a ring have an arrowhead or none has, and the sentence says where the values of messages drawn as dots are."""
+    for count in (8, 24):
+        page.open(view="run", ids="32", ring=",".join(str(7 * i % 32) for i in range(count)), example="cv1.txt", step="1")
+        page.wait(f"{count} messages to the right", f"document.querySelectorAll('.message.right').length === {count}")
+        shown, dots = page.count(".message text"), page.count(".message circle")
+        STEPS.equal(f"{count} nodes: values and dots", (shown, dots), (2 * count, 0) if count == 8 else (0, 2 * count))
+        told = page.text("#run-say").endswith(" The values are in the table below.")
+        STEPS.equal(f"{count} nodes: whether the sentence tells of the table", told, count == 24)
+    radius = page.value("document.querySelector('.message circle').r.baseVal.value")
+    STEPS.check("a dot can be seen", radius > 1, radius)
+    heads = "m.drawRing({ ring: [...Array(k + 1).keys()], digits: 2 }).image.querySelectorAll('.link path:not(.link-line)').length"
+    found = page.call("ring.js", f"Array.from({{ length: 64 }}, (_, k) => {heads})")
+    STEPS.equal("arrowheads of rings of 1 to 64 nodes", found, [n if n <= 32 else 0 for n in range(1, 65)])
+
+
 def windows_known(page):
     """The window that a node has heard of, as a band under the ring, grows by a node on each side in a round."""
     page.open(view="run", example="cv2.txt", ids="16", ring="5,1,3,7,0,2,9,8,4,6")
@@ -457,5 +473,5 @@ def restart(page, server):
     page.wait_ring("the ring after it", "5,1,3,7,0")
 
 
-VIEWS = [check, faults, typing, run, windows_known, equal_channels, drag, edit_ring, typed_rings, judge, judge_distances, table, graph]
+VIEWS = [check, faults, typing, run, large_rings, windows_known, equal_channels, drag, edit_ring, typed_rings, judge, judge_distances, table, graph]
 VIEWS += [links, step_of_link, exercises, examples, formats]
