@@ -112,8 +112,6 @@ function showStep(step, moving) {
     });
   }
   timeline.querySelectorAll("button").forEach((button, i) => button.setAttribute("aria-current", i === at ? "step" : "false"));
-  const current = timeline.children[at];
-  if (current) timeline.scrollLeft = current.offsetLeft - (timeline.clientWidth - current.clientWidth) / 2;
   markStep(byId("trace"), at);
 }
 

@@ -136,6 +136,27 @@ def large_rings(page):
     STEPS.equal("arrowheads of rings of 1 to 64 nodes", found, [n if n <= 32 else 0 for n in range(1, 65)])
 
 
+def strip_of_steps(page):
+    """No step of the most rounds is cut, and neither is its outline."""
+    wanted = ["start", *(f"{number} {part}" for number in range(1, 5) for part in ("send", "assign")), "finish"]
+    cut = (
+        "[...document.querySelectorAll('#timeline button')].filter(step => { const a = step.getBoundingClientRect();"
+        " for (let box = step.parentElement; box !== document.body; box = box.parentElement) {"
+        "  const b = box.getBoundingClientRect();"
+        "  if (a.left < b.left || a.right > b.right || a.top < b.top || a.bottom > b.bottom) return true;"
+        "  if (getComputedStyle(box).overflow !== 'visible') return true; }"
+        " return false; }).map(step => step.textContent)"
+    )
+    for width in (1280, 800, 420):
+        page.browser.size(width, 900)
+        for step in ("0", ""):
+            page.open(view="run", ids="10", ring="5,1,3,7,0,2,9,8,4,6", example="cv_to_three.txt", step=step)
+            page.wait("a run of four rounds", "document.querySelector('#timeline [aria-current=step]')")
+            STEPS.equal("its steps", page.texts("#timeline button"), wanted)
+            STEPS.equal(f"steps that are cut at {width}", page.value(cut), [])
+    page.browser.size(1280, 900)
+
+
 def windows_known(page):
     """The window that a node has heard of, as a band under the ring, grows by a node on each side in a round."""
     page.open(view="run", example="cv2.txt", ids="16", ring="5,1,3,7,0,2,9,8,4,6")
@@ -473,5 +494,5 @@ def restart(page, server):
     page.wait_ring("the ring after it", "5,1,3,7,0")
 
 
-VIEWS = [check, faults, typing, run, large_rings, windows_known, equal_channels, drag, edit_ring, typed_rings, judge, judge_distances, table, graph]
+VIEWS = [check, faults, typing, run, large_rings, strip_of_steps, windows_known, equal_channels, drag, edit_ring, typed_rings, judge, judge_distances, table, graph]
 VIEWS += [links, step_of_link, exercises, examples, formats]
