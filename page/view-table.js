@@ -1,12 +1,13 @@
 // Table: the windows with their channels, how often each channel occurs, and the text to save.
 
 import { ask, drop } from "./ask.js";
-import { byId, html } from "./svg.js";
+import { byId, coded, html } from "./svg.js";
 import { change, exampleOf, state } from "./state.js";
 import { badgeImage, colourOf } from "./channels.js";
-import { countChannels, readTable } from "./table.js";
+import { countChannels, leastBytes, readTable } from "./table.js";
 import { readRefusal } from "./faults.js";
 
+const LONGEST = 8_000_000; // the bytes of the longest answer of nbhd-page
 const SHOWN = 240;
 const BARS = 40;
 const refused = byId("table-refused");
@@ -18,6 +19,9 @@ export async function updateTable(checked) {
   if (byId("prefix").value !== state.prefix) byId("prefix").value = state.prefix;
   drop("table");
   if (checked.refusal) return showNothing("The program is not accepted yet: see below its text.");
+  if (leastBytes(checked.accepted) > LONGEST) {
+    return showNothing(`${checked.accepted.windows.toLocaleString("en")} windows are too many to show here; \`nbhd table\` prints them.`);
+  }
   const slow = setTimeout(() => showNothing("nbhd fills the table…"), 400);
   const answer = await ask("table", "table", { ids: state.ids }, state.text);
   clearTimeout(slow);
@@ -39,7 +43,7 @@ export async function updateTable(checked) {
 function showNothing(why) {
   text = "";
   table = null;
-  refused.textContent = why;
+  refused.replaceChildren(...coded(why));
   refused.hidden = false;
   byId("save").disabled = true;
   for (const id of ["histogram", "windows", "table-say"]) byId(id).replaceChildren();

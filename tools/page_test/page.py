@@ -65,10 +65,10 @@ class Page:
             " window.asked.length = 0"
         )
 
-    def asked(self, option):
-        """The values of an option in what the page asked of nbhd, in order."""
+    def asked(self, command, option):
+        """The values of an option in what the page asked a command of nbhd, in order."""
         bodies = [json.loads(body) for body in self.value("window.asked") if body]
-        return [body["options"][option] for body in bodies if option in body["options"]]
+        return [body["options"][option] for body in bodies if body["command"] == command]
 
     def call(self, module, expression):
         """The value of an expression over a module `m` of the page."""

@@ -243,14 +243,14 @@ def typed_rings(page):
         STEPS.equal(f"the channels of {typed!r}", page.texts(".ring .badge-number"), nbhd(CV1, "run", *IDS, "--ring", "5,1,3,7").split())
         page.wait(f"the address of {typed!r}", "location.hash.includes('ring=5,1,3,7&')")
         STEPS.equal(f"the field keeps {typed!r}", page.value("document.querySelector('#ring').value"), typed)
-    STEPS.equal("the rings that nbhd was asked about", sorted({ring for ring in page.asked("ring")}), ["0,1,2,3", "5,1,3,7"])
+    STEPS.equal("the rings that nbhd was asked about", sorted({ring for ring in page.asked("trace", "ring")}), ["0,1,2,3", "5,1,3,7"])
     page.listen()
     empty, part = "Write a ring, or take a random one.", "{} is no identifier: write numbers, as 5,1,3,7."
     for typed, said in (("", empty), (" , ", empty), ("5 x 9", part.format("x")), ("5,-1", part.format("-1")), ("5;1", part.format("5;1"))):
         page.fill("#ring", typed)
         page.wait(f"why {typed!r} is no ring", f"document.querySelector('#run-refused').textContent === {json.dumps(said)}")
     time.sleep(0.2)
-    STEPS.equal("nbhd is not asked about them", page.asked("ring"), [])
+    STEPS.equal("nbhd is not asked about them", page.asked("trace", "ring"), [])
 
 
 def judge(page):
@@ -325,8 +325,34 @@ def table(page):
     wanted = [line for line in nbhd(CV1, "table", "--ids", "16").splitlines() if line.startswith("1 ")]
     found = f"document.querySelector('#table-say').textContent.startsWith('{len(wanted)} of ')"
     page.wait("a search for a whole identifier", found)
-    page.open(view="table", ids="102", example="linial_poly.txt")
+    page.open(view="table", ids="86", text=LDB.replace("channels 3", "channels 86").replace("ldb(r0, L)", "r0"))
     page.wait("a table that is too long", "/longer than 8 MB/.test(document.querySelector('#table-refused').textContent)")
+
+
+def long_tables(page):
+    """Of a table that is longer than an answer of the server nbhd is not asked."""
+    page.open(view="run", ids="8", example="cv1.txt")
+    page.wait("a program", "document.querySelector('.check.good')")
+    page.listen()
+    page.click("#tab-table")
+    page.wait("a table", "document.querySelectorAll('.windows li').length")
+    STEPS.equal("nbhd is asked about it", page.asked("table", "ids"), ["8"])
+    page.listen()
+    for name, count in (("cv_to_three.txt", "3,628,800"), ("linial_poly.txt", "1,030,200")):
+        number = page.value("[...document.querySelectorAll('#examples .aside')].map(e => e.textContent.split(' ')[0])").index(name)
+        page.value(f"document.querySelectorAll('#examples button')[{number}].click()")
+        said = f"{count} windows are too many to show here; nbhd table prints them."
+        page.wait(f"too many windows of {name}", f"document.querySelector('#table-refused').textContent === {json.dumps(said)}")
+    STEPS.equal("nbhd is not asked about them", page.asked("table", "ids"), [])
+    wider = LDB.replace("channels 3", "channels 9")
+    for text, ids in ((LDB, 8), (wider, 16), ("rounds 0 channels 1 registers 1 start r0 = 0 finish 0", 120)):
+        words = nbhd(text, "check", "--ids", str(ids)).split()
+        shape = {"ids": ids, "rounds": int(words[words.index("rounds") + 1]), "windows": int(words[words.index("windows") + 1])}
+        lines = [line for line in nbhd(text, "table", "--ids", str(ids)).splitlines() if " : " in line]
+        found = page.call("table.js", f"m.leastBytes({json.dumps(shape)})")
+        STEPS.equal(f"the least bytes of {shape}", round(found), sum(len(line) + 1 for line in lines))
+    page.open(view="table", ids="86", text=wider)
+    page.wait("a table of nearly 8 MB", "document.querySelector('#table-say').textContent.startsWith('614,040 windows')")
 
 
 def graph(page):
@@ -494,5 +520,5 @@ def restart(page, server):
     page.wait_ring("the ring after it", "5,1,3,7,0")
 
 
-VIEWS = [check, faults, typing, run, large_rings, strip_of_steps, windows_known, equal_channels, drag, edit_ring, typed_rings, judge, judge_distances, table, graph]
+VIEWS = [check, faults, typing, run, large_rings, strip_of_steps, windows_known, equal_channels, drag, edit_ring, typed_rings, judge, judge_distances, table, long_tables, graph]
 VIEWS += [links, step_of_link, exercises, examples, formats]
