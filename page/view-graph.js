@@ -9,16 +9,21 @@ import { edgesOf, readTable } from "./table.js";
 import { readRefusal } from "./faults.js";
 
 const MOST = 120;
+const FEW = [4, 5, 6]; // the numbers of identifiers that are offered
 const drawing = byId("drawing");
 const sentence = byId("graph-say");
+const cycles = byId("arrange").querySelector("[value=cycle]");
 
 export async function updateGraph(checked) {
   for (const choice of byId("arrange").querySelectorAll("input")) choice.checked = choice.value === state.arrange;
   drop("table");
   if (checked.refusal) return showNothing("The program is not accepted yet: see below its text.");
-  const { windows, rounds } = checked.accepted;
+  const { ids, windows, rounds } = checked.accepted;
+  // With 2t+2 identifiers each window has one successor, so the graph consists of disjoint cycles.
+  cycles.disabled = ids !== 2 * rounds + 2;
   if (windows > MOST) {
-    return showNothing(`${windows.toLocaleString("en")} windows are too many to draw: at most ${MOST} can be. ${advice(rounds)}`);
+    const tooMany = `${windows.toLocaleString("en")} windows are too many to draw: at most ${MOST} can be. `;
+    return showNothing(tooMany, ...advice(rounds));
   }
   const answer = await ask("table", "table", { ids: state.ids }, state.text);
   if (answer === undefined) return undefined;
@@ -26,13 +31,25 @@ export async function updateGraph(checked) {
   return show(readTable(answer.out));
 }
 
+/** Buttons for few identifiers, or where the rounds allow none of them, which programs have few enough windows. */
 function advice(rounds) {
-  if (rounds === 0) return `Take at most ${MOST} identifiers.`;
-  return rounds === 1 ? "Take 4, 5 or 6 identifiers." : "A program of one round with 4, 5 or 6 identifiers has few enough.";
+  const length = 2 * rounds + 1;
+  const windowsOf = (ids) => Array.from({ length }, (_, i) => ids - i).reduce((product, choices) => product * choices);
+  const offered = FEW.filter((ids) => ids > length && windowsOf(ids) <= MOST);
+  if (offered.length === 0) return ["A program of one round with 4, 5 or 6 identifiers has few enough."];
+  return [rounds === 0 ? `Take at most ${MOST} identifiers, as ` : "Take fewer identifiers: ", ...offered.map(offer)];
 }
 
-function showNothing(why) {
-  sentence.textContent = why;
+function offer(ids) {
+  const take = () => {
+    byId("tab-graph").focus(); // as the button goes
+    change({ ids: String(ids) }, { keep: true });
+  };
+  return html("button", { type: "button", class: "offer", "aria-label": `${ids} identifiers`, onclick: take }, String(ids));
+}
+
+function showNothing(...why) {
+  sentence.replaceChildren(...why);
   sentence.className = "say refused";
   drawing.replaceChildren();
   byId("edges").replaceChildren();
@@ -45,9 +62,6 @@ function show(table) {
   const joined = equal.length ? `${equal.length.toLocaleString("en")} join` : "None joins";
   const counts = `${table.windows.length} windows, ${edges.length.toLocaleString("en")} edges.`;
   sentence.textContent = `${counts} ${joined} two windows of one channel.`;
-  const cycles = byId("arrange").querySelector("[value=cycle]");
-  // With 2t+2 identifiers each window has one successor, so the graph consists of disjoint cycles.
-  cycles.disabled = table.ids !== 2 * table.rounds + 2;
   const arrange = cycles.disabled && state.arrange === "cycle" ? "channel" : state.arrange;
   byId("arrange").querySelector(`[value=${arrange}]`).checked = true;
   const places = arrange === "cycle" ? cyclePlaces(edges) : circlePlaces(table, arrange);

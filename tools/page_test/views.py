@@ -380,6 +380,21 @@ def graph(page):
         STEPS.equal(f"where the arrows {way} lead", sorted(names[nearest(head, points)] for head in heads), windows)
     page.open(view="graph", ids="8", example="cv1.txt")
     page.wait("too many windows", "/too many/.test(document.querySelector('#graph-say').textContent)")
+    STEPS.equal("numbers of identifiers that are offered", page.texts("#graph-say button"), ["4", "5", "6"])
+    cycle = "document.querySelector('#arrange [value=cycle]')"
+    STEPS.equal("no cycles for 8 identifiers", page.value(f"{cycle}.disabled"), True)
+    STEPS.check("when there are cycles", "2t+2 identifiers" in page.value(f"{cycle}.parentElement.title"))
+    for ids, windows in (("4", 24), ("6", 120)):
+        page.click(f"#graph-say button[aria-label='{ids} identifiers']")
+        page.wait(f"the graph for {ids}", f"document.querySelectorAll('.graph .point').length === {windows}")
+        STEPS.equal(f"the identifiers are {ids}", page.value("document.querySelector('#ids').value"), ids)
+        STEPS.equal(f"cycles for {ids} identifiers", page.value(f"!{cycle}.disabled"), ids == "4")
+        page.value("history.back()")
+        page.wait("back to too many windows", "document.querySelector('#graph-say button')")
+    for name, ids, offered in (("identity.txt", "200", ["4", "5", "6"]), ("cv2.txt", "16", [])):
+        page.open(view="graph", ids=ids, example=name)
+        page.wait(f"too many windows of {name}", "/too many/.test(document.querySelector('#graph-say').textContent)")
+        STEPS.equal(f"numbers that are offered for {name}", page.texts("#graph-say button"), offered)
 
 
 def links(page):
