@@ -1,5 +1,7 @@
 // Refusals: the report's line, the note on standard error, and the place in the text.
 
+export const PROGRAM_REFUSED = "The program is refused; the reason stands under its text.";
+
 /**
  * Reads a refusal as `{ code, line, note, at }`: the kind of the fault, the report's line, the sentence of the note on standard
  * error, and the place in the text as `{ row, column, index }`. All but `line` may be missing.

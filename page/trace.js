@@ -27,23 +27,24 @@ export function stepsOf(text) {
 export const nameOf = (step) =>
   ({ start: "start", send: `${step.round} send`, assign: `${step.round} assign`, finish: "finish" })[step.kind];
 
-/** A sentence on what happens in a step. */
+/** A sentence on what happens in a step, with words of the language in backquotes. */
 export function sentenceOf(step, ring) {
-  if (step.kind === "start") return "Each node knows its own identifier alone; start gives its registers.";
+  if (step.kind === "start") return "Each node knows its own identifier alone; `start` gives its registers.";
   if (step.kind === "send") {
-    return `Round ${step.round}: each node sends one value to the right, outside, and one to the left, inside.`;
+    return `Round ${step.round}: each node sends a value to its right neighbour (filled, outside the ring) `
+      + "and one to its left neighbour (hollow, inside).";
   }
   if (step.kind === "assign") {
     const seen = Math.min(2 * step.round + 1, ring.length);
     return `Round ${step.round}: with what came from both sides each node assigns its registers. `
-      + `They follow from the ${seen} identifiers within distance ${step.round}.`;
+      + `What a node now holds depends only on its window: the ${seen} identifiers within distance ${step.round}.`;
   }
   const pairs = equalPairs(step.channels);
-  if (pairs.length === 0) return "finish gives the channels. On this ring neighbours’ channels differ.";
+  if (pairs.length === 0) return "`finish` gives each node its channel. On this ring neighbours’ channels differ.";
   const [p] = pairs;
   const [a, b] = [ring[p], ring[(p + 1) % ring.length]];
-  const others = ["", ", and so has 1 other pair"][pairs.length - 1] ?? `, and so have ${pairs.length - 1} other pairs`;
-  return `finish gives the channels. The neighbours ${a} and ${b} have one channel${others}.`;
+  const others = ["", "; so has 1 other pair"][pairs.length - 1] ?? `; so have ${pairs.length - 1} other pairs`;
+  return `\`finish\` gives each node its channel. Neighbours ${a} and ${b} have the same channel${others}.`;
 }
 
 /** The places whose right neighbour has the same channel. */

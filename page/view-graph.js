@@ -1,12 +1,12 @@
 // Graph: the neighbourhood graph. Its vertices are the windows, and its edges go from each window to those of the right neighbour.
-// Neighbours' channels differ on every ring exactly if no edge joins two windows of one channel.
+// Neighbours' channels differ on every ring exactly if no edge joins windows with equal channels.
 
 import { ask, drop } from "./ask.js";
 import { byId, html, point, svg } from "./svg.js";
 import { change, state } from "./state.js";
 import { badge, badgeImage } from "./channels.js";
 import { edgesOf, readTable } from "./table.js";
-import { readRefusal } from "./faults.js";
+import { PROGRAM_REFUSED, readRefusal } from "./faults.js";
 
 const MOST = 120;
 const FEW = [4, 5, 6]; // the numbers of identifiers that are offered
@@ -17,7 +17,7 @@ const cycles = byId("arrange").querySelector("[value=cycle]");
 export async function updateGraph(checked) {
   for (const choice of byId("arrange").querySelectorAll("input")) choice.checked = choice.value === state.arrange;
   drop("table");
-  if (checked.refusal) return showNothing("The program is not accepted yet: see below its text.");
+  if (checked.refusal) return showNothing(PROGRAM_REFUSED);
   const { ids, windows, rounds } = checked.accepted;
   // With 2t+2 identifiers each window has one successor, so the graph consists of disjoint cycles.
   cycles.disabled = ids !== 2 * rounds + 2;
@@ -59,9 +59,9 @@ function show(table) {
   const edges = edgesOf(table);
   const equal = edges.filter(([a, b]) => table.channels[a] === table.channels[b]);
   sentence.className = "say";
-  const joined = equal.length ? `${equal.length.toLocaleString("en")} join` : "None joins";
+  const joined = ["None joins", "1 joins"][equal.length] ?? `${equal.length.toLocaleString("en")} join`;
   const counts = `${table.windows.length} windows, ${edges.length.toLocaleString("en")} edges.`;
-  sentence.textContent = `${counts} ${joined} two windows of one channel.`;
+  sentence.textContent = `${counts} ${joined} windows with equal channels.`;
   const arrange = cycles.disabled && state.arrange === "cycle" ? "channel" : state.arrange;
   byId("arrange").querySelector(`[value=${arrange}]`).checked = true;
   const places = arrange === "cycle" ? cyclePlaces(edges) : circlePlaces(table, arrange);

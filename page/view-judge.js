@@ -5,7 +5,7 @@ import { byId, html, svg } from "./svg.js";
 import { change, state } from "./state.js";
 import { drawRing, drawWindow, say } from "./ring.js";
 import { badgeImage } from "./channels.js";
-import { readRefusal } from "./faults.js";
+import { PROGRAM_REFUSED, readRefusal } from "./faults.js";
 
 const verdict = byId("verdict");
 const witness = byId("witness");
@@ -15,7 +15,7 @@ export async function updateJudge(checked) {
   for (const name of ["near", "far"]) if (byId(name).value !== state[name]) byId(name).value = state[name];
   drop("judge");
   drop("witness");
-  if (checked.refusal) return showNothing("The program is not accepted yet: see below its text.");
+  if (checked.refusal) return showNothing(PROGRAM_REFUSED);
   const { ids, near, far, text } = state;
   const slow = setTimeout(() => showNothing("nbhd judges all tuples…", "waiting"), 400);
   const answer = await ask("judge", "judge", { ids, near, far }, text);
@@ -64,16 +64,18 @@ function showYes(line, { ids, rounds }) {
   const tuples = Number(line.match(/\d+/)?.[0] ?? 0);
   // Where distance two counts, tuples have one identifier more, and so have the least rings.
   const extra = Number(state.far) > 0 ? 2 : 1;
+  const least = 2 * rounds + 1 + extra;
   verdict.className = "verdict yes";
   verdict.replaceChildren(
     html("p", { class: "word" }, "Yes"),
-    html("p", {}, `On every ring of at least ${2 * rounds + 1 + extra} distinct identifiers below ${ids} ${demand()}.`),
+    html("p", {}, least > ids ? `No ring has ${least} distinct identifiers below ${ids}.`
+      : `On every ring of ${least < ids ? `${least} to ` : ""}${ids} distinct identifiers below ${ids}, ${demand()}.`),
     html("p", { class: "aside" }, `${tuples.toLocaleString("en")} tuples were looked at.`),
   );
   witness.replaceChildren(drawTuple(rounds, extra));
   const pair = extra === 1 ? "two neighbours" : "two nodes at distance two";
   reading.replaceChildren(html("p", { class: "aside caption" },
-    `A tuple: ${2 * rounds + 1 + extra} identifiers in a row hold all that ${pair} can see after ${inWords(rounds)}. `
+    `A tuple: ${least} identifiers in a row hold all that ${pair} can see after ${inWords(rounds)}. `
     + "Every such pair on every such ring is in a tuple."));
 }
 

@@ -10,7 +10,7 @@ import { allowDragging, dragIn } from "./drag.js";
 import { nameOf, sentenceOf, stepsOf } from "./trace.js";
 import { showTrace, markStep, markPlace } from "./trace-table.js";
 import { fillTray } from "./tray.js";
-import { readRefusal } from "./faults.js";
+import { PROGRAM_REFUSED, readRefusal } from "./faults.js";
 
 const STEP_MS = 1500;
 const stage = byId("stage");
@@ -32,7 +32,7 @@ export async function updateRun(checked) {
     (event, identifier) => drawing && dragIn(event, drawing, ring, identifier, edit));
   drop("run");
   byId("run").classList.remove("pending");
-  if (checked.refusal) return showRefused("The program is not accepted yet: see below its text.");
+  if (checked.refusal) return showRefused(PROGRAM_REFUSED);
   const why = whyNoRing(state.ring);
   if (why) return showRefused(why);
   // The ring of the state is drawn at once, and its run when it is known.
@@ -76,7 +76,7 @@ function show({ moving = false } = {}) {
   const step = steps?.[at];
   stage.classList.toggle("idle", !step);
   for (const name of ["back", "play", "forward"]) byId(name).disabled = !step;
-  byId("run-say").textContent = step ? sentenceOf(step, ring) : "";
+  byId("run-say").replaceChildren(...(step ? coded(sentenceOf(step, ring)) : []));
   drawing = null;
   if (!ring) return stage.replaceChildren();
   if (steps) {

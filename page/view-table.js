@@ -5,7 +5,7 @@ import { byId, coded, html } from "./svg.js";
 import { change, exampleOf, state } from "./state.js";
 import { badgeImage, colourOf } from "./channels.js";
 import { countChannels, leastBytes, readTable } from "./table.js";
-import { readRefusal } from "./faults.js";
+import { PROGRAM_REFUSED, readRefusal } from "./faults.js";
 
 const LONGEST = 8_000_000; // the bytes of the longest answer of nbhd-page
 const SHOWN = 240;
@@ -18,7 +18,7 @@ let table = null;
 export async function updateTable(checked) {
   if (byId("prefix").value !== state.prefix) byId("prefix").value = state.prefix;
   drop("table");
-  if (checked.refusal) return showNothing("The program is not accepted yet: see below its text.");
+  if (checked.refusal) return showNothing(PROGRAM_REFUSED);
   if (leastBytes(checked.accepted) > LONGEST) {
     return showNothing(`${checked.accepted.windows.toLocaleString("en")} windows are too many to show here; \`nbhd table\` prints them.`);
   }
@@ -79,7 +79,7 @@ function showWindows() {
   const all = table.windows.length.toLocaleString("en");
   const shown = count > SHOWN ? `; the first ${SHOWN} are shown` : "";
   byId("table-say").textContent = wanted.length
-    ? `${count.toLocaleString("en")} of ${all} windows begin with ${wanted.join(" ")}${shown}.`
+    ? `${count.toLocaleString("en")} of ${all} windows ${count === 1 ? "begins" : "begin"} with ${wanted.join(" ")}${shown}.`
     : `${all} windows${shown}. The middle identifier is the node itself.`;
   const width = 8.2 * Math.max(...found.map((i) => table.windows[i].length), 5) + 40;
   byId("windows").replaceChildren(html("ul", { style: { columnWidth: `${width}px` } }, found.map((i) => {

@@ -68,6 +68,10 @@ def faults(page):
         STEPS.equal(f"{name}: marks", page.count(".ink .fault"), 1 if has_place else 0)
         copy = page.value("document.querySelector('.ink').textContent")
         STEPS.equal(f"{name}: the coloured copy has the same text", copy, text + "\n")
+    refused = "The program is refused; the reason stands under its text."
+    for view, place in (("judge", "#verdict"), ("table", "#table-refused"), ("graph", "#graph-say"), ("run", "#run-refused")):
+        page.click(f"#tab-{view}")
+        page.wait(f"the {view} of a refused program", f"document.querySelector('{place}').textContent === '{refused}'")
     page.fill("#text", CV1)
     page.fill("#ids", "3")
     page.wait("a refusal without a place", "document.querySelector('.check .line')?.textContent === 'check fault X1'")
@@ -95,9 +99,16 @@ def run(page):
     page.focus("#stage")
     page.browser.key("ArrowLeft")
     STEPS.equal("the registers after round 1", page.texts(".ring .label"), trace[3][3:])
+    said = "What a node now holds depends only on its window: the 3 identifiers within distance 1."
+    STEPS.check("the sentence on registers", page.text("#run-say").endswith(said), page.text("#run-say"))
     page.browser.key("ArrowLeft")
     STEPS.equal("what is sent left", page.texts(".message.left text"), trace[1][3:])
     STEPS.equal("what is sent right", page.texts(".message.right text"), trace[2][3:])
+    sides = "its right neighbour (filled, outside the ring) and one to its left neighbour (hollow, inside)"
+    STEPS.equal("the sentence on messages", page.text("#run-say"), f"Round 1: each node sends a value to {sides}.")
+    fills = page.value("['right', 'left'].map(way => getComputedStyle(document.querySelector(`.message.${way} rect`)).fill)")
+    sheet = page.value("getComputedStyle(document.querySelector('#ring')).backgroundColor")
+    STEPS.equal("which messages are hollow", [fill == sheet for fill in fills], [False, True])
     message_places(page, len(ring.split(",")))
     page.browser.key("ArrowLeft")
     STEPS.equal("the registers at the start", page.texts(".ring .label"), trace[0][2:])
@@ -184,10 +195,11 @@ def equal_channels(page):
         equal = [(a, b) for a, b in pairs if channels[a] == channels[b]]
         red = "[...document.querySelectorAll('#stage .link')].flatMap((link, place) => link.matches('.equal') ? [place] : [])"
         STEPS.equal(f"red links of {ring}", page.value(red), [a for a, _ in equal])
-        said = "neighbours’ channels differ"
+        said = "On this ring neighbours’ channels differ."
         for a, b in equal[:1]:
-            said = f"The neighbours {identifiers[a]} and {identifiers[b]} have one channel"
-        STEPS.check(f"the sentence on {ring}", said in page.text("#run-say"), page.text("#run-say"))
+            others = {1: "", 2: "; so has 1 other pair"}.get(len(equal), f"; so have {len(equal) - 1} other pairs")
+            said = f"Neighbours {identifiers[a]} and {identifiers[b]} have the same channel{others}."
+        STEPS.equal(f"the sentence on {ring}", page.text("#run-say"), f"finish gives each node its channel. {said}")
 
 
 def drag(page):
@@ -283,7 +295,17 @@ def judge_distances(page):
     page.wait("the yes of CV1", "document.querySelector('.verdict.yes')")
     tuples = int(nbhd(CV1, "judge", *IDS).split()[1])
     STEPS.check("its number of tuples", f"{tuples:,} tuples" in page.text(".verdict"), page.text(".verdict"))
-    STEPS.check("its rings", "at least 4 distinct identifiers below 8" in page.text(".verdict"), page.text(".verdict"))
+    rings = "On every ring of 4 to 8 distinct identifiers below 8, neighbours’ channels differ."
+    STEPS.check("its rings", rings in page.text(".verdict"), page.text(".verdict"))
+    for ids, far, said in (
+        ("4", "0", "On every ring of 4 distinct identifiers below 4, neighbours’ channels differ."),
+        ("4", "1", "No ring has 5 distinct identifiers below 4."),
+    ):
+        page.open(view="judge", ids=ids, far=far, ring="0,1,2,3", example="cv1.txt")
+        page.wait(f"the yes for {ids} identifiers and far {far}", "document.querySelector('.verdict.yes')")
+        STEPS.check("its sentence", said in page.text(".verdict"), page.text(".verdict"))
+    page.open(view="judge", ids="8", ring="5,1,3,7", example="cv1.txt")
+    page.wait("the yes for 8 identifiers", "document.querySelector('.verdict.yes')")
     page.fill("#far", "1")
     page.wait("the no at distance two", NO_DRAWN)
     line = nbhd(CV1, "judge", *IDS, "--near", "1", "--far", "1")
@@ -325,6 +347,9 @@ def table(page):
     wanted = [line for line in nbhd(CV1, "table", "--ids", "16").splitlines() if line.startswith("1 ")]
     found = f"document.querySelector('#table-say').textContent.startsWith('{len(wanted)} of ')"
     page.wait("a search for a whole identifier", found)
+    page.fill("#prefix", "1 6 15")
+    one = f"document.querySelector('#table-say').textContent === '1 of 3,360 windows begins with 1 6 15.'"
+    page.wait("a search for one window", one)
     page.open(view="table", ids="86", text=LDB.replace("channels 3", "channels 86").replace("ldb(r0, L)", "r0"))
     page.wait("a table that is too long", "/longer than 8 MB/.test(document.querySelector('#table-refused').textContent)")
 
@@ -366,6 +391,8 @@ def graph(page):
         STEPS.equal(f"its windows for {ids}", page.count(".graph .point"), len(channels))
         STEPS.equal(f"its edges for {ids}", page.count(".graph .edge"), len(edges))
         STEPS.equal(f"its red edges for {ids}", page.count(".graph .edges.equal .edge"), len(equal))
+        said = {0: "None joins", 1: "1 joins"}.get(len(equal), f"{len(equal)} join")
+        STEPS.check(f"its sentence for {ids}", f" {said} windows with equal channels." in page.text("#graph-say"))
         STEPS.equal(f"their list for {ids}", page.texts(".equal-edges .code"), equal[:24])
     page.open(view="graph", ids="5", text=LDB)
     page.wait("the graph for the keys", "document.querySelectorAll('.graph .point').length")
