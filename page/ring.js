@@ -7,6 +7,9 @@ import { badge, colourOf } from "./channels.js";
 export const PILL = 19;
 export const pillWidth = (digits) => Math.max(digits * 8 + 13, PILL + 1);
 
+/** Whether there is room beside the nodes for a register's name too, before values of up to `digits` digits. */
+export const hasRoomForNames = (n, digits) => n <= 12 && digits <= 4;
+
 /** The sizes of a drawing of `n` places, with labels of up to `digits` digits and messages of up to `sentDigits`. */
 export function measure(n, digits = 0, sentDigits = 0) {
   const node = n <= 8 ? 23 : n <= 12 ? 20 : n <= 20 ? 16 : n <= 32 ? 13 : n <= 64 ? 10.5 : Math.max(1.5, Math.min(5, 800 / n));
@@ -21,8 +24,8 @@ export function measure(n, digits = 0, sentDigits = 0) {
 }
 
 /**
- * Draws the ring with the identifiers `ring`; `channels` and `labels`, the texts beside the nodes, may be missing. `label` is the
- * drawing's text for screen readers. Returns the image with its sizes, layers and nodes.
+ * Draws the ring with the identifiers `ring`; `channels` and `labels` may be missing; a label is the `text` beside a node, with its
+ * `title`. `label` is the drawing's text for screen readers. Returns the image with its sizes, layers and nodes.
  */
 export function drawRing({ ring, channels, labels, digits, sentDigits, label, margin = 0 }) {
   const size = measure(ring.length, digits, sentDigits);
@@ -93,16 +96,20 @@ export function moveNode(group, size, turn, at) {
 
 function drawLabel(size, turn, label) {
   const [x, y] = point(turn, size.node + 9);
+  const group = svg("g");
+  group.append(svg("title", {}, label.title));
   if (size.radial) {
     const left = turn > 0.5;
-    return svg("text", {
+    group.append(svg("text", {
       class: "label", "text-anchor": left ? "end" : "start", style: { fontSize: size.n <= 32 ? "12px" : "10.5px" },
       transform: `translate(${x} ${y}) rotate(${turn * 360 - 90 + (left ? 180 : 0)})`,
-    }, label);
+    }, label.text));
+    return group;
   }
   const [dx, dy] = point(turn, 1);
   const anchor = Math.abs(dx) < 0.3 ? "middle" : dx > 0 ? "start" : "end";
-  return svg("text", { class: "label", x, y: y + dy * 4, "text-anchor": anchor }, label);
+  group.append(svg("text", { class: "label", x, y: y + dy * 4, "text-anchor": anchor }, label.text));
+  return group;
 }
 
 /** The window of `t` rounds at a place: a band under the ring, or a line at the distance `far` outside it. */

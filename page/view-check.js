@@ -34,15 +34,15 @@ function readAccepted(out) {
 
 function showAccepted({ ids, rounds, channels, bound, windows }) {
   const fact = (name, value, what) =>
-    html("div", { title: what }, html("dt", {}, name), html("dd", {}, value.toLocaleString("en")));
+    html("div", { title: what }, html("dt", {}, name), html("dd", { "aria-description": what }, value.toLocaleString("en")));
   box.className = "check good";
   box.replaceChildren(
     html("p", { class: "headline" }, html("strong", {}, "Accepted"), ` for ${ids.toLocaleString("en")} identifiers.`),
     html("dl", { class: "facts" },
       fact("rounds", rounds),
       fact("channels", channels, "channels are below this number"),
-      fact("bound", bound, "no channel is greater on any ring"),
-      fact("windows", windows, `lists of ${2 * rounds + 1} distinct identifiers`)),
+      fact("bound", bound, "the largest channel that is possible by the rules for bounds"),
+      fact("windows", windows, `how many lists of 2t+1 = ${2 * rounds + 1} distinct identifiers there are`)),
   );
 }
 

@@ -3,7 +3,7 @@
 import { ask, drop } from "./ask.js";
 import { byId, coded, html } from "./svg.js";
 import { change, state } from "./state.js";
-import { drawRing, drawWindow, say } from "./ring.js";
+import { drawRing, drawWindow, hasRoomForNames, say } from "./ring.js";
 import { drawMessages, isDot } from "./messages.js";
 import { readRing, whyNoRing, withCommas } from "./ring-text.js";
 import { allowDragging, dragIn } from "./drag.js";
@@ -20,6 +20,7 @@ const refused = byId("run-refused");
 let steps = null; // of the ring that is shown, or `null` while it has no run
 let at = 0;
 let register = 0;
+let named = false; // whether the labels have the register's name
 let digits = [1, 1]; // the most digits of labels and of messages, so that all steps have the same size
 let drawing = null;
 let player = 0;
@@ -82,12 +83,14 @@ function show({ moving = false } = {}) {
   if (steps) {
     const most = (lists) => Math.max(0, ...lists.flat().map((value) => String(value).length));
     const sent = steps.flatMap(({ left, right }) => (left ? [left, right] : []));
-    digits = [most(steps.map(({ registers }) => registers[register])), most(sent)];
+    const held = most(steps.map(({ registers }) => registers[register]));
+    named = steps[0].registers.length === 1 && hasRoomForNames(ring.length, held);
+    digits = [named ? held + "r0=".length : held, most(sent)];
   }
   const focused = stage.contains(document.activeElement) ? document.activeElement.dataset.place : undefined;
   drawing = drawRing({
     ring, channels: step?.channels, digits: digits[0], sentDigits: digits[1],
-    labels: step ? step.registers[register].map(String) : undefined,
+    labels: step?.registers[register].map((value) => ({ text: named ? `r0=${value}` : value, title: `r${register} = ${value}` })),
     label: step ? `Ring of ${ring.length} nodes, ${nameOf(step)}` : `Ring of ${ring.length} nodes`,
   });
   stage.replaceChildren(drawing.image);

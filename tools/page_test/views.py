@@ -11,6 +11,8 @@ from steps import CV1, LDB, ROOT, STEPS, nbhd, note_of
 IDS = ("--ids", "8")
 NO_DRAWN = "document.querySelector('.verdict.no') && document.querySelector('#witness .badge')"
 
+LABEL_TITLES = "[...document.querySelectorAll('.ring .label')].map(e => e.parentElement.querySelector('title').textContent)"
+
 
 def nearest(spot, points):
     """The number of the point that is nearest."""
@@ -23,6 +25,9 @@ def check(page):
     words = nbhd(CV1, "check", *IDS).split()
     facts = [value.replace(",", "") for value in page.texts(".facts dd")]
     STEPS.equal("its numbers", facts, [words[words.index(name) + 1] for name in ("rounds", "channels", "bound", "windows")])
+    meant = "[...document.querySelectorAll('.facts dd')].slice(2).map(e => [e.ariaDescription, e.parentElement.title])"
+    said = ("the largest channel that is possible by the rules for bounds", "how many lists of 2t+1 = 3 distinct identifiers there are")
+    STEPS.equal("what its numbers are", page.value(meant), [[each, each] for each in said])
     page.value("(t => { t.focus(); t.setSelectionRange(0, t.value.length); })(document.querySelector('#text'))")
     faulty = CV1.replace("send left 0", "send lift 0")
     page.browser.type(faulty)
@@ -98,7 +103,8 @@ def run(page):
     STEPS.equal("its trace", [" ".join(row).split() for row in rows], trace)
     page.focus("#stage")
     page.browser.key("ArrowLeft")
-    STEPS.equal("the registers after round 1", page.texts(".ring .label"), trace[3][3:])
+    STEPS.equal("the registers after round 1", page.texts(".ring .label"), [f"r0={value}" for value in trace[3][3:]])
+    STEPS.equal("their titles", page.value(LABEL_TITLES), [f"r0 = {value}" for value in trace[3][3:]])
     said = "What a node now holds depends only on its window: the 3 identifiers within distance 1."
     STEPS.check("the sentence on registers", page.text("#run-say").endswith(said), page.text("#run-say"))
     page.browser.key("ArrowLeft")
@@ -111,9 +117,15 @@ def run(page):
     STEPS.equal("which messages are hollow", [fill == sheet for fill in fills], [False, True])
     message_places(page, len(ring.split(",")))
     page.browser.key("ArrowLeft")
-    STEPS.equal("the registers at the start", page.texts(".ring .label"), trace[0][2:])
+    STEPS.equal("the registers at the start", page.texts(".ring .label"), [f"r0={value}" for value in trace[0][2:]])
     page.click("#play")
     page.wait("play goes to the end", "document.querySelector('#timeline li:last-child button').ariaCurrent === 'step'")
+    two = "rounds 0 channels 8 registers 2 start r0 = id r1 = add(id, 10) finish r0"
+    page.open(view="run", ids="8", ring=ring, text=two)
+    page.wait_ring("a ring of two registers", ring)
+    page.value("(e => { e.value = '1'; e.dispatchEvent(new Event('change', { bubbles: true })); })(document.querySelector('#shown-register select'))")
+    STEPS.equal("the second register", page.texts(".ring .label"), ["15", "11", "13", "17"])
+    STEPS.equal("its titles", page.value(LABEL_TITLES), ["r1 = 15", "r1 = 11", "r1 = 13", "r1 = 17"])
 
 
 def message_places(page, count):
@@ -140,6 +152,8 @@ def large_rings(page):
         STEPS.equal(f"{count} nodes: values and dots", (shown, dots), (2 * count, 0) if count == 8 else (0, 2 * count))
         told = page.text("#run-say").endswith(" The values are in the table below.")
         STEPS.equal(f"{count} nodes: whether the sentence tells of the table", told, count == 24)
+    STEPS.equal("values without a name", page.texts(".ring .label"), [str(7 * i % 32) for i in range(24)])
+    STEPS.equal("the title of one", page.value(LABEL_TITLES)[2], "r0 = 14")
     radius = page.value("document.querySelector('.message circle').r.baseVal.value")
     STEPS.check("a dot can be seen", radius > 1, radius)
     heads = "m.drawRing({ ring: [...Array(k + 1).keys()], digits: 2 }).image.querySelectorAll('.link path:not(.link-line)').length"
