@@ -205,11 +205,12 @@ export function startRun() {
   byId("shown-register").addEventListener("change", (event) => { register = Number(event.target.value); show(); });
   byId("ring").addEventListener("input", (event) => change({ ring: withCommas(event.target.value) }));
   byId("random").addEventListener("click", randomRing);
-  stage.addEventListener("keydown", (event) => {
-    if (event.target !== stage) return;
+  addEventListener("keydown", (event) => {
+    if (state.view !== "run" || event.altKey || event.ctrlKey || event.metaKey) return;
+    if (!event.target.matches("body, #stage, #stage *, .player button")) return;
     if (event.key === "ArrowRight") { pause(); go(at + 1, true); }
     else if (event.key === "ArrowLeft") { pause(); go(at - 1); }
-    else if (event.key === " ") play();
+    else if (event.key === " " && event.target === stage) play();
     else return;
     event.preventDefault();
   });

@@ -182,6 +182,27 @@ def strip_of_steps(page):
     page.browser.size(1280, 900)
 
 
+def step_keys(page):
+    """What the line below the ring says of keys is so: they step from the page, a node and a step, and not from a field."""
+    current = "[...document.querySelectorAll('#timeline button')].findIndex(e => e.ariaCurrent === 'step')"
+    page.open(view="run", ids="8", ring="5,1,3,7", example="cv1.txt")
+    page.wait_ring("the ring for the keys", "5,1,3,7")
+    hint = "Point at a node to see its window; drag it to move it, off the ring to take it out; arrow keys step."
+    STEPS.equal("the line below the ring", page.text(".hint"), hint)
+    for place, key, step in (
+        (None, "ArrowLeft", 2),
+        (".node[data-place='1']", "ArrowLeft", 1),
+        ("#timeline li:first-child button", "ArrowRight", 2),
+        ("#ring", "ArrowLeft", 2),
+        ("#trace", "ArrowLeft", 2),
+    ):
+        page.focus(place) if place else page.value("document.activeElement.blur()")
+        page.browser.key(key)
+        STEPS.equal(f"the step after {key} at {place}", page.value(current), step)
+    page.fill("#ring", "")
+    page.wait("no line below no ring", "!document.querySelector('.hint').checkVisibility({ visibilityProperty: true })")
+
+
 def windows_known(page):
     """The window that a node has heard of, as a band under the ring, grows by a node on each side in a round."""
     page.open(view="run", example="cv2.txt", ids="16", ring="5,1,3,7,0,2,9,8,4,6")
@@ -576,5 +597,5 @@ def restart(page, server):
     page.wait_ring("the ring after it", "5,1,3,7,0")
 
 
-VIEWS = [check, faults, typing, run, large_rings, strip_of_steps, windows_known, equal_channels, drag, edit_ring, typed_rings, judge, judge_distances, table, long_tables, graph]
+VIEWS = [check, faults, typing, run, large_rings, strip_of_steps, step_keys, windows_known, equal_channels, drag, edit_ring, typed_rings, judge, judge_distances, table, long_tables, graph]
 VIEWS += [links, step_of_link, exercises, examples, formats]
