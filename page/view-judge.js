@@ -101,6 +101,10 @@ function showNo({ ring, places, channels }, rounds, all) {
       `Window of ${ring[place]}`));
   });
   drawing.nodes.forEach((node, place) => node.classList.toggle("other", !places.includes(place)));
+  // The links from the one to the other are red, also where the channels are too close but not equal.
+  for (let place = places[0]; place !== places[1]; place = (place + 1) % ring.length) {
+    drawing.layers.links.children[place].classList.add("equal");
+  }
   say(drawing.layers.centre, channels[0] === channels[1]
     ? [[`${channels[0]} = ${channels[1]}`, "centre-big"]]
     : [[`${channels[0]}, ${channels[1]}`, "centre-big"], ["too close", "centre-small"]]);

@@ -11,6 +11,8 @@ from steps import CV1, LDB, ROOT, STEPS, nbhd, note_of
 IDS = ("--ids", "8")
 NO_DRAWN = "document.querySelector('.verdict.no') && document.querySelector('#witness .badge')"
 
+# The places whose link to the right is red.
+RED = "[...document.querySelectorAll('{} .link')].flatMap((link, place) => link.matches('.equal') ? [place] : [])"
 LABEL_TITLES = "[...document.querySelectorAll('.ring .label')].map(e => e.parentElement.querySelector('title').textContent)"
 
 
@@ -228,8 +230,7 @@ def equal_channels(page):
         identifiers, channels = ring.split(","), nbhd(LDB, "run", *IDS, "--ring", ring).split()
         pairs = [(place, (place + 1) % len(channels)) for place in range(len(channels))]
         equal = [(a, b) for a, b in pairs if channels[a] == channels[b]]
-        red = "[...document.querySelectorAll('#stage .link')].flatMap((link, place) => link.matches('.equal') ? [place] : [])"
-        STEPS.equal(f"red links of {ring}", page.value(red), [a for a, _ in equal])
+        STEPS.equal(f"red links of {ring}", page.value(RED.format("#stage")), [a for a, _ in equal])
         said = "On this ring neighbours’ channels differ."
         for a, b in equal[:1]:
             others = {1: "", 2: "; so has 1 other pair"}.get(len(equal), f"; so have {len(equal) - 1} other pairs")
@@ -356,6 +357,8 @@ def judge_distances(page):
         page.wait(f"the no of {near} and {far}", NO_DRAWN)
         STEPS.equal(f"its ring for {near} and {far}", page.texts("#witness .identifier"), found[1].split())
         STEPS.equal(f"its channels for {near} and {far}", page.texts(".node.chosen .badge-number"), [found[4], found[5]])
+        between = [place for place in range(int(found[2]), int(found[2]) + 2) if place < int(found[3])]
+        STEPS.equal(f"its red links for {near} and {far}", page.value(RED.format("#witness")), between)
     page.fill("#near", "0")
     page.wait("near out of its range", "document.querySelector('.verdict .refused')")
 
