@@ -500,6 +500,9 @@ def step_of_link(page):
     page.click("#copy-link")
     copied = "document.querySelector('#copy-link').textContent === 'Copied: it opens where ./nbhd-page runs'"
     page.wait("the link is copied", copied)
+    for width in (420, 1280):
+        page.browser.size(width, 900)
+        STEPS.check(f"what it says fits at {width}", page.value("document.documentElement.scrollWidth <= innerWidth"))
     page.browser.open(page.value("window.copied"))
     page.wait("the copied link leads to the step", f"{current} === 2")
     STEPS.equal("the copied link leads to the ring", page.texts(".ring .identifier"), list("513702"))
