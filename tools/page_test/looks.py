@@ -70,7 +70,7 @@ def looks(page, folder):
 
 def pictures(page):
     """Draws the screenshots of the documents."""
-    page.browser.size(1200, 900, scale=0.75)
+    page.browser.size(1200, 924, scale=0.75)
     for picture, name in (("page_run.png", "run-short"), ("page_judge.png", "judge-no")):
         show(page, name)
         page.browser.shot(ROOT / "docs/pictures" / picture)
