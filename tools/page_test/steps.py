@@ -46,7 +46,11 @@ def nbhd(text, *words):
 
 
 def note_of(text, *words):
-    """The place and the sentence of the note that the program tells on standard error, each empty without one."""
+    """The place and the sentence of the note that the program tells on standard error, each empty without one. A note without a
+    place may have more lines, which the page joins."""
     ran = subprocess.run([PROGRAM, *words], input=text.encode(), stdout=subprocess.DEVNULL, stderr=subprocess.PIPE)
-    found = re.match(r"nbhd: (?:(line \d+, column \d+): )?(.*)", ran.stderr.decode(errors="replace"))
-    return (found[1] or "", found[2]) if found else ("", "")
+    first, *more = ran.stderr.decode(errors="replace").splitlines() or [""]
+    found = re.match(r"nbhd: (?:(line \d+, column \d+): )?(.*)", first)
+    if not found or found[1]:
+        return (found[1], found[2]) if found else ("", "")
+    return "", " – ".join([found[2], *(line.removeprefix("nbhd: ") for line in more)])

@@ -579,10 +579,15 @@ def formats(page):
     cause = "channels may be as large as 11: write `channels 12` or more"
     found = refusal("check fault C4 bound 11\n", f"nbhd: {cause}\n")
     STEPS.equal("a note without a place", (found["note"], found["at"]), (cause, None))
+    second = "bounds of r0 after `start` and each round: 8 7"
+    found = refusal("check fault C4 bound 11\n", f"nbhd: {cause}\nnbhd: {second}\n")
+    STEPS.equal("a note of two lines", found["note"], f"{cause} – {second}")
     found = refusal("check fault C3\n", "nbhd: line 5, column 6: `L` and `R` can be read in a round alone\n  r0 = id\n       ^\n")
     STEPS.equal("a place of a program that is not accepted", found["at"]["index"], text.index("id"))
     found = refusal("", "nbhd: bad ring\n")
     STEPS.equal("a refusal without a report", (found["line"], found["note"]), ("bad ring", ""))
+    found = refusal("", "nbhd: bad ring\nnbhd: part 2 of the ring text, ` 1`, is no number\n")
+    STEPS.equal("a refusal of two lines", found["line"], "bad ring – part 2 of the ring text, ` 1`, is no number")
     found = refusal("", "error: invalid value '65' for '--ids <M>': 65 is no\n\nFor more information, try '--help'.\n")
     STEPS.equal("refused words", found["line"], "invalid value '65' for '--ids <M>': 65 is no")
     no = page.call("view-judge.js", "m.readNo('no: ring 0 2 1 places 0 2 channels 0 1')")
