@@ -13,11 +13,12 @@ export async function loadExamples() {
   }
 }
 
+const roundsOf = (text) => Number(text.match(/^\s*rounds\s+(\d+)/m)?.[1] ?? 0);
+
 export function fillExamples(examples) {
   const list = byId("examples");
-  const rounds = (text) => Number(text.match(/^\s*rounds\s+(\d+)/m)?.[1] ?? 0);
   for (const example of examples) {
-    const count = rounds(example.text);
+    const count = roundsOf(example.text);
     const facts = [example.name, count === 1 ? "1 round" : `${count} rounds`, `${example.ids} identifiers`];
     list.append(html("button", { type: "button", onclick: () => take(example, count) },
       html("span", { class: "title" }, example.title), html("span", { class: "aside" }, facts.join(" · "))));
@@ -52,7 +53,8 @@ export function showExample() {
   }
 }
 
-/** Takes an example with its number of identifiers, and a new ring if the current one is no ring for it. */
+/** Takes an example with its number of identifiers, a new ring if the current one is no ring for it, and the last step of its run if
+ * the number of steps is another one. */
 function take(example, rounds) {
   byId("examples").hidePopover();
   const ids = Number(example.ids);
@@ -60,7 +62,8 @@ function take(example, rounds) {
   const least = 2 * rounds + 2;
   const fits = ring.length >= least && ring.every((identifier) => identifier < ids);
   const next = fits ? state.ring : spread(Math.max(least, Math.min(8, ids)), ids);
-  change({ text: example.text, ids: example.ids, ring: next }, { keep: true });
+  const step = roundsOf(state.text) === rounds ? state.step : "";
+  change({ text: example.text, ids: example.ids, ring: next, step }, { keep: true });
 }
 
 /** A ring of `n` identifiers below `ids`, not in ascending order. */

@@ -510,6 +510,12 @@ def step_of_link(page):
     page.wait("the step follows the address", f"{current} === 1")
     page.click("#timeline li:last-child button")
     page.wait("the address of the last step", "!location.hash.includes('step=')")
+    page.open(view="run", ids="8", ring="5,1,3,7", example="cv1.txt", step="1")
+    page.wait("a step of CV1", f"{current} === 1")
+    page.click("#examples button:nth-of-type(2)")
+    page.wait("the same step of LDB", f"{current} === 1 && document.querySelector('#examples-button').title.startsWith('ldb')")
+    page.value("[...document.querySelectorAll('#examples button')].find(e => /^cv2/.test(e.lastElementChild.textContent)).click()")
+    page.wait("the last step of a program of two rounds", f"{current} === 5")
     for step in ("99", "x", ""):
         page.open(view="run", ids="8", ring="5,1,3,7", example="cv1.txt", step=step)
         page.wait(f"a link to step {step!r} opens the last one", f"{current} === 3")
