@@ -20,7 +20,8 @@ export async function updateTable(checked) {
   drop("table");
   if (checked.refusal) return showNothing(PROGRAM_REFUSED);
   if (leastBytes(checked.accepted) > LONGEST) {
-    return showNothing(`${checked.accepted.windows.toLocaleString("en")} windows are too many to show here; \`nbhd table\` prints them.`);
+    const windows = checked.accepted.windows.toLocaleString("en");
+    return showNothing(`${windows} windows are too many to show here; \`nbhd table\` prints them.`);
   }
   const slow = setTimeout(() => showNothing("nbhd fills the table…"), 400);
   const answer = await ask("table", "table", { ids: state.ids }, state.text);

@@ -60,10 +60,8 @@ class Page:
 
     def listen(self):
         """Notes from now on what the page asks of nbhd."""
-        self.value(
-            "window.asked ??= (ask => (window.fetch = (...words) => { window.asked.push(words[1]?.body); return ask(...words); }, []))(fetch),"
-            " window.asked.length = 0"
-        )
+        note = "window.fetch = (...words) => { window.asked.push(words[1]?.body); return ask(...words); }"
+        self.value(f"window.asked ??= (ask => ({note}, []))(fetch), window.asked.length = 0")
 
     def asked(self, command, option):
         """The values of an option in what the page asked a command of nbhd, in order."""

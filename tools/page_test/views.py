@@ -28,8 +28,9 @@ def check(page):
     facts = [value.replace(",", "") for value in page.texts(".facts dd")]
     STEPS.equal("its numbers", facts, [words[words.index(name) + 1] for name in ("rounds", "channels", "bound", "windows")])
     meant = "[...document.querySelectorAll('.facts dd')].slice(2).map(e => [e.ariaDescription, e.parentElement.title])"
-    said = ("the largest channel that is possible by the rules for bounds", "how many lists of 2t+1 = 3 distinct identifiers there are")
-    STEPS.equal("what its numbers are", page.value(meant), [[each, each] for each in said])
+    bound = "the largest channel that is possible by the rules for bounds"
+    windows = "how many lists of 2t+1 = 3 distinct identifiers there are"
+    STEPS.equal("what its numbers are", page.value(meant), [[bound, bound], [windows, windows]])
     page.value("(t => { t.focus(); t.setSelectionRange(0, t.value.length); })(document.querySelector('#text'))")
     faulty = CV1.replace("send left 0", "send lift 0")
     page.browser.type(faulty)
@@ -125,7 +126,8 @@ def run(page):
     two = "rounds 0 channels 8 registers 2 start r0 = id r1 = add(id, 10) finish r0"
     page.open(view="run", ids="8", ring=ring, text=two)
     page.wait_ring("a ring of two registers", ring)
-    page.value("(e => { e.value = '1'; e.dispatchEvent(new Event('change', { bubbles: true })); })(document.querySelector('#shown-register select'))")
+    choose = "(e => { e.value = '1'; e.dispatchEvent(new Event('change', { bubbles: true })); })"
+    page.value(f"{choose}(document.querySelector('#shown-register select'))")
     STEPS.equal("the second register", page.texts(".ring .label"), ["15", "11", "13", "17"])
     STEPS.equal("its titles", page.value(LABEL_TITLES), ["r1 = 15", "r1 = 11", "r1 = 13", "r1 = 17"])
 
@@ -288,13 +290,14 @@ def typed_rings(page):
         page.fill("#ring", typed)
         page.wait(f"the ring {typed!r}", "document.querySelector('#stage .identifier')?.textContent === '5'")
         page.wait(f"the run of {typed!r}", "document.querySelectorAll('#stage .badge').length === 4")
-        STEPS.equal(f"the channels of {typed!r}", page.texts(".ring .badge-number"), nbhd(CV1, "run", *IDS, "--ring", "5,1,3,7").split())
+        channels = nbhd(CV1, "run", *IDS, "--ring", "5,1,3,7").split()
+        STEPS.equal(f"the channels of {typed!r}", page.texts(".ring .badge-number"), channels)
         page.wait(f"the address of {typed!r}", "location.hash.includes('ring=5,1,3,7&')")
         STEPS.equal(f"the field keeps {typed!r}", page.value("document.querySelector('#ring').value"), typed)
-    STEPS.equal("the rings that nbhd was asked about", sorted({ring for ring in page.asked("trace", "ring")}), ["0,1,2,3", "5,1,3,7"])
+    STEPS.equal("the rings that nbhd was asked about", sorted(set(page.asked("trace", "ring"))), ["0,1,2,3", "5,1,3,7"])
     page.listen()
-    empty, part = "Write a ring, or take a random one.", "{} is no identifier: write numbers, as 5,1,3,7."
-    for typed, said in (("", empty), (" , ", empty), ("5 x 9", part.format("x")), ("5,-1", part.format("-1")), ("5;1", part.format("5;1"))):
+    for typed, part in (("", ""), (" , ", ""), ("5 x 9", "x"), ("5,-1", "-1"), ("5;1", "5;1")):
+        said = f"{part} is no identifier: write numbers, as 5,1,3,7." if part else "Write a ring, or take a random one."
         page.fill("#ring", typed)
         page.wait(f"why {typed!r} is no ring", f"document.querySelector('#run-refused').textContent === {json.dumps(said)}")
     time.sleep(0.2)
@@ -495,7 +498,8 @@ def step_of_link(page):
     page.click("#timeline li:nth-child(3) button")
     page.wait("the address follows the step", "location.hash.includes('step=2&')")
     page.fill("#ring", "5,1,3,7,0,2")
-    page.wait("the step stays after an edit of the ring", f"document.querySelectorAll('#stage .label').length === 6 && {current} === 2")
+    six = "document.querySelectorAll('#stage .label').length === 6"
+    page.wait("the step stays after an edit of the ring", f"{six} && {current} === 2")
     page.value("navigator.clipboard.writeText = async (text) => { window.copied = text; }")
     page.click("#copy-link")
     copied = "document.querySelector('#copy-link').textContent === 'Copied: it opens where ./nbhd-page runs'"
@@ -543,7 +547,8 @@ def examples(page):
     for number in range(count):
         page.value(f"document.querySelectorAll('#examples button')[{number}].click()")
         page.wait(f"example {number + 1} is accepted", "document.querySelector('.check.good')")
-        STEPS.equal(f"example {number + 1}: its name", page.value("document.querySelector('#examples-button').title").split(":")[0], names[number])
+        name = page.value("document.querySelector('#examples-button').title").split(":")[0]
+        STEPS.equal(f"example {number + 1}: its name", name, names[number])
         size = "(t => t.scrollWidth <= t.clientWidth && t.scrollHeight <= t.clientHeight)(document.querySelector('#text'))"
         STEPS.check(f"example {number + 1}: the text area is as large as the coloured copy", page.value(size))
     fields = "[...document.querySelectorAll('input,select,textarea')]"
@@ -614,5 +619,5 @@ def restart(page, server):
     page.wait_ring("the ring after it", "5,1,3,7,0")
 
 
-VIEWS = [check, faults, typing, run, large_rings, strip_of_steps, step_keys, windows_known, equal_channels, drag, edit_ring, typed_rings, judge, judge_distances, table, long_tables, graph]
-VIEWS += [links, step_of_link, exercises, examples, formats]
+VIEWS = [check, faults, typing, run, large_rings, strip_of_steps, step_keys, windows_known, equal_channels, drag, edit_ring]
+VIEWS += [typed_rings, judge, judge_distances, table, long_tables, graph, links, step_of_link, exercises, examples, formats]
