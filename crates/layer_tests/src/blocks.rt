@@ -7,7 +7,7 @@ use unroll::{Block, MakeFault, Source, make_block, window_state};
 
 // A source whose only entry is the first of some borrowed blocks.
 #[derive(Drop)]
-struct Lent<'s> {
+struct FirstBlockSource<'s> {
     plan: &'s Plan,
     blocks: &'s [Block<'s>],
     ghost of_plan: { All (λ b. b.plan ≡ plan.now) blocks.now },
@@ -17,7 +17,7 @@ ghost use Rattle.std.specs.Prelude.{◌≡◌, ◌==◌, ◌&&◌, Some, None, i
 ghost use Rattle.std.specs.Option.{option_and_then};
 ghost use Rattle.unroll.specs.Entries.{Entries};
 
-impl<'s> Source<'s> for Lent<'s> {
+impl<'s> Source<'s> for FirstBlockSource<'s> {
     ghost plan = { λ s. s.plan.now };
 
     ghost entries = { λ s level number. option_and_then
@@ -80,7 +80,7 @@ fn the_last_block_of_a_level(rt: HostRuntime) -> Result<(), Fail> {
     let plan = plan_of(rt.alloc(), CV1, 8)?;
     let shape = plan.shape();
     assert!(rt; shape.rounds() == 1 && shape.blocks(0) == 1 && shape.blocks(1) == 2);
-    let mut nothing = Lent {
+    let mut nothing = FirstBlockSource {
         plan: &plan,
         blocks: &[],
     };
@@ -90,7 +90,7 @@ fn the_last_block_of_a_level(rt: HostRuntime) -> Result<(), Fail> {
             .ok_or("a block of level 0")?,
     ];
     assert_eq!(rt; below[0].len(), 8);
-    let mut source = Lent {
+    let mut source = FirstBlockSource {
         plan: &plan,
         blocks: &below,
     };
@@ -112,7 +112,7 @@ fn a_block_below_is_missing(rt: HostRuntime) -> Result<(), Fail> {
     // which is in block 1.
     for (level, number, missing) in [(1, 0, 0), (2, 0, 0), (2, 26, 1)] {
         assert!(rt; level <= shape.rounds() && number < shape.blocks(level));
-        let mut nothing = Lent {
+        let mut nothing = FirstBlockSource {
             plan: &plan,
             blocks: &[],
         };

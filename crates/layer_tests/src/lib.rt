@@ -1,16 +1,12 @@
-//! Tests of the crates from the language to segments, for what no clause states. They are in a
-//! crate of their own, because a crate with tests is proved twice.
+//! Tests of the crates from the language to blocks, for what no clause states. They are in a crate
+//! of their own, because a crate with tests is proved twice.
 #![tactic(auto)]
 
 #[cfg(test)]
 mod blocks;
 #[cfg(test)]
-mod borders;
-#[cfg(test)]
 mod columns;
 #[cfg(test)]
 mod printing;
-#[cfg(test)]
-mod segments;
 #[cfg(test)]
 mod windows;

@@ -9,4 +9,6 @@ mod lines;
 #[cfg(test)]
 mod table_texts;
 #[cfg(test)]
+mod tips;
+#[cfg(test)]
 mod words;

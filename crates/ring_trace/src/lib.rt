@@ -4,6 +4,3 @@
 mod configuration;
 
 pub use configuration::{Configuration, Told};
-
-#[cfg(test)]
-mod tests;

@@ -6,6 +6,3 @@ mod tips;
 
 pub use ring_texts::{ring_tip, ring_word};
 pub use tips::{Tip, usage_tip};
-
-#[cfg(test)]
-mod tests;

@@ -1,6 +1,8 @@
-use crate::{Tip, ring_tip, ring_word, usage_tip};
+//! Tips on refused words.
+
 use std::alloc::Global;
 use std::test::Fail;
+use word_tips::{Tip, ring_tip, ring_word, usage_tip};
 
 // Returns the words of a line, which are separated by single blanks.
 fn words_of(alloc: Global, line: &str) -> Result<Vec<String>, Fail> {

@@ -1,4 +1,4 @@
-use Rattle.layer_tests.proofs.borders.threads.a_close_ends_the_waiting.Given as goal
+use Rattle.ring_tests.proofs.borders.threads.a_close_ends_the_waiting.Given as goal
 
 -- each side's ledger has the name and the parts of its blank
 abbrev pub ghosts-close_and_take-R-Ledger : goal.ghosts-close_and_take-R-Ledger

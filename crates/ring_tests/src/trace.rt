@@ -1,7 +1,9 @@
+//! A ring traced round by round.
+
 ghost use Rattle.std.specs.Prelude.{◌≡◌, length};
 ghost use Rattle.ring_trace.specs.Configuration.{CanTell};
 
-use crate::{Configuration, Told};
+use ring_trace::{Configuration, Told};
 use std::test::Fail;
 use test_programs::{TWO_REGISTERS, plan_of};
 use win_index::Ring;

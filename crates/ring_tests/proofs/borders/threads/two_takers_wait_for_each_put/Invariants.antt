@@ -1,4 +1,4 @@
-use Rattle.layer_tests.proofs.borders.threads.two_takers_wait_for_each_put.Given as goal
+use Rattle.ring_tests.proofs.borders.threads.two_takers_wait_for_each_put.Given as goal
 
 -- each side's ledger has the name and the parts of its blank
 abbrev pub ghosts-put_and_take-R-Ledger : goal.ghosts-put_and_take-R-Ledger

@@ -21,7 +21,7 @@ const ROUNDS: u32 = 100;
 const TAKERS: u64 = 2;
 
 // Waits until the counter is at least `least`, and returns whether it was.
-fn comes_to(counter: &AtomicU64, least: u64) -> bool {
+fn wait_for(counter: &AtomicU64, least: u64) -> bool {
     for _turn in 0..TURNS {
         if counter.load(SeqCst) >= least {
             return true;
@@ -39,7 +39,7 @@ fn put_each<R: Ledger, L: Ledger, W: Wait>(
     about: &AtomicU64,
 ) -> bool {
     for round in 0..ROUNDS {
-        if !comes_to(about, TAKERS * (u64::from(round) + 1)) || seat.puts() >= ROUNDS {
+        if !wait_for(about, TAKERS * (u64::from(round) + 1)) || seat.puts() >= ROUNDS {
             return false;
         }
         let message = to_the_right(round, round + 5);
@@ -116,12 +116,12 @@ fn put_and_take<R: Ledger + Send + Sync, L: Ledger + Send + Sync, W: Threads + W
 }
 
 // Closes the border once a taker is about to take. Returns whether it was.
-fn close_late<R: Ledger, L: Ledger, W: Wait>(
+fn close_after_taker<R: Ledger, L: Ledger, W: Wait>(
     rt: &W,
     border: &Border<Note, R, L>,
     about: &AtomicU64,
 ) -> bool {
-    let came = comes_to(about, 1);
+    let came = wait_for(about, 1);
     border.close(rt);
     came
 }
@@ -151,7 +151,7 @@ fn close_and_take<R: Ledger + Send + Sync, L: Ledger + Send + Sync, W: Threads +
     let (lent, about) = (&border, &counter);
     Some(thread::join(
         rt,
-        || close_late(rt, lent, about),
+        || close_after_taker(rt, lent, about),
         || take_none(rt, lent, about),
     ))
 }
