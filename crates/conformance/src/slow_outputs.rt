@@ -15,7 +15,7 @@ use std::alloc::Global;
 use std::io::ErrorKind;
 use std::process::Abort;
 use std::test::Fail;
-use table_fill::Table;
+use channel_tables::Table;
 use test_programs::{CV1, CV1_OF_12, ID0};
 
 #[test]

@@ -14,7 +14,8 @@ use shared_memo::Memo;
 use std::alloc::Global;
 use std::sync::Wait;
 use std::thread::Threads;
-use table_fill::{FillFault, Table, compile};
+use channel_tables::Table;
+use table_fill::{FillFault, compile};
 use win_index::Ring;
 
 /// The results of compiling, running and judging a plan's program.

@@ -6,7 +6,7 @@ use Rattle.std.proofs.lemmas.List.Elements.{All-cons, All-push}
 use Rattle.std.proofs.lemmas.List.Kept.{AllPairs-cons}
 use Rattle.std.proofs.lemmas.List.Quantifiers.{all_pairs_push}
 use Rattle.win_index.specs.Windows.{IsWindow}
-use Rattle.table_fill.specs.Tables.{ChannelTable}
+use Rattle.channel_tables.specs.Tables.{ChannelTable}
 use Rattle.nbhd_check.specs.Counts.{shared_len, middle_of}
 use Rattle.nbhd_check.proofs.Prefixes.{window_turned, window_drop}
 

@@ -7,7 +7,7 @@ use Rattle.std.proofs.lemmas.List.{get_or-take, get_or-drop, take-take, drop-tak
 use Rattle.std.proofs.lemmas.Option.{slice_get-get_or, get_or_from_slice_get}
 use Rattle.win_index.specs.Arcs.{part_at}
 use Rattle.win_index.specs.Windows.{IsWindow}
-use Rattle.table_fill.specs.Tables.{ChannelTable, windows_of, channel_of}
+use Rattle.channel_tables.specs.Tables.{ChannelTable, windows_of, channel_of}
 use Rattle.nbhd_check.specs.Counts.{shared_len, is_held, held_count, IsBlock}
 use Rattle.nbhd_check.specs.Laws.{WindowsAreNumbered}
 use Rattle.nbhd_check.specs.Runs.{BeginsFarTuple}

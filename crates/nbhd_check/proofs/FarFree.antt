@@ -7,11 +7,10 @@ use Rattle.std.proofs.lemmas.Nat.{mul-le}
 use Rattle.win_index.specs.Falling.{falling}
 use Rattle.win_index.specs.Laws.{CountOfWindows, WindowsAreInOrder}
 use Rattle.win_index.specs.Windows.{windows, IsWindow}
-use Rattle.table_fill.specs.Tables.{ChannelTable, windows_of}
+use Rattle.channel_tables.specs.Tables.{ChannelTable, windows_of}
 use Rattle.nbhd_check.specs.Counts.{shared_len, shared_lists, IsBlock}
 use Rattle.nbhd_check.specs.FarSearch.{AreFarFree, AreFarFreeIn, HasBlockIn}
 use Rattle.nbhd_check.specs.Laws.{WindowsAreNumbered}
-use Rattle.nbhd_check.specs.Runs.{BeginsFarTuple}
 use Rattle.nbhd_check.proofs.Cells.{row_more}
 use Rattle.nbhd_check.proofs.Ends.{by_first}
 use Rattle.nbhd_check.proofs.Prefixes.{number_of_window, one_number, window_at, window_drop, in_longer_run, one_run}

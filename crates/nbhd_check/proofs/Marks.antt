@@ -1,7 +1,7 @@
 -- Marked parts.
 use Rattle.std.proofs.Common.{◌≡◌, ℕ, zero, suc, false, get_or, replicate, sym, ◌∙◌, refl}
 use Rattle.std.proofs.lemmas.Bool.{false≢true}
-use Rattle.table_fill.specs.Tables.{ChannelTable}
+use Rattle.channel_tables.specs.Tables.{ChannelTable}
 use Rattle.nbhd_check.specs.declared.separation.Separation.{Separation}
 use Rattle.nbhd_check.specs.Searches.{AreGoodParts}
 

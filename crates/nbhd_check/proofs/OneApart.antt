@@ -4,7 +4,7 @@ use Rattle.std.proofs.lemmas.Option.{slice_get-get_or}
 use Rattle.win_index.specs.Arcs.{window_around, part_at}
 use Rattle.win_index.specs.Laws.{NumberOfWindow, WindowsHaveNumbers, RingsHaveWindows}
 use Rattle.win_index.specs.Windows.{windows}
-use Rattle.table_fill.specs.Tables.{ChannelTable, channel_of}
+use Rattle.channel_tables.specs.Tables.{ChannelTable, channel_of}
 use Rattle.nbhd_check.specs.Apart.{AreClose, IsBad, IsApart, IsApartEverywhere}
 use Rattle.nbhd_check.specs.Laws.{OneApartIsProper, OneApartIsGood}
 use Rattle.nbhd_check.specs.Proper.{IsProper, IsGoodEverywhere}

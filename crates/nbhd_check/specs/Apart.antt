@@ -5,7 +5,7 @@ use Rattle.std.specs.Int.{abs_diff}
 use Rattle.win_index.specs.Ring.{IsRing}
 use Rattle.win_index.specs.Arcs.{window_around, part_at}
 use Rattle.win_index.specs.Windows.{windows}
-use Rattle.table_fill.specs.Tables.{ChannelTable, channel_of}
+use Rattle.channel_tables.specs.Tables.{ChannelTable, channel_of}
 use Rattle.nbhd_check.specs.declared.separation.Separation.{Separation}
 
 -- by how many identifiers a tuple is longer than a window: 1 if far is 0, else 2

@@ -2,7 +2,7 @@
 use Rattle.std.specs.Prelude.{◌≡◌, ◌==◌, ℕ, ◌+◌, ◌-◌, ◌*◌, ◌<◌, ◌≤◌, Bool, ◌&&◌, ◌||◌, nat_lt, List, [], length, take, drop, slice_get, slice_index, slice_index_or, count_by, IsTrue, All, Some}
 use Rattle.std.specs.List.{range_with_len}
 use Rattle.win_index.specs.Windows.{windows, IsWindow}
-use Rattle.table_fill.specs.Tables.{ChannelTable, windows_of}
+use Rattle.channel_tables.specs.Tables.{ChannelTable, windows_of}
 use Rattle.nbhd_check.specs.declared.counts.Counts.{Counts}
 
 -- the number of identifiers that the first and the third window of a tuple share, for one round or more: the length of

@@ -1,6 +1,6 @@
 -- The search for windows that begin a tuple with a close third window, block by block.
 use Rattle.std.specs.Prelude.{◌≡◌, ℕ, ◌+◌, ◌*◌, ◌/◌, ◌<◌, ◌≤◌, List, length, drop, slice_get, slice_index, Some}
-use Rattle.table_fill.specs.Tables.{ChannelTable, windows_of}
+use Rattle.channel_tables.specs.Tables.{ChannelTable, windows_of}
 use Rattle.nbhd_check.specs.declared.far_parts.Searcher.{Searcher}
 use Rattle.nbhd_check.specs.declared.far_parts.TheConstants.{MAX_FAR_PARTS}
 use Rattle.nbhd_check.specs.Counts.{shared_lists, CountsFit}

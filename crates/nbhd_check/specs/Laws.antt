@@ -4,7 +4,7 @@ use Rattle.win_index.specs.Laws.{NumberOfWindow, WindowOfNumber, WindowsHaveNumb
 use Rattle.win_index.specs.Ring.{IsRing}
 use Rattle.win_index.specs.Arcs.{window_around}
 use Rattle.win_index.specs.Windows.{IsWindow}
-use Rattle.table_fill.specs.Tables.{ChannelTable, channel_of}
+use Rattle.channel_tables.specs.Tables.{ChannelTable, channel_of}
 use Rattle.nbhd_check.specs.declared.separation.Separation.{Separation}
 use Rattle.nbhd_check.specs.Apart.{extra, AreClose, IsBad, IsApart, IsApartEverywhere}
 use Rattle.nbhd_check.specs.Proper.{IsProper, IsGoodEverywhere}

@@ -3,7 +3,7 @@ use Rattle.std.specs.Prelude.{◌≢◌, ℕ, ◌+◌, ◌*◌, ◌<◌, List, l
 use Rattle.win_index.specs.Ring.{IsRing}
 use Rattle.win_index.specs.Arcs.{window_around, part_at}
 use Rattle.win_index.specs.Windows.{windows}
-use Rattle.table_fill.specs.Tables.{ChannelTable, channel_of}
+use Rattle.channel_tables.specs.Tables.{ChannelTable, channel_of}
 
 -- for each list of `2t+2` distinct identifiers, the channels of the first and the last window differ
 abbrev pub IsProper : ChannelTable → Type 0

@@ -4,7 +4,7 @@ use Rattle.std.specs.Int.{abs_diff}
 use Rattle.win_index.specs.Arcs.{part_at}
 use Rattle.win_index.specs.Falling.{falling}
 use Rattle.win_index.specs.Windows.{unused, IsWindow}
-use Rattle.table_fill.specs.Tables.{ChannelTable, channel_of, windows_of}
+use Rattle.channel_tables.specs.Tables.{ChannelTable, channel_of, windows_of}
 use Rattle.nbhd_check.specs.declared.separation.Separation.{Separation}
 use Rattle.nbhd_check.specs.Apart.{extra, AreClose, IsBad}
 

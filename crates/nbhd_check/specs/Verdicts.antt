@@ -1,7 +1,7 @@
 -- The verdict of the judge on a table.
 use Rattle.std.specs.Prelude.{◌≡◌, ℕ, ◌+◌, ◌⊎◌, List, Some}
 use Rattle.win_index.specs.Arcs.{window_around}
-use Rattle.table_fill.specs.Tables.{ChannelTable, channel_of}
+use Rattle.channel_tables.specs.Tables.{ChannelTable, channel_of}
 use Rattle.nbhd_check.specs.declared.separation.Separation.{Separation}
 use Rattle.nbhd_check.specs.Apart.{AreClose, IsApartEverywhere, IsLeastBad}
 use Rattle.nbhd_check.specs.declared.verdict.Verdict.{Verdict}

@@ -3,14 +3,14 @@
 ghost use Rattle.std.specs.Prelude.{◌≡◌, ◌==◌, ℕ, List, ◌+◌, ◌-◌, ◌*◌, ◌^◌, ◌<◌, ◌≤◌, ◌&&◌, true, Some, IfOk, All, if◌then◌else◌, nat_lt, length, slice_get, slice_index};
 ghost use Rattle.std.specs.Int.{abs_diff};
 ghost use Rattle.win_index.specs.Windows.{IsWindow};
-ghost use Rattle.table_fill.specs.Tables.{windows_of};
+ghost use Rattle.channel_tables.specs.Tables.{windows_of};
 ghost use Rattle.nbhd_check.specs.Counts.{held_count, shared_len, AreCells, AreCountsOf, AreSums, CountsFit, IsBlock};
 
 use crate::laws::numbers_of_windows;
 use crate::part::window_count;
 use node_lang::OutOfMemory;
 use std::alloc::Global;
-use table_fill::Table;
+use channel_tables::Table;
 use win_index::{MAX_WINDOW_LEN, count_of_windows};
 
 /// The counts of one block: of the windows that begin with the same identifiers, all but two.

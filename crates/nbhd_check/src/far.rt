@@ -6,7 +6,7 @@ ghost use Rattle.std.specs.Int.{abs_diff};
 ghost use Rattle.std.specs.Bool.{OnFalse};
 ghost use Rattle.win_index.specs.Falling.{falling};
 ghost use Rattle.win_index.specs.Windows.{IsWindow};
-ghost use Rattle.table_fill.specs.Tables.{windows_of, channel_of};
+ghost use Rattle.channel_tables.specs.Tables.{windows_of, channel_of};
 ghost use Rattle.nbhd_check.specs.Counts.{middle_of, shared_len, AreCountsOf, AreCountsOnceMade, CountsFit};
 ghost use Rattle.nbhd_check.specs.FarSearch.{AreFarFreeIn};
 ghost use Rattle.nbhd_check.specs.Runs.{BeginsFarTuple};
@@ -15,7 +15,7 @@ use crate::counts::{Counts, close_count, count_block};
 use crate::laws::numbers_of_windows;
 use crate::part::window_count;
 use crate::tuple::{channel_of_window, contains};
-use table_fill::Table;
+use channel_tables::Table;
 use win_index::{count_of_windows, windows_are_in_order};
 
 /// Returns a number of windows, at most `least`, such that none of the windows below it that end in

@@ -12,7 +12,7 @@ use node_lang::OutOfMemory;
 use std::alloc::Global;
 use std::sync::atomic::{AtomicU32, AtomicUsize, Ordering};
 use std::thread::{Threads, for_each_mut};
-use table_fill::Table;
+use channel_tables::Table;
 use win_index::MAX_TUPLE_LEN;
 
 /// The maximum number of parts of the blocks.

@@ -13,7 +13,7 @@ use crate::separation::Separation;
 use crate::tuple::tuple_count;
 use std::alloc::Global;
 use std::thread::Threads;
-use table_fill::Table;
+use channel_tables::Table;
 
 /// Returns the least number of a bad tuple, by at most `threads` threads.
 pub(crate) fn least_of_all<R: Threads + Sync>(

@@ -1,7 +1,7 @@
 ghost use Rattle.std.specs.Prelude.{◌≡◌, ℕ, List, ◌+◌, ◌-◌, ◌*◌, ◌/◌, ◌<◌, ◌≤◌, MatchOption, Some, length, slice_get, max, min};
 ghost use Rattle.win_index.specs.declared.limits.TheConstants.{MAX_IDS};
 ghost use Rattle.win_index.specs.Windows.{IsWindow};
-ghost use Rattle.table_fill.specs.Tables.{windows_of, IsTable};
+ghost use Rattle.channel_tables.specs.Tables.{windows_of, IsTable};
 ghost use Rattle.nbhd_check.specs.Apart.{tuples, extra, NoneIsBad, IsLeastBad};
 ghost use Rattle.nbhd_check.specs.Runs.{run_len};
 
@@ -9,7 +9,7 @@ use crate::laws::numbers_of_windows;
 use crate::run::may_begin_bad_tuple;
 use crate::separation::Separation;
 use crate::tuple::least_bad_tuple;
-use table_fill::Table;
+use channel_tables::Table;
 use win_index::{MAX_WINDOW_LEN, count_of_windows};
 
 /// Returns the least number, from `low` on and below `high`, of a tuple that breaks the separation,

@@ -11,7 +11,7 @@ use crate::tuple::tuple_count;
 use rayon::join;
 use std::sync::atomic::{AtomicUsize, Ordering};
 use std::thread::Threads;
-use table_fill::Table;
+use channel_tables::Table;
 
 // The minimum number of tuples of a part, except the last one.
 const MIN_PART_LEN: u64 = 1 << 16;

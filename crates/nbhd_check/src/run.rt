@@ -3,14 +3,14 @@
 ghost use Rattle.std.specs.Prelude.{◌≡◌, ℕ, ◌+◌, ◌*◌, ◌<◌, ◌≤◌, [], ◌∷◌, ◌++◌, Some, Contains, length, drop, slice_get, slice_index};
 ghost use Rattle.std.specs.Bool.{OnFalse};
 ghost use Rattle.win_index.specs.Windows.{IsWindow};
-ghost use Rattle.table_fill.specs.Tables.{windows_of};
+ghost use Rattle.channel_tables.specs.Tables.{windows_of};
 ghost use Rattle.nbhd_check.specs.Runs.{BeginsBadTuple, BeginsFarTuple, NoneCloseAfter, AreChannelsAfter};
 
 use crate::gaps::has_close_outside;
 use crate::laws::numbers_of_windows;
 use crate::separation::Separation;
 use crate::tuple::contains;
-use table_fill::Table;
+use channel_tables::Table;
 use win_index::{MAX_TUPLE_LEN, place_among_unused};
 
 // Returns `false` only if no tuple that begins with this window is bad.

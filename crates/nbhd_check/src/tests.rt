@@ -8,7 +8,7 @@ use std::alloc::{AllocError, Global};
 use std::process::Abort;
 use std::test::Fail;
 use std::thread::Threads;
-use table_fill::{Table, TableMaker};
+use channel_tables::{Table, TableMaker};
 use win_index::{MAX_WINDOW_LEN, Shape};
 
 // Neighbours' channels differ.

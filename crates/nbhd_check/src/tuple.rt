@@ -3,11 +3,11 @@ ghost use Rattle.std.specs.Prelude.{◌≡◌, ℕ, List, ◌+◌, ◌*◌, ◌<
 ghost use Rattle.win_index.specs.declared.limits.TheConstants.{MAX_EXTRA};
 ghost use Rattle.win_index.specs.Windows.{IsWindow};
 ghost use Rattle.win_index.specs.Arcs.{part_at};
-ghost use Rattle.table_fill.specs.Tables.{channel_of};
+ghost use Rattle.channel_tables.specs.Tables.{channel_of};
 ghost use Rattle.nbhd_check.specs.Apart.{extra, tuples, AreClose, IsBad, NoneIsBad, IsLeastBad};
 
 use crate::separation::{Separation, extra_of};
-use table_fill::Table;
+use channel_tables::Table;
 use win_index::MAX_TUPLE_LEN;
 
 // Returns the least number of a bad tuple from `low` on and below `high`.

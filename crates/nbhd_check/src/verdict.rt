@@ -6,7 +6,7 @@ use node_lang::OutOfMemory;
 use rayon::current_num_threads;
 use std::alloc::Global;
 use std::thread::Threads;
-use table_fill::Table;
+use channel_tables::Table;
 use win_index::{MAX_TUPLE_LEN, tuples_are_rings};
 
 /// The verdict of the judge.
@@ -28,7 +28,7 @@ pub enum Verdict {
 ghost use Rattle.std.specs.Prelude.{◌≡◌, ℕ, List, ◌+◌, ◌*◌, ◌≤◌, ◌↔◌, ◌⊎◌, Option, IfOk, OnErr};
 ghost use Rattle.win_index.specs.Arcs.{part_at};
 ghost use Rattle.win_index.specs.Windows.{IsWindow};
-ghost use Rattle.table_fill.specs.Tables.{channel_of};
+ghost use Rattle.channel_tables.specs.Tables.{channel_of};
 ghost use Rattle.nbhd_check.specs.Apart.{extra, AreClose, IsBad, IsApartEverywhere, IsLeastBad};
 ghost use Rattle.nbhd_check.specs.Verdicts.{IsVerdict};
 

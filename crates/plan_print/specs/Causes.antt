@@ -6,7 +6,7 @@ use Rattle.node_lang.specs.Grammar.{Reads}
 use Rattle.node_lang.specs.Faults.{FaultsAt}
 use Rattle.lang_check.specs.Refusals.{IsFirstRefusal}
 use Rattle.win_index.specs.RingFaults.{IsFirstFault}
-use Rattle.table_fill.specs.Tables.{ChannelTable}
+use Rattle.channel_tables.specs.Tables.{ChannelTable}
 use Rattle.nbhd_check.specs.declared.separation.Separation.{Separation}
 use Rattle.nbhd_check.specs.Verdicts.{IsWitness}
 use Rattle.ring_exec.specs.SegmentCounts.{IsSegmentCount}

@@ -8,7 +8,7 @@ use Rattle.node_lang.specs.GlobalRounds.{channel_at, channels_of}
 use Rattle.win_index.specs.Ring.{IsRing}
 use Rattle.win_index.specs.Arcs.{window_around}
 use Rattle.lang_check.specs.Acceptance.{IsAccepted}
-use Rattle.table_fill.specs.Tables.{channel_of}
+use Rattle.channel_tables.specs.Tables.{channel_of}
 use Rattle.table_fill.specs.ProgramTables.{table_of}
 use Rattle.ring_exec.specs.SegmentCounts.{IsSegmentCount}
 use Rattle.headline.specs.Headline.{ChannelsAreApart}

@@ -28,7 +28,7 @@ pub use Rattle.win_index.specs.Ring
 pub use Rattle.win_index.specs.RingFaults
 pub use Rattle.win_index.specs.ShapeRange
 pub use Rattle.win_index.specs.ShapeFaults
-pub use Rattle.table_fill.specs.Tables
+pub use Rattle.channel_tables.specs.Tables
 pub use Rattle.table_fill.specs.ProgramTables
 pub use Rattle.nbhd_check.specs.Apart
 pub use Rattle.nbhd_check.specs.Proper

@@ -20,7 +20,7 @@ use Rattle.lang_check.specs.Refusals.{IsFirstRefusal}
 use Rattle.win_index.specs.RingFaults.{IsFirstFault}
 use Rattle.win_index.specs.Windows.{windows}
 use Rattle.table_fill.specs.ProgramTables.{table_of}
-use Rattle.table_fill.specs.Tables.{ChannelTable}
+use Rattle.channel_tables.specs.Tables.{ChannelTable}
 use Rattle.nbhd_check.specs.declared.separation.Separation.{Separation}
 use Rattle.nbhd_check.specs.Apart.{tuples, IsApartEverywhere}
 use Rattle.nbhd_check.specs.Verdicts.{IsWitness}

@@ -33,7 +33,8 @@ use std::alloc::Global;
 use std::marker::Send;
 use std::sync::Wait;
 use std::thread::{Threads, join};
-use table_fill::{FillFault, Table, compile};
+use channel_tables::Table;
+use table_fill::{FillFault, compile};
 use win_index::{Ring, RingFault, Shape};
 
 // A report before it is written: its text and its status, with its cause if it is a refusal or a

@@ -13,7 +13,7 @@ use devices::fault::EngineFault;
 use nbhd_check::{Separation, Verdict, judge, tuple_count};
 use std::alloc::Global;
 use std::thread::Threads;
-use table_fill::Table;
+use channel_tables::Table;
 
 // Returns the report of this verdict on the table.
 pub(crate) fn verdict_answer(

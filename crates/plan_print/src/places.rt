@@ -8,7 +8,8 @@ ghost use Rattle.plan_print.specs.Report.{place_lines};
 use crate::lines::write_place;
 use lang_check::Plan;
 use std::alloc::{AllocError, Global};
-use table_fill::{Table, table_has_the_channels_of_rounds};
+use channel_tables::Table;
+use table_fill::table_has_the_channels_of_rounds;
 use win_index::{MAX_WINDOW_LEN, Ring};
 
 // Returns the lines of a ring's places, from place 0 on, by the table of a plan's program.

@@ -25,7 +25,7 @@ use node_lang::{FaultKind, Program, TextFault, parse};
 use std::alloc::Global;
 use std::sync::Wait;
 use std::thread::Threads;
-use table_fill::Table;
+use channel_tables::Table;
 use table_text::{TableFault, read_table};
 use task_words::task::Task;
 

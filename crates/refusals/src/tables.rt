@@ -5,7 +5,8 @@ use round_eval::OpenGate;
 use shared_memo::Memo;
 use std::sync::Wait;
 use std::thread::Threads;
-use table_fill::{Table, TableMaker, compile};
+use channel_tables::{Table, TableMaker};
+use table_fill::compile;
 use test_programs::CV1;
 use win_index::Shape;
 

@@ -6,7 +6,7 @@ use nbhd_check::Separation;
 use std::io;
 use std::sync::Wait;
 use std::thread::Threads;
-use table_fill::Table;
+use channel_tables::Table;
 use table_text::{TableFault, read_table, write_table};
 use test_programs::ID0;
 

@@ -1,5 +1,4 @@
 -- Lemmas that several proofs share.
-pub mod BegunTables
 pub mod Programs
 pub mod BelowBlocks
 pub mod JoinedEntries

@@ -7,7 +7,7 @@ use Rattle.win_index.specs.Arcs.{window_around}
 use Rattle.table_fill.specs.declared.fill_core.event.FillEvent.{FillEvent}
 use Rattle.table_fill.specs.FillMachine.{Machine, Runs}
 use Rattle.table_fill.specs.ProgramTables.{table_of}
-use Rattle.table_fill.specs.Tables.{channel_of}
+use Rattle.channel_tables.specs.Tables.{channel_of}
 
 -- on every ring, the channel of a program's table at the window of a place is the channel of that place after all
 -- rounds

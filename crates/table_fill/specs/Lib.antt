@@ -1,7 +1,6 @@
--- The definitions that the contracts cite: tables, a table's channel at a window, the table of a program, the number of
+-- The definitions that the contracts cite: the table of a program, the number of
 -- workers that may fill it, what a pass knows then; the fill machine and its invariant; the laws; and what private
 -- contracts say of the code's fields, of a worker's source and of a missing block.
-pub mod Tables
 pub mod ProgramTables
 pub mod Workers
 pub mod Faults

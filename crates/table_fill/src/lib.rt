@@ -11,18 +11,15 @@ pub mod fill_core;
 mod filling;
 mod laws;
 mod looks;
-mod maker;
 mod own_reader;
 mod reading;
 mod shares;
-mod table;
 mod worker;
 
+pub use channel_tables::{Table, TableMaker};
 pub use fault::FillFault;
 pub use filling::compile;
 pub use laws::table_has_the_channels_of_rounds;
-pub use maker::TableMaker;
-pub use table::Table;
 
 #[cfg(test)]
 mod tests;

@@ -9,7 +9,7 @@ ghost use Rattle.win_index.specs.Blocks.{block_count, window_count};
 
 use crate::entry_columns::EntryColumns;
 use crate::shares::write_shares;
-use crate::table::Table;
+use channel_tables::Table;
 use lang_check::Plan;
 use node_lang::OutOfMemory;
 use shared_memo::{Memo, Pass};
@@ -92,11 +92,7 @@ pub(crate) fn read_table<R: Threads + Sync>(
     ensures { result ≡ table_of plan.now.program plan.now.ids }
 {
     write_shares(rt, plan, blocks, &mut columns, &mut entries);
-    Table {
-        shape: plan.shape(),
-        channels: plan.program().channels(),
-        entries,
-    }
+    Table::new(plan.shape(), plan.program().channels(), entries)
 }
 
 // The block of a level and a number, which the pass knows.

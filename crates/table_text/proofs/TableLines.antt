@@ -3,7 +3,7 @@ use Rattle.std.proofs.Common.{◌≡◌, ℕ, ◌<◌, ◌≤◌, List, [], ◌�
 use Rattle.std.specs.Prelude.{codes}
 use Rattle.std.specs.Fmt.{decimal}
 use Rattle.std.proofs.lemmas.List.Elements.{All-push}
-use Rattle.table_fill.specs.Tables.{ChannelTable, IsBegun, windows_of}
+use Rattle.channel_tables.specs.Tables.{ChannelTable, IsBegun, windows_of}
 use Rattle.nbhd_check.specs.declared.separation.Separation.{Separation}
 use Rattle.table_text.specs.declared.version.Version.{Version}
 use Rattle.table_text.specs.declared.version.Version.TheVariants.{One, Two}

@@ -6,7 +6,7 @@ use Rattle.std.proofs.lemmas.List.{append_cancel_left}
 use Rattle.std.proofs.lemmas.List.Elements.{All-head, All-tail}
 use Rattle.win_index.specs.Windows.{windows, IsWindow}
 use Rattle.win_index.specs.Laws.{NumberOfWindow, WindowsHaveNumbers}
-use Rattle.table_fill.specs.Tables.{ChannelTable, IsBegun, windows_of}
+use Rattle.channel_tables.specs.Tables.{ChannelTable, IsBegun, windows_of}
 use Rattle.nbhd_check.specs.declared.separation.Separation.{Separation}
 use Rattle.table_text.specs.declared.version.Version.{Version}
 use Rattle.table_text.specs.TableText.{Written, ids_then, entry_then, entries_then, sizes_then, lines_then}

@@ -11,7 +11,7 @@ use Rattle.win_index.specs.declared.limits.TheConstants.{MAX_IDS, MAX_ROUNDS, MA
 use Rattle.win_index.specs.Falling.{falling}
 use Rattle.win_index.specs.Windows.{IsWindow}
 use Rattle.win_index.specs.Laws.{CountOfWindows, NumberOfWindow, WindowsHaveNumbers}
-use Rattle.table_fill.specs.Tables.{ChannelTable, IsBegun, windows_of}
+use Rattle.channel_tables.specs.Tables.{ChannelTable, IsBegun, windows_of}
 use Rattle.nbhd_check.specs.declared.separation.Separation.{Separation}
 use Rattle.table_text.specs.declared.version.Version.{Version}
 use Rattle.table_text.specs.declared.version.Version.TheVariants.{One, Two}

@@ -1,6 +1,6 @@
 -- The first fault of a text that is not the text of a table and a separation.
 use Rattle.std.specs.Prelude.{◌≡◌, ◌≢◌, ◌⊎◌, ℕ, ◌+◌, ◌*◌, ◌<◌, ◌≤◌, List, [], Some, length, slice_get}
-use Rattle.table_fill.specs.Tables.{ChannelTable, windows_of}
+use Rattle.channel_tables.specs.Tables.{ChannelTable, windows_of}
 use Rattle.table_text.specs.declared.version.Version.{Version}
 use Rattle.table_text.specs.TableText.{Written, title_then, end_then, lines_then}
 use Rattle.table_text.specs.Texts.{IsBegunText, IsWritten}

@@ -3,7 +3,7 @@ use Rattle.std.specs.Prelude.{◌≡◌, ℕ, List, [], ◌∷◌, ◌++◌, tak
 use Rattle.std.specs.Io.KnownBytes.{Appends}
 use Rattle.std.specs.List.{range_with_len}
 use Rattle.std.specs.Fmt.{decimal}
-use Rattle.table_fill.specs.Tables.{ChannelTable}
+use Rattle.channel_tables.specs.Tables.{ChannelTable}
 use Rattle.table_text.specs.declared.piece.Piece.{Piece}
 use Rattle.table_text.specs.declared.piece.Pieces.{Pieces}
 use Rattle.table_text.specs.declared.line_prefix.LinePrefix.{LinePrefix}

@@ -9,7 +9,7 @@ use crate::line_prefix::{LinePrefix, PREFIX_LEN};
 use crate::piece::{Piece, Pieces};
 use crate::storing::write_at;
 use std::alloc::{AllocError, Global};
-use table_fill::Table;
+use channel_tables::Table;
 use win_index::MAX_WINDOW_LEN;
 
 // Returns the pieces from which the lines of a table are made.

@@ -2,7 +2,7 @@
 
 ghost use Rattle.std.specs.Prelude.{◌≡◌, ◌≤◌, length, MatchResult, IfOk, OnOk, IfErr};
 ghost use Rattle.nbhd_check.specs.declared.separation.Separation.{Separation};
-ghost use Rattle.table_fill.specs.Tables.{ChannelTable, IsTable};
+ghost use Rattle.channel_tables.specs.Tables.{ChannelTable, IsTable};
 ghost use Rattle.table_text.specs.TableText.{written, title_then, sizes_then, lines_then, text_of};
 ghost use Rattle.table_text.specs.LineForms.{AreSizes, IsSeparationOf};
 ghost use Rattle.table_text.specs.Texts.{IsTextOf, IsWritten};
@@ -15,7 +15,7 @@ use crate::lines::{Header, Line, after_end, after_title, line_of, sizes};
 use crate::version::Version;
 use nbhd_check::Separation;
 use std::alloc::Global;
-use table_fill::{Table, TableMaker};
+use channel_tables::{Table, TableMaker};
 use win_index::MAX_WINDOW_LEN;
 
 /// Returns the table and the separation whose text this is.

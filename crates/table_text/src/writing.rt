@@ -21,7 +21,7 @@ use devices::watched::Watched;
 use nbhd_check::Separation;
 use std::alloc::{AllocError, Global};
 use std::io::Write;
-use table_fill::Table;
+use channel_tables::Table;
 use win_index::{MAX_WINDOW_LEN, Shape};
 
 // The space for a line: a prefix, the piece of an identifier and that of a channel.

@@ -7,7 +7,7 @@ use std::alloc::{AllocError, Global};
 use std::process::Abort;
 use std::test::Fail;
 use std::thread::Threads;
-use table_fill::Table;
+use channel_tables::Table;
 use win_index::{MAX_TUPLE_LEN, Shape};
 
 // Returns the table of one round that gives each window its number as its channel.

@@ -9,7 +9,7 @@ use std::alloc::{AllocError, Global};
 use std::process::Abort;
 use std::test::Fail;
 use std::thread::Threads;
-use table_fill::Table;
+use channel_tables::Table;
 use win_index::{MAX_ROUNDS, MAX_TUPLE_LEN, Shape};
 
 // A linear congruential generator.

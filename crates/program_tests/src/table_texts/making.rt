@@ -5,7 +5,7 @@ use nbhd_check::Separation;
 use std::alloc::Global;
 use std::process::Abort;
 use std::test::Fail;
-use table_fill::{Table, TableMaker};
+use channel_tables::{Table, TableMaker};
 use table_text::write_table;
 use win_index::Shape;
 

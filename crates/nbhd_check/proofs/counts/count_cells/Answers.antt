@@ -2,7 +2,7 @@ use Rattle.std.proofs.Common.{◌≡◌, ℕ, ◌+◌, ◌-◌, ◌*◌, List, l
 use Rattle.std.proofs.lemmas.Option.{slice_get_within}
 use Rattle.win_index.specs.Falling.{falling}
 use Rattle.win_index.specs.Windows.{windows}
-use Rattle.table_fill.specs.Tables.{ChannelTable, windows_of}
+use Rattle.channel_tables.specs.Tables.{ChannelTable, windows_of}
 use Rattle.nbhd_check.specs.Counts.{shared_len, shared_lists}
 use Rattle.nbhd_check.proofs.FarFree.{block_is, block_within, some_product}
 use Rattle.nbhd_check.proofs.RunLengths.{two_more}

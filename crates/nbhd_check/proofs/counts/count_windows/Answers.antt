@@ -1,7 +1,7 @@
 use Rattle.std.proofs.Common.{◌≡◌, ◌==◌, ◌&&◌, ℕ, ◌+◌, ◌-◌, ◌*◌, ◌<◌, ◌≤◌, eqb, cond, length, get_or, sym, ap, ◌∙◌, arith}
 use Rattle.std.proofs.lemmas.Grind.{common_steps}
 use Rattle.win_index.specs.declared.limits.TheConstants.{MAX_WINDOWS}
-use Rattle.table_fill.specs.Tables.{windows_of}
+use Rattle.channel_tables.specs.Tables.{windows_of}
 use Rattle.nbhd_check.specs.Counts.{held_count}
 use Rattle.nbhd_check.proofs.Cells.{cond_one}
 use Rattle.nbhd_check.proofs.HeldCounts.{count_few, window_counted, entries_below, row_within}

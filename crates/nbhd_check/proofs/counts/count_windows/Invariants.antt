@@ -1,6 +1,6 @@
 use Rattle.std.proofs.Common.{◌≡◌, ◌==◌, ◌+◌, ◌-◌, ◌*◌, ◌<◌, Some, slice_get}
 use Rattle.win_index.specs.Windows.{IsWindow}
-use Rattle.table_fill.specs.Tables.{windows_of}
+use Rattle.channel_tables.specs.Tables.{windows_of}
 use Rattle.nbhd_check.specs.Counts.{held_count, AreCells}
 use Rattle.nbhd_check.proofs.counts.count_windows.Given as goal
 

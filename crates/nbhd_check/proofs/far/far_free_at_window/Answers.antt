@@ -1,7 +1,7 @@
 use Rattle.std.proofs.Common.{◌≡◌, ◌+◌, ◌-◌, ◌*◌, length, subst, sym, ◌∙◌, arith}
 use Rattle.std.proofs.lemmas.Option.{slice_get_within}
 use Rattle.win_index.specs.Windows.{windows, IsWindow}
-use Rattle.table_fill.specs.Tables.{windows_of}
+use Rattle.channel_tables.specs.Tables.{windows_of}
 use Rattle.nbhd_check.specs.Counts.{shared_len, AreCountsOf}
 use Rattle.nbhd_check.proofs.Ends.{middle_cut, middle_window}
 use Rattle.nbhd_check.proofs.far.far_free_at_window.Goals as goal

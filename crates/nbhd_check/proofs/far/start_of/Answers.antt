@@ -1,6 +1,6 @@
 use Rattle.std.proofs.Common.{◌≡◌, ℕ, ◌*◌, ◌/◌, ◌≤◌, [], ◌∷◌, slice_get, Some, length, subst, sym, ◌∙◌, arith}
 use Rattle.win_index.specs.Windows.{windows}
-use Rattle.table_fill.specs.Tables.{windows_of}
+use Rattle.channel_tables.specs.Tables.{windows_of}
 use Rattle.nbhd_check.proofs.FarFree.{from_start}
 use Rattle.nbhd_check.proofs.far.start_of.Goals as goal
 

@@ -1,5 +1,5 @@
 use Rattle.std.proofs.Common.{◌+◌, ◌-◌, ◌*◌, length, sym, ap, ◌∙◌, arith}
-use Rattle.table_fill.specs.Tables.{windows_of}
+use Rattle.channel_tables.specs.Tables.{windows_of}
 use Rattle.nbhd_check.specs.Apart.{extra}
 use Rattle.nbhd_check.proofs.RunLengths.{all_runs, one_more, two_more}
 use Rattle.nbhd_check.proofs.part.run_len.Goals as goal

@@ -1,6 +1,6 @@
 use Rattle.std.proofs.Common.{◌≡◌, ◌+◌, ◌*◌, ◌<◌, Some, min, slice_get}
 use Rattle.win_index.specs.Windows.{IsWindow}
-use Rattle.table_fill.specs.Tables.{windows_of}
+use Rattle.channel_tables.specs.Tables.{windows_of}
 use Rattle.nbhd_check.specs.Apart.{NoneIsBad}
 use Rattle.nbhd_check.specs.Runs.{run_len}
 use Rattle.nbhd_check.proofs.part.scan_runs.Given as goal

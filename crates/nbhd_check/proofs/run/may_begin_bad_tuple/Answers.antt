@@ -1,6 +1,6 @@
 use Rattle.std.proofs.Common.{◌≡◌, get_or, Some, sym, ap, ◌∙◌}
 use Rattle.std.proofs.lemmas.Bool.{OnFalse_at, OnFalse_from}
-use Rattle.table_fill.specs.Tables.{channel_of}
+use Rattle.channel_tables.specs.Tables.{channel_of}
 use Rattle.nbhd_check.specs.Runs.{BeginsBadTuple}
 use Rattle.nbhd_check.proofs.Runs.{channel_at, none_begins}
 use Rattle.nbhd_check.proofs.run.may_begin_bad_tuple.Goals as goal

@@ -1,6 +1,6 @@
 use Rattle.std.proofs.Common.{◌≡◌, get_or, Some, sym, ap, ◌∙◌}
 use Rattle.std.proofs.lemmas.Bool.{OnFalse_at, OnFalse_from}
-use Rattle.table_fill.specs.Tables.{channel_of}
+use Rattle.channel_tables.specs.Tables.{channel_of}
 use Rattle.nbhd_check.specs.Runs.{BeginsFarTuple}
 use Rattle.nbhd_check.proofs.Runs.{channel_at, none_begins_far}
 use Rattle.nbhd_check.proofs.run.may_begin_far_tuple.Goals as goal

@@ -1,7 +1,7 @@
 use Rattle.std.proofs.Common.{ℕ, Option, inl, inr, ⊎_elim, sym, ◌∙◌}
 use Rattle.std.proofs.lemmas.Bool.{false≢true}
 use Rattle.win_index.specs.Arcs.{part_at}
-use Rattle.table_fill.specs.Tables.{channel_of}
+use Rattle.channel_tables.specs.Tables.{channel_of}
 use Rattle.nbhd_check.specs.Apart.{AreClose, IsBad}
 use Rattle.nbhd_check.proofs.tuple.is_bad.Goals as goal
 

@@ -1,6 +1,6 @@
 use Rattle.std.proofs.Common.{◌≡◌, ℕ, ◌+◌, ◌*◌, ◌<◌, [], ◌∷◌, Some, length, slice_get, length-append, sym, ap, subst, ◌∙◌, arith, rules}
 use Rattle.std.proofs.lemmas.List.Elements.{All-nil}
-use Rattle.table_fill.specs.Tables.{IsBegun, windows_of}
+use Rattle.channel_tables.specs.Tables.{IsBegun, windows_of}
 use Rattle.table_text.specs.TableText.{written, lines_then}
 use Rattle.table_text.specs.LineForms.{HasEntry}
 use Rattle.table_text.specs.Faults.{IsWithin, no_entry}

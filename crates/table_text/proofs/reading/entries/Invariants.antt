@@ -1,6 +1,6 @@
 use Rattle.std.proofs.Common.{◌≡◌, ◌+◌, ◌*◌, ◌<◌, Some, length, slice_get}
 use Rattle.win_index.specs.Windows.{windows, IsWindow}
-use Rattle.table_fill.specs.Tables.{IsBegun}
+use Rattle.channel_tables.specs.Tables.{IsBegun}
 use Rattle.table_text.specs.TableText.{written, lines_then}
 use Rattle.table_text.proofs.reading.entries.Given as goal
 

@@ -1,7 +1,7 @@
 use Rattle.std.proofs.Common.{◌≡◌, ◌*◌, ◌<◌, [], ◌++◌, length, get_or, refl, ap, ◌∙◌, subst, arith, rules}
 use Rattle.std.proofs.lemmas.Result.{on_err_weaker}
 use Rattle.std.proofs.KnownBytes.{Appends-nil}
-use Rattle.table_fill.specs.Tables.{windows_of}
+use Rattle.channel_tables.specs.Tables.{windows_of}
 use Rattle.table_text.specs.TableText.{lines_then, entry_then}
 use Rattle.table_text.specs.Pieces.{held, piece_text, id_text, channel_text, AreTexts, IsWrittenSoFar}
 use Rattle.table_text.proofs.PieceTexts.{piece_at}

@@ -1,0 +1,2 @@
+-- Tables that are filled in order.
+pub mod BegunTables

@@ -1,0 +1,2 @@
+-- Tables and their channels at windows.
+pub mod Tables
