@@ -52,7 +52,8 @@ pub fn judge<R: Threads + Sync>(
     ensures yes { IfOk result (λ verdict. (verdict ≡ Verdict.Yes) ↔ IsApartEverywhere table.now separation) }
     ensures memory { OnErr result (¬ IsApartEverywhere table.now separation) }
 {
-    judge_in(rt, alloc, table, separation, current_num_threads(rt) as u64)
+    let workers = u32::try_from(current_num_threads(rt)).unwrap_or(u32::MAX);
+    judge_with_workers(rt, alloc, table, separation, workers)
 }
 
 /// Does the same as `judge` with at most `workers` threads. If that is 0 or 1, only the calling
@@ -68,23 +69,8 @@ pub fn judge_with_workers<R: Threads + Sync>(
     ensures yes { IfOk result (λ verdict. (verdict ≡ Verdict.Yes) ↔ IsApartEverywhere table.now separation) }
     ensures memory { OnErr result (¬ IsApartEverywhere table.now separation) }
 {
-    judge_in(rt, alloc, table, separation, u64::from(workers))
-}
-
-// Does the same as `judge` with at most `threads` threads.
-fn judge_in<R: Threads + Sync>(
-    rt: &R,
-    alloc: Global,
-    table: &Table,
-    separation: Separation,
-    threads: u64,
-) -> Result<Verdict, OutOfMemory>
-    ensures verdict { IfOk result (IsVerdict table.now separation) }
-    ensures yes { IfOk result (λ verdict. (verdict ≡ Verdict.Yes) ↔ IsApartEverywhere table.now separation) }
-    ensures memory { OnErr result (¬ IsApartEverywhere table.now separation) }
-{
     tuples_suffice();
-    match least_of_all(rt, alloc, table, separation, threads) {
+    match least_of_all(rt, alloc, table, separation, u64::from(workers)) {
         None => Ok(Verdict::Yes),
         Some(number) => no(alloc, table, separation, number),
     }
