@@ -7,15 +7,16 @@ use Rattle.std.proofs.lemmas.Bool.{cases_order}
 use Rattle.std.proofs.lemmas.Bool.Decides.{nat_tests}
 use Rattle.std.proofs.lemmas.List.{length-take-le, get_or-take}
 use Rattle.std.proofs.lemmas.List.Sums.{sum_by-append}
-use Rattle.node_lang.specs.declared.limits.TheConstants.{MAX_DEPTH, MAX_NODES, LONGEST_TEXT}
+use Rattle.node_program.specs.declared.limits.TheConstants.{MAX_DEPTH, MAX_NODES}
+use Rattle.node_lang.specs.declared.limits.TheConstants.{LONGEST_TEXT}
 use Rattle.node_lang.specs.declared.fault.FaultKind.{FaultKind}
 use Rattle.node_lang.specs.declared.fault.FaultKind.TheVariants as kind
 use Rattle.node_lang.specs.declared.fault.TextFault.{TextFault}
 use Rattle.node_lang.specs.declared.parser.Parser.{Parser}
 use Rattle.node_lang.specs.declared.token.Token.{Token}
 use Rattle.node_lang.specs.declared.token.Token.TheVariants as token
-use Rattle.node_lang.specs.Term.{ProgramTree, size, terms}
-use Rattle.node_lang.specs.Limits.{IsWithinLimits}
+use Rattle.node_program.specs.Term.{ProgramTree, size, terms}
+use Rattle.node_program.specs.Limits.{IsWithinLimits}
 use Rattle.node_lang.specs.Lexemes.{Lexeme, tokens_in, lexemes_of}
 use Rattle.node_lang.specs.Grammar.{spelling, Reads}
 use Rattle.node_lang.specs.Reading.{Read, Got, Fault, expression, program}

@@ -4,7 +4,6 @@ pub mod Writing
 pub mod SmallTokens
 pub mod Parsing
 pub mod PrintedTokens
-pub mod Assigned
 pub mod Rest
 pub mod Places
 pub mod Marks

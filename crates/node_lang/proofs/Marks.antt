@@ -5,11 +5,11 @@ use Rattle.std.specs.List.{list_all}
 use Rattle.std.proofs.lemmas.Bool.{and_parts, ltb-true}
 use Rattle.std.proofs.lemmas.List.Elements.{All-cons, All-nil, All-head, All-tail}
 use Rattle.std.proofs.lemmas.List.Sums.{sum_by-cons}
-use Rattle.node_lang.specs.declared.limits.TheConstants.{MAX_DEPTH}
+use Rattle.node_program.specs.declared.limits.TheConstants.{MAX_DEPTH}
 use Rattle.node_lang.specs.declared.token.Token.{Token}
 use Rattle.node_lang.specs.declared.token.Token.TheVariants as token
-use Rattle.node_lang.specs.Term.{Term, Literal, RegisterValue, Unary, Binary, Conditional, depth, size, largest, largest_register, Step, ProgramTree, terms, step_terms}
-use Rattle.node_lang.specs.Limits.{IsSmall}
+use Rattle.node_program.specs.Term.{Term, Literal, RegisterValue, Unary, Binary, Conditional, depth, size, largest, largest_register, Step, ProgramTree, terms, step_terms}
+use Rattle.node_program.specs.Limits.{IsSmall}
 use Rattle.node_lang.specs.Grammar.{spelled, assigned, blocks, spelling}
 use Rattle.node_lang.specs.Viable.{Mark, node, plain, marked, marked_assignments, marked_blocks, marks, unmarked, one_at, nodes_at}
 use Rattle.node_lang.proofs.SmallTokens.{is_small}

@@ -8,13 +8,13 @@ use Rattle.std.proofs.lemmas.Bool.Decides.{nat_tests}
 use Rattle.std.proofs.lemmas.List.{map-append, length-map}
 use Rattle.std.proofs.lemmas.List.Elements.{All-cons, All-nil, All-head, All-tail}
 use Rattle.std.proofs.lemmas.List.Sums.{sum_by-append, fold_push}
-use Rattle.node_lang.specs.declared.limits.TheConstants.{MAX_CHANNELS, MAX_DEPTH, MAX_NODES, MAX_REGISTERS, MAX_ROUNDS}
+use Rattle.node_program.specs.declared.limits.TheConstants.{MAX_CHANNELS, MAX_DEPTH, MAX_NODES, MAX_REGISTERS, MAX_ROUNDS}
 use Rattle.node_lang.specs.declared.fault.FaultKind.{FaultKind}
 use Rattle.node_lang.specs.declared.fault.FaultKind.TheVariants as kind
 use Rattle.node_lang.specs.declared.token.Token.{Token}
 use Rattle.node_lang.specs.declared.token.Token.TheVariants as token
-use Rattle.node_lang.specs.Term.{Term, Literal, Identifier, LeftMessage, RightMessage, RegisterValue, Unary, Binary, Conditional, Step, ProgramTree, size, terms}
-use Rattle.node_lang.specs.Limits.{IsSmall, IsWithinLimits}
+use Rattle.node_program.specs.Term.{Term, Literal, Identifier, LeftMessage, RightMessage, RegisterValue, Unary, Binary, Conditional, Step, ProgramTree, size, terms}
+use Rattle.node_program.specs.Limits.{IsSmall, IsWithinLimits}
 use Rattle.node_lang.specs.Grammar.{spelling}
 use Rattle.node_lang.specs.Reading.{fault_of, same_token}
 use Rattle.node_lang.specs.Viable.{IsProgram, IsViable, Mark, node, plain, marked, marked_assignments, marked_blocks, marks, unmarked, one_at, nodes_at, BeginsNode, IsOutside, IsOutOfRange, rounds, channels, registers, Stands, unknown, large, out_of_range, unexpected, too_deep, too_many}

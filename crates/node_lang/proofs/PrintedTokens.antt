@@ -14,14 +14,14 @@ use Rattle.node_lang.specs.declared.token.Token.TheVariants as token
 use Rattle.node_lang.specs.Words.{is_blank, is_digit, is_word_byte, read_on, word_token, mark_token, unary_name, binary_name, word_of}
 use Rattle.node_lang.specs.Lexemes.{tokens_in, tokens_of, lexemes_of}
 use Rattle.std.proofs.lemmas.List.Sums.{sum_by-append, sum_by-cons, AllPass-from_list_all, list_all-from_AllPass}
-use Rattle.node_lang.specs.Term.{Step, ProgramTree, size, step_terms, terms_of_step, Term, Literal, Identifier, LeftMessage, RightMessage, RegisterValue, Unary, Binary, Conditional, largest, largest_register}
+use Rattle.node_program.specs.Term.{Step, ProgramTree, size, step_terms, terms_of_step, Term, Literal, Identifier, LeftMessage, RightMessage, RegisterValue, Unary, Binary, Conditional, largest, largest_register}
 use Rattle.std.proofs.lemmas.List.Elements.{All-append, All-cons, All-nil, All-head, All-tail, All-weaker}
 use Rattle.node_lang.specs.declared.limits.TheConstants.{LONGEST_TEXT}
-use Rattle.node_lang.specs.declared.tree.UnOp.{UnOp}
-use Rattle.node_lang.specs.declared.tree.UnOp.TheVariants.{Not}
-use Rattle.node_lang.specs.declared.tree.BinOp.{BinOp}
-use Rattle.node_lang.specs.declared.tree.BinOp.TheVariants as op
-use Rattle.node_lang.specs.Limits.{IsSmall, IsWithinLimits}
+use Rattle.node_program.specs.declared.tree.UnOp.{UnOp}
+use Rattle.node_program.specs.declared.tree.UnOp.TheVariants.{Not}
+use Rattle.node_program.specs.declared.tree.BinOp.{BinOp}
+use Rattle.node_program.specs.declared.tree.BinOp.TheVariants as op
+use Rattle.node_program.specs.Limits.{IsSmall, IsWithinLimits}
 use Rattle.node_lang.specs.Grammar.{Reads, spelled, assigned, block, blocks}
 use Rattle.node_lang.specs.Printed.{printed_expression, assignment_line, assignment_lines, send_line, round_lines, header_lines, printed}
 use Rattle.node_lang.proofs.Placing.{blank_in_front, mark_in_front, word_token_first}

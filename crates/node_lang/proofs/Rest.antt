@@ -3,12 +3,12 @@
 use Rattle.std.proofs.Common.{ℕ, zero, suc, ◌+◌, ◌-◌, ◌==◌, nat_le, ◌&&◌, List, [], ◌∷◌, Option, Some, None, ◌≡◌, ◌<◌, Bool, true, false, ◌++◌, refl, ap, ◌∙◌, arith, append_assoc, append-nil}
 use Rattle.std.specs.Prelude.{if◌then◌else◌}
 use Rattle.std.proofs.lemmas.Bool.Decides.{nat_tests}
-use Rattle.node_lang.specs.declared.limits.TheConstants.{MAX_DEPTH, MAX_NODES, MAX_CHANNELS, MAX_REGISTERS, MAX_ROUNDS}
+use Rattle.node_program.specs.declared.limits.TheConstants.{MAX_DEPTH, MAX_NODES, MAX_CHANNELS, MAX_REGISTERS, MAX_ROUNDS}
 use Rattle.node_lang.specs.declared.fault.FaultKind.{FaultKind}
 use Rattle.node_lang.specs.declared.fault.FaultKind.TheVariants as kind
 use Rattle.node_lang.specs.declared.token.Token.{Token}
 use Rattle.node_lang.specs.declared.token.Token.TheVariants as token
-use Rattle.node_lang.specs.Term.{Term, Literal, Identifier, LeftMessage, RightMessage, RegisterValue, Unary, Binary, Conditional, Step, ProgramTree}
+use Rattle.node_program.specs.Term.{Term, Literal, Identifier, LeftMessage, RightMessage, RegisterValue, Unary, Binary, Conditional, Step, ProgramTree}
 use Rattle.node_lang.specs.Reading.{same_token, fault_of, Read, Reader, Got, Fault, go_on, done, refuse, ◌>>=◌, ◌>>◌, exactly, node, one_of, two_of, three_of, operand, expression, number, end, each, assign, assigns, round, rounds, header, program}
 use Rattle.node_lang.specs.Lexemes.{Lexeme}
 use Rattle.node_lang.proofs.Parsing.{operand_is}

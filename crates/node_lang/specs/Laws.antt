@@ -2,8 +2,8 @@
 use Rattle.std.specs.Prelude.{◌≡◌, ℕ, ◌<◌, ◌≤◌, List, [], length, All, sum_by}
 use Rattle.node_lang.specs.declared.limits.TheConstants.{LONGEST_TEXT}
 use Rattle.node_lang.specs.declared.fault.FaultKind.{FaultKind}
-use Rattle.node_lang.specs.Term.{ProgramTree, size, terms}
-use Rattle.node_lang.specs.Limits.{IsWithinLimits}
+use Rattle.node_program.specs.Term.{ProgramTree, size, terms}
+use Rattle.node_program.specs.Limits.{IsWithinLimits}
 use Rattle.node_lang.specs.Lexemes.{Lexeme, lexemes_of}
 use Rattle.node_lang.specs.Grammar.{Reads}
 use Rattle.node_lang.specs.Reading.{Got, Fault, program}

@@ -2,10 +2,10 @@
 use Rattle.std.specs.Prelude.{ℕ, ◌+◌, ◌-◌, ◌*◌, ◌^◌, ◌==◌, ◌&&◌, ◌||◌, Bool, nat_lt, nat_le, List, [], ◌∷◌, Option, Some, None, codes, find, if◌then◌else◌}
 use Rattle.std.specs.List.{list_all}
 use Rattle.std.specs.Str.{bytes_eq}
-use Rattle.node_lang.specs.declared.tree.UnOp.{UnOp}
-use Rattle.node_lang.specs.declared.tree.UnOp.TheVariants.{Not}
-use Rattle.node_lang.specs.declared.tree.BinOp.{BinOp}
-use Rattle.node_lang.specs.declared.tree.BinOp.TheVariants as op
+use Rattle.node_program.specs.declared.tree.UnOp.{UnOp}
+use Rattle.node_program.specs.declared.tree.UnOp.TheVariants.{Not}
+use Rattle.node_program.specs.declared.tree.BinOp.{BinOp}
+use Rattle.node_program.specs.declared.tree.BinOp.TheVariants as op
 use Rattle.node_lang.specs.declared.token.Token.{Token}
 use Rattle.node_lang.specs.declared.token.Token.TheVariants as token
 

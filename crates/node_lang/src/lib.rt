@@ -1,26 +1,23 @@
-//! The node language: its syntax trees, its texts, and the definitions of what a program means.
+//! Texts of the node language: parsing and printing, and the definitions of what a text reads as.
+//! Programs as trees are in `node_program`.
 #![tactic(auto)]
 
 mod fault;
 mod laws;
 mod lexer;
 mod limits;
-mod memory;
 mod parser;
 mod printing;
-mod program;
 mod text;
 mod token;
-mod tree;
 mod words;
 
 pub use fault::{FaultKind, TextFault};
 pub use laws::{first_fault, one_reading, one_text_fault, printed_is_read_back, reading_is_exact};
-pub use limits::{
-    LONGEST_TEXT, MAX_CHANNELS, MAX_DEPTH, MAX_NODES, MAX_REGISTERS, MAX_ROUNDS, MAX_THREADS,
+pub use limits::LONGEST_TEXT;
+pub use node_program::{
+    BinOp, Expr, MAX_CHANNELS, MAX_DEPTH, MAX_NODES, MAX_REGISTERS, MAX_ROUNDS, MAX_THREADS,
+    OutOfMemory, Program, Round, UnOp,
 };
-pub use memory::OutOfMemory;
 pub use printing::print;
-pub use program::Program;
 pub use text::parse;
-pub use tree::{BinOp, Expr, Round, UnOp};

@@ -1,12 +1,12 @@
 ghost use Rattle.std.specs.Prelude.{◌≤◌, length};
-ghost use Rattle.node_lang.specs.declared.limits.TheConstants.{MAX_NODES};
+ghost use Rattle.node_program.specs.declared.limits.TheConstants.{MAX_NODES};
 
 use crate::fault::{FaultKind, TextFault};
 use crate::lexer::token_from;
-use crate::limits::{MAX_CHANNELS, MAX_DEPTH, MAX_NODES, MAX_REGISTERS, MAX_ROUNDS};
-use crate::program::Program;
 use crate::token::Token;
-use crate::tree::{Expr, Round};
+use node_program::{
+    Expr, MAX_CHANNELS, MAX_DEPTH, MAX_NODES, MAX_REGISTERS, MAX_ROUNDS, Program, Round,
+};
 use std::alloc::{AllocFailed, Global};
 
 // The numbers of a program's header.
@@ -30,7 +30,7 @@ pub(crate) struct Parser<'a> {
 
 impl<'a> Parser<'a> {
     ghost use Rattle.std.specs.Prelude.{◌≡◌, ◌-◌, ◌<◌, map, true, IfOk};
-    ghost use Rattle.node_lang.specs.Term.{step_of, term_of};
+    ghost use Rattle.node_program.specs.Term.{step_of, term_of};
     ghost use Rattle.node_lang.specs.Reading.{Counts, assign, assigns, end, exactly, expression, header, next, node, number, one_of, operand, program, round, rounds, same_token, three_of, two_of};
     ghost use Rattle.node_lang.specs.Parsing.{Gives};
 
@@ -274,11 +274,6 @@ impl<'a> Parser<'a> {
         self.expect(Token::Finish)?;
         let finish = self.expr(MAX_DEPTH)?;
         self.end()?;
-        Ok(Program {
-            channels: header.channels,
-            start,
-            steps,
-            finish,
-        })
+        Ok(Program::new(header.channels, start, steps, finish))
     }
 }

@@ -1,12 +1,11 @@
 ghost use Rattle.std.specs.Prelude.{◌≡◌, ◌++◌, length, map, IfOk, IfErr, OnOk, string_bytes};
 ghost use Rattle.std.specs.List.{flat_map};
 ghost use Rattle.node_lang.specs.declared.fault.FaultKind.TheVariants as kind;
-ghost use Rattle.node_lang.specs.Term.{step_of, term_of};
+ghost use Rattle.node_program.specs.Term.{step_of, term_of};
 ghost use Rattle.node_lang.specs.Printed.{operation_name as name_of, printed_expression, assignment_line, assignment_lines, send_line, round_lines, printed};
 
 use crate::fault::TextFault;
-use crate::program::Program;
-use crate::tree::{BinOp, Expr, Round, UnOp};
+use node_program::{BinOp, Expr, Program, Round, UnOp};
 use std::alloc::{AllocError, Global};
 use std::fmt::Write;
 

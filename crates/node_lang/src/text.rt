@@ -1,13 +1,13 @@
 ghost use Rattle.std.specs.Prelude.{◌≡◌, ◌≢◌, ℕ, ◌<◌, ◌≤◌, List, Err, length, position, All, IfOk, IfErr, IfSome, IfNone};
 ghost use Rattle.node_lang.specs.declared.fault.FaultKind.TheVariants as kind;
-ghost use Rattle.node_lang.specs.Term.{ProgramTree};
+ghost use Rattle.node_program.specs.Term.{ProgramTree};
 ghost use Rattle.node_lang.specs.Grammar.{Reads};
 ghost use Rattle.node_lang.specs.Faults.{FaultsAt, IsFirstHighByte};
 
 use crate::fault::{FaultKind, TextFault};
 use crate::limits::LONGEST_TEXT;
 use crate::parser::Parser;
-use crate::program::Program;
+use node_program::Program;
 use std::alloc::Global;
 
 // The index of the first byte over 127.

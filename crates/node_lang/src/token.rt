@@ -1,4 +1,4 @@
-use crate::tree::{BinOp, UnOp};
+use node_program::{BinOp, UnOp};
 
 /// A token of a program text, or an error in the place of one.
 #[derive(Clone, Copy, PartialEq, Eq)]

@@ -4,7 +4,7 @@ ghost use Rattle.std.specs.Option.{SomeIff};
 ghost use Rattle.node_lang.specs.Words.{is_blank as blank, is_digit as digit, is_word_byte as word_byte, mark_token as mark, register_named, named, keywords, operations, read_on, word_token};
 
 use crate::token::Token;
-use crate::tree::{BinOp, UnOp};
+use node_program::{BinOp, UnOp};
 
 pub(crate) fn is_blank(byte: u8) -> bool
     ensures { result ≡ blank byte }

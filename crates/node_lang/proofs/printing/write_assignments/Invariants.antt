@@ -1,5 +1,5 @@
 use Rattle.std.proofs.Common.{◌≡◌, ◌++◌, map, drop, string_bytes}
-use Rattle.node_lang.specs.Term.{term_of}
+use Rattle.node_program.specs.Term.{term_of}
 use Rattle.node_lang.specs.Printed.{assignment_lines}
 use Rattle.node_lang.proofs.printing.write_assignments.Given as goal
 

@@ -1,5 +1,5 @@
 use Rattle.std.proofs.Common.{append_assoc, string_bytes}
-use Rattle.node_lang.specs.Term.{step_of}
+use Rattle.node_program.specs.Term.{step_of}
 use Rattle.node_lang.proofs.Writing.{next_item}
 use Rattle.node_lang.proofs.printing.write_rounds.Goals as goal
 

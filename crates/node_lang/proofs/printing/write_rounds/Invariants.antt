@@ -1,6 +1,6 @@
 use Rattle.std.proofs.Common.{◌≡◌, ◌++◌, map, drop, string_bytes}
 use Rattle.std.specs.List.{flat_map}
-use Rattle.node_lang.specs.Term.{step_of}
+use Rattle.node_program.specs.Term.{step_of}
 use Rattle.node_lang.specs.Printed.{round_lines}
 use Rattle.node_lang.proofs.printing.write_rounds.Given as goal
 

@@ -1,4 +1,4 @@
-use Rattle.node_lang.specs.Term.{term_of}
+use Rattle.node_program.specs.Term.{term_of}
 use Rattle.node_lang.specs.Reading.{assign}
 use Rattle.node_lang.proofs.Parsing.{HasRead}
 use Rattle.node_lang.proofs.parser.Parser.assigns.Given as goal

@@ -1,4 +1,4 @@
-use Rattle.node_lang.specs.Term.{step_of}
+use Rattle.node_program.specs.Term.{step_of}
 use Rattle.node_lang.specs.Reading.{round}
 use Rattle.node_lang.proofs.Parsing.{HasRead}
 use Rattle.node_lang.proofs.parser.Parser.rounds.Given as goal

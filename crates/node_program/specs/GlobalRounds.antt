@@ -1,8 +1,8 @@
 -- Global rounds, the LOCAL model on an oriented ring: all places step at once (Linial 1992).
 use Rattle.std.specs.Prelude.{ℕ, zero, suc, ◌+◌, ◌-◌, ◌%◌, List, map, length, slice_index}
 use Rattle.std.specs.List.{range_with_len}
-use Rattle.node_lang.specs.Term.{ProgramTree}
-use Rattle.node_lang.specs.Node.{start, to_left, to_right, next, channel}
+use Rattle.node_program.specs.Term.{ProgramTree}
+use Rattle.node_program.specs.Node.{start, to_left, to_right, next, channel}
 
 -- the places of a node's neighbours, modulo the ring's length
 abbrev pub left_of : List ℕ → ℕ → ℕ

@@ -3,10 +3,10 @@ use Rattle.std.specs.Prelude.{◌≡◌, ℕ, zero, suc, List, [], ◌∷◌, re
 use Rattle.std.proofs.Common.{sym, ◌∙◌, ap}
 use Rattle.std.specs.Coded.{Coded, code_by, coded×, coded_ℕ, coded_list}
 use base.Stored.{Gv, gnum, gcons}
-use Rattle.node_lang.specs.Term.{Term, Literal, Identifier, LeftMessage, RightMessage, RegisterValue, Unary, Binary, Conditional, Step, ProgramTree}
-use Rattle.node_lang.specs.declared.tree.UnOp.TheVariants.{Not}
-use Rattle.node_lang.specs.declared.tree.BinOp.{BinOp}
-use Rattle.node_lang.specs.declared.tree.BinOp.TheVariants as op
+use Rattle.node_program.specs.Term.{Term, Literal, Identifier, LeftMessage, RightMessage, RegisterValue, Unary, Binary, Conditional, Step, ProgramTree}
+use Rattle.node_program.specs.declared.tree.UnOp.TheVariants.{Not}
+use Rattle.node_program.specs.declared.tree.BinOp.{BinOp}
+use Rattle.node_program.specs.declared.tree.BinOp.TheVariants as op
 
 abbrev number_of : BinOp → ℕ
 number_of op.And = 0

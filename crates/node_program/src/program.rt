@@ -1,21 +1,21 @@
 ghost use Rattle.std.specs.Prelude.{◌≡◌, ◌≤◌, length, map, All};
-ghost use Rattle.node_lang.specs.Term.{ProgramTree, program_tree, term_of, step_of};
-ghost use Rattle.node_lang.specs.Code.{program_code};
-ghost use Rattle.node_lang.specs.Limits.{IsWithinLimits};
+ghost use Rattle.node_program.specs.Term.{ProgramTree, program_tree, term_of, step_of};
+ghost use Rattle.node_program.specs.Code.{program_code};
+ghost use Rattle.node_program.specs.Limits.{IsWithinLimits};
 
 use crate::tree::{Expr, Round};
 use std::marker::Model;
 
-/// A program of the node language, made by `parse` alone. It has at most `MAX_ROUNDS` rounds, 1 to
-/// `MAX_CHANNELS` channels and 1 to `MAX_REGISTERS` registers, an expression for each register in
-/// `start` and in each round, at most `MAX_NODES` expression nodes, and no expression deeper than
-/// `MAX_DEPTH`. The registers that its expressions name are 0 to 9.
+/// A program of the node language. It has at most `MAX_ROUNDS` rounds, 1 to `MAX_CHANNELS` channels
+/// and 1 to `MAX_REGISTERS` registers, an expression for each register in `start` and in each round,
+/// at most `MAX_NODES` expression nodes, and no expression deeper than `MAX_DEPTH`. The registers
+/// that its expressions name are 0 to 9.
 #[derive(Drop)]
 pub struct Program {
-    pub(crate) channels: u32,
-    pub(crate) start: Vec<Expr>,
-    pub(crate) steps: Vec<Round>,
-    pub(crate) finish: Expr,
+    channels: u32,
+    start: Vec<Expr>,
+    steps: Vec<Round>,
+    finish: Expr,
 }
 
 impl Model for Program {
@@ -29,6 +29,19 @@ impl Model for Program {
 }
 
 impl Program {
+    /// Makes a program from its parts, which are within the limits.
+    pub fn new(channels: u32, start: Vec<Expr>, steps: Vec<Round>, finish: Expr) -> Program
+        requires { IsWithinLimits (program_tree channels start.items steps.items finish) }
+        ensures { result ≡ program_tree channels start.items steps.items finish }
+    {
+        Program {
+            channels,
+            start,
+            steps,
+            finish,
+        }
+    }
+
     /// Returns the number of rounds, at most `MAX_ROUNDS`.
     pub fn rounds(&self) -> u32
         ensures value { result ≡ length self.now.steps }

@@ -1,7 +1,7 @@
 -- The limits that the type of a program keeps.
 use Rattle.std.specs.Prelude.{◌≡◌, ◌^◌, ◌<◌, ◌≤◌, length, All, sum_by}
-use Rattle.node_lang.specs.declared.limits.TheConstants.{MAX_CHANNELS, MAX_DEPTH, MAX_NODES, MAX_REGISTERS, MAX_ROUNDS}
-use Rattle.node_lang.specs.Term.{Term, ProgramTree, depth, size, largest, largest_register, terms}
+use Rattle.node_program.specs.declared.limits.TheConstants.{MAX_CHANNELS, MAX_DEPTH, MAX_NODES, MAX_REGISTERS, MAX_ROUNDS}
+use Rattle.node_program.specs.Term.{Term, ProgramTree, depth, size, largest, largest_register, terms}
 
 -- an expression is at most MAX_DEPTH deep, its numbers are below 2^32, and its registers have one digit
 pub record IsSmall (e : Term) : Type 0 where

@@ -1,10 +1,10 @@
 -- Upper bounds of the values of a program, from its text and the number m of identifiers alone.
 use Rattle.std.specs.Prelude.{ℕ, zero, suc, ◌+◌, ◌-◌, ◌*◌, ◌/◌, ◌^◌, ◌≤◌, nat_lt, min, max, Option, Some, None, List, [], map, length, slice_get, slice_index, if◌then◌else◌}
-use Rattle.node_lang.specs.declared.tree.BinOp.{BinOp}
-use Rattle.node_lang.specs.declared.tree.BinOp.TheVariants.{And, Or, Xor, Shl, Shr, Add, Sub, Min, Max, Ldb, Bit, Eq, Ne, Lt, Le}
-use Rattle.node_lang.specs.Term.{Term, Literal, Identifier, LeftMessage, RightMessage, RegisterValue, Unary, Binary, Conditional, Step, ProgramTree}
-use Rattle.node_lang.specs.Operations.{top}
-use Rattle.node_lang.specs.Value.{Env}
+use Rattle.node_program.specs.declared.tree.BinOp.{BinOp}
+use Rattle.node_program.specs.declared.tree.BinOp.TheVariants.{And, Or, Xor, Shl, Shr, Add, Sub, Min, Max, Ldb, Bit, Eq, Ne, Lt, Le}
+use Rattle.node_program.specs.Term.{Term, Literal, Identifier, LeftMessage, RightMessage, RegisterValue, Unary, Binary, Conditional, Step, ProgramTree}
+use Rattle.node_program.specs.Operations.{top}
+use Rattle.node_program.specs.Value.{Env}
 
 -- how often x can be halved before it is 0, at most n times
 abbrev pub halvings : ℕ → ℕ → ℕ

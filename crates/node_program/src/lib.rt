@@ -1,0 +1,12 @@
+//! Programs of the node language as trees, their limits, and the definitions of what they mean.
+#![tactic(auto)]
+
+mod limits;
+mod memory;
+mod program;
+mod tree;
+
+pub use limits::{MAX_CHANNELS, MAX_DEPTH, MAX_NODES, MAX_REGISTERS, MAX_ROUNDS, MAX_THREADS};
+pub use memory::OutOfMemory;
+pub use program::Program;
+pub use tree::{BinOp, Expr, Round, UnOp};
