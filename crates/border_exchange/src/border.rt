@@ -8,7 +8,7 @@ ghost use Rattle.border_exchange.specs.declared.fault.PutFault.TheVariants.{Misp
 use crate::lists::Lists;
 use crate::seat::Seat;
 use crate::{Dated, PutFault, Side, Totals};
-use node_lang::OutOfMemory;
+use node_program::OutOfMemory;
 use std::alloc::Global;
 use std::sync::ledger::{Blank, Ledger};
 use std::sync::{Condvar, Mutex, Wait};

@@ -9,7 +9,7 @@ ghost use Rattle.border_exchange.specs.declared.fault.PutFault.TheVariants.{Clos
 use crate::seat::Seat;
 use crate::side_list::SideList;
 use crate::{Dated, PutFault, Side, Totals};
-use node_lang::OutOfMemory;
+use node_program::OutOfMemory;
 use std::alloc::Global;
 use std::marker::Model;
 use std::sync::ledger::{Book, Ledger};

@@ -3,7 +3,7 @@ ghost use Rattle.std.specs.Prelude.{◌≡◌, ◌+◌, ◌<◌, [], ◌∷◌, 
 ghost use Rattle.border_exchange.specs.InRounds.{AreInRounds};
 
 use crate::{Dated, Side};
-use node_lang::OutOfMemory;
+use node_program::OutOfMemory;
 use std::alloc::Global;
 use std::marker::Model;
 use std::sync::ledger::{Book, Ledger, Share};

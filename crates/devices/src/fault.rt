@@ -4,7 +4,7 @@ ghost use Rattle.std.specs.Prelude.{◌≡◌};
 ghost use Rattle.devices.specs.declared.fault.EngineFault.TheVariants.{Memory};
 ghost use Rattle.devices.specs.declared.fault.OutFault.TheVariants.{Memory as NoMemory};
 
-use node_lang::OutOfMemory;
+use node_program::OutOfMemory;
 use std::alloc::AllocError;
 use thiserror::Error;
 

@@ -2,8 +2,8 @@
 use Rattle.std.specs.Prelude.{ℕ, ◌+◌, Option, Some, None, List, [], ◌++◌, map, length, slice_index, codes}
 use Rattle.std.specs.List.{range_with_len}
 use Rattle.std.specs.Fmt.{decimal}
-use Rattle.node_lang.specs.Term.{ProgramTree}
-use Rattle.node_lang.specs.Bounds.{register_bounds}
+use Rattle.node_program.specs.Term.{ProgramTree}
+use Rattle.node_program.specs.Bounds.{register_bounds}
 use Rattle.lang_check.specs.Acceptance.{register_over_channels}
 use Rattle.fault_notes.specs.VerdictNotes.{joined}
 

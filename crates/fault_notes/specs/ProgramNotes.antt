@@ -1,11 +1,11 @@
 -- The note on a program that is not accepted.
 use Rattle.std.specs.Prelude.{◌≡◌, ℕ, ◌+◌, ◌*◌, ◌<◌, ◌==◌, nat_lt, ◌++◌, List, length, codes, if◌then◌else◌}
 use Rattle.std.specs.Fmt.{decimal}
-use Rattle.node_lang.specs.declared.limits.TheConstants.{MAX_CHANNELS}
+use Rattle.node_program.specs.declared.limits.TheConstants.{MAX_CHANNELS}
 use Rattle.win_index.specs.ShapeRange.{IsShape}
 use Rattle.lang_check.specs.declared.acceptance.CheckFault.{CheckFault}
 use Rattle.lang_check.specs.declared.acceptance.CheckFault.TheVariants as check
-use Rattle.node_lang.specs.Term.{ProgramTree}
+use Rattle.node_program.specs.Term.{ProgramTree}
 use Rattle.fault_notes.specs.Placed.{IsPlaced}
 use Rattle.fault_notes.specs.BoundNotes.{growth_text}
 

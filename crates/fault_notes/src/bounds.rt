@@ -1,7 +1,7 @@
 //! The bounds of the register that makes channels too large.
 
 ghost use Rattle.std.specs.Prelude.{◌≡◌, ◌≤◌, ◌++◌, length, slice_index, codes, IfOk, OnOk, string_bytes};
-ghost use Rattle.node_lang.specs.Bounds as bounds;
+ghost use Rattle.node_program.specs.Bounds as bounds;
 ghost use Rattle.fault_notes.specs.BoundNotes as notes;
 ghost use Rattle.fault_notes.specs.VerdictNotes.{joined};
 

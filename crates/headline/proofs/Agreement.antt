@@ -6,8 +6,8 @@ use Rattle.std.proofs.lemmas.Bool.{cases_lt}
 use Rattle.std.proofs.lemmas.Option.{slice_get-get_or}
 use Rattle.std.proofs.lemmas.List.FromFn.{length-map-range_with_len, get_or-map-range_with_len}
 use Rattle.std.proofs.Math.Nat.{add-mod_left, mod-eq_of_lt, mod-lt}
-use Rattle.node_lang.specs.Term.{ProgramTree}
-use Rattle.node_lang.specs.GlobalRounds.{right_of, channel_at, channels_of}
+use Rattle.node_program.specs.Term.{ProgramTree}
+use Rattle.node_program.specs.GlobalRounds.{right_of, channel_at, channels_of}
 use Rattle.win_index.specs.Ring.{IsRing}
 use Rattle.win_index.specs.Arcs.{arc, window_around}
 use Rattle.channel_tables.specs.Tables.{ChannelTable, channel_of}

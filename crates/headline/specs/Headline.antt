@@ -2,8 +2,8 @@
 -- whether channels are far enough apart on every ring (Linial 1992; Griggs and Yeh 1992).
 use Rattle.std.specs.Prelude.{◌≡◌, ◌↔◌, ℕ, ◌+◌, ◌*◌, ◌<◌, ◌≤◌, List, length, slice_get, Some}
 use Rattle.std.specs.Int.{abs_diff}
-use Rattle.node_lang.specs.Term.{ProgramTree}
-use Rattle.node_lang.specs.GlobalRounds.{right_of, channel_at}
+use Rattle.node_program.specs.Term.{ProgramTree}
+use Rattle.node_program.specs.GlobalRounds.{right_of, channel_at}
 use Rattle.win_index.specs.Ring.{IsRing}
 use Rattle.win_index.specs.Arcs.{window_around}
 use Rattle.channel_tables.specs.Tables.{ChannelTable, channel_of}

@@ -1,4 +1,4 @@
-use node_lang::OutOfMemory;
+use node_program::OutOfMemory;
 use ring_exec::RunFault;
 use table_fill::FillFault;
 

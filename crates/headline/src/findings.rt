@@ -7,7 +7,7 @@ ghost use Rattle.ring_exec.specs.declared.fault.RunFault.{RunFault};
 use crate::fault::FindingsFault;
 use lang_check::Plan;
 use nbhd_check::{Separation, Verdict, judge};
-use node_lang::MAX_THREADS;
+use node_program::MAX_THREADS;
 use ring_exec::{MAX_SEGMENTS, RunFault, run};
 use round_eval::Gate;
 use shared_memo::Memo;

@@ -5,7 +5,7 @@ use Rattle.std.proofs.lemmas.Bool.{cases_lt}
 use Rattle.std.proofs.lemmas.Nat.{pow_pos, leading_length, shl_whole, one_shl}
 use Rattle.std.proofs.Math.Nat.{pow-suc}
 use Rattle.std.proofs.Math.Pow.{pow_mono}
-use Rattle.node_lang.specs.Bounds.{halvings, bits}
+use Rattle.node_program.specs.Bounds.{halvings, bits}
 use Rattle.lang_check.specs.Laws.{BinaryDigits}
 
 -- zero has no digits

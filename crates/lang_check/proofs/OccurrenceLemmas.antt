@@ -6,9 +6,9 @@ use Rattle.std.specs.List.{list_any}
 use Rattle.std.proofs.lemmas.List.{take_more, map-append, append-nil}
 use Rattle.std.proofs.lemmas.List.Folds.{find-append, list_any-append}
 use Rattle.std.proofs.lemmas.Grind.{flat_map-append}
-use Rattle.node_lang.specs.Term.{Term, Step, step_of, step_terms, term_of}
-use Rattle.node_lang.specs.declared.tree.Expr.{Expr}
-use Rattle.node_lang.specs.declared.tree.Round.{Round}
+use Rattle.node_program.specs.Term.{Term, Step, step_of, step_terms, term_of}
+use Rattle.node_program.specs.declared.tree.Expr.{Expr}
+use Rattle.node_program.specs.declared.tree.Round.{Round}
 use Rattle.lang_check.specs.Occurrences.{registers_read, sent_terms}
 
 -- the lemma of the search in two parts, for `using`

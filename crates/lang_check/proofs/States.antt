@@ -3,11 +3,11 @@ use Rattle.std.proofs.Common.{ℕ, zero, suc, ◌-◌, ◌<◌, ◌≤◌, Optio
 use Rattle.std.specs.Prelude.{slice_index, slice_get}
 use Rattle.std.proofs.lemmas.Bool.{cases_lt}
 use Rattle.std.proofs.lemmas.List.{get_or_past}
-use Rattle.node_lang.specs.Term.{Term, Step, ProgramTree}
-use Rattle.node_lang.specs.Node as rounds
-use Rattle.node_lang.specs.GlobalRounds.{left_of, right_of, state, channel_at}
+use Rattle.node_program.specs.Term.{Term, Step, ProgramTree}
+use Rattle.node_program.specs.Node as rounds
+use Rattle.node_program.specs.GlobalRounds.{left_of, right_of, state, channel_at}
 use Rattle.win_index.specs.Ring.{IsRing}
-use Rattle.node_lang.specs.Bounds.{reading_bounds, next_bounds, register_bounds, finish_bound, IsWithin}
+use Rattle.node_program.specs.Bounds.{reading_bounds, next_bounds, register_bounds, finish_bound, IsWithin}
 use Rattle.lang_check.specs.Laws.{StartIsWithin, NextIsWithin, RegistersAreWithin, AcceptedChannelsAreBelow, ChannelsAreBelow}
 use Rattle.lang_check.proofs.Within.{EnvIsWithin, value_within}
 

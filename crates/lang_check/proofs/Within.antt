@@ -7,13 +7,13 @@ use Rattle.std.proofs.lemmas.Nat.{and_le_l, and_le_r, or_lt, xor_lt, shr_le}
 use Rattle.std.proofs.lemmas.Nat.Bits.{bit_at_above, bit_at-lt}
 use Rattle.std.proofs.Math.Nat.{mod-le, mod-lt, mul-le-mul_right}
 use Rattle.std.proofs.Math.Pow.{shr_mono}
-use Rattle.node_lang.specs.declared.tree.UnOp.TheVariants.{Not}
-use Rattle.node_lang.specs.declared.tree.BinOp.{BinOp}
-use Rattle.node_lang.specs.declared.tree.BinOp.TheVariants.{And, Or, Xor, Shl, Shr, Add, Sub, Min, Max, Ldb, Bit, Eq, Ne, Lt, Le}
-use Rattle.node_lang.specs.Term.{Term, Literal, Identifier, LeftMessage, RightMessage, RegisterValue, Unary, Binary, Conditional}
-use Rattle.node_lang.specs.Operations.{top, flag, least_from, lowest_differing_bit, binary_value}
-use Rattle.node_lang.specs.Value.{Env, value}
-use Rattle.node_lang.specs.Bounds.{bits, written_number, binary_bound, bound, IsWithin}
+use Rattle.node_program.specs.declared.tree.UnOp.TheVariants.{Not}
+use Rattle.node_program.specs.declared.tree.BinOp.{BinOp}
+use Rattle.node_program.specs.declared.tree.BinOp.TheVariants.{And, Or, Xor, Shl, Shr, Add, Sub, Min, Max, Ldb, Bit, Eq, Ne, Lt, Le}
+use Rattle.node_program.specs.Term.{Term, Literal, Identifier, LeftMessage, RightMessage, RegisterValue, Unary, Binary, Conditional}
+use Rattle.node_program.specs.Operations.{top, flag, least_from, lowest_differing_bit, binary_value}
+use Rattle.node_program.specs.Value.{Env, value}
+use Rattle.node_program.specs.Bounds.{bits, written_number, binary_bound, bound, IsWithin}
 use Rattle.lang_check.proofs.Bits.{bits-above}
 
 flag-le : (t : Bool) → flag t ≤ 1

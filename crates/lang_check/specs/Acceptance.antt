@@ -1,8 +1,8 @@
 -- Acceptance of programs for m identifiers.
 use Rattle.std.specs.Prelude.{◌≡◌, ℕ, ◌<◌, nat_le, Bool, false, Option, None, length, find, flat_map, slice_index}
 use Rattle.std.specs.List.{list_any}
-use Rattle.node_lang.specs.Term.{ProgramTree, terms}
-use Rattle.node_lang.specs.Bounds.{finish_bound, register_bounds}
+use Rattle.node_program.specs.Term.{ProgramTree, terms}
+use Rattle.node_program.specs.Bounds.{finish_bound, register_bounds}
 use Rattle.win_index.specs.ShapeRange.{IsShape}
 use Rattle.lang_check.specs.Occurrences.{registers_read, reads_identifier, reads_message, terms_after_start, terms_outside_assignments}
 

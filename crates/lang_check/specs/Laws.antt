@@ -1,10 +1,10 @@
 -- The statements of the laws of this crate, one definition each.
 use Rattle.std.specs.Prelude.{◌≡◌, ◌↔◌, ℕ, suc, ◌^◌, ◌<◌, ◌≤◌, List, length}
-use Rattle.node_lang.specs.Term.{ProgramTree}
-use Rattle.node_lang.specs.Node as rounds
-use Rattle.node_lang.specs.GlobalRounds.{state, channel_at}
+use Rattle.node_program.specs.Term.{ProgramTree}
+use Rattle.node_program.specs.Node as rounds
+use Rattle.node_program.specs.GlobalRounds.{state, channel_at}
 use Rattle.win_index.specs.Ring.{IsRing}
-use Rattle.node_lang.specs.Bounds.{bits, register_bounds, IsWithin}
+use Rattle.node_program.specs.Bounds.{bits, register_bounds, IsWithin}
 use Rattle.lang_check.specs.Acceptance.{IsAccepted}
 use Rattle.lang_check.specs.Refusals.{IsFirstRefusal}
 use Rattle.lang_check.specs.declared.acceptance.CheckFault.{CheckFault}

@@ -1,5 +1,5 @@
 -- The bounds of what an expression may read, as the code holds them.
-use Rattle.node_lang.specs.Value.{Env}
+use Rattle.node_program.specs.Value.{Env}
 use Rattle.lang_check.specs.declared.bounds.Limits.{Limits}
 
 -- the bounds of what an expression may read

@@ -1,8 +1,8 @@
 -- Plans, and an injective code of them, which their model asks for.
 use Rattle.std.specs.Prelude.{ℕ, refl}
 use Rattle.std.specs.Coded.{Coded, code_by, coded×, coded_ℕ}
-use Rattle.node_lang.specs.Term.{ProgramTree}
-use Rattle.node_lang.specs.Code.{program_code}
+use Rattle.node_program.specs.Term.{ProgramTree}
+use Rattle.node_program.specs.Code.{program_code}
 
 -- a program and the number of identifiers that it is run with
 pub record ProgramForIds : Type 0 where

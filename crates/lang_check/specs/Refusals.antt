@@ -1,7 +1,7 @@
 -- Which refusal of a program comes first.
 use Rattle.std.specs.Prelude.{◌≡◌, ℕ, ◌≤◌, false, IsTrue, Some, None, length}
-use Rattle.node_lang.specs.Term.{ProgramTree}
-use Rattle.node_lang.specs.Bounds.{finish_bound}
+use Rattle.node_program.specs.Term.{ProgramTree}
+use Rattle.node_program.specs.Bounds.{finish_bound}
 use Rattle.win_index.specs.ShapeRange.{IsShape}
 use Rattle.win_index.specs.ShapeFaults.{IsFirstShapeFault}
 use Rattle.win_index.specs.declared.shape.ShapeFault.TheVariants as shape

@@ -1,7 +1,7 @@
 ghost use Rattle.std.specs.Prelude.{◌≡◌, ◌↔◌, ℕ, length, IfOk, IfErr, IsOk, find, flat_map};
 ghost use Rattle.std.specs.List.{list_any};
 ghost use Rattle.win_index.specs.ShapeRange.{IsShape};
-ghost use Rattle.node_lang.specs.Bounds.{finish_bound};
+ghost use Rattle.node_program.specs.Bounds.{finish_bound};
 ghost use Rattle.lang_check.specs.Acceptance.{IsAccepted, first_missing_register, reads_id_outside_start, reads_message_outside_step};
 ghost use Rattle.lang_check.specs.Refusals.{IsFirstRefusal};
 
@@ -11,7 +11,7 @@ use crate::occurrences::{
 };
 use crate::plan::Plan;
 use crate::register_bounds::finish_bound as bound_of_finish;
-use node_lang::Program;
+use node_program::Program;
 use win_index::{Shape, ShapeFault};
 
 /// Why a program is not accepted for a number of identifiers.

@@ -1,9 +1,9 @@
 ghost use Rattle.std.specs.Prelude.{◌≡◌, ◌-◌, ◌^◌, ◌≤◌, max, slice_index};
-ghost use Rattle.node_lang.specs.Term.{term_of};
-ghost use Rattle.node_lang.specs.Bounds as bounds;
+ghost use Rattle.node_program.specs.Term.{term_of};
+ghost use Rattle.node_program.specs.Bounds as bounds;
 ghost use Rattle.lang_check.specs.Limits.{env_of};
 
-use node_lang::{BinOp, Expr, UnOp};
+use node_program::{BinOp, Expr, UnOp};
 
 // The bounds of what an expression may read: the identifier, both messages and the registers.
 #[derive(Clone, Copy)]

@@ -1,7 +1,7 @@
 ghost use Rattle.std.specs.Prelude.{◌≡◌, ◌↔◌, IsTrue, map};
-ghost use Rattle.node_lang.specs.Term.{term_of, step_of};
+ghost use Rattle.node_program.specs.Term.{term_of, step_of};
 
-use node_lang::{Expr, Program, Round};
+use node_program::{Expr, Program, Round};
 
 pub(crate) fn same_program(a: &Program, b: &Program) -> bool
     ensures { IsTrue result ↔ (a.now ≡ b.now) }

@@ -17,6 +17,3 @@ pub use laws::{
 };
 pub use plan::Plan;
 pub use register_bounds::{bounds_after, register_over_channels};
-
-#[cfg(test)]
-mod tests;

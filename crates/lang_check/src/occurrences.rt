@@ -1,10 +1,10 @@
 ghost use Rattle.std.specs.Prelude.{◌≡◌, nat_le, [], ◌∷◌, map, find, flat_map, slice_index};
 ghost use Rattle.std.specs.List.{list_any};
-ghost use Rattle.node_lang.specs.Term.{term_of, step_of, step_terms};
+ghost use Rattle.node_program.specs.Term.{term_of, step_of, step_terms};
 ghost use Rattle.lang_check.specs.Occurrences.{registers_read, reads_identifier, reads_message, sent_terms};
 
 use crate::bounds::limit_or_zero;
-use node_lang::{Expr, Round};
+use node_program::{Expr, Round};
 
 // The first register that the expression reads and that is not below `count`.
 #[tactic(auto, using(crate::proofs::OccurrenceLemmas::joined))]

@@ -1,5 +1,5 @@
 use crate::equality::same_program;
-use node_lang::Program;
+use node_program::Program;
 use std::marker::Model;
 use win_index::Shape;
 
@@ -14,7 +14,7 @@ pub struct Plan {
 
 impl Model for Plan {
     ghost use Rattle.std.specs.Prelude.{◌≡◌, length};
-    ghost use Rattle.node_lang.specs.Bounds.{finish_bound};
+    ghost use Rattle.node_program.specs.Bounds.{finish_bound};
     ghost use Rattle.lang_check.specs.Acceptance.{IsAccepted};
     ghost use Rattle.lang_check.specs.Plans.{ProgramForIds, plan_code};
 
@@ -30,7 +30,7 @@ impl Model for Plan {
 
 impl Plan {
     ghost use Rattle.std.specs.Prelude.{◌≡◌, ◌↔◌, IsTrue, length};
-    ghost use Rattle.node_lang.specs.Bounds.{finish_bound};
+    ghost use Rattle.node_program.specs.Bounds.{finish_bound};
     ghost use Rattle.lang_check.specs.Acceptance.{IsAccepted};
 
     /// Returns the program.

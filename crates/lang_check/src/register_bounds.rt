@@ -1,15 +1,15 @@
 ghost use Rattle.std.specs.Prelude.{◌≡◌, ℕ, ◌-◌, ◌≤◌, map, length, Some};
-ghost use Rattle.node_lang.specs.Term.{term_of, step_of};
-ghost use Rattle.node_lang.specs.Bounds as bounds;
+ghost use Rattle.node_program.specs.Term.{term_of, step_of};
+ghost use Rattle.node_program.specs.Bounds as bounds;
 ghost use Rattle.lang_check.specs.Acceptance as acceptance;
 ghost use Rattle.lang_check.specs.Limits.{env_of};
 
 use crate::bounds::{Limits, bound_of};
 use crate::occurrences::register_over;
-use node_lang::{Expr, MAX_REGISTERS, Program, Round};
+use node_program::{Expr, MAX_REGISTERS, Program, Round};
 
 // The bound of the channels of a program with this number of identifiers.
-#[tactic(auto, unfolding(node_lang::specs::Bounds::finish_bound))]
+#[tactic(auto, unfolding(node_program::specs::Bounds::finish_bound))]
 pub(crate) fn finish_bound(program: &Program, ids: u32) -> u32
     ensures { result ≡ bounds.finish_bound program.now ids }
 {

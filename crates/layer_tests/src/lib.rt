@@ -3,6 +3,8 @@
 #![tactic(auto)]
 
 #[cfg(test)]
+mod acceptance;
+#[cfg(test)]
 mod blocks;
 #[cfg(test)]
 mod columns;

@@ -1,6 +1,6 @@
 -- A task has at most one report on an input.
 use Rattle.std.proofs.Common.{◌≡◌, ℕ, List, [], ap, subst, sym, ◌∙◌, refl, append-nil}
-use Rattle.node_lang.specs.Term.{ProgramTree}
+use Rattle.node_program.specs.Term.{ProgramTree}
 use Rattle.node_lang.specs.Laws.{OneReading, OneTextFault}
 use Rattle.win_index.specs.Laws.{OneRingFault, RingsHaveNoFault}
 use Rattle.node_lang.specs.Grammar.{Reads}

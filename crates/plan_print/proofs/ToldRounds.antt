@@ -2,8 +2,8 @@
 use Rattle.std.proofs.Common.{◌≡◌, ℕ, List, [], ◌∷◌, ◌++◌, codes, ap, append_assoc, subst, sym, ◌∙◌}
 use Rattle.std.specs.Prelude.{◌↔◌, length}
 use Rattle.std.specs.List.{flat_map, range_with_len}
-use Rattle.node_lang.specs.Term.{ProgramTree}
-use Rattle.node_lang.specs.GlobalRounds.{channels_of}
+use Rattle.node_program.specs.Term.{ProgramTree}
+use Rattle.node_program.specs.GlobalRounds.{channels_of}
 use Rattle.node_lang.specs.Grammar.{Reads}
 use Rattle.node_lang.specs.Printed.{printed}
 use Rattle.node_lang.specs.Laws.{OneReading, PrintedIsRead}

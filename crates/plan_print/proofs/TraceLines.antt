@@ -5,9 +5,9 @@ use Rattle.std.specs.Fmt.{decimal}
 use Rattle.std.proofs.lemmas.List.{flat_map_more}
 use Rattle.std.proofs.lemmas.List.FromFn.{map-range_with_len_more}
 use Rattle.std.proofs.lemmas.Simd.{map-map}
-use Rattle.node_lang.specs.Term.{ProgramTree}
-use Rattle.node_lang.specs.Node.{channel}
-use Rattle.node_lang.specs.GlobalRounds.{state, channel_at, channels_of}
+use Rattle.node_program.specs.Term.{ProgramTree}
+use Rattle.node_program.specs.Node.{channel}
+use Rattle.node_program.specs.GlobalRounds.{state, channel_at, channels_of}
 use Rattle.plan_print.specs.Lines.{line, numbers_text}
 use Rattle.plan_print.specs.Trace.{of_places, row_line, register_lines, message_lines, round_lines, trace_lines}
 use Rattle.plan_print.proofs.Joined.{joined_after}

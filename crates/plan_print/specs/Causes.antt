@@ -1,6 +1,6 @@
 -- The cause of a report that is a refusal or a no, and the note on it.
 use Rattle.std.specs.Prelude.{◌≡◌, ◌≢◌, ℕ, ◌<◌, ◌≤◌, List, length}
-use Rattle.node_lang.specs.declared.limits.TheConstants.{MAX_ROUNDS}
+use Rattle.node_program.specs.declared.limits.TheConstants.{MAX_ROUNDS}
 use Rattle.node_lang.specs.declared.fault.FaultKind.TheVariants as kind
 use Rattle.node_lang.specs.Grammar.{Reads}
 use Rattle.node_lang.specs.Faults.{FaultsAt}

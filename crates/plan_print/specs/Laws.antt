@@ -2,9 +2,9 @@
 -- back.
 use Rattle.std.specs.Prelude.{◌≡◌, ◌↔◌, ℕ, ◌<◌, List, [], ◌∷◌, ◌++◌, Vec, Some, length, codes}
 use Rattle.std.specs.declared.alloc.Global.{Global}
-use Rattle.node_lang.specs.Term.{ProgramTree}
+use Rattle.node_program.specs.Term.{ProgramTree}
 use Rattle.node_lang.specs.Grammar.{Reads}
-use Rattle.node_lang.specs.GlobalRounds.{channel_at, channels_of}
+use Rattle.node_program.specs.GlobalRounds.{channel_at, channels_of}
 use Rattle.win_index.specs.Ring.{IsRing}
 use Rattle.win_index.specs.Arcs.{window_around}
 use Rattle.lang_check.specs.Acceptance.{IsAccepted}

@@ -16,8 +16,8 @@ pub use Rattle.devices.specs.Watched
 pub use Rattle.devices.specs.Input
 pub use Rattle.devices.specs.Output
 pub use Rattle.devices.specs.FaultCodes
-pub use Rattle.node_lang.specs.Term
-pub use Rattle.node_lang.specs.GlobalRounds
+pub use Rattle.node_program.specs.Term
+pub use Rattle.node_program.specs.GlobalRounds
 pub use Rattle.node_lang.specs.Printed
 pub use Rattle.node_lang.specs.Grammar
 pub use Rattle.node_lang.specs.Faults

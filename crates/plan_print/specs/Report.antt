@@ -4,9 +4,9 @@ use Rattle.std.specs.List.{flat_map, range_with_len}
 use Rattle.std.specs.Fmt.{decimal}
 use Rattle.node_lang.specs.declared.fault.FaultKind.{FaultKind}
 use Rattle.node_lang.specs.declared.fault.FaultKind.TheVariants as kind
-use Rattle.node_lang.specs.Term.{ProgramTree}
-use Rattle.node_lang.specs.Bounds.{finish_bound}
-use Rattle.node_lang.specs.GlobalRounds.{channel_at, channels_of}
+use Rattle.node_program.specs.Term.{ProgramTree}
+use Rattle.node_program.specs.Bounds.{finish_bound}
+use Rattle.node_program.specs.GlobalRounds.{channel_at, channels_of}
 use Rattle.win_index.specs.Ring.{IsRing}
 use Rattle.node_lang.specs.Grammar.{Reads}
 use Rattle.node_lang.specs.Printed.{printed}

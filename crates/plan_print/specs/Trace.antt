@@ -2,9 +2,9 @@
 use Rattle.std.specs.Prelude.{◌==◌, if◌then◌else◌, ℕ, ◌+◌, List, [], ◌∷◌, ◌++◌, map, length, slice_index, codes}
 use Rattle.std.specs.List.{flat_map, range_with_len}
 use Rattle.std.specs.Fmt.{decimal}
-use Rattle.node_lang.specs.Term.{ProgramTree}
-use Rattle.node_lang.specs.Node.{to_left, to_right}
-use Rattle.node_lang.specs.GlobalRounds.{state, channels_of}
+use Rattle.node_program.specs.Term.{ProgramTree}
+use Rattle.node_program.specs.Node.{to_left, to_right}
+use Rattle.node_program.specs.GlobalRounds.{state, channels_of}
 use Rattle.plan_print.specs.Lines.{line, numbers_text}
 
 -- a number for each place of the ring x, from place 0 on

@@ -1,7 +1,7 @@
 //! The channels of a ring's places, looked up in the table.
 
 ghost use Rattle.std.specs.Prelude.{◌≡◌, ◌<◌, length, IfOk, string_bytes};
-ghost use Rattle.node_lang.specs.GlobalRounds.{channel_at};
+ghost use Rattle.node_program.specs.GlobalRounds.{channel_at};
 ghost use Rattle.table_fill.specs.ProgramTables.{table_of};
 ghost use Rattle.plan_print.specs.Report.{place_lines};
 

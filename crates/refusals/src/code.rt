@@ -1,5 +1,5 @@
 ghost use Rattle.std.specs.Prelude.{◌≡◌, ◌≤◌, length, IfOk};
-ghost use Rattle.node_lang.specs.Term.{terms};
+ghost use Rattle.node_program.specs.Term.{terms};
 ghost use Rattle.round_columns.specs.StackNeed.{most_columns};
 
 use crate::miss::Miss;

@@ -5,7 +5,7 @@ use Rattle.std.proofs.Math.ListN.{set}
 use Rattle.std.proofs.Math.Seq.{map-set_same}
 use Rattle.std.proofs.lemmas.List.{get_or-set_same, get_or-set_other, map-set, length-set}
 use Rattle.std.proofs.lemmas.List.FromFn.{map-range_with_len_more}
-use Rattle.node_lang.specs.Node.{to_left, to_right}
+use Rattle.node_program.specs.Node.{to_left, to_right}
 use Rattle.round_eval.specs.Rows.{row_after}
 use Rattle.round_eval.specs.Laws.{StretchesAreRows}
 use Rattle.ring_core.specs.Messages.{Heading, sent_under}

@@ -4,7 +4,7 @@ use Rattle.std.specs.List.{range_with_len}
 use Rattle.std.proofs.lemmas.List.FromFn.{length-map-range_with_len, fill_by_all}
 use Rattle.border_exchange.specs.declared.Side.{Side}
 use Rattle.border_exchange.specs.declared.Side.TheVariants.{Rightward, Leftward}
-use Rattle.node_lang.specs.GlobalRounds.{state}
+use Rattle.node_program.specs.GlobalRounds.{state}
 use Rattle.round_eval.specs.Rows.{rows}
 use Rattle.ring_core.specs.declared.message.Msg.{Msg}
 use Rattle.ring_core.specs.Messages.{Heading, sent_under}

@@ -3,9 +3,9 @@ use Rattle.std.proofs.Common.{◌≡◌, ℕ, ◌+◌, ◌-◌, ◌<◌, ◌≤�
 use Rattle.std.specs.List.{slice_range}
 use Rattle.std.proofs.lemmas.List.{ext_get_or, get_or-map, get_or-take, get_or-drop, length-map, length-take, length-drop}
 use Rattle.std.proofs.lemmas.List.FromFn.{length-map-range_with_len, get_or-map-range_with_len}
-use Rattle.node_lang.specs.Term.{ProgramTree}
-use Rattle.node_lang.specs.Node.{start, to_left, to_right}
-use Rattle.node_lang.specs.GlobalRounds.{left_of, right_of, state}
+use Rattle.node_program.specs.Term.{ProgramTree}
+use Rattle.node_program.specs.Node.{start, to_left, to_right}
+use Rattle.node_program.specs.GlobalRounds.{left_of, right_of, state}
 use Rattle.round_eval.specs.Rows.{rows, row_after, stretch}
 use Rattle.round_eval.specs.Laws.{StretchesAreRows}
 use Rattle.ring_core.specs.Segments.{RingSegment, KeepsSegment}

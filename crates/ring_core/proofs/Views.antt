@@ -3,8 +3,8 @@ use Rattle.std.proofs.Common.{◌≡◌, ℕ, ◌+◌, ◌-◌, ◌<◌, ◌≤�
 use Rattle.std.proofs.lemmas.List.{get_or-map, length-map}
 use Rattle.std.proofs.lemmas.List.FromFn.{length-map-range_with_len, get_or-map-range_with_len}
 use Rattle.border_exchange.specs.declared.Side.TheVariants.{Rightward, Leftward}
-use Rattle.node_lang.specs.Node.{to_left, to_right}
-use Rattle.node_lang.specs.GlobalRounds.{left_of, right_of, state}
+use Rattle.node_program.specs.Node.{to_left, to_right}
+use Rattle.node_program.specs.GlobalRounds.{left_of, right_of, state}
 use Rattle.ring_core.specs.Messages.{Heading, sent_under}
 use Rattle.ring_core.specs.SegmentPlaces.{first_place}
 use Rattle.ring_core.specs.Segments.{RingSegment, first_of, places_of, states_of}

@@ -1,8 +1,8 @@
 -- The messages of global rounds, and their senders.
 use Rattle.std.specs.Prelude.{ℕ, List}
-use Rattle.node_lang.specs.Term.{ProgramTree}
-use Rattle.node_lang.specs.Node.{to_left, to_right}
-use Rattle.node_lang.specs.GlobalRounds.{state}
+use Rattle.node_program.specs.Term.{ProgramTree}
+use Rattle.node_program.specs.Node.{to_left, to_right}
+use Rattle.node_program.specs.GlobalRounds.{state}
 use Rattle.lang_check.specs.Plans.{ProgramForIds}
 use Rattle.win_index.specs.Ring.{OrientedRing}
 use Rattle.border_exchange.specs.declared.Side.{Side}

@@ -1,6 +1,6 @@
 -- The messages that a segment needs and sends in its round.
 use Rattle.std.specs.Prelude.{◌+◌, ◌-◌}
-use Rattle.node_lang.specs.GlobalRounds.{left_of, right_of}
+use Rattle.node_program.specs.GlobalRounds.{left_of, right_of}
 use Rattle.border_exchange.specs.declared.Side.TheVariants.{Rightward, Leftward}
 use Rattle.ring_core.specs.Messages.{Heading}
 use Rattle.ring_core.specs.Segments.{RingSegment, first_of, places_of}

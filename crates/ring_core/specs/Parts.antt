@@ -2,7 +2,7 @@
 -- from these, by global rounds.
 use Rattle.std.specs.Prelude.{◌≡◌, ℕ, ◌+◌, ◌<◌, ◌≤◌, List, [], map, length, slice_get, slice_index_or, Some}
 use Rattle.std.specs.List.{range_with_len}
-use Rattle.node_lang.specs.Term.{Identifier}
+use Rattle.node_program.specs.Term.{Identifier}
 use Rattle.lang_check.specs.Plans.{ProgramForIds}
 use Rattle.win_index.specs.Ring.{OrientedRing}
 use Rattle.ring_core.specs.declared.message.Msg.{Msg}

@@ -6,7 +6,7 @@ ghost use Rattle.ring_core.specs.Segments.{RingSegment, places_of, states_of};
 use crate::message::Msg;
 use border_exchange::Side;
 use lang_check::Plan;
-use node_lang::OutOfMemory;
+use node_program::OutOfMemory;
 use round_eval::{
     round_of_row, row_at, sent_to_left, sent_to_right, start_of_row, stretches_are_rows, width_of,
 };

@@ -1,14 +1,14 @@
 // The ends of the borders between neighbouring segments.
 ghost use Rattle.std.specs.Prelude.{◌≡◌, ◌≤◌, ◌⊎◌, IfErr};
 ghost use Rattle.border_exchange.specs.SeatState.{IsNext};
-ghost use Rattle.node_lang.specs.declared.limits.TheConstants.{MAX_ROUNDS};
+ghost use Rattle.node_program.specs.declared.limits.TheConstants.{MAX_ROUNDS};
 ghost use Rattle.ring_exec.specs.declared.end.Stop.TheVariants.{Fault};
 ghost use Rattle.ring_exec.specs.declared.fault.SegmentFault.TheVariants.{Stranger};
 
 use crate::border_name::{Blanks, BorderName, LeftLedger, RightLedger};
 use crate::fault::SegmentFault;
 use border_exchange::{Border, Dated, PutFault, Seat, Side};
-use node_lang::{MAX_ROUNDS, OutOfMemory};
+use node_program::{MAX_ROUNDS, OutOfMemory};
 use std::alloc::Global;
 use std::sync::{Arc, Wait};
 

@@ -4,7 +4,7 @@ ghost use Rattle.ring_exec.specs.Faults.{run_fault_of};
 ghost use Rattle.ring_exec.specs.declared.fault.SegmentFault.TheVariants.{OutOfMemory as NoMemory};
 ghost use Rattle.ring_exec.specs.declared.fault.CourseFault.TheVariants.{Segment};
 
-use node_lang::OutOfMemory;
+use node_program::OutOfMemory;
 use std::alloc::AllocError;
 
 /// Why a run gave no channels.

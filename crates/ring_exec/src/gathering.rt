@@ -1,6 +1,6 @@
 // The channels of the segments that ended.
 ghost use Rattle.std.specs.Prelude.{◌≡◌, ℕ, ◌+◌, ◌<◌, ◌≤◌, OnOk, length, slice_index};
-ghost use Rattle.node_lang.specs.GlobalRounds.{channel_at, channels_of};
+ghost use Rattle.node_program.specs.GlobalRounds.{channel_at, channels_of};
 ghost use Rattle.ring_core.specs.Segments.{first_of, places_of};
 ghost use Rattle.ring_exec.specs.SegmentCounts.{IsSegmentCount};
 

@@ -1,2 +1,2 @@
 /// The maximum number of segments that a ring is run in.
-pub const MAX_SEGMENTS: u32 = node_lang::MAX_THREADS;
+pub const MAX_SEGMENTS: u32 = node_program::MAX_THREADS;

@@ -1,5 +1,5 @@
 ghost use Rattle.std.specs.Prelude.{◌≡◌, ◌+◌, ◌-◌, ◌<◌, ◌↔◌, ℕ, IfOk, OnOk, IfErr, IfSome, IsErrOf, length, vec_len, slice_get};
-ghost use Rattle.node_lang.specs.GlobalRounds.{channels_of};
+ghost use Rattle.node_program.specs.GlobalRounds.{channels_of};
 ghost use Rattle.ring_exec.specs.SegmentCounts.{IsSegmentCount};
 
 use crate::border_name::{Blanks, BorderName};
@@ -12,7 +12,7 @@ use crate::limits::MAX_SEGMENTS;
 use crate::relay::run_all;
 use crate::runner::Shared;
 use lang_check::Plan;
-use node_lang::OutOfMemory;
+use node_program::OutOfMemory;
 use ring_core::{Msg, Segment};
 use round_eval::Gate;
 use std::alloc::Global;

@@ -3,9 +3,9 @@ use Rattle.std.proofs.Common.{◌≡◌, ℕ, ◌+◌, ◌-◌, ◌%◌, ◌<◌
 use Rattle.std.proofs.Math.Nat.{add-mod_left, mod-eq_of_lt}
 use Rattle.std.proofs.lemmas.List.{length-map, get_or-map}
 use Rattle.std.proofs.lemmas.List.FromFn.{fill_by_all, get_or-map-range_with_len}
-use Rattle.node_lang.specs.Term.{ProgramTree}
-use Rattle.node_lang.specs.Node.{start, to_left, to_right}
-use Rattle.node_lang.specs.GlobalRounds.{left_of, right_of, state}
+use Rattle.node_program.specs.Term.{ProgramTree}
+use Rattle.node_program.specs.Node.{start, to_left, to_right}
+use Rattle.node_program.specs.GlobalRounds.{left_of, right_of, state}
 use Rattle.round_eval.specs.Rows.{row_after, rows, stretch}
 use Rattle.round_eval.specs.Laws.{StretchesAreRows}
 use Rattle.ring_trace.specs.Configuration.{RingConfiguration, KeepsConfiguration}

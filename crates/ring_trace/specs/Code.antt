@@ -1,8 +1,8 @@
 -- An injective code of configurations, which their model asks for. No contract cites it.
 use Rattle.std.specs.Prelude.{ℕ, List, refl}
 use Rattle.std.specs.Coded.{Coded, code_by, coded×, coded_ℕ, coded_list}
-use Rattle.node_lang.specs.Term.{ProgramTree}
-use Rattle.node_lang.specs.Code.{program_code}
+use Rattle.node_program.specs.Term.{ProgramTree}
+use Rattle.node_program.specs.Code.{program_code}
 use Rattle.ring_trace.specs.Configuration.{RingConfiguration}
 
 abbrev pub configuration_code : Coded RingConfiguration

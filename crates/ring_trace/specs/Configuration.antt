@@ -1,8 +1,8 @@
 -- The configuration of a ring: the registers of its places after some rounds, and the numbers that it reports of each.
 use Rattle.std.specs.Prelude.{◌≡◌, ℕ, ◌*◌, ◌<◌, ◌≤◌, List, length, slice_index, ⊤}
-use Rattle.node_lang.specs.Term.{ProgramTree}
-use Rattle.node_lang.specs.Node.{to_left, to_right, channel}
-use Rattle.node_lang.specs.GlobalRounds.{state}
+use Rattle.node_program.specs.Term.{ProgramTree}
+use Rattle.node_program.specs.Node.{to_left, to_right, channel}
+use Rattle.node_program.specs.GlobalRounds.{state}
 use Rattle.round_eval.specs.Rows.{rows, stretch}
 use Rattle.ring_trace.specs.declared.configuration.Told.{Told}
 use Rattle.ring_trace.specs.declared.configuration.Told.TheVariants.{Register, Left, Right, Channel}

@@ -3,7 +3,7 @@
 ghost use Rattle.std.specs.Prelude.{◌≡◌, IfOk, length};
 
 use lang_check::Plan;
-use node_lang::OutOfMemory;
+use node_program::OutOfMemory;
 use round_eval::{
     channel, round_of_row, row_at, sent_to_left, sent_to_right, start_of_row, stretches_are_rows,
     width_of,
@@ -54,7 +54,7 @@ impl<'a> Model for Configuration<'a> {
 
 impl<'a> Configuration<'a> {
     ghost use Rattle.std.specs.Prelude.{◌≡◌, ◌+◌, ◌<◌, ◌≤◌, IfOk, length};
-    ghost use Rattle.node_lang.specs.GlobalRounds.{state};
+    ghost use Rattle.node_program.specs.GlobalRounds.{state};
     ghost use Rattle.ring_trace.specs.Configuration.{told, CanTell};
 
     /// Returns the configuration before the first round. The ring must have the plan's number of

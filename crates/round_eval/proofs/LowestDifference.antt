@@ -5,7 +5,7 @@ use Rattle.std.specs.Int.RustNames.{bit_xor}
 use Rattle.std.proofs.lemmas.Bool.Decides.{eqb_tells}
 use Rattle.std.proofs.lemmas.Nat.{xor_lt}
 use Rattle.std.proofs.lemmas.Nat.Bits.{bit_at-trailing_zeros, bit_at_xor, bit_at-lt, bit_at-zero, same_from_bits}
-use Rattle.node_lang.specs.Operations.{least_from, lowest_differing_bit}
+use Rattle.node_program.specs.Operations.{least_from, lowest_differing_bit}
 
 -- a test that no number of the range passes
 pub least_from-none :

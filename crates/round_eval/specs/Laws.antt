@@ -1,9 +1,9 @@
 -- The laws of this crate.
 use Rattle.std.specs.Prelude.{◌≡◌, ℕ, ◌+◌, ◌-◌, ◌*◌, ◌≤◌, List, [], ◌∷◌, ◌++◌, map, take, drop, length}
 use Rattle.std.specs.List.{range_with_len}
-use Rattle.node_lang.specs.Term.{ProgramTree}
-use Rattle.node_lang.specs.Node.{to_left, to_right}
-use Rattle.node_lang.specs.GlobalRounds.{left_of, right_of, state}
+use Rattle.node_program.specs.Term.{ProgramTree}
+use Rattle.node_program.specs.Node.{to_left, to_right}
+use Rattle.node_program.specs.GlobalRounds.{left_of, right_of, state}
 use Rattle.round_eval.specs.Rows.{row_after, rows, stretch}
 
 -- in a global round, consecutive places of a ring step as a row between the messages of the two places beside it. The

@@ -1,9 +1,9 @@
 -- Rows of nodes, each to the left of the next, and rows of cells with the registers of such nodes.
 use Rattle.std.specs.Prelude.{ℕ, zero, suc, List, [], ◌∷◌, map, take, drop}
 use Rattle.std.specs.List.{range_with_len}
-use Rattle.node_lang.specs.Term.{ProgramTree}
-use Rattle.node_lang.specs.Node.{to_left, to_right, next}
-use Rattle.node_lang.specs.GlobalRounds.{state}
+use Rattle.node_program.specs.Term.{ProgramTree}
+use Rattle.node_program.specs.Node.{to_left, to_right, next}
+use Rattle.node_program.specs.GlobalRounds.{state}
 
 -- what a row sends left in round r: the message of its first node, or `right` if the row is empty
 abbrev pub sent_left : ProgramTree → ℕ → List (List ℕ) → ℕ → ℕ

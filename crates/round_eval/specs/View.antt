@@ -1,5 +1,5 @@
 -- What an expression sees in a view.
-use Rattle.node_lang.specs.Value.{Env}
+use Rattle.node_program.specs.Value.{Env}
 use Rattle.round_eval.specs.declared.value.View.{View}
 
 abbrev pub env_of : View → Env

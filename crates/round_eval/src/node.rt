@@ -1,6 +1,6 @@
 ghost use Rattle.std.specs.Prelude.{◌≡◌, ◌<◌, length};
-ghost use Rattle.node_lang.specs.Node as rounds;
-ghost use Rattle.node_lang.specs.Bounds.{register_bounds, IsWithin};
+ghost use Rattle.node_program.specs.Node as rounds;
+ghost use Rattle.node_program.specs.Bounds.{register_bounds, IsWithin};
 
 use crate::value::{View, assign, value_of};
 use lang_check::{Plan, accepted_channels_are_below};
@@ -39,7 +39,7 @@ pub fn messages(plan: &Plan, round: u32, own: &[u32]) -> (u32, u32)
 /// Writes the registers of a node after a round to `out`: `l` is the message of its left neighbour
 /// in that round, `r` that of its right neighbour. All assignments read the registers `own`. Rounds
 /// count from 0.
-#[tactic(auto, unfolding(node_lang::specs::Node::next))]
+#[tactic(auto, unfolding(node_program::specs::Node::next))]
 pub fn step(plan: &Plan, round: u32, own: &[u32], l: u32, r: u32, out: &mut [u32])
     requires round { round < length plan.now.program.steps }
     requires own_cells { length own.now ≡ length plan.now.program.start }
@@ -56,7 +56,7 @@ pub fn step(plan: &Plan, round: u32, own: &[u32], l: u32, r: u32, out: &mut [u32
 
 /// Returns the channel of a node with these registers. It is below the number of channels if each
 /// register is within its bound after the last round.
-#[tactic(auto, unfolding(node_lang::specs::Node::channel))]
+#[tactic(auto, unfolding(node_program::specs::Node::channel))]
 pub fn channel(plan: &Plan, own: &[u32]) -> u32
     requires { length own.now ≡ length plan.now.program.start }
     ensures value { result ≡ rounds.channel plan.now.program own.now }
@@ -69,7 +69,7 @@ pub fn channel(plan: &Plan, own: &[u32]) -> u32
 }
 
 /// Returns the message of a node with these registers to its left in a round. Rounds count from 0.
-#[tactic(auto, unfolding(node_lang::specs::Node::to_left))]
+#[tactic(auto, unfolding(node_program::specs::Node::to_left))]
 pub fn sent_to_left(plan: &Plan, round: u32, own: &[u32]) -> u32
     requires { round < length plan.now.program.steps }
     ensures { result ≡ rounds.to_left plan.now.program round own.now }
@@ -82,7 +82,7 @@ pub fn sent_to_left(plan: &Plan, round: u32, own: &[u32]) -> u32
 }
 
 /// Returns the message of a node with these registers to its right in a round. Rounds count from 0.
-#[tactic(auto, unfolding(node_lang::specs::Node::to_right))]
+#[tactic(auto, unfolding(node_program::specs::Node::to_right))]
 pub fn sent_to_right(plan: &Plan, round: u32, own: &[u32]) -> u32
     requires { round < length plan.now.program.steps }
     ensures { result ≡ rounds.to_right plan.now.program round own.now }

@@ -1,12 +1,12 @@
 ghost use Rattle.std.specs.Prelude.{◌≡◌, ℕ, ◌*◌, ◌<◌, ◌≤◌, length, slice_index, slice_index_or, [], All, IfOk};
-ghost use Rattle.node_lang.specs.GlobalRounds.{channels_of};
-ghost use Rattle.node_lang.specs.Node as rounds;
+ghost use Rattle.node_program.specs.GlobalRounds.{channels_of};
+ghost use Rattle.node_program.specs.Node as rounds;
 ghost use Rattle.round_eval.specs.Rows.{rows};
 
 use crate::node::{channel, sent_to_left, sent_to_right};
 use crate::row::{round_of_row, row_at, start_of_row, width_of};
 use lang_check::Plan;
-use node_lang::OutOfMemory;
+use node_program::OutOfMemory;
 use std::alloc::Global;
 use win_index::{MAX_IDS, Ring};
 

@@ -1,12 +1,12 @@
 // Rows of nodes. Their registers are one list, the cells of each node after those of the node
 // before.
 ghost use Rattle.std.specs.Prelude.{◌≡◌, ℕ, ◌+◌, ◌*◌, ◌<◌, ◌≤◌, map, length, slice_index_or, All, [], ◌∷◌, ◌++◌};
-ghost use Rattle.node_lang.specs.Node as rounds;
+ghost use Rattle.node_program.specs.Node as rounds;
 ghost use Rattle.round_eval.specs.Rows.{row_after, rows};
 
 use crate::node::{sent_to_left, sent_to_right, start_state, step};
 use lang_check::Plan;
-use node_lang::{MAX_REGISTERS, MAX_ROUNDS};
+use node_program::{MAX_REGISTERS, MAX_ROUNDS};
 use win_index::MAX_IDS;
 
 /// Returns the number of registers of a plan's program, which is the width of a row of cells.

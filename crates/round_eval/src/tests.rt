@@ -1,7 +1,7 @@
 use crate::node::{channel, messages, start_state, step};
 use crate::rounds::plain_run;
 use crate::value::{View, value_of};
-use node_lang::{BinOp, Expr, UnOp};
+use node_program::{BinOp, Expr, UnOp};
 use std::alloc::{AllocError, Global};
 use std::test::Fail;
 use test_programs::{TWO_REGISTERS, plan_of};

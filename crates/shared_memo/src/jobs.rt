@@ -4,7 +4,7 @@ ghost use Rattle.win_index.specs.declared.limits.TheConstants.{MAX_BLOCKS};
 ghost use Rattle.shared_memo.specs.PlanJobs.{AreFirstJobs};
 
 use lang_check::Plan;
-use node_lang::OutOfMemory;
+use node_program::OutOfMemory;
 use std::alloc::Global;
 use win_index::jobs_have_numbers;
 

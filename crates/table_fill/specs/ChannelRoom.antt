@@ -1,6 +1,6 @@
 -- Scratch for reading the channels of a block's windows. No public contract cites this file.
 use Rattle.std.specs.Prelude.{◌≡◌, ℕ, ◌+◌, ◌*◌, ◌<◌, ◌≤◌, List, length, slice_index}
-use Rattle.node_lang.specs.Term.{terms}
+use Rattle.node_program.specs.Term.{terms}
 use Rattle.win_index.specs.declared.limits.TheConstants.{BLOCK_WINDOWS}
 use Rattle.lang_check.specs.Plans.{ProgramForIds}
 use Rattle.round_columns.specs.States.{NodeStates}

@@ -1,8 +1,8 @@
 -- The statements of the laws of this crate, one definition each.
 use Rattle.std.specs.Prelude.{◌≡◌, ℕ, ◌<◌, List, length, Some}
-use Rattle.node_lang.specs.GlobalRounds.{channel_at}
+use Rattle.node_program.specs.GlobalRounds.{channel_at}
 use Rattle.win_index.specs.Ring.{IsRing}
-use Rattle.node_lang.specs.Term.{ProgramTree}
+use Rattle.node_program.specs.Term.{ProgramTree}
 use Rattle.win_index.specs.Arcs.{window_around}
 use Rattle.table_fill.specs.declared.fill_core.event.FillEvent.{FillEvent}
 use Rattle.table_fill.specs.FillMachine.{Machine, Runs}

@@ -1,6 +1,6 @@
 // The channels of a block of the last level, from its states in columns to entries of the table.
 ghost use Rattle.std.specs.Prelude.{◌≡◌, ℕ, ◌*◌, ◌^◌, ◌<◌, ◌≤◌, [], length, slice_index_or, All};
-ghost use Rattle.node_lang.specs.Term.{terms};
+ghost use Rattle.node_program.specs.Term.{terms};
 ghost use Rattle.lang_check.specs.Plans.{ProgramForIds};
 ghost use Rattle.win_index.specs.declared.limits.TheConstants.{BLOCK_WINDOWS};
 ghost use Rattle.round_columns.specs.StackNeed.{most_columns};

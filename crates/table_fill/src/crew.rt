@@ -1,5 +1,5 @@
 ghost use Rattle.std.specs.Prelude.{◌≡◌, ◌+◌, ◌<◌, ◌≤◌, IfOk, IfErr, IfSome, IsTrue, vec_len, vec_capacity, All};
-ghost use Rattle.node_lang.specs.declared.limits.TheConstants.{MAX_THREADS};
+ghost use Rattle.node_program.specs.declared.limits.TheConstants.{MAX_THREADS};
 ghost use Rattle.shared_memo.specs.Passes.{IsPassOf};
 ghost use Rattle.shared_memo.specs.Tickets.{numbers_of, IsFreshTicketOf};
 ghost use Rattle.table_fill.specs.Workers.{AreNumbered, IsWorkerCount};

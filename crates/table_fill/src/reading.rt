@@ -11,7 +11,7 @@ use crate::entry_columns::EntryColumns;
 use crate::shares::write_shares;
 use channel_tables::Table;
 use lang_check::Plan;
-use node_lang::OutOfMemory;
+use node_program::OutOfMemory;
 use shared_memo::{Memo, Pass};
 use std::alloc::Global;
 use std::thread::Threads;

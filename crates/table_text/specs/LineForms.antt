@@ -1,6 +1,6 @@
 -- The forms of the lines of a table text. A form includes the byte 10 that ends its line.
 use Rattle.std.specs.Prelude.{◌≡◌, ℕ, ◌^◌, ◌<◌, ◌≤◌, List, All, length}
-use Rattle.node_lang.specs.declared.limits.TheConstants.{MAX_CHANNELS}
+use Rattle.node_program.specs.declared.limits.TheConstants.{MAX_CHANNELS}
 use Rattle.win_index.specs.declared.limits.TheConstants.{MAX_ROUNDS}
 use Rattle.win_index.specs.ShapeRange.{IsShape}
 use Rattle.nbhd_check.specs.declared.separation.Separation.{Separation}

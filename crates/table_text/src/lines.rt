@@ -10,7 +10,7 @@ ghost use Rattle.table_text.specs.LinePrefixes.{IsLine};
 use crate::numbers::{number_before, numbers_in};
 use crate::version::Version;
 use nbhd_check::Separation;
-use node_lang::MAX_CHANNELS;
+use node_program::MAX_CHANNELS;
 use win_index::{MAX_ROUNDS, MAX_WINDOW_LEN, Shape};
 
 // The first three numbers of the second line.

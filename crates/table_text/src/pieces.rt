@@ -1,6 +1,6 @@
 // The pieces from which the lines of windows are made.
 ghost use Rattle.std.specs.Prelude.{◌≡◌, ◌<◌, ◌≤◌, [], All, length, IfOk};
-ghost use Rattle.node_lang.specs.declared.limits.TheConstants.{MAX_CHANNELS};
+ghost use Rattle.node_program.specs.declared.limits.TheConstants.{MAX_CHANNELS};
 ghost use Rattle.win_index.specs.declared.limits.TheConstants.{MAX_IDS};
 ghost use Rattle.table_text.specs.Pieces.{piece_text, prefix_text, id_text, channel_text, AreTexts, ArePieces};
 ghost use Rattle.table_text.specs.TableText.{ids_then};

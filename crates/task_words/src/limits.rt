@@ -2,7 +2,7 @@
 
 /// The maximum number of workers of a task, and the maximum number of segments that the words can
 /// request.
-pub const MAX_COUNT: u32 = node_lang::MAX_THREADS;
+pub const MAX_COUNT: u32 = node_program::MAX_THREADS;
 
 /// The largest difference of channels that the words can request.
-pub const MAX_DISTANCE: u32 = node_lang::MAX_CHANNELS;
+pub const MAX_DISTANCE: u32 = node_program::MAX_CHANNELS;

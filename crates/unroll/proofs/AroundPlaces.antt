@@ -1,9 +1,9 @@
 -- Locality: the line of the window at a place of a ring holds the states of the places around it.
 use Rattle.std.proofs.Common.{◌≡◌, ℕ, zero, suc, ◌+◌, ◌-◌, ◌*◌, ◌%◌, ◌<◌, List, length, sym, ap, ◌∙◌, arith}
 use Rattle.std.proofs.Math.Nat.{mod-add-mod, add-mod_right, mod-eq_of_lt}
-use Rattle.node_lang.specs.Term.{ProgramTree}
-use Rattle.node_lang.specs.Node.{start}
-use Rattle.node_lang.specs.GlobalRounds.{left_of, right_of, state}
+use Rattle.node_program.specs.Term.{ProgramTree}
+use Rattle.node_program.specs.Node.{start}
+use Rattle.node_program.specs.GlobalRounds.{left_of, right_of, state}
 use Rattle.win_index.specs.Arcs.{arc}
 use Rattle.win_index.specs.Laws.{LengthOfArcs, ItemsOfArcs}
 use Rattle.unroll.specs.Line.{between, item, line, middle_state}

@@ -5,7 +5,7 @@ use Rattle.win_index.specs.Runs.{HasPlaces}
 use Rattle.win_index.specs.Windows.{number_of, IsWindow}
 use Rattle.win_index.specs.declared.series.RunPlaces.{RunPlaces}
 use Rattle.lang_check.specs.Plans.{ProgramForIds}
-use Rattle.node_lang.specs.Node.{to_right}
+use Rattle.node_program.specs.Node.{to_right}
 use Rattle.unroll.specs.Below.{part}
 use Rattle.unroll.specs.Entries.{Entries, Grows}
 use Rattle.unroll.specs.Line.{middle_state}

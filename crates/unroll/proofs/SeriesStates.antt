@@ -9,7 +9,7 @@ use Rattle.win_index.specs.Runs.{IsSeries, IsAtPlace, place_in_run}
 use Rattle.win_index.specs.Successor.{IsNext}
 use Rattle.win_index.specs.Windows.{windows, IsWindow}
 use Rattle.lang_check.specs.Plans.{ProgramForIds}
-use Rattle.node_lang.specs.Node.{to_left, to_right}
+use Rattle.node_program.specs.Node.{to_left, to_right}
 use Rattle.unroll.specs.Below.{part}
 use Rattle.unroll.specs.BlockStates.{window_numbered, block_state}
 use Rattle.unroll.specs.Entries.{Entries, Grows}

@@ -1,7 +1,7 @@
 -- Bounds along a shrinking line.
 use Rattle.std.proofs.Common.{ℕ, zero, suc, ◌+◌, ◌*◌, ◌<◌, List, All, length, get_or, subst, sym, arith}
-use Rattle.node_lang.specs.Term.{ProgramTree}
-use Rattle.node_lang.specs.Bounds.{register_bounds, IsWithin}
+use Rattle.node_program.specs.Term.{ProgramTree}
+use Rattle.node_program.specs.Bounds.{register_bounds, IsWithin}
 use Rattle.lang_check.specs.Laws.{StartIsWithin, NextIsWithin}
 use Rattle.unroll.specs.Line.{item, line, middle_state}
 use Rattle.unroll.specs.Laws.{WindowsAreWithin}

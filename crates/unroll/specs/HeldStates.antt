@@ -3,7 +3,7 @@ use Rattle.std.specs.Prelude.{◌≡◌, ℕ, ◌*◌, ◌<◌, ◌≤◌, List,
 use Rattle.std.specs.List.{range_with_len}
 use Rattle.win_index.specs.Blocks.{block_count}
 use Rattle.lang_check.specs.Plans.{ProgramForIds}
-use Rattle.node_lang.specs.Node.{to_left, to_right}
+use Rattle.node_program.specs.Node.{to_left, to_right}
 use Rattle.round_eval.specs.Rows.{rows}
 use Rattle.unroll.specs.BlockStates.{block_len, block_state}
 

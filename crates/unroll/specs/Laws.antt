@@ -1,10 +1,10 @@
 -- The laws of this crate.
 use Rattle.std.specs.Prelude.{◌≡◌, ℕ, ◌+◌, ◌*◌, ◌<◌, ◌≤◌, List, [], ◌∷◌, ◌++◌, length}
-use Rattle.node_lang.specs.Term.{ProgramTree}
-use Rattle.node_lang.specs.Node.{to_left, to_right}
-use Rattle.node_lang.specs.GlobalRounds.{state}
+use Rattle.node_program.specs.Term.{ProgramTree}
+use Rattle.node_program.specs.Node.{to_left, to_right}
+use Rattle.node_program.specs.GlobalRounds.{state}
 use Rattle.win_index.specs.Ring.{IsRing}
-use Rattle.node_lang.specs.Bounds.{register_bounds, IsWithin}
+use Rattle.node_program.specs.Bounds.{register_bounds, IsWithin}
 use Rattle.win_index.specs.Arcs.{window_around}
 use Rattle.win_index.specs.Windows.{IsWindow}
 use Rattle.round_eval.specs.Rows.{row_after}

@@ -2,8 +2,8 @@
 -- (Linial 1992).
 use Rattle.std.specs.Prelude.{ℕ, zero, suc, ◌+◌, ◌-◌, List, [], map, length, slice_index_or}
 use Rattle.std.specs.List.{range_with_len}
-use Rattle.node_lang.specs.Term.{ProgramTree}
-use Rattle.node_lang.specs.Node.{start, to_left, to_right, next}
+use Rattle.node_program.specs.Term.{ProgramTree}
+use Rattle.node_program.specs.Node.{start, to_left, to_right, next}
 
 -- the registers of a node after round k, from its own before it and those of its left and right neighbour
 abbrev pub between : ProgramTree → ℕ → List ℕ → List ℕ → List ℕ → List ℕ

@@ -1,7 +1,7 @@
 -- What the functions that make a block say of the source, for one window at a time.
 use Rattle.std.specs.Prelude.{◌≡◌, ℕ, ◌+◌, ◌*◌, ◌/◌, ◌<◌, List, take, drop, length, slice_get, Some, None, IsSome}
 use Rattle.lang_check.specs.Plans.{ProgramForIds}
-use Rattle.node_lang.specs.Node.{to_right}
+use Rattle.node_program.specs.Node.{to_right}
 use Rattle.win_index.specs.Runs.{IsRunStart, HasPlaces, IsEndOfSame}
 use Rattle.win_index.specs.Windows.{windows, number_of}
 use Rattle.unroll.specs.Line.{middle_state}

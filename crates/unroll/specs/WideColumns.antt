@@ -1,7 +1,7 @@
 -- Columns for the windows of a block. No public contract cites this file.
 use Rattle.std.specs.Prelude.{◌≡◌, ℕ, ◌+◌, ◌*◌, ◌<◌, ◌≤◌, List, [], length, slice_index, slice_index_or}
-use Rattle.node_lang.specs.Node.{to_left, to_right}
-use Rattle.node_lang.specs.Term.{terms}
+use Rattle.node_program.specs.Node.{to_left, to_right}
+use Rattle.node_program.specs.Term.{terms}
 use Rattle.win_index.specs.declared.limits.TheConstants.{BLOCK_WINDOWS}
 use Rattle.lang_check.specs.Plans.{ProgramForIds}
 use Rattle.round_columns.specs.States.{NodeStates}

@@ -36,7 +36,7 @@ impl<'a> Model for Block<'a> {
 
 impl<'a> Block<'a> {
     ghost use Rattle.std.specs.Prelude.{◌≡◌, ℕ, ◌*◌, ◌<◌, ◌≤◌, [], length, slice_index, slice_index_or};
-    ghost use Rattle.node_lang.specs.Node.{to_left, to_right};
+    ghost use Rattle.node_program.specs.Node.{to_left, to_right};
     ghost use Rattle.round_eval.specs.Rows.{rows};
     ghost use Rattle.unroll.specs.BlockStates.{block_len, block_state};
     ghost use Rattle.win_index.specs.Blocks.{block_count};

@@ -8,7 +8,7 @@ ghost use Rattle.unroll.specs.HeldStates.{first_states, HoldsSent};
 ghost use Rattle.unroll.specs.MakeFaults.{IsMakeFault};
 ghost use Rattle.unroll.specs.Parts.{KnowsBelow, IsRun, EndsAt};
 ghost use Rattle.unroll.specs.WideColumns.{IsWide, AreWide, HoldParts, IsReady};
-ghost use Rattle.node_lang.specs.Term.{terms};
+ghost use Rattle.node_program.specs.Term.{terms};
 ghost use Rattle.round_columns.specs.StackNeed.{most_columns};
 ghost use Rattle.win_index.specs.Blocks.{block_count};
 ghost use Rattle.win_index.specs.Windows.{windows, IsWindow};

@@ -4,7 +4,7 @@ use crate::gathering::{len_of, scatter, send_states, write_states};
 use crate::part_columns::{PartColumns, wide_columns, zeros};
 use crate::source::Source;
 use lang_check::Plan;
-use node_lang::OutOfMemory;
+use node_program::OutOfMemory;
 use round_columns::{Code, Columns, Work};
 use round_eval::width_of;
 use std::alloc::Global;

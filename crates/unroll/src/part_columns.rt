@@ -3,7 +3,7 @@ ghost use Rattle.std.specs.Prelude.{◌≡◌, ◌+◌, ◌≤◌, [], ℕ, List
 ghost use Rattle.unroll.specs.WideColumns.{IsWide, AreWide, AreWritten};
 
 use lang_check::Plan;
-use node_lang::OutOfMemory;
+use node_program::OutOfMemory;
 use round_columns::Columns;
 use round_eval::width_of;
 use std::alloc::Global;

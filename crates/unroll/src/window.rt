@@ -5,7 +5,7 @@ ghost use Rattle.win_index.specs.Windows.{IsWindow};
 
 use crate::laws::lines_are_rows;
 use lang_check::Plan;
-use node_lang::MAX_REGISTERS;
+use node_program::MAX_REGISTERS;
 use round_eval::{round_of_row, row_at, sent_to_left, sent_to_right, start_of_row, width_of};
 use win_index::MAX_WINDOW_LEN;
 

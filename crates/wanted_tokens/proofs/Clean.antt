@@ -8,7 +8,7 @@ use Rattle.node_lang.specs.declared.limits.TheConstants.{LONGEST_TEXT}
 use Rattle.node_lang.specs.declared.fault.FaultKind.{FaultKind}
 use Rattle.node_lang.specs.declared.fault.FaultKind.TheVariants as kind
 use Rattle.node_lang.specs.declared.token.Token.{Token}
-use Rattle.node_lang.specs.Term.{ProgramTree}
+use Rattle.node_program.specs.Term.{ProgramTree}
 use Rattle.node_lang.specs.Lexemes.{Lexeme, lexemes_of, tokens_in, tokens_of}
 use Rattle.node_lang.specs.Reading.{Read, Got, Fault, expression, program}
 use Rattle.node_lang.specs.Faults.{FaultsAt, too_long, not_ascii, in_lexemes}

@@ -5,12 +5,13 @@ use Rattle.std.proofs.lemmas.Bool.{cases_order, cond_both, eq-eqb}
 use Rattle.std.proofs.lemmas.List.{map-append, length-replicate}
 use Rattle.std.proofs.lemmas.List.Sums.{AllPass-from_list_all}
 use Rattle.std.proofs.lemmas.List.Elements.{All-append, All-cons, All-nil}
-use Rattle.node_lang.specs.declared.limits.TheConstants.{LONGEST_TEXT, MAX_REGISTERS}
+use Rattle.node_program.specs.declared.limits.TheConstants.{MAX_REGISTERS}
+use Rattle.node_lang.specs.declared.limits.TheConstants.{LONGEST_TEXT}
 use Rattle.node_lang.specs.declared.fault.FaultKind.{FaultKind}
 use Rattle.node_lang.specs.declared.fault.FaultKind.TheVariants as kind
 use Rattle.node_lang.specs.declared.token.Token.{Token}
 use Rattle.node_lang.specs.declared.token.Token.TheVariants as token
-use Rattle.node_lang.specs.Term.{Term, Literal, Identifier, LeftMessage, RightMessage, RegisterValue, Unary, Binary, Conditional, Step, ProgramTree}
+use Rattle.node_program.specs.Term.{Term, Literal, Identifier, LeftMessage, RightMessage, RegisterValue, Unary, Binary, Conditional, Step, ProgramTree}
 use Rattle.node_lang.specs.Lexemes.{lexemes_of, tokens_of}
 use Rattle.node_lang.specs.Grammar.{body, Reads}
 use Rattle.node_lang.specs.Reading.{Read, Got, Fault, same_token, program}

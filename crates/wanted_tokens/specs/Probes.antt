@@ -1,6 +1,7 @@
 -- The words with which texts are probed. No public contract cites this file.
 use Rattle.std.specs.Prelude.{◌≡◌, ℕ, ◌+◌, ◌<◌, ◌≤◌, List, [], ◌∷◌, ◌++◌, length, slice_index_or, All}
-use Rattle.node_lang.specs.declared.limits.TheConstants.{LONGEST_TEXT, MAX_REGISTERS}
+use Rattle.node_program.specs.declared.limits.TheConstants.{MAX_REGISTERS}
+use Rattle.node_lang.specs.declared.limits.TheConstants.{LONGEST_TEXT}
 use Rattle.node_lang.specs.declared.fault.FaultKind.TheVariants as kind
 use Rattle.node_lang.specs.declared.token.Token.{Token}
 use Rattle.node_lang.specs.declared.token.Token.TheVariants as token

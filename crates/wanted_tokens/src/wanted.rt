@@ -1,6 +1,6 @@
 //! What can follow at a place of a program text.
 
-ghost use Rattle.node_lang.specs.declared.limits.TheConstants.{MAX_REGISTERS};
+ghost use Rattle.node_program.specs.declared.limits.TheConstants.{MAX_REGISTERS};
 ghost use Rattle.node_lang.specs.declared.token.Token.TheVariants as token;
 ghost use Rattle.std.specs.Prelude.{◌<◌};
 ghost use Rattle.wanted_tokens.specs.Probes.{probe_of, IsProbe, IsWordOf};

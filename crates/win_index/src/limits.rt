@@ -1,5 +1,5 @@
 /// The maximum number of rounds of a shape.
-pub const MAX_ROUNDS: u32 = node_lang::MAX_ROUNDS;
+pub const MAX_ROUNDS: u32 = node_program::MAX_ROUNDS;
 
 /// The maximum number of identifiers of a shape, and so of places of a ring.
 pub const MAX_IDS: u32 = 1024;

@@ -7,7 +7,7 @@ ghost use Rattle.ring_core.specs.Parts.{Progress, MaySendRight, MaySendLeft, ope
 use crate::message::Msg;
 use crate::segment::Segment;
 use lang_check::Plan;
-use node_lang::OutOfMemory;
+use node_program::OutOfMemory;
 use std::alloc::Global;
 use std::marker::Model;
 use win_index::Ring;

@@ -5,7 +5,7 @@ ghost use Rattle.ring_core.specs.MachinePromises.{HasGlobalStates, HasGlobalMess
 use crate::machine::event::RingEvent;
 use crate::machine::world::World;
 use lang_check::Plan;
-use node_lang::OutOfMemory;
+use node_program::OutOfMemory;
 use std::alloc::Global;
 use win_index::Ring;
 

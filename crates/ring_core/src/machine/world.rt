@@ -11,7 +11,7 @@ use crate::machine::part::Part;
 use crate::message::Msg;
 use border_exchange::Side;
 use lang_check::Plan;
-use node_lang::OutOfMemory;
+use node_program::OutOfMemory;
 use round_eval::stretches_are_rows;
 use std::alloc::Global;
 use std::marker::Model;

@@ -8,7 +8,7 @@ use crate::fill_core::event::FillEvent;
 use crate::fill_core::known::Known;
 use crate::fill_core::state::World;
 use lang_check::Plan;
-use node_lang::OutOfMemory;
+use node_program::OutOfMemory;
 use std::alloc::Global;
 use unroll::{Block, MakeFault, make_block};
 use win_index::jobs_have_numbers;

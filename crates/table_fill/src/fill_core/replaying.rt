@@ -6,7 +6,7 @@ ghost use Rattle.table_fill.specs.FillStates.{machine_of, worker_of};
 use crate::fill_core::event::FillEvent;
 use crate::fill_core::state::{Hand, World};
 use lang_check::Plan;
-use node_lang::OutOfMemory;
+use node_program::OutOfMemory;
 use std::alloc::Global;
 use unroll::Block;
 use win_index::jobs_have_numbers;

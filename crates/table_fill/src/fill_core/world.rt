@@ -2,7 +2,7 @@ use crate::fill_core::event::FillEvent;
 use crate::fill_core::replaying::run;
 use crate::fill_core::state::World;
 use lang_check::Plan;
-use node_lang::OutOfMemory;
+use node_program::OutOfMemory;
 use std::alloc::Global;
 use std::marker::Model;
 use unroll::Block;

@@ -2,7 +2,7 @@ use Rattle.std.proofs.Common.{ℕ, List, ◌∷◌, [], ◌++◌, map, sym, ◌�
 use Rattle.std.specs.Prelude.{slice_index}
 use Rattle.std.specs.List.{range_with_len}
 use Rattle.std.proofs.lemmas.List.FromFn.{map-range_with_len_more}
-use Rattle.node_lang.specs.Bounds.{register_bounds}
+use Rattle.node_program.specs.Bounds.{register_bounds}
 use Rattle.fault_notes.proofs.bounds.bounds_in_time.Goals as goal
 
 pub loop-rounds-preserved : goal.loop-rounds-preserved

@@ -1,7 +1,7 @@
 use Rattle.std.proofs.Common.{◌≡◌, map}
 use Rattle.std.specs.Prelude.{slice_index}
 use Rattle.std.specs.List.{range_with_len}
-use Rattle.node_lang.specs.Bounds.{register_bounds}
+use Rattle.node_program.specs.Bounds.{register_bounds}
 use Rattle.fault_notes.proofs.bounds.bounds_in_time.Given as goal
 
 abbrev pub invariant-loop-rounds : goal.invariant-loop-rounds

@@ -1,7 +1,7 @@
 use Rattle.std.proofs.Common.{◌≡◌, ◌∷◌, [], ◌++◌, sym}
 use Rattle.std.specs.List.{list_any}
 use Rattle.std.proofs.lemmas.List.Folds.{list_any-append}
-use Rattle.node_lang.specs.Term.{term_of}
+use Rattle.node_program.specs.Term.{term_of}
 use Rattle.lang_check.specs.Occurrences.{reads_message, sent_terms}
 use Rattle.lang_check.proofs.OccurrenceLemmas.{list_any_mapped, list_any-outside_assignments}
 use Rattle.lang_check.proofs.acceptance.message_is_misplaced.Goals as goal

@@ -1,5 +1,5 @@
 use Rattle.std.specs.Prelude.{nat_le, length}
-use Rattle.node_lang.specs.Term.{step_terms}
+use Rattle.node_program.specs.Term.{step_terms}
 use Rattle.lang_check.proofs.OccurrenceLemmas.{found-program}
 use Rattle.lang_check.proofs.acceptance.missing_register.Goals as goal
 

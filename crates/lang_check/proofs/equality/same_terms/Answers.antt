@@ -1,6 +1,6 @@
 use Rattle.std.proofs.Common.{arith}
 use Rattle.std.proofs.lemmas.Bool.{false≢true}
-use Rattle.node_lang.specs.Term.{term_of}
+use Rattle.node_program.specs.Term.{term_of}
 use Rattle.lang_check.proofs.Images.{same_at}
 use Rattle.lang_check.proofs.equality.same_terms.Goals as goal
 

@@ -1,5 +1,5 @@
 use Rattle.std.proofs.Common.{◌≡◌, map, take}
-use Rattle.node_lang.specs.Term.{term_of}
+use Rattle.node_program.specs.Term.{term_of}
 use Rattle.lang_check.proofs.equality.same_terms.Given as goal
 
 abbrev pub invariant-loop-i : goal.invariant-loop-i

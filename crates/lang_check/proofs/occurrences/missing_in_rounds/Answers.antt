@@ -1,5 +1,5 @@
 use Rattle.std.specs.Prelude.{nat_le}
-use Rattle.node_lang.specs.Term.{step_of}
+use Rattle.node_program.specs.Term.{step_of}
 use Rattle.lang_check.proofs.OccurrenceLemmas.{found-round, found_more_rounds}
 use Rattle.lang_check.proofs.occurrences.missing_in_rounds.Goals as goal
 

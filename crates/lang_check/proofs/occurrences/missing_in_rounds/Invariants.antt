@@ -1,6 +1,6 @@
 use Rattle.std.proofs.Common.{◌≡◌, map, take}
 use Rattle.std.specs.Prelude.{nat_le, find, flat_map}
-use Rattle.node_lang.specs.Term.{step_of, step_terms}
+use Rattle.node_program.specs.Term.{step_of, step_terms}
 use Rattle.lang_check.specs.Occurrences.{registers_read}
 use Rattle.lang_check.proofs.occurrences.missing_in_rounds.Given as goal
 

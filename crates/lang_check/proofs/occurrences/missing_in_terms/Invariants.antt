@@ -1,6 +1,6 @@
 use Rattle.std.proofs.Common.{◌≡◌, map, take}
 use Rattle.std.specs.Prelude.{nat_le, find, flat_map}
-use Rattle.node_lang.specs.Term.{term_of}
+use Rattle.node_program.specs.Term.{term_of}
 use Rattle.lang_check.specs.Occurrences.{registers_read}
 use Rattle.lang_check.proofs.occurrences.missing_in_terms.Given as goal
 

@@ -1,5 +1,5 @@
 use Rattle.std.proofs.Common.{◌≡◌}
-use Rattle.node_lang.specs.Bounds.{register_bounds}
+use Rattle.node_program.specs.Bounds.{register_bounds}
 use Rattle.lang_check.proofs.register_bounds.bounds_after.Given as goal
 
 abbrev pub invariant-loop-round : goal.invariant-loop-round

@@ -1,5 +1,5 @@
 use Rattle.std.proofs.Common.{ℕ, ◌<◌, ◌≤◌, get_or}
-use Rattle.node_lang.specs.declared.limits.TheConstants.{MAX_CHANNELS}
+use Rattle.node_program.specs.declared.limits.TheConstants.{MAX_CHANNELS}
 use Rattle.nbhd_check.proofs.counts.channel_limit.Given as goal
 
 -- the channels so far are below the limit

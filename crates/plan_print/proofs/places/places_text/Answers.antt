@@ -1,6 +1,6 @@
 use Rattle.std.proofs.Common.{ℕ, List, ◌++◌, [], slice_index, sym, ◌∙◌}
 use Rattle.std.proofs.lemmas.Option.{get_or_from_slice_get}
-use Rattle.node_lang.specs.GlobalRounds.{channel_at}
+use Rattle.node_program.specs.GlobalRounds.{channel_at}
 use Rattle.plan_print.specs.Report.{place_line}
 use Rattle.plan_print.proofs.TraceLines.{lines_more}
 use Rattle.plan_print.proofs.places.places_text.Goals as goal

@@ -1,6 +1,6 @@
 use Rattle.std.proofs.Common.{◌≡◌, slice_index, string_bytes}
 use Rattle.std.specs.List.{flat_map, range_with_len}
-use Rattle.node_lang.specs.GlobalRounds.{channel_at}
+use Rattle.node_program.specs.GlobalRounds.{channel_at}
 use Rattle.plan_print.specs.Report.{place_line}
 use Rattle.plan_print.proofs.places.places_text.Given as goal
 

@@ -1,6 +1,6 @@
 use Rattle.std.proofs.Common.{ℕ, List, ◌++◌, slice_index, codes, string_bytes, ap, ◌∙◌}
 use Rattle.std.specs.Fmt.{decimal}
-use Rattle.node_lang.specs.GlobalRounds.{state}
+use Rattle.node_program.specs.GlobalRounds.{state}
 use Rattle.plan_print.specs.Trace.{of_places, row_line, after_rounds}
 use Rattle.plan_print.proofs.TraceLines.{lines_more, three_written}
 use Rattle.plan_print.proofs.trace.write_registers.Goals as goal

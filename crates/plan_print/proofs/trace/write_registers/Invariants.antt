@@ -1,7 +1,7 @@
 use Rattle.std.proofs.Common.{◌≡◌, ◌++◌, slice_index, codes, string_bytes}
 use Rattle.std.specs.List.{flat_map, range_with_len}
 use Rattle.std.specs.Fmt.{decimal}
-use Rattle.node_lang.specs.GlobalRounds.{state}
+use Rattle.node_program.specs.GlobalRounds.{state}
 use Rattle.plan_print.specs.Trace.{of_places, row_line, after_rounds}
 use Rattle.plan_print.proofs.trace.write_registers.Given as goal
 

@@ -2,8 +2,8 @@ use Rattle.std.proofs.Common.{◌≡◌, ◌+◌, ◌-◌, ◌<◌, [], length, 
 use Rattle.std.proofs.lemmas.List.Edits.{fill_by_more}
 use Rattle.std.proofs.lemmas.List.FromFn.{get_or-map-range_with_len}
 use Rattle.lang_check.specs.Plans.{ProgramForIds}
-use Rattle.node_lang.specs.Node.{channel}
-use Rattle.node_lang.specs.GlobalRounds.{state, channel_at}
+use Rattle.node_program.specs.Node.{channel}
+use Rattle.node_program.specs.GlobalRounds.{state, channel_at}
 use Rattle.round_eval.specs.Rows.{rows}
 use Rattle.ring_core.specs.Segments.{first_of, places_of}
 use Rattle.ring_exec.proofs.gathering.write_part.Goals as goal

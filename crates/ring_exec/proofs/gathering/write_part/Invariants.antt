@@ -1,5 +1,5 @@
 use Rattle.std.proofs.Common.{◌≡◌, ℕ, ◌<◌, get_or}
-use Rattle.node_lang.specs.GlobalRounds.{channel_at}
+use Rattle.node_program.specs.GlobalRounds.{channel_at}
 use Rattle.ring_exec.proofs.gathering.write_part.Given as goal
 
 -- the channels of the places so far are written

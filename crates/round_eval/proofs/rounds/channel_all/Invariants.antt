@@ -1,5 +1,5 @@
 use Rattle.std.proofs.Common.{◌≡◌, ℕ, ◌<◌, [], length, get_or}
-use Rattle.node_lang.specs.Node.{channel}
+use Rattle.node_program.specs.Node.{channel}
 use Rattle.round_eval.specs.Rows.{rows}
 use Rattle.round_eval.proofs.rounds.channel_all.Given as goal
 

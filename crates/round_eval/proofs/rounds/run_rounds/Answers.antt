@@ -1,5 +1,5 @@
 use Rattle.std.proofs.Common.{◌≡◌, ℕ, length, sym, ◌∙◌, ap, arith}
-use Rattle.node_lang.specs.Node.{to_left, to_right}
+use Rattle.node_program.specs.Node.{to_left, to_right}
 use Rattle.round_eval.specs.Rows.{rows}
 use Rattle.round_eval.proofs.GlobalRounds.{started, round_more, channels_from_rows}
 use Rattle.round_eval.proofs.rounds.run_rounds.Goals as goal

@@ -1,6 +1,6 @@
 use Rattle.std.proofs.Common.{ℕ, ◌+◌, ◌∷◌, [], ◌++◌, map, take, get_or, refl, sym, ◌∙◌, ap, rules}
 use Rattle.std.proofs.lemmas.List.{take_more, map-append}
-use Rattle.node_lang.specs.Node as rounds
+use Rattle.node_program.specs.Node as rounds
 use Rattle.round_eval.proofs.RowLemmas.{rows_written}
 use Rattle.round_eval.proofs.row.start_of_row.Goals as goal
 

@@ -1,5 +1,5 @@
 use Rattle.std.proofs.Common.{◌≡◌, map, take}
-use Rattle.node_lang.specs.Node as rounds
+use Rattle.node_program.specs.Node as rounds
 use Rattle.round_eval.specs.Rows.{rows}
 use Rattle.round_eval.proofs.row.start_of_row.Given as goal
 

@@ -1,7 +1,7 @@
 use Rattle.std.proofs.Common.{◌≡◌, ◌+◌, ◌*◌, ◌<◌, [], length, get_or, subst, sym, ap, ◌∙◌, arith}
 use Rattle.std.proofs.lemmas.List.{get_or-map}
-use Rattle.node_lang.specs.Node.{channel}
-use Rattle.node_lang.specs.Bounds.{register_bounds, IsWithin}
+use Rattle.node_program.specs.Node.{channel}
+use Rattle.node_program.specs.Bounds.{register_bounds, IsWithin}
 use Rattle.unroll.specs.BlockStates.{window_numbered}
 use Rattle.unroll.specs.Line.{middle_state}
 use Rattle.win_index.specs.Windows.{windows}

@@ -1,6 +1,6 @@
 use Rattle.std.proofs.Common.{[], ◌∷◌, get_or, refl, sym, ◌∙◌, ap, arith}
 use Rattle.std.proofs.lemmas.List.{get_or-map}
-use Rattle.node_lang.specs.Node.{start}
+use Rattle.node_program.specs.Node.{start}
 use Rattle.unroll.specs.BlockStates.{block_len, block_state}
 use Rattle.unroll.specs.Line.{middle_state}
 use Rattle.unroll.proofs.ColumnStates.{take_states}

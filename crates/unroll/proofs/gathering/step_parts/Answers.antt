@@ -1,5 +1,5 @@
 use Rattle.std.proofs.Common.{◌+◌, ◌*◌, [], get_or, refl, ◌∙◌, arith}
-use Rattle.node_lang.specs.Node.{next}
+use Rattle.node_program.specs.Node.{next}
 use Rattle.unroll.specs.BlockStates.{window_numbered, block_state}
 use Rattle.unroll.specs.WideColumns.{part_state}
 use Rattle.unroll.proofs.ColumnStates.{take_states}

@@ -1,7 +1,7 @@
 use Rattle.std.proofs.Common.{◌≡◌, ◌<◌, ◌+◌, ◌-◌, ◌%◌, length, vec_len, refl, subst, ◌∙◌, ap, sym, arith, rules}
 use Rattle.std.proofs.lemmas.List.{with_items_is}
 use Rattle.border_exchange.specs.declared.Side.TheVariants.{Rightward, Leftward}
-use Rattle.node_lang.specs.GlobalRounds.{left_of, right_of}
+use Rattle.node_program.specs.GlobalRounds.{left_of, right_of}
 use Rattle.ring_core.specs.Messages.{sent_under}
 use Rattle.ring_core.specs.Segments.{RingSegment}
 use Rattle.ring_core.proofs.Stretches.{advance_keeps}

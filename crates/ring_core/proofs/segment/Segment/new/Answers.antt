@@ -1,7 +1,7 @@
 use Rattle.std.proofs.Common.{◌≡◌, ◌+◌, ◌-◌, ◌*◌, ◌/◌, ◌≤◌, ◌<◌, length, map, refl, ◌∙◌, arith, rules}
 use Rattle.std.specs.List.{slice_range}
 use Rattle.std.proofs.lemmas.List.{with_items_is, length-take, length-drop}
-use Rattle.node_lang.specs.Node.{start}
+use Rattle.node_program.specs.Node.{start}
 use Rattle.round_eval.specs.Rows.{rows}
 use Rattle.ring_core.specs.SegmentPlaces.{first_place}
 use Rattle.ring_core.proofs.Places.{first_place-grows, first_place-inside}

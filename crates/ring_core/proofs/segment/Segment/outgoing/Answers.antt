@@ -1,5 +1,5 @@
 use Rattle.std.proofs.Common.{◌-◌, ◌<◌, length, ◌∙◌, ap, arith}
-use Rattle.node_lang.specs.Node.{to_right}
+use Rattle.node_program.specs.Node.{to_right}
 use Rattle.round_eval.specs.Rows.{rows}
 use Rattle.ring_core.proofs.Stretches.{row_of_stretch}
 use Rattle.ring_core.proofs.segment.Segment.outgoing.Goals as goal

@@ -1,6 +1,6 @@
 use Rattle.std.proofs.Common.{◌≡◌, ◌<◌, ◌-◌, length, vec_len, subst, sym, ◌∙◌, ap, arith, rules}
 use Rattle.std.proofs.lemmas.List.{with_items_is}
-use Rattle.node_lang.specs.Node.{to_left, to_right}
+use Rattle.node_program.specs.Node.{to_left, to_right}
 use Rattle.ring_trace.specs.Configuration.{RingConfiguration}
 use Rattle.ring_trace.proofs.Rounds.{row_of_place, advance_keeps}
 use Rattle.ring_trace.proofs.configuration.Configuration.advance.Goals as goal

@@ -1,5 +1,5 @@
 use Rattle.std.proofs.Common.{◌≡◌, ◌<◌, length, subst, sym}
-use Rattle.node_lang.specs.GlobalRounds.{state}
+use Rattle.node_program.specs.GlobalRounds.{state}
 use Rattle.ring_trace.specs.Configuration.{RingConfiguration}
 use Rattle.ring_trace.proofs.Rounds.{row_of_place}
 use Rattle.ring_trace.proofs.configuration.Configuration.held_by.Goals as goal

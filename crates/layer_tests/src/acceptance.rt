@@ -1,7 +1,6 @@
-use crate::acceptance::{CheckFault, accept};
-use crate::bounds::bound_of;
-use crate::plan::Plan;
-use crate::register_bounds::limits;
+//! Bounds of expressions, acceptance and plans.
+
+use lang_check::{CheckFault, Plan, accept, bounds_after};
 use node_lang::{Program, parse};
 use std::alloc::Global;
 use std::test::Fail;
@@ -49,6 +48,16 @@ const BOUNDS: [(&str, u32); 36] = [
     ("if(9, 3, id)", 5),
 ];
 
+// A program of one round whose first register becomes this expression, with the messages and the
+// registers of `BOUNDS`.
+fn assigns(alloc: Global, expression: &str) -> Result<Program, Fail> {
+    let head =
+        "rounds 1 channels 2 registers 2 start r0 = 1 r1 = 9 round send left 20 send right 10";
+    let text = format!(in alloc; "{head} r0 = {expression} r1 = 0 finish 0")?;
+    let program = parse(alloc, text.as_bytes()).ok().ok_or("a program")?;
+    Ok(program)
+}
+
 // A program without rounds, with two channels and one register, that finishes with this expression.
 fn ends_in(alloc: Global, finish: &str) -> Result<Program, Fail> {
     let text = format!(in alloc; "rounds 0 channels 2 registers 1 start r0 = id finish {finish}")?;
@@ -74,10 +83,12 @@ fn cv1_plan(alloc: Global, channels: u32, ids: u32) -> Result<Plan, Fail> {
 
 #[test]
 fn bounds_of_expressions(rt: HostRuntime) -> Result<(), Fail> {
-    let limits = limits(6, 10, 20, &[1, 9]);
     for (text, want) in BOUNDS {
-        let program = ends_in(rt.alloc(), text)?;
-        assert_eq!(rt; bound_of(program.finish(), limits), want, "{text}");
+        let program = assigns(rt.alloc(), text)?;
+        assert!(rt; program.rounds() == 1 && program.registers() == 2);
+        let mut registers = [0; 2];
+        bounds_after(&program, 6, 1, &mut registers);
+        assert_eq!(rt; registers[0], want, "{text}");
     }
     Ok(())
 }
