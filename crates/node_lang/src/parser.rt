@@ -98,12 +98,12 @@ impl<'a> Parser<'a> {
             Token::FromLeft => Expr::FromLeft,
             Token::FromRight => Expr::FromRight,
             Token::Register(register) => Expr::Register(register),
-            Token::Unary(op) => {
+            Token::One(op) => {
                 let below = self.count_node(levels, offset)?;
                 let a = self.one(below)?;
                 return Ok(Expr::One(op, Box::new(self.alloc, a)?));
             }
-            Token::Binary(op) => {
+            Token::Two(op) => {
                 let below = self.count_node(levels, offset)?;
                 let (a, b) = self.two(below)?;
                 return Ok(Expr::Two(op, Box::new(self.alloc, a)?, Box::new(self.alloc, b)?));

@@ -2,62 +2,13 @@ ghost use Rattle.std.specs.Prelude.{◌≡◌, ◌++◌, length, map, IfOk, IfEr
 ghost use Rattle.std.specs.List.{flat_map};
 ghost use Rattle.node_lang.specs.declared.fault.FaultKind.TheVariants as kind;
 ghost use Rattle.node_program.specs.Term.{step_of, term_of};
-ghost use Rattle.node_lang.specs.Printed.{operation_name as name_of, printed_expression, assignment_line, assignment_lines, send_line, round_lines, printed};
+ghost use Rattle.node_lang.specs.Printed.{printed_expression, assignment_line, assignment_lines, send_line, round_lines, printed};
 
 use crate::fault::TextFault;
-use node_program::{BinOp, Expr, Program, Round, UnOp};
+use crate::words::operation_name;
+use node_program::{Expr, Program, Round};
 use std::alloc::{AllocError, Global};
 use std::fmt::Write;
-
-// The name of each operation, one line each.
-macro_rules! names {
-    (
-        $expression:expr;
-        one { $($one:ident => $one_name:literal,)* }
-        two { $($two:ident => $two_name:literal,)* }
-        choose => $choose_name:literal
-    ) => {
-        match $expression {
-            Expr::One(op, _) => match op {
-                $(UnOp::$one => $one_name,)*
-            },
-            Expr::Two(op, _, _) => match op {
-                $(BinOp::$two => $two_name,)*
-            },
-            Expr::Choose(_, _, _) => $choose_name,
-            _ => "",
-        }
-    };
-}
-
-// The name of the expression's operation, or an empty string if it has none.
-fn operation_name(expression: &Expr) -> &'static str
-    ensures { result.now ≡ name_of (term_of expression.now) }
-{
-    names! { expression;
-        one {
-            Not => "not",
-        }
-        two {
-            And => "and",
-            Or => "or",
-            Xor => "xor",
-            Shl => "shl",
-            Shr => "shr",
-            Add => "add",
-            Sub => "sub",
-            Min => "min",
-            Max => "max",
-            Ldb => "ldb",
-            Bit => "bit",
-            Eq => "eq",
-            Ne => "ne",
-            Lt => "lt",
-            Le => "le",
-        }
-        choose => "if"
-    }
-}
 
 fn write_expression(text: &mut String, expression: &Expr) -> Result<(), AllocError>
     ensures { OnOk result (string_bytes text.new ≡ string_bytes text.old ++ printed_expression (term_of expression.now)) }

@@ -5,8 +5,8 @@ use node_program::{BinOp, UnOp};
 pub enum Token {
     Number(u32),
     Register(u32),
-    Unary(UnOp),
-    Binary(BinOp),
+    One(UnOp),
+    Two(BinOp),
     If,
     Rounds,
     Channels,

@@ -1,10 +1,12 @@
 ghost use Rattle.std.specs.Prelude.{◌≡◌, ◌^◌, ◌<◌, length};
 ghost use Rattle.std.specs.List.{list_all};
 ghost use Rattle.std.specs.Option.{SomeIff};
+ghost use Rattle.node_program.specs.Term.{term_of};
+ghost use Rattle.node_lang.specs.Printed.{operation_name as name_of};
 ghost use Rattle.node_lang.specs.Words.{is_blank as blank, is_digit as digit, is_word_byte as word_byte, mark_token as mark, register_named, named, keywords, operations, read_on, word_token};
 
 use crate::token::Token;
-use node_program::{BinOp, UnOp};
+use node_program::{BinOp, Expr, UnOp};
 
 pub(crate) fn is_blank(byte: u8) -> bool
     ensures { result ≡ blank byte }
@@ -45,23 +47,73 @@ fn operation(word: &[u8]) -> Option<Token>
     ensures { result ≡ named operations word.now }
 {
     words! { word;
-        b"not" => Token::Unary(UnOp::Not),
-        b"and" => Token::Binary(BinOp::And),
-        b"or" => Token::Binary(BinOp::Or),
-        b"xor" => Token::Binary(BinOp::Xor),
-        b"shl" => Token::Binary(BinOp::Shl),
-        b"shr" => Token::Binary(BinOp::Shr),
-        b"add" => Token::Binary(BinOp::Add),
-        b"sub" => Token::Binary(BinOp::Sub),
-        b"min" => Token::Binary(BinOp::Min),
-        b"max" => Token::Binary(BinOp::Max),
-        b"ldb" => Token::Binary(BinOp::Ldb),
-        b"bit" => Token::Binary(BinOp::Bit),
-        b"eq" => Token::Binary(BinOp::Eq),
-        b"ne" => Token::Binary(BinOp::Ne),
-        b"lt" => Token::Binary(BinOp::Lt),
-        b"le" => Token::Binary(BinOp::Le),
+        b"not" => Token::One(UnOp::Not),
+        b"and" => Token::Two(BinOp::And),
+        b"or" => Token::Two(BinOp::Or),
+        b"xor" => Token::Two(BinOp::Xor),
+        b"shl" => Token::Two(BinOp::Shl),
+        b"shr" => Token::Two(BinOp::Shr),
+        b"add" => Token::Two(BinOp::Add),
+        b"sub" => Token::Two(BinOp::Sub),
+        b"min" => Token::Two(BinOp::Min),
+        b"max" => Token::Two(BinOp::Max),
+        b"ldb" => Token::Two(BinOp::Ldb),
+        b"bit" => Token::Two(BinOp::Bit),
+        b"eq" => Token::Two(BinOp::Eq),
+        b"ne" => Token::Two(BinOp::Ne),
+        b"lt" => Token::Two(BinOp::Lt),
+        b"le" => Token::Two(BinOp::Le),
         b"if" => Token::If,
+    }
+}
+
+// The name of each operation, one line each.
+macro_rules! names {
+    (
+        $expression:expr;
+        one { $($one:ident => $one_name:literal,)* }
+        two { $($two:ident => $two_name:literal,)* }
+        choose => $choose_name:literal
+    ) => {
+        match $expression {
+            Expr::One(op, _) => match op {
+                $(UnOp::$one => $one_name,)*
+            },
+            Expr::Two(op, _, _) => match op {
+                $(BinOp::$two => $two_name,)*
+            },
+            Expr::Choose(_, _, _) => $choose_name,
+            _ => "",
+        }
+    };
+}
+
+// The name of the expression's operation, or an empty string if it has none.
+pub(crate) fn operation_name(expression: &Expr) -> &'static str
+    ensures { result.now ≡ name_of (term_of expression.now) }
+{
+    names! { expression;
+        one {
+            Not => "not",
+        }
+        two {
+            And => "and",
+            Or => "or",
+            Xor => "xor",
+            Shl => "shl",
+            Shr => "shr",
+            Add => "add",
+            Sub => "sub",
+            Min => "min",
+            Max => "max",
+            Ldb => "ldb",
+            Bit => "bit",
+            Eq => "eq",
+            Ne => "ne",
+            Lt => "lt",
+            Le => "le",
+        }
+        choose => "if"
     }
 }
 
