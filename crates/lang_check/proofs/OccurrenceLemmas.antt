@@ -6,9 +6,9 @@ use Rattle.std.specs.List.{list_any}
 use Rattle.std.proofs.lemmas.List.{take_more, map-append, append-nil}
 use Rattle.std.proofs.lemmas.List.Folds.{find-append, list_any-append}
 use Rattle.std.proofs.lemmas.Grind.{flat_map-append}
-use Rattle.node_program.specs.Term.{Term, Step, step_of, step_terms, term_of}
+use Rattle.node_program.specs.Term.{Term, Round, step_of, step_terms, term_of}
 use Rattle.node_program.specs.declared.tree.Expr.{Expr}
-use Rattle.node_program.specs.declared.tree.Round.{Round}
+use Rattle.node_program.specs.declared.tree.Round as code
 use Rattle.lang_check.specs.Occurrences.{registers_read, sent_terms}
 
 -- the lemma of the search in two parts, for `using`
@@ -32,7 +32,7 @@ pub list_any_mapped_end :
     {X Y : Type 0} (p : Y → Bool) (h : X → Y) (xs : List X) → list_any p (map h xs ++ []) ≡ list_any (λ x. p (h x)) xs
 list_any_mapped_end p h xs = ap (list_any p) (append-nil (map h xs)) ∙ list_any_mapped p h xs
 
-pub step_terms-append : (ss rs : List Step) → step_terms (ss ++ rs) ≡ step_terms ss ++ step_terms rs
+pub step_terms-append : (ss rs : List Round) → step_terms (ss ++ rs) ≡ step_terms ss ++ step_terms rs
 step_terms-append [] rs = refl
 step_terms-append (s ∷ ss) rs =
     ap (λ n. s.left ∷ s.right ∷ n)
@@ -40,7 +40,7 @@ step_terms-append (s ∷ ss) rs =
 
 -- a test of the expressions of rounds, round by round
 pub list_any-step_terms :
-    (p : Term → Bool) (rounds : List Round)
+    (p : Term → Bool) (rounds : List code.Round)
     → list_any p (step_terms (map step_of rounds)) ≡ list_any (λ r. list_any p (step_terms (step_of r ∷ []))) rounds
 list_any-step_terms p [] = refl
 list_any-step_terms p (r ∷ rs) =
@@ -50,7 +50,7 @@ list_any-step_terms p (r ∷ rs) =
 
 -- a test of the messages of rounds, round by round
 pub list_any-sent_terms :
-    (p : Term → Bool) (rounds : List Round)
+    (p : Term → Bool) (rounds : List code.Round)
     → list_any p (sent_terms (map step_of rounds)) ≡ list_any (λ r. list_any p (sent_terms (step_of r ∷ []))) rounds
 list_any-sent_terms p [] = refl
 list_any-sent_terms p (r ∷ rs) =
@@ -59,7 +59,7 @@ list_any-sent_terms p (r ∷ rs) =
 
 -- a test of the expressions after the start
 pub list_any-after_start :
-    (p : Term → Bool) (rounds : List Round) (finish : Term)
+    (p : Term → Bool) (rounds : List code.Round) (finish : Term)
     → list_any p (step_terms (map step_of rounds) ++ finish ∷ [])
     ≡ (list_any (λ r. list_any p (step_terms (step_of r ∷ []))) rounds || p finish)
 list_any-after_start p rounds finish =
@@ -68,7 +68,7 @@ list_any-after_start p rounds finish =
 
 -- a test of the expressions outside the assignments of a round
 pub list_any-outside_assignments :
-    (p : Term → Bool) (start : List Expr) (rounds : List Round) (finish : Term)
+    (p : Term → Bool) (start : List Expr) (rounds : List code.Round) (finish : Term)
     → list_any p (map term_of start ++ (sent_terms (map step_of rounds) ++ finish ∷ []))
     ≡ (list_any (λ e. p (term_of e)) start
     || (list_any (λ r. list_any p (sent_terms (step_of r ∷ []))) rounds || p finish))
@@ -103,7 +103,7 @@ module _ (p : ℕ → Bool) where
 
   -- in one round
   pub found-round :
-      (s : Step)
+      (s : Round)
       → found (step_terms (s ∷ []))
       ≡ option_or (option_or (find p (registers_read s.left)) (find p (registers_read s.right))) (found s.next)
   found-round s =
@@ -114,7 +114,7 @@ module _ (p : ℕ → Bool) where
 
   -- one round more
   pub found_more_rounds :
-      (rounds : List Round) (i : ℕ) (d : Round) → i < length rounds
+      (rounds : List code.Round) (i : ℕ) (d : code.Round) → i < length rounds
       → found (step_terms (map step_of (take (i + 1) rounds)))
       ≡ option_or (found (step_terms (map step_of (take i rounds)))) (found (step_terms (step_of (get_or rounds i d) ∷ [])))
   found_more_rounds rounds i d lt =

@@ -3,7 +3,7 @@ use Rattle.std.proofs.Common.{ℕ, zero, suc, ◌-◌, ◌<◌, ◌≤◌, Optio
 use Rattle.std.specs.Prelude.{slice_index, slice_get}
 use Rattle.std.proofs.lemmas.Bool.{cases_lt}
 use Rattle.std.proofs.lemmas.List.{get_or_past}
-use Rattle.node_program.specs.Term.{Term, Step, ProgramTree}
+use Rattle.node_program.specs.Term.{Term, Round, ProgramTree}
 use Rattle.node_program.specs.Node as rounds
 use Rattle.node_program.specs.GlobalRounds.{left_of, right_of, state, channel_at}
 use Rattle.win_index.specs.Ring.{IsRing}
@@ -36,7 +36,7 @@ start_within p m id below = started_within p m id (omega arith)
 
 -- one round
 assigned_within :
-    (s : Option Step) (m : ℕ) (left own right bounds : List ℕ) → IsWithin left bounds → IsWithin own bounds
+    (s : Option Round) (m : ℕ) (left own right bounds : List ℕ) → IsWithin left bounds → IsWithin own bounds
     → IsWithin right bounds
     → IsWithin (rounds.assigned_values s own (rounds.right_sent s left) (rounds.left_sent s right)) (next_bounds s m bounds)
 assigned_within None m left own right bounds l o r = λ j. omega arith

@@ -10,7 +10,7 @@ use Rattle.std.proofs.Math.Pow.{shr_mono}
 use Rattle.node_program.specs.declared.tree.UnOp.TheVariants.{Not}
 use Rattle.node_program.specs.declared.tree.BinOp.{BinOp}
 use Rattle.node_program.specs.declared.tree.BinOp.TheVariants.{And, Or, Xor, Shl, Shr, Add, Sub, Min, Max, Ldb, Bit, Eq, Ne, Lt, Le}
-use Rattle.node_program.specs.Term.{Term, Literal, Identifier, LeftMessage, RightMessage, RegisterValue, Unary, Binary, Conditional}
+use Rattle.node_program.specs.Term.{Term, Literal, Identifier, LeftMessage, RightMessage, RegisterValue, One, Two, Choose}
 use Rattle.node_program.specs.Operations.{top, flag, least_from, lowest_differing_bit, binary_value}
 use Rattle.node_program.specs.Value.{Env, value}
 use Rattle.node_program.specs.Bounds.{bits, written_number, binary_bound, bound, IsWithin}
@@ -62,9 +62,9 @@ written-agrees Identifier env = tt
 written-agrees LeftMessage env = tt
 written-agrees RightMessage env = tt
 written-agrees (RegisterValue j) env = tt
-written-agrees (Unary o a) env = tt
-written-agrees (Binary o a b) env = tt
-written-agrees (Conditional c a b) env = tt
+written-agrees (One o a) env = tt
+written-agrees (Two o a b) env = tt
+written-agrees (Choose c a b) env = tt
 
 shl-le_top : (a k : ℕ) → (if nat_lt k 32 then a * 2 ^ k % 2 ^ 32 else 0) ≤ top
 shl-le_top a k =
@@ -127,11 +127,11 @@ value_within Identifier env bounds h = h.id
 value_within LeftMessage env bounds h = h.left
 value_within RightMessage env bounds h = h.right
 value_within (RegisterValue j) env bounds h = h.registers j
-value_within (Unary Not a) env bounds h = omega arith
-value_within (Binary o a b) env bounds h =
+value_within (One Not a) env bounds h = omega arith
+value_within (Two o a b) env bounds h =
     binary_within o (written_number b) (value a env) (value b env) (bound a bounds) (bound b bounds)
     (written-agrees b env) (value_within a env bounds h) (value_within b env bounds h)
-value_within (Conditional c a b) env bounds h =
+value_within (Choose c a b) env bounds h =
     let first : value a env ≤ bound a bounds = value_within a env bounds h in
     let second : value b env ≤ bound b bounds = value_within b env bounds h in
     either (value c env == 0) (value b env) (value a env) (max (bound a bounds) (bound b bounds)) (omega arith) (omega arith)

@@ -8,17 +8,17 @@ use Rattle.std.proofs.lemmas.List.Sums.{sum_by-cons}
 use Rattle.node_program.specs.declared.limits.TheConstants.{MAX_DEPTH}
 use Rattle.node_lang.specs.declared.token.Token.{Token}
 use Rattle.node_lang.specs.declared.token.Token.TheVariants as token
-use Rattle.node_program.specs.Term.{Term, Literal, RegisterValue, Unary, Binary, Conditional, depth, size, largest, largest_register, Step, ProgramTree, terms, step_terms}
+use Rattle.node_program.specs.Term.{Term, Literal, RegisterValue, One, Two, Choose, depth, size, largest, largest_register, Round, ProgramTree, terms, step_terms}
 use Rattle.node_program.specs.Limits.{IsSmall}
 use Rattle.node_lang.specs.Grammar.{spelled, assigned, blocks, spelling}
 use Rattle.node_lang.specs.Viable.{Mark, node, plain, marked, marked_assignments, marked_blocks, marks, unmarked, one_at, nodes_at}
 use Rattle.node_lang.proofs.SmallTokens.{is_small}
 
 unmarked_expression : (e : Term) (d : ℕ) (more : List Mark) → unmarked (marked e d more) ≡ spelled e (unmarked more)
-unmarked_expression (Unary o a) d more = ap (λ ts. token.Unary o ∷ token.Open ∷ ts) (unmarked_expression a (d + 1) _)
-unmarked_expression (Binary o a b) d more = ap (λ ts. token.Binary o ∷ token.Open ∷ ts) (unmarked_expression a (d + 1) _
+unmarked_expression (One o a) d more = ap (λ ts. token.One o ∷ token.Open ∷ ts) (unmarked_expression a (d + 1) _)
+unmarked_expression (Two o a b) d more = ap (λ ts. token.Two o ∷ token.Open ∷ ts) (unmarked_expression a (d + 1) _
     ∙ ap (λ ts. spelled a (token.Comma ∷ ts)) (unmarked_expression b (d + 1) _))
-unmarked_expression (Conditional c a b) d more = ap (λ ts. token.If ∷ token.Open ∷ ts) (unmarked_expression c (d + 1) _
+unmarked_expression (Choose c a b) d more = ap (λ ts. token.If ∷ token.Open ∷ ts) (unmarked_expression c (d + 1) _
     ∙ ap (λ ts. spelled c (token.Comma ∷ ts)) (unmarked_expression a (d + 1) _ ∙ ap (λ ts. spelled a (token.Comma ∷ ts)) (unmarked_expression b (d + 1) _)))
 unmarked_expression e d more = refl
 
@@ -50,14 +50,14 @@ node_counts d ms n h = sum_by-cons (λ (m : Mark). one_at m.depth) (node token.I
 
 -- the marks of an expression under d others, and its nodes
 nodes_marked : (e : Term) (d : ℕ) (ms : List Mark) (n : ℕ) → nodes_at ms ≡ n → nodes_at (marked e (d + 1) ms) ≡ size e + n
-nodes_marked (Unary o a) d ms n h =
+nodes_marked (One o a) d ms n h =
     let close = plain token.Close ∷ ms in
     node_counts d (plain token.Open ∷ marked a (d + 1 + 1) close) _ (nodes_marked a (d + 1) close n h) ∙ omega arith
-nodes_marked (Binary o a b) d ms n h =
+nodes_marked (Two o a b) d ms n h =
     let close = plain token.Close ∷ ms in
     let second = plain token.Comma ∷ marked b (d + 1 + 1) close in
     node_counts d (plain token.Open ∷ marked a (d + 1 + 1) second) _ (nodes_marked a (d + 1) second _ (nodes_marked b (d + 1) close n h)) ∙ omega arith
-nodes_marked (Conditional c a b) d ms n h =
+nodes_marked (Choose c a b) d ms n h =
     let close = plain token.Close ∷ ms in
     let third = plain token.Comma ∷ marked b (d + 1 + 1) close in
     let second = plain token.Comma ∷ marked a (d + 1 + 1) third in
@@ -68,12 +68,12 @@ nodes_marked e d ms n h = node_counts d ms n h
 fine_marked : (e : Term) (d : ℕ) (ms : List Mark) → Fine (marked e (d + 1) ms) → (depth e + d ≤ MAX_DEPTH) × (largest e < 2 ^ 32) × (largest_register e < 10) × Fine ms
 fine_marked (Literal n) d ms h = (omega (arith, h.0), ltb-true n (2 ^ 32) h.1, omega arith, h.2)
 fine_marked (RegisterValue j) d ms h = (omega (arith, h.0), omega arith, ltb-true j 10 h.1, h.2)
-fine_marked (Unary o a) d ms h = let p = fine_marked a (d + 1) _ h.2.2 in (omega (arith, p.0), p.1, p.2, p.3.2)
-fine_marked (Binary o a b) d ms h =
+fine_marked (One o a) d ms h = let p = fine_marked a (d + 1) _ h.2.2 in (omega (arith, p.0), p.1, p.2, p.3.2)
+fine_marked (Two o a b) d ms h =
     let p = fine_marked a (d + 1) _ h.2.2 in
     let q = fine_marked b (d + 1) _ p.3.2 in
     (omega (arith, p.0, q.0), omega (arith, p.1, q.1), omega (arith, p.2, q.2), q.3.2)
-fine_marked (Conditional c a b) d ms h =
+fine_marked (Choose c a b) d ms h =
     let p = fine_marked c (d + 1) _ h.2.2 in
     let q = fine_marked a (d + 1) _ p.3.2 in
     let r = fine_marked b (d + 1) _ q.3.2 in
@@ -81,12 +81,12 @@ fine_marked (Conditional c a b) d ms h =
 fine_marked e d ms h = (omega (arith, h.0), omega arith, omega arith, h.2)
 
 shallow_marked : (e : Term) (d : ℕ) (ms : List Mark) → depth e + d ≤ MAX_DEPTH → Shallow ms → Shallow (marked e (d + 1) ms)
-shallow_marked (Unary o a) d ms less h =
+shallow_marked (One o a) d ms less h =
     (omega (arith, less), (omega arith, shallow_marked a (d + 1) _ (omega (arith, less)) (omega arith, h)))
-shallow_marked (Binary o a b) d ms less h =
+shallow_marked (Two o a b) d ms less h =
     let second : Shallow (marked b (d + 1 + 1) (plain token.Close ∷ ms)) = shallow_marked b (d + 1) _ (omega (arith, less)) (omega arith, h) in
     (omega (arith, less), (omega arith, shallow_marked a (d + 1) _ (omega (arith, less)) (omega arith, second)))
-shallow_marked (Conditional c a b) d ms less h =
+shallow_marked (Choose c a b) d ms less h =
     let third : Shallow (marked b (d + 1 + 1) (plain token.Close ∷ ms)) = shallow_marked b (d + 1) _ (omega (arith, less)) (omega arith, h) in
     let second : Shallow (marked a (d + 1 + 1) (plain token.Comma ∷ marked b (d + 1 + 1) (plain token.Close ∷ ms))) =
     shallow_marked a (d + 1) _ (omega (arith, less)) (omega arith, third) in
@@ -119,7 +119,7 @@ assignments_match : (j : ℕ) (es : List Term) {ms : List Mark} {more : List Ter
 assignments_match j [] h = h
 assignments_match j (e ∷ es) h = plain_matches (plain_matches (term_matches e (assignments_match (j + 1) es h)))
 
-blocks_match : (ss : List Step) {ms : List Mark} {more : List Term} {ts : List Token} → Matches ms more ts → Matches (marked_blocks ss ms) (step_terms ss ++ more) (blocks ss ts)
+blocks_match : (ss : List Round) {ms : List Mark} {more : List Term} {ts : List Token} → Matches ms more ts → Matches (marked_blocks ss ms) (step_terms ss ++ more) (blocks ss ts)
 blocks_match [] h = h
 blocks_match (s ∷ ss) {more = more} h =
     rw (append_assoc s.next (step_terms ss) more)

@@ -13,7 +13,7 @@ use Rattle.node_lang.specs.declared.fault.FaultKind.{FaultKind}
 use Rattle.node_lang.specs.declared.fault.FaultKind.TheVariants as kind
 use Rattle.node_lang.specs.declared.token.Token.{Token}
 use Rattle.node_lang.specs.declared.token.Token.TheVariants as token
-use Rattle.node_program.specs.Term.{Term, Literal, Identifier, LeftMessage, RightMessage, RegisterValue, Unary, Binary, Conditional, Step, ProgramTree, size, terms}
+use Rattle.node_program.specs.Term.{Term, Literal, Identifier, LeftMessage, RightMessage, RegisterValue, One, Two, Choose, Round, ProgramTree, size, terms}
 use Rattle.node_program.specs.Limits.{IsSmall, IsWithinLimits}
 use Rattle.node_lang.specs.Grammar.{spelling}
 use Rattle.node_lang.specs.Reading.{fault_of, same_token}
@@ -44,12 +44,12 @@ token_leads : {p : ProgramTree} {w : Rest} {ms : List Mark} (t : Token) → same
 token_leads {w = w} t same h = led t (rw same refl) (λ _. tt) h
 
 term_leads : {p : ProgramTree} (e : Term) (d : ℕ) (w : Term → Rest) {ms : List Mark} → Leads p (w e) ms → Leads p (AnExpression d w) (marked e (d + 1) ms)
-term_leads (Unary o a) d w h =
-    led (token.Unary o) refl (λ _. tt) (token_leads token.Open refl (term_leads a (d + 1) _ (token_leads token.Close refl h)))
-term_leads (Binary o a b) d w h =
-    led (token.Binary o) refl (λ _. tt) (token_leads token.Open refl (term_leads a (d + 1) _
+term_leads (One o a) d w h =
+    led (token.One o) refl (λ _. tt) (token_leads token.Open refl (term_leads a (d + 1) _ (token_leads token.Close refl h)))
+term_leads (Two o a b) d w h =
+    led (token.Two o) refl (λ _. tt) (token_leads token.Open refl (term_leads a (d + 1) _
     (token_leads token.Comma refl (term_leads b (d + 1) _ (token_leads token.Close refl h)))))
-term_leads (Conditional c a b) d w h =
+term_leads (Choose c a b) d w h =
     led token.If refl (λ _. tt) (token_leads token.Open refl (term_leads c (d + 1) _ (token_leads token.Comma refl
     (term_leads a (d + 1) _ (token_leads token.Comma refl (term_leads b (d + 1) _ (token_leads token.Close refl h)))))))
 term_leads e d w h = led _ refl (λ _. tt) h
@@ -62,12 +62,12 @@ assignments_lead (e ∷ es) (suc count) j w many h =
     (assignments_lead es count (j + 1) (λ es. w (e ∷ es)) (omega (arith, many)) h)))
 assignments_lead es count j w many h = absurd (cc)
 
-rounds_lead : {p : ProgramTree} {ms : List Mark} (ss : List Step) (many : ℕ) (w : List Step → Rest) → All (λ s. length s.next ≡ many) ss → Leads p (w ss) ms →
+rounds_lead : {p : ProgramTree} {ms : List Mark} (ss : List Round) (many : ℕ) (w : List Round → Rest) → All (λ s. length s.next ≡ many) ss → Leads p (w ss) ms →
     Leads p (some_rounds (length ss) many w) (marked_blocks ss ms)
 rounds_lead [] many w each h = h
 rounds_lead (s ∷ ss) many w each h =
-    let here = All-head (λ (s : Step). length s.next ≡ many) s ss each in
-    let others = rounds_lead ss many (λ ss. w (s ∷ ss)) (All-tail (λ (s : Step). length s.next ≡ many) s ss each) h in
+    let here = All-head (λ (s : Round). length s.next ≡ many) s ss each in
+    let others = rounds_lead ss many (λ ss. w (s ∷ ss)) (All-tail (λ (s : Round). length s.next ≡ many) s ss each) h in
     token_leads token.Round refl (token_leads token.Send refl (token_leads token.Left refl (term_leads s.left 0 _
     (token_leads token.Send refl (token_leads token.Right refl (term_leads s.right 0 _ (assignments_lead s.next many 0 _ here others)))))))
 
@@ -100,16 +100,16 @@ assignments_end zero j f w h = h [] refl
 assignments_end (suc count) j f w h = λ e.
     assignments_end count (j + 1) (λ ms. f (plain (token.Register j) ∷ plain token.Equals ∷ marked e 1 ms)) (λ es. w (e ∷ es)) (λ es many. h (e ∷ es) (ap suc many))
 
-rounds_end : (count many : ℕ) (f : List Mark → List Mark) (w : List Step → Rest) →
-    ((ss : List Step) → length ss ≡ count → All (λ s. length s.next ≡ many) ss → Ends (λ ms. f (marked_blocks ss ms)) (w ss)) → Ends f (some_rounds count many w)
-rounds_end zero many f w h = h [] refl (All-nil (λ (s : Step). length s.next ≡ many))
+rounds_end : (count many : ℕ) (f : List Mark → List Mark) (w : List Round → Rest) →
+    ((ss : List Round) → length ss ≡ count → All (λ s. length s.next ≡ many) ss → Ends (λ ms. f (marked_blocks ss ms)) (w ss)) → Ends f (some_rounds count many w)
+rounds_end zero many f w h = h [] refl (All-nil (λ (s : Round). length s.next ≡ many))
 rounds_end (suc count) many f w h = λ left right.
     let put : List Mark → List Mark = λ ms. f (plain token.Round ∷ plain token.Send ∷ plain token.Left
     ∷ marked left 1 (plain token.Send ∷ plain token.Right ∷ marked right 1 ms)) in
     assignments_end many 0 put _ (λ next full.
     rounds_end count many (λ ms. put (marked_assignments 0 next ms)) _ (λ ss counts each.
-    let s : Step = record { left = left; right = right; next = next } in
-    h (s ∷ ss) (ap suc counts) (All-cons (λ (s : Step). length s.next ≡ many) s ss full each)))
+    let s : Round = record { left = left; right = right; next = next } in
+    h (s ∷ ss) (ap suc counts) (All-cons (λ (s : Round). length s.next ≡ many) s ss full each)))
 
 -- the marks of the header, in front of others
 abbrev header : ℕ → ℕ → ℕ → List Mark → List Mark
@@ -147,9 +147,9 @@ ends_in_term f d w token.Id h = h Identifier
 ends_in_term f d w token.FromLeft h = h LeftMessage
 ends_in_term f d w token.FromRight h = h RightMessage
 ends_in_term f d w (token.Register j) h = h (RegisterValue j)
-ends_in_term f d w (token.Unary o) h = λ a. h (Unary o a)
-ends_in_term f d w (token.Binary o) h = λ a b. h (Binary o a b)
-ends_in_term f d w token.If h = λ c a b. h (Conditional c a b)
+ends_in_term f d w (token.One o) h = λ a. h (One o a)
+ends_in_term f d w (token.Two o) h = λ a b. h (Two o a b)
+ends_in_term f d w token.If h = λ c a b. h (Choose c a b)
 ends_in_term f d w t h = tt
 
 ends_next : (f : List Mark → List Mark) (w : Rest) (t : Token) → Ends f w → InRange w t → EndsIf (λ ms. f (node t (depth_next w) ∷ ms)) (step w t)

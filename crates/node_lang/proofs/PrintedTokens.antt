@@ -14,7 +14,7 @@ use Rattle.node_lang.specs.declared.token.Token.TheVariants as token
 use Rattle.node_lang.specs.Words.{is_blank, is_digit, is_word_byte, read_on, word_token, mark_token, unary_name, binary_name, word_of}
 use Rattle.node_lang.specs.Lexemes.{tokens_in, tokens_of, lexemes_of}
 use Rattle.std.proofs.lemmas.List.Sums.{sum_by-append, sum_by-cons, AllPass-from_list_all, list_all-from_AllPass}
-use Rattle.node_program.specs.Term.{Step, ProgramTree, size, step_terms, terms_of_step, Term, Literal, Identifier, LeftMessage, RightMessage, RegisterValue, Unary, Binary, Conditional, largest, largest_register}
+use Rattle.node_program.specs.Term.{Round, ProgramTree, size, step_terms, terms_of_step, Term, Literal, Identifier, LeftMessage, RightMessage, RegisterValue, One, Two, Choose, largest, largest_register}
 use Rattle.std.proofs.lemmas.List.Elements.{All-append, All-cons, All-nil, All-head, All-tail, All-weaker}
 use Rattle.node_lang.specs.declared.limits.TheConstants.{LONGEST_TEXT}
 use Rattle.node_program.specs.declared.tree.UnOp.{UnOp}
@@ -87,20 +87,20 @@ known : (word : List ℕ) (t : Token) → list_all is_word_byte word ≡ true �
 known word t letters some is = record { letters = letters; some = ltb-true 0 (length word) some; token = is }
 
 -- names of operations are short
-binary_word : (o : BinOp) → IsWord (binary_name o) (token.Binary o) × (length (binary_name o) ≤ 3)
+binary_word : (o : BinOp) → IsWord (binary_name o) (token.Two o) × (length (binary_name o) ≤ 3)
 unfolding word_token
-binary_word op.And = (known (binary_name op.And) (token.Binary op.And) refl refl refl, omega arith)
-binary_word o = (known (binary_name o) (token.Binary o) refl refl refl, omega arith)
+binary_word op.And = (known (binary_name op.And) (token.Two op.And) refl refl refl, omega arith)
+binary_word o = (known (binary_name o) (token.Two o) refl refl refl, omega arith)
 
-unary_word : (o : UnOp) → IsWord (unary_name o) (token.Unary o) × (length (unary_name o) ≤ 3)
+unary_word : (o : UnOp) → IsWord (unary_name o) (token.One o) × (length (unary_name o) ≤ 3)
 unfolding word_token
-unary_word Not = (known (unary_name Not) (token.Unary Not) refl refl refl, omega arith)
+unary_word Not = (known (unary_name Not) (token.One Not) refl refl refl, omega arith)
 
 -- the words that are not names of operations, and `if`
 keyword : (t : Token) → nat_lt 0 (length (word_of t)) ≡ true → IsWord (word_of t) t
 unfolding word_token
-keyword (token.Unary o) h = let word = unary_word o in word.0
-keyword (token.Binary o) h = let word = binary_word o in word.0
+keyword (token.One o) h = let word = unary_word o in word.0
+keyword (token.Two o) h = let word = binary_word o in word.0
 keyword t h = known (word_of t) t refl h (cc)
 
 -- ASCII bytes, at most this many, with these tokens: wherever they end a word, the text after them does not continue it
@@ -179,15 +179,15 @@ an_expression Identifier number register = a_word 10 (keyword token.Id refl) (om
 an_expression LeftMessage number register = a_word 10 (keyword token.FromLeft refl) (omega arith)
 an_expression RightMessage number register = a_word 10 (keyword token.FromRight refl) (omega arith)
 an_expression (RegisterValue j) number register = roomy (a_register j register) (omega arith)
-an_expression (Unary o a) number register =
+an_expression (One o a) number register =
     let word = unary_word o in
     ended (glue (a_word 3 word.0 word.1) (glue opened (glue (an_expression a number register) closed (λ _ _. refl)) (λ _ _. tt)) (λ _ _. refl)) (omega arith)
-an_expression (Binary o a b) number register =
+an_expression (Two o a b) number register =
     let word = binary_word o in
     let first = an_expression a (omega (arith, number)) (omega (arith, register)) in
     let second = an_expression b (omega (arith, number)) (omega (arith, register)) in
     ended (glue (a_word 3 word.0 word.1) (glue opened (glue first (glue comma (glue second closed (λ _ _. refl)) (λ _ _. tt)) (λ _ _. refl)) (λ _ _. tt)) (λ _ _. refl)) (omega arith)
-an_expression (Conditional c a b) number register =
+an_expression (Choose c a b) number register =
     let first = an_expression c (omega (arith, number)) (omega (arith, register)) in
     let second = an_expression a (omega (arith, number)) (omega (arith, register)) in
     let third = an_expression b (omega (arith, number)) (omega (arith, register)) in
@@ -219,7 +219,7 @@ a_send e side small =
     roomy (glue (spaced token.Send refl) (glue side (glue space (a_line e small) (λ _ _. tt)) (λ _ _. refl)) (λ _ _. tt)) (omega arith)
 
 -- at most ten bytes for each node, and 90 more
-a_round : (s : Step) → length s.next ≤ 10 → All IsSmall (terms_of_step s) → Writes false (round_lines s) (10 * sum_by size (terms_of_step s) + 90) (block s)
+a_round : (s : Round) → length s.next ≤ 10 → All IsSmall (terms_of_step s) → Writes false (round_lines s) (10 * sum_by size (terms_of_step s) + 90) (block s)
 a_round s few small =
     let small_rest = All-tail IsSmall s.left (s.right ∷ s.next) small in
     let left = a_send s.left (a_word 5 (keyword token.Left refl) (omega arith)) (All-head IsSmall s.left (s.right ∷ s.next) small) in
@@ -235,10 +235,10 @@ all_right [] ys h = h
 all_right (x ∷ xs) ys h = all_right xs ys (All-tail IsSmall x (xs ++ ys) h)
 
 -- at most ten registers
-abbrev HasFew : Step → Type 0
+abbrev HasFew : Round → Type 0
 HasFew s = length s.next ≤ 10
 
-some_rounds : (ss : List Step) → All HasFew ss → All IsSmall (step_terms ss) → Writes false (flat_map round_lines ss) (10 * sum_by size (step_terms ss) + 90 * length ss) (blocks ss)
+some_rounds : (ss : List Round) → All HasFew ss → All IsSmall (step_terms ss) → Writes false (flat_map round_lines ss) (10 * sum_by size (step_terms ss) + 90 * length ss) (blocks ss)
 some_rounds [] few small = record { ascii = All-nil (λ b. b < 128); short = omega arith; reads = λ rest _. refl }
 some_rounds (s ∷ ss) few small =
     let one = a_round s (All-head HasFew s ss few) (all_left (terms_of_step s) (step_terms ss) small) in

@@ -8,7 +8,7 @@ use Rattle.node_lang.specs.declared.fault.FaultKind.{FaultKind}
 use Rattle.node_lang.specs.declared.fault.FaultKind.TheVariants as kind
 use Rattle.node_lang.specs.declared.token.Token.{Token}
 use Rattle.node_lang.specs.declared.token.Token.TheVariants as token
-use Rattle.node_program.specs.Term.{Term, Literal, Identifier, LeftMessage, RightMessage, RegisterValue, Unary, Binary, Conditional, Step, ProgramTree}
+use Rattle.node_program.specs.Term.{Term, Literal, Identifier, LeftMessage, RightMessage, RegisterValue, One, Two, Choose, Round, ProgramTree}
 use Rattle.node_lang.specs.Reading.{same_token, fault_of, Read, Reader, Got, Fault, go_on, done, refuse, ◌>>=◌, ◌>>◌, exactly, node, one_of, two_of, three_of, operand, expression, number, end, each, assign, assigns, round, rounds, header, program}
 use Rattle.node_lang.specs.Lexemes.{Lexeme}
 use Rattle.node_lang.proofs.Parsing.{operand_is}
@@ -36,10 +36,10 @@ following d w token.Id = Some (w Identifier)
 following d w token.FromLeft = Some (w LeftMessage)
 following d w token.FromRight = Some (w RightMessage)
 following d w (token.Register j) = Some (w (RegisterValue j))
-following d w (token.Unary o) = Some (an_operand token.Open d (λ a. closed (w (Unary o a))))
-following d w (token.Binary o) = Some (an_operand token.Open d (λ a. an_operand token.Comma d (λ b. closed (w (Binary o a b)))))
+following d w (token.One o) = Some (an_operand token.Open d (λ a. closed (w (One o a))))
+following d w (token.Two o) = Some (an_operand token.Open d (λ a. an_operand token.Comma d (λ b. closed (w (Two o a b)))))
 following d w token.If =
-    Some (an_operand token.Open d (λ c. an_operand token.Comma d (λ a. an_operand token.Comma d (λ b. closed (w (Conditional c a b))))))
+    Some (an_operand token.Open d (λ c. an_operand token.Comma d (λ a. an_operand token.Comma d (λ b. closed (w (Choose c a b))))))
 following d w _ = None
 
 -- the rest after a token, if it can come next
@@ -88,7 +88,7 @@ assignments (suc count) j w =
     AToken (token.Register j) (AToken token.Equals (AnExpression 0 (λ e. assignments count (j + 1) (λ es. w (e ∷ es)))))
 
 -- `count` rounds of this many registers
-abbrev pub some_rounds : ℕ → ℕ → (List Step → Rest) → Rest
+abbrev pub some_rounds : ℕ → ℕ → (List Round → Rest) → Rest
 some_rounds zero registers w = w []
 some_rounds (suc count) registers w = AToken token.Round (AToken token.Send (AToken token.Left (AnExpression 0 (λ left.
     AToken token.Send (AToken token.Right (AnExpression 0 (λ right. assignments registers 0 (λ next.
@@ -168,8 +168,8 @@ term_next d w n from token.Id ls = node_next d w n from token.Id ls _ _ (λ _. r
 term_next d w n from token.FromLeft ls = node_next d w n from token.FromLeft ls _ _ (λ _. refl)
 term_next d w n from token.FromRight ls = node_next d w n from token.FromRight ls _ _ (λ _. refl)
 term_next d w n from (token.Register j) ls = node_next d w n from (token.Register j) ls _ _ (λ _. refl)
-term_next d w n from (token.Unary o) ls = node_next d w n from (token.Unary o) ls _ _ (λ some. rw (below d some) (simp go_on_assoc))
-term_next d w n from (token.Binary o) ls = node_next d w n from (token.Binary o) ls _ _ (λ some. rw (below d some) (simp go_on_assoc))
+term_next d w n from (token.One o) ls = node_next d w n from (token.One o) ls _ _ (λ some. rw (below d some) (simp go_on_assoc))
+term_next d w n from (token.Two o) ls = node_next d w n from (token.Two o) ls _ _ (λ some. rw (below d some) (simp go_on_assoc))
 term_next d w n from token.If ls = node_next d w n from token.If ls _ _ (λ some. rw (below d some) (simp go_on_assoc))
 term_next d w n from t ls = refl
 
@@ -195,12 +195,12 @@ assigns_read (suc count) j parts w n ls =
     simp (go_on_assoc, others, append_assoc)
 
 -- rounds, and then the rest
-rounds_read : (count many j : ℕ) (parts : List Step) (w : List Step → Rest) (n : ℕ) (ls : List Lexeme) →
+rounds_read : (count many j : ℕ) (parts : List Round) (w : List Round → Rest) (n : ℕ) (ls : List Lexeme) →
     go_on (each (λ _. round many) count j parts n ls) (λ ss. read (w ss)) ≡ read (some_rounds count many (λ ss. w (parts ++ ss))) n ls
 unfolding round assigns
 rounds_read zero many j parts w n ls = simp append-nil
 rounds_read (suc count) many j parts w n ls =
-    let others : (s : Step) (m : ℕ) (left : List Lexeme) → go_on (each (λ _. round many) count (j + 1) (parts ++ (s ∷ [])) m left) (λ ss. read (w ss))
+    let others : (s : Round) (m : ℕ) (left : List Lexeme) → go_on (each (λ _. round many) count (j + 1) (parts ++ (s ∷ [])) m left) (λ ss. read (w ss))
     ≡ read (some_rounds count many (λ ss. w ((parts ++ (s ∷ [])) ++ ss))) m left =
     λ s m left. rounds_read count many (j + 1) (parts ++ (s ∷ [])) w m left in
     let after : Term → Term → List Term → Rest = λ a b es. some_rounds count many (λ ss. w (parts ++ (record { left = a; right = b; next = es } ∷ ss))) in
@@ -215,7 +215,7 @@ body_read : (c i r n : ℕ) (ls : List Lexeme) →
     ≡ read (a_body i c r) n ls
 unfolding assigns rounds
 body_read c i r n ls =
-    let last : List Term → List Step → Rest = λ es ss. AToken token.Finish (AnExpression 0 (λ e. Nothing (record { channels = c; start = es; steps = ss; finish = e }))) in
+    let last : List Term → List Round → Rest = λ es ss. AToken token.Finish (AnExpression 0 (λ e. Nothing (record { channels = c; start = es; steps = ss; finish = e }))) in
     go_on_same (assigns r n ls) _ _ (λ es m left. rounds_read i r 0 [] (last es) m left)
     ∙ assigns_read r 0 [] (λ es. some_rounds i r (last es)) n ls
 

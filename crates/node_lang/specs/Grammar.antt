@@ -4,7 +4,7 @@ use Rattle.std.specs.Prelude.{◌≡◌, ℕ, ◌+◌, ◌<◌, ◌≤◌, List,
 use Rattle.node_lang.specs.declared.limits.TheConstants.{LONGEST_TEXT}
 use Rattle.node_lang.specs.declared.token.Token.{Token}
 use Rattle.node_lang.specs.declared.token.Token.TheVariants as token
-use Rattle.node_program.specs.Term.{Term, Literal, Identifier, LeftMessage, RightMessage, RegisterValue, Unary, Binary, Conditional, Step, ProgramTree}
+use Rattle.node_program.specs.Term.{Term, Literal, Identifier, LeftMessage, RightMessage, RegisterValue, One, Two, Choose, Round, ProgramTree}
 use Rattle.node_lang.specs.Lexemes.{tokens_of}
 use Rattle.node_program.specs.Limits.{IsWithinLimits}
 
@@ -15,9 +15,9 @@ spelled Identifier more = token.Id ∷ more
 spelled LeftMessage more = token.FromLeft ∷ more
 spelled RightMessage more = token.FromRight ∷ more
 spelled (RegisterValue j) more = token.Register j ∷ more
-spelled (Unary o a) more = token.Unary o ∷ token.Open ∷ spelled a (token.Close ∷ more)
-spelled (Binary o a b) more = token.Binary o ∷ token.Open ∷ spelled a (token.Comma ∷ spelled b (token.Close ∷ more))
-spelled (Conditional c a b) more =
+spelled (One o a) more = token.One o ∷ token.Open ∷ spelled a (token.Close ∷ more)
+spelled (Two o a b) more = token.Two o ∷ token.Open ∷ spelled a (token.Comma ∷ spelled b (token.Close ∷ more))
+spelled (Choose c a b) more =
     token.If ∷ token.Open ∷ spelled c (token.Comma ∷ spelled a (token.Comma ∷ spelled b (token.Close ∷ more)))
 
 -- the assignments to the registers from j on, then `more`
@@ -26,11 +26,11 @@ assigned j [] more = more
 assigned j (e ∷ es) more = token.Register j ∷ token.Equals ∷ spelled e (assigned (j + 1) es more)
 
 -- a round, then `more`
-abbrev pub block : Step → List Token → List Token
+abbrev pub block : Round → List Token → List Token
 block s more = token.Round ∷ token.Send ∷ token.Left ∷ spelled s.left
     (token.Send ∷ token.Right ∷ spelled s.right (assigned 0 s.next more))
 
-abbrev pub blocks : List Step → List Token → List Token
+abbrev pub blocks : List Round → List Token → List Token
 blocks [] more = more
 blocks (s ∷ ss) more = block s (blocks ss more)
 

@@ -2,14 +2,14 @@
 use Rattle.std.specs.Prelude.{ℕ, ◌+◌, List, [], ◌∷◌, ◌++◌, length, codes}
 use Rattle.std.specs.List.{flat_map}
 use Rattle.std.specs.Fmt.{decimal}
-use Rattle.node_program.specs.Term.{Term, Literal, Identifier, LeftMessage, RightMessage, RegisterValue, Unary, Binary, Conditional, Step, ProgramTree}
+use Rattle.node_program.specs.Term.{Term, Literal, Identifier, LeftMessage, RightMessage, RegisterValue, One, Two, Choose, Round, ProgramTree}
 use Rattle.node_lang.specs.Words.{unary_name, binary_name}
 
 -- the name of an expression's operation, or an empty name
 abbrev pub operation_name : Term → List ℕ
-operation_name (Unary o a) = unary_name o
-operation_name (Binary o a b) = binary_name o
-operation_name (Conditional c a b) = codes "if"
+operation_name (One o a) = unary_name o
+operation_name (Two o a b) = binary_name o
+operation_name (Choose c a b) = codes "if"
 operation_name _ = []
 
 -- an expression: its operands are separated by a comma and one blank, with no other blanks in it
@@ -19,10 +19,10 @@ printed_expression Identifier = codes "id"
 printed_expression LeftMessage = codes "L"
 printed_expression RightMessage = codes "R"
 printed_expression (RegisterValue j) = codes "r" ++ decimal j
-printed_expression (Unary o a) = unary_name o ++ (codes "(" ++ (printed_expression a ++ codes ")"))
-printed_expression (Binary o a b) =
+printed_expression (One o a) = unary_name o ++ (codes "(" ++ (printed_expression a ++ codes ")"))
+printed_expression (Two o a b) =
     binary_name o ++ (codes "(" ++ (printed_expression a ++ (codes ", " ++ (printed_expression b ++ codes ")"))))
-printed_expression (Conditional c a b) = codes "if" ++ (codes "(" ++ (printed_expression c
+printed_expression (Choose c a b) = codes "if" ++ (codes "(" ++ (printed_expression c
     ++ (codes ", " ++ (printed_expression a ++ (codes ", " ++ (printed_expression b ++ codes ")"))))))
 
 -- the assignment of an expression to register j
@@ -39,7 +39,7 @@ abbrev pub send_line : List ℕ → Term → List ℕ
 send_line side e = codes "send " ++ (side ++ (codes " " ++ (printed_expression e ++ codes "\n")))
 
 -- a round
-abbrev pub round_lines : Step → List ℕ
+abbrev pub round_lines : Round → List ℕ
 round_lines s = codes "round\n"
     ++ (send_line (codes "left") s.left ++ (send_line (codes "right") s.right ++ assignment_lines 0 s.next))
 

@@ -5,7 +5,7 @@ use Rattle.node_lang.specs.declared.fault.FaultKind.{FaultKind}
 use Rattle.node_lang.specs.declared.fault.FaultKind.TheVariants as kind
 use Rattle.node_lang.specs.declared.token.Token.{Token}
 use Rattle.node_lang.specs.declared.token.Token.TheVariants as token
-use Rattle.node_program.specs.Term.{Term, Literal, Identifier, LeftMessage, RightMessage, RegisterValue, Unary, Binary, Conditional, Step, ProgramTree}
+use Rattle.node_program.specs.Term.{Term, Literal, Identifier, LeftMessage, RightMessage, RegisterValue, One, Two, Choose, Round, ProgramTree}
 use Rattle.node_lang.specs.Lexemes.{Lexeme}
 
 -- What was read, with the number of expression nodes so far and the lexemes left; or a fault, with the number of bytes
@@ -112,9 +112,9 @@ after operand token.Id = Some (done Identifier)
 after operand token.FromLeft = Some (done LeftMessage)
 after operand token.FromRight = Some (done RightMessage)
 after operand (token.Register j) = Some (done (RegisterValue j))
-after operand (token.Unary o) = Some (one_of operand >>= λ a. done (Unary o a))
-after operand (token.Binary o) = Some (two_of operand >>= λ p. done (Binary o p.0 p.1))
-after operand token.If = Some (three_of operand >>= λ p. done (Conditional p.0 p.1 p.2))
+after operand (token.One o) = Some (one_of operand >>= λ a. done (One o a))
+after operand (token.Two o) = Some (two_of operand >>= λ p. done (Two o p.0 p.1))
+after operand token.If = Some (three_of operand >>= λ p. done (Choose p.0 p.1 p.2))
 after operand _ = None
 
 -- the token is judged first, then the depth, then the number of nodes
@@ -190,7 +190,7 @@ assign j = do
 unfoldable pub assigns : ℕ → Reader (List Term)
 assigns registers = each assign registers 0 []
 
-unfoldable pub round : ℕ → Reader Step
+unfoldable pub round : ℕ → Reader Round
 round registers = do
   exactly token.Round
   exactly token.Send
@@ -202,7 +202,7 @@ round registers = do
   next ← assigns registers
   done (record { left = left; right = right; next = next })
 
-unfoldable pub rounds : ℕ → ℕ → Reader (List Step)
+unfoldable pub rounds : ℕ → ℕ → Reader (List Round)
 rounds count registers = each (λ _. round registers) count 0 []
 
 unfoldable pub program : Reader ProgramTree

@@ -6,7 +6,7 @@ use Rattle.node_lang.specs.declared.fault.FaultKind.{FaultKind}
 use Rattle.node_lang.specs.declared.fault.FaultKind.TheVariants as kind
 use Rattle.node_lang.specs.declared.token.Token.{Token}
 use Rattle.node_lang.specs.declared.token.Token.TheVariants as token
-use Rattle.node_program.specs.Term.{Term, Literal, Identifier, LeftMessage, RightMessage, RegisterValue, Unary, Binary, Conditional, Step, ProgramTree}
+use Rattle.node_program.specs.Term.{Term, Literal, Identifier, LeftMessage, RightMessage, RegisterValue, One, Two, Choose, Round, ProgramTree}
 use Rattle.node_lang.specs.Lexemes.{Lexeme}
 use Rattle.node_lang.specs.Grammar.{spelling}
 
@@ -47,10 +47,10 @@ marked Identifier d more = node token.Id d ∷ more
 marked LeftMessage d more = node token.FromLeft d ∷ more
 marked RightMessage d more = node token.FromRight d ∷ more
 marked (RegisterValue j) d more = node (token.Register j) d ∷ more
-marked (Unary o a) d more = node (token.Unary o) d ∷ plain token.Open ∷ marked a (d + 1) (plain token.Close ∷ more)
-marked (Binary o a b) d more = node (token.Binary o) d ∷ plain token.Open
+marked (One o a) d more = node (token.One o) d ∷ plain token.Open ∷ marked a (d + 1) (plain token.Close ∷ more)
+marked (Two o a b) d more = node (token.Two o) d ∷ plain token.Open
     ∷ marked a (d + 1) (plain token.Comma ∷ marked b (d + 1) (plain token.Close ∷ more))
-marked (Conditional c a b) d more = node token.If d ∷ plain token.Open
+marked (Choose c a b) d more = node token.If d ∷ plain token.Open
     ∷ marked c (d + 1) (plain token.Comma ∷ marked a (d + 1) (plain token.Comma ∷ marked b (d + 1) (plain token.Close ∷ more)))
 
 -- the marks of assignments to the registers from j on, then `more`
@@ -59,7 +59,7 @@ marked_assignments j [] more = more
 marked_assignments j (e ∷ es) more =
     plain (token.Register j) ∷ plain token.Equals ∷ marked e 1 (marked_assignments (j + 1) es more)
 
-abbrev pub marked_blocks : List Step → List Mark → List Mark
+abbrev pub marked_blocks : List Round → List Mark → List Mark
 marked_blocks [] more = more
 marked_blocks (s ∷ ss) more = plain token.Round ∷ plain token.Send ∷ plain token.Left ∷ marked s.left 1
     (plain token.Send ∷ plain token.Right ∷ marked s.right 1 (marked_assignments 0 s.next (marked_blocks ss more)))

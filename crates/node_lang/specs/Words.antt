@@ -55,8 +55,8 @@ word_of token.Id = codes "id"
 word_of token.FromLeft = codes "L"
 word_of token.FromRight = codes "R"
 word_of token.If = codes "if"
-word_of (token.Unary o) = unary_name o
-word_of (token.Binary o) = binary_name o
+word_of (token.One o) = unary_name o
+word_of (token.Two o) = binary_name o
 word_of _ = []
 
 -- the words that are not names of operations
@@ -66,10 +66,10 @@ keywords = token.Rounds ∷ token.Channels ∷ token.Registers ∷ token.Start �
 
 -- the seventeen operations
 abbrev pub operations : List Token
-operations = token.Unary Not ∷ token.Binary op.And ∷ token.Binary op.Or ∷ token.Binary op.Xor ∷ token.Binary op.Shl
-    ∷ token.Binary op.Shr ∷ token.Binary op.Add ∷ token.Binary op.Sub ∷ token.Binary op.Min ∷ token.Binary op.Max
-    ∷ token.Binary op.Ldb ∷ token.Binary op.Bit ∷ token.Binary op.Eq ∷ token.Binary op.Ne ∷ token.Binary op.Lt
-    ∷ token.Binary op.Le ∷ token.If ∷ []
+operations = token.One Not ∷ token.Two op.And ∷ token.Two op.Or ∷ token.Two op.Xor ∷ token.Two op.Shl
+    ∷ token.Two op.Shr ∷ token.Two op.Add ∷ token.Two op.Sub ∷ token.Two op.Min ∷ token.Two op.Max
+    ∷ token.Two op.Ldb ∷ token.Two op.Bit ∷ token.Two op.Eq ∷ token.Two op.Ne ∷ token.Two op.Lt
+    ∷ token.Two op.Le ∷ token.If ∷ []
 
 -- the token among these that has this spelling
 abbrev pub named : List Token → List ℕ → Option Token

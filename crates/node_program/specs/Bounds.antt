@@ -2,7 +2,7 @@
 use Rattle.std.specs.Prelude.{ℕ, zero, suc, ◌+◌, ◌-◌, ◌*◌, ◌/◌, ◌^◌, ◌≤◌, nat_lt, min, max, Option, Some, None, List, [], map, length, slice_get, slice_index, if◌then◌else◌}
 use Rattle.node_program.specs.declared.tree.BinOp.{BinOp}
 use Rattle.node_program.specs.declared.tree.BinOp.TheVariants.{And, Or, Xor, Shl, Shr, Add, Sub, Min, Max, Ldb, Bit, Eq, Ne, Lt, Le}
-use Rattle.node_program.specs.Term.{Term, Literal, Identifier, LeftMessage, RightMessage, RegisterValue, Unary, Binary, Conditional, Step, ProgramTree}
+use Rattle.node_program.specs.Term.{Term, Literal, Identifier, LeftMessage, RightMessage, RegisterValue, One, Two, Choose, Round, ProgramTree}
 use Rattle.node_program.specs.Operations.{top}
 use Rattle.node_program.specs.Value.{Env}
 
@@ -56,9 +56,9 @@ bound Identifier env = env.id
 bound LeftMessage env = env.left
 bound RightMessage env = env.right
 bound (RegisterValue j) env = slice_index env.registers j
-bound (Unary o a) env = top
-bound (Binary o a b) env = binary_bound o (written_number b) (bound a env) (bound b env)
-bound (Conditional c a b) env = max (bound a env) (bound b env)
+bound (One o a) env = top
+bound (Two o a b) env = binary_bound o (written_number b) (bound a env) (bound b env)
+bound (Choose c a b) env = max (bound a env) (bound b env)
 
 -- the bounds of what an expression may read: identifiers are below m, then those of the messages and of the registers
 abbrev pub reading_bounds : ℕ → ℕ → ℕ → List ℕ → Env
@@ -69,19 +69,19 @@ abbrev pub start_bounds : ProgramTree → ℕ → List ℕ
 start_bounds p m = map (λ e. bound e (reading_bounds m 0 0 [])) p.start
 
 -- the bound of what a round sends to the left, and to the right, by the bounds of the registers before it
-abbrev pub left_sent_bound : Step → ℕ → List ℕ → ℕ
+abbrev pub left_sent_bound : Round → ℕ → List ℕ → ℕ
 left_sent_bound s m registers = bound s.left (reading_bounds m 0 0 registers)
 
-abbrev pub right_sent_bound : Step → ℕ → List ℕ → ℕ
+abbrev pub right_sent_bound : Round → ℕ → List ℕ → ℕ
 right_sent_bound s m registers = bound s.right (reading_bounds m 0 0 registers)
 
 -- what comes from the left was sent to the right in this round, and the other way round
-abbrev pub arriving_bounds : Step → ℕ → List ℕ → Env
+abbrev pub arriving_bounds : Round → ℕ → List ℕ → Env
 arriving_bounds s m registers =
     reading_bounds m (right_sent_bound s m registers) (left_sent_bound s m registers) registers
 
 -- the bounds of the registers after a round; all assignments read those from before it
-abbrev pub next_bounds : Option Step → ℕ → List ℕ → List ℕ
+abbrev pub next_bounds : Option Round → ℕ → List ℕ → List ℕ
 next_bounds None m registers = []
 next_bounds (Some s) m registers = map (λ e. bound e (arriving_bounds s m registers)) s.next
 

@@ -3,7 +3,7 @@ use Rattle.std.specs.Prelude.{◌≡◌, ℕ, zero, suc, List, [], ◌∷◌, re
 use Rattle.std.proofs.Common.{sym, ◌∙◌, ap}
 use Rattle.std.specs.Coded.{Coded, code_by, coded×, coded_ℕ, coded_list}
 use base.Stored.{Gv, gnum, gcons}
-use Rattle.node_program.specs.Term.{Term, Literal, Identifier, LeftMessage, RightMessage, RegisterValue, Unary, Binary, Conditional, Step, ProgramTree}
+use Rattle.node_program.specs.Term.{Term, Literal, Identifier, LeftMessage, RightMessage, RegisterValue, One, Two, Choose, Round, ProgramTree}
 use Rattle.node_program.specs.declared.tree.UnOp.TheVariants.{Not}
 use Rattle.node_program.specs.declared.tree.BinOp.{BinOp}
 use Rattle.node_program.specs.declared.tree.BinOp.TheVariants as op
@@ -39,18 +39,18 @@ stored LeftMessage = gnum 1
 stored RightMessage = gnum 2
 stored (Literal n) = gcons (gnum 0) (gnum n)
 stored (RegisterValue n) = gcons (gnum 1) (gnum n)
-stored (Unary Not a) = gcons (gnum 2) (stored a)
-stored (Binary o a b) = gcons (gnum 3) (gcons (gnum (number_of o)) (gcons (stored a) (stored b)))
-stored (Conditional c a b) = gcons (gnum 4) (gcons (stored c) (gcons (stored a) (stored b)))
+stored (One Not a) = gcons (gnum 2) (stored a)
+stored (Two o a b) = gcons (gnum 3) (gcons (gnum (number_of o)) (gcons (stored a) (stored b)))
+stored (Choose c a b) = gcons (gnum 4) (gcons (stored c) (gcons (stored a) (stored b)))
 
 abbrev loaded : Gv → Term
 loaded (gnum (suc zero)) = LeftMessage
 loaded (gnum (suc (suc n))) = RightMessage
 loaded (gcons (gnum zero) (gnum n)) = Literal n
 loaded (gcons (gnum (suc zero)) (gnum n)) = RegisterValue n
-loaded (gcons (gnum (suc (suc zero))) a) = Unary Not (loaded a)
-loaded (gcons (gnum (suc (suc (suc zero)))) (gcons (gnum o) (gcons a b))) = Binary (operation_at o) (loaded a) (loaded b)
-loaded (gcons (gnum (suc (suc (suc (suc n))))) (gcons c (gcons a b))) = Conditional (loaded c) (loaded a) (loaded b)
+loaded (gcons (gnum (suc (suc zero))) a) = One Not (loaded a)
+loaded (gcons (gnum (suc (suc (suc zero)))) (gcons (gnum o) (gcons a b))) = Two (operation_at o) (loaded a) (loaded b)
+loaded (gcons (gnum (suc (suc (suc (suc n))))) (gcons c (gcons a b))) = Choose (loaded c) (loaded a) (loaded b)
 loaded _ = Identifier
 
 pub loaded-stored : (e : Term) → loaded (stored e) ≡ e
@@ -59,20 +59,20 @@ loaded-stored LeftMessage = refl
 loaded-stored RightMessage = refl
 loaded-stored (Literal n) = refl
 loaded-stored (RegisterValue n) = refl
-loaded-stored (Unary Not a) = ap (Unary Not) (loaded-stored a)
-loaded-stored (Binary o a b) = λ i. Binary (operation_at-number_of o i) (loaded-stored a i) (loaded-stored b i)
-loaded-stored (Conditional c a b) = λ i. Conditional (loaded-stored c i) (loaded-stored a i) (loaded-stored b i)
+loaded-stored (One Not a) = ap (One Not) (loaded-stored a)
+loaded-stored (Two o a b) = λ i. Two (operation_at-number_of o i) (loaded-stored a i) (loaded-stored b i)
+loaded-stored (Choose c a b) = λ i. Choose (loaded-stored c i) (loaded-stored a i) (loaded-stored b i)
 
 abbrev term_code : Coded Term
 term_code = record { code = stored; inj = λ x y e. sym (loaded-stored x) ∙ ap loaded e ∙ loaded-stored y }
 
-abbrev step_code : Coded Step
+abbrev step_code : Coded Round
 step_code = code_by (Term × (Term × List Term)) (coded× term_code (coded× term_code (coded_list term_code)))
     (λ s. (s.left, (s.right, s.next))) (λ t. record { left = t.0; right = t.1.0; next = t.1.1 }) (λ _. refl)
 
 abbrev pub program_code : Coded ProgramTree
 program_code =
-    code_by (ℕ × (List Term × (List Step × Term)))
+    code_by (ℕ × (List Term × (List Round × Term)))
     (coded× coded_ℕ (coded× (coded_list term_code) (coded× (coded_list step_code) term_code)))
     (λ p. (p.channels, (p.start, (p.steps, p.finish))))
     (λ t. record { channels = t.0; start = t.1.0; steps = t.1.1.0; finish = t.1.1.1 })

@@ -11,7 +11,7 @@ use Rattle.node_lang.specs.declared.fault.FaultKind.{FaultKind}
 use Rattle.node_lang.specs.declared.fault.FaultKind.TheVariants as kind
 use Rattle.node_lang.specs.declared.token.Token.{Token}
 use Rattle.node_lang.specs.declared.token.Token.TheVariants as token
-use Rattle.node_program.specs.Term.{Term, Literal, Identifier, LeftMessage, RightMessage, RegisterValue, Unary, Binary, Conditional, Step, ProgramTree}
+use Rattle.node_program.specs.Term.{Term, Literal, Identifier, LeftMessage, RightMessage, RegisterValue, One, Two, Choose, Round, ProgramTree}
 use Rattle.node_lang.specs.Lexemes.{lexemes_of, tokens_of}
 use Rattle.node_lang.specs.Grammar.{body, Reads}
 use Rattle.node_lang.specs.Reading.{Read, Got, Fault, same_token, program}
@@ -69,14 +69,14 @@ plain_program r c k = record {
   finish = Identifier;
 }
 
-each_same : (r : ℕ) (s : Step) (k : ℕ) → length s.next ≡ k → All (λ s. length s.next ≡ k) (replicate r s)
-each_same ℕ.zero s k e = All-nil (λ (s : Step). length s.next ≡ k)
-each_same (suc r) s k e = All-cons (λ (s : Step). length s.next ≡ k) s (replicate r s) e (each_same r s k e)
+each_same : (r : ℕ) (s : Round) (k : ℕ) → length s.next ≡ k → All (λ s. length s.next ≡ k) (replicate r s)
+each_same ℕ.zero s k e = All-nil (λ (s : Round). length s.next ≡ k)
+each_same (suc r) s k e = All-cons (λ (s : Round). length s.next ≡ k) s (replicate r s) e (each_same r s k e)
 
 plain_is_program : (r c k : ℕ) → IsProgram (plain_program r c k)
 plain_is_program r c k = each_same r _ _ refl
 
-abbrev plain_step : ℕ → Step
+abbrev plain_step : ℕ → Round
 plain_step k = record { left = Identifier; right = Identifier; next = replicate k Identifier }
 
 -- so each number of the header goes on to a program, even out of its range
@@ -111,12 +111,12 @@ completed_term f d w token.Id h = completed (w Identifier) _ (h Identifier)
 completed_term f d w token.FromLeft h = completed (w LeftMessage) _ (h LeftMessage)
 completed_term f d w token.FromRight h = completed (w RightMessage) _ (h RightMessage)
 completed_term f d w (token.Register j) h = completed (w (RegisterValue j)) _ (h (RegisterValue j))
-completed_term f d w (token.Unary o) h =
-    let e = Unary o Identifier in let c = completed (w e) _ (h e) in record { program = c.program; more = _; each_register = c.each_register; are = c.are }
-completed_term f d w (token.Binary o) h =
-    let e = Binary o Identifier Identifier in let c = completed (w e) _ (h e) in record { program = c.program; more = _; each_register = c.each_register; are = c.are }
+completed_term f d w (token.One o) h =
+    let e = One o Identifier in let c = completed (w e) _ (h e) in record { program = c.program; more = _; each_register = c.each_register; are = c.are }
+completed_term f d w (token.Two o) h =
+    let e = Two o Identifier Identifier in let c = completed (w e) _ (h e) in record { program = c.program; more = _; each_register = c.each_register; are = c.are }
 completed_term f d w token.If h =
-    let e = Conditional Identifier Identifier Identifier in let c = completed (w e) _ (h e) in record { program = c.program; more = _; each_register = c.each_register; are = c.are }
+    let e = Choose Identifier Identifier Identifier in let c = completed (w e) _ (h e) in record { program = c.program; more = _; each_register = c.each_register; are = c.are }
 completed_term f d w t h = tt
 
 viable_if : {before : List Token} {nodes : ℕ} {w : Rest} (t : Token) (d : ℕ) (p : Place before nodes w) (o : Option Rest) {v : Rest} → o ≡ Some v →
@@ -272,8 +272,8 @@ begins_follows d w token.Id h = (_, refl)
 begins_follows d w token.FromLeft h = (_, refl)
 begins_follows d w token.FromRight h = (_, refl)
 begins_follows d w (token.Register j) h = (_, refl)
-begins_follows d w (token.Unary o) h = (_, refl)
-begins_follows d w (token.Binary o) h = (_, refl)
+begins_follows d w (token.One o) h = (_, refl)
+begins_follows d w (token.Two o) h = (_, refl)
 begins_follows d w token.If h = (_, refl)
 begins_follows d w t h = absurd h
 
@@ -283,8 +283,8 @@ follows_begins d w token.Id e = tt
 follows_begins d w token.FromLeft e = tt
 follows_begins d w token.FromRight e = tt
 follows_begins d w (token.Register j) e = tt
-follows_begins d w (token.Unary o) e = tt
-follows_begins d w (token.Binary o) e = tt
+follows_begins d w (token.One o) e = tt
+follows_begins d w (token.Two o) e = tt
 follows_begins d w token.If e = tt
 follows_begins d w t e = absurd (cc)
 

@@ -7,7 +7,7 @@ use Rattle.node_lang.specs.declared.fault.FaultKind.{FaultKind}
 use Rattle.node_lang.specs.declared.fault.FaultKind.TheVariants as kind
 use Rattle.node_lang.specs.declared.token.Token.{Token}
 use Rattle.node_lang.specs.declared.token.Token.TheVariants as token
-use Rattle.node_program.specs.Term.{Term, Literal, Identifier, LeftMessage, RightMessage, RegisterValue, Unary, Binary, Conditional, Step, ProgramTree}
+use Rattle.node_program.specs.Term.{Term, Literal, Identifier, LeftMessage, RightMessage, RegisterValue, One, Two, Choose, Round, ProgramTree}
 use Rattle.node_lang.specs.Lexemes.{Lexeme, tokens_in}
 use Rattle.node_lang.specs.Reading.{Read, Got, Fault, same_token, expression, program}
 use Rattle.node_lang.specs.Viable.{Stands, unknown, large, out_of_range, unexpected, too_deep, too_many}
@@ -92,7 +92,7 @@ assignments_fixed : (count j : ℕ) (w : List Term → Rest) → j + count ≤ M
 assignments_fixed zero j w few h = h []
 assignments_fixed (suc count) j w few h = (omega arith, (tt, λ e. assignments_fixed count (j + 1) (λ es. w (e ∷ es)) (omega arith) (λ es. h (e ∷ es))))
 
-rounds_fixed : (count many : ℕ) (w : List Step → Rest) → many ≤ MAX_REGISTERS → ((ss : List Step) → AllFixed (w ss)) → AllFixed (some_rounds count many w)
+rounds_fixed : (count many : ℕ) (w : List Round → Rest) → many ≤ MAX_REGISTERS → ((ss : List Round) → AllFixed (w ss)) → AllFixed (some_rounds count many w)
 rounds_fixed zero many w few h = h []
 rounds_fixed (suc count) many w few h =
     (tt, (tt, (tt, λ left. (tt, (tt, λ right. assignments_fixed many 0 _ (omega arith) (λ next. rounds_fixed count many _ few (λ ss. h _)))))))
@@ -111,9 +111,9 @@ following_fixed d w token.Id h = h Identifier
 following_fixed d w token.FromLeft h = h LeftMessage
 following_fixed d w token.FromRight h = h RightMessage
 following_fixed d w (token.Register j) h = h (RegisterValue j)
-following_fixed d w (token.Unary o) h = (tt, λ a. (tt, h (Unary o a)))
-following_fixed d w (token.Binary o) h = (tt, λ a. (tt, λ b. (tt, h (Binary o a b))))
-following_fixed d w token.If h = (tt, λ c. (tt, λ a. (tt, λ b. (tt, h (Conditional c a b)))))
+following_fixed d w (token.One o) h = (tt, λ a. (tt, h (One o a)))
+following_fixed d w (token.Two o) h = (tt, λ a. (tt, λ b. (tt, h (Two o a b))))
+following_fixed d w token.If h = (tt, λ c. (tt, λ a. (tt, λ b. (tt, h (Choose c a b)))))
 following_fixed d w t h = tt
 
 abbrev FixedMet : Met → Type 0

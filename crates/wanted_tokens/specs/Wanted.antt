@@ -40,8 +40,8 @@ BeginsExpression token.Id = Unit {0}
 BeginsExpression token.FromLeft = Unit {0}
 BeginsExpression token.FromRight = Unit {0}
 BeginsExpression (token.Register j) = Unit {0}
-BeginsExpression (token.Unary o) = Unit {0}
-BeginsExpression (token.Binary o) = Unit {0}
+BeginsExpression (token.One o) = Unit {0}
+BeginsExpression (token.Two o) = Unit {0}
 BeginsExpression token.If = Unit {0}
 BeginsExpression _ = ⊥
 
