@@ -1,18 +1,9 @@
-ghost use Rattle.std.specs.Prelude.{◌≡◌, ◌-◌, ◌^◌, ◌≤◌, max, slice_index};
+ghost use Rattle.std.specs.Prelude.{◌≡◌, ◌-◌, ◌^◌, ◌≤◌, max};
 ghost use Rattle.node_program.specs.Term.{term_of};
 ghost use Rattle.node_program.specs.Bounds as bounds;
-ghost use Rattle.lang_check.specs.Limits.{env_of};
+ghost use Rattle.node_program.specs.Value.{env_of};
 
-use node_program::{BinOp, Expr, UnOp};
-
-// The bounds of what an expression may read: the identifier, both messages and the registers.
-#[derive(Clone, Copy)]
-pub(crate) struct Limits<'a> {
-    pub(crate) id: u32,
-    pub(crate) left: u32,
-    pub(crate) right: u32,
-    pub(crate) registers: &'a [u32],
-}
+use node_program::{BinOp, Env, Expr, UnOp, register_or_zero};
 
 // The bound of each operation, one line each, from those of its operands and from the literal that
 // its second operand is, if it is one.
@@ -28,7 +19,7 @@ macro_rules! bounds {
             Expr::Id => $limits.id,
             Expr::FromLeft => $limits.left,
             Expr::FromRight => $limits.right,
-            Expr::Register(register) => limit_or_zero($limits.registers, *register),
+            Expr::Register(register) => register_or_zero($limits.registers, *register),
             Expr::One(op, _) => match op {
                 $(UnOp::$one => $one_bound,)*
             },
@@ -49,7 +40,7 @@ macro_rules! bounds {
     };
 }
 
-pub(crate) fn bound_of(expression: &Expr, limits: Limits<'_>) -> u32
+pub(crate) fn bound_of(expression: &Expr, limits: Env<'_>) -> u32
     ensures { result ≡ bounds.bound (term_of expression.now) (env_of limits.entry) }
 {
     bounds!(expression, limits, written;
@@ -75,13 +66,6 @@ pub(crate) fn bound_of(expression: &Expr, limits: Limits<'_>) -> u32
         }
         choose(a, b) => a.max(b)
     )
-}
-
-// The bound of a register, or 0 if it does not exist.
-pub(crate) fn limit_or_zero(registers: &[u32], register: u32) -> u32
-    ensures { result ≡ slice_index registers.now register }
-{
-    registers.get(register as usize).copied().unwrap_or(0)
 }
 
 // The number of a literal, or `None` for any other expression.

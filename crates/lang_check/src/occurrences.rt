@@ -3,8 +3,7 @@ ghost use Rattle.std.specs.List.{list_any};
 ghost use Rattle.node_program.specs.Term.{term_of, step_of, step_terms};
 ghost use Rattle.lang_check.specs.Occurrences.{registers_read, reads_identifier, reads_message, sent_terms};
 
-use crate::bounds::limit_or_zero;
-use node_program::{Expr, Round};
+use node_program::{Expr, Round, register_or_zero};
 
 // The first register that the expression reads and that is not below `count`.
 #[tactic(auto, using(crate::proofs::OccurrenceLemmas::joined))]
@@ -37,7 +36,7 @@ pub(crate) fn register_over(limit: u32, bounds: &[u32], expression: &Expr) -> Op
 {
     match expression {
         Expr::Register(register) => {
-            if limit_or_zero(bounds, *register) < limit {
+            if register_or_zero(bounds, *register) < limit {
                 None
             } else {
                 Some(*register)

@@ -2,11 +2,11 @@ ghost use Rattle.std.specs.Prelude.{◌≡◌, ℕ, ◌-◌, ◌≤◌, map, len
 ghost use Rattle.node_program.specs.Term.{term_of, step_of};
 ghost use Rattle.node_program.specs.Bounds as bounds;
 ghost use Rattle.lang_check.specs.Acceptance as acceptance;
-ghost use Rattle.lang_check.specs.Limits.{env_of};
+ghost use Rattle.node_program.specs.Value.{env_of};
 
-use crate::bounds::{Limits, bound_of};
+use crate::bounds::bound_of;
 use crate::occurrences::register_over;
-use node_program::{Expr, MAX_REGISTERS, Program, Round};
+use node_program::{Env, Expr, MAX_REGISTERS, Program, Round};
 
 // The bound of the channels of a program with this number of identifiers.
 #[tactic(auto, unfolding(node_program::specs::Bounds::finish_bound))]
@@ -65,7 +65,7 @@ fn round_bounds(round: &Round, ids: u32, registers: &mut [u32])
 }
 
 // Writes the bound of each expression to the cell at its index, all from the same limits.
-fn assign_bounds(expressions: &[Expr], limits: Limits<'_>, out: &mut [u32])
+fn assign_bounds(expressions: &[Expr], limits: Env<'_>, out: &mut [u32])
     requires { length out.old ≡ length expressions.now }
     ensures { out.new ≡ map (λ e. bounds.bound e (env_of limits.entry)) (map term_of expressions.now) }
 {
@@ -75,13 +75,13 @@ fn assign_bounds(expressions: &[Expr], limits: Limits<'_>, out: &mut [u32])
 }
 
 // The bounds of what an expression may read, with this number of identifiers.
-pub(crate) fn limits(ids: u32, left: u32, right: u32, registers: &[u32]) -> Limits<'_>
+pub(crate) fn limits(ids: u32, left: u32, right: u32, registers: &[u32]) -> Env<'_>
     ensures id { result.id ≡ ids - 1 }
     ensures left { result.left ≡ left }
     ensures right { result.right ≡ right }
     ensures registers { result.registers.now ≡ registers.now }
 {
-    Limits {
+    Env {
         id: ids.saturating_sub(1),
         left,
         right,

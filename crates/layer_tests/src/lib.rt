@@ -9,6 +9,8 @@ mod blocks;
 #[cfg(test)]
 mod columns;
 #[cfg(test)]
+mod nodes;
+#[cfg(test)]
 mod printing;
 #[cfg(test)]
 mod windows;

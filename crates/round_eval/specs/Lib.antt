@@ -1,5 +1,4 @@
--- The definitions of this crate that contracts cite: what an expression sees, rows of nodes, and the laws of rows.
+-- The definitions of this crate that contracts cite: rows of nodes, and the laws of rows.
 -- Those of programs, nodes and rings are in node_program, those of plans in lang_check.
-pub mod View
 pub mod Rows
 pub mod Laws

@@ -2,8 +2,9 @@ ghost use Rattle.std.specs.Prelude.{◌≡◌, ◌<◌, length};
 ghost use Rattle.node_program.specs.Node as rounds;
 ghost use Rattle.node_program.specs.Bounds.{register_bounds, IsWithin};
 
-use crate::value::{View, assign, value_of};
+use crate::value::{assign, value_of};
 use lang_check::{Plan, accepted_channels_are_below};
+use node_program::Env;
 
 /// Writes the registers of a node with the identifier `id` before the first round to `out`, which
 /// has a cell for each register.
@@ -12,14 +13,14 @@ pub fn start_state(plan: &Plan, id: u32, out: &mut [u32])
     requires cells { length out.old ≡ length plan.now.program.start }
     ensures { out.new ≡ rounds.start plan.now.program id }
 {
-    let view = View {
+    let env = Env {
         id,
         left: 0,
         right: 0,
         registers: &[],
     };
     let program = plan.program();
-    assign(program.start(), view, out);
+    assign(program.start(), env, out);
 }
 
 /// Returns the messages of a node with these registers in a round, to its left and to its right.
@@ -95,13 +96,13 @@ pub fn sent_to_right(plan: &Plan, round: u32, own: &[u32]) -> u32
 }
 
 // What an expression reads in a round: the registers and both messages.
-fn reading_messages(registers: &[u32], left: u32, right: u32) -> View<'_>
+fn reading_messages(registers: &[u32], left: u32, right: u32) -> Env<'_>
     ensures id { result.id ≡ 0 }
     ensures left { result.left ≡ left }
     ensures right { result.right ≡ right }
     ensures registers { result.registers.now ≡ registers.now }
 {
-    View {
+    Env {
         id: 0,
         left,
         right,

@@ -1,7 +1,7 @@
-use crate::node::{channel, messages, start_state, step};
-use crate::rounds::plain_run;
-use crate::value::{View, value_of};
-use node_program::{BinOp, Expr, UnOp};
+//! Values of expressions, and rounds at one node and on a ring.
+
+use node_program::{BinOp, Env, Expr, UnOp};
+use round_eval::{channel, messages, plain_run, start_state, step, value_of};
 use std::alloc::{AllocError, Global};
 use std::test::Fail;
 use test_programs::{TWO_REGISTERS, plan_of};
@@ -28,13 +28,13 @@ fn choose(alloc: Global, c: u32, a: u32, b: u32) -> Result<Expr, AllocError> {
 
 // The value of an expression that can read nothing but zeros.
 fn value(expression: &Expr) -> u32 {
-    let view = View {
+    let env = Env {
         id: 0,
         left: 0,
         right: 0,
         registers: &[],
     };
-    value_of(expression, view)
+    value_of(expression, env)
 }
 
 #[test]
