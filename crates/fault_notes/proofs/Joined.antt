@@ -20,9 +20,3 @@ regroup_five o a b c d e = simp append_assoc
 pub five_pieces : (o n m l k j a b c d e : List ℕ) → n ≡ o ++ a → m ≡ n ++ b → l ≡ m ++ c → k ≡ l ++ d → j ≡ k ++ e → j ≡ o ++ (a ++ (b ++ (c ++ (d ++ e))))
 five_pieces o n m l k j a b c d e p q r s t =
     t ∙ ap (λ x. x ++ e) (s ∙ ap (λ x. x ++ d) (r ∙ ap (λ x. x ++ c) (q ∙ ap (λ x. x ++ b) p))) ∙ regroup_five o a b c d e
-
-regroup_after : (o a b c : List ℕ) → ((o ++ a) ++ b) ++ c ≡ o ++ (a ++ (b ++ c))
-regroup_after o a b c = simp append_assoc
-
-pub three_after : (o n m k a b c : List ℕ) → n ≡ o ++ a → m ≡ n ++ b → k ≡ m ++ c → k ≡ o ++ (a ++ (b ++ c))
-three_after o n m k a b c p q r = r ∙ ap (λ x. x ++ c) (q ∙ ap (λ x. x ++ b) p) ∙ regroup_after o a b c

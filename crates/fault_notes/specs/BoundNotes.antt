@@ -14,14 +14,14 @@ bounds_heading j = codes "nbhd: bounds of r" ++ (decimal j ++ codes " after `sta
 abbrev pub bounds_in_time : ProgramTree → ℕ → ℕ → List ℕ
 bounds_in_time p m j = map (λ r. slice_index (register_bounds p m r) j) (range_with_len 0 (length p.steps + 1))
 
--- the line with the bounds of register j
-abbrev pub bounds_line : ProgramTree → ℕ → ℕ → List ℕ
-bounds_line p m j = bounds_heading j ++ (joined (codes " ") (bounds_in_time p m j) ++ codes "\n")
+-- the line with these bounds of register j
+abbrev pub bounds_line : ℕ → List ℕ → List ℕ
+bounds_line j bounds = bounds_heading j ++ (joined (codes " ") bounds ++ codes "\n")
 
 -- the line of a register, if there is one
 abbrev pub line_if_some : ProgramTree → ℕ → Option ℕ → List ℕ
 line_if_some p m None = []
-line_if_some p m (Some j) = bounds_line p m j
+line_if_some p m (Some j) = bounds_line j (bounds_in_time p m j)
 
 -- the line of the first register that `finish` reads whose last bound is not below the number of channels
 abbrev pub growth_text : ProgramTree → ℕ → List ℕ

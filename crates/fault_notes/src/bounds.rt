@@ -1,9 +1,8 @@
 //! The bounds of the register that makes channels too large.
 
-ghost use Rattle.std.specs.Prelude.{◌≡◌, ◌≤◌, ◌++◌, length, slice_index, codes, IfOk, OnOk, string_bytes};
+ghost use Rattle.std.specs.Prelude.{◌≡◌, ◌≤◌, ◌++◌, length, slice_index, IfOk, OnOk, string_bytes};
 ghost use Rattle.node_program.specs.Bounds as bounds;
 ghost use Rattle.fault_notes.specs.BoundNotes as notes;
-ghost use Rattle.fault_notes.specs.VerdictNotes.{joined};
 
 use crate::numbers::write_joined;
 use lang_check::{bounds_after, register_over_channels};
@@ -22,43 +21,24 @@ pub(crate) fn write_growth(
 ) -> Result<(), AllocError>
     ensures { OnOk result (string_bytes out.new ≡ string_bytes out.old ++ notes.growth_text program.now ids) }
 {
-    match register_over_channels(program, ids) {
-        Some(register) => write_bounds(alloc, out, program, ids, register),
-        None => Ok(()),
-    }
+    let Some(register) = register_over_channels(program, ids) else {
+        return Ok(());
+    };
+    let bounds = bounds_in_time(alloc, program, ids, register)?;
+    write_bounds(out, register, &bounds)?;
+    Ok(())
 }
 
-// Writes the line with the bounds of a register.
-fn write_bounds(
-    alloc: Global,
-    out: &mut String,
-    program: &Program,
-    ids: u32,
-    register: u32,
-) -> Result<(), AllocError>
-    ensures { OnOk result (string_bytes out.new ≡ string_bytes out.old ++ notes.bounds_line program.now ids register) }
+// Writes the line with these bounds of a register.
+fn write_bounds(out: &mut String, register: u32, bounds: &[u32]) -> Result<(), AllocError>
+    ensures { OnOk result (string_bytes out.new ≡ string_bytes out.old ++ notes.bounds_line register bounds.now) }
 {
     write!(
         out,
         "nbhd: bounds of r{register} after `start` and each round: "
     )?;
-    write_numbers(alloc, out, program, ids, register)?;
+    write_joined(out, bounds, " ")?;
     out.push_str("\n")?;
-    Ok(())
-}
-
-// Writes the bounds of a register, separated by blanks.
-fn write_numbers(
-    alloc: Global,
-    out: &mut String,
-    program: &Program,
-    ids: u32,
-    register: u32,
-) -> Result<(), AllocError>
-    ensures { OnOk result (string_bytes out.new ≡ string_bytes out.old ++ joined (codes " ") (notes.bounds_in_time program.now ids register)) }
-{
-    let bounds = bounds_in_time(alloc, program, ids, register)?;
-    write_joined(out, &bounds, " ")?;
     Ok(())
 }
 
