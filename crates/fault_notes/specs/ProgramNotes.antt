@@ -17,10 +17,14 @@ pub record IsMostIds (t most : ℕ) : Type 0 where
 abbrev pub rounds_take : ℕ → List ℕ
 rounds_take t = if t == 1 then codes " round takes " else codes " rounds take "
 
+-- the possible numbers of identifiers: one alone, or those from the least to the greatest
+abbrev pub ids_range : ℕ → ℕ → List ℕ
+ids_range least most = if least == most then codes "exactly " ++ decimal least else decimal least ++ (codes " to " ++ decimal most)
+
 -- a number of identifiers that makes no shape with t rounds: the possible numbers
 pub data IsIdsNote (t ids : ℕ) (note : List ℕ) : Type 0 where
   some : (most : ℕ) → IsMostIds t most →
-      note ≡ codes "nbhd: " ++ (decimal t ++ (rounds_take t ++ (decimal (2 * t + 2) ++ (codes " to " ++ (decimal most ++ (codes " identifiers, not " ++ (decimal ids ++ codes "\n"))))))) →
+      note ≡ codes "nbhd: " ++ (decimal t ++ (rounds_take t ++ (ids_range (2 * t + 2) most ++ (codes " identifiers, not " ++ (decimal ids ++ codes "\n"))))) →
       IsIdsNote t ids note
   none : ((m : ℕ) → ¬ IsShape m t) → note ≡ codes "nbhd: so many rounds take no number of identifiers\n" → IsIdsNote t ids note
 

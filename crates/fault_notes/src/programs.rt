@@ -73,6 +73,16 @@ fn rounds_take(rounds: u32) -> &'static str
     " rounds take "
 }
 
+// Returns the text for the possible numbers of identifiers.
+fn ids_range(alloc: Global, least: u32, most: u32) -> Result<String, AllocError>
+    ensures { IfOk result (λ range. string_bytes range ≡ notes.ids_range least most) }
+{
+    if least == most {
+        return format!(in alloc; "exactly {least}");
+    }
+    format!(in alloc; "{least} to {most}")
+}
+
 // Returns the note on a number of identifiers.
 fn ids_note(alloc: Global, rounds: u32, ids: u32) -> Result<String, AllocError>
     requires { rounds ≤ MAX_ROUNDS }
@@ -82,8 +92,8 @@ fn ids_note(alloc: Global, rounds: u32, ids: u32) -> Result<String, AllocError>
         return format!(in alloc; "nbhd: so many rounds take no number of identifiers\n");
     };
     let take = rounds_take(rounds);
-    let least = 2 * rounds + 2;
-    let note = format!(in alloc; "nbhd: {rounds}{take}{least} to {most} identifiers, not {ids}\n")?;
+    let range = ids_range(alloc, 2 * rounds + 2, most)?;
+    let note = format!(in alloc; "nbhd: {rounds}{take}{range} identifiers, not {ids}\n")?;
     Ok(note)
 }
 
