@@ -1,1 +1,4 @@
 pub mod Joined
+pub mod Marks
+pub mod WordKinds
+pub mod Causes

@@ -2,6 +2,8 @@
 pub mod Words
 pub mod TextNotes
 pub mod Placed
+pub mod Causes
+pub mod Kinds
 pub mod BoundNotes
 pub mod ProgramNotes
 pub mod RingNotes

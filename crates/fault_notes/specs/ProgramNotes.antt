@@ -6,7 +6,8 @@ use Rattle.win_index.specs.ShapeRange.{IsShape}
 use Rattle.lang_check.specs.declared.acceptance.CheckFault.{CheckFault}
 use Rattle.lang_check.specs.declared.acceptance.CheckFault.TheVariants as check
 use Rattle.node_program.specs.Term.{ProgramTree}
-use Rattle.fault_notes.specs.Placed.{IsPlaced}
+use Rattle.fault_notes.specs.Placed.{placed_note}
+use Rattle.fault_notes.specs.Causes.{place_of_cause}
 use Rattle.fault_notes.specs.BoundNotes.{growth_text}
 
 -- the greatest number of identifiers that makes a shape with t rounds
@@ -43,11 +44,14 @@ bound_note b = if nat_lt b MAX_CHANNELS
     then codes "nbhd: channels may be as large as " ++ (decimal b ++ (codes ": write `channels " ++ (decimal (b + 1) ++ codes "` or more\n")))
     else codes "nbhd: channels may be as large as " ++ (decimal b ++ codes ", and `channels` is at most 4096\n")
 
--- the note on the refusal of the program p of this text for `ids` identifiers
+-- The note on the refusal of the program p of this text for `ids` identifiers. A register that the program lacks and a
+-- misplaced `id`, `L` or `R` have the place of the first lexeme that is the cause.
 abbrev pub IsCheckNote : List ℕ → ProgramTree → ℕ → CheckFault → List ℕ → Type 0
 IsCheckNote text p ids check.IdsOutOfRange note = IsIdsNote (length p.steps) ids note
 IsCheckNote text p ids check.TooManyWindows note = IsIdsNote (length p.steps) ids note
-IsCheckNote text p ids (check.RegisterOutOfRange j) note = IsPlaced text (register_cause j) note
-IsCheckNote text p ids check.IdOutsideStart note = IsPlaced text id_cause note
-IsCheckNote text p ids check.MessageOutsideStep note = IsPlaced text message_cause note
+IsCheckNote text p ids (check.RegisterOutOfRange j) note =
+    note ≡ placed_note text (register_cause j) (place_of_cause text (check.RegisterOutOfRange j))
+IsCheckNote text p ids check.IdOutsideStart note = note ≡ placed_note text id_cause (place_of_cause text check.IdOutsideStart)
+IsCheckNote text p ids check.MessageOutsideStep note =
+    note ≡ placed_note text message_cause (place_of_cause text check.MessageOutsideStep)
 IsCheckNote text p ids (check.ChannelBound b) note = note ≡ bound_note b ++ growth_text p ids

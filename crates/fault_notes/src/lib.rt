@@ -3,6 +3,8 @@
 
 mod advice;
 mod bounds;
+mod kinds;
+mod lexemes;
 mod numbers;
 mod operands;
 mod placed;

@@ -1,7 +1,7 @@
 //! Notes with the place of the cause in a text.
 
-ghost use Rattle.std.specs.Prelude.{◌<◌, length, IfOk, IfSome, string_bytes};
-ghost use Rattle.fault_notes.specs.Placed.{IsPlaced};
+ghost use Rattle.std.specs.Prelude.{◌≡◌, ◌<◌, length, IfOk, IfSome, string_bytes};
+ghost use Rattle.fault_notes.specs.Placed.{placed_note};
 
 use crate::texts::write_head;
 use source_places::write_marked_line;
@@ -15,7 +15,7 @@ pub(crate) fn placed_note(
     cause: &str,
 ) -> Result<String, AllocError>
     requires { IfSome place (λ offset. offset < length text.now) }
-    ensures { IfOk result (λ note. IsPlaced text.now cause.now (string_bytes note)) }
+    ensures { IfOk result (λ note. string_bytes note ≡ placed_note text.now cause.now place) }
 {
     let Some(offset) = place else {
         return format!(in alloc; "nbhd: {cause}\n");

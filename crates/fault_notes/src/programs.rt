@@ -4,14 +4,16 @@ ghost use Rattle.std.specs.Prelude.{◌≡◌, ◌≤◌, ◌<◌, ◌↔◌, �
 ghost use Rattle.node_program.specs.declared.limits.TheConstants as limits;
 ghost use Rattle.win_index.specs.declared.limits.TheConstants.{MAX_ROUNDS};
 ghost use Rattle.win_index.specs.ShapeRange.{IsShape};
-ghost use Rattle.fault_notes.specs.Placed.{IsPlaced};
+ghost use Rattle.fault_notes.specs.Placed.{placed_note};
+ghost use Rattle.fault_notes.specs.Causes.{place_of_cause};
+ghost use Rattle.lang_check.specs.declared.acceptance.CheckFault.TheVariants as check;
 ghost use Rattle.fault_notes.specs.ProgramNotes.{IsMostIds, IsIdsNote, IsCheckNote, register_cause, id_cause, message_cause, rounds_take};
 ghost use Rattle.fault_notes.specs.ProgramNotes as notes;
 ghost use Rattle.fault_notes.specs.BoundNotes.{growth_text};
 
 use crate::bounds::write_growth;
 use crate::placed::placed_note;
-use crate::scanning::{misplaced_id, misplaced_message, place_of};
+use crate::scanning::place_of;
 use lang_check::CheckFault;
 use node_lang::{MAX_CHANNELS, Program};
 use std::alloc::{AllocError, Global};
@@ -99,29 +101,35 @@ fn ids_note(alloc: Global, rounds: u32, ids: u32) -> Result<String, AllocError>
 
 // Returns the note on a register that the program does not have.
 fn register_note(alloc: Global, text: &[u8], register: u32) -> Result<String, AllocError>
-    ensures { IfOk result (λ note. IsPlaced text.now (register_cause register) (string_bytes note)) }
+    ensures { IfOk result (λ note. string_bytes note ≡ placed_note text.now (register_cause register)
+        (place_of_cause text.now (check.RegisterOutOfRange register))) }
 {
     let cause = format!(in alloc;
         "there is no register r{register}; `registers` says how many there are, from r0 on"
     )?;
-    let name = format!(in alloc; "r{register}")?;
-    placed_note(alloc, text, place_of(text, name.as_bytes()), &cause)
+    let place = place_of(text, CheckFault::RegisterOutOfRange(register));
+    let note = placed_note(alloc, text, place, &cause)?;
+    Ok(note)
 }
 
 // Returns the note on an `id` outside `start`.
 fn id_note(alloc: Global, text: &[u8]) -> Result<String, AllocError>
-    ensures { IfOk result (λ note. IsPlaced text.now id_cause (string_bytes note)) }
+    ensures { IfOk result (λ note. string_bytes note ≡ placed_note text.now id_cause (place_of_cause text.now check.IdOutsideStart)) }
 {
     let cause = "`id` can be read in `start` alone; keep it in a register";
-    placed_note(alloc, text, misplaced_id(text), cause)
+    let place = place_of(text, CheckFault::IdOutsideStart);
+    let note = placed_note(alloc, text, place, cause)?;
+    Ok(note)
 }
 
 // Returns the note on an `L` or an `R` outside the assignments of a round.
 fn message_note(alloc: Global, text: &[u8]) -> Result<String, AllocError>
-    ensures { IfOk result (λ note. IsPlaced text.now message_cause (string_bytes note)) }
+    ensures { IfOk result (λ note. string_bytes note ≡ placed_note text.now message_cause (place_of_cause text.now check.MessageOutsideStep)) }
 {
     let cause = "`L` and `R` can be read in the assignments of a round alone";
-    placed_note(alloc, text, misplaced_message(text), cause)
+    let place = place_of(text, CheckFault::MessageOutsideStep);
+    let note = placed_note(alloc, text, place, cause)?;
+    Ok(note)
 }
 
 // Returns the note on channels that could be too large, and on the register that makes them so.

@@ -1,97 +1,71 @@
-//! The places of misplaced words in a program text.
+//! The place of the lexeme that is the cause of a refusal.
 
-ghost use Rattle.std.specs.Prelude.{◌<◌, ◌≤◌, length, IfSome};
+ghost use Rattle.std.specs.Prelude.{◌≡◌, ◌<◌, length, IfSome};
+ghost use Rattle.fault_notes.specs.Causes.{place_of_cause};
+ghost use Rattle.fault_notes.specs.Kinds.{next_place, is_cause_at};
 
-use crate::words::{is_word_byte, word_len};
+use crate::kinds::Kind;
+use crate::lexemes::lexeme_from;
+use lang_check::CheckFault;
 
-// The start and the end of a word of a text.
+// Where the next lexeme of a program text stands.
 #[derive(Clone, Copy)]
-struct Word {
-    start: usize,
-    end: usize,
+struct Place {
+    // Among `start`, `round` and `finish`, the last one is `start`, and `round`.
+    in_start: bool,
+    in_round: bool,
+    // Among `send` and `=`, the last one is `=`.
+    in_assignment: bool,
 }
 
-// Returns the first word from this index on, outside comments.
-fn next_word(text: &[u8], at: usize) -> Option<Word>
-    requires { at ≤ length text.now }
-    ensures order { IfSome result (λ w. w.start ≤ w.end) }
-    ensures begins { IfSome result (λ w. w.start < length text.now) }
-    ensures within { IfSome result (λ w. w.end ≤ length text.now) }
+// Returns the place after one more lexeme of this kind.
+fn next_place(place: Place, kind: Kind) -> Place
+    ensures { result ≡ next_place place kind }
 {
-    let mut in_comment = false;
-    for index in at..text.len() {
-        let byte = text[index];
-        if byte == b'\n' {
-            in_comment = false;
-        } else if byte == b'#' {
-            in_comment = true;
-        } else if !in_comment && is_word_byte(byte) {
-            return Some(Word {
-                start: index,
-                end: index + word_len(&text[index..]),
-            });
+    let mut next = place;
+    match kind {
+        Kind::Start | Kind::Round | Kind::Finish => {
+            next.in_start = matches!(kind, Kind::Start);
+            next.in_round = matches!(kind, Kind::Round);
         }
+        Kind::Send => next.in_assignment = false,
+        Kind::Equals => next.in_assignment = true,
+        _ => {}
     }
-    None
+    next
 }
 
-// Returns the first index of this word, outside comments.
-pub(crate) fn place_of(text: &[u8], wanted: &[u8]) -> Option<usize>
-    ensures { IfSome result (λ offset. offset < length text.now) }
+// Returns whether a lexeme of this kind at this place is the cause of a refusal.
+fn is_cause(fault: CheckFault, place: Place, kind: Kind) -> bool
+    ensures { result ≡ is_cause_at fault place kind }
 {
-    let mut at = 0;
-    'words: for _ in 0..text.len() {
-        let word = next_word(text, at)?;
-        if &text[word.start..word.end] == wanted {
-            return Some(word.start);
+    match (fault, kind) {
+        (CheckFault::RegisterOutOfRange(wanted), Kind::Register(register)) => register == wanted,
+        (CheckFault::IdOutsideStart, Kind::Id) => !place.in_start,
+        (CheckFault::MessageOutsideStep, Kind::Message) => {
+            !(place.in_round && place.in_assignment)
         }
-        at = word.end;
+        _ => false,
     }
-    None
 }
 
-// Returns the index of the first `id` after the assignments of `start`.
-pub(crate) fn misplaced_id(text: &[u8]) -> Option<usize>
-    ensures { IfSome result (λ offset. offset < length text.now) }
+// Returns the offset of the first lexeme of a program text that is the cause of a refusal.
+pub(crate) fn place_of(text: &[u8], fault: CheckFault) -> Option<usize>
+    ensures exact { result ≡ place_of_cause text.now fault }
+    ensures within { IfSome result (λ offset. offset < length text.now) }
 {
-    let mut started = false;
+    let mut place = Place {
+        in_start: false,
+        in_round: false,
+        in_assignment: false,
+    };
     let mut at = 0;
-    'words: for _ in 0..text.len() {
-        let word = next_word(text, at)?;
-        match &text[word.start..word.end] {
-            b"round" | b"finish" => started = true,
-            b"id" if started => return Some(word.start),
-            _ => {}
+    'lexemes: while let Some(lexeme) = lexeme_from(text, at) {
+        if is_cause(fault, place, lexeme.kind) {
+            return Some(lexeme.start);
         }
-        at = word.end;
-    }
-    None
-}
-
-// Returns whether the first byte that is not a blank is `=`.
-fn is_assigned(text: &[u8]) -> bool {
-    text.iter()
-        .find(|byte| !matches!(**byte, b' ' | b'\t' | b'\r' | b'\n'))
-        == Some(&b'=')
-}
-
-// Returns the index of the first `L` or `R` outside the assignments of a round.
-pub(crate) fn misplaced_message(text: &[u8]) -> Option<usize>
-    ensures { IfSome result (λ offset. offset < length text.now) }
-{
-    let mut in_round = false;
-    let mut allowed = false;
-    let mut at = 0;
-    'words: for _ in 0..text.len() {
-        let word = next_word(text, at)?;
-        at = word.end;
-        match &text[word.start..word.end] {
-            b"round" => in_round = true,
-            b"send" | b"finish" => allowed = false,
-            b"L" | b"R" if !allowed => return Some(word.start),
-            [b'r', _] if in_round && is_assigned(&text[at..]) => allowed = true,
-            _ => {}
-        }
+        place = next_place(place, lexeme.kind);
+        at = lexeme.end;
     }
     None
 }

@@ -1,5 +1,0 @@
-use Rattle.std.proofs.Common.{◌≤◌, length}
-use Rattle.fault_notes.proofs.scanning.misplaced_message.Given as goal
-
-abbrev pub invariant-words : goal.invariant-words
-invariant-words l = l.at ≤ length l.text
