@@ -8,4 +8,6 @@ pub mod BoundNotes
 pub mod ProgramNotes
 pub mod RingNotes
 pub mod VerdictNotes
+pub mod TableSizes
+pub mod Decimals
 pub mod TableNotes

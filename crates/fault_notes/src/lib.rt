@@ -3,6 +3,7 @@
 
 mod advice;
 mod bounds;
+mod decimals;
 mod kinds;
 mod lexemes;
 mod numbers;
@@ -11,6 +12,7 @@ mod placed;
 mod programs;
 mod rings;
 mod scanning;
+mod sizes;
 mod tables;
 mod texts;
 mod verdicts;

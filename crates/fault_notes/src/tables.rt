@@ -1,15 +1,17 @@
 //! The notes on a text that is not the text of a table.
 
-ghost use Rattle.std.specs.Prelude.{◌≡◌, ◌+◌, ◌-◌, ◌*◌, ◌<◌, ◌≤◌, ℕ, Some, length, slice_get, IfOk, IfSome, string_bytes};
+ghost use Rattle.std.specs.Prelude.{◌≡◌, ◌+◌, ◌*◌, ◌<◌, ◌≤◌, ℕ, List, Some, length, slice_get, IfOk, IfSome, IfNone, string_bytes};
 ghost use Rattle.win_index.specs.Windows.{windows};
+ghost use Rattle.fault_notes.specs.TableSizes.{IsDue};
 ghost use Rattle.fault_notes.specs.TableNotes.{long_note, IsFormNote, IsWindowNote, line_note, channel_note};
 
 use crate::numbers::write_joined;
+use crate::sizes::shape_of;
 use crate::texts::write_head;
 use source_places::write_marked_line;
 use std::alloc::{AllocError, Global};
 use std::fmt::Write;
-use win_index::{MAX_ROUNDS, Shape};
+use win_index::Shape;
 
 /// Returns the note on a text that is too long. Fails if memory was refused.
 pub fn long_note(alloc: Global) -> Result<String, AllocError>
@@ -93,45 +95,6 @@ fn first_advice(text: &[u8]) -> &'static str {
     }
 }
 
-// Returns the number after the first occurrence of this name in a text.
-fn number_after(text: &[u8], name: &[u8]) -> Option<u32>
-    requires { 0 < length name.now }
-{
-    let at = text.windows(name.len()).position(|part| part == name)?;
-    let digits = text.get(at + name.len()..)?;
-    let len = digits
-        .iter()
-        .take_while(|byte| byte.is_ascii_digit())
-        .count();
-    std::str::from_utf8(digits.get(..len)?)
-        .ok()?
-        .parse::<u32>()
-        .ok()
-}
-
-// Returns the shape that the first lines of a table text give.
-fn shape_of(text: &[u8]) -> Option<Shape> {
-    let rounds = number_after(text, b"rounds ")?;
-    let ids = number_after(text, b"ids ")?;
-    if rounds > MAX_ROUNDS {
-        return None;
-    }
-    Shape::new(ids, rounds).ok()
-}
-
-/// Returns the note on a line that does not have its window. Lines are counted from 1. Fails if
-/// memory was refused.
-pub fn window_note(alloc: Global, text: &[u8], line: u32) -> Result<String, AllocError>
-    ensures { IfOk result (λ note. IsWindowNote line (string_bytes note)) }
-{
-    if let Some(shape) = shape_of(text) {
-        if line >= 3 && line - 3 < shape.count(shape.rounds()) {
-            return shape_note(alloc, shape, line);
-        }
-    }
-    format!(in alloc; "nbhd: line {line} is not the line of the window that follows there\n")
-}
-
 // Returns the window of this shape with this number.
 fn window_in(alloc: Global, shape: Shape, number: u32) -> Result<Vec<u32>, AllocError>
     requires { number < length (windows (2 * shape.rounds + 1) shape.ids) }
@@ -143,15 +106,38 @@ fn window_in(alloc: Global, shape: Shape, number: u32) -> Result<Vec<u32>, Alloc
     Ok(window)
 }
 
-// Returns the note on the line that should have a window of this shape.
-fn shape_note(alloc: Global, shape: Shape, line: u32) -> Result<String, AllocError>
-    requires begins { 3 ≤ line }
-    requires ends { line - 3 < length (windows (2 * shape.rounds + 1) shape.ids) }
-    ensures { IfOk result (λ note. IsWindowNote line (string_bytes note)) }
+// Returns the window that a line of a table text is to have.
+fn due_window(alloc: Global, text: &[u8], line: u32) -> Result<Option<Vec<u32>>, AllocError>
+    ensures window { IfOk result (λ due. IfSome due (λ window. IsDue text.now line window.items)) }
+    ensures none { IfOk result (λ due. IfNone due ((window : List ℕ) → ¬ IsDue text.now line window)) }
 {
-    let window = window_in(alloc, shape, line - 3)?;
-    let note = line_note(alloc, line, &window)?;
-    Ok(note)
+    let Some(shape) = shape_of(text) else {
+        return Ok(None);
+    };
+    if line < 3 {
+        return Ok(None);
+    }
+    if line - 3 >= shape.count(shape.rounds()) {
+        return Ok(None);
+    }
+    Ok(Some(window_in(alloc, shape, line - 3)?))
+}
+
+/// Returns the note on a line that does not have its window. Lines are counted from 1. Fails if
+/// memory was refused.
+pub fn window_note(alloc: Global, text: &[u8], line: u32) -> Result<String, AllocError>
+    ensures { IfOk result (λ note. IsWindowNote text.now line (string_bytes note)) }
+{
+    let due = due_window(alloc, text, line)?;
+    match due {
+        Some(window) => {
+            let note = line_note(alloc, line, &window)?;
+            Ok(note)
+        }
+        None => format!(in alloc;
+            "nbhd: line {line} is not the line of the window that follows there\n"
+        ),
+    }
 }
 
 // Returns the note on the line that should have this window.

@@ -1,0 +1,110 @@
+-- Numbers in decimal, and the byte that ends them.
+use Rattle.std.proofs.Common.{◌≡◌, ◌≢◌, ℕ, zero, suc, ◌^◌, ◌<◌, true, false, nat_lt, ◌&&◌, ◌==◌, List, [], ◌∷◌, ◌++◌, length, get_or, drop, slice_index, refl, sym, ap, ◌∙◌, arith}
+use Rattle.std.specs.Fmt.{decimal}
+use Rattle.std.specs.Int.{IsInRange}
+use Rattle.std.specs.Str.{IsUtf8}
+use Rattle.std.specs.Str.Parse.{AllDigits, IsNumeral, digits_value, without_leading_plus}
+use Rattle.std.proofs.lemmas.Bool.{and_parts, eqb-true}
+use Rattle.std.proofs.lemmas.Bool.Decides.{nat_tests}
+use Rattle.std.proofs.lemmas.Fmt.{decimal_is_IsNumeral, decimal_digit, first_decimal, IsAscii-decimal, decimal_injective, decimal-digits_value}
+use Rattle.std.proofs.lemmas.Str.{IsUtf8-from_ascii}
+use Rattle.std.proofs.lemmas.Str.Parse.{digit_at, digit_from_value, without_leading_plus_none, numerals_by_value, tells_digits}
+use Rattle.std.proofs.lemmas.List.{append_cancel_left}
+use Rattle.std.specs.Prelude.{codes}
+use Rattle.fault_notes.specs.Decimals.{Lacks}
+use Rattle.fault_notes.specs.TableSizes.{sizes_then}
+
+digits : (n : ℕ) → n < 2 ^ 32 → IsNumeral 10 (decimal n)
+digits n small = (decimal_is_IsNumeral n (omega arith)).0
+
+-- the first byte of a number is a digit
+first_digit : (n : ℕ) → n < 2 ^ 32 → IsInRange 48 57 (get_or (decimal n) 0 0)
+first_digit n small = let is = digits n small in digit_at (decimal n) 0 is.1 is.0
+
+no_sign : (n : ℕ) → n < 2 ^ 32 → get_or (decimal n) 0 0 ≢ 43
+no_sign n small signed = let first = first_digit n small in omega (arith, first.0, signed)
+
+-- a number that begins with 0 is that digit alone
+one_zero : (n : ℕ) → n < 2 ^ 32 → get_or (decimal n) 0 0 ≡ 48 → length (decimal n) ≡ 1
+one_zero zero small first = ap length (decimal_digit 0 (omega arith))
+one_zero (suc n) small first = absurd (omega (arith, first_decimal (suc n) (omega arith) (omega arith), first))
+
+-- a word with a sign is not a number
+pub signed_word : (word : List ℕ) (n : ℕ) → (slice_index word 0 == 43) ≡ true → n < 2 ^ 32 → word ≡ decimal n → ⊥
+signed_word word n signed small same = no_sign n small (ap (λ w. get_or w 0 0) (sym same) ∙ eqb-true (slice_index word 0) 43 signed)
+
+-- a word with a leading zero is not a number
+pub padded_word : (word : List ℕ) (n : ℕ) → (nat_lt 1 (length word) && (slice_index word 0 == 48)) ≡ true → n < 2 ^ 32 → word ≡ decimal n → ⊥
+padded_word word n padded small same =
+    let parts = and_parts (nat_lt 1 (length word)) (slice_index word 0 == 48) padded in
+    let zero_first = ap (λ w. get_or w 0 0) (sym same) ∙ eqb-true (slice_index word 0) 48 parts.1 in
+    let one = ap length same ∙ one_zero n small zero_first in
+    grind (arith, nat_tests)
+
+-- the digits of a number, after a leading plus sign if there is one
+pub digits_parse : (word : List ℕ) (n : ℕ) → n < 2 ^ 32 → word ≡ decimal n
+    → IsNumeral 10 (without_leading_plus word) × (digits_value 10 (without_leading_plus word) < 2 ^ 32)
+digits_parse word n small same =
+    let is = decimal_is_IsNumeral n (omega arith) in
+    let plain = without_leading_plus_none (decimal n) (no_sign n small) in
+    rw (same, plain) (is.0, omega (arith, is.1))
+
+-- digits without a sign and a leading zero are those of their value
+pub parsed_word : (word : List ℕ) (x : ℕ) → (slice_index word 0 == 43) ≡ false → (nat_lt 1 (length word) && (slice_index word 0 == 48)) ≡ false
+    → IsNumeral 10 (without_leading_plus word) × (digits_value 10 (without_leading_plus word) < 2 ^ 32)
+    → x ≡ digits_value 10 (without_leading_plus word) → word ≡ decimal x
+parsed_word word x unsigned unpadded is value =
+    let plain = without_leading_plus_none word (grind (arith, nat_tests)) in
+    let numeral = rw plain at is in
+    let own = numerals_by_value (AllDigits 10) tells_digits in
+    let short : get_or word 0 0 ≡ 48 → length word ≡ 1 = λ first. grind (arith, nat_tests) in
+    sym (ap decimal (value ∙ ap (digits_value 10) plain) ∙ decimal-digits_value own word numeral.0.1 numeral.0.0 short (omega (arith, numeral.1)))
+
+pub utf8_digits : (n : ℕ) → n < 2 ^ 32 → IsUtf8 (decimal n)
+utf8_digits n small = IsUtf8-from_ascii (decimal n) (IsAscii-decimal n (omega arith))
+
+lacks_digits : (end : ℕ) (ds : List ℕ) → end < 48 → AllDigits 10 ds → Lacks end ds
+lacks_digits end [] small is = tt
+lacks_digits end (c ∷ cs) small is =
+    let range = digit_from_value c is.0 in
+    (λ same. omega (arith, range.0, same), lacks_digits end cs small is.1)
+
+-- no byte below the digits occurs in a number
+pub lacks_decimal : (end n : ℕ) → end < 48 → n < 2 ^ 32 → Lacks end (decimal n)
+lacks_decimal end n small fits = lacks_digits end (decimal n) small (digits n fits).1
+
+-- a text without a byte has no prefix that ends with the byte
+pub no_cut : (end : ℕ) (front rest : List ℕ) → Lacks end (front ++ end ∷ rest) → ⊥
+no_cut end [] rest lacks = lacks.0 refl
+no_cut end (x ∷ front) rest lacks = no_cut end front rest lacks.1
+
+-- a text is cut in one way at the first byte of a value
+pub one_cut : (end : ℕ) (a b xs ys : List ℕ) → Lacks end a → Lacks end b → a ++ end ∷ xs ≡ b ++ end ∷ ys → (a ≡ b) × (xs ≡ ys)
+one_cut end [] [] xs ys p q same = (refl, ap (drop 1) same)
+one_cut end [] (y ∷ b) xs ys p q same = absurd (q.0 (sym (ap (λ l. get_or l 0 0) same)))
+one_cut end (x ∷ a) [] xs ys p q same = absurd (p.0 (ap (λ l. get_or l 0 0) same))
+one_cut end (x ∷ a) (y ∷ b) xs ys p q same =
+    let head : x ≡ y = ap (λ l. get_or l 0 0) same in
+    let more = one_cut end a b xs ys p.1 q.1 (ap (drop 1) same) in
+    (cc, more.1)
+
+-- a text has at most one number at its start that is followed by a byte below the digits
+pub number_once : (end m n : ℕ) (xs ys : List ℕ) → end < 48 → m < 2 ^ 32 → n < 2 ^ 32
+    → decimal m ++ end ∷ xs ≡ decimal n ++ end ∷ ys → (m ≡ n) × (xs ≡ ys)
+number_once end m n xs ys small p q same =
+    let cut = one_cut end (decimal m) (decimal n) xs ys (lacks_decimal end m small p) (lacks_decimal end n small q) same in
+    (decimal_injective m n (omega arith) (omega arith) cut.0, cut.1)
+
+-- the text after a name begins with one number
+pub field_once : (name : List ℕ) (end m n : ℕ) (x y : List ℕ) → end < 48 → m < 2 ^ 32 → n < 2 ^ 32
+    → name ++ (decimal m ++ end ∷ x) ≡ name ++ (decimal n ++ end ∷ y) → (m ≡ n) × (x ≡ y)
+field_once name end m n x y small p q same =
+    number_once end m n x y small p q (append_cancel_left name (decimal m ++ end ∷ x) (decimal n ++ end ∷ y) same)
+
+-- a line begins with one pair of sizes
+pub sizes_once : (t m u n : ℕ) (x y : List ℕ) → t < 2 ^ 32 → m < 2 ^ 32 → u < 2 ^ 32 → n < 2 ^ 32
+    → sizes_then t m x ≡ sizes_then u n y → (t ≡ u) × (m ≡ n)
+sizes_once t m u n x y p q r s same =
+    let first = field_once (codes "rounds ") 32 t u _ _ (omega arith) p r same in
+    let second = field_once (codes "ids ") 32 m n x y (omega arith) q s first.1 in
+    (first.0, second.0)
