@@ -1,4 +1,4 @@
-//! Tests of the crates from the language to blocks, for what no clause states. They are in a crate
+//! Tests of the crates from the language to the fill machine, for what no clause states. They are in a crate
 //! of their own, because a crate with tests is proved twice.
 #![tactic(auto)]
 
@@ -8,6 +8,8 @@ mod acceptance;
 mod blocks;
 #[cfg(test)]
 mod columns;
+#[cfg(test)]
+mod fill_machine;
 #[cfg(test)]
 mod nodes;
 #[cfg(test)]

@@ -2,7 +2,7 @@ use crate::miss::Miss;
 use crate::plans::plan_of;
 use crate::tell::{retried, value_or_refusal};
 use lang_check::Plan;
-use table_fill::fill_core::{FillEvent, FillWorld, replay};
+use fill_core::{FillEvent, FillWorld, replay};
 use test_programs::CV1;
 
 /// Two workers fill three cells.

@@ -1,11 +1,9 @@
--- The statements of the laws of this crate, one definition each.
+-- The statement of the law of this crate.
 use Rattle.std.specs.Prelude.{◌≡◌, ℕ, ◌<◌, List, length, Some}
 use Rattle.node_program.specs.GlobalRounds.{channel_at}
 use Rattle.win_index.specs.Ring.{IsRing}
 use Rattle.node_program.specs.Term.{ProgramTree}
 use Rattle.win_index.specs.Arcs.{window_around}
-use Rattle.table_fill.specs.declared.fill_core.event.FillEvent.{FillEvent}
-use Rattle.table_fill.specs.FillMachine.{Machine, Runs}
 use Rattle.table_fill.specs.ProgramTables.{table_of}
 use Rattle.channel_tables.specs.Tables.{channel_of}
 
@@ -15,7 +13,3 @@ abbrev pub TableHasTheChannelsOfRounds : Type 0
 TableHasTheChannelsOfRounds =
     (p : ProgramTree) (m : ℕ) (ring : List ℕ) (place : ℕ) → IsRing m (length p.steps) ring → place < length ring
     → channel_of (table_of p m) (window_around ring (length p.steps) place) ≡ Some (channel_at p ring place)
-
--- a list of events leads from a machine to at most one machine
-abbrev pub OneRun : Type 0
-OneRun = (s t u : Machine) (es : List FillEvent) → Runs s es t → Runs s es u → t ≡ u

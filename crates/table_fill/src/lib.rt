@@ -7,7 +7,6 @@ mod cell_maker;
 mod crew;
 mod entry_columns;
 mod fault;
-pub mod fill_core;
 mod filling;
 mod laws;
 mod looks;

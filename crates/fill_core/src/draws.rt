@@ -1,0 +1,27 @@
+ghost use Rattle.std.specs.Prelude.{◌≡◌};
+ghost use Rattle.fill_core.specs.FillMachine.{Steps};
+ghost use Rattle.fill_core.specs.FillStates.{machine_of};
+
+use crate::event::FillEvent;
+use crate::state::World;
+
+impl<'a> World<'a> {
+    // Lets a worker draw the next job, or stop.
+    pub(crate) fn draw(&mut self, worker: u32)
+        ensures { Steps (machine_of self.old) (FillEvent.Draw worker) (machine_of self.new) }
+    {
+        let shape = self.plan.shape();
+        let Some(hand) = self.workers.get_mut(worker as usize) else {
+            return;
+        };
+        if hand.job.is_some() || hand.stopped {
+            return;
+        }
+        if self.next < shape.jobs() {
+            hand.job = Some(self.next);
+            self.next += 1;
+        } else {
+            hand.stopped = true;
+        }
+    }
+}

@@ -1,0 +1,7 @@
+ghost use Rattle.fill_core.specs.Laws as law;
+
+/// The fill machine is deterministic: a list of events leads from a state to at most one state.
+#[tactic(auto, using(crate::proofs::OneRuns::one_run))]
+pub fn one_run()
+    ensures { law.OneRun }
+{}

@@ -1,9 +1,0 @@
-use Rattle.table_fill.specs.FillStates.{machine_of}
-use Rattle.table_fill.proofs.FillKeeps.{as_many, filled_when_stopped}
-use Rattle.table_fill.proofs.fill_core.world.replay.Goals as goal
-
-pub returns-clause-workers : goal.returns-clause-workers
-returns-clause-workers c = as_many c.args.plan.now c.args.workers (machine_of c.in_ok-world.world) c.in_ok-world.ensures.follows
-
-pub returns-clause-filled : goal.returns-clause-filled
-returns-clause-filled c = filled_when_stopped (machine_of c.in_ok-world.world) c.in_ok-world.ensures.follows.consistent

@@ -1,7 +1,0 @@
-ghost use Rattle.table_fill.specs.Laws as law;
-
-/// The fill machine is deterministic: a list of events leads from a state to at most one state.
-#[tactic(auto, using(crate::proofs::OneRuns::one_run))]
-pub fn one_run()
-    ensures { law.OneRun }
-{}
