@@ -17,8 +17,5 @@ mod verdict;
 pub use laws::{one_apart_differs, one_witness, pairs_that_avoid_two, tuples_suffice};
 pub use part::judge_part;
 pub use separation::Separation;
-pub use tuple::tuple_count;
+pub use tuple::{tuple_count, tuple_len, write_tuple};
 pub use verdict::{Verdict, judge, judge_with_workers};
-
-#[cfg(test)]
-mod tests;

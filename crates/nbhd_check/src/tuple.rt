@@ -39,16 +39,16 @@ pub fn tuple_count(table: &Table, separation: Separation) -> u64
     table.shape().tuples(extra_of(separation))
 }
 
-// Returns the number of identifiers of a tuple.
-pub(crate) fn tuple_len(table: &Table, separation: Separation) -> usize
+/// Returns the number of identifiers of a tuple: `2t+2` if far is 0, else `2t+3`.
+pub fn tuple_len(table: &Table, separation: Separation) -> usize
     ensures length { result ≡ 2 * table.now.rounds + 1 + extra separation }
     ensures few { result ≤ MAX_TUPLE_LEN }
 {
     2 * table.shape().rounds() as usize + 1 + extra_of(separation) as usize
 }
 
-// Writes the tuple with this number.
-pub(crate) fn write_tuple(table: &Table, separation: Separation, number: u64, out: &mut [u32])
+/// Writes the tuple with this number to the cells of `out`, one for each of its identifiers.
+pub fn write_tuple(table: &Table, separation: Separation, number: u64, out: &mut [u32])
     requires below { number < length (tuples table.now separation) }
     requires room { length out.old ≡ 2 * table.now.rounds + 1 + extra separation }
     ensures item { slice_get (tuples table.now separation) number ≡ Some out.new }

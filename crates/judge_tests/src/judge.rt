@@ -1,14 +1,14 @@
+//! Verdicts on tables that are made by hand.
+
 mod parts;
 mod walks;
 
-use crate::parts::{MAX_PARTS, least_by_parts};
-use crate::tuple::tuple_count;
-use crate::{Separation, Verdict, judge, judge_part};
+use channel_tables::{Table, TableMaker};
+use nbhd_check::{Separation, Verdict, judge, judge_part, judge_with_workers};
 use std::alloc::{AllocError, Global};
 use std::process::Abort;
 use std::test::Fail;
 use std::thread::Threads;
-use channel_tables::{Table, TableMaker};
 use win_index::{MAX_WINDOW_LEN, Shape};
 
 // Neighbours' channels differ.
@@ -68,20 +68,22 @@ fn table_of_middles(
     table_of(rt, alloc, shape, shape.ids(), &channels)
 }
 
-// Returns the least number of a bad tuple, by parts of `len` tuples, or of more if there would be
-// too many parts.
-fn least_in_parts<R: Abort + Threads + Sync>(
+// Returns the number of the tuple of a no, by this many workers.
+fn least_by_workers<R: Threads + Sync>(
     rt: &R,
+    alloc: Global,
     table: &Table,
     separation: Separation,
-    len: u64,
-    threads: u64,
-) -> Option<u64> {
-    let most = MAX_PARTS as u64;
-    let count = tuple_count(table, separation);
-    let len = len.max(count.div_ceil(most));
-    assert!(rt; 0 < len && len <= 1 << 32 && count <= most * len);
-    least_by_parts(rt, table, separation, len, threads)
+    workers: u32,
+) -> Result<Option<u64>, Fail> {
+    let verdict = judge_with_workers(rt, alloc, table, separation, workers).map_err(
+        |_| AllocError,
+    )?;
+    let extra = if separation.far == 0 { 1 } else { 2 };
+    match found_in(&verdict) {
+        Some((ring, _, _)) => Ok(table.shape().tuple_number(extra, ring)),
+        None => Ok(None),
+    }
 }
 
 // Returns the ring of a no, its places and their channels.

@@ -1,13 +1,14 @@
-// The verdict is the same for every number of parts and of threads.
+//! The verdict is the same for every number of workers.
 
-use super::{NEIGHBOURS, found_in, least_in_parts, table_of, table_of_identifiers};
-use crate::tuple::{tuple_count, tuple_len, write_tuple};
-use crate::{Separation, Verdict, judge, judge_with_workers};
+use super::{NEIGHBOURS, found_in, least_by_workers, table_of, table_of_identifiers};
+use channel_tables::Table;
+use nbhd_check::{
+    Separation, Verdict, judge, judge_with_workers, tuple_count, tuple_len, write_tuple,
+};
 use std::alloc::{AllocError, Global};
 use std::process::Abort;
 use std::test::Fail;
 use std::thread::Threads;
-use channel_tables::Table;
 use win_index::{MAX_TUPLE_LEN, Shape};
 
 // Returns the table of one round that gives each window its number as its channel.
@@ -51,8 +52,8 @@ fn table_of_one_bad_tuple(
     table_of(rt, alloc, all.shape(), all.channels(), &channels)
 }
 
-// Makes each tuple of a table in turn the only bad one, with the first, the last, those at the ends
-// of parts and those next to gaps.
+// Makes each tuple of a table in turn the only bad one, with the first, the last and those next to
+// gaps.
 fn assert_one_bad_tuple<R: Abort + Threads + Sync>(
     rt: &R,
     alloc: Global,
@@ -60,14 +61,14 @@ fn assert_one_bad_tuple<R: Abort + Threads + Sync>(
     separation: Separation,
 ) -> Result<(), Fail> {
     let count = tuple_count(all, separation);
-    assert_eq!(rt; least_in_parts(rt, all, separation, 7, 3), None);
+    assert_eq!(rt; least_by_workers(rt, alloc, all, separation, 3)?, None);
     for number in 0..count {
         let table = table_of_one_bad_tuple(rt, alloc, all, separation, number)?;
-        for (len, threads) in [(2, 64), (7, 3), (7, 1), (60, 2), (119, 5), (1 << 32, 9)] {
+        for workers in [1, 2, 9, 64] {
             assert_eq!(rt;
-                least_in_parts(rt, &table, separation, len, threads),
+                least_by_workers(rt, alloc, &table, separation, workers)?,
                 Some(number),
-                "{len} in a part, {threads} threads"
+                "{workers} workers"
             );
         }
         let verdict = judge(rt, alloc, &table, separation).map_err(|_| AllocError)?;
@@ -91,19 +92,17 @@ fn one_far_tuple_anywhere(rt: HostRuntime) -> Result<(), Fail> {
     assert_one_bad_tuple(&rt, rt.alloc(), &all, separation)
 }
 
-// The least bad tuple is in an earlier part than the others.
+// The least bad tuple is before the others.
 #[test]
 fn many_bad_tuples(rt: HostRuntime) -> Result<(), Fail> {
     let table = table_of_identifiers(&rt, rt.alloc(), &[0, 1, 2, 3, 2, 1, 0, 0])?;
     assert_eq!(rt; tuple_count(&table, NEIGHBOURS), 56);
-    for len in 1..60 {
-        for threads in [0, 1, 2, 3, 64] {
-            assert_eq!(rt;
-                least_in_parts(&rt, &table, NEIGHBOURS, len, threads),
-                Some(5),
-                "{len} in a part, {threads} threads"
-            );
-        }
+    for workers in [0, 1, 2, 3, 64] {
+        assert_eq!(rt;
+            least_by_workers(&rt, rt.alloc(), &table, NEIGHBOURS, workers)?,
+            Some(5),
+            "{workers} workers"
+        );
     }
     Ok(())
 }

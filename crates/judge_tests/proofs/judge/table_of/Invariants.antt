@@ -1,5 +1,5 @@
 use Rattle.std.proofs.Common.{◌≡◌, length}
-use Rattle.nbhd_check.proofs.tests.table_of.Given as goal
+use Rattle.judge_tests.proofs.judge.table_of.Given as goal
 
 -- the windows so far have their channels
 abbrev pub invariant-loop-channel : goal.invariant-loop-channel

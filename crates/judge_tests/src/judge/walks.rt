@@ -1,15 +1,16 @@
-// The judge compared with a plain walk over all tuples.
+//! The judge compared with a plain walk over all tuples.
 
 ghost use Rattle.std.specs.Prelude.{◌+◌, ◌*◌, ◌≤◌, length};
 
-use super::{found_in, least_in_parts, table_of, table_of_middles};
-use crate::tuple::{tuple_count, tuple_len, write_tuple};
-use crate::{Separation, Verdict, judge, judge_part, judge_with_workers};
+use super::{found_in, table_of, table_of_middles};
+use channel_tables::Table;
+use nbhd_check::{
+    Separation, Verdict, judge, judge_part, judge_with_workers, tuple_count, tuple_len, write_tuple,
+};
 use std::alloc::{AllocError, Global};
 use std::process::Abort;
 use std::test::Fail;
 use std::thread::Threads;
-use channel_tables::Table;
 use win_index::{MAX_ROUNDS, MAX_TUPLE_LEN, Shape};
 
 // A linear congruential generator.
@@ -81,8 +82,8 @@ fn first_bad_tuple(
     None
 }
 
-// Returns whether a table is good. Checks that the judge and its parts agree with a walk, and name
-// the same bad tuple.
+// Returns whether a table is good. Checks that the judge agrees with a walk, and names the same bad
+// tuple.
 fn is_good<R: Abort + Threads + Sync>(
     rt: &R,
     alloc: Global,
@@ -95,7 +96,6 @@ fn is_good<R: Abort + Threads + Sync>(
         judge_part(table, separation, 0, tuple_count(table, separation)),
         bad
     );
-    assert_eq!(rt; least_in_parts(rt, table, separation, 5, 3), bad);
     let verdict = judge(rt, alloc, table, separation).map_err(|_| AllocError)?;
     assert_eq!(rt; verdict == Verdict::Yes, bad.is_none());
     if let Some((ring, places, channels)) = found_in(&verdict) {
