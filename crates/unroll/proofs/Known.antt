@@ -1,12 +1,13 @@
 -- The blocks that a source knows while it is asked.
-use Rattle.std.proofs.Common.{◌≡◌, ℕ, zero, suc, ◌+◌, ◌*◌, ◌/◌, ◌<◌, ◌≤◌, Option, Some, None, IsSome, IfSome, List, [], slice_get, refl, arith}
+use Rattle.std.proofs.Common.{◌≡◌, ◌∙◌, ℕ, zero, suc, ◌+◌, ◌*◌, ◌/◌, ◌<◌, ◌≤◌, Option, Some, None, IsSome, IfSome, List, [], slice_get, refl, arith}
 use Rattle.std.proofs.lemmas.Bool.{false≢true}
 use Rattle.std.proofs.lemmas.Option.{get_or_from_slice_get}
 use Rattle.win_index.specs.Windows.{windows, number_of}
-use Rattle.unroll.specs.Below.{part, IsBelow}
+use Rattle.unroll.specs.Below.{part}
 use Rattle.unroll.specs.BlockStates.{MadeBlock, window_numbered, block_len}
-use Rattle.unroll.specs.Entries.{Entries, Grows}
-use Rattle.unroll.specs.MakeFaults.{IsMakeFault}
+use Rattle.lang_check.specs.Plans.{ProgramForIds}
+use Rattle.unroll.specs.Entries.{Entries, Grows, Asked}
+use Rattle.unroll.specs.MakeFaults.{KnowsAllBelow, IsMissingBelow, IsMakeFault}
 use Rattle.unroll.specs.Parts.{KnowsPart, KnowsParts, KnowsBelow, IsMissingPart, IsMissingBlock}
 use Rattle.unroll.specs.declared.fault.MakeFault.{MakeFault}
 use Rattle.unroll.specs.declared.fault.MakeFault.TheVariants.{Missing, OutOfMemory}
@@ -22,6 +23,17 @@ still_known old new r c grows some = some_kept (old r c) (new r c) (grows.kept r
 
 pub grows_both : (old now new : Entries) → Grows old now → Grows now new → Grows old new
 grows_both old now new first later = record { kept = λ level n block at'. later.kept level n block (first.kept level n block at') }
+
+-- a source that was asked twice
+pub asked_both :
+    {S F : Type 0} {plan : S → ProgramForIds} {fixed : S → F} {entries : S → Entries} {old now new : S} → Asked plan fixed entries old now
+    → Asked plan fixed entries now new → Asked plan fixed entries old new
+asked_both {entries = entries} {old = old} {now = now} {new = new} first later =
+    record {
+      same_plan = later.same_plan ∙ first.same_plan;
+      same_fixed = later.same_fixed ∙ first.same_fixed;
+      grows = grows_both (entries old) (entries now) (entries new) first.grows later.grows;
+    }
 
 -- the three parts of a window, with their blocks known
 module _ (entries : Entries) (m low : ℕ) (w : List ℕ) where
@@ -41,7 +53,7 @@ window_at m r n window at' = get_or_from_slice_get (windows (2 * r + 1) m) n win
 -- a block that is missing for a window is missing for the window's block
 pub fault_of_block :
     (entries : Entries) (m r b place : ℕ) (window : List ℕ) (fault : MakeFault) → place < block_len m r b
-    → window_numbered m r (BLOCK_WINDOWS * b + place) ≡ window → IsMissingPart entries m r window fault → IsMakeFault entries m r b fault
+    → window_numbered m r (BLOCK_WINDOWS * b + place) ≡ window → IsMissingPart entries m r window fault → IsMissingBelow entries m r b fault
 fault_of_block entries m r b place window (Missing low c) lt own missing = (
   record {
     one_lower = missing.0;
@@ -59,7 +71,7 @@ fault_of_block entries m r b place window OutOfMemory lt own missing = absurd mi
 pub fault_of_last :
     (entries : Entries) (m low b place number : ℕ) (window : List ℕ) (fault : MakeFault) → place < block_len m (low + 1) b
     → window_numbered m (low + 1) (BLOCK_WINDOWS * b + place) ≡ window → number_of (2 * low + 1) m (part window low 2) ≡ Some number
-    → IsMissingBlock entries low (number / BLOCK_WINDOWS) fault → IsMakeFault entries m (low + 1) b fault
+    → IsMissingBlock entries low (number / BLOCK_WINDOWS) fault → IsMissingBelow entries m (low + 1) b fault
 fault_of_last entries m low b place number window (Missing l c) lt own is missing =
     rw (missing.0, missing.1) (
       record {
@@ -81,7 +93,13 @@ if_some_more P Q (Some a) more is = more a is
 
 -- all blocks below a block are known if the parts of all its windows are
 pub knows_all_below :
-    (entries : Entries) (m r b : ℕ) → KnowsBelow entries m r b (block_len m r b)
-    → (low c : ℕ) → IsBelow m r b low c → IsSome (entries low c)
+    (entries : Entries) (m r b : ℕ) → KnowsBelow entries m r b (block_len m r b) → KnowsAllBelow entries m r b
 knows_all_below entries m r b all low c below =
     rw below.block_is (all low below.place below.one_lower below.inside below.number below.is_part)
+
+-- a missing block is why a block was not made
+pub missing_is_fault :
+    {S : Type 0} (entries : S → Entries) (old new : S) (m r b : ℕ) (fault : MakeFault) → IsMissingBelow (entries new) m r b fault
+    → IsMakeFault entries old new m r b fault
+missing_is_fault entries old new m r b (Missing low c) missing = missing
+missing_is_fault entries old new m r b OutOfMemory missing = absurd missing

@@ -20,7 +20,7 @@ use Rattle.unroll.specs.WideColumns.{part_state, HoldParts, AreWritten}
 use Rattle.unroll.specs.declared.part_columns.PartColumns.{PartColumns}
 use Rattle.unroll.proofs.ColumnStates.{below_sum, held_more}
 use Rattle.unroll.proofs.Known.{still_known, knows_three, window_at}
-use Rattle.unroll.proofs.SameRun.{same_run, left_is, left_known, slice_window, last_front}
+use Rattle.unroll.proofs.SameRun.{same_run, run_grows, left_is, left_known, slice_window, last_front}
 use Rattle.win_index.specs.declared.limits.TheConstants.{BLOCK_WINDOWS}
 
 -- the last identifiers of a window one level above low are its last part
@@ -59,6 +59,20 @@ pub right_at_place :
     (plan : ProgramForIds) (entries : Entries) (low at' : ℕ) (w : List ℕ) (run : Run) → IsRun plan entries low w run
     → IsAtPlace (2 * low + 1) plan.ids run.places w at' → slice_get (windows (2 * low + 1) plan.ids) (run.start + at') ≡ Some (part w low 2)
 right_at_place plan entries low at' w run run_is is = rw is.place_is at (last_part_at plan entries low w run run_is is.window_is)
+
+-- the run of a window is that of each window with its prefix, also when the source knows more; so the place of such a
+-- window is that of its last part
+pub run_of_prefix :
+    (plan : ProgramForIds) (old now : Entries) (low : ℕ) (window w : List ℕ) (run : Run) → Grows old now → IsRun plan old low window run
+    → take (2 * low + 2) w ≡ take (2 * low + 2) window → IsRun plan now low w run
+run_of_prefix plan old now low window w run grows is same = same_run plan now low window w run (sym same) (run_grows plan old now low window run grows is)
+
+pub last_part_here :
+    (plan : ProgramForIds) (old now : Entries) (low at' : ℕ) (window w : List ℕ) (run : Run) → Grows old now → IsRun plan old low window run
+    → take (2 * low + 2) w ≡ take (2 * low + 2) window → IsAtPlace (2 * low + 1) plan.ids run.places w at'
+    → slice_get (windows (2 * low + 1) plan.ids) (run.start + at') ≡ Some (part w low 2)
+last_part_here plan old now low at' window w run grows is same place =
+    right_at_place plan now low at' w run (run_of_prefix plan old now low window w run grows is same) place
 
 module _ (number_of_window : NumberOfWindow) (windows_have_numbers : WindowsHaveNumbers) where
   pub series_at :

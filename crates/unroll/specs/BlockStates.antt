@@ -1,11 +1,15 @@
 -- The content of a block: the states of at most BLOCK_WINDOWS consecutive windows of one level.
-use Rattle.std.specs.Prelude.{ℕ, ◌+◌, ◌-◌, ◌*◌, min, List, [], slice_index_or, refl}
+use Rattle.std.specs.Prelude.{ℕ, ◌+◌, ◌-◌, ◌*◌, ◌<◌, ◌≤◌, min, List, [], length, slice_index_or, refl}
 use Rattle.std.specs.Coded.{Coded, code_by, coded×, coded_ℕ}
 use Rattle.win_index.specs.Windows.{windows}
-use Rattle.win_index.specs.Blocks.{window_count}
+use Rattle.win_index.specs.Blocks.{block_count, window_count}
 use Rattle.lang_check.specs.Plans.{ProgramForIds, plan_code}
 use Rattle.unroll.specs.Line.{middle_state}
 use Rattle.win_index.specs.declared.limits.TheConstants.{BLOCK_WINDOWS}
+
+-- a level of the plan, and the number of one of its blocks
+abbrev pub IsKey : ProgramForIds → ℕ → ℕ → Type 0
+IsKey plan level number = (level ≤ length plan.program.steps) × (number < block_count plan.ids level)
 
 -- the window of level r with number n
 abbrev pub window_numbered : ℕ → ℕ → ℕ → List ℕ

@@ -1,18 +1,24 @@
 -- What the functions that make a block say of the source, for one window at a time.
-use Rattle.std.specs.Prelude.{◌≡◌, ℕ, ◌+◌, ◌*◌, ◌/◌, ◌<◌, List, take, drop, length, slice_get, Some, None, IsSome}
+use Rattle.std.specs.Prelude.{◌≡◌, ℕ, ◌+◌, ◌*◌, ◌/◌, ◌%◌, ◌<◌, List, take, drop, length, slice_get, Some, None, IsSome, IfSome}
 use Rattle.lang_check.specs.Plans.{ProgramForIds}
 use Rattle.node_program.specs.Node.{to_right}
 use Rattle.win_index.specs.Runs.{IsRunStart, HasPlaces, IsEndOfSame}
-use Rattle.win_index.specs.Windows.{windows, number_of}
+use Rattle.win_index.specs.Windows.{windows, number_of, IsWindow}
 use Rattle.unroll.specs.Line.{middle_state}
 use Rattle.unroll.specs.Below.{part, IsPartNumber}
-use Rattle.unroll.specs.BlockStates.{window_numbered}
-use Rattle.unroll.specs.Entries.{Entries}
+use Rattle.unroll.specs.BlockStates.{MadeBlock, window_numbered, block_len, block_state}
+use Rattle.unroll.specs.Entries.{Entries, IsEntry}
+use Rattle.unroll.specs.declared.run.Reached.{Reached}
+use Rattle.unroll.specs.declared.upper_block.UpperBlock.{UpperBlock}
 use Rattle.unroll.specs.declared.run.FirstPart.{FirstPart}
 use Rattle.unroll.specs.declared.run.Run.{Run}
 use Rattle.unroll.specs.declared.fault.MakeFault.{MakeFault}
 use Rattle.unroll.specs.declared.fault.MakeFault.TheVariants.{Missing, OutOfMemory}
 use Rattle.win_index.specs.declared.limits.TheConstants.{BLOCK_WINDOWS}
+
+-- w is a window one level above low, which is below the last level
+abbrev pub IsWindowAbove : ProgramForIds → ℕ → List ℕ → Type 0
+IsWindowAbove plan low w = (low < length plan.program.steps) × IsWindow (2 * low + 3) plan.ids w
 
 -- the blocks of the level low that hold the three parts of the window w are known
 abbrev pub KnowsParts : Entries → ℕ → ℕ → List ℕ → Type 0
@@ -21,6 +27,19 @@ KnowsParts entries m low w = (n : ℕ) → IsPartNumber m low w n → IsSome (en
 -- the block of the level low that holds the part of the window w at offset d is known
 abbrev pub KnowsPart : Entries → ℕ → ℕ → List ℕ → ℕ → Type 0
 KnowsPart entries m low w d = (n : ℕ) → number_of (2 * low + 1) m (part w low d) ≡ Some n → IsSome (entries low (n / BLOCK_WINDOWS))
+
+-- item `index` of a known block is the window of this level with this number
+pub record HoldsWindow (plan : ProgramForIds) (entries : Entries) (level number : ℕ) (b : MadeBlock) (index : ℕ) : Type 0 where
+  pub block : IsEntry plan entries level (number / BLOCK_WINDOWS) b
+  pub place : index ≡ number % BLOCK_WINDOWS
+  pub inside : index < block_len plan.ids level (number / BLOCK_WINDOWS)
+
+-- item `index` of a known block of the level low is the part of the window w at offset d
+pub record HoldsPart (plan : ProgramForIds) (entries : Entries) (low : ℕ) (w : List ℕ) (d : ℕ) (b : MadeBlock) (index : ℕ) : Type 0 where
+  pub block : IsEntry plan entries low b.number b
+  pub inside : index < block_len plan.ids low b.number
+  pub state : block_state plan low b.number index ≡ middle_state plan.program low (part w low d)
+  pub known : KnowsPart entries plan.ids low w d
 
 -- the first part of a window: the message of its node to the right after `low` rounds. Its block is known
 abbrev pub IsFirstPart : ProgramForIds → Entries → ℕ → FirstPart → Type 0
@@ -59,3 +78,12 @@ IsMissingBlock entries level number OutOfMemory = ⊥
 -- the window of level r with number n is the last one of the run of w
 abbrev pub EndsAt : ℕ → ℕ → List ℕ → ℕ → Type 0
 EndsAt m r w n = (last : List ℕ) × (slice_get (windows (2 * r + 1) m) n ≡ Some last) × IsEndOfSame (2 * r + 1) m w last
+
+-- a place among the windows of an upper block: the index of a window, its identifiers, its run, and a known block that
+-- may hold the last part of another window
+pub record IsReached (entries : Entries) (block : UpperBlock) (reached : Reached) : Type 0 where
+  pub inside : reached.index < block_len block.plan.now.ids (block.below + 1) block.number
+  pub here : slice_get (windows (2 * (block.below + 1) + 1) block.plan.now.ids) (BLOCK_WINDOWS * block.number + reached.index) ≡ Some reached.window.now
+  pub window : IsWindow (2 * block.below + 3) block.plan.now.ids reached.window.now
+  pub run : IsRun block.plan.now entries block.below reached.window.now reached.run
+  pub last : IfSome reached.last (λ b. IsEntry block.plan.now entries block.below b.now.number b.now)

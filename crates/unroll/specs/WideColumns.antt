@@ -1,16 +1,20 @@
 -- Columns for the windows of a block. No public contract cites this file.
-use Rattle.std.specs.Prelude.{◌≡◌, ℕ, ◌+◌, ◌*◌, ◌<◌, ◌≤◌, List, [], length, slice_index, slice_index_or}
+use Rattle.std.specs.Prelude.{◌≡◌, ℕ, ◌+◌, ◌-◌, ◌*◌, ◌<◌, ◌≤◌, List, [], length, slice_index, slice_index_or}
 use Rattle.node_program.specs.Node.{to_left, to_right}
 use Rattle.node_program.specs.Term.{terms}
 use Rattle.win_index.specs.declared.limits.TheConstants.{BLOCK_WINDOWS}
 use Rattle.lang_check.specs.Plans.{ProgramForIds}
 use Rattle.round_columns.specs.States.{NodeStates}
-use Rattle.round_columns.specs.Room.{Room}
 use Rattle.round_columns.specs.StackNeed.{most_columns}
 use Rattle.unroll.specs.Below.{part}
-use Rattle.unroll.specs.BlockStates.{window_numbered}
+use Rattle.unroll.specs.BlockStates.{MadeBlock, window_numbered, block_len}
 use Rattle.unroll.specs.Line.{middle_state}
+use Rattle.unroll.specs.Entries.{Entries, IsEntry}
+use Rattle.unroll.specs.Parts.{KnowsBelow, EndsAt}
 use Rattle.unroll.specs.declared.part_columns.PartColumns.{PartColumns}
+use Rattle.unroll.specs.declared.part_columns.Scratch.{Scratch}
+use Rattle.unroll.specs.declared.run.Reached.{Reached}
+use Rattle.unroll.specs.declared.upper_block.UpperBlock.{UpperBlock}
 
 -- columns for the registers of the plan at BLOCK_WINDOWS windows
 abbrev pub IsWide : ProgramForIds → NodeStates → Type 0
@@ -33,16 +37,30 @@ pub record HoldParts (plan : ProgramForIds) (low b count : ℕ) (parts : PartCol
   pub own : (i : ℕ) → i < count → slice_index_or parts.own.states i [] ≡ part_state plan low b 1 i
   pub right : (i : ℕ) → i < count → slice_index parts.from_right.items i ≡ to_left plan.program low (part_state plan low b 2 i)
 
+-- the parts of the first `count` windows of an upper block are in the columns, and their blocks are known
+pub record AreGathered (entries : Entries) (block : UpperBlock) (count : ℕ) (parts : PartColumns) : Type 0 where
+  pub states : HoldParts block.plan.now block.below block.number count parts
+  pub known : KnowsBelow entries block.plan.now.ids (block.below + 1) block.number count
+
+-- the same up to the index `end`, where the run of the place that was reached ends, or the block; the known block
+-- `last` holds the last part of the window before
+pub record IsRunGathered (entries : Entries) (block : UpperBlock) (reached : Reached) (end : ℕ) (last : MadeBlock) (parts : PartColumns) : Type 0 where
+  pub later : reached.index < end
+  pub within : end ≤ block_len block.plan.now.ids (block.below + 1) block.number
+  pub ended : end < block_len block.plan.now.ids (block.below + 1) block.number
+      → EndsAt block.plan.now.ids (block.below + 1) reached.window.now (BLOCK_WINDOWS * block.number + (end - 1))
+  pub last_is : IsEntry block.plan.now entries block.below last.number last
+  pub gathered : AreGathered entries block end parts
+
 -- the `count` items from a place on are these now, and the items before them are unchanged
 pub record AreWritten (A : Type 0) (none : A) (old new : List A) (place count : ℕ) (item : ℕ → A) : Type 0 where
   pub size : length new ≡ length old
   pub here : (i : ℕ) → i < count → slice_index_or new (place + i) none ≡ item i
   pub before : (i : ℕ) → i < place → slice_index_or new i none ≡ slice_index_or old i none
 
--- the invariant of a maker of blocks: the code of its plan, scratch for it, and columns
-pub record IsReady (plan code : ProgramForIds) (work : Room) (parts : PartColumns) (made : NodeStates) : Type 0 where
-  pub code_is : code ≡ plan
-  pub room : most_columns (terms plan.program) ≤ work.columns
-  pub width : work.width ≡ BLOCK_WINDOWS
-  pub parts_wide : AreWide plan parts
-  pub made_wide : IsWide plan made
+-- scratch for the blocks of a plan: room for its expressions, and columns for its registers
+pub record IsReady (plan : ProgramForIds) (scratch : Scratch) : Type 0 where
+  pub room : most_columns (terms plan.program) ≤ scratch.work.columns
+  pub width : scratch.work.width ≡ BLOCK_WINDOWS
+  pub parts_wide : AreWide plan scratch.parts
+  pub made_wide : IsWide plan scratch.made

@@ -12,6 +12,7 @@ mod part_columns;
 mod parts;
 mod run;
 mod source;
+mod upper_block;
 mod window;
 
 pub use block::Block;

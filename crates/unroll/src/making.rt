@@ -1,14 +1,14 @@
-ghost use Rattle.std.specs.Prelude.{◌≡◌, ℕ, ◌+◌, ◌*◌, ◌<◌, ◌≤◌, length, IsSome, IfOk, IfErr, OnOk, IsErrOf};
-ghost use Rattle.unroll.specs.Below.{IsBelow};
-ghost use Rattle.unroll.specs.Entries.{Grows};
-ghost use Rattle.unroll.specs.MakeFaults.{IsMakeFault};
-ghost use Rattle.win_index.specs.Blocks.{block_count};
+ghost use Rattle.std.specs.Prelude.{◌≡◌};
+ghost use Rattle.unroll.specs.BlockStates.{IsKey};
+ghost use Rattle.unroll.specs.Entries.{Asked};
+ghost use Rattle.unroll.specs.MakeFaults.{IsMade};
 
 use crate::block::Block;
 use crate::fault::MakeFault;
 use crate::maker::BlockMaker;
 use crate::source::Source;
 use lang_check::Plan;
+use round_columns::Code;
 use std::alloc::Global;
 
 /// Makes the block of a plan with this level, number and maker.
@@ -28,18 +28,12 @@ pub fn make_block<'a, 's, S: Source<'s>>(
     maker: u32,
 ) -> Result<Block<'a>, MakeFault>
     requires plan { S.plan source.old ≡ plan.now }
-    requires level { level ≤ length plan.now.program.steps }
-    requires number { number < block_count plan.now.ids level }
-    ensures same_plan { S.plan source.new ≡ S.plan source.old }
-    ensures same_fixed { S.fixed source.new ≡ S.fixed source.old }
-    ensures grows { Grows (S.entries source.old) (S.entries source.new) }
+    requires key { IsKey plan.now level number }
+    ensures asked { Asked S.plan S.fixed S.entries source.old source.new }
     ensures not_asked { level ≡ 0 → source.new ≡ source.old }
-    ensures block { IfOk result (λ b. (b.plan ≡ plan.now) × (b.level ≡ level) × (b.number ≡ number) × (b.maker ≡ maker)) }
-    ensures known { OnOk result ((low c : ℕ) → IsBelow plan.now.ids level number low c
-        → IsSome (S.entries source.new low c)) }
-    ensures fault { IfErr result (IsMakeFault (S.entries source.new) plan.now.ids level number) }
-    ensures no_memory { IsErrOf result MakeFault.OutOfMemory → source.new ≡ source.old }
+    ensures made { IsMade S.entries source.old source.new plan.now level number maker result }
 {
-    let mut blocks = BlockMaker::new(alloc, plan).map_err(|_| MakeFault::OutOfMemory)?;
-    blocks.make(alloc, source, level, number, maker)
+    let code = Code::new(alloc, plan).map_err(|_| MakeFault::OutOfMemory)?;
+    let mut blocks = BlockMaker::new(alloc, &code).map_err(|_| MakeFault::OutOfMemory)?;
+    blocks.make(source, level, number, maker)
 }

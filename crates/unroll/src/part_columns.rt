@@ -1,15 +1,16 @@
-// The columns of the parts of windows, from which the states one level above are computed.
+// The columns that a maker of blocks reuses.
 ghost use Rattle.std.specs.Prelude.{◌≡◌, ◌+◌, ◌≤◌, [], ℕ, List, length, replicate, slice_index, IfOk};
-ghost use Rattle.unroll.specs.WideColumns.{IsWide, AreWide, AreWritten};
+ghost use Rattle.unroll.specs.WideColumns.{IsWide, AreWide, AreWritten, IsReady};
 
 use lang_check::Plan;
 use node_program::OutOfMemory;
-use round_columns::Columns;
+use round_columns::{Code, Columns, Work};
 use round_eval::width_of;
 use std::alloc::Global;
 use win_index::BLOCK_WINDOWS;
 
-// For up to `BLOCK_WINDOWS` windows: the message to the right of the first part's node in the next
+// The columns of the parts of up to `BLOCK_WINDOWS` windows, from which the states one level above
+// are computed: the message to the right of the first part's node in the next
 // round, the registers of the middle part's node, and the message to the left of the last part's
 // node.
 #[derive(Drop)]
@@ -60,6 +61,27 @@ impl PartColumns {
             (λ i. slice_index sent.now (index + i)) }
     {
         copy_some(&mut self.from_right, place, count, sent, index);
+    }
+}
+
+// What a maker of blocks reuses: scratch for the plan's expressions, the columns of the parts of a
+// block's windows, and the states of these windows.
+#[derive(Drop)]
+pub(crate) struct Scratch {
+    pub(crate) work: Work,
+    pub(crate) parts: PartColumns,
+    pub(crate) made: Columns,
+}
+
+impl Scratch {
+    // Allocates scratch for the blocks of a plan.
+    pub(crate) fn new(alloc: Global, code: &Code<'_>) -> Result<Scratch, OutOfMemory>
+        ensures { IfOk result (IsReady code.now) }
+    {
+        let work = Work::new(alloc, code, BLOCK_WINDOWS as usize)?;
+        let parts = PartColumns::new(alloc, code.plan())?;
+        let made = wide_columns(alloc, code.plan())?;
+        Ok(Scratch { work, parts, made })
     }
 }
 

@@ -1,13 +1,11 @@
 // The parts of a window: its first, its middle and its last identifiers, which are windows one
 // level lower. They are at the offsets 0, 1 and 2.
-ghost use Rattle.std.specs.Prelude.{◌≡◌, ◌+◌, ◌*◌, ◌/◌, ◌%◌, ◌<◌, ◌≤◌, length, take, drop, slice_get, Some, None, IfSome, IfNone, IfOk, IfErr, OnOk};
+ghost use Rattle.std.specs.Prelude.{◌≡◌, ◌+◌, ◌*◌, ◌/◌, ◌<◌, ◌≤◌, length, Some, None, IfSome, IfNone, IfOk, IfErr};
 ghost use Rattle.unroll.specs.Below.{part};
-ghost use Rattle.unroll.specs.BlockStates.{block_len, block_state};
-ghost use Rattle.unroll.specs.Entries.{Grows, IsEntry};
-ghost use Rattle.unroll.specs.Line.{middle_state};
-ghost use Rattle.unroll.specs.Parts.{KnowsPart, IsMissingPart, IsMissingBlock};
-ghost use Rattle.win_index.specs.Blocks.{block_count, window_count};
-ghost use Rattle.win_index.specs.Windows.{IsWindow};
+ghost use Rattle.unroll.specs.BlockStates.{IsKey};
+ghost use Rattle.unroll.specs.Entries.{Asked, IsEntry};
+ghost use Rattle.unroll.specs.Parts.{HoldsPart, HoldsWindow, IsMissingPart, IsMissingBlock, IsWindowAbove};
+ghost use Rattle.win_index.specs.Blocks.{window_count};
 
 use crate::block::Block;
 use crate::fault::MakeFault;
@@ -24,17 +22,10 @@ pub(crate) fn part_below<'s, S: Source<'s>>(
     offset: usize,
 ) -> Result<(&'s Block<'s>, u32), MakeFault>
     requires plan { S.plan source.old ≡ plan.now }
-    requires below { below < length plan.now.program.steps }
-    requires window { IsWindow (2 * below + 3) plan.now.ids window.now }
+    requires window { IsWindowAbove plan.now below window.now }
     requires offset { offset ≤ 2 }
-    ensures same_plan { S.plan source.new ≡ S.plan source.old }
-    ensures same_fixed { S.fixed source.new ≡ S.fixed source.old }
-    ensures grows { Grows (S.entries source.old) (S.entries source.new) }
-    ensures block { IfOk result (λ r. IsEntry plan.now (S.entries source.new) below r.0.now.number r.0.now) }
-    ensures inside { IfOk result (λ r. r.1 < block_len plan.now.ids below r.0.now.number) }
-    ensures state { IfOk result (λ r.
-        block_state plan.now below r.0.now.number r.1 ≡ middle_state plan.now.program below (part window.now below offset)) }
-    ensures known { OnOk result (KnowsPart (S.entries source.new) plan.now.ids below window.now offset) }
+    ensures asked { Asked S.plan S.fixed S.entries source.old source.new }
+    ensures part { IfOk result (λ r. HoldsPart plan.now (S.entries source.new) below window.now offset r.0.now r.1) }
     ensures fault { IfErr result (IsMissingPart (S.entries source.new) plan.now.ids (below + 1) window.now) }
 {
     let number = plan
@@ -56,12 +47,8 @@ pub(crate) fn numbered_block<'s, S: Source<'s>>(
     requires level { level ≤ length plan.now.program.steps }
     requires number { number < window_count plan.now.ids level }
     requires last { IfSome last (λ b. IsEntry plan.now (S.entries source.old) level b.now.number b.now) }
-    ensures same_plan { S.plan source.new ≡ S.plan source.old }
-    ensures same_fixed { S.fixed source.new ≡ S.fixed source.old }
-    ensures grows { Grows (S.entries source.old) (S.entries source.new) }
-    ensures block { IfOk result (λ r. IsEntry plan.now (S.entries source.new) level (number / BLOCK_WINDOWS) r.0.now) }
-    ensures place { IfOk result (λ r. r.1 ≡ number % BLOCK_WINDOWS) }
-    ensures inside { IfOk result (λ r. r.1 < block_len plan.now.ids level (number / BLOCK_WINDOWS)) }
+    ensures asked { Asked S.plan S.fixed S.entries source.old source.new }
+    ensures window { IfOk result (λ r. HoldsWindow plan.now (S.entries source.new) level number r.0.now r.1) }
     ensures fault { IfErr result (IsMissingBlock (S.entries source.new) level (number / BLOCK_WINDOWS)) }
 {
     let place = number / BLOCK_WINDOWS;
@@ -80,12 +67,9 @@ fn known_block<'s, S: Source<'s>>(
     last: Option<&'s Block<'s>>,
 ) -> Option<&'s Block<'s>>
     requires plan { S.plan source.old ≡ plan.now }
-    requires level { level ≤ length plan.now.program.steps }
-    requires number { number < block_count plan.now.ids level }
+    requires key { IsKey plan.now level number }
     requires last { IfSome last (λ b. IsEntry plan.now (S.entries source.old) level b.now.number b.now) }
-    ensures same_plan { S.plan source.new ≡ S.plan source.old }
-    ensures same_fixed { S.fixed source.new ≡ S.fixed source.old }
-    ensures grows { Grows (S.entries source.old) (S.entries source.new) }
+    ensures asked { Asked S.plan S.fixed S.entries source.old source.new }
     ensures found { IfSome result (λ b. IsEntry plan.now (S.entries source.new) level number b.now) }
     ensures missing { IfNone result (S.entries source.new level number ≡ None) }
 {

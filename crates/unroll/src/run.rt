@@ -1,11 +1,12 @@
 // Runs: the windows with a common prefix, all identifiers but the last.
 ghost use Rattle.std.specs.Prelude.{◌≡◌, ◌↔◌, IsTrue, ℕ, List, ◌+◌, ◌*◌, ◌<◌, length, take, drop, slice_get, Some, IfSome, IfOk, IfErr};
 ghost use Rattle.unroll.specs.Below.{part};
-ghost use Rattle.unroll.specs.Entries.{Grows};
-ghost use Rattle.unroll.specs.Parts.{IsFirstPart, IsRun, IsMissingPart};
+ghost use Rattle.unroll.specs.Entries.{Asked};
+ghost use Rattle.unroll.specs.Parts.{IsFirstPart, IsRun, IsMissingPart, IsWindowAbove};
 ghost use Rattle.win_index.specs.Runs.{IsRunStart, IsEndOfSame};
 ghost use Rattle.win_index.specs.Windows.{windows, IsWindow};
 
+use crate::block::Block;
 use crate::fault::MakeFault;
 use crate::parts::part_below;
 use crate::source::Source;
@@ -30,6 +31,16 @@ pub(crate) struct Run<'s> {
     pub(crate) own: &'s [u32],
 }
 
+// A place that a gathering has reached: the index of a window in its block, its identifiers, its
+// run, and the block that held the last part before, if there was one.
+#[derive(Clone, Copy)]
+pub(crate) struct Reached<'w, 's> {
+    pub(crate) index: u32,
+    pub(crate) window: &'w [u32],
+    pub(crate) run: Run<'s>,
+    pub(crate) last: Option<&'s Block<'s>>,
+}
+
 // Starts the run of a window one level above `below`, from its first two parts. `given` can be the
 // first part of another window.
 pub(crate) fn start_run<'s, S: Source<'s>>(
@@ -40,12 +51,9 @@ pub(crate) fn start_run<'s, S: Source<'s>>(
     given: Option<FirstPart>,
 ) -> Result<Run<'s>, MakeFault>
     requires plan { S.plan source.old ≡ plan.now }
-    requires below { below < length plan.now.program.steps }
-    requires window { IsWindow (2 * below + 3) plan.now.ids window.now }
+    requires window { IsWindowAbove plan.now below window.now }
     requires given { IfSome given (IsFirstPart plan.now (S.entries source.old) below) }
-    ensures same_plan { S.plan source.new ≡ S.plan source.old }
-    ensures same_fixed { S.fixed source.new ≡ S.fixed source.old }
-    ensures grows { Grows (S.entries source.old) (S.entries source.new) }
+    ensures asked { Asked S.plan S.fixed S.entries source.old source.new }
     ensures run { IfOk result (λ run. IsRun plan.now (S.entries source.new) below window.now run) }
     ensures fault { IfErr result (IsMissingPart (S.entries source.new) plan.now.ids (below + 1) window.now) }
 {
@@ -71,14 +79,11 @@ fn first_part<'s, S: Source<'s>>(
     given: Option<FirstPart>,
 ) -> Result<FirstPart, MakeFault>
     requires plan { S.plan source.old ≡ plan.now }
-    requires below { below < length plan.now.program.steps }
-    requires window { IsWindow (2 * below + 3) plan.now.ids window.now }
+    requires window { IsWindowAbove plan.now below window.now }
     requires given { IfSome given (IsFirstPart plan.now (S.entries source.old) below) }
-    ensures same_plan { S.plan source.new ≡ S.plan source.old }
-    ensures same_fixed { S.fixed source.new ≡ S.fixed source.old }
-    ensures grows { Grows (S.entries source.old) (S.entries source.new) }
-    ensures ids { IfOk result (λ first. take (2 * below + 1) first.ids ≡ part window.now below 0) }
-    ensures first { IfOk result (IsFirstPart plan.now (S.entries source.new) below) }
+    ensures asked { Asked S.plan S.fixed S.entries source.old source.new }
+    ensures first { IfOk result (λ first. (take (2 * below + 1) first.ids ≡ part window.now below 0)
+        × IsFirstPart plan.now (S.entries source.new) below first) }
     ensures fault { IfErr result (IsMissingPart (S.entries source.new) plan.now.ids (below + 1) window.now) }
 {
     // The proof takes the limits of the shape from this call.
@@ -126,8 +131,7 @@ pub(crate) fn next_run(shape: Shape, below: u32, window: &mut [u32])
 
 // The number of the first window in the run of a window's last part.
 fn last_start(plan: &Plan, below: u32, window: &[u32]) -> u32
-    requires below { below < length plan.now.program.steps }
-    requires window { IsWindow (2 * below + 3) plan.now.ids window.now }
+    requires { IsWindowAbove plan.now below window.now }
     ensures { IsRunStart (2 * below) plan.now.ids (take (2 * below) (drop 2 window.now)) result }
 {
     plan.shape()

@@ -1,7 +1,7 @@
-ghost use Rattle.std.specs.Prelude.{◌≡◌, ◌<◌, ◌≤◌, length, IfSome, IfNone, None};
+ghost use Rattle.std.specs.Prelude.{◌≡◌, IfSome, IfNone, None};
 ghost use Rattle.lang_check.specs.Plans.{ProgramForIds};
-ghost use Rattle.unroll.specs.Entries.{Entries, Grows, IsEntry};
-ghost use Rattle.win_index.specs.Blocks.{block_count};
+ghost use Rattle.unroll.specs.BlockStates.{IsKey};
+ghost use Rattle.unroll.specs.Entries.{Entries, Asked, IsEntry};
 
 use crate::block::Block;
 
@@ -20,11 +20,8 @@ pub trait Source<'s> {
     /// Returns the block of a level of the plan and a number below the level's number of blocks,
     /// which is known from then on, or `None` if there is no entry.
     fn block(&mut self, level: u32, number: u32) -> Option<&'s Block<'s>>
-        requires level { level ≤ length (plan self.old).program.steps }
-        requires number { number < block_count (plan self.old).ids level }
-        ensures same_plan { plan self.new ≡ plan self.old }
-        ensures same_fixed { fixed self.new ≡ fixed self.old }
-        ensures grows { Grows (entries self.old) (entries self.new) }
+        requires { IsKey (plan self.old) level number }
+        ensures asked { Asked plan fixed entries self.old self.new }
         ensures found { IfSome result (λ b. IsEntry (plan self.new) (entries self.new) level number b.now) }
         ensures missing { IfNone result (entries self.new level number ≡ None) };
 }

@@ -1,296 +1,247 @@
-use Rattle.std.proofs.Common.{◌≡◌, ℕ, ◌+◌, ◌-◌, ◌*◌, ◌≤◌, List, [], length, take, get_or, IsSome, refl, sym, ap, ◌∙◌, arith, subst}
+use Rattle.std.proofs.Common.{◌≡◌, ℕ, ◌+◌, ◌-◌, ◌*◌, ◌<◌, ◌≤◌, List, [], length, take, get_or, IsSome, refl, sym, ap, ◌∙◌, arith, subst}
 use Rattle.std.proofs.lemmas.Result.{err_from_is_err_and}
 use Rattle.std.proofs.lemmas.Option.{slice_get_within}
-use Rattle.win_index.specs.Runs.{place_in_run}
+use Rattle.win_index.specs.Runs.{IsAtPlace, place_in_run}
 use Rattle.win_index.specs.Windows.{windows, IsWindow}
 use Rattle.unroll.specs.Below.{part}
-use Rattle.unroll.proofs.Known.{window_at, grows_both, fault_of_last}
-use Rattle.unroll.proofs.SameRun.{same_run, run_grows}
-use Rattle.unroll.proofs.SeriesStates.{series_at, series_known, hold_series, knows_series, still_written, still_hold, written_same, right_at_place, further_place, later_window}
+use Rattle.unroll.specs.BlockStates.{block_len}
+use Rattle.unroll.specs.Entries.{IsEntry}
+use Rattle.unroll.specs.Parts.{EndsAt}
+use Rattle.unroll.specs.WideColumns.{AreGathered, AreWide}
+use Rattle.unroll.proofs.Known.{window_at, asked_both, fault_of_last}
+use Rattle.unroll.proofs.SeriesStates.{SeriesAt, series_at, series_known, hold_series, knows_series, still_written, still_hold, written_same, run_of_prefix, last_part_here, further_place, later_window}
+use Rattle.unroll.proofs.gathering.gather_run.Given.{Over}
+use Rattle.unroll.proofs.gathering.gather_run.Goals.{After-put_lasts}
 use Rattle.unroll.proofs.gathering.gather_run.Goals as goal
 use Rattle.win_index.specs.declared.limits.TheConstants.{BLOCK_WINDOWS}
 
-pub returns-in_err-block-clause-grows : goal.returns-in_err-block-clause-grows
-returns-in_err-block-clause-grows g c =
-    let entries = g.S.Source.entries in
-    grows_both (entries c.args.source.now) (entries c.loop-block.source) (entries c.numbered_block.new.source) c.loop-block.invariant.grows c.in_err-block.ensures.grows
+-- after the last parts of a series were written
+module _ (g : Over) (c : After-put_lasts g) where
+  -- its windows are in the run, and their last parts in the block
+  stands : (i : ℕ) → i < c.series-count.result → SeriesAt c.args.upper.plan.now (g.S.Source.entries c.numbered_block.new.source) c.args.upper.below c.args.upper.number c.loop-block.place c.in_ok-block.block.now.number c.in_ok-block.index i c.loop-block.invariant.here.0 c.args.reached.run
+  stands =
+      let plan = c.args.upper.plan.now in
+      let low = c.args.upper.below in
+      let run = c.args.reached.run in
+      let entries = g.S.Source.entries in
+      let before = c.loop-block.invariant in
+      let answer = c.in_ok-block.ensures in
+      let block = c.in_ok-block.block.now in
+      let after = entries c.numbered_block.new.source in
+      let w = before.here.0 in
+      let grows = (asked_both before.asked answer.asked).grows in
+      let run_is = run_of_prefix plan (entries c.args.source.now) after low c.args.reached.window.now w run grows c.requires.reached.run before.here.2 in
+      let start : run.start + c.loop-block.at ≡ BLOCK_WINDOWS * block.number + c.in_ok-block.index = omega (arith, answer.window.place, answer.window.block.number_is) in
+      let right = rw start at (last_part_here plan (entries c.args.source.now) after low c.loop-block.at c.args.reached.window.now w run grows c.requires.reached.run before.here.2 before.here.3) in
+      let size = before.here.3.window_is.size in
+      series_at c.number_of_window.ensures c.windows_have_numbers.ensures plan after low c.args.upper.number c.loop-block.place block.number c.in_ok-block.index c.series-count.result w run
+      (omega (arith, size)) before.here.1 right (c.series-count.ensures.series (2 * low + 1) plan.ids w (omega arith) before.here.3) run_is
 
-pub returns-then-place-len-clause-grows : goal.returns-then-place-len-clause-grows
-returns-then-place-len-clause-grows g c =
-    let entries = g.S.Source.entries in
-    grows_both (entries c.args.source.now) (entries c.loop-block.source) (entries c.numbered_block.new.source) c.loop-block.invariant.grows c.in_ok-block.ensures.grows
+  -- they are among those whose first parts were written
+  within : c.loop-block.place + c.series-count.result ≤ c.args.reached.index + c.min-most.result
+  within =
+      let before = c.loop-block.invariant in
+      omega (arith, c.min-most.ensures, c.rest.ensures, c.place_in_run-at.ensures.value, before.along, before.after, c.series-count.ensures.inside, c.series-count.ensures.few, c.min.ensures)
 
-pub returns-in_default-clause-grows : goal.returns-in_default-clause-grows
-returns-in_default-clause-grows g c =
-    let entries = g.S.Source.entries in
-    grows_both (entries c.args.source.now) (entries c.loop-block.source) (entries c.numbered_block.new.source) c.loop-block.invariant.grows c.in_ok-block.ensures.grows
+  -- the parts of the windows up to their end are gathered
+  gathered : AreGathered (g.S.Source.entries c.numbered_block.new.source) c.args.upper (c.loop-block.place + c.series-count.result) c.put_lasts.new.self
+  gathered =
+      let plan = c.args.upper.plan.now in
+      let low = c.args.upper.below in
+      let b = c.args.upper.number in
+      let from = c.args.reached.index in
+      let run = c.args.reached.run in
+      let entries = g.S.Source.entries in
+      let before = c.loop-block.invariant in
+      let answer = c.in_ok-block.ensures in
+      let block = c.in_ok-block.block.now in
+      let index = c.in_ok-block.index in
+      let place = c.loop-block.place in
+      let count = c.series-count.result in
+      let after = entries c.numbered_block.new.source in
+      let w = before.here.0 in
+      let old = c.args.parts.now in
+      let now = c.loop-block.parts in
+      let new = c.put_lasts.new.self in
+      let put = c.put_lasts.ensures in
+      let is = answer.window.block in
+      let few : index + count ≤ c.len.result = omega (arith, c.series-count.ensures.few, c.min.ensures, answer.window.inside, c.len.ensures) in
+      let small : c.len.result ≤ BLOCK_WINDOWS = omega (arith, c.len.ensures) in
+      let left = still_written ℕ 0 run.first.sent old.from_left.items now.from_left.items new.from_left.items from c.min-most.result place count before.left (ap (λ list. list.items) put.left) before.after within in
+      let own = still_written (List ℕ) [] run.own.now old.own.states now.own.states new.own.states from c.min-most.result place count before.own (ap (λ columns. columns.states) put.own) before.after within in
+      let sent = rw (is.plan_is, is.level_is) at c.to_left.ensures.sent in
+      let long = rw (is.plan_is, is.level_is) at c.len.ensures in
+      let there : IsSome (after low block.number) = rw (is.number_is, is.known) refl in
+      record {
+        states = hold_series plan after low b place block.number index count w run c.to_left.result.now now new
+            before.gathered.states (λ i lt. sent (index + i) (omega (arith, lt, few, long))) left own put.right stands;
+        known = knows_series (entries c.loop-block.source) after plan.ids low b place count answer.asked.grows before.gathered.known
+            (λ i lt. series_known c.number_of_window.ensures c.windows_have_numbers.ensures plan after low b place block.number index i w run there
+            (omega (arith, few, small, lt)) (stands i lt));
+      }
 
-pub returns-then-place-len-clause-states : goal.returns-then-place-len-clause-states
-returns-then-place-len-clause-states g c =
-    let plan = c.args.plan.now in
+  wide : AreWide c.args.upper.plan.now c.put_lasts.new.self
+  wide =
+      let before = c.loop-block.invariant.wide in
+      let put = c.put_lasts.ensures in (
+        ap (λ list. length list.items) put.left ∙ before.0,
+        (ap (λ columns. columns.registers) put.own ∙ before.1.0, ap (λ columns. length columns.states) put.own ∙ before.1.1),
+        put.right.size ∙ before.2,
+      )
+
+  -- the position of the last of them in its run
+  last_place : IsAtPlace (2 * c.args.upper.below + 1) c.args.upper.plan.now.ids c.args.reached.run.places (stands (c.series-count.result - 1) (omega (arith, c.series-count.ensures.some))).next (c.loop-block.at + c.series-count.result - 1)
+  last_place =
+      let plan = c.args.upper.plan.now in
+      let low = c.args.upper.below in
+      let run = c.args.reached.run in
+      let answer = c.in_ok-block.ensures in
+      let block = c.in_ok-block.block.now in
+      let index = c.in_ok-block.index in
+      let count = c.series-count.result in
+      let start : BLOCK_WINDOWS * block.number + index ≡ run.start + c.loop-block.at = omega (arith, answer.window.place, answer.window.block.number_is) in
+      let last = stands (count - 1) (omega (arith, c.series-count.ensures.some)) in
+      let from : c.loop-block.at + (count - 1) ≡ c.loop-block.at + count - 1 = omega (arith, c.series-count.ensures.some) in
+      rw from at (further_place c.number_of_window.ensures c.windows_have_numbers.ensures plan (g.S.Source.entries c.numbered_block.new.source) low
+      c.args.upper.number c.loop-block.place block.number index (count - 1) c.loop-block.at c.loop-block.invariant.here.0 run last start)
+
+  len_is : c.len_of-len.result ≡ block_len c.args.upper.plan.now.ids (c.args.upper.below + 1) c.args.upper.number
+  len_is = rw c.shape-shape.ensures.ids at c.len_of-len.ensures.value
+
+  -- the end of these windows is behind the place that was reached, and inside the block
+  later : c.args.reached.index < c.loop-block.place + c.series-count.result
+  later = omega (arith, c.loop-block.invariant.after, c.series-count.ensures.some)
+
+  inside : c.loop-block.place + c.series-count.result ≤ block_len c.args.upper.plan.now.ids (c.args.upper.below + 1) c.args.upper.number
+  inside = omega (arith, len_is, c.series-count.ensures.few, c.min.ensures, c.loop-block.invariant.within)
+
+  last_is : IsEntry c.args.upper.plan.now (g.S.Source.entries c.numbered_block.new.source) c.args.upper.below c.in_ok-block.block.now.number c.in_ok-block.block.now
+  last_is =
+      let is = c.in_ok-block.ensures.window.block in
+      record { known = ap (g.S.Source.entries c.numbered_block.new.source c.args.upper.below) is.number_is ∙ is.known; plan_is = is.plan_is; level_is = is.level_is; number_is = refl }
+
+pub returns-in_err-block-clause-asked : goal.returns-in_err-block-clause-asked
+returns-in_err-block-clause-asked g c = asked_both c.loop-block.invariant.asked c.in_err-block.ensures.asked
+
+pub returns-then-place-len-clause-asked : goal.returns-then-place-len-clause-asked
+returns-then-place-len-clause-asked g c = asked_both c.loop-block.invariant.asked c.in_ok-block.ensures.asked
+
+pub returns-in_default-clause-asked : goal.returns-in_default-clause-asked
+returns-in_default-clause-asked g c = asked_both c.loop-block.invariant.asked c.in_ok-block.ensures.asked
+
+pub returns-then-place-len-clause-gathered : goal.returns-then-place-len-clause-gathered
+returns-then-place-len-clause-gathered g c =
+    let d = (goal.at.returns-then-place-len-clause-gathered g c).After-put_lasts in
+    let len = len_is g d in
+    record {
+      later = later g d;
+      within = inside g d;
+      ended = λ fewer. absurd (omega (arith, len, c.if-place-len.true, fewer));
+      last_is = last_is g d;
+      gathered = gathered g d;
+    }
+
+pub returns-in_default-clause-gathered : goal.returns-in_default-clause-gathered
+returns-in_default-clause-gathered g c =
+    let d = (goal.at.returns-in_default-clause-gathered g c).After-put_lasts in
+    let plan = c.args.upper.plan.now in
     let m = plan.ids in
-    let low = c.args.below in
-    let b = c.args.number in
-    let place = c.loop-block.place in
-    let run = c.args.run in
-    let entries = g.S.Source.entries in
-    let before = c.loop-block.invariant in
-    let asked = c.in_ok-block.ensures in
-    let after = entries c.numbered_block.new.source in
-    let block = c.in_ok-block.block.now in
-    let index = c.in_ok-block.index in
-    let at' = c.loop-block.at in
-    let w = before.here.0 in
-    let count = c.series-count.result in
-    let whole = grows_both (entries c.args.source.now) (entries c.loop-block.source) after before.grows asked.grows in
-    let run_is = same_run plan after low c.args.window.now w run (sym before.here.2) (run_grows plan (entries c.args.source.now) after low c.args.window.now run whole c.requires.run) in
-    let size = before.here.3.window_is.size in
-    let number = asked.block.number_is in
-    let start : BLOCK_WINDOWS * block.number + index ≡ run.start + at' = omega (arith, asked.place, number) in
-    let right = rw (sym start) at (right_at_place plan after low at' w run run_is before.here.3) in
-    let stands = series_at c.number_of_window.ensures c.windows_have_numbers.ensures plan after low b place block.number index count w run
-    (omega (arith, size)) before.here.1 right (c.series-count.ensures.series (2 * low + 1) m w (omega arith) before.here.3) run_is in
-    let few : index + count ≤ c.len.result = omega (arith, c.series-count.ensures.few, c.min.ensures, asked.inside, c.len.ensures) in
-    let within : place + count ≤ c.args.from + c.min-most.result =
-    omega (arith, c.min-most.ensures, c.rest.ensures, c.place_in_run-at.ensures.value, before.along, before.after, c.series-count.ensures.inside, c.series-count.ensures.few, c.min.ensures) in
-    let left = still_written ℕ 0 run.first.sent c.args.parts.now.from_left.items c.loop-block.parts.from_left.items c.put_lasts.new.self.from_left.items
-    c.args.from c.min-most.result place count before.left (ap (λ list. list.items) c.put_lasts.ensures.left) before.after within in
-    let own = still_written (List ℕ) [] run.own.now c.args.parts.now.own.states c.loop-block.parts.own.states c.put_lasts.new.self.own.states
-    c.args.from c.min-most.result place count before.own (ap (λ columns. columns.states) c.put_lasts.ensures.own) before.after within in
-    let sent = rw (asked.block.plan_is, asked.block.level_is) at c.to_left.ensures.sent in
-    let long = rw (asked.block.plan_is, asked.block.level_is) at c.len.ensures in
-    let held = hold_series plan after low b place block.number index count w run c.to_left.result.now c.loop-block.parts c.put_lasts.new.self
-    before.states (λ i lt. sent (index + i) (omega (arith, lt, few, long))) left own c.put_lasts.ensures.right stands in
-    held
-
-pub returns-in_default-clause-states : goal.returns-in_default-clause-states
-returns-in_default-clause-states g c =
-    let plan = c.args.plan.now in
-    let m = plan.ids in
-    let low = c.args.below in
-    let b = c.args.number in
-    let place = c.loop-block.place in
-    let run = c.args.run in
-    let entries = g.S.Source.entries in
-    let before = c.loop-block.invariant in
-    let asked = c.in_ok-block.ensures in
-    let after = entries c.numbered_block.new.source in
-    let block = c.in_ok-block.block.now in
-    let index = c.in_ok-block.index in
-    let at' = c.loop-block.at in
-    let w = before.here.0 in
-    let count = c.series-count.result in
-    let whole = grows_both (entries c.args.source.now) (entries c.loop-block.source) after before.grows asked.grows in
-    let run_is = same_run plan after low c.args.window.now w run (sym before.here.2) (run_grows plan (entries c.args.source.now) after low c.args.window.now run whole c.requires.run) in
-    let size = before.here.3.window_is.size in
-    let number = asked.block.number_is in
-    let start : BLOCK_WINDOWS * block.number + index ≡ run.start + at' = omega (arith, asked.place, number) in
-    let right = rw (sym start) at (right_at_place plan after low at' w run run_is before.here.3) in
-    let stands = series_at c.number_of_window.ensures c.windows_have_numbers.ensures plan after low b place block.number index count w run
-    (omega (arith, size)) before.here.1 right (c.series-count.ensures.series (2 * low + 1) m w (omega arith) before.here.3) run_is in
-    let few : index + count ≤ c.len.result = omega (arith, c.series-count.ensures.few, c.min.ensures, asked.inside, c.len.ensures) in
-    let within : place + count ≤ c.args.from + c.min-most.result =
-    omega (arith, c.min-most.ensures, c.rest.ensures, c.place_in_run-at.ensures.value, before.along, before.after, c.series-count.ensures.inside, c.series-count.ensures.few, c.min.ensures) in
-    let left = still_written ℕ 0 run.first.sent c.args.parts.now.from_left.items c.loop-block.parts.from_left.items c.put_lasts.new.self.from_left.items
-    c.args.from c.min-most.result place count before.left (ap (λ list. list.items) c.put_lasts.ensures.left) before.after within in
-    let own = still_written (List ℕ) [] run.own.now c.args.parts.now.own.states c.loop-block.parts.own.states c.put_lasts.new.self.own.states
-    c.args.from c.min-most.result place count before.own (ap (λ columns. columns.states) c.put_lasts.ensures.own) before.after within in
-    let sent = rw (asked.block.plan_is, asked.block.level_is) at c.to_left.ensures.sent in
-    let long = rw (asked.block.plan_is, asked.block.level_is) at c.len.ensures in
-    let held = hold_series plan after low b place block.number index count w run c.to_left.result.now c.loop-block.parts c.put_lasts.new.self
-    before.states (λ i lt. sent (index + i) (omega (arith, lt, few, long))) left own c.put_lasts.ensures.right stands in
-    held
-
-pub returns-then-place-len-clause-known : goal.returns-then-place-len-clause-known
-returns-then-place-len-clause-known g c =
-    let plan = c.args.plan.now in
-    let m = plan.ids in
-    let low = c.args.below in
-    let b = c.args.number in
-    let place = c.loop-block.place in
-    let run = c.args.run in
-    let entries = g.S.Source.entries in
-    let before = c.loop-block.invariant in
-    let asked = c.in_ok-block.ensures in
-    let after = entries c.numbered_block.new.source in
-    let block = c.in_ok-block.block.now in
-    let index = c.in_ok-block.index in
-    let at' = c.loop-block.at in
-    let w = before.here.0 in
-    let count = c.series-count.result in
-    let whole = grows_both (entries c.args.source.now) (entries c.loop-block.source) after before.grows asked.grows in
-    let run_is = same_run plan after low c.args.window.now w run (sym before.here.2) (run_grows plan (entries c.args.source.now) after low c.args.window.now run whole c.requires.run) in
-    let size = before.here.3.window_is.size in
-    let number = asked.block.number_is in
-    let start : BLOCK_WINDOWS * block.number + index ≡ run.start + at' = omega (arith, asked.place, number) in
-    let right = rw (sym start) at (right_at_place plan after low at' w run run_is before.here.3) in
-    let stands = series_at c.number_of_window.ensures c.windows_have_numbers.ensures plan after low b place block.number index count w run
-    (omega (arith, size)) before.here.1 right (c.series-count.ensures.series (2 * low + 1) m w (omega arith) before.here.3) run_is in
-    let few : index + count ≤ c.len.result = omega (arith, c.series-count.ensures.few, c.min.ensures, asked.inside, c.len.ensures) in
-    let small : c.len.result ≤ BLOCK_WINDOWS = omega (arith, c.len.ensures) in
-    let there : IsSome (after low block.number) = rw (number, asked.block.known) refl in
-    let known = knows_series (entries c.loop-block.source) after m low b place count asked.grows before.known
-    (λ i lt. series_known c.number_of_window.ensures c.windows_have_numbers.ensures plan after low b place block.number index i w run there
-    (omega (arith, few, small, lt)) (stands i lt)) in
-    known
-
-pub returns-in_default-clause-known : goal.returns-in_default-clause-known
-returns-in_default-clause-known g c =
-    let plan = c.args.plan.now in
-    let m = plan.ids in
-    let low = c.args.below in
-    let b = c.args.number in
-    let place = c.loop-block.place in
-    let run = c.args.run in
-    let entries = g.S.Source.entries in
-    let before = c.loop-block.invariant in
-    let asked = c.in_ok-block.ensures in
-    let after = entries c.numbered_block.new.source in
-    let block = c.in_ok-block.block.now in
-    let index = c.in_ok-block.index in
-    let at' = c.loop-block.at in
-    let w = before.here.0 in
-    let count = c.series-count.result in
-    let whole = grows_both (entries c.args.source.now) (entries c.loop-block.source) after before.grows asked.grows in
-    let run_is = same_run plan after low c.args.window.now w run (sym before.here.2) (run_grows plan (entries c.args.source.now) after low c.args.window.now run whole c.requires.run) in
-    let size = before.here.3.window_is.size in
-    let number = asked.block.number_is in
-    let start : BLOCK_WINDOWS * block.number + index ≡ run.start + at' = omega (arith, asked.place, number) in
-    let right = rw (sym start) at (right_at_place plan after low at' w run run_is before.here.3) in
-    let stands = series_at c.number_of_window.ensures c.windows_have_numbers.ensures plan after low b place block.number index count w run
-    (omega (arith, size)) before.here.1 right (c.series-count.ensures.series (2 * low + 1) m w (omega arith) before.here.3) run_is in
-    let few : index + count ≤ c.len.result = omega (arith, c.series-count.ensures.few, c.min.ensures, asked.inside, c.len.ensures) in
-    let small : c.len.result ≤ BLOCK_WINDOWS = omega (arith, c.len.ensures) in
-    let there : IsSome (after low block.number) = rw (number, asked.block.known) refl in
-    let known = knows_series (entries c.loop-block.source) after m low b place count asked.grows before.known
-    (λ i lt. series_known c.number_of_window.ensures c.windows_have_numbers.ensures plan after low b place block.number index i w run there
-    (omega (arith, few, small, lt)) (stands i lt)) in
-    known
-
-pub returns-in_default-clause-ended : goal.returns-in_default-clause-ended
-returns-in_default-clause-ended g c fewer =
-    let plan = c.args.plan.now in
-    let m = plan.ids in
-    let low = c.args.below in
-    let b = c.args.number in
-    let place = c.loop-block.place in
-    let run = c.args.run in
-    let entries = g.S.Source.entries in
-    let before = c.loop-block.invariant in
-    let asked = c.in_ok-block.ensures in
-    let after = entries c.numbered_block.new.source in
-    let block = c.in_ok-block.block.now in
-    let index = c.in_ok-block.index in
-    let at' = c.loop-block.at in
-    let w = before.here.0 in
-    let count = c.series-count.result in
-    let whole = grows_both (entries c.args.source.now) (entries c.loop-block.source) after before.grows asked.grows in
-    let run_is = same_run plan after low c.args.window.now w run (sym before.here.2) (run_grows plan (entries c.args.source.now) after low c.args.window.now run whole c.requires.run) in
-    let size = before.here.3.window_is.size in
-    let number = asked.block.number_is in
-    let start : BLOCK_WINDOWS * block.number + index ≡ run.start + at' = omega (arith, asked.place, number) in
-    let right = rw (sym start) at (right_at_place plan after low at' w run run_is before.here.3) in
-    let stands = series_at c.number_of_window.ensures c.windows_have_numbers.ensures plan after low b place block.number index count w run
-    (omega (arith, size)) before.here.1 right (c.series-count.ensures.series (2 * low + 1) m w (omega arith) before.here.3) run_is in
-    let few : index + count ≤ c.len.result = omega (arith, c.series-count.ensures.few, c.min.ensures, asked.inside, c.len.ensures) in
+    let low = c.args.upper.below in
     let some = c.series-count.ensures.some in
-    let last = stands (count - 1) (omega (arith, some)) in
-    let place_is = further_place c.number_of_window.ensures c.windows_have_numbers.ensures plan after low b place block.number index (count - 1) at' w run last start in
-    let from : at' + (count - 1) ≡ at' + count - 1 = omega (arith, some) in
-    let ends = c.in_default.ensures.last (2 * low + 1) m last.next (omega arith) (rw from at place_is) in
+    let last = stands g d (c.series-count.result - 1) (omega (arith, some)) in
+    let ends = c.in_default.ensures.last (2 * low + 1) m last.next (omega arith) (last_place g d) in
     let long : 2 * low + 1 + 2 ≡ 2 * (low + 1) + 1 = omega arith in
-    let sum : BLOCK_WINDOWS * b + (place + (count - 1)) ≡ BLOCK_WINDOWS * b + (place + count - 1) = omega (arith, some) in
-    let front : 2 * low + 2 ≡ 2 * (low + 1) + 1 - 1 = omega arith in (
+    let sum : BLOCK_WINDOWS * c.args.upper.number + (c.loop-block.place + (c.series-count.result - 1)) ≡ BLOCK_WINDOWS * c.args.upper.number + (c.loop-block.place + c.series-count.result - 1) = omega (arith, some) in
+    let front : 2 * low + 2 ≡ 2 * (low + 1) + 1 - 1 = omega arith in
+    let end : EndsAt m (low + 1) c.args.reached.window.now (BLOCK_WINDOWS * c.args.upper.number + (c.loop-block.place + c.series-count.result - 1)) = (
       last.next,
       rw sum at last.next_at,
-      record { last_is = last.window; same = subst (λ k. take k last.next ≡ take k c.args.window.now) front (sym last.begins ∙ before.here.2); none_larger = rw long at ends },
-    )
+      record { last_is = last.window; same = subst (λ k. take k last.next ≡ take k c.args.reached.window.now) front (sym last.begins ∙ c.loop-block.invariant.here.2); none_larger = rw long at ends },
+    ) in
+    record {
+      later = later g d;
+      within = inside g d;
+      ended = λ fewer. end;
+      last_is = last_is g d;
+      gathered = gathered g d;
+    }
 
 pub overflow_add-run : goal.overflow_add-run
 overflow_add-run g c =
-    let plan = c.args.plan.now in
-    let m = plan.ids in
-    let low = c.args.below in
-    let b = c.args.number in
-    let run = c.args.run in
+    let plan = c.args.upper.plan.now in
+    let low = c.args.upper.below in
     let entries = g.S.Source.entries in
     let before = c.loop-block.invariant in
-    let now = entries c.loop-block.source in
     let w = before.here.0 in
-    let run_is = same_run plan now low c.args.window.now w run (sym before.here.2) (run_grows plan (entries c.args.source.now) now low c.args.window.now run before.grows c.requires.run) in
-    let right = right_at_place plan now low c.loop-block.at w run run_is before.here.3 in
-    let inside = slice_get_within (windows (2 * low + 1) m) (run.start + c.loop-block.at) (part w low 2) right in
+    let run = c.args.reached.run in
+    let right = last_part_here plan (entries c.args.source.now) (entries c.loop-block.source) low c.loop-block.at c.args.reached.window.now w run before.asked.grows c.requires.reached.run before.here.2 before.here.3 in
+    let inside = slice_get_within (windows (2 * low + 1) plan.ids) (run.start + c.loop-block.at) (part w low 2) right in
     let few = c.count-windows.type_inv in
     omega (arith, inside, rw c.shape-shape.ensures.ids at c.count-windows.ensures.value, few)
 
 pub numbered_block-requires : goal.numbered_block-requires
 numbered_block-requires g c κs =
-    let plan = c.args.plan.now in
-    let m = plan.ids in
-    let low = c.args.below in
-    let b = c.args.number in
-    let run = c.args.run in
+    let plan = c.args.upper.plan.now in
+    let low = c.args.upper.below in
     let entries = g.S.Source.entries in
     let before = c.loop-block.invariant in
-    let now = entries c.loop-block.source in
     let w = before.here.0 in
-    let run_is = same_run plan now low c.args.window.now w run (sym before.here.2) (run_grows plan (entries c.args.source.now) now low c.args.window.now run before.grows c.requires.run) in
-    let right = right_at_place plan now low c.loop-block.at w run run_is before.here.3 in
-    let inside = slice_get_within (windows (2 * low + 1) m) (run.start + c.loop-block.at) (part w low 2) right in
-    ((refl, tt), (before.same_plan ∙ c.requires.plan, (omega (arith, c.requires.below), (inside, before.last))))
+    let run = c.args.reached.run in
+    let right = last_part_here plan (entries c.args.source.now) (entries c.loop-block.source) low c.loop-block.at c.args.reached.window.now w run before.asked.grows c.requires.reached.run before.here.2 before.here.3 in
+    let inside = slice_get_within (windows (2 * low + 1) plan.ids) (run.start + c.loop-block.at) (part w low 2) right in
+    let above = c.args.upper.above in
+    ((refl, tt), (before.asked.same_plan ∙ c.requires.plan, (omega (arith, above), (inside, before.last))))
 
-pub returns-in_err-block-clause-fault : goal.returns-in_err-block-clause-fault
-returns-in_err-block-clause-fault g c =
-    let plan = c.args.plan.now in
+pub returns-in_err-block-clause-missing : goal.returns-in_err-block-clause-missing
+returns-in_err-block-clause-missing g c =
+    let plan = c.args.upper.plan.now in
     let m = plan.ids in
-    let low = c.args.below in
-    let b = c.args.number in
-    let run = c.args.run in
+    let low = c.args.upper.below in
+    let b = c.args.upper.number in
     let entries = g.S.Source.entries in
     let before = c.loop-block.invariant in
-    let now = entries c.loop-block.source in
     let w = before.here.0 in
-    let run_is = same_run plan now low c.args.window.now w run (sym before.here.2) (run_grows plan (entries c.args.source.now) now low c.args.window.now run before.grows c.requires.run) in
-    let right = right_at_place plan now low c.loop-block.at w run run_is before.here.3 in
-    let inside = slice_get_within (windows (2 * low + 1) m) (run.start + c.loop-block.at) (part w low 2) right in
+    let run = c.args.reached.run in
+    let right = last_part_here plan (entries c.args.source.now) (entries c.loop-block.source) low c.loop-block.at c.args.reached.window.now w run before.asked.grows c.requires.reached.run before.here.2 before.here.3 in
     let own = window_at m (low + 1) (BLOCK_WINDOWS * b + c.loop-block.place) w before.here.1 in
     let number = c.number_of_window.ensures (2 * low + 1) m (run.start + c.loop-block.at) (part w low 2) right in
+    let len = rw c.shape-shape.ensures.ids at c.len_of-len.ensures.value in
     let p = err_from_is_err_and c.from_residual.result c.from_residual.ensures.1 in
     rw (p.1, p.2)
     (fault_of_last (entries c.numbered_block.new.source) m low b c.loop-block.place (run.start + c.loop-block.at) w c.in_err-block.field-0.0
-    (rw c.requires.len at before.within) own number c.in_err-block.ensures.fault)
+    (rw len at before.within) own number c.in_err-block.ensures.fault)
 
 pub loop-block-init : goal.loop-block-init
 loop-block-init g c =
-    let plan = c.args.plan.now in
-    let low = c.args.below in
-    let b = c.args.number in
-    let run = c.args.run in
-    let window = c.args.window.now in
+    let plan = c.args.upper.plan.now in
+    let low = c.args.upper.below in
+    let b = c.args.upper.number in
+    let run = c.args.reached.run in
+    let window = c.args.reached.window.now in
+    let reached = c.requires.reached in
     let three : 2 * low + 3 ≡ 2 * low + 1 + 2 = omega arith in
     let last : 2 * low + 2 ≡ 2 * low + 1 + 1 = omega arith in
     let place = subst (λ i. c.place_in_run-at.result ≡ place_in_run (2 * low + 1) window (get_or window i 0)) last c.place_in_run-at.ensures.value in
-    let inside = rw c.shape-shape.ensures.ids at c.place_in_run-at.ensures.inside in
+    let at_inside = rw c.shape-shape.ensures.ids at c.place_in_run-at.ensures.inside in
+    let len = rw c.shape-shape.ensures.ids at c.len_of-len.ensures.value in
     let put = c.put_fronts.ensures in
     record {
       after = omega arith;
-      within = c.requires.from;
-      at_inside = omega (arith, inside, c.requires.run.places_are.end);
+      within = omega (arith, len, reached.inside);
+      at_inside = omega (arith, at_inside, reached.run.places_are.end);
       along = omega (arith, c.place_in_run-at.ensures.value);
-      same_plan = refl;
-      same_fixed = refl;
-      grows = record { kept = λ level n block known. known };
+      asked = record { same_plan = refl; same_fixed = refl; grows = record { kept = λ level n block known. known } };
       here = (
         window,
-        c.requires.here,
+        reached.here,
         refl,
         record {
-          window_is = subst (λ k. IsWindow k plan.ids window) three c.requires.window;
-          run_has = c.requires.run.places_are;
+          window_is = subst (λ k. IsWindow k plan.ids window) three reached.window;
+          run_has = reached.run.places_are;
           place_is = sym place;
         },
       );
-      last = c.requires.given;
+      last = reached.last;
       wide = (
         put.left.size ∙ c.requires.wide.0,
         (put.registers ∙ c.requires.wide.1.0, put.own.size ∙ c.requires.wide.1.1),
@@ -298,79 +249,42 @@ loop-block-init g c =
       );
       left = put.left;
       own = put.own;
-      states = still_hold plan low b c.args.from c.min-most.result run.first.sent run.own.now c.args.parts.now c.put_fronts.new.self c.requires.states put.left
-          put.own put.right;
-      known = c.requires.known;
+      gathered = record {
+        states = still_hold plan low b c.args.reached.index c.min-most.result run.first.sent run.own.now c.args.parts.now c.put_fronts.new.self
+            c.requires.gathered.states put.left put.own put.right;
+        known = c.requires.gathered.known;
+      };
     }
 
 pub loop-block-preserved : goal.loop-block-preserved
 loop-block-preserved g c =
-    let plan = c.args.plan.now in
-    let m = plan.ids in
-    let low = c.args.below in
-    let b = c.args.number in
-    let place = c.loop-block.place in
-    let run = c.args.run in
-    let entries = g.S.Source.entries in
+    let d = (goal.at.loop-block-preserved g c).After-put_lasts in
+    let m = c.args.upper.plan.now.ids in
+    let low = c.args.upper.below in
     let before = c.loop-block.invariant in
-    let asked = c.in_ok-block.ensures in
-    let after = entries c.numbered_block.new.source in
-    let block = c.in_ok-block.block.now in
-    let index = c.in_ok-block.index in
-    let at' = c.loop-block.at in
-    let w = before.here.0 in
-    let count = c.series-count.result in
-    let whole = grows_both (entries c.args.source.now) (entries c.loop-block.source) after before.grows asked.grows in
-    let run_is = same_run plan after low c.args.window.now w run (sym before.here.2) (run_grows plan (entries c.args.source.now) after low c.args.window.now run whole c.requires.run) in
-    let size = before.here.3.window_is.size in
-    let number = asked.block.number_is in
-    let start : BLOCK_WINDOWS * block.number + index ≡ run.start + at' = omega (arith, asked.place, number) in
-    let right = rw (sym start) at (right_at_place plan after low at' w run run_is before.here.3) in
-    let stands = series_at c.number_of_window.ensures c.windows_have_numbers.ensures plan after low b place block.number index count w run
-    (omega (arith, size)) before.here.1 right (c.series-count.ensures.series (2 * low + 1) m w (omega arith) before.here.3) run_is in
-    let few : index + count ≤ c.len.result = omega (arith, c.series-count.ensures.few, c.min.ensures, asked.inside, c.len.ensures) in
-    let within : place + count ≤ c.args.from + c.min-most.result =
-    omega (arith, c.min-most.ensures, c.rest.ensures, c.place_in_run-at.ensures.value, before.along, before.after, c.series-count.ensures.inside, c.series-count.ensures.few, c.min.ensures) in
-    let left = still_written ℕ 0 run.first.sent c.args.parts.now.from_left.items c.loop-block.parts.from_left.items c.put_lasts.new.self.from_left.items
-    c.args.from c.min-most.result place count before.left (ap (λ list. list.items) c.put_lasts.ensures.left) before.after within in
-    let own = still_written (List ℕ) [] run.own.now c.args.parts.now.own.states c.loop-block.parts.own.states c.put_lasts.new.self.own.states
-    c.args.from c.min-most.result place count before.own (ap (λ columns. columns.states) c.put_lasts.ensures.own) before.after within in
-    let sent = rw (asked.block.plan_is, asked.block.level_is) at c.to_left.ensures.sent in
-    let long = rw (asked.block.plan_is, asked.block.level_is) at c.len.ensures in
-    let held = hold_series plan after low b place block.number index count w run c.to_left.result.now c.loop-block.parts c.put_lasts.new.self
-    before.states (λ i lt. sent (index + i) (omega (arith, lt, few, long))) left own c.put_lasts.ensures.right stands in
-    let small : c.len.result ≤ BLOCK_WINDOWS = omega (arith, c.len.ensures) in
-    let there : IsSome (after low block.number) = rw (number, asked.block.known) refl in
-    let known = knows_series (entries c.loop-block.source) after m low b place count asked.grows before.known
-    (λ i lt. series_known c.number_of_window.ensures c.windows_have_numbers.ensures plan after low b place block.number index i w run there
-    (omega (arith, few, small, lt)) (stands i lt)) in
-    let some = c.series-count.ensures.some in
-    let last = stands (count - 1) (omega (arith, some)) in
-    let place_is = further_place c.number_of_window.ensures c.windows_have_numbers.ensures plan after low b place block.number index (count - 1) at' w run last start in
-    let from : at' + (count - 1) ≡ at' + count - 1 = omega (arith, some) in
-    let next = c.in-Some.ensures in
-    let later = next.next (2 * low + 1) m last.next (omega arith) (rw from at place_is) in
-    let follows = later_window m low b place count c.args.window.now w last.next later.0 some last.next_at last.begins before.here.2 later.2 later.3 in
+    let run = c.args.reached.run in
+    let old = c.args.parts.now in
+    let now = c.loop-block.parts in
+    let new = c.put_lasts.new.self in
     let put = c.put_lasts.ensures in
+    let some = c.series-count.ensures.some in
+    let last = stands g d (c.series-count.result - 1) (omega (arith, some)) in
+    let next = c.in-Some.ensures in
+    let later = next.next (2 * low + 1) m last.next (omega arith) (last_place g d) in
+    let follows = later_window m low c.args.upper.number c.loop-block.place c.series-count.result c.args.reached.window.now before.here.0 last.next later.0 some last.next_at
+    last.begins before.here.2 later.2 later.3 in
     record {
       after = omega (arith, before.after);
       within = omega (arith, c.if-place-len.false, c.series-count.ensures.few, c.min.ensures, before.within);
       at_inside = next.inside.1;
       along = omega (arith, before.along, next.inside.0, some);
-      same_plan = asked.same_plan ∙ before.same_plan;
-      same_fixed = asked.same_fixed ∙ before.same_fixed;
-      grows = whole;
+      asked = asked_both before.asked c.in_ok-block.ensures.asked;
       here = (later.0, follows.0, follows.1, later.1);
-      last = record { known = ap (after low) number ∙ asked.block.known; plan_is = asked.block.plan_is; level_is = asked.block.level_is; number_is = refl };
-      wide = (
-        ap (λ list. length list.items) put.left ∙ before.wide.0,
-        (ap (λ columns. columns.registers) put.own ∙ before.wide.1.0, ap (λ columns. length columns.states) put.own ∙ before.wide.1.1),
-        put.right.size ∙ before.wide.2,
-      );
-      left = written_same ℕ 0 run.first.sent c.args.parts.now.from_left.items c.loop-block.parts.from_left.items c.put_lasts.new.self.from_left.items
-          c.args.from c.min-most.result (ap (λ list. list.items) put.left) before.left;
-      own = written_same (List ℕ) [] run.own.now c.args.parts.now.own.states c.loop-block.parts.own.states c.put_lasts.new.self.own.states
-          c.args.from c.min-most.result (ap (λ columns. columns.states) put.own) before.own;
-      states = held;
-      known = known;
+      last = last_is g d;
+      wide = wide g d;
+      left = written_same ℕ 0 run.first.sent old.from_left.items now.from_left.items new.from_left.items c.args.reached.index c.min-most.result
+          (ap (λ list. list.items) put.left) before.left;
+      own = written_same (List ℕ) [] run.own.now old.own.states now.own.states new.own.states c.args.reached.index c.min-most.result
+          (ap (λ columns. columns.states) put.own) before.own;
+      gathered = gathered g d;
     }

@@ -9,14 +9,14 @@ use Rattle.unroll.proofs.gathering.start_states.Goals as goal
 
 pub returns-clause-states : goal.returns-clause-states
 returns-clause-states c =
-    let plan = c.args.plan.now in
+    let plan = c.args.code.now in
     let b = c.args.number in
     let ids = c.put_ids.new.ids in
     let made = c.start_columns.new.out.states in
-    let written = rw c.shape.ensures.ids at c.put_ids.ensures in
+    let written = rw (c.shape.ensures.ids, c.plan.ensures) at c.put_ids.ensures in
     let size = c.put_ids.auto.ids in
-    take_states (block_len plan.ids 0 b) made (block_state plan 0 b) (omega (arith, c.start_columns.ensures.nodes, c.requires.made.1))
+    take_states (block_len plan.ids 0 b) made (block_state plan 0 b) (omega (arith, c.start_columns.ensures.nodes, c.requires.ready.made_wide.1))
     (λ i lt.
-    ap (λ u. get_or u i []) (rw c.requires.code at c.start_columns.ensures.states)
+    ap (λ u. get_or u i []) c.start_columns.ensures.states
     ∙ get_or-map (start plan.program) ids i 0 [] (omega (arith, lt, size))
     ∙ sym (ap (middle_state plan.program 0) (written i lt) ∙ middle_state-zero plan.program (get_or ids i 0) (get_or ids i 0 ∷ []) (omega arith) refl))

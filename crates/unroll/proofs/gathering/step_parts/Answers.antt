@@ -9,13 +9,14 @@ use Rattle.win_index.specs.declared.limits.TheConstants.{BLOCK_WINDOWS}
 
 pub returns-clause-states : goal.returns-clause-states
 returns-clause-states c = λ b count few held.
-    let plan = c.args.plan.now in
+    let plan = c.args.code.now in
     let low = c.args.below in
+    let ready = c.requires.ready in
     let made = c.next_columns.new.out.states in
-    let own = c.args.parts.now.own.states in
-    take_states count made (block_state plan (low + 1) b) (omega (arith, few, c.next_columns.ensures.nodes, c.requires.made.1))
+    let own = c.args.scratch.now.parts.own.states in
+    take_states count made (block_state plan (low + 1) b) (omega (arith, few, c.next_columns.ensures.nodes, ready.made_wide.1))
     (λ i lt.
-    let stepped = rw (c.requires.code, c.deref.ensures.value, c.deref-2.ensures.value) at c.next_columns.ensures.states i (omega (arith, lt, few, c.requires.parts.1.1)) in
+    let stepped = rw (c.deref.ensures.value, c.deref-2.ensures.value) at c.next_columns.ensures.states i (omega (arith, lt, few, ready.parts_wide.1.1)) in
     middle_from_parts plan.program low (low + 1) (window_numbered plan.ids (low + 1) (BLOCK_WINDOWS * b + i)) (part_state plan low b 0 i) (get_or own i [])
     (part_state plan low b 2 i) (get_or made i []) refl (held.sizes i lt) refl (held.own i lt) refl
     (stepped ∙ (λ j. next plan.program low (get_or own i []) (held.left i lt j) (held.right i lt j))))
