@@ -1,9 +1,9 @@
 -- The jobs of a plan: one for each block of each of its levels.
-use Rattle.std.specs.Prelude.{◌≡◌, ℕ, ◌+◌, ◌<◌, ◌≤◌, List, Option, Some, length, slice_index}
-use Rattle.win_index.specs.Blocks.{block_count}
+use Rattle.std.specs.Prelude.{◌≡◌, ℕ, ◌+◌, List, Option, Some, length, slice_index}
 use Rattle.win_index.specs.Jobs.{jobs_of, job_number}
 use Rattle.lang_check.specs.Plans.{ProgramForIds}
 use Rattle.unroll.specs.BlockStates.{MadeBlock}
+pub use Rattle.unroll.specs.BlockStates.{IsKey}
 
 -- the number of jobs of a plan
 abbrev pub job_count : ProgramForIds → ℕ
@@ -12,10 +12,6 @@ job_count plan = length (jobs_of plan.ids (length plan.program.steps))
 -- the number of the job for a block of a level, if there is one
 abbrev pub job_of : ProgramForIds → ℕ → ℕ → Option ℕ
 job_of plan level number = job_number plan.ids (length plan.program.steps) level number
-
--- a level of the plan, and the number of one of its blocks
-abbrev pub IsKey : ProgramForIds → ℕ → ℕ → Type 0
-IsKey plan level number = (level ≤ length plan.program.steps) × (number < block_count plan.ids level)
 
 -- a block of this plan, level and number
 abbrev pub IsKeyedBlock : ProgramForIds → ℕ → ℕ → MadeBlock → Type 0

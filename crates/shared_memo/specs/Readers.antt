@@ -1,12 +1,17 @@
 -- The effect of asking a reader for a block.
 use Rattle.std.specs.Prelude.{◌≡◌, ℕ, Bool, true, false, None, Some}
 use Rattle.unroll.specs.BlockStates.{MadeBlock}
+use Rattle.unroll.specs.Entries.{Asked}
 use Rattle.shared_memo.specs.declared.reader.Reader.{Reader}
 use Rattle.shared_memo.specs.Passes.{known, LearnsAt, KnowsSame}
 
 -- whether the reader has met a stranger
 abbrev pub met_stranger : Reader → Bool
 met_stranger r = r.stranger
+
+-- a reader as a source that was asked
+abbrev pub AskedReader : Reader → Reader → Type 0
+AskedReader = Asked (λ (r : Reader). r.pass.now.plan.now) (λ (r : Reader). r.memo.now) (λ (r : Reader). known r.pass.now)
 
 -- a reader before and after it was asked for the block of a level and a number; `found` says whether it returned one
 pub record Asks (level number : ℕ) (found : Bool) (old new : Reader) : Type 0 where
