@@ -24,9 +24,9 @@ below_is_block m level number low c window below =
 
 -- a block that is missing for a block of a level is one of a lower level
 pub missing_is_block :
-    WindowOfNumber → (plan : ProgramForIds) (entries : Entries) (level number : ℕ) (fault : MakeFault) → level ≤ length plan.program.steps
-    → IsMakeFault entries plan.ids level number fault → IsMissingBlock plan level fault
-missing_is_block window plan entries level number (Missing low c) le is =
+    {S : Type 0} → WindowOfNumber → (plan : ProgramForIds) (entries : S → Entries) (old new : S) (level number : ℕ) (fault : MakeFault)
+    → level ≤ length plan.program.steps → IsMakeFault entries old new plan.ids level number fault → IsMissingBlock plan level fault
+missing_is_block window plan entries old new level number (Missing low c) le is =
     let one = is.0.one_lower in
     (omega (arith, one), (omega (arith, one, le), below_is_block plan.ids level number low c window is.0))
-missing_is_block window plan entries level number OutOfMemory le is = is
+missing_is_block window plan entries old new level number OutOfMemory le is = tt

@@ -27,7 +27,7 @@ pub(crate) fn put_block(block: &Block<'_>, states: &mut Columns)
 
 // Writes the channels of a block of the last level, whose states are in columns.
 pub(crate) fn write_channels(
-    code: &Code,
+    code: &Code<'_>,
     block: &Block<'_>,
     states: &Columns,
     work: &mut Work,

@@ -85,7 +85,7 @@ impl<'s, 'a> Cells for CellMaker<'s, 'a> {
     ) -> Result<Made, MakeFault> {
         window_of_number();
         let CellMaker { reader, blocks } = self;
-        let block = match blocks.make(alloc, reader, level, number, maker) {
+        let block = match blocks.make(reader, level, number, maker) {
             Ok(block) => block,
             Err(fault) => return Err(fault),
         };

@@ -8,6 +8,6 @@ use unroll::BlockMaker;
 #[derive(Drop)]
 pub(crate) struct CellMaker<'s, 'a> {
     pub(crate) reader: OwnReader<'s, 'a>,
-    pub(crate) blocks: BlockMaker<'a>,
+    pub(crate) blocks: BlockMaker<'s, 'a>,
     pub(crate) ghost one_plan: { blocks ≡ reader.pass.plan.now },
 }

@@ -6,9 +6,10 @@ ghost use Rattle.table_fill.specs.Workers.{AreNumbered, IsWorkerCount};
 ghost use Rattle.table_fill.specs.Faults.{first_fault, crew_answer};
 
 use crate::fault::{CrewFault, WorkFault};
+use crate::memo_fill::MemoFill;
 use crate::worker::{Fills, Leaves, Worker};
 use round_eval::Gate;
-use shared_memo::{Desk, Memo, Pass, Ticket};
+use shared_memo::{Desk, Pass, Ticket};
 use std::alloc::Global;
 use std::sync::Wait;
 use std::thread;
@@ -22,15 +23,15 @@ type Answer = Result<(), WorkFault>;
 pub(crate) fn fill_memo<'a, R: Threads + Wait + Sync, G: Gate + Sync>(
     rt: &R,
     alloc: Global,
-    memo: &Memo<'a>,
+    fill: &MemoFill<'_, 'a>,
     workers: u32,
     gate: &G,
 ) -> Result<Option<Pass<'a>>, CrewFault>
     requires { IsWorkerCount workers }
-    ensures left { IfOk result (λ left. IfSome left (IsPassOf memo.now)) }
+    ensures left { IfOk result (λ left. IfSome left (IsPassOf fill.now.memo.now)) }
     ensures alone { IfErr result (λ fault. fault ≡ CrewFault.NoThread → 1 < workers) }
 {
-    fill_by_workers(rt, alloc, memo, workers, gate)
+    fill_by_workers(rt, alloc, fill, workers, gate)
 }
 
 // Fills jobs with workers that draw them at one desk. A single worker runs on the calling thread,

@@ -10,6 +10,8 @@ mod fault;
 mod filling;
 mod laws;
 mod looks;
+mod maker;
+mod memo_fill;
 mod own_reader;
 mod reading;
 mod shares;

@@ -2,6 +2,7 @@ ghost use Rattle.std.specs.Prelude.{◌≡◌, ◌<◌, ◌≤◌, [], length, v
 ghost use Rattle.unroll.specs.Entries.{Grows};
 ghost use Rattle.shared_memo.specs.PlanJobs.{IsKey, IsKeyedBlock};
 ghost use Rattle.shared_memo.specs.Passes.{known, memo_plan, IsPassOf};
+ghost use Rattle.table_fill.specs.ChannelRoom.{IsChannelRoom};
 ghost use Rattle.table_fill.specs.Filled.{KnowsAll};
 ghost use Rattle.table_fill.specs.ProgramTables.{table_of};
 ghost use Rattle.table_fill.specs.EntryShares.{AreLastBlocks};
@@ -11,7 +12,8 @@ use crate::entry_columns::EntryColumns;
 use crate::shares::write_shares;
 use channel_tables::Table;
 use lang_check::Plan;
-use node_program::OutOfMemory;
+use node_lang::OutOfMemory;
+use round_columns::Code;
 use shared_memo::{Memo, Pass};
 use std::alloc::Global;
 use std::thread::Threads;
@@ -24,30 +26,30 @@ const SHARE_WINDOWS: u32 = 64 * BLOCK_WINDOWS;
 // Scratch columns for at most `shares` shares of a plan's entries.
 pub(crate) fn columns_for(
     alloc: Global,
-    plan: &Plan,
+    code: &Code<'_>,
     shares: u32,
 ) -> Result<Vec<EntryColumns>, OutOfMemory>
     requires { 0 < shares }
     ensures some { IfOk result (λ columns. 0 < vec_len columns) }
-    ensures of_plan { IfOk result (λ columns. All (λ c. c ≡ plan.now) columns.items) }
+    ensures of_plan { IfOk result (λ columns. All (IsChannelRoom code.now) columns.items) }
 {
-    let shape = plan.shape();
+    let shape = code.plan().shape();
     let worth = shape.count(shape.rounds()).div_ceil(SHARE_WINDOWS);
-    columns_of_shares(alloc, plan, shares.min(worth))
+    columns_of_shares(alloc, code, shares.min(worth))
 }
 
 // Scratch columns for each of `shares` shares.
 fn columns_of_shares(
     alloc: Global,
-    plan: &Plan,
+    code: &Code<'_>,
     shares: u32,
 ) -> Result<Vec<EntryColumns>, OutOfMemory>
     ensures count { IfOk result (λ columns. vec_len columns ≡ shares) }
-    ensures of_plan { IfOk result (λ columns. All (λ c. c ≡ plan.now) columns.items) }
+    ensures of_plan { IfOk result (λ columns. All (IsChannelRoom code.now) columns.items) }
 {
     let mut columns = Vec::with_capacity(alloc, shares as usize).map_err(|_| OutOfMemory)?;
     for _share in 0..shares {
-        columns.push_reserved(EntryColumns::new(alloc, plan)?);
+        columns.push_reserved(EntryColumns::new(alloc, code)?);
     }
     Ok(columns)
 }
@@ -80,19 +82,24 @@ pub(crate) fn put_zeros(entries: &mut Vec<u16>, count: usize)
 // Reads the table from the blocks of the last level, with a share for each set of columns.
 pub(crate) fn read_table<R: Threads + Sync>(
     rt: &R,
-    plan: &Plan,
+    code: &Code<'_>,
     blocks: &[&Block<'_>],
     mut columns: Vec<EntryColumns>,
     mut entries: Vec<u16>,
 ) -> Table
-    requires blocks { AreLastBlocks plan.now blocks.now }
+    requires blocks { AreLastBlocks code.now blocks.now }
     requires some { 0 < vec_len columns }
-    requires of_plan { All (λ c. c ≡ plan.now) columns.items }
-    requires size { vec_len entries ≡ window_count plan.now.ids (length plan.now.program.steps) }
-    ensures { result ≡ table_of plan.now.program plan.now.ids }
+    requires of_plan { All (IsChannelRoom code.now) columns.items }
+    requires size { vec_len entries ≡ window_count code.now.ids (length code.now.program.steps) }
+    ensures { result ≡ table_of code.now.program code.now.ids }
 {
-    write_shares(rt, plan, blocks, &mut columns, &mut entries);
-    Table::new(plan.shape(), plan.program().channels(), entries)
+    write_shares(rt, code, blocks, &mut columns, &mut entries);
+    let plan = code.plan();
+    Table {
+        shape: plan.shape(),
+        channels: plan.program().channels(),
+        entries,
+    }
 }
 
 // The block of a level and a number, which the pass knows.

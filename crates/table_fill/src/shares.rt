@@ -3,10 +3,11 @@
 ghost use Rattle.std.specs.Prelude.{◌≡◌, ◌*◌, ◌/◌, ◌%◌, ◌<◌, ◌≤◌, ◌⊎◌, length, All};
 ghost use Rattle.std.specs.Thread.{IsSync};
 ghost use Rattle.win_index.specs.Blocks.{window_count};
+ghost use Rattle.table_fill.specs.ChannelRoom.{IsChannelRoom};
 ghost use Rattle.table_fill.specs.EntryShares.{AreLastBlocks, AreEntries, IsShare};
 
 use crate::entry_columns::EntryColumns;
-use lang_check::Plan;
+use round_columns::Code;
 use std::thread::{Threads, join_mut};
 use unroll::Block;
 use win_index::BLOCK_WINDOWS;
@@ -15,22 +16,22 @@ use win_index::BLOCK_WINDOWS;
 // each, while this one waits.
 pub(crate) fn write_shares<R: Threads + Sync>(
     rt: &R,
-    plan: &Plan,
+    code: &Code<'_>,
     blocks: &[&Block<'_>],
     columns: &mut [EntryColumns],
     entries: &mut [u16],
 )
     requires some { 0 < length columns.old }
-    requires columns { All (λ c. c ≡ plan.now) columns.old }
-    requires blocks { AreLastBlocks plan.now blocks.now }
-    requires size { length entries.old ≡ window_count plan.now.ids (length plan.now.program.steps) }
+    requires columns { All (IsChannelRoom code.now) columns.old }
+    requires blocks { AreLastBlocks code.now blocks.now }
+    requires size { length entries.old ≡ window_count code.now.ids (length code.now.program.steps) }
     ensures size { length entries.new ≡ length entries.old }
-    ensures entries { AreEntries plan.now 0 entries.new }
+    ensures entries { AreEntries code.now 0 entries.new }
 {
     if columns.len() == 1 {
-        write_share(&mut columns[0], blocks, 0, entries);
+        write_share(code, &mut columns[0], blocks, 0, entries);
     } else {
-        write_from(rt, plan, blocks, 0, columns, entries);
+        write_from(rt, code, blocks, 0, columns, entries);
     }
 }
 
@@ -39,18 +40,18 @@ pub(crate) fn write_shares<R: Threads + Sync>(
 #[cycle(shares)]
 fn write_from<R: Threads + Sync>(
     rt: &R,
-    plan: &Plan,
+    code: &Code<'_>,
     blocks: &[&Block<'_>],
     first: usize,
     columns: &mut [EntryColumns],
     entries: &mut [u16],
 )
-    requires columns { All (λ c. c ≡ plan.now) columns.old }
-    requires blocks { AreLastBlocks plan.now blocks.now }
-    requires share { IsShare plan.now first (length entries.old) }
+    requires columns { All (IsChannelRoom code.now) columns.old }
+    requires blocks { AreLastBlocks code.now blocks.now }
+    requires share { IsShare code.now first (length entries.old) }
     requires none_is_left { length columns.old ≡ 0 → length entries.old ≡ 0 }
     ensures size { length entries.new ≡ length entries.old }
-    ensures entries { AreEntries plan.now (BLOCK_WINDOWS * first) entries.new }
+    ensures entries { AreEntries code.now (BLOCK_WINDOWS * first) entries.new }
 {
     if columns.is_empty() {
         return;
@@ -61,7 +62,7 @@ fn write_from<R: Threads + Sync>(
     let middle = first + len / BLOCK_WINDOWS as usize;
     write_both(
         rt,
-        plan,
+        code,
         blocks,
         first,
         &mut own[0],
@@ -93,7 +94,7 @@ fn share_len(windows: usize, shares: usize) -> usize
 #[cycle(shares)]
 fn write_both<R: Threads + Sync>(
     rt: &R,
-    plan: &Plan,
+    code: &Code<'_>,
     blocks: &[&Block<'_>],
     first: usize,
     own: &mut EntryColumns,
@@ -102,43 +103,50 @@ fn write_both<R: Threads + Sync>(
     others: &mut [EntryColumns],
     back: &mut [u16],
 )
-    requires own { own.old ≡ plan.now }
-    requires others { All (λ c. c ≡ plan.now) others.old }
-    requires blocks { AreLastBlocks plan.now blocks.now }
-    requires front { IsShare plan.now first (length front.old) }
-    requires back { IsShare plan.now middle (length back.old) }
+    requires own { IsChannelRoom code.now own.old }
+    requires others { All (IsChannelRoom code.now) others.old }
+    requires blocks { AreLastBlocks code.now blocks.now }
+    requires front { IsShare code.now first (length front.old) }
+    requires back { IsShare code.now middle (length back.old) }
     requires none_is_left { length others.old ≡ 0 → length back.old ≡ 0 }
     ensures front_size { length front.new ≡ length front.old }
     ensures back_size { length back.new ≡ length back.old }
-    ensures front { AreEntries plan.now (BLOCK_WINDOWS * first) front.new }
-    ensures back { AreEntries plan.now (BLOCK_WINDOWS * middle) back.new }
+    ensures front { AreEntries code.now (BLOCK_WINDOWS * first) front.new }
+    ensures back { AreEntries code.now (BLOCK_WINDOWS * middle) back.new }
 {
     join_mut(
         rt,
         &mut ||
-            requires { AreLastBlocks own.now blocks.now × IsShare own.now first (length front.now) }
+            requires { IsChannelRoom code.now own.now × AreLastBlocks code.now blocks.now × IsShare code.now first (length front.now) }
             ensures size { length front.exit.now ≡ length front.entry.now }
-            ensures entries { AreEntries own.entry.now (BLOCK_WINDOWS * first) front.exit.now }
-        { write_share(own, blocks, first, front) },
+            ensures entries { AreEntries code.entry.now (BLOCK_WINDOWS * first) front.exit.now }
+        { write_share(code, own, blocks, first, front) },
         &mut ||
-            requires { IsSync R.row × All (λ c. c ≡ plan.now) others.now × AreLastBlocks plan.now blocks.now × IsShare plan.now middle (length back.now) × (length others.now ≡ 0 → length back.now ≡ 0) }
+            requires { IsSync R.row × All (IsChannelRoom code.now) others.now × AreLastBlocks code.now blocks.now × IsShare code.now middle (length back.now) × (length others.now ≡ 0 → length back.now ≡ 0) }
             ensures size { length back.exit.now ≡ length back.entry.now }
-            ensures entries { AreEntries plan.entry.now (BLOCK_WINDOWS * middle) back.exit.now }
-        { write_from(rt, plan, blocks, middle, others, back) },
+            ensures entries { AreEntries code.entry.now (BLOCK_WINDOWS * middle) back.exit.now }
+        { write_from(rt, code, blocks, middle, others, back) },
     );
 }
 
 // Writes the entries of a share, block by block.
-fn write_share(columns: &mut EntryColumns, blocks: &[&Block<'_>], first: usize, share: &mut [u16])
-    requires blocks { AreLastBlocks columns.old blocks.now }
-    requires share { IsShare columns.old first (length share.old) }
+fn write_share(
+    code: &Code<'_>,
+    columns: &mut EntryColumns,
+    blocks: &[&Block<'_>],
+    first: usize,
+    share: &mut [u16],
+)
+    requires room { IsChannelRoom code.now columns.old }
+    requires blocks { AreLastBlocks code.now blocks.now }
+    requires share { IsShare code.now first (length share.old) }
     ensures size { length share.new ≡ length share.old }
-    ensures entries { AreEntries columns.old (BLOCK_WINDOWS * first) share.new }
+    ensures entries { AreEntries code.now (BLOCK_WINDOWS * first) share.new }
 {
     let width = BLOCK_WINDOWS as usize;
     for i in 0..share.len().div_ceil(width) {
         let block = blocks[first + i];
         let at = i * width;
-        columns.write_block(block, &mut share[at..at + block.len() as usize]);
+        columns.write_block(code, block, &mut share[at..at + block.len() as usize]);
     }
 }

@@ -7,9 +7,10 @@ ghost use Rattle.shared_memo.specs.Tickets.{drawn, numbers_of, IsFreshTicketOf};
 use crate::cell::fill_cell;
 use crate::cell_maker::CellMaker;
 use crate::fault::WorkFault;
+use crate::memo_fill::MemoFill;
 use crate::own_reader::OwnReader;
 use round_eval::Gate;
-use shared_memo::{Desk, Memo, Pass, Ticket};
+use shared_memo::{Desk, Pass, Ticket};
 use std::alloc::Global;
 use unroll::BlockMaker;
 use win_index::jobs_have_numbers;
@@ -61,11 +62,11 @@ pub(crate) trait Leaves: Fills {
         ensures filled { IfOk result (λ left. KnowsJobs left (drawn ticket.new)) };
 }
 
-impl<'a> Fills for Memo<'a> {
-    ghost jobs = { λ m. job_count (memo_plan m) };
+impl<'m, 'a> Fills for MemoFill<'m, 'a> {
+    ghost jobs = { λ f. job_count (memo_plan f.memo.now) };
 
     fn total(&self) -> u32 {
-        self.plan().shape().jobs()
+        self.memo.plan().shape().jobs()
     }
 
     fn work<G: Gate>(
@@ -81,10 +82,10 @@ impl<'a> Fills for Memo<'a> {
     }
 }
 
-impl<'a> Leaves for Memo<'a> {
+impl<'m, 'a> Leaves for MemoFill<'m, 'a> {
     type Left = Pass<'a>;
 
-    ghost IsLeft = { IsPassOf };
+    ghost IsLeft = { λ f pass. IsPassOf f.memo.now pass };
 
     ghost KnowsJobs = { λ pass jobs. AreKnown pass.plan.now (known pass) jobs };
 
@@ -96,16 +97,16 @@ impl<'a> Leaves for Memo<'a> {
         gate: &G,
         number: u32,
     ) -> Result<Pass<'a>, WorkFault> {
-        let Ok(pass) = self.pass(alloc) else {
+        let Ok(pass) = self.memo.pass(alloc) else {
             return Err(WorkFault::OutOfMemory);
         };
-        let Ok(blocks) = BlockMaker::new(alloc, self.plan()) else {
+        let Ok(blocks) = BlockMaker::new(alloc, self.code) else {
             return Err(WorkFault::OutOfMemory);
         };
         jobs_have_numbers();
-        let shape = self.plan().shape();
+        let shape = self.memo.plan().shape();
         let reader = OwnReader {
-            memo: self,
+            memo: self.memo,
             pass,
             stranger: false,
         };

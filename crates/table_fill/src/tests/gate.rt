@@ -2,8 +2,10 @@ ghost use Rattle.std.specs.Prelude.{All, IfSome};
 ghost use Rattle.shared_memo.specs.Tickets.{IsFreshTicketOf};
 
 use crate::compile;
+use crate::memo_fill::MemoFill;
 use crate::worker::{Fills, Leaves};
 use lang_check::Plan;
+use round_columns::Code;
 use round_eval::Gate;
 use shared_memo::{Desk, Memo, Ticket};
 use std::alloc::Global;
@@ -162,9 +164,14 @@ fn seen_alone(alloc: Global, plan: &Plan, number: u32) -> Option<[u64; 3]> {
         empty: AtomicU64::new(0),
         numbers: AtomicU64::new(0),
     };
-    let (desk, tickets) = Desk::new(alloc, memo.total(), 1).ok()?;
+    let code = Code::new(alloc, memo.plan()).ok()?;
+    let fill = MemoFill {
+        memo: &memo,
+        code: &code,
+    };
+    let (desk, tickets) = Desk::new(alloc, fill.total(), 1).ok()?;
     let mut ticket = taken(&desk, tickets)?;
-    memo.work_alone(alloc, &desk, &mut ticket, &gate, number)
+    fill.work_alone(alloc, &desk, &mut ticket, &gate, number)
         .ok()?;
     Some([
         gate.told.load(SeqCst),

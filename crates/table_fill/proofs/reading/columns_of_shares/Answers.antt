@@ -1,5 +1,6 @@
 use Rattle.std.proofs.Common.{rules, ◌≡◌}
 use Rattle.std.proofs.lemmas.List.Elements.{All-push}
+use Rattle.table_fill.specs.ChannelRoom.{IsChannelRoom}
 use Rattle.table_fill.proofs.reading.columns_of_shares.Goals as goal
 
 -- The new columns are of the plan too.
@@ -9,5 +10,5 @@ loop-share-preserved c =
     record {
       count = search rules;
       room = search rules;
-      of_plan = rw c.push_reserved.ensures.items (All-push (λ columns. columns ≡ c.args.plan.now) c.loop-share.columns.items c.in_ok-new.field-0 before.of_plan c.in_ok-new.ensures);
+      of_plan = rw c.push_reserved.ensures.items (All-push (IsChannelRoom c.args.code.now) c.loop-share.columns.items c.in_ok-new.field-0 before.of_plan c.in_ok-new.ensures);
     }

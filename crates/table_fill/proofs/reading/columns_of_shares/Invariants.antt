@@ -1,4 +1,5 @@
 use Rattle.std.proofs.Common.{◌≡◌, ◌≤◌, length, All, vec_capacity}
+use Rattle.table_fill.specs.ChannelRoom.{IsChannelRoom}
 use Rattle.table_fill.proofs.reading.columns_of_shares.Given as goal
 
 -- the columns so far are of the plan
@@ -7,5 +8,5 @@ invariant-loop-share l =
     record {
       count : length l.columns.items ≡ l._share;
       room : l.shares ≤ vec_capacity l.columns;
-      of_plan : All (λ c. c ≡ l.plan) l.columns.items;
+      of_plan : All (IsChannelRoom l.code) l.columns.items;
     }

@@ -7,8 +7,8 @@ use Rattle.table_fill.proofs.reading.read_table.Goals as goal
 
 pub returns : goal.returns
 returns g c =
-    let p = c.args.plan.now.program in
-    let ws = windows (2 * length p.steps + 1) c.args.plan.now.ids in
+    let p = c.args.code.now.program in
+    let ws = windows (2 * length p.steps + 1) c.args.code.now.ids in
     let entries = c.write_shares.new.entries in
     let size : length entries ≡ length ws = c.write_shares.ensures.size ∙ c.deref_mut-2.ensures.len ∙ c.requires.size in
     let same : entries ≡ map (window_channel p) ws =
@@ -16,4 +16,5 @@ returns g c =
     let from_first : 0 + i ≡ i = omega arith in
     (rw from_first at (c.write_shares.ensures.entries i lt).0) ∙ sym (get_or-map (window_channel p) ws i [] 0 (omega (arith, lt, size)))) in
     let written = with_items_is c.args.entries entries (c.write_shares.ensures.size ∙ c.deref_mut-2.ensures.len) in
-    table_with p c.args.plan.now.ids _ c.shape.ensures.ids c.shape.ensures.rounds (rw c.program.ensures.value at c.channels.ensures.value) (written ∙ same)
+    let is = c.plan-plan.ensures in
+    table_with p c.args.code.now.ids _ (rw is at c.shape.ensures.ids) (rw is at c.shape.ensures.rounds) (rw (c.program.ensures.value, is) at c.channels.ensures.value) (written ∙ same)

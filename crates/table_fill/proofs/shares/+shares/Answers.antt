@@ -11,4 +11,4 @@ write_from-returns-clause-entries g t c =
     let after =
     ⊎_elim (λ (whole : len % BLOCK_WINDOWS ≡ 0). inl (omega (arith, whole, both.front_size)))
     (λ (all : len ≡ length c.args.entries.now). inr (omega (arith, all, both.back_size))) c.share_len-len.ensures.ends_a_block in
-    joined_entries c.args.plan.now (BLOCK_WINDOWS * c.args.first) _ _ _ after both.front both.back
+    joined_entries c.args.code.now (BLOCK_WINDOWS * c.args.first) _ _ _ after both.front both.back

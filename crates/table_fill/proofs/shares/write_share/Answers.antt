@@ -10,7 +10,7 @@ use Rattle.win_index.specs.declared.limits.TheConstants.{BLOCK_WINDOWS}
 
 pub loop-i-preserved : goal.loop-i-preserved
 loop-i-preserved c =
-    let plan = c.args.columns.now in
+    let plan = c.args.code.now in
     let blocks = c.args.blocks.now in
     let held = c.index-blocks-first.result in
     let place : c.args.first + c.loop-i.i < length blocks = omega (arith, c.requires.blocks.count, c.requires.share.within, c.loop-i-test.true) in
@@ -29,7 +29,7 @@ loop-i-preserved c =
     let part : take (from + c.len.result - from) (drop from written) ≡ ys =
     between-put_mid from (from + c.len.result - from) xs ys (from + c.len.result) (omega (arith, within)) (omega (arith, size)) in
     record {
-      plan = wrote.same ∙ c.loop-i.invariant.plan;
+      room = wrote.room;
       size = whole ∙ c.loop-i.invariant.size;
       written = λ k lt inside. dite (dec_lt k from)
           (λ below.
@@ -46,5 +46,5 @@ loop-i-preserved c =
           ∙ sym (get_or-take (from + c.len.result - from) (drop from written) (k - from) 0 (omega (arith, short)))
           ∙ ap (λ l. get_or l (k - from) 0) part in
           let step : BLOCK_WINDOWS * held.now.number + (k - from) ≡ BLOCK_WINDOWS * c.args.first + k = omega (arith, number, above) in
-          rw (same, ← step) (rw c.loop-i.invariant.plan at (wrote.entries (k - from) (omega (arith, size, short)))));
+          rw (same, ← step) (wrote.entries (k - from) (omega (arith, size, short))));
     }

@@ -1,6 +1,7 @@
 use Rattle.std.proofs.Common.{◌≡◌, ℕ, ◌+◌, ◌*◌, ◌<◌, length, slice_index}
 use Rattle.unroll.specs.BlockStates.{window_numbered}
 use Rattle.table_fill.specs.ProgramTables.{window_channel}
+use Rattle.table_fill.specs.ChannelRoom.{IsChannelRoom}
 use Rattle.table_fill.proofs.shares.write_share.Given as goal
 use Rattle.win_index.specs.declared.limits.TheConstants.{BLOCK_WINDOWS}
 
@@ -8,9 +9,9 @@ use Rattle.win_index.specs.declared.limits.TheConstants.{BLOCK_WINDOWS}
 abbrev pub invariant-loop-i : goal.invariant-loop-i
 invariant-loop-i l =
     record {
-      plan : l.columns ≡ l.fn.columns;
+      room : IsChannelRoom l.code l.columns;
       size : length l.share ≡ length l.fn.share;
       written : (k : ℕ) → k < BLOCK_WINDOWS * l.i → k < length l.fn.share
-          → (slice_index l.share k ≡ window_channel l.fn.columns.program (window_numbered l.fn.columns.ids (length l.fn.columns.program.steps) (BLOCK_WINDOWS * l.first + k)))
-          × (slice_index l.share k < l.fn.columns.program.channels);
+          → (slice_index l.share k ≡ window_channel l.code.program (window_numbered l.code.ids (length l.code.program.steps) (BLOCK_WINDOWS * l.first + k)))
+          × (slice_index l.share k < l.code.program.channels);
     }

@@ -1,13 +1,14 @@
 use Rattle.shared_memo.specs.Passes.{known}
+use Rattle.table_fill.specs.declared.own_reader.OwnReader.{OwnReader}
 use Rattle.table_fill.proofs.BelowBlocks.{missing_is_block}
 use Rattle.table_fill.proofs.cell.CellMakerCells.make.Goals as goal
 
 pub returns-in-Err-clause-missing : goal.returns-in-Err-clause-missing
 returns-in-Err-clause-missing c =
-    let fault = rw c.args.self.now.one_plan at c.in-Err.ensures.fault in
-    missing_is_block c.window_of_number.ensures c.args.self.now.reader.pass.plan.now (known c.make.new.source.pass) c.args.level
-    c.args.number c.in-Err.fault c.requires.0 fault
+    let made = rw c.args.self.now.one_plan at c.in-Err.ensures.made in
+    missing_is_block c.window_of_number.ensures c.args.self.now.reader.pass.plan.now (λ (r : OwnReader). known r.pass) c.args.self.now.reader c.make.new.source c.args.level
+    c.args.number c.in-Err.fault c.requires.0 made
 
 pub returns-clause-grows : goal.returns-clause-grows
 returns-clause-grows c =
-    record { kept = λ level number b was. c.keep.ensures.learns.kept level number b (c.make.ensures.grows.kept level number b was) }
+    record { kept = λ level number b was. c.keep.ensures.learns.kept level number b (c.make.ensures.asked.grows.kept level number b was) }

@@ -7,11 +7,11 @@ use Rattle.shared_memo.specs.PlanJobs.{job_of}
 use Rattle.shared_memo.specs.Tickets.{drawn}
 use Rattle.table_fill.specs.Filled.{AreKnown}
 use Rattle.table_fill.proofs.KnownJobs.{known_with, block_of_job}
-use Rattle.table_fill.proofs.worker.MemoLeaves.work_alone.Goals as goal
+use Rattle.table_fill.proofs.worker.MemoFillLeaves.work_alone.Goals as goal
 
 pub loop-job-preserved : goal.loop-job-preserved
 loop-job-preserved g c =
-    let plan = c.args.self.now.plan.now in
+    let plan = c.args.self.now.memo.now.plan.now in
     let new : Entries = known c.fill_cell.new.cells.reader.pass in
     let jobs = drawn c.loop-job.ticket in
     let job = c.in-Some.job in
