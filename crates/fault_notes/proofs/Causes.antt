@@ -7,7 +7,7 @@ use Rattle.lang_check.specs.declared.acceptance.CheckFault.{CheckFault}
 use Rattle.lang_check.specs.declared.acceptance.CheckFault.TheVariants as check
 use Rattle.fault_notes.specs.declared.kinds.Kind.{Kind}
 use Rattle.fault_notes.specs.declared.scanning.Place.{Place}
-use Rattle.fault_notes.specs.Causes.{is_cause, first_cause, offset_in, place_of_cause}
+use Rattle.fault_notes.specs.FaultTokens.{is_cause, first_cause, offset_in, place_of_cause}
 use Rattle.fault_notes.specs.Kinds.{Mark, kind_of, mark_of, marks_of, place_after, next_place, is_cause_at, cause_from, offset_from}
 
 next_same : (before : List Token) (t : Token) → next_place (place_after before) (kind_of t) ≡ place_after (t ∷ before)

@@ -3,14 +3,14 @@ use Rattle.std.proofs.Common.{◌≡◌, ◌-◌, ◌^◌, ℕ, ◌==◌, ◌&&�
 use Rattle.std.specs.Prelude.{nat_lt}
 use Rattle.std.specs.List.{list_all, AllByRecursion}
 use Rattle.std.specs.Str.{bytes_eq}
-use Rattle.std.proofs.lemmas.Bool.{and_parts, eqb-true}
+use Rattle.std.proofs.lemmas.Bool.{and_parts, eqb-true, ne_eqb}
 use Rattle.std.proofs.lemmas.Slice.Eq.{bytes_eq-Decides}
 use Rattle.node_lang.specs.declared.token.Token.{Token}
 use Rattle.node_lang.specs.declared.token.Token.TheVariants as token
-use Rattle.node_lang.specs.Words.{is_digit, number_token, word_of, keywords, operations, named, register_named, or_unknown, word_token, read_on}
+use Rattle.node_lang.specs.Words.{is_digit, number_token, word_of, keywords, operations, named, register_named, or_unknown, word_token, mark_token, read_on}
 use Rattle.fault_notes.specs.declared.kinds.Kind.{Kind}
 use Rattle.fault_notes.specs.declared.kinds.Kind.TheVariants as kind
-use Rattle.fault_notes.specs.Kinds.{kind_of, kind_if_some, kind_words, first_kind}
+use Rattle.fault_notes.specs.Kinds.{kind_of, kind_if_some, kind_words}
 
 by_test : {P : Type 0} (b : Bool) → (b ≡ true → P) → (b ≡ false → P) → P
 by_test true holds fails = holds refl
@@ -46,6 +46,12 @@ other_kinds w (t ∷ ts) each = by_test (bytes_eq w (word_of t))
 operation_kind : (w : List ℕ) → kind_of (or_unknown None None (named operations w)) ≡ kind.Other
 operation_kind w = other_kinds w operations
     (refl, (refl, (refl, (refl, (refl, (refl, (refl, (refl, (refl, (refl, (refl, (refl, (refl, (refl, (refl, (refl, (refl, tt)))))))))))))))))
+
+-- the first kind that is given, or the kind of all other tokens
+abbrev first_kind : Option Kind → Option Kind → Kind
+first_kind (Some k) _ = k
+first_kind None (Some k) = k
+first_kind None None = kind.Other
 
 abbrev IsKind : List ℕ → Type 0
 IsKind w = first_kind (kind_if_some (named kind_words w)) (kind_if_some (register_named w)) ≡ kind_of (word_token w)
@@ -127,3 +133,17 @@ kind_register w k unnamed is = (λ i. first_kind (unnamed i) (is i)) ∙ word_ki
 
 pub kind_other : (w : List ℕ) → None ≡ kind_if_some (named kind_words w) → None ≡ kind_if_some (register_named w) → kind.Other ≡ kind_of (word_token w)
 kind_other w unnamed none = (λ i. first_kind (unnamed i) (none i)) ∙ word_kinds w
+
+-- a byte that is no `=` has no kind of its own
+pub other_mark : (b : ℕ) → (b ≡ 61 → ⊥) → kind.Other ≡ kind_of (mark_token b)
+other_mark b not_equals =
+    let other : kind_of (cond (b == 61) token.Equals token.Unknown) ≡ kind.Other = (λ i. kind_of (cond (ne_eqb b 61 not_equals i) token.Equals token.Unknown)) in
+    sym (by_test (b == 40)
+    (λ holds. (λ i. kind_of (cond (holds i) token.Open (cond (b == 41) token.Close (cond (b == 44) token.Comma (cond (b == 61) token.Equals token.Unknown))))))
+    (λ fails. (λ i. kind_of (cond (fails i) token.Open (cond (b == 41) token.Close (cond (b == 44) token.Comma (cond (b == 61) token.Equals token.Unknown)))))
+    ∙ by_test (b == 41)
+    (λ holds. (λ i. kind_of (cond (holds i) token.Close (cond (b == 44) token.Comma (cond (b == 61) token.Equals token.Unknown)))))
+    (λ fails. (λ i. kind_of (cond (fails i) token.Close (cond (b == 44) token.Comma (cond (b == 61) token.Equals token.Unknown))))
+    ∙ by_test (b == 44)
+    (λ holds. (λ i. kind_of (cond (holds i) token.Comma (cond (b == 61) token.Equals token.Unknown))))
+    (λ fails. (λ i. kind_of (cond (fails i) token.Comma (cond (b == 61) token.Equals token.Unknown))) ∙ other))))

@@ -8,7 +8,7 @@ use Rattle.lang_check.specs.declared.acceptance.CheckFault.TheVariants as check
 use Rattle.fault_notes.specs.declared.kinds.Kind.{Kind}
 use Rattle.fault_notes.specs.declared.kinds.Kind.TheVariants as kind
 use Rattle.fault_notes.specs.declared.scanning.Place.{Place}
-use Rattle.fault_notes.specs.Causes.{in_start, in_round, in_assignment}
+use Rattle.fault_notes.specs.FaultTokens.{in_start, in_round, in_assignment}
 
 abbrev pub kind_of : Token → Kind
 kind_of (token.Register j) = kind.Register j
@@ -25,12 +25,6 @@ kind_of _ = kind.Other
 abbrev pub kind_if_some : Option Token → Option Kind
 kind_if_some None = None
 kind_if_some (Some t) = Some (kind_of t)
-
--- the first kind that is given, or the kind of all other tokens
-abbrev pub first_kind : Option Kind → Option Kind → Kind
-first_kind (Some k) _ = k
-first_kind None (Some k) = k
-first_kind None None = kind.Other
 
 -- the words that have a kind of their own
 abbrev pub kind_words : List Token

@@ -2,7 +2,7 @@
 pub mod Words
 pub mod TextNotes
 pub mod Placed
-pub mod Causes
+pub mod FaultTokens
 pub mod Kinds
 pub mod BoundNotes
 pub mod ProgramNotes

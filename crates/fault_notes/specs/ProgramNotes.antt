@@ -7,7 +7,7 @@ use Rattle.lang_check.specs.declared.acceptance.CheckFault.{CheckFault}
 use Rattle.lang_check.specs.declared.acceptance.CheckFault.TheVariants as check
 use Rattle.node_program.specs.Term.{ProgramTree}
 use Rattle.fault_notes.specs.Placed.{placed_note}
-use Rattle.fault_notes.specs.Causes.{place_of_cause}
+use Rattle.fault_notes.specs.FaultTokens.{place_of_cause}
 use Rattle.fault_notes.specs.BoundNotes.{growth_text}
 
 -- the greatest number of identifiers that makes a shape with t rounds

@@ -74,12 +74,12 @@ pub(crate) fn word_kind(word: &[u8]) -> Kind
 }
 
 // Returns the kind of a byte that is neither a blank nor part of a word.
+#[tactic(auto, using(crate::proofs::WordKinds::other_mark))]
 pub(crate) fn mark_kind(byte: u8) -> Kind
     ensures { result ≡ kind_of (mark_token byte) }
 {
-    match byte {
-        b'=' => Kind::Equals,
-        b'(' | b')' | b',' => Kind::Other,
-        _ => Kind::Other,
+    if byte == b'=' {
+        return Kind::Equals;
     }
+    Kind::Other
 }

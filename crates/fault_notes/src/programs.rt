@@ -5,7 +5,7 @@ ghost use Rattle.node_program.specs.declared.limits.TheConstants as limits;
 ghost use Rattle.win_index.specs.declared.limits.TheConstants.{MAX_ROUNDS};
 ghost use Rattle.win_index.specs.ShapeRange.{IsShape};
 ghost use Rattle.fault_notes.specs.Placed.{placed_note};
-ghost use Rattle.fault_notes.specs.Causes.{place_of_cause};
+ghost use Rattle.fault_notes.specs.FaultTokens.{place_of_cause};
 ghost use Rattle.lang_check.specs.declared.acceptance.CheckFault.TheVariants as check;
 ghost use Rattle.fault_notes.specs.ProgramNotes.{IsMostIds, IsIdsNote, IsCheckNote, register_cause, id_cause, message_cause, rounds_take};
 ghost use Rattle.fault_notes.specs.ProgramNotes as notes;
@@ -20,8 +20,9 @@ use std::alloc::{AllocError, Global};
 use win_index::{MAX_IDS, MAX_ROUNDS, Shape};
 
 /// Returns the note on the refusal of the program of a text for `ids` identifiers: the possible
-/// numbers of identifiers, or the cause and its place, or the bound of the channels and the bounds
-/// of the register that makes it so large. Fails if memory was refused.
+/// numbers of identifiers, or the cause and the place of the first token that is the cause, or the
+/// bound of the channels and the bounds of the register that makes it so large. Fails if memory was
+/// refused.
 pub fn check_note(
     alloc: Global,
     text: &[u8],

@@ -1,20 +1,21 @@
 //! The place of the lexeme that is the cause of a refusal.
 
 ghost use Rattle.std.specs.Prelude.{◌≡◌, ◌<◌, length, IfSome};
-ghost use Rattle.fault_notes.specs.Causes.{place_of_cause};
+ghost use Rattle.fault_notes.specs.FaultTokens.{place_of_cause};
 ghost use Rattle.fault_notes.specs.Kinds.{next_place, is_cause_at};
 
 use crate::kinds::Kind;
 use crate::lexemes::lexeme_from;
 use lang_check::CheckFault;
 
-// Where the next lexeme of a program text stands.
+// Where a lexeme of a program text stands, by the lexemes before it.
 #[derive(Clone, Copy)]
 struct Place {
-    // Among `start`, `round` and `finish`, the last one is `start`, and `round`.
+    // The last of `start`, `round` and `finish` is `start`.
     in_start: bool,
+    // The last of them is `round`.
     in_round: bool,
-    // Among `send` and `=`, the last one is `=`.
+    // The last of `send` and `=` is `=`.
     in_assignment: bool,
 }
 

@@ -123,8 +123,8 @@ fn due_window(alloc: Global, text: &[u8], line: u32) -> Result<Option<Vec<u32>>,
     Ok(Some(window_in(alloc, shape, line - 3)?))
 }
 
-/// Returns the note on a line that does not have its window. Lines are counted from 1. Fails if
-/// memory was refused.
+/// Returns the note on a line of a table text that does not have its window, which follows from the
+/// second line. Lines are counted from 1. Fails if memory was refused.
 pub fn window_note(alloc: Global, text: &[u8], line: u32) -> Result<String, AllocError>
     ensures { IfOk result (λ note. IsWindowNote text.now line (string_bytes note)) }
 {

@@ -1,5 +1,5 @@
 use Rattle.std.proofs.Common.{◌≡◌, ◌≤◌, ◌-◌, length}
-use Rattle.fault_notes.specs.Causes.{place_of_cause}
+use Rattle.fault_notes.specs.FaultTokens.{place_of_cause}
 use Rattle.fault_notes.specs.Kinds.{marks_left, cause_from, offset_from}
 use Rattle.fault_notes.proofs.scanning.place_of.Given as goal
 
