@@ -37,7 +37,7 @@ Explains input (cause.No rounds ring places channels) = (t : ChannelTable) × (s
 abbrev pub IsTableNote : List ℕ → TableFault → List ℕ → Type 0
 IsTableNote input (table.Syntax offset) note =
     (LONGEST_TABLE_TEXT < length input → note ≡ long_note) × (length input ≤ LONGEST_TABLE_TEXT → IsFormNote input offset note)
-IsTableNote input (table.WrongWindow line) note = IsWindowNote line note
+IsTableNote input (table.WrongWindow line) note = IsWindowNote input line note
 IsTableNote input (table.ChannelTooLarge line) note = note ≡ channel_note line
 IsTableNote input table.OutOfMemory note = ⊥
 
