@@ -1,8 +1,8 @@
 -- A memo and the code of its plan can be used by several threads. The lists are those that a check tries at such a goal;
 -- here no value is in scope, through whose fields its search would go.
-use Rattle.node_lang.proofs.tree.BinOp.TheSendSync as bin_op
-use Rattle.node_lang.proofs.tree.UnOp.TheSendSync as un_op
-use Rattle.node_lang.proofs.tree.Expr.TheLaws.TheKnot
+use Rattle.node_program.proofs.tree.BinOp.TheSendSync as bin_op
+use Rattle.node_program.proofs.tree.UnOp.TheSendSync as un_op
+use Rattle.node_program.proofs.tree.Expr.TheLaws.TheKnot
 use Rattle.round_columns.proofs.code.RoundCode.TheSendSync as round_code
 use Rattle.round_columns.proofs.operation.Op.TheSendSync as op
 use Rattle.round_columns.proofs.postfix.Postfix.TheSendSync as postfix

@@ -1,5 +1,5 @@
 use crate::block_channels::{put_block, write_channels, write_entries};
-use node_lang::OutOfMemory;
+use node_program::OutOfMemory;
 use round_columns::{Code, Columns, Work};
 use round_eval::width_of;
 use std::alloc::Global;

@@ -12,7 +12,7 @@ use crate::entry_columns::EntryColumns;
 use crate::shares::write_shares;
 use channel_tables::Table;
 use lang_check::Plan;
-use node_lang::OutOfMemory;
+use node_program::OutOfMemory;
 use round_columns::Code;
 use shared_memo::{Memo, Pass};
 use std::alloc::Global;
