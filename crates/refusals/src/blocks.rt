@@ -5,6 +5,7 @@ use crate::miss::Miss;
 use crate::plans::{has_block, plan_of};
 use crate::tell::{other_call, retried, tell, tell_numbers, value_or_refusal};
 use lang_check::Plan;
+use round_columns::Code;
 use shared_memo::{Memo, Reader};
 use test_programs::CV1;
 use unroll::{Block, BlockMaker, MakeFault, make_block};
@@ -29,16 +30,17 @@ pub(crate) fn do_block_maker<R: AllocGlobal + Print>(rt: &R) -> Result<(), Miss>
     let memo = other_call(Memo::new(alloc, &plan))?;
     let mut pass = other_call(memo.pass(alloc))?;
     let mut reader = Reader::new(&memo, &mut pass);
-    let mut maker = match value_or_refusal(rt, BlockMaker::new(alloc, &plan))? {
+    let code = other_call(Code::new(alloc, &plan))?;
+    let mut maker = match value_or_refusal(rt, BlockMaker::new(alloc, &code))? {
         Some(maker) => maker,
-        None => retried(BlockMaker::new(alloc, &plan))?,
+        None => retried(BlockMaker::new(alloc, &code))?,
     };
     if !has_block(&plan, 0, 0) {
         return Err(Miss::Wrong);
     }
-    let block = match value_or_refusal(rt, maker.make(alloc, &mut reader, 0, 0, 4))? {
+    let block = match value_or_refusal(rt, maker.make(&mut reader, 0, 0, 4))? {
         Some(block) => block,
-        None => retried(maker.make(alloc, &mut reader, 0, 0, 4))?,
+        None => retried(maker.make(&mut reader, 0, 0, 4))?,
     };
     tell_states(rt, &block)
 }

@@ -37,7 +37,7 @@ pub(crate) fn do_columns<R: AllocGlobal + Print>(rt: &R) -> Result<(), Miss> {
 // then.
 fn tell_round<R: AllocGlobal + Print>(
     rt: &R,
-    code: &Code,
+    code: &Code<'_>,
     left: &Columns,
     own: &Columns,
     right: &Columns,
@@ -59,8 +59,8 @@ fn tell_round<R: AllocGlobal + Print>(
 }
 
 // Returns the code of a plan.
-fn code_of<R: AllocGlobal + Print>(rt: &R, plan: &Plan) -> Result<Code, Miss>
-    ensures { IfOk result (λ code. code ≡ plan.now) }
+fn code_of<'p, R: AllocGlobal + Print>(rt: &R, plan: &'p Plan) -> Result<Code<'p>, Miss>
+    ensures { IfOk result (λ code. code ≡ plan.entry.now) }
 {
     match value_or_refusal(rt, Code::new(rt.alloc(), plan))? {
         Some(code) => Ok(code),
@@ -69,7 +69,7 @@ fn code_of<R: AllocGlobal + Print>(rt: &R, plan: &Plan) -> Result<Code, Miss>
 }
 
 // Allocates scratch for a code at three nodes.
-fn work_of<R: AllocGlobal + Print>(rt: &R, code: &Code) -> Result<Work, Miss>
+fn work_of<R: AllocGlobal + Print>(rt: &R, code: &Code<'_>) -> Result<Work, Miss>
     ensures { IfOk result (λ work. (work.columns ≡ most_columns (terms code.now.program)) × (work.width ≡ 3)) }
 {
     match value_or_refusal(rt, Work::new(rt.alloc(), code, 3))? {
