@@ -4,6 +4,4 @@ pub mod BelowBlocks
 pub mod JoinedEntries
 pub mod KnownJobs
 pub mod Numbered
-pub mod FillKeeps
-pub mod OneRuns
 pub mod SharedFill

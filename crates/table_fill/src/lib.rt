@@ -1,4 +1,4 @@
-//! Tables with a channel for each window, and the compilation of a program to its table.
+//! The compilation of a program to its table, by workers that share a memo.
 #![tactic(auto)]
 
 mod block_channels;
@@ -10,7 +10,6 @@ mod fault;
 mod filling;
 mod laws;
 mod looks;
-mod maker;
 mod memo_fill;
 mod own_reader;
 mod reading;
