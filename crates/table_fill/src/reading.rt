@@ -95,11 +95,7 @@ pub(crate) fn read_table<R: Threads + Sync>(
 {
     write_shares(rt, code, blocks, &mut columns, &mut entries);
     let plan = code.plan();
-    Table {
-        shape: plan.shape(),
-        channels: plan.program().channels(),
-        entries,
-    }
+    Table::new(plan.shape(), plan.program().channels(), entries)
 }
 
 // The block of a level and a number, which the pass knows.

@@ -17,4 +17,4 @@ returns g c =
     (rw from_first at (c.write_shares.ensures.entries i lt).0) ∙ sym (get_or-map (window_channel p) ws i [] 0 (omega (arith, lt, size)))) in
     let written = with_items_is c.args.entries entries (c.write_shares.ensures.size ∙ c.deref_mut-2.ensures.len) in
     let is = c.plan-plan.ensures in
-    table_with p c.args.code.now.ids _ (rw is at c.shape.ensures.ids) (rw is at c.shape.ensures.rounds) (rw (c.program.ensures.value, is) at c.channels.ensures.value) (written ∙ same)
+    c.new.ensures ∙ table_with p c.args.code.now.ids _ (rw is at c.shape.ensures.ids) (rw is at c.shape.ensures.rounds) (rw (c.program.ensures.value, is) at c.channels.ensures.value) (written ∙ same)
