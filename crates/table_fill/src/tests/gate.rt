@@ -153,6 +153,17 @@ fn taken(desk: &Desk, mut tickets: Vec<Ticket>) -> Option<Ticket>
     tickets.pop()
 }
 
+// A single worker with this number fills the memo.
+fn fill_alone<G: Gate>(alloc: Global, memo: &Memo<'_>, gate: &G, number: u32) -> Option<()> {
+    let code = Code::new(alloc, memo.plan()).ok()?;
+    let fill = MemoFill { memo, code: &code };
+    let (desk, tickets) = Desk::new(alloc, fill.total(), 1).ok()?;
+    let mut ticket = taken(&desk, tickets)?;
+    fill.work_alone(alloc, &desk, &mut ticket, gate, number)
+        .ok()?;
+    Some(())
+}
+
 // A single worker with this number fills a new memo. Returns the number of calls of the gate, the
 // number of those with an empty cell, and the sum of the worker numbers that it was called with.
 fn seen_alone(alloc: Global, plan: &Plan, number: u32) -> Option<[u64; 3]> {
@@ -164,15 +175,7 @@ fn seen_alone(alloc: Global, plan: &Plan, number: u32) -> Option<[u64; 3]> {
         empty: AtomicU64::new(0),
         numbers: AtomicU64::new(0),
     };
-    let code = Code::new(alloc, memo.plan()).ok()?;
-    let fill = MemoFill {
-        memo: &memo,
-        code: &code,
-    };
-    let (desk, tickets) = Desk::new(alloc, fill.total(), 1).ok()?;
-    let mut ticket = taken(&desk, tickets)?;
-    fill.work_alone(alloc, &desk, &mut ticket, &gate, number)
-        .ok()?;
+    fill_alone(alloc, &memo, &gate, number)?;
     Some([
         gate.told.load(SeqCst),
         gate.empty.load(SeqCst),
