@@ -1,4 +1,4 @@
-use Rattle.std.proofs.Common.{rules, ◌≡◌}
+use Rattle.std.proofs.Common.{rules}
 use Rattle.std.proofs.lemmas.List.Elements.{All-push}
 use Rattle.table_fill.specs.ChannelRoom.{IsChannelRoom}
 use Rattle.table_fill.proofs.reading.columns_of_shares.Goals as goal

@@ -1,4 +1,4 @@
-use Rattle.std.proofs.Common.{rules, ◌≡◌, ℕ, true, List, [], ◌∷◌, ◌++◌, length, Some}
+use Rattle.std.proofs.Common.{rules, ◌≡◌, ℕ, true, [], ◌∷◌, ◌++◌, length, Some}
 use Rattle.std.specs.Prelude.{is_some, slice_get}
 use Rattle.win_index.specs.Jobs.{jobs_of}
 use Rattle.unroll.specs.Entries.{Entries}
