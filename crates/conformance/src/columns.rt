@@ -1,5 +1,6 @@
 //! Tables that are filled by columns, compared with the states of single windows.
 
+use channel_tables::Table;
 use lang_check::Plan;
 use node_lang::MAX_REGISTERS;
 use round_eval::{OpenGate, channel, width_of};
@@ -8,7 +9,6 @@ use std::alloc::Global;
 use std::sync::Wait;
 use std::test::Fail;
 use std::thread::Threads;
-use channel_tables::Table;
 use table_fill::compile;
 use test_programs::{CV1, EIGHT_REGISTERS, RED, TWO_REGISTERS, plan_of};
 use unroll::window_state;

@@ -4,6 +4,7 @@ use crate::audits::TABLE_OF_IDENTIFIERS;
 use crate::engine_calls::done;
 use crate::slow_devices::{SlowReader, SlowWriter};
 use crate::slow_inputs::{REPORT, outcome_of, outcome_of_run};
+use channel_tables::Table;
 use nbhd_check::Separation;
 use plan_print::fault::{EngineFault, OutFault};
 use plan_print::output::send;
@@ -15,7 +16,6 @@ use std::alloc::Global;
 use std::io::ErrorKind;
 use std::process::Abort;
 use std::test::Fail;
-use channel_tables::Table;
 use test_programs::{CV1, CV1_OF_12, ID0};
 
 #[test]

@@ -5,6 +5,7 @@ ghost use Rattle.headline.specs.Headline.{IsHeadline, TableAgrees};
 ghost use Rattle.ring_exec.specs.declared.fault.RunFault.{RunFault};
 
 use crate::fault::FindingsFault;
+use channel_tables::Table;
 use lang_check::Plan;
 use nbhd_check::{Separation, Verdict, judge};
 use node_program::MAX_THREADS;
@@ -14,7 +15,6 @@ use shared_memo::Memo;
 use std::alloc::Global;
 use std::sync::Wait;
 use std::thread::Threads;
-use channel_tables::Table;
 use table_fill::{FillFault, compile};
 use win_index::Ring;
 

@@ -8,9 +8,9 @@ ghost use Rattle.nbhd_check.specs.Counts.{held_count, shared_len, AreCells, AreC
 
 use crate::laws::numbers_of_windows;
 use crate::part::window_count;
+use channel_tables::Table;
 use node_program::OutOfMemory;
 use std::alloc::Global;
-use channel_tables::Table;
 use win_index::{MAX_WINDOW_LEN, count_of_windows};
 
 /// The counts of one block: of the windows that begin with the same identifiers, all but two.

@@ -8,11 +8,11 @@ ghost use Rattle.nbhd_check.specs.FarSearch.{IsSearcherOf, blocks_per_part, AreF
 use crate::counts::Counts;
 use crate::far::far_free_in_block;
 use crate::laws::numbers_of_windows;
+use channel_tables::Table;
 use node_program::OutOfMemory;
 use std::alloc::Global;
 use std::sync::atomic::{AtomicU32, AtomicUsize, Ordering};
 use std::thread::{Threads, for_each_mut};
-use channel_tables::Table;
 use win_index::MAX_TUPLE_LEN;
 
 /// The maximum number of parts of the blocks.

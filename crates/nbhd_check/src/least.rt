@@ -11,9 +11,9 @@ use crate::part::{judge_part, run_len, window_count};
 use crate::parts::least_by_runs;
 use crate::separation::Separation;
 use crate::tuple::tuple_count;
+use channel_tables::Table;
 use std::alloc::Global;
 use std::thread::Threads;
-use channel_tables::Table;
 
 /// Returns the least number of a bad tuple, by at most `threads` threads.
 pub(crate) fn least_of_all<R: Threads + Sync>(

@@ -8,10 +8,10 @@ ghost use Rattle.nbhd_check.specs.Searches.{IsLeastIn, AreGoodParts};
 use crate::part::{judge_part, run_len, window_count};
 use crate::separation::Separation;
 use crate::tuple::tuple_count;
+use channel_tables::Table;
 use rayon::join;
 use std::sync::atomic::{AtomicUsize, Ordering};
 use std::thread::Threads;
-use channel_tables::Table;
 
 // The minimum number of tuples of a part, except the last one.
 const MIN_PART_LEN: u64 = 1 << 16;

@@ -2,11 +2,11 @@ use crate::laws::tuples_suffice;
 use crate::least::least_of_all;
 use crate::separation::Separation;
 use crate::tuple::{channel_from, is_close_next, tuple_len, write_tuple};
+use channel_tables::Table;
 use node_program::OutOfMemory;
 use rayon::current_num_threads;
 use std::alloc::Global;
 use std::thread::Threads;
-use channel_tables::Table;
 use win_index::{MAX_TUPLE_LEN, tuples_are_rings};
 
 /// The verdict of the judge.

@@ -22,6 +22,7 @@ use crate::lines::{accepted_line, numbers_line, ring_fault_line, segments_fault_
 use crate::places::places_text;
 use crate::status::Status;
 use crate::trace::trace_text;
+use channel_tables::Table;
 use devices::fault::EngineFault;
 use lang_check::Plan;
 use nbhd_check::{Separation, Verdict, judge_with_workers};
@@ -33,7 +34,6 @@ use std::alloc::Global;
 use std::marker::Send;
 use std::sync::Wait;
 use std::thread::{Threads, join};
-use channel_tables::Table;
 use table_fill::{FillFault, compile};
 use win_index::{Ring, RingFault, Shape};
 

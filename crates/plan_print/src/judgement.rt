@@ -9,11 +9,11 @@ use crate::answer::Answer;
 use crate::cause::Cause;
 use crate::lines::{good_line, no_line};
 use crate::status::Status;
+use channel_tables::Table;
 use devices::fault::EngineFault;
 use nbhd_check::{Separation, Verdict, judge, tuple_count};
 use std::alloc::Global;
 use std::thread::Threads;
-use channel_tables::Table;
 
 // Returns the report of this verdict on the table.
 pub(crate) fn verdict_answer(

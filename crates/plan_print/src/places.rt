@@ -6,9 +6,9 @@ ghost use Rattle.table_fill.specs.ProgramTables.{table_of};
 ghost use Rattle.plan_print.specs.Report.{place_lines};
 
 use crate::lines::write_place;
+use channel_tables::Table;
 use lang_check::Plan;
 use std::alloc::{AllocError, Global};
-use channel_tables::Table;
 use table_fill::table_has_the_channels_of_rounds;
 use win_index::{MAX_WINDOW_LEN, Ring};
 

@@ -18,6 +18,7 @@ use crate::cause::Cause;
 use crate::judgement::audit_report;
 use crate::lines::{check_fault_line, table_fault_line, text_fault_line};
 use crate::status::Status;
+use channel_tables::Table;
 use devices::fault::EngineFault;
 use lang_check::{Plan, accept};
 use nbhd_check::Separation;
@@ -25,7 +26,6 @@ use node_lang::{FaultKind, Program, TextFault, parse};
 use std::alloc::Global;
 use std::sync::Wait;
 use std::thread::Threads;
-use channel_tables::Table;
 use table_text::{TableFault, read_table};
 use task_words::task::Task;
 

@@ -1,8 +1,8 @@
 use crate::miss::Miss;
 use crate::plans::plan_of;
 use crate::tell::{retried, value_or_refusal};
-use lang_check::Plan;
 use fill_core::{FillEvent, FillWorld, replay};
+use lang_check::Plan;
 use test_programs::CV1;
 
 /// Two workers fill three cells.

@@ -1,11 +1,11 @@
 use crate::miss::Miss;
 use crate::plans::plan_of;
 use crate::tell::{other_call, retried, tell_numbers, value_or_refusal};
+use channel_tables::{Table, TableMaker};
 use round_eval::OpenGate;
 use shared_memo::Memo;
 use std::sync::Wait;
 use std::thread::Threads;
-use channel_tables::{Table, TableMaker};
 use table_fill::compile;
 use test_programs::CV1;
 use win_index::Shape;

@@ -1,12 +1,12 @@
 use crate::miss::Miss;
 use crate::tables::table_of;
 use crate::tell::{retried, tell_numbers, value_or_refusal};
+use channel_tables::Table;
 use devices::watched::Watched;
 use nbhd_check::Separation;
 use std::io;
 use std::sync::Wait;
 use std::thread::Threads;
-use channel_tables::Table;
 use table_text::{TableFault, read_table, write_table};
 use test_programs::ID0;
 

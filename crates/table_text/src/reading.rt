@@ -13,9 +13,9 @@ use crate::laws::{table_texts_are_apart, table_texts_are_read};
 use crate::limits::LONGEST_TABLE_TEXT;
 use crate::lines::{Header, Line, after_end, after_title, line_of, sizes};
 use crate::version::Version;
+use channel_tables::{Table, TableMaker};
 use nbhd_check::Separation;
 use std::alloc::Global;
-use channel_tables::{Table, TableMaker};
 use win_index::MAX_WINDOW_LEN;
 
 /// Returns the table and the separation whose text this is.

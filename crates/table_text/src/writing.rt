@@ -16,12 +16,12 @@ use crate::line_prefix::{LinePrefix, PREFIX_LEN};
 use crate::piece::{Piece, Pieces};
 use crate::pieces::{line_prefix_of, piece_of, pieces_of};
 use crate::storing::{empty_chunk, send_held, store, store_first, store_prefix};
+use channel_tables::Table;
 use devices::fault::{EngineFault, OutFault};
 use devices::watched::Watched;
 use nbhd_check::Separation;
 use std::alloc::{AllocError, Global};
 use std::io::Write;
-use channel_tables::Table;
 use win_index::{MAX_WINDOW_LEN, Shape};
 
 // The space for a line: a prefix, the piece of an identifier and that of a channel.

@@ -1,11 +1,11 @@
 //! The text of a table that was made entry by entry.
 
+use channel_tables::{Table, TableMaker};
 use devices::watched::Watched;
 use nbhd_check::Separation;
 use std::alloc::Global;
 use std::process::Abort;
 use std::test::Fail;
-use channel_tables::{Table, TableMaker};
 use table_text::write_table;
 use win_index::Shape;
 
