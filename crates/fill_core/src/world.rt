@@ -30,7 +30,7 @@ impl<'a> Model for FillWorld<'a> {
     ghost invariant = { λ w. IsConsistent (machine_of w.world) };
 }
 
-ghost use Rattle.std.specs.Prelude.{◌≡◌, IfOk, length};
+ghost use Rattle.std.specs.Prelude.{◌≡◌, ◌≤◌, IfOk, length};
 ghost use Rattle.fill_core.specs.FillMachine.{Runs, opening};
 ghost use Rattle.fill_core.specs.FillPromises.{IsConsistent, IsFilledWhenStopped};
 ghost use Rattle.node_program.specs.declared.limits.TheConstants.{MAX_THREADS};
