@@ -27,15 +27,22 @@ pub(crate) fn do_make_block<R: AllocGlobal + Print>(rt: &R) -> Result<(), Miss> 
 pub(crate) fn do_block_maker<R: AllocGlobal + Print>(rt: &R) -> Result<(), Miss> {
     let alloc = rt.alloc();
     let plan = plan_of(alloc, CV1, 8)?;
-    let memo = other_call(Memo::new(alloc, &plan))?;
+    let code = other_call(Code::new(alloc, &plan))?;
+    tell_first_block(rt, &code)
+}
+
+// Makes the first block of level 0 of the code's plan, and prints its states.
+fn tell_first_block<R: AllocGlobal + Print>(rt: &R, code: &Code<'_>) -> Result<(), Miss> {
+    let alloc = rt.alloc();
+    let plan = code.plan();
+    let memo = other_call(Memo::new(alloc, plan))?;
     let mut pass = other_call(memo.pass(alloc))?;
     let mut reader = Reader::new(&memo, &mut pass);
-    let code = other_call(Code::new(alloc, &plan))?;
-    let mut maker = match value_or_refusal(rt, BlockMaker::new(alloc, &code))? {
+    let mut maker = match value_or_refusal(rt, BlockMaker::new(alloc, code))? {
         Some(maker) => maker,
-        None => retried(BlockMaker::new(alloc, &code))?,
+        None => retried(BlockMaker::new(alloc, code))?,
     };
-    if !has_block(&plan, 0, 0) {
+    if !has_block(plan, 0, 0) {
         return Err(Miss::Wrong);
     }
     let block = match value_or_refusal(rt, maker.make(&mut reader, 0, 0, 4))? {
