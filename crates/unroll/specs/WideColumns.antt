@@ -4,7 +4,7 @@ use Rattle.node_program.specs.Node.{to_left, to_right}
 use Rattle.node_program.specs.Term.{terms}
 use Rattle.win_index.specs.declared.limits.TheConstants.{BLOCK_WINDOWS}
 use Rattle.lang_check.specs.Plans.{ProgramForIds}
-use Rattle.round_columns.specs.States.{NodeStates}
+use Rattle.round_columns.specs.States.{NodeStates, HasSize}
 use Rattle.round_columns.specs.StackNeed.{most_columns}
 use Rattle.unroll.specs.Below.{part}
 use Rattle.unroll.specs.BlockStates.{MadeBlock, window_numbered, block_len}
@@ -18,7 +18,7 @@ use Rattle.unroll.specs.declared.upper_block.UpperBlock.{UpperBlock}
 
 -- columns for the registers of the plan at BLOCK_WINDOWS windows
 abbrev pub IsWide : ProgramForIds → NodeStates → Type 0
-IsWide plan columns = (columns.registers ≡ length plan.program.start) × (length columns.states ≡ BLOCK_WINDOWS)
+IsWide plan = HasSize BLOCK_WINDOWS (length plan.program.start)
 
 -- the same of the states, and a message from each side at BLOCK_WINDOWS windows
 abbrev pub AreWide : ProgramForIds → PartColumns → Type 0

@@ -85,7 +85,7 @@ module _ (g : Over) (c : After-put_lasts g) where
       let before = c.loop-block.invariant.wide in
       let put = c.put_lasts.ensures in (
         ap (λ list. length list.items) put.left ∙ before.0,
-        (ap (λ columns. columns.registers) put.own ∙ before.1.0, ap (λ columns. length columns.states) put.own ∙ before.1.1),
+        (ap (λ columns. length columns.states) put.own ∙ before.1.0, ap (λ columns. columns.registers) put.own ∙ before.1.1),
         put.right.size ∙ before.2,
       )
 
@@ -244,7 +244,7 @@ loop-block-init g c =
       last = reached.last;
       wide = (
         put.left.size ∙ c.requires.wide.0,
-        (put.registers ∙ c.requires.wide.1.0, put.own.size ∙ c.requires.wide.1.1),
+        (put.own.size ∙ c.requires.wide.1.0, put.registers ∙ c.requires.wide.1.1),
         ap (λ list. length list.items) put.right ∙ c.requires.wide.2,
       );
       left = put.left;

@@ -8,7 +8,7 @@ pub returns-then-level-rounds-clause-sent : goal.returns-then-level-rounds-claus
 returns-then-level-rounds-clause-sent c = λ b are.
     let plan = c.args.code.now in
     let r = c.args.level in
-    let wide = c.requires.ready.made_wide.1 in
+    let wide = c.requires.ready.made_wide.0 in
     let made = c.args.scratch.now.made.states in
     let below : r < length c.plan.result.now.program.steps = omega (arith, c.if-level-rounds.true, c.rounds.ensures, c.shape.ensures.rounds) in
     let low = rw c.plan.ensures at below in

@@ -15,7 +15,7 @@ returns-clause-states c =
     let made = c.start_columns.new.out.states in
     let written = rw (c.shape.ensures.ids, c.plan.ensures) at c.put_ids.ensures in
     let size = c.put_ids.auto.ids in
-    take_states (block_len plan.ids 0 b) made (block_state plan 0 b) (omega (arith, c.start_columns.ensures.nodes, c.requires.ready.made_wide.1))
+    take_states (block_len plan.ids 0 b) made (block_state plan 0 b) (omega (arith, c.start_columns.ensures.size.0, c.requires.ready.made_wide.0))
     (λ i lt.
     ap (λ u. get_or u i []) c.start_columns.ensures.states
     ∙ get_or-map (start plan.program) ids i 0 [] (omega (arith, lt, size))

@@ -14,9 +14,9 @@ returns-clause-states c = λ b count few held.
     let ready = c.requires.ready in
     let made = c.next_columns.new.out.states in
     let own = c.args.scratch.now.parts.own.states in
-    take_states count made (block_state plan (low + 1) b) (omega (arith, few, c.next_columns.ensures.nodes, ready.made_wide.1))
+    take_states count made (block_state plan (low + 1) b) (omega (arith, few, c.next_columns.ensures.size.0, ready.made_wide.0))
     (λ i lt.
-    let stepped = rw (c.deref.ensures.value, c.deref-2.ensures.value) at c.next_columns.ensures.states i (omega (arith, lt, few, ready.parts_wide.1.1)) in
+    let stepped = rw (c.deref.ensures.value, c.deref-2.ensures.value) at c.next_columns.ensures.states i (omega (arith, lt, few, ready.parts_wide.1.0)) in
     middle_from_parts plan.program low (low + 1) (window_numbered plan.ids (low + 1) (BLOCK_WINDOWS * b + i)) (part_state plan low b 0 i) (get_or own i [])
     (part_state plan low b 2 i) (get_or made i []) refl (held.sizes i lt) refl (held.own i lt) refl
     (stepped ∙ (λ j. next plan.program low (get_or own i []) (held.left i lt j) (held.right i lt j))))
