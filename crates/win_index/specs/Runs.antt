@@ -1,6 +1,8 @@
 -- Runs: the windows with a common prefix, all identifiers but the last. They are consecutive, in the order of their
 -- last identifiers.
-use Rattle.std.specs.Prelude.{◌≡◌, ℕ, ◌+◌, ◌-◌, ◌<◌, ◌≤◌, List, take, drop, set, length, slice_index, slice_get, Some}
+use Rattle.std.specs.Prelude.{◌≡◌, ℕ, ◌+◌, ◌-◌, ◌<◌, ◌≤◌, Bool, List, take, drop, set, length, slice_index, slice_get, Some}
+use Rattle.std.specs.Bool.{OnTrue, OnFalse}
+use Rattle.win_index.specs.Successor.{IsNext, IsLast}
 use Rattle.win_index.specs.Windows.{unused, windows, IsWindow}
 use Rattle.win_index.specs.declared.series.RunPlaces.{RunPlaces}
 
@@ -20,6 +22,21 @@ pub record IsEndOfSame (k m : ℕ) (window last : List ℕ) : Type 0 where
   pub last_is : IsWindow k m last
   pub same : take (k - 1) last ≡ take (k - 1) window
   pub none_larger : IsLastOfRun k m last
+
+-- a window was replaced by the next one with the same prefix, or it is the last of its run and unchanged
+pub record IsReplacedInRun (k m : ℕ) (is_replaced : Bool) (old new : List ℕ) : Type 0 where
+  pub next : OnTrue is_replaced (IsNext k m old new)
+  pub front : take (k - 1) new ≡ take (k - 1) old
+  pub last : OnFalse is_replaced (IsLastOfRun k m old)
+  pub same : OnFalse is_replaced (new ≡ old)
+  pub window : IsWindow k m new
+
+-- a window was replaced by the first one after its run, or its run is the last one and the window is unchanged
+pub record IsReplacedByRun (k m : ℕ) (is_replaced : Bool) (old new : List ℕ) : Type 0 where
+  pub next : OnTrue is_replaced ((last : List ℕ) → IsEndOfSame k m old last → IsNext k m last new)
+  pub last : OnFalse is_replaced ((last : List ℕ) → IsEndOfSame k m old last → IsLast k m last)
+  pub same : OnFalse is_replaced (new ≡ old)
+  pub window : IsWindow k m new
 
 -- A series of `count` windows of length k+2 below m: they are consecutive and share all identifiers but the last, and
 -- their suffixes, the windows of length k without the first two identifiers, are consecutive too.

@@ -1,6 +1,6 @@
 -- The numbers of identifiers and rounds that are a shape.
 use Rattle.std.specs.Prelude.{ℕ, ◌+◌, ◌*◌, ◌≤◌, length}
-use Rattle.win_index.specs.declared.limits.TheConstants.{MAX_IDS, MAX_WINDOWS}
+use Rattle.win_index.specs.declared.limits.TheConstants.{MAX_EXTRA, MAX_IDS, MAX_WINDOWS}
 use Rattle.win_index.specs.Windows.{windows}
 
 -- m identifiers are enough for a ring of 2t+2 nodes, and at most MAX_IDS
@@ -16,3 +16,8 @@ HasFewWindows m t = length (windows (2 * t + 1) m) ≤ MAX_WINDOWS
 pub record IsShape (m t : ℕ) : Type 0 where
   pub ids : HasIds m t
   pub few_windows : HasFewWindows m t
+
+-- the identifiers that a tuple has beyond those of a window: 1 or 2
+pub record IsExtra (extra : ℕ) : Type 0 where
+  pub some : 1 ≤ extra
+  pub few : extra ≤ MAX_EXTRA

@@ -4,8 +4,8 @@ ghost use Rattle.std.specs.Bool.{OnTrue, OnFalse};
 ghost use Rattle.std.specs.List.{range_with_len};
 ghost use Rattle.win_index.specs.Windows.{is_used, unused, windows, number_of, IsWindow};
 ghost use Rattle.win_index.specs.Falling.{falling};
-ghost use Rattle.win_index.specs.Runs.{IsRunStart, IsLastOfRun, IsEndOfSame};
-ghost use Rattle.win_index.specs.Successor.{IsNext, IsLast};
+ghost use Rattle.win_index.specs.Runs.{IsRunStart, IsReplacedInRun, IsReplacedByRun};
+ghost use Rattle.win_index.specs.Successor.{IsNext, IsLast, IsReplaced};
 
 // The lists of one length, in order. There are fewer than 2^64 of them.
 #[derive(Clone, Copy)]
@@ -72,10 +72,7 @@ impl Lists {
     // Replaces the list by the next one, or returns `false` if it is the last.
     pub(crate) fn write_next(self, list: &mut [u32]) -> bool
         requires { IsWindow self.len self.ids list.old }
-        ensures next { OnTrue result (IsNext self.len self.ids list.old list.new) }
-        ensures last { OnFalse result (IsLast self.len self.ids list.old) }
-        ensures same { OnFalse result (list.new ≡ list.old) }
-        ensures window { IsWindow self.len self.ids list.new }
+        ensures { IsReplaced self.len self.ids result list.old list.new }
     {
         write_next(self.ids, list, self.len)
     }
@@ -85,11 +82,7 @@ impl Lists {
     pub(crate) fn write_next_in_run(self, list: &mut [u32]) -> bool
         requires some { 1 ≤ self.len }
         requires window { IsWindow self.len self.ids list.old }
-        ensures next { OnTrue result (IsNext self.len self.ids list.old list.new) }
-        ensures front { take (self.len - 1) list.new ≡ take (self.len - 1) list.old }
-        ensures last { OnFalse result (IsLastOfRun self.len self.ids list.old) }
-        ensures same { OnFalse result (list.new ≡ list.old) }
-        ensures window { IsWindow self.len self.ids list.new }
+        ensures { IsReplacedInRun self.len self.ids result list.old list.new }
     {
         let Lists { ids, len } = self;
         let last = len - 1;
@@ -106,10 +99,7 @@ impl Lists {
     pub(crate) fn write_next_run(self, list: &mut [u32]) -> bool
         requires some { 1 ≤ self.len }
         requires window { IsWindow self.len self.ids list.old }
-        ensures next { OnTrue result ((last : List ℕ) → IsEndOfSame self.len self.ids list.old last → IsNext self.len self.ids last list.new) }
-        ensures last { OnFalse result ((last : List ℕ) → IsEndOfSame self.len self.ids list.old last → IsLast self.len self.ids last) }
-        ensures same { OnFalse result (list.new ≡ list.old) }
-        ensures window { IsWindow self.len self.ids list.new }
+        ensures { IsReplacedByRun self.len self.ids result list.old list.new }
     {
         let Lists { ids, len } = self;
         let last = len - 1;

@@ -33,11 +33,10 @@ pub struct Shape {
 
 impl Shape {
     ghost use Rattle.std.specs.Prelude.{◌≡◌, ℕ, List, ◌+◌, ◌*◌, ◌<◌, ◌↔◌, IsTrue, IfOk, IfErr, IfSome, IsOk, Some, length, take, slice_get};
-    ghost use Rattle.std.specs.Bool.{OnTrue, OnFalse};
     ghost use Rattle.win_index.specs.Windows.{windows, number_of, IsWindow};
-    ghost use Rattle.win_index.specs.Runs.{IsRunStart, IsLastOfRun, IsEndOfSame};
-    ghost use Rattle.win_index.specs.Successor.{IsNext, IsLast};
-    ghost use Rattle.win_index.specs.ShapeRange.{IsShape};
+    ghost use Rattle.win_index.specs.Runs.{IsRunStart, IsReplacedInRun, IsReplacedByRun};
+    ghost use Rattle.win_index.specs.Successor.{IsReplaced};
+    ghost use Rattle.win_index.specs.ShapeRange.{IsShape, IsExtra};
     ghost use Rattle.win_index.specs.ShapeFaults.{IsFirstShapeFault};
 
     /// Returns the shape of `ids` identifiers and `rounds` rounds, or its first fault:
@@ -83,8 +82,7 @@ impl Shape {
     /// Returns the number of tuples of `2t+1+extra` identifiers, for an `extra` of 1 or 2. It is 0
     /// if the shape has fewer identifiers.
     pub fn tuples(&self, extra: u32) -> u64
-        requires some { 1 ≤ extra }
-        requires few { extra ≤ MAX_EXTRA }
+        requires extra { IsExtra extra }
         ensures value { result ≡ length (windows (2 * self.now.rounds + 1 + extra) self.now.ids) }
         ensures some { 2 * self.now.rounds + 1 + extra ≤ self.now.ids → 0 < result }
     {
@@ -141,10 +139,7 @@ impl Shape {
     pub fn next_window(&self, level: u32, window: &mut [u32]) -> bool
         requires level { level ≤ self.now.rounds }
         requires window { IsWindow (2 * level + 1) self.now.ids window.old }
-        ensures next { OnTrue result (IsNext (2 * level + 1) self.now.ids window.old window.new) }
-        ensures last { OnFalse result (IsLast (2 * level + 1) self.now.ids window.old) }
-        ensures same { OnFalse result (window.new ≡ window.old) }
-        ensures window { IsWindow (2 * level + 1) self.now.ids window.new }
+        ensures { IsReplaced (2 * level + 1) self.now.ids result window.old window.new }
     {
         self.windows(level).write_next(window)
     }
@@ -154,11 +149,7 @@ impl Shape {
     pub fn next_in_run(&self, level: u32, window: &mut [u32]) -> bool
         requires level { level ≤ self.now.rounds }
         requires window { IsWindow (2 * level + 1) self.now.ids window.old }
-        ensures next { OnTrue result (IsNext (2 * level + 1) self.now.ids window.old window.new) }
-        ensures front { take (2 * level) window.new ≡ take (2 * level) window.old }
-        ensures last { OnFalse result (IsLastOfRun (2 * level + 1) self.now.ids window.old) }
-        ensures same { OnFalse result (window.new ≡ window.old) }
-        ensures window { IsWindow (2 * level + 1) self.now.ids window.new }
+        ensures { IsReplacedInRun (2 * level + 1) self.now.ids result window.old window.new }
     {
         self.windows(level).write_next_in_run(window)
     }
@@ -169,20 +160,14 @@ impl Shape {
     pub fn next_run(&self, level: u32, window: &mut [u32]) -> bool
         requires level { level ≤ self.now.rounds }
         requires window { IsWindow (2 * level + 1) self.now.ids window.old }
-        ensures next { OnTrue result ((last : List ℕ) → IsEndOfSame (2 * level + 1) self.now.ids window.old last
-            → IsNext (2 * level + 1) self.now.ids last window.new) }
-        ensures last { OnFalse result ((last : List ℕ) → IsEndOfSame (2 * level + 1) self.now.ids window.old last
-            → IsLast (2 * level + 1) self.now.ids last) }
-        ensures same { OnFalse result (window.new ≡ window.old) }
-        ensures window { IsWindow (2 * level + 1) self.now.ids window.new }
+        ensures { IsReplacedByRun (2 * level + 1) self.now.ids result window.old window.new }
     {
         self.windows(level).write_next_run(window)
     }
 
     /// Returns the number of a tuple of this `extra`, or `None` if the list is not one.
     pub fn tuple_number(&self, extra: u32, list: &[u32]) -> Option<u64>
-        requires some { 1 ≤ extra }
-        requires few { extra ≤ MAX_EXTRA }
+        requires extra { IsExtra extra }
         ensures { result ≡ number_of (2 * self.now.rounds + 1 + extra) self.now.ids list.now }
     {
         if !self.has_tuples(extra) {
@@ -193,8 +178,7 @@ impl Shape {
 
     /// Writes the tuple with this number to the `2t+1+extra` cells of `out`.
     pub fn tuple(&self, extra: u32, number: u64, out: &mut [u32])
-        requires some { 1 ≤ extra }
-        requires few { extra ≤ MAX_EXTRA }
+        requires extra { IsExtra extra }
         requires below { number < length (windows (2 * self.now.rounds + 1 + extra) self.now.ids) }
         requires room { length out.old ≡ 2 * self.now.rounds + 1 + extra }
         ensures item { slice_get (windows (2 * self.now.rounds + 1 + extra) self.now.ids) number ≡ Some out.new }
@@ -206,13 +190,9 @@ impl Shape {
     /// Replaces a tuple by the next one and returns `true`, or returns `false` without a change if
     /// it is the last.
     pub fn after(&self, extra: u32, tuple: &mut [u32]) -> bool
-        requires some { 1 ≤ extra }
-        requires few { extra ≤ MAX_EXTRA }
+        requires extra { IsExtra extra }
         requires tuple { IsWindow (2 * self.now.rounds + 1 + extra) self.now.ids tuple.old }
-        ensures next { OnTrue result (IsNext (2 * self.now.rounds + 1 + extra) self.now.ids tuple.old tuple.new) }
-        ensures last { OnFalse result (IsLast (2 * self.now.rounds + 1 + extra) self.now.ids tuple.old) }
-        ensures same { OnFalse result (tuple.new ≡ tuple.old) }
-        ensures tuple { IsWindow (2 * self.now.rounds + 1 + extra) self.now.ids tuple.new }
+        ensures { IsReplaced (2 * self.now.rounds + 1 + extra) self.now.ids result tuple.old tuple.new }
     {
         self.all_tuples(extra).write_next(tuple)
     }

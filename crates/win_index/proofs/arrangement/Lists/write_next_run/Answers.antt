@@ -1,4 +1,4 @@
-use Rattle.std.proofs.Common.{◌≡◌, ◌+◌, ◌-◌, suc, ◌++◌, ◌∷◌, [], set, take, sym, ◌∙◌, arith, length-set}
+use Rattle.std.proofs.Common.{◌≡◌, ◌+◌, ◌-◌, suc, ◌++◌, ◌∷◌, [], set, take, sym, ◌∙◌, arith, rules, length-set}
 use Rattle.std.proofs.lemmas.Bool.{not-true}
 use Rattle.std.proofs.lemmas.List.{take_all, take_more_set}
 use Rattle.win_index.specs.Windows.{is_used}
@@ -9,14 +9,20 @@ use Rattle.win_index.proofs.Successors.{shorter_window, run_ends, next_with_late
 use Rattle.win_index.proofs.Unused.{lacks}
 use Rattle.win_index.proofs.arrangement.Lists.write_next_run.Goals as goal
 
-pub returns-then-not-write_next-clause-last : goal.returns-then-not-write_next-clause-last
-returns-then-not-write_next-clause-last c list ends =
+pub returns-then-not-write_next : goal.returns-then-not-write_next
+returns-then-not-write_next c =
     let len = c.args.self.len in
     let ids = c.args.self.ids in
-    let size = ends.last_is.size in
-    let none = run_ends len ids (len - 1) list (omega arith) ends.last_is ends.none_larger in
-    let whole : take len list ≡ list = take_all len list (omega arith) in
-    rw whole at (last_with_last_front len ids (len - 1) list (omega arith) (omega arith) none (rw ends.same c.if-not-write_next.ensures.last))
+    record {
+      next = search rules;
+      last = λ list ends.
+          let size = ends.last_is.size in
+          let none = run_ends len ids (len - 1) list (omega arith) ends.last_is ends.none_larger in
+          let whole : take len list ≡ list = take_all len list (omega arith) in
+          rw whole at (last_with_last_front len ids (len - 1) list (omega arith) (omega arith) none (rw ends.same c.if-not-write_next.ensures.last));
+      same = c.if-not-write_next.ensures.same;
+      window = rw c.if-not-write_next.ensures.same c.requires.window;
+    }
 
 pub nth_unused-least-requires-clause-place : goal.nth_unused-least-requires-clause-place
 nth_unused-least-requires-clause-place c =
@@ -29,22 +35,8 @@ nth_unused-least-requires-clause-place c =
     let within = window_within _ _ _ c.requires.window in
     later_lacks (len - 1) ids (take (len - 1) list) (take (len - 1) c.write_next.new.list) (omega arith) front c.if-not-write_next.ensures.next
 
-pub returns-clause-next : goal.returns-clause-next
-returns-clause-next c list ends =
-    let len = c.args.self.len in
-    let ids = c.args.self.ids in
-    let size = ends.last_is.size in
-    let own = c.requires.window.size in
-    let later = c.write_next.new.list in
-    let none = run_ends len ids (len - 1) list (omega arith) ends.last_is ends.none_larger in
-    let whole : take len list ≡ list = take_all len list (omega arith) in
-    let whole_set : take len (set later (len - 1) c.nth_unused-least.result) ≡ set later (len - 1) c.nth_unused-least.result =
-    take_all len (set later (len - 1) c.nth_unused-least.result) (omega (arith, length-set later (len - 1) c.nth_unused-least.result)) in
-    rw (whole, whole_set) at (next_with_later_front len ids (len - 1) c.nth_unused-least.result list later (omega arith) (omega arith) (omega arith) none
-    (rw ends.same c.if-not-write_next.ensures.next) c.nth_unused-least.ensures)
-
-pub returns-clause-window : goal.returns-clause-window
-returns-clause-window c =
+pub returns : goal.returns
+returns c =
     let len = c.args.self.len in
     let ids = c.args.self.ids in
     let own = c.requires.window.size in
@@ -58,4 +50,16 @@ returns-clause-window c =
     let whole_set : take (len - 1 + 1) (set later (len - 1) y) ≡ set later (len - 1) y =
     take_all (len - 1 + 1) (set later (len - 1) y) (omega (arith, length-set later (len - 1) y)) in
     let is : front ++ y ∷ [] ≡ set later (len - 1) y = sym (take_more_set later (len - 1) y (omega arith)) ∙ whole_set in
-    rw (more, is) at made
+    let set_is : take len (set later (len - 1) y) ≡ set later (len - 1) y =
+    take_all len (set later (len - 1) y) (omega (arith, length-set later (len - 1) y)) in
+    record {
+      next = λ list ends.
+          let size = ends.last_is.size in
+          let none = run_ends len ids (len - 1) list (omega arith) ends.last_is ends.none_larger in
+          let whole : take len list ≡ list = take_all len list (omega arith) in
+          rw (whole, set_is) at (next_with_later_front len ids (len - 1) y list later (omega arith) (omega arith) (omega arith) none
+          (rw ends.same c.if-not-write_next.ensures.next) c.nth_unused-least.ensures);
+      last = search rules;
+      same = search rules;
+      window = rw (more, is) at made;
+    }
