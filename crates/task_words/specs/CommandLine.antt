@@ -1,6 +1,6 @@
 -- The command line of the program, as `clap` reads it: one of nine commands, then its options in any order, each with
 -- one value.
-use Rattle.std.specs.Prelude.{◌≡◌, ℕ, List, [], ◌∷◌, Some, true, false, codes, pos}
+use Rattle.std.specs.Prelude.{◌≡◌, ℕ, List, [], ◌∷◌, ◌++◌, Some, true, false, codes, pos}
 use Rattle.clap.specs.Words.{App, Rule, Shape, new_app, new_rule, shape_of}
 use Rattle.clap.specs.declared.builder.command.Command.{Command}
 use Rattle.clap.specs.declared.builder.command.Command.TheViews.{out-Command}
@@ -102,10 +102,17 @@ program = record {
   subs = [];
 }
 
+-- the commands that read a program and take no ring, and those that take one
+abbrev pub program_commands : List Shape
+program_commands = check_command ∷ print_command ∷ table_command ∷ judge_command ∷ []
+
+abbrev pub ring_commands : List Shape
+ring_commands = run_command ∷ trace_command ∷ plan_command ∷ []
+
+-- the program with these commands
+abbrev pub line_of : List Shape → App
+line_of commands = record { top = record program.top { is_leaf = false }; subs = commands }
+
 -- the words after the program's name: the name of one of the nine commands, and its options
 abbrev pub command_line : App
-command_line = record {
-  top = record program.top { is_leaf = false };
-  subs = check_command ∷ print_command ∷ table_command ∷ judge_command ∷ run_command ∷ trace_command ∷ plan_command ∷ audit_command
-      ∷ migrate_command ∷ [];
-}
+command_line = line_of (program_commands ++ (ring_commands ++ audit_command ∷ migrate_command ∷ []))

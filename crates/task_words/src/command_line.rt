@@ -1,10 +1,10 @@
 //! The command line of the program: its commands and their options, with the help texts.
 
-ghost use Rattle.std.specs.Prelude.{◌≡◌, IfOk, false, [], ◌∷◌, codes};
+ghost use Rattle.std.specs.Prelude.{◌≡◌, IfOk, false, [], ◌∷◌, ◌++◌};
 ghost use Rattle.clap.specs.Words.{app_of, rule_of};
 ghost use Rattle.task_words.specs.CommandLine.{IsCommandOf, command_of, program, option_rule, count_rule, ids_rule, ring_rule, workers_rule, segments_rule, near_rule, far_rule};
 ghost use Rattle.task_words.specs.CommandLine.{check_command, print_command, table_command, judge_command, run_command};
-ghost use Rattle.task_words.specs.CommandLine.{trace_command, plan_command, audit_command, migrate_command, command_line};
+ghost use Rattle.task_words.specs.CommandLine.{trace_command, plan_command, audit_command, migrate_command, program_commands, ring_commands, line_of, command_line};
 
 use crate::help;
 use crate::limits::{MAX_COUNT, MAX_DISTANCE};
@@ -13,20 +13,34 @@ use clap::{Arg, ArgAction, Command, value_parser};
 use std::alloc::{AllocError, Global};
 
 // Returns the command line of the words after the program's name: one of the nine commands, and its
-// options.
+// options. It is made in three steps, since the check takes long for a longer chain of calls.
 pub(crate) fn command_line<'a>(alloc: Global) -> Result<Command<'a>, AllocError>
     ensures { IfOk result (λ line. app_of line ≡ command_line) }
+{
+    ring_commands(alloc)?
+        .subcommand(audit(alloc))?
+        .subcommand(migrate(alloc))
+}
+
+// Returns the program with the commands that read a program, on a ring or without one.
+fn ring_commands<'a>(alloc: Global) -> Result<Command<'a>, AllocError>
+    ensures { IfOk result (λ line. app_of line ≡ line_of (program_commands ++ ring_commands)) }
+{
+    program_commands(alloc)?
+        .subcommand(run(alloc)?)?
+        .subcommand(trace(alloc)?)?
+        .subcommand(plan(alloc)?)
+}
+
+// Returns the program with the commands that read a program and take no ring.
+fn program_commands<'a>(alloc: Global) -> Result<Command<'a>, AllocError>
+    ensures { IfOk result (λ line. app_of line ≡ line_of program_commands) }
 {
     program(alloc)?
         .subcommand(check(alloc)?)?
         .subcommand(print(alloc))?
         .subcommand(table(alloc)?)?
-        .subcommand(judge(alloc)?)?
-        .subcommand(run(alloc)?)?
-        .subcommand(trace(alloc)?)?
-        .subcommand(plan(alloc)?)?
-        .subcommand(audit(alloc))?
-        .subcommand(migrate(alloc))
+        .subcommand(judge(alloc)?)
 }
 
 // Returns the program without its commands.
@@ -45,108 +59,110 @@ fn program<'a>(alloc: Global) -> Result<Command<'a>, AllocError>
 fn check<'a>(alloc: Global) -> Result<Command<'a>, AllocError>
     ensures { IfOk result (IsCommandOf check_command) }
 {
-    Command::new(alloc, "check")
-        .about(help::CHECK)
-        .after_help(help::CHECK_DETAILS)
-        .arg(ids(alloc))
+    with_ids(alloc, "check", help::CHECK, help::CHECK_DETAILS)
 }
 
 // Returns `print`.
 fn print<'a>(alloc: Global) -> Command<'a>
     ensures { IsCommandOf print_command result }
 {
-    Command::new(alloc, "print")
-        .about(help::PRINT)
-        .after_help(help::PRINT_DETAILS)
+    command(alloc, "print", help::PRINT, help::PRINT_DETAILS)
 }
 
 // Returns `table --ids M [--workers W] [--near P] [--far Q]`.
 fn table<'a>(alloc: Global) -> Result<Command<'a>, AllocError>
     ensures { IfOk result (IsCommandOf table_command) }
 {
-    table_by_workers(alloc)?.arg(near(alloc))?.arg(far(alloc))
-}
-
-// Returns `table` with its first two options.
-fn table_by_workers<'a>(alloc: Global) -> Result<Command<'a>, AllocError>
-    ensures { IfOk result (IsCommandOf (command_of (codes "table") (ids_rule ∷ workers_rule ∷ []))) }
-{
-    Command::new(alloc, "table")
-        .about(help::TABLE)
-        .after_help(help::TABLE_DETAILS)
-        .arg(ids(alloc))?
-        .arg(workers(alloc))
+    with_distances(alloc, "table", help::TABLE, help::TABLE_DETAILS)
 }
 
 // Returns `judge --ids M [--workers W] [--near P] [--far Q]`.
 fn judge<'a>(alloc: Global) -> Result<Command<'a>, AllocError>
     ensures { IfOk result (IsCommandOf judge_command) }
 {
-    judge_by_workers(alloc)?.arg(near(alloc))?.arg(far(alloc))
-}
-
-// Returns `judge` with its first two options.
-fn judge_by_workers<'a>(alloc: Global) -> Result<Command<'a>, AllocError>
-    ensures { IfOk result (IsCommandOf (command_of (codes "judge") (ids_rule ∷ workers_rule ∷ []))) }
-{
-    Command::new(alloc, "judge")
-        .about(help::JUDGE)
-        .after_help(help::JUDGE_DETAILS)
-        .arg(ids(alloc))?
-        .arg(workers(alloc))
+    with_distances(alloc, "judge", help::JUDGE, help::JUDGE_DETAILS)
 }
 
 // Returns `run --ids M --ring A,B,.. [--segments S]`.
 fn run<'a>(alloc: Global) -> Result<Command<'a>, AllocError>
     ensures { IfOk result (IsCommandOf run_command) }
 {
-    Command::new(alloc, "run")
-        .about(help::RUN)
-        .after_help(help::RUN_DETAILS)
-        .arg(ids(alloc))?
-        .arg(ring(alloc))?
-        .arg(segments(alloc))
+    with_ring(alloc, "run", help::RUN, help::RUN_DETAILS)?.arg(segments(alloc))
 }
 
 // Returns `trace --ids M --ring A,B,..`.
 fn trace<'a>(alloc: Global) -> Result<Command<'a>, AllocError>
     ensures { IfOk result (IsCommandOf trace_command) }
 {
-    Command::new(alloc, "trace")
-        .about(help::TRACE)
-        .after_help(help::TRACE_DETAILS)
-        .arg(ids(alloc))?
-        .arg(ring(alloc))
+    with_ring(alloc, "trace", help::TRACE, help::TRACE_DETAILS)
 }
 
 // Returns `plan --ids M --ring A,B,.. [--workers W]`.
 fn plan<'a>(alloc: Global) -> Result<Command<'a>, AllocError>
     ensures { IfOk result (IsCommandOf plan_command) }
 {
-    Command::new(alloc, "plan")
-        .about(help::PLAN)
-        .after_help(help::PLAN_DETAILS)
-        .arg(ids(alloc))?
-        .arg(ring(alloc))?
-        .arg(workers(alloc))
+    with_ring(alloc, "plan", help::PLAN, help::PLAN_DETAILS)?.arg(workers(alloc))
 }
 
 // Returns `audit`.
 fn audit<'a>(alloc: Global) -> Command<'a>
     ensures { IsCommandOf audit_command result }
 {
-    Command::new(alloc, "audit")
-        .about(help::AUDIT)
-        .after_help(help::AUDIT_DETAILS)
+    command(alloc, "audit", help::AUDIT, help::AUDIT_DETAILS)
 }
 
 // Returns `migrate`.
 fn migrate<'a>(alloc: Global) -> Command<'a>
     ensures { IsCommandOf migrate_command result }
 {
-    Command::new(alloc, "migrate")
-        .about(help::MIGRATE)
-        .after_help(help::MIGRATE_DETAILS)
+    command(alloc, "migrate", help::MIGRATE, help::MIGRATE_DETAILS)
+}
+
+// Returns the command `NAME` without options. `about` is its line in the help of the program, and
+// `details` ends its own help.
+fn command<'a>(alloc: Global, name: &'a str, about: &'a str, details: &'a str) -> Command<'a>
+    ensures { IsCommandOf (command_of name.entry.now []) result }
+{
+    Command::new(alloc, name).about(about).after_help(details)
+}
+
+// Returns `NAME --ids M`.
+fn with_ids<'a>(
+    alloc: Global,
+    name: &'a str,
+    about: &'a str,
+    details: &'a str,
+) -> Result<Command<'a>, AllocError>
+    ensures { IfOk result (IsCommandOf (command_of name.entry.now (ids_rule ∷ []))) }
+{
+    command(alloc, name, about, details).arg(ids(alloc))
+}
+
+// Returns `NAME --ids M --ring A,B,..`.
+fn with_ring<'a>(
+    alloc: Global,
+    name: &'a str,
+    about: &'a str,
+    details: &'a str,
+) -> Result<Command<'a>, AllocError>
+    ensures { IfOk result (IsCommandOf (command_of name.entry.now (ids_rule ∷ ring_rule ∷ []))) }
+{
+    with_ids(alloc, name, about, details)?.arg(ring(alloc))
+}
+
+// Returns `NAME --ids M [--workers W] [--near P] [--far Q]`.
+fn with_distances<'a>(
+    alloc: Global,
+    name: &'a str,
+    about: &'a str,
+    details: &'a str,
+) -> Result<Command<'a>, AllocError>
+    ensures { IfOk result (IsCommandOf (command_of name.entry.now (ids_rule ∷ workers_rule ∷ near_rule ∷ far_rule ∷ []))) }
+{
+    with_ids(alloc, name, about, details)?
+        .arg(workers(alloc))?
+        .arg(near(alloc))?
+        .arg(far(alloc))
 }
 
 // Returns `--ids M`.
