@@ -4,6 +4,18 @@
 use crate::operands::operands_advice;
 use wanted_tokens::Wanted;
 
+const PRODUCT: &str = "; there is no product: twice x is `shl(x, 1)`";
+
+const REMAINDER: &str = "; there is no remainder: that of 2 is `and(x, 1)`";
+
+const GREATER: &str = "; write `lt(b, a)` for a > b";
+
+const UNEQUAL: &str = "; write `ne(a, b)`, or `eq(x, 0)` where x is to be 0";
+
+const SUM: &str = "; write `add(a, b)`";
+
+const DIFFERENCE: &str = "; write `sub(a, b)`, which stops at 0; numbers are 0 to 4294967295";
+
 // Returns advice on a word that is not of the language, at a place where `wanted` can follow.
 pub(crate) fn word_advice(word: &[u8], wanted: Option<Wanted>) -> &'static str {
     let known = known_advice(word);
@@ -20,48 +32,101 @@ pub(crate) fn word_advice(word: &[u8], wanted: Option<Wanted>) -> &'static str {
 // Returns advice on words and marks of other languages.
 fn known_advice(word: &[u8]) -> &'static str {
     match word {
-        b"mul" | b"times" | b"mult" | b"*" => "; there is no product: twice x is `shl(x, 1)`",
-        b"mod" | b"rem" | b"%" => "; there is no remainder: that of 2 is `and(x, 1)`",
-        b"/" => "; a comment begins with `#`, and half of x is `shr(x, 1)`",
+        [b'A'..=b'Z', ..] => capital_advice(word),
+        [b'a'..=b'z', ..] => operation_advice(word),
+        [mark] => mark_advice(*mark),
+        _ => "",
+    }
+}
+
+// Returns advice on the names that other languages have for operations, and on other words.
+fn operation_advice(word: &[u8]) -> &'static str {
+    match word {
+        b"mul" | b"times" | b"mult" => PRODUCT,
+        b"mod" | b"rem" => REMAINDER,
         b"div" => "; there is no quotient: half of x is `shr(x, 1)`",
-        b"gt" | b">" => "; write `lt(b, a)` for a > b",
+        b"gt" => GREATER,
         b"ge" => "; write `le(b, a)` for a >= b",
-        b"<" => "; write `lt(a, b)` for a < b",
-        b"neq" | b"!" => "; write `ne(a, b)`, or `eq(x, 0)` where x is to be 0",
+        b"neq" => UNEQUAL,
         b"equals" => "; write `eq(a, b)`",
-        b"plus" | b"sum" | b"+" => "; write `add(a, b)`",
-        b"minus" | b"-" => "; write `sub(a, b)`, which stops at 0; numbers are 0 to 4294967295",
-        b"&" => "; write `and(a, b)`",
-        b"|" => "; write `or(a, b)`",
-        b"^" => "; write `xor(a, b)`",
-        b"~" => "; write `not(a)`",
+        b"plus" | b"sum" => SUM,
+        b"minus" => DIFFERENCE,
+        _ => keyword_advice(word),
+    }
+}
+
+// Returns advice on the keywords and names of other languages, and on what `nbhd` prints.
+fn keyword_advice(word: &[u8]) -> &'static str {
+    match word {
         b"then" | b"else" | b"elif" | b"endif" => "; write `if(c, a, b)`",
         b"return" | b"output" | b"result" => "; the last line is `finish` and an expression",
         b"both" => "; write `send left` and `send right`, each with an expression",
-        b"true" | b"True" => "; write 1",
-        b"false" | b"False" => "; write 0",
-        b":" => "; an assignment is written `r0 = ..`",
-        b";" => "; lines end without a mark",
-        b"\"" | b"'" => "; there are no texts in programs",
-        b"_" | b"." | b"$" | b"@" => "; registers are `r0` to `r7`, and have no other names",
-        b"[" | b"]" | b"{" | b"}" => "; operands stand in `(` and `)`",
+        b"true" => "; write 1",
+        b"false" => "; write 0",
         b"l" => "; the message from the left is `L`",
         b"r" => "; the message from the right is `R`",
-        b"ID" | b"Id" => "; write `id`",
         b"self" | b"me" | b"my" | b"uid" => "; the identifier is `id`",
+        _ => output_advice(word),
+    }
+}
+
+// Returns advice on what `nbhd` prints.
+fn output_advice(word: &[u8]) -> &'static str {
+    match word {
+        b"nbhd" => "; the text of a table is for `nbhd audit` and `nbhd migrate`",
+        b"accepted" | b"yes" | b"no" | b"text" | b"check" | b"ring" | b"table" => {
+            "; this is what `nbhd` printed, and no program"
+        }
+        _ => "",
+    }
+}
+
+// Returns advice on words with a capital.
+fn capital_advice(word: &[u8]) -> &'static str {
+    match word {
+        b"True" => "; write 1",
+        b"False" => "; write 0",
+        b"ID" | b"Id" => "; write `id`",
         b"Rounds" | b"ROUNDS" => "; write `rounds`",
         b"Channels" | b"CHANNELS" => "; write `channels`",
         b"Registers" | b"REGISTERS" => "; write `registers`",
         b"Start" | b"START" => "; write `start`",
+        _ => later_capital_advice(word),
+    }
+}
+
+// Returns advice on the keywords of rounds and of the end with a capital.
+fn later_capital_advice(word: &[u8]) -> &'static str {
+    match word {
         b"Round" | b"ROUND" => "; write `round`",
         b"Send" | b"SEND" => "; write `send`",
         b"Left" | b"LEFT" => "; write `left`",
         b"Right" | b"RIGHT" => "; write `right`",
         b"Finish" | b"FINISH" => "; write `finish`",
-        b"nbhd" => "; the text of a table is for `nbhd audit` and `nbhd migrate`",
-        b"accepted" | b"yes" | b"no" | b"text" | b"check" | b"ring" | b"table" => {
-            "; this is what `nbhd` printed, and no program"
-        }
+        _ => "",
+    }
+}
+
+// Returns advice on the marks of other languages.
+fn mark_advice(mark: u8) -> &'static str {
+    match mark {
+        b'*' => PRODUCT,
+        b'%' => REMAINDER,
+        b'/' => "; a comment begins with `#`, and half of x is `shr(x, 1)`",
+        b'>' => GREATER,
+        b'<' => "; write `lt(a, b)` for a < b",
+        b'!' => UNEQUAL,
+        b'+' => SUM,
+        b'-' => DIFFERENCE,
+        b'&' => "; write `and(a, b)`",
+        b'|' => "; write `or(a, b)`",
+        b'^' => "; write `xor(a, b)`",
+        b'~' => "; write `not(a)`",
+        b':' => "; an assignment is written `r0 = ..`",
+        b';' => "; lines end without a mark",
+        b'"' | b'\'' => "; there are no texts in programs",
+        b'_' | b'.' | b'$' | b'@' => "; registers are `r0` to `r7`, and have no other names",
+        b'[' | b']' | b'{' | b'}' => "; operands stand in `(` and `)`",
         _ => "",
     }
 }
