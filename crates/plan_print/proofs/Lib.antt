@@ -2,5 +2,3 @@ mod Joined
 mod TraceLines
 pub mod Aligned
 pub mod Workers
-mod OneReport
-mod ToldRounds

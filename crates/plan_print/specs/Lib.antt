@@ -4,7 +4,6 @@ pub use Rattle.table_text.specs.TableText
 pub use Rattle.table_text.specs.Texts
 pub mod Trace
 pub mod Report
-pub mod Laws
 pub use Rattle.task_words.specs.Decimal
 pub use Rattle.task_words.specs.RingText
 pub use Rattle.task_words.specs.Counts
@@ -34,7 +33,6 @@ pub use Rattle.nbhd_check.specs.Apart
 pub use Rattle.nbhd_check.specs.Proper
 pub use Rattle.nbhd_check.specs.Verdicts
 pub use Rattle.ring_exec.specs.SegmentCounts
-pub use Rattle.headline.specs.Headline
 pub use Rattle.source_places.specs.Places
 pub use Rattle.source_places.specs.Shown
 pub use Rattle.wanted_tokens.specs.Wanted

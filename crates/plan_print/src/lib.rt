@@ -5,7 +5,6 @@ mod answer;
 pub mod cause;
 pub mod engine;
 mod judgement;
-pub mod laws;
 pub mod lines;
 mod places;
 pub mod process;

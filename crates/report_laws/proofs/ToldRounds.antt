@@ -21,8 +21,8 @@ use Rattle.plan_print.specs.declared.status.Status.TheVariants.{Done, No}
 use Rattle.plan_print.specs.Lines.{line, numbers_text}
 use Rattle.plan_print.specs.Trace.{register_lines, round_lines, row_line, trace_lines}
 use Rattle.plan_print.specs.Report.{Report, Says, IsJudgement, good, bad, IsAnswerOnRing, ring_fault, on_ring, IsRunAnswer, out_of_range, ran, text_refused, in_print, IsProgramReport, program_refused, answered}
-use Rattle.plan_print.specs.Laws.{IsAcceptedText, JudgeTellsRounds, RunTellsRounds, TraceTellsRounds, TraceEndsWithRun, PlanTellsRounds, TableTellsRounds, PrintsAreReadBack, SameForWorkers, SameForSegments}
-use Rattle.plan_print.proofs.OneReport.{accepted_or_refused}
+use Rattle.report_laws.specs.Laws.{IsAcceptedText, JudgeTellsRounds, RunTellsRounds, TraceTellsRounds, TraceEndsWithRun, PlanTellsRounds, TableTellsRounds, PrintsAreReadBack, SameForWorkers, SameForSegments}
+use Rattle.report_laws.proofs.OneReport.{accepted_or_refused}
 
 -- the report on an accepted program is that of the task on the program
 answer_on : OneReading → AcceptedProgramsHaveNoRefusal → (m : ℕ) (answer : ProgramTree → Report → Type 0) (input : List ℕ) (p : ProgramTree) (r : Report)

@@ -1,6 +1,6 @@
-use Rattle.plan_print.proofs.OneReport.{one_report}
-use Rattle.plan_print.proofs.ToldRounds.{same_for_workers, same_for_segments}
-use Rattle.plan_print.proofs.laws.one_report.Goals as goal
+use Rattle.report_laws.proofs.OneReport.{one_report}
+use Rattle.report_laws.proofs.ToldRounds.{same_for_workers, same_for_segments}
+use Rattle.report_laws.proofs.laws.one_report.Goals as goal
 
 pub returns-clause-one : goal.returns-clause-one
 returns-clause-one c =

@@ -1,5 +1,5 @@
-use Rattle.plan_print.proofs.ToldRounds.{judge_tells, run_tells, trace_tells, trace_ends, plan_tells, table_tells}
-use Rattle.plan_print.proofs.laws.reports_tell_rounds.Goals as goal
+use Rattle.report_laws.proofs.ToldRounds.{judge_tells, run_tells, trace_tells, trace_ends, plan_tells, table_tells}
+use Rattle.report_laws.proofs.laws.reports_tell_rounds.Goals as goal
 
 pub returns-clause-judge : goal.returns-clause-judge
 returns-clause-judge c =

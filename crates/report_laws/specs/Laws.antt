@@ -1,4 +1,4 @@
--- The laws of this crate: a task has one report on an input, reports agree with global rounds, and a print is read
+-- The laws: a task has one report on an input, reports agree with global rounds, and a print is read
 -- back.
 use Rattle.std.specs.Prelude.{◌≡◌, ◌↔◌, ℕ, ◌<◌, List, [], ◌∷◌, ◌++◌, Vec, Some, length, codes}
 use Rattle.std.specs.declared.alloc.Global.{Global}

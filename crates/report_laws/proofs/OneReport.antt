@@ -20,7 +20,7 @@ use Rattle.task_words.specs.declared.task.Task.TheVariants.{Check, Print, Table,
 use Rattle.plan_print.specs.declared.status.Status.{Status}
 use Rattle.plan_print.specs.Report as report
 use Rattle.plan_print.specs.Report.{Report, Says, IsJudgement, good, bad, IsAnswerOnRing, ring_fault, on_ring, IsRunAnswer, out_of_range, ran, IsTableText, IsTextRefusal, IsPrintReport, text_refused, in_print, IsProgramRefusal, text_fault, check_fault, IsProgramReport, program_refused, answered, IsTableRefusal, IsTableReport, table_refused, of_table, IsReport}
-use Rattle.plan_print.specs.Laws.{OneReport}
+use Rattle.report_laws.specs.Laws.{OneReport}
 
 -- two reports with the same bytes and the same status are equal
 said_once : (bytes other : List ℕ) (status : Status) (r s : Report) → bytes ≡ other → Says bytes status r → Says other status s → r ≡ s

@@ -1,6 +1,6 @@
-//! The laws of this crate.
+//! Reports of tasks: a task has one report on an input, and what reports tell of synchronous rounds.
 
-ghost use Rattle.plan_print.specs.Laws as law;
+ghost use Rattle.report_laws.specs.Laws as law;
 
 use headline::program_tables_are_apart;
 use lang_check::one_refusal;

@@ -1,0 +1,2 @@
+mod OneReport
+mod ToldRounds

@@ -1,0 +1,2 @@
+-- The statements of the laws.
+pub mod Laws

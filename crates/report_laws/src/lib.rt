@@ -1,0 +1,7 @@
+//! The laws of reports. The program does not stand on them: they say what its reports tell of each
+//! other and of synchronous rounds.
+#![tactic(auto)]
+
+mod laws;
+
+pub use laws::{one_report, prints_are_read_back, reports_tell_rounds};
