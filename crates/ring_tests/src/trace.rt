@@ -30,13 +30,22 @@ fn a_ring_of_two_registers_is_told_round_by_round(rt: HostRuntime) -> Result<(),
     let mut places = Configuration::new(rt.alloc(), &plan, &ring)
         .ok()
         .ok_or("memory")?;
-    assert_eq!(rt; of_all(&places, Told::Register(0)), [5, 1, 3, 7]);
-    assert_eq!(rt; of_all(&places, Told::Register(1)), [0, 0, 0, 0]);
-    assert_eq!(rt; of_all(&places, Told::Left), [0, 0, 0, 0]);
-    assert_eq!(rt; of_all(&places, Told::Right), [5, 1, 3, 7]);
+    let before = [
+        of_all(&places, Told::Register(0)),
+        of_all(&places, Told::Register(1)),
+        of_all(&places, Told::Left),
+        of_all(&places, Told::Right),
+    ];
+    assert_eq!(rt;
+        before,
+        [[5, 1, 3, 7], [0, 0, 0, 0], [0, 0, 0, 0], [5, 1, 3, 7]]
+    );
     places.advance();
-    assert_eq!(rt; of_all(&places, Told::Register(0)), [0, 0, 0, 0]);
-    assert_eq!(rt; of_all(&places, Told::Register(1)), [12, 6, 4, 10]);
-    assert_eq!(rt; of_all(&places, Told::Channel), [12, 6, 4, 10]);
+    let after = [
+        of_all(&places, Told::Register(0)),
+        of_all(&places, Told::Register(1)),
+        of_all(&places, Told::Channel),
+    ];
+    assert_eq!(rt; after, [[0, 0, 0, 0], [12, 6, 4, 10], [12, 6, 4, 10]]);
     Ok(())
 }

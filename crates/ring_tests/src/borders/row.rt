@@ -1,13 +1,63 @@
 ghost use Rattle.std.specs.Prelude.{◌≡◌};
 
-use super::{to_the_left, to_the_right};
-use border_exchange::{Border, PutFault, Side};
+use super::{Note, to_the_left, to_the_right};
+use border_exchange::{Border, PutFault, Seat, Side};
 use std::alloc::Global;
 use std::marker::Brand;
 use std::process::Abort;
 use std::sync::Wait;
 use std::sync::ledger::{Blank, Ledger};
 use std::test::Fail;
+
+// Puts a message at a seat with few puts.
+fn put<R: Ledger, L: Ledger, W: Wait>(
+    rt: &W,
+    border: &Border<Note, R, L>,
+    seat: &mut Seat<R, L>,
+    message: Note,
+) -> Result<(), (Note, PutFault)> {
+    if seat.puts() > 7 {
+        return Err((message, PutFault::OutOfMemory));
+    }
+    border.put(rt, seat, message)
+}
+
+// Takes the first message of each side.
+fn first_taken<R: Ledger, L: Ledger, W: Wait>(
+    rt: &W,
+    border: &Border<Note, R, L>,
+) -> [Option<Note>; 2] {
+    [
+        border.take(rt, Side::Rightward, 0),
+        border.take(rt, Side::Leftward, 0),
+    ]
+}
+
+// Closes a border twice. Then a put is refused, and a message that was not put is not waited for.
+fn after_a_close<R: Ledger, L: Ledger, W: Abort + Wait>(
+    rt: &W,
+    border: &Border<Note, R, L>,
+    right: &mut Seat<R, L>,
+    left: &mut Seat<R, L>,
+) {
+    border.close(rt);
+    border.close(rt);
+    let (late, next) = (to_the_right(1, 4), to_the_left(1, 5));
+    let puts = [put(rt, border, right, late), put(rt, border, left, next)];
+    assert_eq!(rt;
+        puts,
+        [
+            Err((late, PutFault::Closed)),
+            Err((next, PutFault::Closed)),
+        ]
+    );
+    let after = (
+        border.take(rt, Side::Rightward, 1),
+        right.puts(),
+        left.puts(),
+    );
+    assert_eq!(rt; after, (None, 1, 1));
+}
 
 // Puts and takes messages on a border of the ledgers R and L.
 fn puts_and_takes<R: Ledger, L: Ledger, W: Abort + Wait>(
@@ -19,44 +69,34 @@ fn puts_and_takes<R: Ledger, L: Ledger, W: Abort + Wait>(
     requires right { (right.name ≡ R.name) × (right.parts ≡ R.parts) × (right.parts ≡ 1) }
     requires left { (left.name ≡ L.name) × (left.parts ≡ L.parts) × (left.parts ≡ 1) }
 {
-    let (border, mut right, mut left) = Border::<_, R, L>::new(alloc, right, left)
+    let (border, mut right, mut left) = Border::<Note, R, L>::new(alloc, right, left)
         .ok()
         .ok_or("a border")?;
-    let (one, two) = (to_the_right(0, 1), to_the_left(0, 2));
-    assert_eq!(rt; border.put(rt, &mut right, one), Ok(()));
-    assert!(rt; right.puts() == 1);
+    let (one, two, other) = (to_the_right(0, 1), to_the_left(0, 2), to_the_left(1, 3));
+    let puts = [
+        put(rt, &border, &mut right, one),
+        put(rt, &border, &mut right, one),
+        put(rt, &border, &mut right, other),
+        put(rt, &border, &mut left, two),
+    ];
     assert_eq!(rt;
-        border.put(rt, &mut right, one),
-        Err((one, PutFault::Misplaced))
+        puts,
+        [
+            Ok(()),
+            Err((one, PutFault::Misplaced)),
+            Err((other, PutFault::Misplaced)),
+            Ok(()),
+        ]
     );
-    let other = to_the_left(1, 3);
-    assert_eq!(rt;
-        border.put(rt, &mut right, other),
-        Err((other, PutFault::Misplaced))
-    );
-    assert_eq!(rt; border.put(rt, &mut left, two), Ok(()));
-    assert_eq!(rt; border.take(rt, Side::Rightward, 0), Some(one));
-    assert_eq!(rt; border.take(rt, Side::Leftward, 0), Some(two));
-    border.close(rt);
-    border.close(rt);
-    let next = to_the_left(1, 5);
-    assert_eq!(rt;
-        border.put(rt, &mut left, next),
-        Err((next, PutFault::Closed))
-    );
-    assert_eq!(rt; border.take(rt, Side::Rightward, 0), Some(one));
-    assert_eq!(rt; border.take(rt, Side::Rightward, 1), None);
-    let late = to_the_right(1, 4);
-    assert!(rt; right.side() == Side::Rightward && right.puts() == 1);
-    assert_eq!(rt;
-        border.put(rt, &mut right, late),
-        Err((late, PutFault::Closed))
-    );
-    assert!(rt; right.side() == Side::Rightward && right.puts() == 1);
-    assert!(rt; left.side() == Side::Leftward && left.puts() == 1);
+    assert_eq!(rt; first_taken(rt, &border), [Some(one), Some(two)]);
+    after_a_close(rt, &border, &mut right, &mut left);
+    assert_eq!(rt; first_taken(rt, &border), [Some(one), Some(two)]);
+    assert!(rt; right.side() == Side::Rightward && left.side() == Side::Leftward);
     let totals = border.settle(right, left);
-    assert_eq!(rt; totals.rightward.as_slice(), [one].as_slice());
-    assert_eq!(rt; totals.leftward.as_slice(), [two].as_slice());
+    assert_eq!(rt;
+        (totals.rightward.as_slice(), totals.leftward.as_slice()),
+        ([one].as_slice(), [two].as_slice())
+    );
     Ok(())
 }
 

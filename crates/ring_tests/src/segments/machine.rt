@@ -69,24 +69,32 @@ fn first_sent(world: &World<'_>, border: u32, side: Side) -> Option<(u32, u32)>
     Some((message.place(), message.value()))
 }
 
+// Returns the first messages in the order of `counts_of`.
+fn first_messages_of(world: &World<'_>) -> [Option<(u32, u32)>; 4]
+    requires { length world.now.segments ≡ 2 }
+{
+    [
+        first_sent(world, 0, Side::Rightward),
+        first_sent(world, 0, Side::Leftward),
+        first_sent(world, 1, Side::Rightward),
+        first_sent(world, 1, Side::Leftward),
+    ]
+}
+
 #[test]
 fn a_segment_advances_once_both_neighbours_have_sent(rt: HostRuntime) -> Result<(), Fail> {
     let alloc = rt.alloc();
     let plan = plan_of(alloc, CV1, 8)?;
     let ring = ring_of(alloc, &plan, &[5, 1, 3, 7])?;
-    let opening = [(0, [5, 1].as_slice()), (0, [3, 7].as_slice())];
-    let before = after(alloc, &plan, &ring, &EVENTS[..6])?;
-    assert_eq!(rt; segments_of(&before), opening);
-    let one = after(alloc, &plan, &ring, &EVENTS[..7])?;
-    assert_eq!(rt;
-        segments_of(&one),
-        [(1, [2, 4].as_slice()), (0, [3, 7].as_slice())]
-    );
-    let both = after(alloc, &plan, &ring, &EVENTS)?;
-    assert_eq!(rt;
-        segments_of(&both),
-        [(1, [2, 4].as_slice()), (1, [3, 5].as_slice())]
-    );
+    let rows = [
+        (6, [(0, [5, 1].as_slice()), (0, [3, 7].as_slice())]),
+        (7, [(1, [2, 4].as_slice()), (0, [3, 7].as_slice())]),
+        (8, [(1, [2, 4].as_slice()), (1, [3, 5].as_slice())]),
+    ];
+    for (done, segments) in rows {
+        let world = after(alloc, &plan, &ring, &EVENTS[..done])?;
+        assert_eq!(rt; segments_of(&world), segments, "{done}");
+    }
     Ok(())
 }
 
@@ -111,10 +119,10 @@ fn what_was_sent_stays_at_the_borders(rt: HostRuntime) -> Result<(), Fail> {
         assert_eq!(rt; counts_of(&world), *sent, "{done}");
     }
     let world = after(alloc, &plan, &ring, &EVENTS)?;
-    assert_eq!(rt; first_sent(&world, 0, Side::Rightward), Some((1, 1)));
-    assert_eq!(rt; first_sent(&world, 0, Side::Leftward), Some((2, 0)));
-    assert_eq!(rt; first_sent(&world, 1, Side::Rightward), Some((3, 7)));
-    assert_eq!(rt; first_sent(&world, 1, Side::Leftward), Some((0, 0)));
+    assert_eq!(rt;
+        first_messages_of(&world),
+        [Some((1, 1)), Some((2, 0)), Some((3, 7)), Some((0, 0))]
+    );
     Ok(())
 }
 
@@ -144,6 +152,17 @@ fn events_that_are_not_enabled_change_nothing(rt: HostRuntime) -> Result<(), Fai
     Ok(())
 }
 
+// Returns the round of a single segment, and the numbers of messages to the right and to the left.
+fn progress_of(world: &World<'_>) -> [usize; 3]
+    requires { length world.now.segments ≡ 1 }
+{
+    [
+        world.round(0) as usize,
+        world.sent(0, Side::Rightward).len(),
+        world.sent(0, Side::Leftward).len(),
+    ]
+}
+
 #[test]
 fn one_segment_is_its_own_neighbour(rt: HostRuntime) -> Result<(), Fail> {
     let alloc = rt.alloc();
@@ -165,17 +184,15 @@ fn one_segment_is_its_own_neighbour(rt: HostRuntime) -> Result<(), Fail> {
         let world = replay(alloc, &plan, &ring, 1, &events)
             .ok()
             .ok_or("a world")?;
-        assert!(rt; world.round(0) as usize == done);
         assert_eq!(rt; world.states(0), *registers, "{done}");
-        assert!(rt; world.sent(0, Side::Rightward).len() == done);
-        assert!(rt; world.sent(0, Side::Leftward).len() == done);
+        assert_eq!(rt; progress_of(&world), [done, done, done]);
         events.extend_from_slice(&round)?;
     }
     // a fourth round changes nothing: the program has three
     let world = replay(alloc, &plan, &ring, 1, &events)
         .ok()
         .ok_or("a world")?;
-    assert_eq!(rt; world.states(0), [1, 0, 3, 1, 0, 3, 2, 3].as_slice());
-    assert!(rt; world.sent(0, Side::Rightward).len() == 3);
+    let found = (world.states(0), progress_of(&world));
+    assert_eq!(rt; found, ([1, 0, 3, 1, 0, 3, 2, 3].as_slice(), [3, 3, 3]));
     Ok(())
 }

@@ -14,7 +14,9 @@ fn a_segment_sends_what_its_ends_send(rt: HostRuntime) -> Result<(), Fail> {
     assert_eq!(rt; segment.states(), [5, 1].as_slice());
     assert!(rt; segment.rounds() == 1);
     let (right, left) = segment.outgoing();
-    assert_eq!(rt; (right.value(), left.value()), (1, 0));
-    assert_eq!(rt; (right.place(), left.place()), (1, 0));
+    assert_eq!(rt;
+        [right.value(), left.value(), right.place(), left.place()],
+        [1, 0, 1, 0]
+    );
     Ok(())
 }
