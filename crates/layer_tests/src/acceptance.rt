@@ -131,10 +131,9 @@ fn cv1_is_refused(rt: HostRuntime) -> Result<(), Fail> {
 fn cv1_is_accepted(rt: HostRuntime) -> Result<(), Fail> {
     for (channels, ids, bound) in [(12, 64, 11), (11, 8, 5), (14, 103, 13), (16, 162, 15)] {
         let plan = cv1_plan(rt.alloc(), channels, ids)?;
-        assert_eq!(rt; plan.channels(), channels);
-        assert_eq!(rt; plan.bound(), bound, "{ids} identifiers");
-        assert_eq!(rt; plan.shape().ids(), ids);
-        assert_eq!(rt; plan.shape().rounds(), 1);
+        let shape = plan.shape();
+        let found = [plan.channels(), plan.bound(), shape.ids(), shape.rounds()];
+        assert_eq!(rt; found, [channels, bound, ids, 1]);
         assert_eq!(rt; plan.program().registers(), 1);
     }
     Ok(())

@@ -19,6 +19,27 @@ fn maker(world: &FillWorld<'_>, level: u32, number: u32) -> Option<u32> {
     Some(world.cell(level, number)?.maker())
 }
 
+// The makers of the three blocks.
+fn makers(world: &FillWorld<'_>) -> [Option<u32>; 3] {
+    [maker(world, 0, 0), maker(world, 1, 0), maker(world, 1, 1)]
+}
+
+// What the two workers have in hand, and whether they have stopped.
+fn workers(world: &FillWorld<'_>) -> [(Option<u32>, bool); 2] {
+    [
+        (world.hand(0), world.stopped(0)),
+        (world.hand(1), world.stopped(1)),
+    ]
+}
+
+// Whether each of the two workers knows the block of level 0, and block 1 of level 1.
+fn known(world: &FillWorld<'_>) -> [[bool; 2]; 2] {
+    [
+        [world.knows(0, 0, 0), world.knows(1, 0, 0)],
+        [world.knows(0, 1, 1), world.knows(1, 1, 1)],
+    ]
+}
+
 #[test]
 fn two_workers_fill_three_cells(rt: HostRuntime) -> Result<(), Fail> {
     let plan = plan_of(rt.alloc(), CV1, 8)?;
@@ -35,21 +56,12 @@ fn two_workers_fill_three_cells(rt: HostRuntime) -> Result<(), Fail> {
         FillEvent::Draw(1),
     ];
     let world = after(rt.alloc(), &plan, &events)?;
-    for (level, number, who) in [(0, 0, 0), (1, 0, 1), (1, 1, 0)] {
-        assert_eq!(rt;
-            maker(&world, level, number),
-            Some(who),
-            "block {number} of level {level}"
-        );
-    }
-    assert_eq!(rt; world.next(), 3);
-    for worker in [0, 1] {
-        assert!(rt; world.stopped(worker));
-        assert_eq!(rt; world.hand(worker), None);
-        assert!(rt; world.knows(worker, 0, 0));
-    }
-    assert!(rt; world.knows(0, 1, 1));
-    assert!(rt; !world.knows(1, 1, 1));
+    assert_eq!(rt;
+        (world.next(), makers(&world)),
+        (3, [Some(0), Some(1), Some(0)])
+    );
+    assert_eq!(rt; workers(&world), [(None, true), (None, true)]);
+    assert_eq!(rt; known(&world), [[true, true], [true, false]]);
     Ok(())
 }
 
@@ -63,12 +75,9 @@ fn an_install_into_a_full_cell_changes_nothing(rt: HostRuntime) -> Result<(), Fa
         FillEvent::Install(1, 0, 0),
     ];
     let world = after(rt.alloc(), &plan, &events)?;
-    assert_eq!(rt; maker(&world, 0, 0), Some(0));
-    assert_eq!(rt; world.next(), 2);
-    assert_eq!(rt; world.hand(0), None);
-    assert_eq!(rt; world.hand(1), Some(1));
-    assert!(rt; world.knows(0, 0, 0));
-    assert!(rt; !world.knows(1, 0, 0));
+    assert_eq!(rt; (world.next(), makers(&world)), (2, [Some(0), None, None]));
+    assert_eq!(rt; workers(&world), [(None, false), (Some(1), false)]);
+    assert_eq!(rt; known(&world), [[true, false], [false, false]]);
     Ok(())
 }
 
@@ -87,15 +96,15 @@ fn events_out_of_range_change_nothing(rt: HostRuntime) -> Result<(), Fail> {
     ];
     for event in events {
         let world = after(rt.alloc(), &plan, &[before[0], before[1], event])?;
-        assert_eq!(rt; world.next(), 1, "{event:?}");
-        assert_eq!(rt; maker(&world, 0, 0), Some(0), "{event:?}");
-        assert!(rt; world.cell(1, 0).is_none(), "{event:?}");
-        assert!(rt; world.cell(1, 1).is_none(), "{event:?}");
-        assert!(rt; !world.knows(1, 0, 0), "{event:?}");
-        for worker in [0, 1] {
-            assert_eq!(rt; world.hand(worker), None, "{event:?}");
-            assert!(rt; !world.stopped(worker), "{event:?}");
-        }
+        let found = (
+            (world.next(), makers(&world)),
+            (workers(&world), known(&world)),
+        );
+        let want = (
+            (1, [Some(0), None, None]),
+            ([(None, false); 2], [[true, false], [false, false]]),
+        );
+        assert_eq!(rt; found, want, "{event:?}");
     }
     Ok(())
 }
@@ -104,11 +113,9 @@ fn events_out_of_range_change_nothing(rt: HostRuntime) -> Result<(), Fail> {
 fn readers_take_what_is_out_of_range(rt: HostRuntime) -> Result<(), Fail> {
     let plan = plan_of(rt.alloc(), CV1, 8)?;
     let world = after(rt.alloc(), &plan, &[])?;
-    assert!(rt; world.cell(2, 0).is_none());
-    assert!(rt; world.cell(0, 1).is_none());
-    assert_eq!(rt; world.hand(2), None);
-    assert!(rt; world.stopped(2));
-    assert!(rt; !world.knows(2, 0, 0));
-    assert!(rt; !world.knows(0, 2, 0));
+    let cells = [maker(&world, 2, 0), maker(&world, 0, 1), world.hand(2)];
+    assert_eq!(rt; cells, [None, None, None]);
+    let tests = [world.stopped(2), world.knows(2, 0, 0), world.knows(0, 2, 0)];
+    assert_eq!(rt; tests, [true, false, false]);
     Ok(())
 }
