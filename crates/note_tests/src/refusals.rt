@@ -19,71 +19,73 @@ fn refusal_of(alloc: Global, old: &str, new: &str, ids: u32) -> Result<String, F
     Ok(check_note(alloc, text.as_bytes(), &program, ids, fault)?)
 }
 
+/// Parts of the program, their replacements, numbers of identifiers, and the starts of the notes.
+const PROGRAMS: [(&str, &str, u32, &str); 10] = [
+    (
+        "finish r0",
+        "finish r1",
+        8,
+        "nbhd: line 10, column 8: there is no register r1; `registers` says how many there are",
+    ),
+    (
+        "right r0",
+        "right id",
+        8,
+        "nbhd: line 8, column 12: `id` can be read in `start` alone; keep it in a register",
+    ),
+    (
+        "right r0",
+        "right L",
+        8,
+        "nbhd: line 8, column 12: `L` and `R` can be read in the assignments of a round alone",
+    ),
+    (
+        "finish r0",
+        "finish L",
+        8,
+        "nbhd: line 10, column 8: `L` and `R` can be read in the assignments of a round alone",
+    ),
+    (
+        "r0 = id",
+        "r0 = L",
+        8,
+        "nbhd: line 5, column 6: `L` and `R` can be read in the assignments of a round alone",
+    ),
+    (
+        "channels 6",
+        "channels 5",
+        8,
+        "nbhd: channels may be as large as 5: write `channels 6` or more\n",
+    ),
+    (
+        "finish r0",
+        "finish 5000",
+        8,
+        "nbhd: channels may be as large as 5000, and `channels` is at most 4096\n",
+    ),
+    (
+        "finish r0",
+        "finish r0",
+        3,
+        "nbhd: 1 round takes 4 to 162 identifiers, not 3\n",
+    ),
+    (
+        "finish r0",
+        "finish r0",
+        163,
+        "nbhd: 1 round takes 4 to 162 identifiers, not 163\n",
+    ),
+    (
+        "finish r0",
+        "finish r0",
+        2000,
+        "nbhd: 1 round takes 4 to 162 identifiers, not 2000\n",
+    ),
+];
+
 #[test]
 fn programs(rt: HostRuntime) -> Result<(), Fail> {
-    let rows = [
-        (
-            "finish r0",
-            "finish r1",
-            8,
-            "nbhd: line 10, column 8: there is no register r1; `registers` says how many there are",
-        ),
-        (
-            "right r0",
-            "right id",
-            8,
-            "nbhd: line 8, column 12: `id` can be read in `start` alone; keep it in a register",
-        ),
-        (
-            "right r0",
-            "right L",
-            8,
-            "nbhd: line 8, column 12: `L` and `R` can be read in the assignments of a round alone",
-        ),
-        (
-            "finish r0",
-            "finish L",
-            8,
-            "nbhd: line 10, column 8: `L` and `R` can be read in the assignments of a round alone",
-        ),
-        (
-            "r0 = id",
-            "r0 = L",
-            8,
-            "nbhd: line 5, column 6: `L` and `R` can be read in the assignments of a round alone",
-        ),
-        (
-            "channels 6",
-            "channels 5",
-            8,
-            "nbhd: channels may be as large as 5: write `channels 6` or more\n",
-        ),
-        (
-            "finish r0",
-            "finish 5000",
-            8,
-            "nbhd: channels may be as large as 5000, and `channels` is at most 4096\n",
-        ),
-        (
-            "finish r0",
-            "finish r0",
-            3,
-            "nbhd: 1 round takes 4 to 162 identifiers, not 3\n",
-        ),
-        (
-            "finish r0",
-            "finish r0",
-            163,
-            "nbhd: 1 round takes 4 to 162 identifiers, not 163\n",
-        ),
-        (
-            "finish r0",
-            "finish r0",
-            2000,
-            "nbhd: 1 round takes 4 to 162 identifiers, not 2000\n",
-        ),
-    ];
-    for (old, new, ids, want) in rows {
+    for (old, new, ids, want) in PROGRAMS {
         let note = refusal_of(rt.alloc(), old, new, ids)?;
         assert!(rt; note.as_str().starts_with(want), "{want} in {note}");
     }

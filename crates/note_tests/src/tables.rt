@@ -19,83 +19,85 @@ fn note_on(alloc: Global, text: &[u8]) -> Result<String, Fail> {
     }
 }
 
+/// Texts that are no tables, the lines at fault, and the advice.
+const TABLE_TEXTS: [(&[u8], &str, &str); 15] = [
+    (
+        b"rounds 1\n",
+        "1",
+        "; this looks like a program: `nbhd judge` takes one",
+    ),
+    (
+        b"check fault C4 bound 7\n",
+        "1",
+        "; this is what `nbhd` printed in place of a table",
+    ),
+    (
+        b"yes: 1680 tuples\n",
+        "1",
+        "; this is what `nbhd` printed in place of a table",
+    ),
+    (b"", "1", "; the text is empty, so no file was given"),
+    (
+        b"\xef\xbb\xbfnbhd-table 1\n",
+        "1",
+        "; the text begins with a byte order mark",
+    ),
+    (
+        b"nbhd-table 1\r\n",
+        "1",
+        "; lines end with a carriage return",
+    ),
+    (
+        b"nbhd-table\t1\n",
+        "1",
+        "; its first line is `nbhd-table` and the version",
+    ),
+    (
+        b"nbhd-table 1\nrounds 2 ids 4 channels 6\n",
+        "2",
+        "; the numbers of this line do not fit one another",
+    ),
+    (
+        b"nbhd-table 1\nrounds 0 ids 2 channels 2\n# mine\n",
+        "3",
+        "; there are no comments in tables",
+    ),
+    (
+        b"nbhd-table 1\nrounds 0 ids 2 channels 2\n0 : 0 \n",
+        "3",
+        "; a blank stands at its end",
+    ),
+    (
+        b"nbhd-table 1\nrounds 0 ids 2 channels 2\n0,:,0\n",
+        "3",
+        "; numbers are parted by single blanks",
+    ),
+    (
+        b"nbhd-table 1\nrounds 0 ids 2 channels 2\n0 : -1\n",
+        "3",
+        "; a number has digits alone",
+    ),
+    (
+        b"nbhd-table 1\nrounds 0 ids 2 channels 2\n0 : 0\n1 : 1\n",
+        "5",
+        "; the text stops before its end",
+    ),
+    (
+        b"nbhd-table 1\nrounds 0 ids 2 channels 2\n0 : 0\n1 : 1\nend",
+        "5",
+        "; the last line has no line end",
+    ),
+    (
+        b"nbhd-table 1\nrounds 0 ids 2 channels 2\n0 : 0\n1 : 1\nend\n\n",
+        "6",
+        "; the line is blank",
+    ),
+];
+
 #[test]
 fn table_texts(rt: HostRuntime) -> Result<(), Fail> {
     let form = "this line has not the form that `nbhd table` writes";
-    let rows: [(&[u8], &str, &str); 15] = [
-        (
-            b"rounds 1\n",
-            "1",
-            "; this looks like a program: `nbhd judge` takes one",
-        ),
-        (
-            b"check fault C4 bound 7\n",
-            "1",
-            "; this is what `nbhd` printed in place of a table",
-        ),
-        (
-            b"yes: 1680 tuples\n",
-            "1",
-            "; this is what `nbhd` printed in place of a table",
-        ),
-        (b"", "1", "; the text is empty, so no file was given"),
-        (
-            b"\xef\xbb\xbfnbhd-table 1\n",
-            "1",
-            "; the text begins with a byte order mark",
-        ),
-        (
-            b"nbhd-table 1\r\n",
-            "1",
-            "; lines end with a carriage return",
-        ),
-        (
-            b"nbhd-table\t1\n",
-            "1",
-            "; its first line is `nbhd-table` and the version",
-        ),
-        (
-            b"nbhd-table 1\nrounds 2 ids 4 channels 6\n",
-            "2",
-            "; the numbers of this line do not fit one another",
-        ),
-        (
-            b"nbhd-table 1\nrounds 0 ids 2 channels 2\n# mine\n",
-            "3",
-            "; there are no comments in tables",
-        ),
-        (
-            b"nbhd-table 1\nrounds 0 ids 2 channels 2\n0 : 0 \n",
-            "3",
-            "; a blank stands at its end",
-        ),
-        (
-            b"nbhd-table 1\nrounds 0 ids 2 channels 2\n0,:,0\n",
-            "3",
-            "; numbers are parted by single blanks",
-        ),
-        (
-            b"nbhd-table 1\nrounds 0 ids 2 channels 2\n0 : -1\n",
-            "3",
-            "; a number has digits alone",
-        ),
-        (
-            b"nbhd-table 1\nrounds 0 ids 2 channels 2\n0 : 0\n1 : 1\n",
-            "5",
-            "; the text stops before its end",
-        ),
-        (
-            b"nbhd-table 1\nrounds 0 ids 2 channels 2\n0 : 0\n1 : 1\nend",
-            "5",
-            "; the last line has no line end",
-        ),
-        (
-            b"nbhd-table 1\nrounds 0 ids 2 channels 2\n0 : 0\n1 : 1\nend\n\n",
-            "6",
-            "; the line is blank",
-        ),
-    ];
-    for (text, line, advice) in rows {
+    for (text, line, advice) in TABLE_TEXTS {
         let note = note_on(rt.alloc(), text)?;
         let want = format!(in rt.alloc(); "nbhd: line {line}, column 1: {form}{advice}")?;
         assert!(rt;
