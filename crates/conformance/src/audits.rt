@@ -133,8 +133,8 @@ fn assert_same_refusal<R: Abort + Threads + Wait + Sync>(
 
 #[test]
 fn texts_that_are_cut(rt: HostRuntime) -> Result<(), Fail> {
-    assert_eq!(rt; OLD_TABLE_OF_IDENTIFIERS.len(), 55);
-    assert_eq!(rt; TABLE_OF_IDENTIFIERS.len(), 68);
+    assert!(rt; OLD_TABLE_OF_IDENTIFIERS.len() == 55);
+    assert!(rt; TABLE_OF_IDENTIFIERS.len() == 68);
     let old = [
         (0, "table fault A1 at 0\n"),
         (12, "table fault A1 at 0\n"),

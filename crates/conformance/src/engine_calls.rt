@@ -35,8 +35,8 @@ pub(crate) fn reports<R: Abort + Threads + Wait + Sync>(
     status: Status,
 ) -> Result<(), Fail> {
     let (report, ended) = report_of(rt, alloc, task, input)?;
-    assert_eq!(rt; ended, status, "the status of {line}");
-    assert_eq!(rt; report.as_slice(), line.as_bytes(), "the report {line}");
+    assert!(rt; ended == status, "the status of {line}");
+    assert!(rt; report.as_slice() == line.as_bytes(), "the report {line}");
     Ok(())
 }
 
@@ -67,7 +67,7 @@ pub(crate) fn done<R: Abort + Threads + Wait + Sync>(
     input: &[u8],
 ) -> Result<Vec<u8>, Fail> {
     let (report, ended) = report_by(rt, alloc, words, input)?;
-    assert_eq!(rt; ended, Status::Done, "the status of {words}");
+    assert!(rt; ended == Status::Done, "the status of {words}");
     Ok(report)
 }
 
@@ -80,8 +80,11 @@ pub(crate) fn all_report<R: Abort + Threads + Wait + Sync>(
 ) -> Result<(), Fail> {
     for (words, input, want, status) in rows {
         let (report, ended) = report_by(rt, alloc, words, input)?;
-        assert_eq!(rt; ended, *status, "the status of {words}");
-        assert_eq!(rt; report.as_slice(), want.as_bytes(), "the report of {words}");
+        assert!(rt; ended == *status, "the status of {words}");
+        assert!(rt;
+            report.as_slice() == want.as_bytes(),
+            "the report of {words}"
+        );
     }
     Ok(())
 }

@@ -337,7 +337,7 @@ fn four_rounds_in_one_to_ten_segments(rt: HostRuntime) -> Result<(), Fail> {
             "run --ids 10 --ring 0,1,2,3,4,5,6,7,8,9 --segments {segments}"
         )?;
         let report = done(&rt, rt.alloc(), &words, SHIFT4)?;
-        assert_eq!(rt; report.as_slice(), b"6 7 8 9 0 1 2 3 4 5\n".as_slice());
+        assert!(rt; report.as_slice() == b"6 7 8 9 0 1 2 3 4 5\n".as_slice());
     }
     Ok(())
 }

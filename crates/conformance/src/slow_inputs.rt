@@ -69,10 +69,10 @@ fn an_input_of_single_bytes_has_the_same_report(rt: HostRuntime) -> Result<(), F
     let reader = SlowReader::new(CV1, 1);
     let writer = SlowWriter::new(rt.alloc(), usize::MAX);
     let outcome = outcome_of_run(&rt, rt.alloc(), reader, writer)?;
-    assert_eq!(rt; outcome.answer, Ok(Status::Done));
-    assert_eq!(rt; outcome.taken.as_slice(), REPORT);
+    assert!(rt; outcome.answer == Ok(Status::Done));
+    assert!(rt; outcome.taken.as_slice() == REPORT);
     // One call for each byte, and one that finds the end.
-    assert_eq!(rt; outcome.reads, CV1.len().saturating_add(1));
+    assert!(rt; outcome.reads == CV1.len().saturating_add(1));
     Ok(())
 }
 
@@ -88,9 +88,9 @@ fn fails_at<R: Abort + Threads + Wait + Sync>(
     let reader = SlowReader::failing_at(call, kind, CV1, most);
     let writer = SlowWriter::new(alloc, usize::MAX);
     let outcome = outcome_of_run(rt, alloc, reader, writer)?;
-    assert_eq!(rt; outcome.answer, Err(EngineFault::Read), "call {call}");
-    assert_eq!(rt; outcome.reads, call);
-    assert_eq!(rt; outcome.writes, 0, "call {call}");
+    assert!(rt; outcome.answer == Err(EngineFault::Read), "call {call}");
+    assert!(rt; outcome.reads == call);
+    assert!(rt; outcome.writes == 0, "call {call}");
     Ok(())
 }
 
@@ -106,7 +106,7 @@ fn a_read_that_fails_at_each_call(rt: HostRuntime) -> Result<(), Fail> {
             fails_at(&rt, rt.alloc(), call, ErrorKind::Other, most)?;
         }
     }
-    assert_eq!(rt; EngineFault::Read.code(), 5);
+    assert!(rt; EngineFault::Read.code() == 5);
     Ok(())
 }
 
@@ -117,23 +117,17 @@ fn a_long_input_is_read_in_one_call_more_than_its_limit(rt: HostRuntime) -> Resu
     let writer = SlowWriter::new(rt.alloc(), usize::MAX);
     let task = Task::Check { ids: 8 };
     let outcome = outcome_of(&rt, rt.alloc(), task, reader, writer);
-    assert_eq!(rt; outcome.answer, Ok(Status::Refused));
-    assert_eq!(rt; outcome.reads, 65_537);
-    assert_eq!(rt;
-        outcome.taken.as_slice(),
-        b"text fault N1 at 65536\n".as_slice()
-    );
+    assert!(rt; outcome.answer == Ok(Status::Refused));
+    assert!(rt; outcome.reads == 65_537);
+    assert!(rt; outcome.taken.as_slice() == b"text fault N1 at 65536\n".as_slice());
     Ok(())
 }
 
 #[test]
 fn single_bytes_are_read_in_no_more_calls_than_bytes(rt: HostRuntime) -> Result<(), Fail> {
     let mut reader = Watched::new(SlowReader::new(b"start", 1));
-    assert_eq!(rt;
-        read_input(rt.alloc(), &mut reader, 3)?.as_slice(),
-        b"star".as_slice()
-    );
-    assert_eq!(rt; reader.into_device().calls(), 4);
+    assert!(rt; read_input(rt.alloc(), &mut reader, 3)?.as_slice() == b"star".as_slice());
+    assert!(rt; reader.into_device().calls() == 4);
     Ok(())
 }
 
@@ -141,9 +135,9 @@ fn single_bytes_are_read_in_no_more_calls_than_bytes(rt: HostRuntime) -> Result<
 fn a_read_into_no_room_is_no_failure(rt: HostRuntime) {
     let device = SlowReader::failing_at(2, ErrorKind::Interrupted, b"start", 1);
     let mut reader = Watched::new(device);
-    assert_eq!(rt; reader.read(&mut []), Ok(0));
+    assert!(rt; reader.read(&mut []) == Ok(0));
     assert!(rt; !reader.failed());
-    assert_eq!(rt; reader.read(&mut []), Err(EngineFault::Read));
+    assert!(rt; reader.read(&mut []) == Err(EngineFault::Read));
     assert!(rt; reader.failed());
 }
 
@@ -151,10 +145,7 @@ fn a_read_into_no_room_is_no_failure(rt: HostRuntime) {
 fn a_failed_read_is_the_fault_at_once(rt: HostRuntime) {
     let device = SlowReader::failing_at(3, ErrorKind::Interrupted, b"start", 1);
     let mut reader = Watched::new(device);
-    assert_eq!(rt;
-        read_input(rt.alloc(), &mut reader, 3).err(),
-        Some(EngineFault::Read)
-    );
+    assert!(rt; read_input(rt.alloc(), &mut reader, 3).err() == Some(EngineFault::Read));
     assert!(rt; reader.failed());
-    assert_eq!(rt; reader.into_device().calls(), 3);
+    assert!(rt; reader.into_device().calls() == 3);
 }

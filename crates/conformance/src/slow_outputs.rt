@@ -28,12 +28,12 @@ fn a_write_that_fails_at_each_call(rt: HostRuntime) -> Result<(), Fail> {
             let reader = SlowReader::new(CV1, usize::MAX);
             let writer = SlowWriter::failing_at(call, kind, rt.alloc(), 1);
             let outcome = outcome_of_run(&rt, rt.alloc(), reader, writer)?;
-            assert_eq!(rt; outcome.answer, Err(EngineFault::Write), "call {call}");
-            assert_eq!(rt; outcome.writes, call);
-            assert_eq!(rt; outcome.taken.as_slice(), front.as_bytes());
+            assert!(rt; outcome.answer == Err(EngineFault::Write), "call {call}");
+            assert!(rt; outcome.writes == call);
+            assert!(rt; outcome.taken.as_slice() == front.as_bytes());
         }
     }
-    assert_eq!(rt; EngineFault::Write.code(), 5);
+    assert!(rt; EngineFault::Write.code() == 5);
     Ok(())
 }
 
@@ -42,9 +42,9 @@ fn an_output_of_single_bytes_has_the_same_report(rt: HostRuntime) -> Result<(), 
     let reader = SlowReader::new(CV1, usize::MAX);
     let writer = SlowWriter::new(rt.alloc(), 1);
     let outcome = outcome_of_run(&rt, rt.alloc(), reader, writer)?;
-    assert_eq!(rt; outcome.answer, Ok(Status::Done));
-    assert_eq!(rt; outcome.taken.as_slice(), REPORT);
-    assert_eq!(rt; outcome.writes, 8);
+    assert!(rt; outcome.answer == Ok(Status::Done));
+    assert!(rt; outcome.taken.as_slice() == REPORT);
+    assert!(rt; outcome.writes == 8);
     Ok(())
 }
 
@@ -53,8 +53,8 @@ fn a_report_of_which_no_byte_is_taken(rt: HostRuntime) -> Result<(), Fail> {
     let reader = SlowReader::new(CV1, usize::MAX);
     let writer = SlowWriter::new(rt.alloc(), 0);
     let outcome = outcome_of_run(&rt, rt.alloc(), reader, writer)?;
-    assert_eq!(rt; outcome.answer, Err(EngineFault::Write));
-    assert_eq!(rt; outcome.writes, 1);
+    assert!(rt; outcome.answer == Err(EngineFault::Write));
+    assert!(rt; outcome.writes == 1);
     assert!(rt; outcome.taken.is_empty());
     Ok(())
 }
@@ -71,9 +71,9 @@ fn a_table_report_whose_write_fails_at_each_call(rt: HostRuntime) -> Result<(), 
             far: 0,
         };
         let outcome = outcome_of(&rt, rt.alloc(), task, reader, writer);
-        assert_eq!(rt; outcome.answer, Err(EngineFault::Write), "call {call}");
+        assert!(rt; outcome.answer == Err(EngineFault::Write), "call {call}");
         let front = TABLE_OF_IDENTIFIERS.get(..call.saturating_sub(1));
-        assert_eq!(rt; Some(outcome.taken.as_slice()), front);
+        assert!(rt; Some(outcome.taken.as_slice()) == front);
     }
     Ok(())
 }
@@ -89,7 +89,7 @@ fn written<R: Abort>(
     let mut writer = Watched::new(writer);
     let separation = Separation { near: 1, far: 0 };
     let answer = write_table(alloc, table, separation, &mut writer);
-    assert_eq!(rt; writer.failed(), answer == Err(OutFault::Write));
+    assert!(rt; writer.failed() == (answer == Err(OutFault::Write)));
     (answer, writer.into_device().into_taken())
 }
 
@@ -101,13 +101,13 @@ fn a_table_whose_write_fails_at_each_call(rt: HostRuntime) -> Result<(), Fail> {
         for call in 1..69usize {
             let writer = SlowWriter::failing_at(call, kind, rt.alloc(), 1);
             let (answer, taken) = written(&rt, rt.alloc(), &table, writer);
-            assert_eq!(rt; answer, Err(OutFault::Write), "call {call}");
-            assert_eq!(rt; Some(taken.as_slice()), text.get(..call.saturating_sub(1)));
+            assert!(rt; answer == Err(OutFault::Write), "call {call}");
+            assert!(rt; Some(taken.as_slice()) == text.get(..call.saturating_sub(1)));
         }
         let writer = SlowWriter::failing_at(69, kind, rt.alloc(), 1);
         let (answer, taken) = written(&rt, rt.alloc(), &table, writer);
-        assert_eq!(rt; answer, Ok(()));
-        assert_eq!(rt; taken.as_slice(), text);
+        assert!(rt; answer == Ok(()));
+        assert!(rt; taken.as_slice() == text);
     }
     Ok(())
 }
@@ -119,7 +119,7 @@ fn a_table_of_which_no_byte_is_taken(rt: HostRuntime) -> Result<(), Fail> {
         .ok_or("a table")?;
     let writer = SlowWriter::new(rt.alloc(), 0);
     let (answer, taken) = written(&rt, rt.alloc(), &table, writer);
-    assert_eq!(rt; answer, Err(OutFault::Write));
+    assert!(rt; answer == Err(OutFault::Write));
     assert!(rt; taken.is_empty());
     Ok(())
 }
@@ -140,7 +140,7 @@ fn chunk_end<R: Abort>(
         assert!(rt; taken.as_slice() == text);
         return None;
     }
-    assert_eq!(rt; answer, Err(OutFault::Write));
+    assert!(rt; answer == Err(OutFault::Write));
     assert!(rt; Some(taken.as_slice()) == text.get(..taken.len()));
     Some(taken.len())
 }
@@ -151,7 +151,7 @@ fn stops_at<R: Abort>(rt: &R, alloc: Global, table: &Table, text: &[u8], bytes: 
     let call = bytes.saturating_add(1);
     let writer = SlowWriter::failing_at(call, ErrorKind::Other, alloc, 1);
     let (answer, taken) = written(rt, alloc, table, writer);
-    assert_eq!(rt; answer, Err(OutFault::Write), "after {bytes} bytes");
+    assert!(rt; answer == Err(OutFault::Write), "after {bytes} bytes");
     assert!(rt;
         Some(taken.as_slice()) == text.get(..bytes),
         "{bytes} bytes"
@@ -180,7 +180,7 @@ fn a_long_table_whose_write_fails_at_each_edge_of_a_chunk(rt: HostRuntime) -> Re
         }
     }
     // The calls for the first, the second and the third chunk.
-    assert_eq!(rt; edges, 3);
+    assert!(rt; edges == 3);
     stops_at(&rt, rt.alloc(), &table, &text, text.len().saturating_sub(1));
     Ok(())
 }
@@ -189,7 +189,7 @@ fn a_long_table_whose_write_fails_at_each_edge_of_a_chunk(rt: HostRuntime) -> Re
 fn single_bytes_are_sent(rt: HostRuntime) -> Result<(), Fail> {
     let mut writer = Watched::new(SlowWriter::new(rt.alloc(), 1));
     send(&mut writer, b"0 1\n")?;
-    assert_eq!(rt; writer.into_device().calls(), 4);
+    assert!(rt; writer.into_device().calls() == 4);
     Ok(())
 }
 
@@ -197,17 +197,17 @@ fn single_bytes_are_sent(rt: HostRuntime) -> Result<(), Fail> {
 fn a_failed_write_is_the_fault_at_once(rt: HostRuntime) {
     let device = SlowWriter::failing_at(4, ErrorKind::Interrupted, rt.alloc(), 1);
     let mut writer = Watched::new(device);
-    assert_eq!(rt; send(&mut writer, b"0 1\n"), Err(EngineFault::Write));
+    assert!(rt; send(&mut writer, b"0 1\n") == Err(EngineFault::Write));
     assert!(rt; writer.failed());
-    assert_eq!(rt; writer.into_device().calls(), 4);
+    assert!(rt; writer.into_device().calls() == 4);
 }
 
 #[test]
 fn a_write_that_takes_nothing_is_the_fault(rt: HostRuntime) {
     let mut writer = Watched::new(SlowWriter::new(rt.alloc(), 0));
-    assert_eq!(rt; send(&mut writer, b""), Ok(()));
-    assert_eq!(rt; writer.write(b""), Ok(0));
+    assert!(rt; send(&mut writer, b"") == Ok(()));
+    assert!(rt; writer.write(b"") == Ok(0));
     assert!(rt; !writer.failed());
-    assert_eq!(rt; send(&mut writer, b"0"), Err(EngineFault::Write));
+    assert!(rt; send(&mut writer, b"0") == Err(EngineFault::Write));
     assert!(rt; writer.failed());
 }

@@ -88,7 +88,7 @@ fn bounds_of_expressions(rt: HostRuntime) -> Result<(), Fail> {
         assert!(rt; program.rounds() == 1 && program.registers() == 2);
         let mut registers = [0; 2];
         bounds_after(&program, 6, 1, &mut registers);
-        assert_eq!(rt; registers[0], want, "{text}");
+        assert!(rt; registers[0] == want, "{text}");
     }
     Ok(())
 }
@@ -105,7 +105,7 @@ fn last_expressions_are_refused(rt: HostRuntime) -> Result<(), Fail> {
     ];
     for (text, want) in rows {
         let fault = accept(ends_in(rt.alloc(), text)?, 2).err().map(|e| e.1);
-        assert_eq!(rt; fault, Some(want), "{text}");
+        assert!(rt; fault == Some(want), "{text}");
     }
     Ok(())
 }
@@ -122,7 +122,10 @@ fn cv1_is_refused(rt: HostRuntime) -> Result<(), Fail> {
         let fault = accept(cv1(rt.alloc(), channels, sent)?, ids)
             .err()
             .map(|e| e.1);
-        assert_eq!(rt; fault, Some(want), "{channels} channels, {ids} identifiers");
+        assert!(rt;
+            fault == Some(want),
+            "{channels} channels, {ids} identifiers"
+        );
     }
     Ok(())
 }
@@ -133,8 +136,8 @@ fn cv1_is_accepted(rt: HostRuntime) -> Result<(), Fail> {
         let plan = cv1_plan(rt.alloc(), channels, ids)?;
         let shape = plan.shape();
         let found = [plan.channels(), plan.bound(), shape.ids(), shape.rounds()];
-        assert_eq!(rt; found, [channels, bound, ids, 1]);
-        assert_eq!(rt; plan.program().registers(), 1);
+        assert!(rt; found == [channels, bound, ids, 1]);
+        assert!(rt; plan.program().registers() == 1);
     }
     Ok(())
 }
@@ -144,9 +147,8 @@ fn plans_are_the_same(rt: HostRuntime) -> Result<(), Fail> {
     let plan = cv1_plan(rt.alloc(), 12, 64)?;
     for (channels, ids, same) in [(12, 64, true), (12, 63, false), (14, 64, false)] {
         let other = cv1_plan(rt.alloc(), channels, ids)?;
-        assert_eq!(rt;
-            plan.same(&other),
-            same,
+        assert!(rt;
+            plan.same(&other) == same,
             "{channels} channels, {ids} identifiers"
         );
     }

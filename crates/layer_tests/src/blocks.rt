@@ -49,11 +49,11 @@ fn windows_have_their_states(rt: HostRuntime) -> Result<(), Fail> {
         let mut cells = [0; 7];
         let window = &mut cells[..2 * level as usize + 1];
         shape.window(level, number, window);
-        assert_eq!(rt; *window, *identifiers);
+        assert!(rt; *window == *identifiers);
         let mut registers = [0; 8];
         let state = &mut registers[..plan.program().registers() as usize];
         window_state(&plan, window, state);
-        assert_eq!(rt; *state, *want);
+        assert!(rt; *state == *want);
     }
     Ok(())
 }
@@ -64,14 +64,14 @@ fn the_last_window_of_four_rounds(rt: HostRuntime) -> Result<(), Fail> {
     let shape = plan.shape();
     assert!(rt; shape.rounds() == 4);
     let count = shape.count(4);
-    assert_eq!(rt; count, 3_628_800);
+    assert!(rt; count == 3_628_800);
     let mut window = [0; 9];
     shape.window(4, count - 1, &mut window);
-    assert_eq!(rt; window, [9, 8, 7, 6, 5, 4, 3, 2, 1]);
+    assert!(rt; window == [9, 8, 7, 6, 5, 4, 3, 2, 1]);
     assert!(rt; plan.program().registers() == 1);
     let mut state = [0; 1];
     window_state(&plan, &window, &mut state);
-    assert_eq!(rt; state, [9]);
+    assert!(rt; state == [9]);
     Ok(())
 }
 
@@ -89,7 +89,7 @@ fn the_last_block_of_a_level(rt: HostRuntime) -> Result<(), Fail> {
             .ok()
             .ok_or("a block of level 0")?,
     ];
-    assert_eq!(rt; below[0].len(), 8);
+    assert!(rt; below[0].len() == 8);
     let mut source = FirstBlockSource {
         plan: &plan,
         blocks: &below,
@@ -97,10 +97,10 @@ fn the_last_block_of_a_level(rt: HostRuntime) -> Result<(), Fail> {
     let block = make_block(rt.alloc(), &plan, &mut source, 1, 1, 4)
         .ok()
         .ok_or("a block of level 1")?;
-    assert_eq!(rt; (block.level(), block.number(), block.maker()), (1, 1, 4));
+    assert!(rt; (block.level(), block.number(), block.maker()) == (1, 1, 4));
     let len = block.len();
     assert!(rt; len == 80);
-    assert_eq!(rt; block.state(0), [2].as_slice());
+    assert!(rt; block.state(0) == [2].as_slice());
     Ok(())
 }
 
@@ -117,7 +117,7 @@ fn a_block_below_is_missing(rt: HostRuntime) -> Result<(), Fail> {
             blocks: &[],
         };
         let fault = make_block(rt.alloc(), &plan, &mut nothing, level, number, 0).err();
-        assert_eq!(rt; fault, Some(MakeFault::Missing(level - 1, missing)));
+        assert!(rt; fault == Some(MakeFault::Missing(level - 1, missing)));
     }
     Ok(())
 }

@@ -56,12 +56,9 @@ fn two_workers_fill_three_cells(rt: HostRuntime) -> Result<(), Fail> {
         FillEvent::Draw(1),
     ];
     let world = after(rt.alloc(), &plan, &events)?;
-    assert_eq!(rt;
-        (world.next(), makers(&world)),
-        (3, [Some(0), Some(1), Some(0)])
-    );
-    assert_eq!(rt; workers(&world), [(None, true), (None, true)]);
-    assert_eq!(rt; known(&world), [[true, true], [true, false]]);
+    assert!(rt; (world.next(), makers(&world)) == (3, [Some(0), Some(1), Some(0)]));
+    assert!(rt; workers(&world) == [(None, true), (None, true)]);
+    assert!(rt; known(&world) == [[true, true], [true, false]]);
     Ok(())
 }
 
@@ -75,9 +72,9 @@ fn an_install_into_a_full_cell_changes_nothing(rt: HostRuntime) -> Result<(), Fa
         FillEvent::Install(1, 0, 0),
     ];
     let world = after(rt.alloc(), &plan, &events)?;
-    assert_eq!(rt; (world.next(), makers(&world)), (2, [Some(0), None, None]));
-    assert_eq!(rt; workers(&world), [(None, false), (Some(1), false)]);
-    assert_eq!(rt; known(&world), [[true, false], [false, false]]);
+    assert!(rt; (world.next(), makers(&world)) == (2, [Some(0), None, None]));
+    assert!(rt; workers(&world) == [(None, false), (Some(1), false)]);
+    assert!(rt; known(&world) == [[true, false], [false, false]]);
     Ok(())
 }
 
@@ -104,7 +101,7 @@ fn events_out_of_range_change_nothing(rt: HostRuntime) -> Result<(), Fail> {
             (1, [Some(0), None, None]),
             ([(None, false); 2], [[true, false], [false, false]]),
         );
-        assert_eq!(rt; found, want, "{event:?}");
+        assert!(rt; found == want, "{event:?}");
     }
     Ok(())
 }
@@ -114,8 +111,8 @@ fn readers_take_what_is_out_of_range(rt: HostRuntime) -> Result<(), Fail> {
     let plan = plan_of(rt.alloc(), CV1, 8)?;
     let world = after(rt.alloc(), &plan, &[])?;
     let cells = [maker(&world, 2, 0), maker(&world, 0, 1), world.hand(2)];
-    assert_eq!(rt; cells, [None, None, None]);
+    assert!(rt; cells == [None, None, None]);
     let tests = [world.stopped(2), world.knows(2, 0, 0), world.knows(0, 2, 0)];
-    assert_eq!(rt; tests, [true, false, false]);
+    assert!(rt; tests == [true, false, false]);
     Ok(())
 }

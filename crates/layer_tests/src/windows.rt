@@ -30,14 +30,14 @@ fn windows_of_eight_identifiers(rt: HostRuntime) -> Result<(), Fail> {
         if number < count {
             shape.window(1, number, &mut out);
         }
-        assert_eq!(rt; (shape.number(1, &window), out), (Some(number), window));
+        assert!(rt; (shape.number(1, &window), out) == (Some(number), window));
     }
     let none = [
         shape.number(1, &[7, 5, 7]),
         shape.number(1, &[7, 5, 8]),
         shape.number(1, &[7, 5]),
     ];
-    assert_eq!(rt; none, [None, None, None]);
+    assert!(rt; none == [None, None, None]);
     Ok(())
 }
 
@@ -50,7 +50,7 @@ fn a_window_of_seven_identifiers(rt: HostRuntime) -> Result<(), Fail> {
     let window = [5, 1, 3, 7, 0, 2, 4];
     let mut out = [0; 7];
     shape.window(3, 26256, &mut out);
-    assert_eq!(rt; (shape.number(3, &window), out), (Some(26256), window));
+    assert!(rt; (shape.number(3, &window), out) == (Some(26256), window));
     Ok(())
 }
 
@@ -65,11 +65,11 @@ fn windows_one_after_another(rt: HostRuntime) -> Result<(), Fail> {
         let first = shape.window_number(1, &window);
         let moved = shape.next_window(1, &mut window);
         let second = shape.number(1, &window);
-        assert_eq!(rt; (first, moved, second), (number, true, Some(number + 1)));
+        assert!(rt; (first, moved, second) == (number, true, Some(number + 1)));
     }
     shape.window(1, 335, &mut window);
     let moved = shape.next_window(1, &mut window);
-    assert_eq!(rt; (moved, window), (false, [7, 6, 5]));
+    assert!(rt; (moved, window) == (false, [7, 6, 5]));
     Ok(())
 }
 
@@ -80,7 +80,7 @@ fn places_of_the_windows_of_a_run(rt: HostRuntime) -> Result<(), Fail> {
     assert!(rt; shape.count(1) == 336);
     let mut window = [0; 3];
     shape.window(1, 218, &mut window);
-    assert_eq!(rt; (window, shape.place_in_run(0, &window)), ([5, 1, 3], 3));
+    assert!(rt; (window, shape.place_in_run(0, &window)) == ([5, 1, 3], 3));
     let places = shape.run_places(0, &window);
     // Eight places, with gaps at 1 and 5.
     assert!(rt; places.rest(0) == 8);
@@ -89,16 +89,16 @@ fn places_of_the_windows_of_a_run(rt: HostRuntime) -> Result<(), Fail> {
         places.series(3, 1),
         places.series(6, 256),
     ];
-    assert_eq!(rt; (places.rest(3), series), (5, [2, 1, 2]));
+    assert!(rt; (places.rest(3), series) == (5, [2, 1, 2]));
     let after = [
         places.after(0),
         places.after(3),
         places.after(4),
         places.after(7),
     ];
-    assert_eq!(rt; after, [Some(2), Some(4), Some(6), None]);
+    assert!(rt; after == [Some(2), Some(4), Some(6), None]);
     let moved = shape.next_run(1, &mut window);
-    assert_eq!(rt; (moved, window), (true, [5, 2, 0]));
+    assert!(rt; (moved, window) == (true, [5, 2, 0]));
     Ok(())
 }
 
@@ -109,18 +109,15 @@ fn two_gaps_side_by_side(rt: HostRuntime) -> Result<(), Fail> {
     assert!(rt; shape.count(2) == 6720);
     let mut window = [0; 5];
     shape.window(2, 3861, &mut window);
-    assert_eq!(rt;
-        (window, shape.place_in_run(1, &window)),
-        ([4, 5, 1, 0, 3], 1)
-    );
+    assert!(rt; (window, shape.place_in_run(1, &window)) == ([4, 5, 1, 0, 3], 1));
     let places = shape.run_places(1, &window);
     // Six places, with gaps at 2 and 3.
     assert!(rt; places.rest(0) == 6);
     let series = [places.series(1, 256), places.series(4, 256)];
     let after = [places.after(1), places.after(5)];
-    assert_eq!(rt; (series, after), ([1, 2], [Some(4), None]));
+    assert!(rt; (series, after) == ([1, 2], [Some(4), None]));
     let moved = shape.next_run(2, &mut window);
-    assert_eq!(rt; (moved, window), (true, [4, 5, 1, 2, 0]));
+    assert!(rt; (moved, window) == (true, [4, 5, 1, 2, 0]));
     Ok(())
 }
 
@@ -133,7 +130,7 @@ fn no_run_after_the_last(rt: HostRuntime) -> Result<(), Fail> {
     shape.window(1, 330, &mut window);
     let last = window;
     let moved = shape.next_run(1, &mut window);
-    assert_eq!(rt; (last, moved, window), ([7, 6, 0], false, [7, 6, 0]));
+    assert!(rt; (last, moved, window) == ([7, 6, 0], false, [7, 6, 0]));
     Ok(())
 }
 
@@ -146,28 +143,28 @@ fn tuples_of_eight_identifiers(rt: HostRuntime) -> Result<(), Fail> {
     let (mut first, mut last) = ([0; 4], [0; 4]);
     shape.tuple(1, 0, &mut first);
     shape.tuple(1, 1679, &mut last);
-    assert_eq!(rt; [first, last], [[0, 1, 2, 3], [7, 6, 5, 4]]);
+    assert!(rt; [first, last] == [[0, 1, 2, 3], [7, 6, 5, 4]]);
     let numbers = [
         shape.tuple_number(1, &last),
         shape.tuple_number(1, &[7, 6, 5, 7]),
     ];
-    assert_eq!(rt; numbers, [Some(1679), None]);
+    assert!(rt; numbers == [Some(1679), None]);
     Ok(())
 }
 
 #[test]
 fn the_range_of_shapes(rt: HostRuntime) {
     let outside = [Shape::new(3, 1), Shape::new(1025, 0), Shape::new(9, 4)];
-    assert_eq!(rt; outside, [Err(ShapeFault::IdsOutOfRange); 3]);
+    assert!(rt; outside == [Err(ShapeFault::IdsOutOfRange); 3]);
     let too_many = [Shape::new(163, 1), Shape::new(11, 4), Shape::new(1024, 4)];
-    assert_eq!(rt; too_many, [Err(ShapeFault::TooManyWindows); 3]);
+    assert!(rt; too_many == [Err(ShapeFault::TooManyWindows); 3]);
     let shapes = [
         Shape::new(162, 1).is_ok(),
         Shape::new(10, 4).is_ok(),
         Shape::new(4, 1).is_ok(),
         Shape::new(1024, 0).is_ok(),
     ];
-    assert_eq!(rt; shapes, [true; 4]);
+    assert!(rt; shapes == [true; 4]);
 }
 
 #[test]
@@ -185,7 +182,7 @@ fn rings_and_their_first_faults(rt: HostRuntime) -> Result<(), Fail> {
         let (back, fault) = Ring::new(shape, ids.to_vec(rt.alloc())?)
             .err()
             .ok_or("no ring")?;
-        assert_eq!(rt; (back.as_slice(), fault), (ids, want));
+        assert!(rt; (back.as_slice(), fault) == (ids, want));
     }
     Ok(())
 }
@@ -202,12 +199,12 @@ fn windows_round_the_end_of_a_ring(rt: HostRuntime) -> Result<(), Fail> {
     ring.window_at(0, 1, &mut first);
     ring.window_at(3, 1, &mut last);
     ring.window_at(1, 1, &mut second);
-    assert_eq!(rt; [first, last, second], [[7, 5, 1], [3, 7, 5], [5, 1, 3]]);
+    assert!(rt; [first, last, second] == [[7, 5, 1], [3, 7, 5], [5, 1, 3]]);
     let turned = Ring::new(shape, [1, 3, 7, 5].to_vec(rt.alloc())?)
         .ok()
         .ok_or("a ring")?;
     let same = (ring.same(&ring), ring.same(&turned));
-    assert_eq!(rt; (ring.id(2), same), (3, (true, false)));
+    assert!(rt; (ring.id(2), same) == (3, (true, false)));
     Ok(())
 }
 
@@ -221,10 +218,10 @@ fn jobs_of_three_rounds(rt: HostRuntime) -> Result<(), Fail> {
         shape.blocks(2),
         shape.blocks(3),
     ];
-    assert_eq!(rt; blocks, [1, 2, 27, 158]);
+    assert!(rt; blocks == [1, 2, 27, 158]);
     assert!(rt; shape.jobs() == 188);
     let jobs = [shape.job(0), shape.job(3), shape.job(187)];
-    assert_eq!(rt; jobs, [(0, 0), (2, 0), (3, 157)]);
+    assert!(rt; jobs == [(0, 0), (2, 0), (3, 157)]);
     let numbers = [
         shape.job_number(0, 0),
         shape.job_number(2, 0),
@@ -232,7 +229,7 @@ fn jobs_of_three_rounds(rt: HostRuntime) -> Result<(), Fail> {
         shape.job_number(3, 158),
         shape.job_number(4, 0),
     ];
-    assert_eq!(rt; numbers, [Some(0), Some(3), Some(187), None, None]);
+    assert!(rt; numbers == [Some(0), Some(3), Some(187), None, None]);
     Ok(())
 }
 
@@ -240,7 +237,7 @@ fn jobs_of_three_rounds(rt: HostRuntime) -> Result<(), Fail> {
 fn jobs_of_four_rounds(rt: HostRuntime) -> Result<(), Fail> {
     let shape = Shape::new(10, 4).ok().ok_or("a shape")?;
     assert!(rt; shape.rounds() == 4);
-    assert_eq!(rt; (shape.count(4), shape.tuples(1)), (3_628_800, 3_628_800));
+    assert!(rt; (shape.count(4), shape.tuples(1)) == (3_628_800, 3_628_800));
     let blocks = [
         shape.blocks(0),
         shape.blocks(1),
@@ -248,10 +245,10 @@ fn jobs_of_four_rounds(rt: HostRuntime) -> Result<(), Fail> {
         shape.blocks(3),
         shape.blocks(4),
     ];
-    assert_eq!(rt; blocks, [1, 3, 119, 2363, 14_175]);
+    assert!(rt; blocks == [1, 3, 119, 2363, 14_175]);
     assert!(rt; shape.jobs() == 16_661);
     let last = (shape.job(16_660), shape.job_number(4, 14_174));
-    assert_eq!(rt; last, ((4, 14_174), Some(16_660)));
+    assert!(rt; last == ((4, 14_174), Some(16_660)));
     Ok(())
 }
 
@@ -261,6 +258,6 @@ fn jobs_of_one_round(rt: HostRuntime) -> Result<(), Fail> {
     assert!(rt; shape.rounds() == 1);
     assert!(rt; shape.jobs() == 3);
     let jobs = [shape.job(0), shape.job(1), shape.job(2)];
-    assert_eq!(rt; jobs, [(0, 0), (1, 0), (1, 1)]);
+    assert!(rt; jobs == [(0, 0), (1, 0), (1, 1)]);
     Ok(())
 }

@@ -19,7 +19,7 @@ fn faults_are_displayed(rt: HostRuntime) -> Result<(), Fail> {
         (OutFault::Memory.to_string(alloc)?, "out of memory"),
     ];
     for (text, what) in rows {
-        assert_eq!(rt; text.as_str().strip_prefix("nbhd: "), Some(what));
+        assert!(rt; text.as_str().strip_prefix("nbhd: ") == Some(what));
     }
     Ok(())
 }
@@ -27,12 +27,9 @@ fn faults_are_displayed(rt: HostRuntime) -> Result<(), Fail> {
 #[test]
 fn a_short_input_is_read_whole(rt: HostRuntime) -> Result<(), Fail> {
     let mut reader = Watched::new(b"start".as_slice());
-    assert_eq!(rt;
-        read_input(rt.alloc(), &mut reader, 5)?.as_slice(),
-        b"start".as_slice()
-    );
+    assert!(rt; read_input(rt.alloc(), &mut reader, 5)?.as_slice() == b"start".as_slice());
     assert!(rt; !reader.failed());
-    assert_eq!(rt; reader.calls(), 2);
+    assert!(rt; reader.calls() == 2);
     assert!(rt; reader.into_device().is_empty());
     Ok(())
 }
@@ -40,11 +37,8 @@ fn a_short_input_is_read_whole(rt: HostRuntime) -> Result<(), Fail> {
 #[test]
 fn one_byte_past_the_limit_is_read(rt: HostRuntime) -> Result<(), Fail> {
     let mut reader = Watched::new(b"start".as_slice());
-    assert_eq!(rt;
-        read_input(rt.alloc(), &mut reader, 2)?.as_slice(),
-        b"sta".as_slice()
-    );
-    assert_eq!(rt; reader.into_device(), b"rt".as_slice());
+    assert!(rt; read_input(rt.alloc(), &mut reader, 2)?.as_slice() == b"sta".as_slice());
+    assert!(rt; reader.into_device() == b"rt".as_slice());
     Ok(())
 }
 
@@ -53,6 +47,6 @@ fn bytes_are_sent_to_memory(rt: HostRuntime) -> Result<(), Fail> {
     let mut writer = Watched::new(Vec::new(rt.alloc()));
     send(&mut writer, b"2 4 3 5\n")?;
     assert!(rt; !writer.failed());
-    assert_eq!(rt; writer.into_device().as_slice(), b"2 4 3 5\n".as_slice());
+    assert!(rt; writer.into_device().as_slice() == b"2 4 3 5\n".as_slice());
     Ok(())
 }

@@ -36,16 +36,13 @@ fn a_ring_of_two_registers_is_told_round_by_round(rt: HostRuntime) -> Result<(),
         of_all(&places, Told::Left),
         of_all(&places, Told::Right),
     ];
-    assert_eq!(rt;
-        before,
-        [[5, 1, 3, 7], [0, 0, 0, 0], [0, 0, 0, 0], [5, 1, 3, 7]]
-    );
+    assert!(rt; before == [[5, 1, 3, 7], [0, 0, 0, 0], [0, 0, 0, 0], [5, 1, 3, 7]]);
     places.advance();
     let after = [
         of_all(&places, Told::Register(0)),
         of_all(&places, Told::Register(1)),
         of_all(&places, Told::Channel),
     ];
-    assert_eq!(rt; after, [[0, 0, 0, 0], [12, 6, 4, 10], [12, 6, 4, 10]]);
+    assert!(rt; after == [[0, 0, 0, 0], [12, 6, 4, 10], [12, 6, 4, 10]]);
     Ok(())
 }

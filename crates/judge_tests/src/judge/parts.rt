@@ -61,13 +61,12 @@ fn assert_one_bad_tuple<R: Abort + Threads + Sync>(
     separation: Separation,
 ) -> Result<(), Fail> {
     let count = tuple_count(all, separation);
-    assert_eq!(rt; least_by_workers(rt, alloc, all, separation, 3)?, None);
+    assert!(rt; least_by_workers(rt, alloc, all, separation, 3)? == None);
     for number in 0..count {
         let table = table_of_one_bad_tuple(rt, alloc, all, separation, number)?;
         for workers in [1, 2, 9, 64] {
-            assert_eq!(rt;
-                least_by_workers(rt, alloc, &table, separation, workers)?,
-                Some(number),
+            assert!(rt;
+                least_by_workers(rt, alloc, &table, separation, workers)? == Some(number),
                 "{workers} workers"
             );
         }
@@ -80,7 +79,7 @@ fn assert_one_bad_tuple<R: Abort + Threads + Sync>(
 #[test]
 fn one_bad_tuple_anywhere(rt: HostRuntime) -> Result<(), Fail> {
     let all = table_of_numbers(&rt, rt.alloc(), 5)?;
-    assert_eq!(rt; tuple_count(&all, NEIGHBOURS), 120);
+    assert!(rt; tuple_count(&all, NEIGHBOURS) == 120);
     assert_one_bad_tuple(&rt, rt.alloc(), &all, NEIGHBOURS)
 }
 
@@ -88,7 +87,7 @@ fn one_bad_tuple_anywhere(rt: HostRuntime) -> Result<(), Fail> {
 fn one_far_tuple_anywhere(rt: HostRuntime) -> Result<(), Fail> {
     let separation = Separation { near: 1, far: 1 };
     let all = table_of_numbers(&rt, rt.alloc(), 6)?;
-    assert_eq!(rt; tuple_count(&all, separation), 720);
+    assert!(rt; tuple_count(&all, separation) == 720);
     assert_one_bad_tuple(&rt, rt.alloc(), &all, separation)
 }
 
@@ -96,11 +95,10 @@ fn one_far_tuple_anywhere(rt: HostRuntime) -> Result<(), Fail> {
 #[test]
 fn many_bad_tuples(rt: HostRuntime) -> Result<(), Fail> {
     let table = table_of_identifiers(&rt, rt.alloc(), &[0, 1, 2, 3, 2, 1, 0, 0])?;
-    assert_eq!(rt; tuple_count(&table, NEIGHBOURS), 56);
+    assert!(rt; tuple_count(&table, NEIGHBOURS) == 56);
     for workers in [0, 1, 2, 3, 64] {
-        assert_eq!(rt;
-            least_by_workers(&rt, rt.alloc(), &table, NEIGHBOURS, workers)?,
-            Some(5),
+        assert!(rt;
+            least_by_workers(&rt, rt.alloc(), &table, NEIGHBOURS, workers)? == Some(5),
             "{workers} workers"
         );
     }
@@ -129,10 +127,10 @@ fn assert_no<R: Abort + Threads + Sync>(
         let verdict = judge_with_workers(rt, alloc, table, NEIGHBOURS, workers).map_err(
             |_| AllocError,
         )?;
-        assert_eq!(rt; ring_of(&verdict), want, "{workers} workers");
+        assert!(rt; ring_of(&verdict) == want, "{workers} workers");
     }
     let verdict = judge(rt, alloc, table, NEIGHBOURS).map_err(|_| AllocError)?;
-    assert_eq!(rt; ring_of(&verdict), want);
+    assert!(rt; ring_of(&verdict) == want);
     Ok(())
 }
 

@@ -92,19 +92,13 @@ fn is_good<R: Abort + Threads + Sync>(
 ) -> Result<bool, Fail> {
     let mut cells = [0; MAX_TUPLE_LEN];
     let bad = first_bad_tuple(table, separation, &mut cells);
-    assert_eq!(rt;
-        judge_part(table, separation, 0, tuple_count(table, separation)),
-        bad
-    );
+    assert!(rt; judge_part(table, separation, 0, tuple_count(table, separation)) == bad);
     let verdict = judge(rt, alloc, table, separation).map_err(|_| AllocError)?;
-    assert_eq!(rt; verdict == Verdict::Yes, bad.is_none());
+    assert!(rt; (verdict == Verdict::Yes) == bad.is_none());
     if let Some((ring, places, channels)) = found_in(&verdict) {
         let tuple = &cells[..tuple_len(table, separation)];
-        assert_eq!(rt; ring, tuple);
-        assert_eq!(rt;
-            violation_in(table, separation, tuple),
-            Some((places, channels))
-        );
+        assert!(rt; ring == tuple);
+        assert!(rt; violation_in(table, separation, tuple) == Some((places, channels)));
     }
     Ok(bad.is_none())
 }
@@ -217,11 +211,11 @@ fn one_other_channel_beside_a_walk(rt: HostRuntime) -> Result<(), Fail> {
 fn the_tuple_after(rt: HostRuntime) {
     let shape = Shape::new(8, 1).expect(&rt, "a shape");
     let mut tuple = [0, 1, 2, 7];
-    assert_eq!(rt; shape.tuple_number(1, &tuple), Some(4));
+    assert!(rt; shape.tuple_number(1, &tuple) == Some(4));
     assert!(rt; shape.after(1, &mut tuple));
-    assert_eq!(rt; tuple, [0, 1, 3, 2]);
-    assert_eq!(rt; shape.tuple_number(1, &tuple), Some(5));
+    assert!(rt; tuple == [0, 1, 3, 2]);
+    assert!(rt; shape.tuple_number(1, &tuple) == Some(5));
     tuple = [7, 6, 5, 4];
     assert!(rt; !shape.after(1, &mut tuple));
-    assert_eq!(rt; tuple, [7, 6, 5, 4]);
+    assert!(rt; tuple == [7, 6, 5, 4]);
 }

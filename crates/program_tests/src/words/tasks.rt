@@ -16,9 +16,8 @@ fn checks_are_tasks(rt: HostRuntime) {
         ("check --ids 0004294967295", LARGEST),
     ];
     for (line, ids) in rows {
-        assert_eq!(rt;
-            task_of_line(rt.alloc(), line),
-            Ok(Task::Check { ids }),
+        assert!(rt;
+            task_of_line(rt.alloc(), line) == Ok(Task::Check { ids }),
             "at {line}"
         );
     }
@@ -47,7 +46,7 @@ fn tables_and_judges_are_tasks(rt: HostRuntime) -> Result<(), Fail> {
             near,
             far,
         };
-        assert_eq!(rt; task_of_line(rt.alloc(), &line), Ok(table), "at {line}");
+        assert!(rt; task_of_line(rt.alloc(), &line) == Ok(table), "at {line}");
         let line = format!(in rt.alloc(); "judge {options}")?;
         let judge = Task::Judge {
             ids: 8,
@@ -55,7 +54,7 @@ fn tables_and_judges_are_tasks(rt: HostRuntime) -> Result<(), Fail> {
             near,
             far,
         };
-        assert_eq!(rt; task_of_line(rt.alloc(), &line), Ok(judge), "at {line}");
+        assert!(rt; task_of_line(rt.alloc(), &line) == Ok(judge), "at {line}");
     }
     Ok(())
 }
@@ -76,7 +75,7 @@ fn runs_are_tasks(rt: HostRuntime) -> Result<(), Fail> {
             ring,
             segments,
         };
-        assert_eq!(rt; task_of_line(rt.alloc(), line)?, task, "at {line}");
+        assert!(rt; task_of_line(rt.alloc(), line)? == task, "at {line}");
     }
     Ok(())
 }
@@ -86,7 +85,7 @@ fn traces_are_tasks(rt: HostRuntime) -> Result<(), Fail> {
     for line in "trace --ids 8 --ring 5,1,3,7|trace --ring=05,01,3,7 --ids=+8".split('|') {
         let ring = [5, 1, 3, 7].to_vec(rt.alloc())?;
         let task = Task::Trace { ids: 8, ring };
-        assert_eq!(rt; task_of_line(rt.alloc(), line)?, task, "at {line}");
+        assert!(rt; task_of_line(rt.alloc(), line)? == task, "at {line}");
     }
     Ok(())
 }
@@ -105,16 +104,16 @@ fn plans_are_tasks(rt: HostRuntime) -> Result<(), Fail> {
             ring,
             workers,
         };
-        assert_eq!(rt; task_of_line(rt.alloc(), line)?, task, "at {line}");
+        assert!(rt; task_of_line(rt.alloc(), line)? == task, "at {line}");
     }
     Ok(())
 }
 
 #[test]
 fn a_print_an_audit_and_a_migration_are_tasks(rt: HostRuntime) {
-    assert_eq!(rt; task_of_line(rt.alloc(), "print"), Ok(Task::Print));
-    assert_eq!(rt; task_of_line(rt.alloc(), "audit"), Ok(Task::Audit));
-    assert_eq!(rt; task_of_line(rt.alloc(), "migrate"), Ok(Task::Migrate));
+    assert!(rt; task_of_line(rt.alloc(), "print") == Ok(Task::Print));
+    assert!(rt; task_of_line(rt.alloc(), "audit") == Ok(Task::Audit));
+    assert!(rt; task_of_line(rt.alloc(), "migrate") == Ok(Task::Migrate));
 }
 
 #[test]
@@ -122,7 +121,7 @@ fn help_is_asked_for(rt: HostRuntime) {
     let lines =
         "--help|-h|help|help run|help audit|help migrate|help print|help trace|run --help|run -h|audit --help|print --help|trace -h|run --ids 8 --help|check --ids 8 -h";
     for line in lines.split('|') {
-        assert_eq!(rt; answer_to(rt.alloc(), line), Answer::Help, "at {line}");
+        assert!(rt; answer_to(rt.alloc(), line) == Answer::Help, "at {line}");
     }
 }
 
@@ -135,20 +134,20 @@ fn tasks_of_1_to_64_workers_can_be_done(rt: HostRuntime) {
             near: 1,
             far: 0,
         };
-        assert_eq!(rt; table.is_runnable(), can, "{workers} workers");
+        assert!(rt; table.is_runnable() == can, "{workers} workers");
         let judge = Task::Judge {
             ids: 8,
             workers,
             near: 1,
             far: 0,
         };
-        assert_eq!(rt; judge.is_runnable(), can, "{workers} workers");
+        assert!(rt; judge.is_runnable() == can, "{workers} workers");
         let plan = Task::Plan {
             ids: 8,
             ring: Vec::new(rt.alloc()),
             workers,
         };
-        assert_eq!(rt; plan.is_runnable(), can, "{workers} workers");
+        assert!(rt; plan.is_runnable() == can, "{workers} workers");
     }
     assert!(rt; Task::Check { ids: 8 }.is_runnable());
     assert!(rt; Task::Print.is_runnable());
@@ -172,14 +171,14 @@ fn tables_and_judges_of_1_to_4096_and_0_to_4096_can_be_done(rt: HostRuntime) {
             near,
             far,
         };
-        assert_eq!(rt; judge.is_runnable(), can, "near {near} far {far}");
+        assert!(rt; judge.is_runnable() == can, "near {near} far {far}");
         let table = Task::Table {
             ids: 8,
             workers: 1,
             near,
             far,
         };
-        assert_eq!(rt; table.is_runnable(), can, "near {near} far {far}");
+        assert!(rt; table.is_runnable() == can, "near {near} far {far}");
     }
 }
 

@@ -44,7 +44,7 @@ and prints the channels of these four nodes: 2 4 3 5
 Pages: docs/TUTORIAL.md teaches from the start, docs/LANGUAGE.md has programs, commands and texts,
 docs/FAULTS.md each refusal and its note, and docs/GALLERY.md classical programs.
 ";
-    assert_eq!(rt; text_of(rt.alloc(), "--help")?.as_str(), expected);
+    assert!(rt; text_of(rt.alloc(), "--help")?.as_str() == expected);
     Ok(())
 }
 
@@ -75,7 +75,7 @@ Exit status:
   5  reading or writing failed
   6  memory or a thread was refused
 ";
-    assert_eq!(rt; text_of(rt.alloc(), "run --help")?.as_str(), expected);
+    assert!(rt; text_of(rt.alloc(), "run --help")?.as_str() == expected);
     Ok(())
 }
 
@@ -101,7 +101,7 @@ Exit status:
   5  reading or writing failed
   6  memory was refused
 ";
-    assert_eq!(rt; text_of(rt.alloc(), "print --help")?.as_str(), expected);
+    assert!(rt; text_of(rt.alloc(), "print --help")?.as_str() == expected);
     Ok(())
 }
 
@@ -136,7 +136,7 @@ Exit status:
   5  reading or writing failed
   6  memory was refused
 ";
-    assert_eq!(rt; text_of(rt.alloc(), "trace --help")?.as_str(), expected);
+    assert!(rt; text_of(rt.alloc(), "trace --help")?.as_str() == expected);
     Ok(())
 }
 
@@ -169,7 +169,7 @@ Exit status:
   5  reading or writing failed
   6  memory or a thread was refused
 ";
-    assert_eq!(rt; text_of(rt.alloc(), "judge --help")?.as_str(), expected);
+    assert!(rt; text_of(rt.alloc(), "judge --help")?.as_str() == expected);
     Ok(())
 }
 
@@ -197,7 +197,7 @@ Exit status:
   5  reading or writing failed
   6  memory or a thread was refused
 ";
-    assert_eq!(rt; text_of(rt.alloc(), "audit --help")?.as_str(), expected);
+    assert!(rt; text_of(rt.alloc(), "audit --help")?.as_str() == expected);
     Ok(())
 }
 
@@ -246,7 +246,10 @@ For more information, try '--help'.
 #[test]
 fn words_are_refused_with_the_way_to_call_it(rt: HostRuntime) -> Result<(), Fail> {
     for (line, expected) in REFUSED {
-        assert_eq!(rt; text_of(rt.alloc(), line)?.as_str(), expected, "at {line}");
+        assert!(rt;
+            text_of(rt.alloc(), line)?.as_str() == expected,
+            "at {line}"
+        );
     }
     Ok(())
 }
@@ -258,8 +261,8 @@ fn both_ways_to_ask_for_help_give_one_text(rt: HostRuntime) -> Result<(), Fail> 
         let long = format!(in rt.alloc(); "{name} --help")?;
         let short = format!(in rt.alloc(); "{name} -h")?;
         let text = text_of(rt.alloc(), word.as_str())?;
-        assert_eq!(rt; text_of(rt.alloc(), long.as_str())?, text, "at {name}");
-        assert_eq!(rt; text_of(rt.alloc(), short.as_str())?, text, "at {name}");
+        assert!(rt; text_of(rt.alloc(), long.as_str())? == text, "at {name}");
+        assert!(rt; text_of(rt.alloc(), short.as_str())? == text, "at {name}");
     }
     Ok(())
 }

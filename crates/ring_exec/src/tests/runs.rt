@@ -103,10 +103,10 @@ fn segments_are_one_to_64_and_at_most_the_places(rt: HostRuntime) -> Result<(), 
     for segments in [0, 5, 65] {
         let ids = vec![in alloc; 5, 1, 3, 7]?;
         let found = channels_by(&rt, alloc, &plan, ids, segments)?;
-        assert_eq!(rt; found.err(), out_of_range, "{segments}");
+        assert!(rt; found.err() == out_of_range, "{segments}");
     }
     let plan = plan_of(alloc, OWN, 1024)?;
     let found = channels_by(&rt, alloc, &plan, first_ids(alloc, 1024)?, 65)?;
-    assert_eq!(rt; found.err(), out_of_range);
+    assert!(rt; found.err() == out_of_range);
     Ok(())
 }

@@ -57,5 +57,5 @@ fn after_eight_puts<R: Ledger, L: Ledger, W: Wait>(
 fn a_put_may_be_tried_again(rt: HostRuntime) {
     let (right, left) = (Blank::new(1), Blank::new(1));
     let after = after_eight_puts::<Brand, Brand, _>(&rt, rt.alloc(), right, left);
-    assert_eq!(rt; after, Some((8, true)));
+    assert!(rt; after == Some((8, true)));
 }

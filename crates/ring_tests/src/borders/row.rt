@@ -44,9 +44,8 @@ fn after_a_close<R: Ledger, L: Ledger, W: Abort + Wait>(
     border.close(rt);
     let (late, next) = (to_the_right(1, 4), to_the_left(1, 5));
     let puts = [put(rt, border, right, late), put(rt, border, left, next)];
-    assert_eq!(rt;
-        puts,
-        [
+    assert!(rt;
+        puts == [
             Err((late, PutFault::Closed)),
             Err((next, PutFault::Closed)),
         ]
@@ -56,7 +55,7 @@ fn after_a_close<R: Ledger, L: Ledger, W: Abort + Wait>(
         right.puts(),
         left.puts(),
     );
-    assert_eq!(rt; after, (None, 1, 1));
+    assert!(rt; after == (None, 1, 1));
 }
 
 // Puts and takes messages on a border of the ledgers R and L.
@@ -79,23 +78,22 @@ fn puts_and_takes<R: Ledger, L: Ledger, W: Abort + Wait>(
         put(rt, &border, &mut right, other),
         put(rt, &border, &mut left, two),
     ];
-    assert_eq!(rt;
-        puts,
-        [
+    assert!(rt;
+        puts == [
             Ok(()),
             Err((one, PutFault::Misplaced)),
             Err((other, PutFault::Misplaced)),
             Ok(()),
         ]
     );
-    assert_eq!(rt; first_taken(rt, &border), [Some(one), Some(two)]);
+    assert!(rt; first_taken(rt, &border) == [Some(one), Some(two)]);
     after_a_close(rt, &border, &mut right, &mut left);
-    assert_eq!(rt; first_taken(rt, &border), [Some(one), Some(two)]);
+    assert!(rt; first_taken(rt, &border) == [Some(one), Some(two)]);
     assert!(rt; right.side() == Side::Rightward && left.side() == Side::Leftward);
     let totals = border.settle(right, left);
-    assert_eq!(rt;
-        (totals.rightward.as_slice(), totals.leftward.as_slice()),
-        ([one].as_slice(), [two].as_slice())
+    assert!(rt;
+        (totals.rightward.as_slice(), totals.leftward.as_slice())
+            == ([one].as_slice(), [two].as_slice())
     );
     Ok(())
 }

@@ -44,9 +44,8 @@ fn beside_a_stranger(alloc: Global, plan: &Plan) -> Option<([Option<u32>; 3], [b
 #[test]
 fn after_a_stranger_only_known_blocks_are_answered(rt: HostRuntime) -> Result<(), Fail> {
     let plan = plan_of(rt.alloc(), CV1, 8)?;
-    assert_eq!(rt;
-        beside_a_stranger(rt.alloc(), &plan),
-        Some(([None, Some(1), None], [true, false, true]))
+    assert!(rt;
+        beside_a_stranger(rt.alloc(), &plan) == Some(([None, Some(1), None], [true, false, true]))
     );
     Ok(())
 }
@@ -71,6 +70,6 @@ fn found(alloc: Global, plan: &Plan) -> Option<[bool; 4]> {
 #[test]
 fn a_reader_finds_and_installs(rt: HostRuntime) -> Result<(), Fail> {
     let plan = plan_of(rt.alloc(), CV1, 8)?;
-    assert_eq!(rt; found(rt.alloc(), &plan), Some([true, false, true, false]));
+    assert!(rt; found(rt.alloc(), &plan) == Some([true, false, true, false]));
     Ok(())
 }

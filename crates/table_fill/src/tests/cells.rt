@@ -85,7 +85,7 @@ fn a_worker_that_meets_a_stranger_says_so(rt: HostRuntime) -> Result<(), Fail> {
             makes: 0,
         };
         let answer = fill_cell(rt.alloc(), &mut told, 0, 1, 0);
-        assert_eq!(rt; answer.err(), fault);
+        assert!(rt; answer.err() == fault);
         // Once an unexpected block was met, none is made again.
         assert!(rt; !met || told.makes == 1);
     }
@@ -107,7 +107,7 @@ fn a_worker_makes_a_missing_block_and_tries_again(rt: HostRuntime) -> Result<(),
         makes: 0,
     };
     let answer = fill_cell(rt.alloc(), &mut told, 0, 1, 0);
-    assert_eq!(rt; answer.err(), None);
+    assert!(rt; answer.err() == None);
     // The block, the one below it, and the block once more.
     assert!(rt; told.makes == 3);
     Ok(())

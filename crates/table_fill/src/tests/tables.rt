@@ -11,9 +11,9 @@ fn cv1_has_a_channel_at_each_window(rt: HostRuntime) -> Result<(), Fail> {
     let shape = table.shape();
     let count = shape.count(shape.rounds());
     assert!(rt; count == 336);
-    assert_eq!(rt; table.entries().len(), 336);
+    assert!(rt; table.entries().len() == 336);
     assert!(rt; table.entries()[256] == 2);
-    assert_eq!(rt; table.channels(), 6);
+    assert!(rt; table.channels() == 6);
     let rows = [
         (0, [0, 1, 2], 1),
         (256, [6, 0, 5], 2),
@@ -22,11 +22,11 @@ fn cv1_has_a_channel_at_each_window(rt: HostRuntime) -> Result<(), Fail> {
     ];
     for (number, window, channel) in rows {
         assert!(rt; number < count);
-        assert_eq!(rt; table.entry(number), channel, "{window:?}");
-        assert_eq!(rt; table.channel_at(&window), Some(channel), "{window:?}");
+        assert!(rt; table.entry(number) == channel, "{window:?}");
+        assert!(rt; table.channel_at(&window) == Some(channel), "{window:?}");
     }
-    assert_eq!(rt; table.channel_at(&[7, 5]), None);
-    assert_eq!(rt; table.channel_at(&[7, 5, 7]), None);
+    assert!(rt; table.channel_at(&[7, 5]) == None);
+    assert!(rt; table.channel_at(&[7, 5, 7]) == None);
     Ok(())
 }
 
