@@ -2,30 +2,14 @@
 #![tactic(auto)]
 
 #[cfg(test)]
-mod audits;
-#[cfg(test)]
 mod columns;
-#[cfg(test)]
-mod engine_calls;
-#[cfg(test)]
-mod faults;
 #[cfg(test)]
 mod findings;
 #[cfg(test)]
-mod load;
-#[cfg(test)]
-mod reports;
-#[cfg(test)]
-mod segments;
+mod plain_runs;
 #[cfg(test)]
 mod slow_devices;
 #[cfg(test)]
 mod slow_inputs;
 #[cfg(test)]
 mod slow_outputs;
-#[cfg(test)]
-mod tables;
-#[cfg(test)]
-mod texts;
-#[cfg(test)]
-mod traces;

@@ -1,7 +1,5 @@
 //! Outputs that take a few bytes per call, and writes that fail.
 
-use crate::audits::TABLE_OF_IDENTIFIERS;
-use crate::engine_calls::done;
 use crate::slow_devices::{SlowReader, SlowWriter};
 use crate::slow_inputs::{REPORT, outcome_of, outcome_of_run};
 use channel_tables::Table;
@@ -15,8 +13,15 @@ use plan_print::{read_table, write_table};
 use std::alloc::Global;
 use std::io::ErrorKind;
 use std::process::Abort;
+use std::sync::Wait;
 use std::test::Fail;
+use std::thread::Threads;
 use test_programs::{CV1, CV1_OF_12, ID0};
+
+/// The text of the table of two identifiers and no rounds that gives each identifier itself as its
+/// channel, with near 1 and far 0.
+const TABLE_OF_IDENTIFIERS: &[u8] =
+    b"nbhd-table 2\nrounds 0 ids 2 channels 2 near 1 far 0\n0 : 0\n1 : 1\nend\n";
 
 #[test]
 fn a_write_that_fails_at_each_call(rt: HostRuntime) -> Result<(), Fail> {
@@ -158,11 +163,25 @@ fn stops_at<R: Abort>(rt: &R, alloc: Global, table: &Table, text: &[u8], bytes: 
     );
 }
 
+// Returns the text of a table of 24 identifiers.
+fn table_of_24<R: Abort + Threads + Wait + Sync>(rt: &R, alloc: Global) -> Result<Vec<u8>, Fail> {
+    let task = Task::Table {
+        ids: 24,
+        workers: 1,
+        near: 1,
+        far: 0,
+    };
+    let reader = SlowReader::new(CV1_OF_12, usize::MAX);
+    let outcome = outcome_of(rt, alloc, task, reader, SlowWriter::new(alloc, usize::MAX));
+    assert!(rt; outcome.answer == Ok(Status::Done));
+    Ok(outcome.taken)
+}
+
 // The text is written in chunks of at most 65,536 bytes, so a text of more than 131,072 bytes has
 // at least three.
 #[test]
 fn a_long_table_whose_write_fails_at_each_edge_of_a_chunk(rt: HostRuntime) -> Result<(), Fail> {
-    let text = done(&rt, rt.alloc(), "table --ids 24", CV1_OF_12)?;
+    let text = table_of_24(&rt, rt.alloc())?;
     assert!(rt; text.len() > 131_072 && text.len() < 196_608);
     let (table, _) = read_table(rt.alloc(), &text).ok().ok_or("a table")?;
     let mut edges = 0u32;

@@ -2,29 +2,9 @@
 pub const CV1: &[u8] =
     b"rounds 1\nchannels 6\nregisters 1\nstart\nr0 = id\nround\nsend left 0\nsend right r0\nr0 = add(shl(ldb(r0, L), 1), bit(r0, ldb(r0, L)))\nfinish r0\n";
 
-/// `CV1` with three channels.
-pub const CV1_OF_THREE: &[u8] =
-    b"rounds 1\nchannels 3\nregisters 1\nstart\nr0 = id\nround\nsend left 0\nsend right r0\nr0 = add(shl(ldb(r0, L), 1), bit(r0, ldb(r0, L)))\nfinish r0\n";
-
-/// `CV1` with eleven channels.
-pub const CV1_OF_11: &[u8] =
-    b"rounds 1\nchannels 11\nregisters 1\nstart\nr0 = id\nround\nsend left 0\nsend right r0\nr0 = add(shl(ldb(r0, L), 1), bit(r0, ldb(r0, L)))\nfinish r0\n";
-
 /// `CV1` with twelve channels.
 pub const CV1_OF_12: &[u8] =
     b"rounds 1\nchannels 12\nregisters 1\nstart\nr0 = id\nround\nsend left 0\nsend right r0\nr0 = add(shl(ldb(r0, L), 1), bit(r0, ldb(r0, L)))\nfinish r0\n";
-
-/// `CV1` with fourteen channels.
-pub const CV1_OF_14: &[u8] =
-    b"rounds 1\nchannels 14\nregisters 1\nstart\nr0 = id\nround\nsend left 0\nsend right r0\nr0 = add(shl(ldb(r0, L), 1), bit(r0, ldb(r0, L)))\nfinish r0\n";
-
-/// `CV1` with sixteen channels.
-pub const CV1_OF_16: &[u8] =
-    b"rounds 1\nchannels 16\nregisters 1\nstart\nr0 = id\nround\nsend left 0\nsend right r0\nr0 = add(shl(ldb(r0, L), 1), bit(r0, ldb(r0, L)))\nfinish r0\n";
-
-/// `CV1` with `send right L`, which is not accepted.
-pub const CV1_SENDS_L: &[u8] =
-    b"rounds 1\nchannels 6\nregisters 1\nstart\nr0 = id\nround\nsend left 0\nsend right L\nr0 = add(shl(ldb(r0, L), 1), bit(r0, ldb(r0, L)))\nfinish r0\n";
 
 /// The least bit in which a node differs from its left neighbour.
 pub const LDB: &[u8] =
@@ -32,16 +12,6 @@ pub const LDB: &[u8] =
 
 /// No round: the identifier.
 pub const ID0: &[u8] = b"rounds 0\nchannels 2\nregisters 1\nstart\nr0 = id\nfinish r0\n";
-
-/// `ID0` with four channels.
-pub const ID0_OF_4: &[u8] = b"rounds 0\nchannels 4\nregisters 1\nstart\nr0 = id\nfinish r0\n";
-
-/// No round: twice the identifier.
-pub const TWICE_ID: &[u8] =
-    b"rounds 0\nchannels 7\nregisters 1\nstart\nr0 = id\nfinish shl(r0, 1)\n";
-
-/// No round: always 0.
-pub const ZERO: &[u8] = b"rounds 0\nchannels 1\nregisters 1\nstart\nr0 = id\nfinish 0\n";
 
 /// `CV1` and two more rounds, which reduce its channels to four.
 pub const RED: &[u8] =
@@ -61,18 +31,8 @@ pub const SHIFT4: &[u8] =
 pub const TWO_REGISTERS: &[u8] =
     b"rounds 1\nchannels 64\nregisters 2\nstart\nr0 = id\nr1 = 0\nround\nsend left r1\nsend right r0\nr0 = r1\nr1 = add(r0, L)\nfinish r1\n";
 
-/// `TWO_REGISTERS` with two hundred channels.
-pub const TWO_REGISTERS_OF_200: &[u8] =
-    b"rounds 1\nchannels 200\nregisters 2\nstart\nr0 = id\nr1 = 0\nround\nsend left r1\nsend right r0\nr0 = r1\nr1 = add(r0, L)\nfinish r1\n";
-
 /// Eight registers and three rounds. Each round moves the registers down by one, and the message
 /// from the left becomes the last. So in the end register 0 has the value of register 3, and
 /// register 5 that of the left neighbour's register 1.
 pub const EIGHT_REGISTERS: &[u8] =
     b"rounds 3\nchannels 64\nregisters 8\nstart\nr0 = id\nr1 = add(id, 1)\nr2 = add(id, 2)\nr3 = add(id, 3)\nr4 = add(id, 4)\nr5 = add(id, 5)\nr6 = add(id, 6)\nr7 = add(id, 7)\nround\nsend left 0\nsend right r1\nr0 = r1\nr1 = r2\nr2 = r3\nr3 = r4\nr4 = r5\nr5 = r6\nr6 = r7\nr7 = L\nround\nsend left 0\nsend right r1\nr0 = r1\nr1 = r2\nr2 = r3\nr3 = r4\nr4 = r5\nr5 = r6\nr6 = r7\nr7 = L\nround\nsend left 0\nsend right r1\nr0 = r1\nr1 = r2\nr2 = r3\nr3 = r4\nr4 = r5\nr5 = r6\nr6 = r7\nr7 = L\nfinish add(r0, r5)\n";
-
-/// The text before the last expression of a program of one register that starts with 0.
-pub const ZERO_HEAD: &[u8] = b"rounds 0\nchannels 1\nregisters 1\nstart\nr0 = 0\nfinish ";
-
-/// The same text with an operation in `start`.
-pub const NOT_HEAD: &[u8] = b"rounds 0\nchannels 1\nregisters 1\nstart\nr0 = not(0)\nfinish ";

@@ -1,6 +1,5 @@
 use std::test::Fail;
 use task_words::ring_text::ring_of;
-use task_words::words::WordsFault;
 
 #[test]
 fn ring_texts_are_read(rt: HostRuntime) -> Result<(), Fail> {
@@ -14,12 +13,4 @@ fn ring_texts_are_read(rt: HostRuntime) -> Result<(), Fail> {
         assert!(rt; ring_of(rt.alloc(), text)?.as_slice() == ring, "at {text}");
     }
     Ok(())
-}
-
-#[test]
-fn other_texts_are_bad_rings(rt: HostRuntime) {
-    for text in "|5,,1|4294967296|,|5,|,5|5, 1|+5|-5|0x5|5,a|5;1".split('|') {
-        let ring = ring_of(rt.alloc(), text);
-        assert!(rt; ring == Err(WordsFault::BadRing), "at {text}");
-    }
 }

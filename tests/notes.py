@@ -1,0 +1,183 @@
+"""Common mistakes of newcomers, each with the note on its cause, which is on the standard error."""
+
+from programs import CV1, ID0_OF_4, LDB
+
+# Parts of `CV1`, their replacements, and the starts of the notes on the text.
+MARKS_AND_ORDER = [
+    ("L), 1)", "L) 1)", "nbhd: line 9, column 25: `1` cannot stand here; wanted `,`"),
+    ("L)))", "L))", "nbhd: line 10, column 1: `finish` cannot stand here; wanted `)`; a bracket is open"),
+    ("L)))", "L))))", "nbhd: line 9, column 50: `)` cannot stand here; wanted `finish`; this bracket closes nothing"),
+    ("left 0\nsend right r0", "right r0\nsend left 0", "nbhd: line 7, column 6: `right` cannot stand here; wanted `left`"),
+    ("send left 0\n", "", "nbhd: line 7, column 6: `right` cannot stand here; wanted `left`"),
+    ("send right r0\n", "", "nbhd: line 8, column 1: `r0` cannot stand here; wanted `send`"),
+    ("registers 1\n", "", "nbhd: line 3, column 1: `start` cannot stand here; wanted `registers`"),
+    ("start\n", "", "nbhd: line 4, column 1: `r0` cannot stand here; wanted `start`"),
+    ("finish r0\n", "", "nbhd: line 10, column 1: the text ends here; wanted `finish`"),
+    ("rounds 1\nchannels 6", "channels 6\nrounds 1", "nbhd: line 1, column 1: `channels` cannot stand here; wanted `rounds`"),
+    ("round\n", "round 1\n", "nbhd: line 6, column 7: `1` cannot stand here; wanted `send`"),
+    ("finish r0", "finish r0 = r0", "nbhd: line 10, column 11: `=` cannot stand here; wanted the end of the text"),
+    ("left 0", "left = 0", "nbhd: line 7, column 11: `=` cannot stand here; wanted an expression"),
+    ("rounds 1", "rounds = 1", "nbhd: line 1, column 8: `=` cannot stand here; wanted a number"),
+]
+
+REGISTERS_AND_ROUNDS = [
+    ("registers 1\nstart\nr0 = id", "registers 2\nstart\nr0 = id r1 = 0", "nbhd: line 10, column 1: `finish` cannot stand here; wanted the assignment of r1"),
+    ("rounds 1", "rounds 2", "nbhd: line 10, column 1: `finish` cannot stand here; wanted `round`; there are as many rounds as `rounds` says"),
+    ("finish r0", "round\nsend left 0\nsend right r0\nr0 = r0\nfinish r0", "nbhd: line 10, column 1: `round` cannot stand here; wanted `finish`; there are as many rounds as `rounds` says"),
+    ("finish r0", "r0 = r0\nfinish r0", "nbhd: line 10, column 1: `r0` cannot stand here; wanted `finish`; each register is assigned once"),
+    ("r0 = id", "r1 = id", "nbhd: line 5, column 1: `r1` cannot stand here; wanted the assignment of r0"),
+    ("rounds 1", "rounds 5", "nbhd: line 1, column 8: a number out of its range: `rounds` is 0 to 4"),
+    ("channels 6", "channels 0", "nbhd: line 2, column 10: a number out of its range: `rounds` is 0 to 4, `channels` 1 to 4096"),
+    ("channels 6", "channels 5000", "nbhd: line 2, column 10: a number out of its range: `rounds` is 0 to 4, `channels` 1 to 4096"),
+    ("registers 1", "registers 9", "nbhd: line 3, column 11: a number out of its range: `rounds` is 0 to 4, `channels` 1 to 4096, `registers` 1 to 8"),
+    ("finish r0", "finish 4294967296", "nbhd: line 10, column 8: a number is at most 4294967295"),
+]
+
+OPERANDS = [
+    ("finish r0", "finish if r0 then 1 else 2", "nbhd: line 10, column 11: `r0` cannot stand here; wanted `(`; the operands of an operation stand in brackets, as in `if(c, a, b)`"),
+    ("finish r0", "finish if(r0, 1)", "nbhd: line 10, column 16: `)` cannot stand here; wanted `,`; `if` takes 3 operands"),
+    ("finish r0", "finish not(r0, 1)", "nbhd: line 10, column 14: `,` cannot stand here; wanted `)`; `not` takes 1 operand"),
+    ("finish r0", "finish min(r0, 1, 2)", "nbhd: line 10, column 17: `,` cannot stand here; wanted `)`; `min` takes 2 operands"),
+    ("finish r0", "finish if(r0 == 1, 0, 1)", "nbhd: line 10, column 14: `=` cannot stand here; wanted `,`; write `eq(a, b)` to compare"),
+]
+
+WORDS_OF_OTHER_LANGUAGES = [
+    ("rounds", "Rounds", "nbhd: line 1, column 1: `Rounds` is no word of the language; write `rounds`"),
+    ("L)", "l)", "nbhd: line 9, column 22: `l` is no word of the language; the message from the left is `L`"),
+    ("r0 = id", "r10 = id", "nbhd: line 5, column 1: `r10` is no word of the language; registers are `r0` to `r7`"),
+    ("finish r0", "finish R0", "nbhd: line 10, column 8: `R0` is no word of the language; registers are `r0` to `r7`"),
+    ("finish r0", "finish r0 + 1", "nbhd: line 10, column 11: `+` is no word of the language; write `add(a, b)`"),
+    ("r0 = id", "r0 = 2*id", "nbhd: line 5, column 7: `*` is no word of the language; there is no product"),
+    ("r0 = id", "r0 = mul(2, id)", "nbhd: line 5, column 6: `mul` is no word of the language; there is no product"),
+    ("r0 = id", "r0 = mod(id, 2)", "nbhd: line 5, column 6: `mod` is no word of the language; there is no remainder: that of 2 is `and(x, 1)`"),
+    ("ldb(r0, L), 1", "gt(r0, L), 1", "nbhd: line 9, column 14: `gt` is no word of the language; write `lt(b, a)` for a > b"),
+    ("finish r0", "finish -1", "nbhd: line 10, column 8: `-` is no word of the language; write `sub(a, b)`, which stops at 0"),
+    ("finish r0", "finish 0x5", "nbhd: line 10, column 8: `0x5` is no word of the language; numbers are decimal"),
+    ("r0 = id", "r0 := id", "nbhd: line 5, column 4: `:` is no word of the language; an assignment is written `r0 = ..`"),
+    ("rounds 1", "rounds 1;", "nbhd: line 1, column 9: `;` is no word of the language; lines end without a mark"),
+    ("r0 = id", "colour = id", "nbhd: line 5, column 1: `colour` is no word of the language; registers are `r0` to `r7`, and have no other names"),
+    ("finish r0", "return r0", "nbhd: line 10, column 1: `return` is no word of the language; the last line is `finish`"),
+    ("left 0\nsend right r0", "both r0", "nbhd: line 7, column 6: `both` is no word of the language; write `send left` and `send right`"),
+    ("finish r0", "finish \"r0\"", "nbhd: line 10, column 8: `\"` is no word of the language; there are no texts in programs"),
+    ("finish r0\n", "finish r0\nend\n", "nbhd: line 11, column 1: `end` is no word of the language; the expression of `finish` ends the program"),
+    ("finish r0\n", "finish r0\nrounds 1\n", "nbhd: line 11, column 1: `rounds` cannot stand here; wanted the end of the text"),
+]
+
+# Texts that are no programs, and the starts of the notes.
+OTHER_FILES = [
+    (b"// a program", "nbhd: line 1, column 1: `/` is no word of the language; a comment begins with `#`"),
+    (b"/* a program */", "nbhd: line 1, column 1: `/` is no word of the language; a comment begins with `#`"),
+    (b"# the node\xe2\x80\x99s\nrounds 1", "nbhd: line 1, column 11: a byte over 127; a program text is ASCII, in its comments too"),
+    (b"\xef\xbb\xbfrounds 1", "nbhd: line 1, column 1: a byte over 127; a program text is ASCII, in its comments too; this is a byte order mark"),
+    (b"\xff\xfer\x00o\x00", "nbhd: line 1, column 1: a byte over 127; a program text is ASCII, in its comments too; the file is UTF-16"),
+    (b"rounds\xc2\xa01", "nbhd: line 1, column 7: a byte over 127; a program text is ASCII, in its comments too; this is a blank that does not break"),
+    (b"", "nbhd: line 1, column 1: the text ends here; wanted `rounds`; the text is empty, so no file was given"),
+    (b"# Pighvani\n\nPighvani compiles", "nbhd: line 3, column 1: `Pighvani` is no word of the language; a program begins with `rounds`"),
+    (b"nbhd-table 2\n", "nbhd: line 1, column 1: `nbhd` is no word of the language; the text of a table is for `nbhd audit`"),
+    (b"text fault N3 at 0\n", "nbhd: line 1, column 1: `text` is no word of the language; this is what `nbhd` printed, and no program"),
+    (b"rounds 1\r\n\tchanels 6", "nbhd: line 2, column 2: `chanels` is no word of the language"),
+    (b"rounds 0 channels 8 registers 2 start r1 = id r0 = 0 finish r1", "nbhd: line 1, column 39: `r1` cannot stand here; wanted the assignment of r0"),
+]
+
+# Texts and their whole notes, or the ends of these.
+MARKED_LINES = [
+    (
+        CV1.replace(b"left 0", b"lift 0"),
+        "nbhd: line 7, column 6: `lift` is no word of the language; registers are `r0` to `r7`, and have no other names\n  send lift 0\n       ^\n",
+    ),
+    (b"\xef\xbb\xbfrounds 1\n", "\n  \\xef\\xbb\\xbfrounds 1\n  ^\n"),
+    (b"rounds\t1\xff", "\n  rounds 1\\xff\n          ^\n"),
+]
+
+# Parts of `CV1`, their replacements, numbers of identifiers, and the starts of the notes on the program.
+PROGRAMS = [
+    ("finish r0", "finish r1", 8, "nbhd: line 10, column 8: there is no register r1; `registers` says how many there are"),
+    ("right r0", "right id", 8, "nbhd: line 8, column 12: `id` can be read in `start` alone; keep it in a register"),
+    ("right r0", "right L", 8, "nbhd: line 8, column 12: `L` and `R` can be read in the assignments of a round alone"),
+    ("finish r0", "finish L", 8, "nbhd: line 10, column 8: `L` and `R` can be read in the assignments of a round alone"),
+    ("r0 = id", "r0 = L", 8, "nbhd: line 5, column 6: `L` and `R` can be read in the assignments of a round alone"),
+    ("channels 6", "channels 5", 8, "nbhd: channels may be as large as 5: write `channels 6` or more\n"),
+    ("finish r0", "finish 5000", 8, "nbhd: channels may be as large as 5000, and `channels` is at most 4096\n"),
+    ("finish r0", "finish r0", 3, "nbhd: 1 round takes 4 to 162 identifiers, not 3\n"),
+    ("finish r0", "finish r0", 163, "nbhd: 1 round takes 4 to 162 identifiers, not 163\n"),
+    ("finish r0", "finish r0", 2000, "nbhd: 1 round takes 4 to 162 identifiers, not 2000\n"),
+]
+
+# Lists that are no rings of `CV1` for eight identifiers, and the notes.
+RINGS = [
+    ("5,1,3", "nbhd: a ring has at least 4 places here, and this one has 3\n"),
+    ("0,1,2,3,4,5,6,7,0", "nbhd: a ring has at most as many places as there are identifiers, 8, and this one has 9\n"),
+    ("5,1,3,8", "nbhd: place 3 has the identifier 8; of 8 identifiers the largest is 7\n"),
+    ("1,2,3,4,1", "nbhd: places 0 and 4 have the same identifier 1; a ring closes by itself\n"),
+]
+
+# Texts that are no tables, the lines at fault, and the advice.
+TABLE_TEXTS = [
+    (b"rounds 1\n", "1", "; this looks like a program: `nbhd judge` takes one"),
+    (b"check fault C4 bound 7\n", "1", "; this is what `nbhd` printed in place of a table"),
+    (b"yes: 1680 tuples\n", "1", "; this is what `nbhd` printed in place of a table"),
+    (b"", "1", "; the text is empty, so no file was given"),
+    (b"\xef\xbb\xbfnbhd-table 1\n", "1", "; the text begins with a byte order mark"),
+    (b"nbhd-table 1\r\n", "1", "; lines end with a carriage return"),
+    (b"nbhd-table\t1\n", "1", "; its first line is `nbhd-table` and the version"),
+    (b"nbhd-table 1\nrounds 2 ids 4 channels 6\n", "2", "; the numbers of this line do not fit one another"),
+    (b"nbhd-table 1\nrounds 0 ids 2 channels 2\n# mine\n", "3", "; there are no comments in tables"),
+    (b"nbhd-table 1\nrounds 0 ids 2 channels 2\n0 : 0 \n", "3", "; a blank stands at its end"),
+    (b"nbhd-table 1\nrounds 0 ids 2 channels 2\n0,:,0\n", "3", "; numbers are parted by single blanks"),
+    (b"nbhd-table 1\nrounds 0 ids 2 channels 2\n0 : -1\n", "3", "; a number has digits alone"),
+    (b"nbhd-table 1\nrounds 0 ids 2 channels 2\n0 : 0\n1 : 1\n", "5", "; the text stops before its end"),
+    (b"nbhd-table 1\nrounds 0 ids 2 channels 2\n0 : 0\n1 : 1\nend", "5", "; the last line has no line end"),
+    (b"nbhd-table 1\nrounds 0 ids 2 channels 2\n0 : 0\n1 : 1\nend\n\n", "6", "; the line is blank"),
+]
+
+# Texts that are no tables, and the notes.
+WINDOWS_AND_CHANNELS = [
+    (b"nbhd-table 1\nrounds 0 ids 2 channels 2\n1 : 1\n0 : 0\nend\n", "nbhd: line 3 is not the line of window 0\n"),
+    (b"nbhd-table 1\nrounds 1 ids 4 channels 6\n0 1 2 : 0\n0 2 1 : 3\n", "nbhd: line 4 is not the line of window 0 1 3\n"),
+    (b"nbhd-table 1\nrounds 1 ids 4 channels 6\n0 0 1 : 2\n", "nbhd: line 3 is not the line of window 0 1 2\n"),
+    (b"nbhd-table 1\nrounds 1 ids 5 channels 6\n0 1 2 : 0\n0 1 3 : 3\n0 2 1 : 3\n", "nbhd: line 5 is not the line of window 0 1 4\n"),
+    (b"nbhd-table 1\nrounds 0 ids 2 channels 2\n0 : 2\n", "nbhd: line 3 has a channel that is not below the number of channels of line 2\n"),
+]
+
+# Words, inputs and the notes.
+OTHERS = [
+    ("run --ids 8 --ring 5,1,3,7 --segments 5", CV1, "nbhd: 5 segments are more than the 4 places of the ring\n"),
+    (
+        "judge --ids 8",
+        LDB,
+        "nbhd: on the ring 0,1,2,3 the neighbours 1 and 2 (places 1 and 2) have channel 0; their windows are 0 1 2 and 1 2 3\n",
+    ),
+    (
+        "judge --ids 4 --far 2",
+        ID0_OF_4,
+        "nbhd: on the ring 0,2,1 the nodes at distance two 0 and 1 (places 0 and 2) have channels 0 and 1; their windows are 0 and 1\n",
+    ),
+]
+
+
+def starts():
+    """Words, inputs and the starts of the notes."""
+    for old, new, note in MARKS_AND_ORDER + REGISTERS_AND_ROUNDS + OPERANDS + WORDS_OF_OTHER_LANGUAGES:
+        yield "check --ids 8", edited(old, new), note
+    for text, note in OTHER_FILES:
+        yield "check --ids 8", text, note
+    for old, new, ids, note in PROGRAMS:
+        yield f"check --ids {ids}", edited(old, new), note
+    for text, number, advice in TABLE_TEXTS:
+        yield "audit", text, f"nbhd: line {number}, column 1: this line has not the form that `nbhd table` writes{advice}"
+
+
+def ends():
+    """Words, inputs and the ends of the notes."""
+    for text, note in MARKED_LINES:
+        yield "check --ids 8", text, note
+    for ring, note in RINGS:
+        yield f"run --ids 8 --ring {ring}", CV1, note
+    for text, note in WINDOWS_AND_CHANNELS:
+        yield "audit", text, note
+    yield from OTHERS
+
+
+def edited(old, new):
+    """`CV1` with the first `old` replaced by `new`."""
+    return CV1.replace(old.encode(), new.encode(), 1)

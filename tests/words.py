@@ -1,0 +1,399 @@
+"""Words of the command line: help texts, words that are refused, and words that are the same command."""
+
+from programs import CV1, cv1_of
+
+# Words and the help text that they print.
+HELPS = [
+    (
+        "--help",
+        """nbhd 1.0 compiles a node program of synchronous rounds to a table with one channel per window of
+identifiers, and judges whether neighbours' channels differ on every oriented ring.
+
+Usage: nbhd <COMMAND>
+
+Commands:
+  check    Tells whether a program is accepted for M identifiers
+  print    Prints a program text in its one printed form
+  table    Prints the table of a program, one channel per window
+  judge    Tells whether channels are far enough apart on every ring, by a program's table
+  run      Runs a program by messages on a ring, and prints the channels
+  trace    Runs a program on a ring, and prints what its nodes hold and send in each round
+  plan     Prints the channels of a ring's places, looked up in the table
+  audit    Tells whether channels are far enough apart on every ring, by a table text
+  migrate  Prints a table text of any version in the newest one
+  help     Print this message or the help of the given subcommand(s)
+
+Options:
+  -h, --help  Print help
+
+Each command reads a text from standard input and prints its answer to standard output. Example:
+
+  nbhd run --ids 8 --ring 5,1,3,7 < programs/cv1.txt
+
+runs the program of that file on the ring of the nodes 5, 1, 3 and 7, where identifiers are 0 to 7,
+and prints the channels of these four nodes: 2 4 3 5
+
+Pages: docs/TUTORIAL.md teaches from the start, docs/LANGUAGE.md has programs, commands and texts,
+docs/FAULTS.md each refusal and its note, and docs/GALLERY.md classical programs.
+""",
+    ),
+    (
+        "run --help",
+        """Runs a program by messages on a ring, and prints the channels
+
+Usage: nbhd run [OPTIONS] --ids <M> --ring <A,B,..>
+
+Options:
+      --ids <M>        How many identifiers there are; they are 0 to M-1
+      --ring <A,B,..>  The ring's identifiers, each followed by its right neighbour's
+      --segments <S>   How many segments the ring is cut into, each a thread, 1 to 64 [default: 1]
+  -h, --help           Print help
+
+Standard input:  a program text
+Standard output: one line: the channels in the order of the ring, or what is refused
+
+M is 2 to 1024 for 0 rounds, 4 to 162 for 1 round, 6 to 23 for 2, 8 to 12 for 3, 10 for 4 rounds.
+The ring has at least 2, 4, 6, 8 or 10 identifiers for 0 to 4 rounds, below M, no two the same.
+It is cut into at most as many segments as it has identifiers.
+
+Exit status:
+  0  the channels are printed
+  2  the words are refused, or there are more segments than identifiers in the ring
+  3  the program is refused
+  4  the ring is refused
+  5  reading or writing failed
+  6  memory or a thread was refused
+""",
+    ),
+    (
+        "print --help",
+        """Prints a program text in its one printed form
+
+Usage: nbhd print
+
+Options:
+  -h, --help  Print help
+
+Standard input:  a program text
+Standard output: the same program with one line for each of its parts and without comments,
+                 or one line: what is refused
+
+The text is only read: `nbhd check` tells whether the program is accepted for M identifiers.
+
+Exit status:
+  0  the program is printed
+  2  the words are refused
+  3  the program text is refused
+  5  reading or writing failed
+  6  memory was refused
+""",
+    ),
+    (
+        "trace --help",
+        """Runs a program on a ring, and prints what its nodes hold and send in each round
+
+Usage: nbhd trace --ids <M> --ring <A,B,..>
+
+Options:
+      --ids <M>        How many identifiers there are; they are 0 to M-1
+      --ring <A,B,..>  The ring's identifiers, each followed by its right neighbour's
+  -h, --help           Print help
+
+Standard input:  a program text
+Standard output: lines with a number for each place of the ring, or one line: what is refused
+
+M is 2 to 1024 for 0 rounds, 4 to 162 for 1 round, 6 to 23 for 2, 8 to 12 for 3, 10 for 4 rounds.
+The ring has at least 2, 4, 6, 8 or 10 identifiers for 0 to 4 rounds, below M, no two the same.
+The lines are:
+  start r0 ..       what a register holds after the assignments of start; one line for each register
+  round 1 left ..   what each place sends to its left neighbour in a round
+  round 1 right ..  what each place sends to its right neighbour
+  round 1 r0 ..     what a register holds after the round; one line for each register
+  finish ..         the channels
+
+Exit status:
+  0  the lines are printed
+  2  the words are refused
+  3  the program is refused
+  4  the ring is refused
+  5  reading or writing failed
+  6  memory was refused
+""",
+    ),
+    (
+        "judge --help",
+        """Tells whether channels are far enough apart on every ring, by a program's table
+
+Usage: nbhd judge [OPTIONS] --ids <M>
+
+Options:
+      --ids <M>      How many identifiers there are; they are 0 to M-1
+      --workers <W>  How many threads work on the table, 1 to 64 [default: 1]
+      --near <P>     By how much neighbours' channels have to differ, 1 to 4096 [default: 1]
+      --far <Q>      By how much the channels at distance two have to differ, 0 to 4096 [default: 0]
+  -h, --help         Print help
+
+Standard input:  a program text
+Standard output: one line: yes, or no with a ring where two channels are too close,
+                 or what is refused
+
+M is 2 to 1024 for 0 rounds, 4 to 162 for 1 round, 6 to 23 for 2, 8 to 12 for 3, 10 for 4 rounds.
+Without --near and --far, neighbours' channels have to differ. With --near 2 --far 1, for example,
+they have to differ by 2 or more, and the channels of a node's two neighbours have to differ as well.
+
+Exit status:
+  0  yes
+  1  no
+  2  the words are refused
+  3  the program is refused
+  5  reading or writing failed
+  6  memory or a thread was refused
+""",
+    ),
+    (
+        "audit --help",
+        """Tells whether channels are far enough apart on every ring, by a table text
+
+Usage: nbhd audit
+
+Options:
+  -h, --help  Print help
+
+Standard input:  a table text, as `nbhd table` prints it
+Standard output: one line: yes, or no with a ring where two channels are too close,
+                 or what is refused
+
+How far apart channels have to be is told by near and far of the text; a text of version 1 has near 1
+and far 0: neighbours' channels have to differ.
+
+Exit status:
+  0  yes
+  1  no
+  2  the words are refused
+  3  the table text is refused
+  5  reading or writing failed
+  6  memory or a thread was refused
+""",
+    ),
+]
+
+# The commands, each of which has three ways to ask for its help.
+COMMANDS = ["check", "print", "table", "judge", "run", "trace", "plan", "audit", "migrate"]
+
+# Other words that ask for help.
+HELP_WORDS = [
+    "--help",
+    "-h",
+    "help",
+    "help run",
+    "help audit",
+    "help migrate",
+    "help print",
+    "help trace",
+    "run --help",
+    "run -h",
+    "audit --help",
+    "print --help",
+    "trace -h",
+    "run --ids 8 --help",
+    "check --ids 8 -h",
+]
+
+# Refused words and the text on the standard error.
+REFUSED = [
+    (
+        "",
+        """error: 'nbhd' requires a subcommand but one was not provided
+  [subcommands: check, print, table, judge, run, trace, plan, audit, migrate, help]
+
+Usage: nbhd <COMMAND>
+
+For more information, try '--help'.
+""",
+    ),
+    (
+        "chek --ids 8",
+        """error: unrecognized subcommand 'chek'
+
+  tip: a similar subcommand exists: 'check'
+
+Usage: nbhd <COMMAND>
+
+For more information, try '--help'.
+""",
+    ),
+    (
+        "run --ids 8",
+        """error: the following required arguments were not provided:
+  --ring <A,B,..>
+
+Usage: nbhd run --ids <M> --ring <A,B,..>
+
+For more information, try '--help'.
+""",
+    ),
+    (
+        "table --ids 8 --workers 65",
+        """error: invalid value '65' for '--workers <W>': 65 is not in 1..=64
+
+For more information, try '--help'.
+""",
+    ),
+]
+
+# Words that are no command. An empty line has no words, and a blank two empty ones.
+NO_COMMANDS = [
+    # no command
+    "",
+    " ",
+    "walk --ids 8",
+    "RUN --ids 8 --ring 5,1,3,7",
+    "chek --ids 8",
+    "--ids 8",
+    "8",
+    "nbhd run --ids 8 --ring 5,1,3,7",
+    "--version",
+    "-V",
+    "help strange",
+    # a missing option
+    "check",
+    "table",
+    "judge",
+    "run",
+    "trace",
+    "plan",
+    "run --ids 8",
+    "trace --ids 8",
+    "plan --ring 5,1,3,7",
+    "check --ids",
+    "run --ids --ring 5,1,3,7",
+    "run --ids 8 --ring",
+    "table --ids 8 --workers",
+    "run --ids 8 --ring 5,1,3,7 --segments",
+    # a stray word
+    "check 8",
+    "check --ids 8 8",
+    "audit 8",
+    "audit audit",
+    "migrate audit",
+    "print 8",
+    "run --ids 8 5,1,3,7",
+    "trace --ids 8 5,1,3,7",
+    "check --idz 8",
+    "check -ids 8",
+    "table --ids 8 --worker 1",
+    # an option of another command
+    "check --ids 8 --workers 2",
+    "check --ids 8 --ring 5,1,3,7",
+    "table --ids 8 --ring 5,1,3,7",
+    "judge --ids 8 --segments 1",
+    "run --ids 8 --ring 5,1,3,7 --workers 1",
+    "plan --ids 8 --ring 5 --segments 1",
+    "trace --ids 8 --ring 5 --segments 1",
+    "trace --ids 8 --ring 5 --workers 1",
+    "trace --ids 8 --ring 5 --far 0",
+    "audit --ids 8",
+    "audit --workers 1",
+    "migrate --ids 8",
+    "migrate --near 1",
+    "print --ids 8",
+    # an option given twice
+    "check --ids 8 --ids 8",
+    "run --ring 5,1 --ring 5,1 --ids 8",
+    "table --ids 8 --workers 1 --workers 1",
+    "run --ids 8 --ring 5,1,3,7 --segments 1 --segments=1",
+    # numbers out of their range
+    "run --ids 4294967296 --ring 0",
+    "check --ids 4294967296",
+    "check --ids=-1",
+    "check --ids -8",
+    "check --ids eight",
+    "check --ids=",
+    "check --ids ",
+    "table --ids 8 --workers 0",
+    "table --ids 8 --workers 65",
+    "judge --ids 8 --workers 0",
+    "judge --ids 8 --workers 65",
+    "judge --ids 8 --near 0",
+    "judge --ids 8 --near 4097",
+    "judge --ids 8 --far 4097",
+    "table --ids 8 --near 0",
+    "table --ids 8 --near 4097",
+    "table --ids 8 --far 4097",
+    "plan --ids 8 --ring 5 --near 1",
+    "judge --ids 8 --near 1 --near 1",
+    "judge --ids 8 --far -1",
+    "plan --ids 8 --ring 5 --workers 0",
+    "plan --ids 8 --ring 5 --workers 65",
+    "run --ids 8 --ring 5 --segments 0",
+    "run --ids 8 --ring 5 --segments 65",
+    "run --ids 8 --ring 5 --segments 4294967297",
+    "table --ids 8 --workers x",
+    # these faults come before a bad ring
+    "run --ids eight --ring 5,,1",
+    "run --ids 8 --ring 5,,1 --segments 0",
+    "run --ring 5,,1",
+]
+
+# Words whose ring text is none.
+BAD_RINGS = [
+    "run --ids 8 --ring 5,,1",
+    "plan --ring 5,,1 --ids 8",
+    "run --ids 8 --ring=",
+    "run --ids 8 --ring=-5",
+    "trace --ids 8 --ring 5,",
+    "plan --ids 8 --ring 5,a",
+    *(["run", "--ids", "8", f"--ring={text}"] for text in ["5,,1", "4294967296", ",", "5,", ",5", "5, 1", "+5", "0x5", "5;1"]),
+]
+
+# Words and the tip on them.
+RING_FOR_IDS = "nbhd: `--ids` takes the number of identifiers; a ring is given by `--ring`\n"
+RING_IN_WORDS = "nbhd: a ring is one word with commas, as in `--ring 5,1,3,7`\n"
+NEGATIVE = "nbhd: numbers are 0 to 4294967295, without a sign\n"
+FILE_NAME = "nbhd: a text is read from standard input, as in `nbhd judge --ids 8 < FILE`\n"
+NO_TIP = "For more information, try '--help'.\n"
+TIPS = [
+    ("run --ids 8 --ring 5 1 3 7", RING_IN_WORDS),
+    ("run --ids 8 --ring 5, 1, 3, 7", RING_IN_WORDS),
+    ("run --ids 5,1,3,7", RING_FOR_IDS),
+    ("check --ids -8", NEGATIVE),
+    ("run --ids 8 --ring -1,2,3,4", NEGATIVE),
+    ("judge --ids 8 programs/cv1.txt", FILE_NAME),
+    ("judge cv1.txt --ids 8", FILE_NAME),
+    ("judge --ids 1.5", NO_TIP),
+    ("judge --file=cv1.txt", NO_TIP),
+    ("judge --ids eight", NO_TIP),
+]
+
+# Ring texts, the number of the first part that is none, and this part.
+PARTS = [("5, 1", 2, " 1"), ("", 1, ""), ("5,1,3,7,", 5, ""), ("4294967296", 1, "4294967296")]
+
+# Inputs, and words that have one answer.
+SAME_COMMANDS = [
+    (cv1_of(12), ["check --ids 64", "check --ids=64", "check --ids +64"]),
+    (CV1, ["check --ids 0", "check --ids=-0"]),
+    (CV1, ["check --ids 4294967295", "check --ids 0004294967295"]),
+    *(
+        (CV1, [f"{command} {options}" for options in same])
+        for command in ["table", "judge"]
+        for same in [
+            ["--ids 8", "--ids 8 --workers 1", "--workers 64 --ids 8", "--workers=02 --ids 008", "--ids +8 --workers +3"],
+            ["--ids 8 --near 2 --far 1", "--far 1 --near 2 --ids 8"],
+            ["--ids 8 --near 4096 --far 4096", "--far 4096 --ids 8 --near 4096"],
+            ["--ids 8 --near 3", "--far=00 --near=+3 --ids=8"],
+        ]
+    ),
+    (
+        CV1,
+        [
+            "run --ids 8 --ring 5,1,3,7",
+            "run --ring 5,1,3,7 --ids 8",
+            "run --ring=5,1,3,7 --segments=1 --ids=8",
+            "run --segments 003 --ids 0008 --ring 05,01,3,7",
+            "run --ids 8 --segments 4 --ring 005,1,3,7",
+        ],
+    ),
+    (CV1, ["trace --ids 8 --ring 5,1,3,7", "trace --ring=05,01,3,7 --ids=+8"]),
+    (CV1, ["plan --ids 8 --ring 5,1,3,7", "plan --ring 5,1,3,7 --ids 8", "plan --workers 64 --ring 5,1,3,7 --ids 8"]),
+    *((b"", [f"help {command}", f"{command} --help", f"{command} -h"]) for command in COMMANDS),
+]
