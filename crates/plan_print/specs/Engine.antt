@@ -1,6 +1,6 @@
 -- The effect of the engine on its reader and its writer.
-use Rattle.std.specs.Prelude.{◌≡◌, ◌≢◌, ◌<◌, ℕ, List, Option, IfSome, string_bytes, ⊤}
-use Rattle.std.specs.Io.KnownBytes.{Appends}
+use Rattle.std.specs.Prelude.{◌≡◌, ◌≢◌, ◌<◌, ◌↔◌, ℕ, Bool, List, Option, Result, IfSome, IsErrOf, IsTrue, string_bytes, ⊤}
+use Rattle.std.specs.Io.KnownBytes.{Appends, Keeps}
 use Rattle.devices.specs.declared.fault.EngineFault.{EngineFault}
 use Rattle.devices.specs.declared.fault.EngineFault.TheVariants.{Read, Write, Memory, Thread, Stranger}
 use Rattle.plan_print.specs.declared.status.Status.{Status}
@@ -47,6 +47,22 @@ pub record WritesFront (task : Task) (unread left before after : Option (List �
   pub report : Report
   pub is_report : IsReport task input report
   pub written : AppendsFront before after report.bytes
+
+-- what a fault leaves in the writer: after Write a prefix of the report of the task on the input that was read, after each
+-- other fault nothing
+abbrev pub LeavesOutput : Task → (unread left before after : Option (List ℕ)) → EngineFault → Type 0
+LeavesOutput task unread left before after Write = WritesFront task unread left before after
+LeavesOutput task unread left before after _ = Keeps before after
+
+-- likewise for a report of these bytes
+abbrev pub LeavesFront : List ℕ → (before after : Option (List ℕ)) → EngineFault → Type 0
+LeavesFront bytes before after Write = AppendsFront before after bytes
+LeavesFront bytes before after _ = Keeps before after
+
+-- the fault is Read exactly if a read failed, and Write exactly if a write failed
+abbrev pub TellsFailures : {T : Type 0} → Result T EngineFault → (read_failed write_failed : Bool) → Type 0
+TellsFailures result read_failed write_failed =
+    (IsErrOf result Read ↔ IsTrue read_failed) × (IsErrOf result Write ↔ IsTrue write_failed)
 
 -- the number of workers or of segments that the task names, or 0
 abbrev pub thread_count_of : Task → ℕ

@@ -1,14 +1,13 @@
 //! Doing a task: reading the whole input, then writing its report.
 
 ghost use Rattle.std.specs.Prelude.{◌≡◌, ◌≢◌, ◌+◌, ◌≤◌, ◌↔◌, ℕ, List, false, IsTrue, IfOk, IfErr, IfSome, OnErr, IsErrOf, string_bytes};
-ghost use Rattle.std.specs.Io.KnownBytes.{Appends, Keeps};
+ghost use Rattle.std.specs.Io.KnownBytes.{Appends};
 ghost use Rattle.task_words.specs.Task.{IsRunnable};
 ghost use Rattle.devices.specs.Input.{TakesFront};
-ghost use Rattle.devices.specs.Output.{AppendsFront};
 ghost use Rattle.devices.specs.Watched.{device_of, has_failed, calls_of};
 ghost use Rattle.plan_print.specs.Answers.{report_in, cause_in};
 ghost use Rattle.plan_print.specs.Causes.{Explains, IsNoteOn};
-ghost use Rattle.plan_print.specs.Engine.{limit_of, WritesReport, TellsReport, WritesFront, thread_count_of, MayHave};
+ghost use Rattle.plan_print.specs.Engine.{limit_of, WritesReport, TellsReport, LeavesOutput, LeavesFront, TellsFailures, thread_count_of, MayHave};
 
 use crate::answer::Answer;
 use crate::cause::{Cause, note_on};
@@ -50,16 +49,13 @@ pub fn engine<T: Threads + Wait + Sync, R: Read, W: Write>(
     ensures report { IfOk result (λ status. WritesReport task
         (R.remaining (device_of reader.old)) (R.remaining (device_of reader.new))
         (W.contents (device_of writer.old)) (W.contents (device_of writer.new)) status) }
-    ensures front { IsErrOf result EngineFault.Write → WritesFront task
+    ensures left { IfErr result (LeavesOutput task
         (R.remaining (device_of reader.old)) (R.remaining (device_of reader.new))
-        (W.contents (device_of writer.old)) (W.contents (device_of writer.new)) }
-    ensures unwritten { IfErr result (λ fault. fault ≢ EngineFault.Write
-        → Keeps (W.contents (device_of writer.old)) (W.contents (device_of writer.new))) }
+        (W.contents (device_of writer.old)) (W.contents (device_of writer.new))) }
     ensures taken { OnErr result (TakesFront (R.remaining (device_of reader.old)) (R.remaining (device_of reader.new)) (limit_of task)) }
     ensures asked { calls_of reader.new ≤ calls_of reader.old + (limit_of task + 1) }
     ensures threads { IfErr result (MayHave (thread_count_of task)) }
-    ensures reader_failed { IsErrOf result EngineFault.Read ↔ IsTrue (has_failed reader.new) }
-    ensures writer_failed { IsErrOf result EngineFault.Write ↔ IsTrue (has_failed writer.new) }
+    ensures failed { TellsFailures result (has_failed reader.new) (has_failed writer.new) }
 {
     match engine_with_note(rt, alloc, task, reader, writer) {
         Ok(told) => Ok(told.status),
@@ -90,16 +86,13 @@ pub fn engine_with_note<T: Threads + Wait + Sync, R: Read, W: Write>(
     ensures report { IfOk result (λ told. TellsReport task
         (R.remaining (device_of reader.old)) (R.remaining (device_of reader.new))
         (W.contents (device_of writer.old)) (W.contents (device_of writer.new)) told) }
-    ensures front { IsErrOf result EngineFault.Write → WritesFront task
+    ensures left { IfErr result (LeavesOutput task
         (R.remaining (device_of reader.old)) (R.remaining (device_of reader.new))
-        (W.contents (device_of writer.old)) (W.contents (device_of writer.new)) }
-    ensures unwritten { IfErr result (λ fault. fault ≢ EngineFault.Write
-        → Keeps (W.contents (device_of writer.old)) (W.contents (device_of writer.new))) }
+        (W.contents (device_of writer.old)) (W.contents (device_of writer.new))) }
     ensures taken { OnErr result (TakesFront (R.remaining (device_of reader.old)) (R.remaining (device_of reader.new)) (limit_of task)) }
     ensures asked { calls_of reader.new ≤ calls_of reader.old + (limit_of task + 1) }
     ensures threads { IfErr result (MayHave (thread_count_of task)) }
-    ensures reader_failed { IsErrOf result EngineFault.Read ↔ IsTrue (has_failed reader.new) }
-    ensures writer_failed { IsErrOf result EngineFault.Write ↔ IsTrue (has_failed writer.new) }
+    ensures failed { TellsFailures result (has_failed reader.new) (has_failed writer.new) }
 {
     let input = read_input(alloc, reader, limit(&task))?;
     let answer = report_of(rt, alloc, task, &input)?;
@@ -129,9 +122,7 @@ fn write_answer<W: Write>(
     ensures report { IfOk result (λ told. Appends (W.contents (device_of writer.old)) (W.contents (device_of writer.new)) (report_in answer).bytes
         × (told.0 ≡ (report_in answer).status)) }
     ensures cause { IfOk result (λ told. told.1 ≡ cause_in answer) }
-    ensures front { IsErrOf result EngineFault.Write → AppendsFront (W.contents (device_of writer.old)) (W.contents (device_of writer.new)) (report_in answer).bytes }
-    ensures unwritten { IfErr result (λ fault. fault ≢ EngineFault.Write
-        → Keeps (W.contents (device_of writer.old)) (W.contents (device_of writer.new))) }
+    ensures left { IfErr result (LeavesFront (report_in answer).bytes (W.contents (device_of writer.old)) (W.contents (device_of writer.new))) }
     ensures fault { IfErr result (λ fault. fault ≢ EngineFault.Read) }
     ensures own { IfErr result (MayHave 0) }
     ensures failed { IsErrOf result EngineFault.Write ↔ IsTrue (has_failed writer.new) }
