@@ -1,7 +1,8 @@
 // The outcomes of the segments of a run.
-ghost use Rattle.std.specs.Prelude.{◌≡◌, None, Some, IfOk, IfErr};
+ghost use Rattle.std.specs.Prelude.{◌≡◌, ◌⊎◌, None, Some, IfOk, IfErr, OnOk};
 ghost use Rattle.ring_exec.specs.Faults.{blamed};
-ghost use Rattle.ring_exec.specs.declared.fault.CourseFault.TheVariants.{NoThread};
+ghost use Rattle.ring_exec.specs.declared.fault.SegmentFault.TheVariants.{OutOfMemory as NoMemory};
+ghost use Rattle.ring_exec.specs.declared.fault.CourseFault.TheVariants.{Segment as OfSegment, NoThread};
 
 use crate::fault::{CourseFault, SegmentFault};
 use crate::runner::Outcome;
@@ -27,9 +28,13 @@ impl<'a> Joined<'a> {
         })
     }
 
-    // Adds the outcome of a segment. All that were added before come after it on the ring.
+    // Adds the outcome of a segment. All that were added before come after it on the ring, so that
+    // its fault takes precedence over theirs. Without memory to keep it, it has a fault too.
     pub(crate) fn add(mut self, outcome: Outcome<'a>) -> Joined<'a>
-        ensures { result.fault ≡ Some NoThread → self.entry.fault ≡ Some NoThread }
+        ensures at_fault { IfErr outcome.entry (λ fault. result.fault ≡ Some (blamed self.entry.fault (OfSegment fault))) }
+        ensures at_segment { OnOk outcome.entry ((result.fault ≡ self.entry.fault)
+            ⊎ (result.fault ≡ Some (blamed self.entry.fault (OfSegment NoMemory)))) }
+        ensures no_thread { result.fault ≡ Some NoThread → self.entry.fault ≡ Some NoThread }
     {
         match outcome {
             Ok(segment) => {
@@ -44,7 +49,8 @@ impl<'a> Joined<'a> {
 
     // Returns the segments, or the fault that takes precedence.
     pub(crate) fn into_segments(self) -> Result<Vec<Segment<'a>>, CourseFault>
-        ensures { IfErr result (λ fault. self.entry.fault ≡ Some fault) }
+        ensures fault { IfErr result (λ fault. self.entry.fault ≡ Some fault) }
+        ensures segments { IfOk result (λ segments. (self.entry.fault ≡ None) × (segments ≡ self.entry.segments)) }
     {
         match self.fault {
             None => Ok(self.segments),

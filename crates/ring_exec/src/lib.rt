@@ -17,6 +17,3 @@ pub use fault::RunFault;
 pub use limits::MAX_SEGMENTS;
 pub use message_run::run;
 pub use ring_core::{Msg, Segment, Strange};
-
-#[cfg(test)]
-mod tests;

@@ -78,12 +78,7 @@ fn run_named<'a, R: Threads + Wait + Sync, G: Gate + Sync, L: BorderName + Send 
 // Runs these segments, with the first one last. That they are those of the plan and the ring is
 // checked once they have ended. All memory is allocated before the first thread starts. A single
 // segment runs on this thread, and none is started.
-pub(crate) fn run_segments<
-    'a,
-    R: Threads + Wait + Sync,
-    G: Gate + Sync,
-    L: BorderName + Send + Sync + 'a,
->(
+fn run_segments<'a, R: Threads + Wait + Sync, G: Gate + Sync, L: BorderName + Send + Sync + 'a>(
     shared: Shared<'a, R, G>,
     plan: &Plan,
     ring: &Ring,

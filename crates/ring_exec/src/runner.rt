@@ -1,5 +1,6 @@
 // A segment that runs between its two borders.
-ghost use Rattle.std.specs.Prelude.{◌≡◌, ◌+◌, ◌<◌, OnOk, length};
+ghost use Rattle.std.specs.Prelude.{◌≡◌, ◌+◌, ◌<◌, IfErr, IfOk, OnOk, length};
+ghost use Rattle.ring_exec.specs.declared.end.Stop.TheVariants.{BorderClosed, Fault};
 
 use crate::border_name::BorderName;
 use crate::end::{End, Stop};
@@ -57,13 +58,21 @@ impl<'s, 'a, R: Wait, G: Gate, A: BorderName, B: BorderName> Runner<
             if let Err(stop) = next_round(shared.rt, &mut segment, &mut left, &mut right) {
                 left.close(shared.rt);
                 right.close(shared.rt);
-                return match stop {
-                    Stop::BorderClosed => Ok(segment),
-                    Stop::Fault(fault) => Err(fault),
-                };
+                return outcome_of(segment, stop);
             }
         }
         Ok(segment)
+    }
+}
+
+// Returns the outcome of a segment that stops. A closed border is no fault of the segment.
+fn outcome_of<'a>(segment: Segment<'a>, stop: Stop) -> Outcome<'a>
+    ensures closed { IfOk result (λ stopped. (stop ≡ BorderClosed) × (stopped ≡ segment.entry)) }
+    ensures fault { IfErr result (λ fault. stop ≡ Fault fault) }
+{
+    match stop {
+        Stop::BorderClosed => Ok(segment),
+        Stop::Fault(fault) => Err(fault),
     }
 }
 

@@ -1,5 +1,7 @@
-use crate::{RunFault, run};
+//! Rings run by messages, in segments.
+
 use lang_check::Plan;
+use ring_exec::{RunFault, run};
 use round_eval::OpenGate;
 use std::alloc::Global;
 use std::sync::Wait;
@@ -11,7 +13,7 @@ use win_index::Ring;
 // No round: the channel of a place is its identifier.
 const OWN: &[u8] = b"rounds 0\nchannels 1024\nregisters 1\nstart\nr0 = id\nfinish r0\n";
 
-// The channels of a ring that is run in this many segments, or why there are none.
+// Returns the channels of a ring that is run in this many segments, or why there are none.
 fn channels_by<R: Threads + Wait + Sync>(
     rt: &R,
     alloc: Global,
@@ -23,7 +25,7 @@ fn channels_by<R: Threads + Wait + Sync>(
     Ok(run(rt, alloc, plan, &ring, segments, &OpenGate))
 }
 
-// Whether a run in this many segments gives these channels.
+// Returns whether a run in this many segments gives these channels.
 fn gives<R: Threads + Wait + Sync>(
     rt: &R,
     alloc: Global,
@@ -51,21 +53,6 @@ fn four_places_in_one_to_four_segments(rt: HostRuntime) -> Result<(), Fail> {
 }
 
 #[test]
-fn eight_places_in_three_rounds(rt: HostRuntime) -> Result<(), Fail> {
-    let alloc = rt.alloc();
-    let plan = plan_of(alloc, RED, 8)?;
-    for segments in [1, 3, 8] {
-        let ids = vec![in alloc; 5, 1, 3, 7, 0, 2, 4, 6]?;
-        let channels = [1, 0, 3, 1, 0, 3, 2, 3];
-        assert!(rt;
-            gives(&rt, alloc, &plan, ids, segments, &channels)?,
-            "{segments}"
-        );
-    }
-    Ok(())
-}
-
-#[test]
 fn a_thousand_runs_end_and_agree(rt: HostRuntime) -> Result<(), Fail> {
     let alloc = rt.alloc();
     let plan = plan_of(alloc, RED, 8)?;
@@ -77,7 +64,7 @@ fn a_thousand_runs_end_and_agree(rt: HostRuntime) -> Result<(), Fail> {
     Ok(())
 }
 
-// The first `count` identifiers.
+// Returns the first `count` identifiers.
 fn first_ids(alloc: Global, count: u32) -> Result<Vec<u32>, Fail> {
     let mut ids = Vec::new(alloc);
     for id in 0..count {

@@ -1,5 +1,7 @@
-use crate::run;
+//! What the gate of a run by messages is told.
+
 use lang_check::Plan;
+use ring_exec::run;
 use round_eval::Gate;
 use std::alloc::Global;
 use std::sync::Wait;
@@ -13,8 +15,8 @@ use win_index::Ring;
 // The maximum number of looks at the counter of entered segments.
 const TURNS: u64 = 1_000_000_000;
 
-// Holds the first round of each of two segments until both have entered, and records how often each
-// entered, and with which rounds.
+// A gate that holds the first round of each of two segments until both have entered, and records
+// how often each entered, and with which rounds.
 #[derive(Drop)]
 struct Meeting {
     entered: AtomicU64,
@@ -33,6 +35,7 @@ impl Meeting {
         }
     }
 
+    // Returns what this meeting saw.
     fn seen(&self) -> Seen {
         let [first, second] = &self.times;
         let [of_first, of_second] = &self.rounds;
@@ -83,7 +86,7 @@ struct Seen {
     rounds: [u64; 2],
 }
 
-// Runs a ring in two segments that meet: its channels, and what the gate saw.
+// Runs a ring in two segments that meet. Returns its channels, and what the gate saw.
 fn seen_by_two<R: Threads + Wait + Sync>(
     rt: &R,
     alloc: Global,

@@ -1,6 +1,0 @@
-//! Tests of what no clause says.
-
-mod faults;
-mod gate;
-mod runs;
-mod strangers;
