@@ -8,12 +8,6 @@ use test_programs::{CV1, plan_of};
 
 // CV1 for 8 identifiers has three jobs: block 0 of level 0, and blocks 0 and 1 of level 1.
 
-// The state of two workers after these events.
-fn after<'a>(alloc: Global, plan: &'a Plan, events: &[FillEvent]) -> Result<FillWorld<'a>, Fail> {
-    let world = replay(alloc, plan, 2, events).ok().ok_or("a world")?;
-    Ok(world)
-}
-
 // The maker of the block in the cell of a level and a number.
 fn maker(world: &FillWorld<'_>, level: u32, number: u32) -> Option<u32> {
     Some(world.cell(level, number)?.maker())
@@ -40,68 +34,109 @@ fn known(world: &FillWorld<'_>) -> [[bool; 2]; 2] {
     ]
 }
 
+// What stands in the cells and with the workers: the next job, `makers`, `workers` and `known`.
+type Found = (
+    (u32, [Option<u32>; 3]),
+    ([(Option<u32>, bool); 2], [[bool; 2]; 2]),
+);
+
+// What is found in a world of two workers.
+fn found(world: &FillWorld<'_>) -> Found {
+    (
+        (world.next(), makers(world)),
+        (workers(world), known(world)),
+    )
+}
+
+// What is found after these events of two workers.
+fn found_after(alloc: Global, plan: &Plan, events: &[FillEvent]) -> Option<Found> {
+    let world = replay(alloc, plan, 2, events).ok()?;
+    Some(found(&world))
+}
+
+// What the readers return for a level, a block or a worker that is out of range.
+fn out_of_range(world: &FillWorld<'_>) -> ([Option<u32>; 3], [bool; 3]) {
+    (
+        [maker(world, 2, 0), maker(world, 0, 1), world.hand(2)],
+        [world.stopped(2), world.knows(2, 0, 0), world.knows(0, 2, 0)],
+    )
+}
+
+// What the readers return for what is out of range, before the first event.
+fn out_of_range_at_first(alloc: Global, plan: &Plan) -> Option<([Option<u32>; 3], [bool; 3])> {
+    let world = replay(alloc, plan, 2, &[]).ok()?;
+    Some(out_of_range(&world))
+}
+
+// Two workers fill the three cells.
+const FILLED: [FillEvent; 10] = [
+    FillEvent::Draw(0),
+    FillEvent::Draw(1),
+    FillEvent::Install(1, 1, 0),
+    FillEvent::Install(0, 0, 0),
+    FillEvent::Look(1, 0, 0),
+    FillEvent::Install(1, 1, 0),
+    FillEvent::Draw(0),
+    FillEvent::Install(0, 1, 1),
+    FillEvent::Draw(0),
+    FillEvent::Draw(1),
+];
+
+// A worker installs a block in a full cell.
+const FULL: [FillEvent; 4] = [
+    FillEvent::Draw(0),
+    FillEvent::Draw(1),
+    FillEvent::Install(0, 0, 0),
+    FillEvent::Install(1, 0, 0),
+];
+
+// Events of a level, a block or a worker that is out of range.
+const OUT_OF_RANGE: [FillEvent; 7] = [
+    FillEvent::Draw(2),
+    FillEvent::Look(2, 0, 0),
+    FillEvent::Look(1, 2, 0),
+    FillEvent::Look(1, 0, 1),
+    FillEvent::Install(2, 1, 0),
+    FillEvent::Install(0, 2, 0),
+    FillEvent::Install(0, 1, 2),
+];
+
 #[test]
 fn two_workers_fill_three_cells(rt: HostRuntime) -> Result<(), Fail> {
     let plan = plan_of(rt.alloc(), CV1, 8)?;
-    let events = [
-        FillEvent::Draw(0),
-        FillEvent::Draw(1),
-        FillEvent::Install(1, 1, 0),
-        FillEvent::Install(0, 0, 0),
-        FillEvent::Look(1, 0, 0),
-        FillEvent::Install(1, 1, 0),
-        FillEvent::Draw(0),
-        FillEvent::Install(0, 1, 1),
-        FillEvent::Draw(0),
-        FillEvent::Draw(1),
-    ];
-    let world = after(rt.alloc(), &plan, &events)?;
-    assert!(rt; (world.next(), makers(&world)) == (3, [Some(0), Some(1), Some(0)]));
-    assert!(rt; workers(&world) == [(None, true), (None, true)]);
-    assert!(rt; known(&world) == [[true, true], [true, false]]);
+    let want = (
+        (3, [Some(0), Some(1), Some(0)]),
+        ([(None, true), (None, true)], [[true, true], [true, false]]),
+    );
+    assert!(rt; found_after(rt.alloc(), &plan, &FILLED) == Some(want));
     Ok(())
 }
 
 #[test]
 fn an_install_into_a_full_cell_changes_nothing(rt: HostRuntime) -> Result<(), Fail> {
     let plan = plan_of(rt.alloc(), CV1, 8)?;
-    let events = [
-        FillEvent::Draw(0),
-        FillEvent::Draw(1),
-        FillEvent::Install(0, 0, 0),
-        FillEvent::Install(1, 0, 0),
-    ];
-    let world = after(rt.alloc(), &plan, &events)?;
-    assert!(rt; (world.next(), makers(&world)) == (2, [Some(0), None, None]));
-    assert!(rt; workers(&world) == [(None, false), (Some(1), false)]);
-    assert!(rt; known(&world) == [[true, false], [false, false]]);
+    let want = (
+        (2, [Some(0), None, None]),
+        (
+            [(None, false), (Some(1), false)],
+            [[true, false], [false, false]],
+        ),
+    );
+    assert!(rt; found_after(rt.alloc(), &plan, &FULL) == Some(want));
     Ok(())
 }
 
 #[test]
 fn events_out_of_range_change_nothing(rt: HostRuntime) -> Result<(), Fail> {
     let plan = plan_of(rt.alloc(), CV1, 8)?;
-    let before = [FillEvent::Draw(0), FillEvent::Install(0, 0, 0)];
-    let events = [
-        FillEvent::Draw(2),
-        FillEvent::Look(2, 0, 0),
-        FillEvent::Look(1, 2, 0),
-        FillEvent::Look(1, 0, 1),
-        FillEvent::Install(2, 1, 0),
-        FillEvent::Install(0, 2, 0),
-        FillEvent::Install(0, 1, 2),
-    ];
-    for event in events {
-        let world = after(rt.alloc(), &plan, &[before[0], before[1], event])?;
-        let found = (
-            (world.next(), makers(&world)),
-            (workers(&world), known(&world)),
-        );
-        let want = (
-            (1, [Some(0), None, None]),
-            ([(None, false); 2], [[true, false], [false, false]]),
-        );
-        assert!(rt; found == want, "{event:?}");
+    let want = (
+        (1, [Some(0), None, None]),
+        ([(None, false); 2], [[true, false], [false, false]]),
+    );
+    for event in OUT_OF_RANGE {
+        let events = [FillEvent::Draw(0), FillEvent::Install(0, 0, 0), event];
+        let found = found_after(rt.alloc(), &plan, &events);
+        assert!(rt; found == Some(want), "{event:?}");
     }
     Ok(())
 }
@@ -109,10 +144,7 @@ fn events_out_of_range_change_nothing(rt: HostRuntime) -> Result<(), Fail> {
 #[test]
 fn readers_take_what_is_out_of_range(rt: HostRuntime) -> Result<(), Fail> {
     let plan = plan_of(rt.alloc(), CV1, 8)?;
-    let world = after(rt.alloc(), &plan, &[])?;
-    let cells = [maker(&world, 2, 0), maker(&world, 0, 1), world.hand(2)];
-    assert!(rt; cells == [None, None, None]);
-    let tests = [world.stopped(2), world.knows(2, 0, 0), world.knows(0, 2, 0)];
-    assert!(rt; tests == [true, false, false]);
+    let found = out_of_range_at_first(rt.alloc(), &plan);
+    assert!(rt; found == Some(([None, None, None], [true, false, false])));
     Ok(())
 }

@@ -1,5 +1,6 @@
 //! Values of expressions, and rounds at one node and on a ring.
 
+use lang_check::Plan;
 use node_program::{BinOp, Env, Expr, UnOp};
 use round_eval::{channel, messages, plain_run, start_state, step, value_of};
 use std::alloc::{AllocError, Global};
@@ -77,18 +78,33 @@ fn not_and_if_have_their_values(rt: HostRuntime) -> Result<(), Fail> {
     Ok(())
 }
 
+// The round of a node of two registers: its registers at the start, its messages to the left and to
+// the right, its registers after the round, and its channel.
+fn round_of_node(plan: &Plan) -> Option<([u32; 2], (u32, u32), [u32; 2], u32)> {
+    let shape = plan.shape();
+    if shape.ids() != 8 || shape.rounds() != 1 || plan.program().registers() != 2 {
+        return None;
+    }
+    let mut start = [9, 9];
+    start_state(plan, 5, &mut start);
+    let sent = messages(plan, 0, &[5, 3]);
+    let mut next = start;
+    step(plan, 0, &[5, 3], 7, 2, &mut next);
+    Some((start, sent, next, channel(plan, &next)))
+}
+
+// Whether a run on the ring of 5, 1, 3 and 7 has these channels.
+fn has_channels(alloc: Global, plan: &Plan, want: &[u32]) -> Option<bool> {
+    let ids = [5, 1, 3, 7].to_vec(alloc).ok()?;
+    let ring = Ring::new(plan.shape(), ids).ok()?;
+    let channels = plain_run(alloc, plan, &ring).ok()?;
+    Some(channels.as_slice() == want)
+}
+
 #[test]
 fn a_node_of_two_registers_does_its_round(rt: HostRuntime) -> Result<(), Fail> {
     let plan = plan_of(rt.alloc(), TWO_REGISTERS, 8)?;
-    assert!(rt; plan.shape().ids() == 8 && plan.shape().rounds() == 1);
-    assert!(rt; plan.program().registers() == 2);
-    let mut registers = [9, 9];
-    start_state(&plan, 5, &mut registers);
-    assert!(rt; registers == [5, 0]);
-    assert!(rt; messages(&plan, 0, &[5, 3]) == (3, 5));
-    step(&plan, 0, &[5, 3], 7, 2, &mut registers);
-    assert!(rt; registers == [3, 12]);
-    assert!(rt; channel(&plan, &registers) == 12);
+    assert!(rt; round_of_node(&plan) == Some(([5, 0], (3, 5), [3, 12], 12)));
     Ok(())
 }
 
@@ -96,10 +112,7 @@ fn a_node_of_two_registers_does_its_round(rt: HostRuntime) -> Result<(), Fail> {
 fn rings_of_two_registers_have_their_channels(rt: HostRuntime) -> Result<(), Fail> {
     for (text, want) in [(TWO_REGISTERS, [12, 6, 4, 10]), (SWAP, [5, 1, 3, 7])] {
         let plan = plan_of(rt.alloc(), text, 8)?;
-        let ids = vec![in rt.alloc(); 5, 1, 3, 7]?;
-        let ring = Ring::new(plan.shape(), ids).ok().ok_or("a ring")?;
-        let channels = plain_run(rt.alloc(), &plan, &ring).ok().ok_or("memory")?;
-        assert!(rt; channels.as_slice() == want.as_slice());
+        assert!(rt; has_channels(rt.alloc(), &plan, &want) == Some(true));
     }
     Ok(())
 }
