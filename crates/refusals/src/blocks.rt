@@ -1,5 +1,6 @@
 ghost use Rattle.std.specs.Prelude.{◌≡◌, IfOk};
 ghost use Rattle.shared_memo.specs.PlanJobs.{IsKey};
+ghost use Rattle.shared_memo.specs.Passes.{memo_plan};
 
 use crate::miss::Miss;
 use crate::plans::{has_block, plan_of};
@@ -17,9 +18,19 @@ pub(crate) fn do_make_block<R: AllocGlobal + Print>(rt: &R) -> Result<(), Miss> 
     let alloc = rt.alloc();
     let plan = plan_of(alloc, CV1, 8)?;
     let memo = other_call(Memo::new(alloc, &plan))?;
-    let mut pass = other_call(memo.pass(alloc))?;
-    let mut reader = Reader::new(&memo, &mut pass);
-    tell_blocks(rt, &plan, &mut reader)
+    tell_blocks_of(rt, &plan, &memo)
+}
+
+// Prints the results of `make_block` with a pass of a memo.
+fn tell_blocks_of<'a, R: AllocGlobal + Print>(
+    rt: &R,
+    plan: &'a Plan,
+    memo: &Memo<'a>,
+) -> Result<(), Miss>
+    requires { memo_plan memo.now ≡ plan.now }
+{
+    let mut pass = other_call(memo.pass(rt.alloc()))?;
+    tell_blocks(rt, plan, &mut Reader::new(memo, &mut pass))
 }
 
 /// `BlockMaker`: prints the number of states of the first block of level 0, and its first state. A
@@ -34,22 +45,53 @@ pub(crate) fn do_block_maker<R: AllocGlobal + Print>(rt: &R) -> Result<(), Miss>
 // Makes the first block of level 0 of the code's plan, and prints its states.
 fn tell_first_block<R: AllocGlobal + Print>(rt: &R, code: &Code<'_>) -> Result<(), Miss> {
     let alloc = rt.alloc();
-    let plan = code.plan();
-    let memo = other_call(Memo::new(alloc, plan))?;
+    let memo = other_call(Memo::new(alloc, code.plan()))?;
     let mut pass = other_call(memo.pass(alloc))?;
     let mut reader = Reader::new(&memo, &mut pass);
-    let mut maker = match value_or_refusal(rt, BlockMaker::new(alloc, code))? {
-        Some(maker) => maker,
-        None => retried(BlockMaker::new(alloc, code))?,
-    };
-    if !has_block(plan, 0, 0) {
+    tell_made_block(rt, code, &mut reader)
+}
+
+// Makes the same block from a reader's blocks, and prints its states.
+fn tell_made_block<R: AllocGlobal + Print>(
+    rt: &R,
+    code: &Code<'_>,
+    reader: &mut Reader<'_, '_, '_>,
+) -> Result<(), Miss>
+    requires { reader.old.pass.now.plan.now ≡ code.now }
+{
+    let mut maker = maker_of(rt, code)?;
+    if !has_block(code.plan(), 0, 0) {
         return Err(Miss::Wrong);
     }
-    let block = match value_or_refusal(rt, maker.make(&mut reader, 0, 0, 4))? {
-        Some(block) => block,
-        None => retried(maker.make(&mut reader, 0, 0, 4))?,
-    };
-    tell_states(rt, &block)
+    tell_states(rt, &made_by(rt, &mut maker, reader)?)
+}
+
+// Returns a maker of the blocks of a code's plan.
+fn maker_of<'c, 'p, R: AllocGlobal + Print>(
+    rt: &R,
+    code: &'c Code<'p>,
+) -> Result<BlockMaker<'c, 'p>, Miss>
+    ensures { IfOk result (λ maker. maker ≡ code.entry.now) }
+{
+    match value_or_refusal(rt, BlockMaker::new(rt.alloc(), code))? {
+        Some(maker) => Ok(maker),
+        None => retried(BlockMaker::new(rt.alloc(), code)),
+    }
+}
+
+// Returns the first block of level 0, which a maker makes from a reader's blocks.
+fn made_by<'p, R: Print>(
+    rt: &R,
+    maker: &mut BlockMaker<'_, 'p>,
+    reader: &mut Reader<'_, '_, '_>,
+) -> Result<Block<'p>, Miss>
+    requires plan { reader.old.pass.now.plan.now ≡ maker.old }
+    requires key { IsKey maker.old 0 0 }
+{
+    match value_or_refusal(rt, maker.make(reader, 0, 0, 4))? {
+        Some(block) => Ok(block),
+        None => retried(maker.make(reader, 0, 0, 4)),
+    }
 }
 
 // Prints the results of `make_block` at level 1, without blocks below and with the first of them.

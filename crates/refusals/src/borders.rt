@@ -2,7 +2,7 @@ ghost use Rattle.std.specs.Prelude.{◌≡◌, ◌<◌, ◌^◌, ◌+◌, OnOk, 
 
 use crate::miss::Miss;
 use crate::tell::tell;
-use border_exchange::{Border, Dated, PutFault, Seat, Side};
+use border_exchange::{Border, Dated, PutFault, Seat, Side, Totals};
 use std::alloc::Global;
 use std::marker::Brand;
 use std::sync::Wait;
@@ -187,7 +187,11 @@ fn settle<L: Ledger, M: Ledger, R: Print>(
     if right.side() != Side::Rightward || left.side() != Side::Leftward {
         return Err(Miss::Wrong);
     }
-    let totals = border.settle(right, left);
+    tell_totals(rt, &border.settle(right, left))
+}
+
+// Prints the numbers of messages to the right and to the left, then their values in that order.
+fn tell_totals<R: Print>(rt: &R, totals: &Totals<Note>) -> Result<(), Miss> {
     println!(rt; "{} {}", totals.rightward.len(), totals.leftward.len())?;
     for note in totals.rightward.iter().chain(totals.leftward.iter()) {
         println!(rt; "{}", note.value)?;

@@ -9,13 +9,26 @@ use lang_check::Plan;
 use round_columns::{Code, Columns, Work, channel_columns, step_columns};
 use test_programs::{CV1, LDB};
 
+/// Columns of three nodes, and of the nodes to their left and to their right.
+#[derive(Drop)]
+struct Neighbours {
+    left: Columns,
+    own: Columns,
+    right: Columns,
+}
+
 /// `Code::new`: prints the numbers of columns that the expressions of two programs need.
 pub(crate) fn do_code<R: AllocGlobal + Print>(rt: &R) -> Result<(), Miss> {
     let alloc = rt.alloc();
     let first = plan_of(alloc, CV1, 8)?;
     let second = plan_of(alloc, LDB, 8)?;
-    let first = code_of(rt, &first)?;
-    let second = code_of(rt, &second)?;
+    tell_stacks(rt, &first, &second)
+}
+
+// Prints the numbers of columns that the expressions of two plans need.
+fn tell_stacks<R: AllocGlobal + Print>(rt: &R, first: &Plan, second: &Plan) -> Result<(), Miss> {
+    let first = code_of(rt, first)?;
+    let second = code_of(rt, second)?;
     tell_numbers(rt, &[first.stack(), second.stack()])
 }
 
@@ -27,10 +40,19 @@ pub(crate) fn do_columns<R: AllocGlobal + Print>(rt: &R) -> Result<(), Miss> {
         return Err(Miss::Wrong);
     }
     let code = code_of(rt, &plan)?;
+    tell_round(rt, &code, &three_neighbours(rt)?)
+}
+
+// Returns three nodes of one register between their neighbours.
+fn three_neighbours<R: AllocGlobal + Print>(rt: &R) -> Result<Neighbours, Miss>
+    ensures left { IfOk result (λ nodes. (nodes.left.registers ≡ 1) × (length nodes.left.states ≡ 3)) }
+    ensures own { IfOk result (λ nodes. (nodes.own.registers ≡ 1) × (length nodes.own.states ≡ 3)) }
+    ensures right { IfOk result (λ nodes. (nodes.right.registers ≡ 1) × (length nodes.right.states ≡ 3)) }
+{
     let left = one_column(rt, [7, 5, 1])?;
     let own = one_column(rt, [5, 1, 3])?;
     let right = one_column(rt, [1, 3, 7])?;
-    tell_round(rt, &code, &left, &own, &right)
+    Ok(Neighbours { left, own, right })
 }
 
 // Prints the registers of three nodes of one register after the first round, and their channels
@@ -38,16 +60,15 @@ pub(crate) fn do_columns<R: AllocGlobal + Print>(rt: &R) -> Result<(), Miss> {
 fn tell_round<R: AllocGlobal + Print>(
     rt: &R,
     code: &Code<'_>,
-    left: &Columns,
-    own: &Columns,
-    right: &Columns,
+    nodes: &Neighbours,
 ) -> Result<(), Miss>
     requires rounds { length code.now.program.steps ≡ 1 }
     requires registers { length code.now.program.start ≡ 1 }
-    requires left { (left.now.registers ≡ 1) × (length left.now.states ≡ 3) }
-    requires own { (own.now.registers ≡ 1) × (length own.now.states ≡ 3) }
-    requires right { (right.now.registers ≡ 1) × (length right.now.states ≡ 3) }
+    requires left { (nodes.now.left.registers ≡ 1) × (length nodes.now.left.states ≡ 3) }
+    requires own { (nodes.now.own.registers ≡ 1) × (length nodes.now.own.states ≡ 3) }
+    requires right { (nodes.now.right.registers ≡ 1) × (length nodes.now.right.states ≡ 3) }
 {
+    let (left, own, right) = (&nodes.left, &nodes.own, &nodes.right);
     let mut out = one_column(rt, [9, 9, 9])?;
     let mut work = work_of(rt, code)?;
     step_columns(code, 0, left, own, right, &mut work, &mut out);

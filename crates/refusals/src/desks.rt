@@ -1,30 +1,76 @@
 ghost use Rattle.std.specs.Prelude.{◌≡◌, [], All, IfOk, OnOk};
-ghost use Rattle.shared_memo.specs.Tickets.{drawn, told, IsTicketOf};
+ghost use Rattle.shared_memo.specs.Tickets.{drawn, told, tickets_of, IsTicketOf};
 
 use crate::miss::Miss;
 use crate::tell::{other_call, retried, value_or_refusal};
 use shared_memo::{Desk, Ticket};
+use std::alloc::Global;
 
 /// `Desk::new`: prints the results of two tickets that draw three numbers in turn, and of one at a
 /// desk without numbers.
 pub(crate) fn do_desk<R: AllocGlobal + Print>(rt: &R) -> Result<(), Miss> {
-    let (desk, mut tickets) = match value_or_refusal(rt, Desk::new(rt.alloc(), 3, 2))? {
+    let (desk, tickets) = match value_or_refusal(rt, Desk::new(rt.alloc(), 3, 2))? {
         Some(made) => made,
         None => retried(Desk::new(rt.alloc(), 3, 2))?,
     };
-    let mut b = pop_ticket(&desk, &mut tickets)?;
-    let mut a = pop_ticket(&desk, &mut tickets)?;
-    let first = draw_number(&desk, &mut a)?;
-    let second = draw_number(&desk, &mut b)?;
-    let third = draw_number(&desk, &mut a)?;
+    let (b, a) = two_tickets(&desk, tickets)?;
+    tell_draws(rt, desk, a, b)?;
+    do_empty_desk(rt)
+}
+
+// Draws with two tickets until both are told that all numbers are drawn, and closes the desk.
+fn tell_draws<R: AllocGlobal + Print>(
+    rt: &R,
+    desk: Desk,
+    mut a: Ticket,
+    mut b: Ticket,
+) -> Result<(), Miss>
+    requires count { tickets_of desk ≡ 2 }
+    requires a { IsTicketOf desk a × (told a ≡ 0) }
+    requires b { IsTicketOf desk b × (told b ≡ 0) }
+{
+    let [first, second, third] = draw_three(&desk, &mut a, &mut b)?;
     let of_b = desk.draw(&mut b);
     let of_a = desk.draw(&mut a);
-    let mut back = Vec::new(rt.alloc());
+    let count = close_of_two(rt.alloc(), desk, a, b)?;
+    println!(rt; "{first} {second} {third} {of_b:?} {of_a:?} {count}")?;
+    Ok(())
+}
+
+// Draws a number with each of two tickets, and one more with the first.
+fn draw_three(desk: &Desk, a: &mut Ticket, b: &mut Ticket) -> Result<[u32; 3], Miss>
+    requires a { IsTicketOf desk.now a.old × (told a.old ≡ 0) }
+    requires b { IsTicketOf desk.now b.old × (told b.old ≡ 0) }
+    ensures a { OnOk result (IsTicketOf desk.now a.new × (told a.new ≡ 0)) }
+    ensures b { OnOk result (IsTicketOf desk.now b.new × (told b.new ≡ 0)) }
+{
+    let first = draw_number(desk, a)?;
+    let second = draw_number(desk, b)?;
+    let third = draw_number(desk, a)?;
+    Ok([first, second, third])
+}
+
+// Closes a desk of two tickets, and returns how many numbers were drawn.
+fn close_of_two(alloc: Global, desk: Desk, a: Ticket, b: Ticket) -> Result<u32, Miss>
+    requires count { tickets_of desk ≡ 2 }
+    requires a { IsTicketOf desk a }
+    requires b { IsTicketOf desk b }
+{
+    let mut back = Vec::new(alloc);
     other_call(back.push(a))?;
     other_call(back.push(b))?;
-    let count = desk.close(back);
-    println!(rt; "{first} {second} {third} {of_b:?} {of_a:?} {count}")?;
-    do_empty_desk(rt)
+    Ok(desk.close(back))
+}
+
+// Removes the last two tickets, and drops the list.
+fn two_tickets(desk: &Desk, mut tickets: Vec<Ticket>) -> Result<(Ticket, Ticket), Miss>
+    requires { All (λ t. IsTicketOf desk.now t × (drawn t ≡ []) × (told t ≡ 0)) tickets.items }
+    ensures last { IfOk result (λ pair. IsTicketOf desk.now pair.0 × (told pair.0 ≡ 0)) }
+    ensures before { IfOk result (λ pair. IsTicketOf desk.now pair.1 × (told pair.1 ≡ 0)) }
+{
+    let last = pop_ticket(desk, &mut tickets)?;
+    let before = pop_ticket(desk, &mut tickets)?;
+    Ok((last, before))
 }
 
 // Draws with one ticket at a desk without numbers.

@@ -32,8 +32,17 @@ const FULL: [FillEvent; 4] = [
 /// whether worker 1 knows the first block.
 pub(crate) fn do_fill_replay<R: AllocGlobal + Print>(rt: &R) -> Result<(), Miss> {
     let plan = plan_of(rt.alloc(), CV1, 8)?;
-    tell_world(rt, &after(rt, &plan, &FILLED)?)?;
-    tell_world(rt, &after(rt, &plan, &FULL)?)
+    tell_after(rt, &plan, &FILLED)?;
+    tell_after(rt, &plan, &FULL)
+}
+
+// Prints two workers and the cells after these events.
+fn tell_after<R: AllocGlobal + Print>(
+    rt: &R,
+    plan: &Plan,
+    events: &[FillEvent],
+) -> Result<(), Miss> {
+    tell_world(rt, &after(rt, plan, events)?)
 }
 
 // Returns two workers after these events.
@@ -51,15 +60,26 @@ fn after<'a, R: AllocGlobal + Print>(
 // Prints the contents of the cells, and the workers.
 fn tell_world<R: Print>(rt: &R, world: &FillWorld<'_>) -> Result<(), Miss> {
     for (level, number) in [(0, 0), (1, 0), (1, 1)] {
-        let maker = maker(world, level, number);
-        println!(rt; "{maker:?}")?;
+        tell_maker(rt, maker(world, level, number))?;
     }
     println!(rt; "{}", world.next())?;
     for worker in [0, 1] {
-        let (stopped, hand) = (world.stopped(worker), world.hand(worker));
-        println!(rt; "{stopped} {hand:?}")?;
+        tell_worker(rt, world, worker)?;
     }
     println!(rt; "{}", world.knows(1, 0, 0))?;
+    Ok(())
+}
+
+// Prints the maker of a block, if there is one.
+fn tell_maker<R: Print>(rt: &R, maker: Option<u32>) -> Result<(), Miss> {
+    println!(rt; "{maker:?}")?;
+    Ok(())
+}
+
+// Prints whether a worker is stopped, and its job in hand.
+fn tell_worker<R: Print>(rt: &R, world: &FillWorld<'_>, worker: u32) -> Result<(), Miss> {
+    let (stopped, hand) = (world.stopped(worker), world.hand(worker));
+    println!(rt; "{stopped} {hand:?}")?;
     Ok(())
 }
 

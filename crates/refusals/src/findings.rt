@@ -1,12 +1,16 @@
+ghost use Rattle.std.specs.Prelude.{◌≡◌, length};
+
 use crate::miss::Miss;
 use crate::plans::{plan_of, ring_for};
 use crate::tell::{retried, tell_numbers, value_or_refusal};
 use crate::verdicts::{NEIGHBOURS_DIFFER, tell_verdict};
-use headline::compile_run_and_judge;
+use headline::{Findings, FindingsFault, compile_run_and_judge};
+use lang_check::Plan;
 use round_eval::OpenGate;
 use std::sync::Wait;
 use std::thread::Threads;
 use test_programs::CV1;
+use win_index::Ring;
 
 /// `compile_run_and_judge`: prints the channels of four places for a program for eight identifiers,
 /// and the verdict on its table, with these numbers of workers and segments.
@@ -18,33 +22,41 @@ pub(crate) fn do_findings<R: AllocGlobal + Print + Threads + Wait + Sync>(
     let alloc = rt.alloc();
     let plan = plan_of(alloc, CV1, 8)?;
     let ring = ring_for(alloc, &plan, &[5, 1, 3, 7])?;
-    let gate = OpenGate;
-    let answer = compile_run_and_judge(
+    let first = findings_of(rt, &plan, &ring, workers, segments);
+    match value_or_refusal(rt, first)? {
+        Some(findings) => tell_findings(rt, &findings),
+        None => tell_findings(
+            rt,
+            &retried(findings_of(rt, &plan, &ring, workers, segments))?,
+        ),
+    }
+}
+
+// Calls `compile_run_and_judge` with a gate that is open.
+fn findings_of<R: AllocGlobal + Threads + Wait + Sync>(
+    rt: &R,
+    plan: &Plan,
+    ring: &Ring,
+    workers: u32,
+    segments: u32,
+) -> Result<Findings, FindingsFault>
+    requires ids { ring.now.ids ≡ plan.now.ids }
+    requires rounds { ring.now.rounds ≡ length plan.now.program.steps }
+{
+    compile_run_and_judge(
         rt,
-        alloc,
-        &plan,
-        &ring,
+        rt.alloc(),
+        plan,
+        ring,
         NEIGHBOURS_DIFFER,
         workers,
         segments,
-        &gate,
-    );
-    let findings = match value_or_refusal(rt, answer)? {
-        Some(findings) => findings,
-        None => {
-            let answer = compile_run_and_judge(
-                rt,
-                alloc,
-                &plan,
-                &ring,
-                NEIGHBOURS_DIFFER,
-                workers,
-                segments,
-                &gate,
-            );
-            retried(answer)?
-        }
-    };
+        &OpenGate,
+    )
+}
+
+// Prints the channels and the verdict.
+fn tell_findings<R: Print>(rt: &R, findings: &Findings) -> Result<(), Miss> {
     tell_numbers(rt, &findings.channels)?;
     tell_verdict(rt, &findings.verdict)
 }

@@ -1,7 +1,7 @@
 use crate::miss::Miss;
 use crate::plans::ring_for;
 use crate::tell::{other_call, retried, tell, tell_numbers, value_or_refusal};
-use lang_check::accept;
+use lang_check::{Plan, accept};
 use node_lang::{Program, parse, print};
 use round_eval::plain_run;
 use test_programs::{CV1, CV1_WITH_BLANKS};
@@ -9,11 +9,15 @@ use test_programs::{CV1, CV1_WITH_BLANKS};
 /// `parse`: prints the channels of a run of the parsed program on the eight identifiers in
 /// ascending order.
 pub(crate) fn do_parse<R: AllocGlobal + Print>(rt: &R) -> Result<(), Miss> {
+    let plan = other_call(accept(parsed(rt, CV1)?, 8))?;
+    tell_run(rt, &plan)
+}
+
+// Prints the channels of a run of a plan on the eight identifiers in ascending order.
+fn tell_run<R: AllocGlobal + Print>(rt: &R, plan: &Plan) -> Result<(), Miss> {
     let alloc = rt.alloc();
-    let program = parsed(rt, CV1)?;
-    let plan = other_call(accept(program, 8))?;
-    let ring = ring_for(alloc, &plan, &[0, 1, 2, 3, 4, 5, 6, 7])?;
-    let channels = other_call(plain_run(alloc, &plan, &ring))?;
+    let ring = ring_for(alloc, plan, &[0, 1, 2, 3, 4, 5, 6, 7])?;
+    let channels = other_call(plain_run(alloc, plan, &ring))?;
     tell_numbers(rt, &channels)
 }
 

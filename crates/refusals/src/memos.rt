@@ -9,6 +9,14 @@ use shared_memo::{Installed, Memo, Pass, Reader};
 use test_programs::{CV1, RED};
 use unroll::{Block, make_block};
 
+/// Two blocks of the same level and number, and one of another plan.
+#[derive(Drop)]
+struct Blocks<'a> {
+    one: Box<Block<'a>>,
+    two: Box<Block<'a>>,
+    stranger: Box<Block<'a>>,
+}
+
 /// `Memo::new` and `Memo::pass`: prints the results of two passes that install the same block, made
 /// by 1 and by 2, and look at it, and of an install of a block of another plan.
 pub(crate) fn do_memo<R: AllocGlobal + Print>(rt: &R) -> Result<(), Miss> {
@@ -23,17 +31,51 @@ fn install_all<'a, R: AllocGlobal + Print>(
     plan: &'a Plan,
     other: &'a Plan,
 ) -> Result<(), Miss> {
+    let blocks = three_blocks(rt, plan, other)?;
+    let memo = memo_of(rt, plan)?;
+    install_by_two(rt, &memo, blocks)
+}
+
+// Returns the first block of a plan twice, and that of another plan.
+fn three_blocks<'a, R: AllocGlobal>(
+    rt: &R,
+    plan: &'a Plan,
+    other: &'a Plan,
+) -> Result<Blocks<'a>, Miss> {
     let one = first_block(rt, plan, 1)?;
     let two = first_block(rt, plan, 2)?;
     let stranger = first_block(rt, other, 3)?;
-    let memo = memo_of(rt, plan)?;
-    let mut a = pass_of(rt, &memo)?;
-    let mut b = pass_of(rt, &memo)?;
-    install(rt, &memo, &mut a, one)?;
-    install(rt, &memo, &mut b, two)?;
-    look(rt, &memo, &mut a)?;
-    look(rt, &memo, &mut b)?;
-    install(rt, &memo, &mut a, stranger)
+    Ok(Blocks { one, two, stranger })
+}
+
+// Installs three blocks in a memo with two passes.
+fn install_by_two<'a, R: AllocGlobal + Print>(
+    rt: &R,
+    memo: &Memo<'a>,
+    blocks: Blocks<'a>,
+) -> Result<(), Miss> {
+    let mut a = pass_of(rt, memo)?;
+    let mut b = pass_of(rt, memo)?;
+    install_and_look(rt, memo, &mut a, &mut b, blocks)
+}
+
+// Installs a block with each of two passes, looks with both, and installs a third block with the
+// first.
+fn install_and_look<'a, R: Print>(
+    rt: &R,
+    memo: &Memo<'a>,
+    a: &mut Pass<'a>,
+    b: &mut Pass<'a>,
+    blocks: Blocks<'a>,
+) -> Result<(), Miss>
+    requires { IsPassOf memo.now a.old × IsPassOf memo.now b.old }
+{
+    let Blocks { one, two, stranger } = blocks;
+    install(rt, memo, a, one)?;
+    install(rt, memo, b, two)?;
+    look(rt, memo, a)?;
+    look(rt, memo, b)?;
+    install(rt, memo, a, stranger)
 }
 
 // Returns a memo of empty cells.

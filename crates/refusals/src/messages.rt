@@ -1,10 +1,14 @@
+ghost use Rattle.std.specs.Prelude.{◌≡◌, length};
+
 use crate::miss::Miss;
 use crate::plans::{plan_of, ring_for};
 use crate::tell::{retried, tell_numbers, value_or_refusal};
+use lang_check::Plan;
 use ring_exec::run;
 use round_eval::OpenGate;
 use std::sync::Wait;
 use std::thread::Threads;
+use win_index::Ring;
 
 /// `run`: prints the channels of a ring for a program for eight identifiers, in `segments`
 /// segments.
@@ -17,9 +21,21 @@ pub(crate) fn do_run<R: AllocGlobal + Print + Threads + Wait + Sync>(
     let alloc = rt.alloc();
     let plan = plan_of(alloc, text, 8)?;
     let ring = ring_for(alloc, &plan, ids)?;
-    let channels = match value_or_refusal(rt, run(rt, alloc, &plan, &ring, segments, &OpenGate))? {
-        Some(channels) => channels,
-        None => retried(run(rt, alloc, &plan, &ring, segments, &OpenGate))?,
-    };
-    tell_numbers(rt, &channels)
+    tell_numbers(rt, &channels_of(rt, &plan, &ring, segments)?)
+}
+
+// Returns the channels of a ring in `segments` segments.
+fn channels_of<R: AllocGlobal + Print + Threads + Wait + Sync>(
+    rt: &R,
+    plan: &Plan,
+    ring: &Ring,
+    segments: u32,
+) -> Result<Vec<u32>, Miss>
+    requires ids { ring.now.ids ≡ plan.now.ids }
+    requires rounds { ring.now.rounds ≡ length plan.now.program.steps }
+{
+    match value_or_refusal(rt, run(rt, rt.alloc(), plan, ring, segments, &OpenGate))? {
+        Some(channels) => Ok(channels),
+        None => retried(run(rt, rt.alloc(), plan, ring, segments, &OpenGate)),
+    }
 }

@@ -1,5 +1,8 @@
+ghost use Rattle.task_words.specs.Task.{IsRunnable};
+
 use crate::miss::Miss;
 use crate::tell::{other_call, retried, value_or_refusal};
+use devices::fault::EngineFault;
 use devices::watched::Watched;
 use plan_print::engine::engine;
 use plan_print::lines::numbers_line;
@@ -61,18 +64,23 @@ fn do_report<R: AllocGlobal + Print + Threads + Wait + Sync>(
     if !first.is_runnable() || !again.is_runnable() {
         return Err(Miss::Wrong);
     }
-    let alloc = rt.alloc();
-    let mut reader = Watched::new(CV1);
-    let mut writer = Watched::new(io::writer(rt));
-    let status = match value_or_refusal(rt, engine(rt, alloc, first, &mut reader, &mut writer))? {
+    let status = match value_or_refusal(rt, status_of(rt, first))? {
         Some(status) => status,
-        None => {
-            let mut reader = Watched::new(CV1);
-            let mut writer = Watched::new(io::writer(rt));
-            retried(engine(rt, alloc, again, &mut reader, &mut writer))?
-        }
+        None => retried(status_of(rt, again))?,
     };
     tell_status(rt, status)
+}
+
+// Does a task on a program's text, with the report to the standard output.
+fn status_of<R: AllocGlobal + Print + Threads + Wait + Sync>(
+    rt: &R,
+    task: Task,
+) -> Result<Status, EngineFault>
+    requires { IsRunnable task }
+{
+    let mut reader = Watched::new(CV1);
+    let mut writer = Watched::new(io::writer(rt));
+    engine(rt, rt.alloc(), task, &mut reader, &mut writer)
 }
 
 // Returns the task of the table for eight identifiers by `workers` workers.

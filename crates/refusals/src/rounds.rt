@@ -1,4 +1,4 @@
-ghost use Rattle.std.specs.Prelude.{◌≡◌, IfOk};
+ghost use Rattle.std.specs.Prelude.{◌≡◌, IfOk, length};
 
 use crate::miss::Miss;
 use crate::plans::{plan_of, ring_for};
@@ -14,11 +14,18 @@ pub(crate) fn do_plain_run<R: AllocGlobal + Print>(rt: &R) -> Result<(), Miss> {
     let alloc = rt.alloc();
     let plan = plan_of(alloc, CV1, 8)?;
     let ring = ring_for(alloc, &plan, &[5, 1, 3, 7])?;
-    let channels = match value_or_refusal(rt, plain_run(alloc, &plan, &ring))? {
-        Some(channels) => channels,
-        None => retried(plain_run(alloc, &plan, &ring))?,
-    };
-    tell_numbers(rt, &channels)
+    tell_numbers(rt, &channels_of(rt, &plan, &ring)?)
+}
+
+// Returns the channels of a ring.
+fn channels_of<R: AllocGlobal + Print>(rt: &R, plan: &Plan, ring: &Ring) -> Result<Vec<u32>, Miss>
+    requires ids { ring.now.ids ≡ plan.now.ids }
+    requires rounds { ring.now.rounds ≡ length plan.now.program.steps }
+{
+    match value_or_refusal(rt, plain_run(rt.alloc(), plan, ring))? {
+        Some(channels) => Ok(channels),
+        None => retried(plain_run(rt.alloc(), plan, ring)),
+    }
 }
 
 /// `Configuration::new`: prints the channels of four places, by their registers before the round
@@ -27,7 +34,14 @@ pub(crate) fn do_configuration<R: AllocGlobal + Print>(rt: &R) -> Result<(), Mis
     let alloc = rt.alloc();
     let plan = plan_of(alloc, CV1, 8)?;
     let ring = ring_for(alloc, &plan, &[5, 1, 3, 7])?;
-    let mut places = initial_configuration(rt, &plan, &ring)?;
+    tell_round(rt, &plan, &ring)
+}
+
+// Prints the channels of a ring's places before the round of a plan and after it.
+fn tell_round<R: AllocGlobal + Print>(rt: &R, plan: &Plan, ring: &Ring) -> Result<(), Miss>
+    requires { ring.now.ids ≡ plan.now.ids }
+{
+    let mut places = initial_configuration(rt, plan, ring)?;
     tell_channels(rt, &places)?;
     if plan.shape().rounds() != 1 {
         return Err(Miss::Wrong);

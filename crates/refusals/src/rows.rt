@@ -73,6 +73,16 @@ fn do_row_of_threads<R: AllocGlobal + Print + Threads + Wait + Sync>(
         "judge_parts" => do_judge(rt, CV1_OF_12, 21),
         "judge_no_by_3" => do_judge_with_workers(rt, LDB, 8, 3),
         "judge_parts_by_3" => do_judge_with_workers(rt, CV1_OF_12, 21, 3),
+        _ => do_row_of_runs(rt, name),
+    }
+}
+
+/// Runs the row with this name, if it is one of those that run a ring or the whole program.
+fn do_row_of_runs<R: AllocGlobal + Print + Threads + Wait + Sync>(
+    rt: &R,
+    name: &str,
+) -> Result<(), Miss> {
+    match name {
         "run_4_1" => do_run(rt, CV1, &FOUR, 1),
         "run_4_2" => do_run(rt, CV1, &FOUR, 2),
         "run_4_4" => do_run(rt, CV1, &FOUR, 4),

@@ -26,7 +26,13 @@ pub(crate) fn do_segment<R: AllocGlobal + Print>(rt: &R) -> Result<(), Miss> {
     let alloc = rt.alloc();
     let plan = plan_of(alloc, CV1, 8)?;
     let ring = ring_for(alloc, &plan, &[5, 1, 3, 7])?;
-    let segment = first_segment(rt, &plan, &ring)?;
+    tell_segment(rt, &first_segment(rt, &plan, &ring)?)
+}
+
+// Prints the registers of a segment, and the values that it sends in the first round.
+fn tell_segment<R: Print>(rt: &R, segment: &Segment<'_>) -> Result<(), Miss>
+    requires { segment.now.round ≡ 0 }
+{
     tell_numbers(rt, segment.states())?;
     if segment.rounds() != 1 {
         return Err(Miss::Wrong);
@@ -58,10 +64,22 @@ pub(crate) fn do_ring_replay<R: AllocGlobal + Print>(rt: &R) -> Result<(), Miss>
     let alloc = rt.alloc();
     let plan = plan_of(alloc, CV1, 8)?;
     let ring = ring_for(alloc, &plan, &[5, 1, 3, 7])?;
-    let seven = after(rt, &plan, &ring, &EVENTS[..7])?;
-    tell_world(rt, &seven)?;
-    let eight = after(rt, &plan, &ring, &EVENTS)?;
-    tell_world(rt, &eight)
+    tell_after(rt, &plan, &ring, &EVENTS[..7])?;
+    tell_after(rt, &plan, &ring, &EVENTS)
+}
+
+// Prints two segments after these events.
+fn tell_after<R: AllocGlobal + Print>(
+    rt: &R,
+    plan: &Plan,
+    ring: &Ring,
+    events: &[RingEvent],
+) -> Result<(), Miss>
+    requires ids { ring.now.ids ≡ plan.now.ids }
+    requires rounds { ring.now.rounds ≡ length plan.now.program.steps }
+    requires places { 2 ≤ length ring.now.places }
+{
+    tell_world(rt, &after(rt, plan, ring, events)?)
 }
 
 // Returns two segments after these events.

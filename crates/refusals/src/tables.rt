@@ -1,9 +1,13 @@
+ghost use Rattle.std.specs.Prelude.{◌≡◌};
+ghost use Rattle.shared_memo.specs.Passes.{IsPassOf, memo_plan};
+
 use crate::miss::Miss;
 use crate::plans::plan_of;
 use crate::tell::{other_call, retried, tell_numbers, value_or_refusal};
 use channel_tables::{Table, TableMaker};
+use lang_check::Plan;
 use round_eval::OpenGate;
-use shared_memo::Memo;
+use shared_memo::{Memo, Pass};
 use std::sync::Wait;
 use std::thread::Threads;
 use table_fill::compile;
@@ -23,10 +27,14 @@ pub(crate) fn do_table_maker<R: AllocGlobal + Print>(rt: &R) -> Result<(), Miss>
     };
     maker.push(0);
     maker.push(1);
-    let table = maker.done();
+    tell_table(rt, &maker.done())
+}
+
+// Prints the numbers of rounds, identifiers and channels of a table, and its entries.
+fn tell_table<R: Print>(rt: &R, table: &Table) -> Result<(), Miss> {
     let shape = table.shape();
     tell_numbers(rt, &[shape.rounds(), shape.ids(), table.channels()])?;
-    tell_entries(rt, &table)
+    tell_entries(rt, table)
 }
 
 /// `compile`: prints the entries of a table that `workers` workers filled. If they were refused,
@@ -39,15 +47,26 @@ pub(crate) fn do_compile<R: AllocGlobal + Print + Threads + Wait + Sync>(
     let plan = plan_of(alloc, CV1, 8)?;
     let memo = other_call(Memo::new(alloc, &plan))?;
     let mut pass = other_call(memo.pass(alloc))?;
-    let answer = compile(rt, alloc, &plan, &memo, &mut pass, workers, &OpenGate);
-    let table = match value_or_refusal(rt, answer)? {
-        Some(table) => table,
-        None => {
-            let answer = compile(rt, alloc, &plan, &memo, &mut pass, workers, &OpenGate);
-            retried(answer)?
-        }
-    };
-    tell_entries(rt, &table)
+    tell_entries(rt, &filled(rt, &plan, &memo, &mut pass, workers)?)
+}
+
+// Returns the table of a plan that `workers` workers filled.
+fn filled<'a, R: AllocGlobal + Print + Threads + Wait + Sync>(
+    rt: &R,
+    plan: &Plan,
+    memo: &Memo<'a>,
+    pass: &mut Pass<'a>,
+    workers: u32,
+) -> Result<Table, Miss>
+    requires plan { memo_plan memo.now ≡ plan.now }
+    requires pass { IsPassOf memo.now pass.old }
+{
+    let alloc = rt.alloc();
+    let answer = compile(rt, alloc, plan, memo, pass, workers, &OpenGate);
+    match value_or_refusal(rt, answer)? {
+        Some(table) => Ok(table),
+        None => retried(compile(rt, alloc, plan, memo, pass, workers, &OpenGate)),
+    }
 }
 
 /// Returns the table of a program text for this many identifiers. A refusal is not that of the
@@ -57,11 +76,19 @@ pub(crate) fn table_of<R: AllocGlobal + Threads + Wait + Sync>(
     text: &[u8],
     ids: u32,
 ) -> Result<Table, Miss> {
+    let plan = plan_of(rt.alloc(), text, ids)?;
+    filled_by_one(rt, &plan)
+}
+
+// Returns the table of a plan that one worker filled.
+fn filled_by_one<R: AllocGlobal + Threads + Wait + Sync>(
+    rt: &R,
+    plan: &Plan,
+) -> Result<Table, Miss> {
     let alloc = rt.alloc();
-    let plan = plan_of(alloc, text, ids)?;
-    let memo = other_call(Memo::new(alloc, &plan))?;
+    let memo = other_call(Memo::new(alloc, plan))?;
     let mut pass = other_call(memo.pass(alloc))?;
-    other_call(compile(rt, alloc, &plan, &memo, &mut pass, 1, &OpenGate))
+    other_call(compile(rt, alloc, plan, &memo, &mut pass, 1, &OpenGate))
 }
 
 // Prints the entries of a table, in the order of their windows.

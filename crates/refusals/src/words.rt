@@ -10,19 +10,24 @@ use task_words::words::{WordsFault, task_of, words_fault};
 /// `ring_of`: prints the identifiers of a ring text, and the faults of three other texts.
 pub(crate) fn do_ring_of<R: AllocGlobal + Print>(rt: &R) -> Result<(), Miss> {
     for text in ["5,1,3,7", "5,,1", "", "4294967296"] {
-        let answer = match ring_of(rt.alloc(), text) {
-            Err(WordsFault::OutOfMemory) => {
-                tell(rt, "OutOfMemory")?;
-                ring_of(rt.alloc(), text)
-            }
-            answer => answer,
-        };
-        match answer {
-            Ok(ring) => tell_numbers(rt, &ring)?,
-            Err(fault) => tell(rt, fault_name(&fault))?,
-        }
+        tell_ring(rt, text)?;
     }
     Ok(())
+}
+
+// Prints the identifiers of a ring text, or its fault.
+fn tell_ring<R: AllocGlobal + Print>(rt: &R, text: &str) -> Result<(), Miss> {
+    let answer = match ring_of(rt.alloc(), text) {
+        Err(WordsFault::OutOfMemory) => {
+            tell(rt, "OutOfMemory")?;
+            ring_of(rt.alloc(), text)
+        }
+        answer => answer,
+    };
+    match answer {
+        Ok(ring) => tell_numbers(rt, &ring),
+        Err(fault) => tell(rt, fault_name(&fault)),
+    }
 }
 
 /// `task_of`: prints the ring and the numbers of identifiers and segments of a run, and the fault
@@ -30,29 +35,34 @@ pub(crate) fn do_ring_of<R: AllocGlobal + Print>(rt: &R) -> Result<(), Miss> {
 pub(crate) fn do_task_of<R: AllocGlobal + Print>(rt: &R) -> Result<(), Miss> {
     for line in ["run --ids 8 --ring 5,1,3,7", "table --ids 8 --workers 0"] {
         let words = words_of(rt.alloc(), line)?;
-        let answer = match task_of(rt.alloc(), &words) {
-            Err(WordsFault::OutOfMemory) => {
-                tell(rt, "OutOfMemory")?;
-                task_of(rt.alloc(), &words)
-            }
-            answer => answer,
-        };
-        match answer {
-            Ok(
-                Task::Run {
-                    ids,
-                    ring,
-                    segments,
-                },
-            ) => {
-                tell_numbers(rt, &ring)?;
-                tell_numbers(rt, &[ids, segments])?;
-            }
-            Ok(_) => return Err(Miss::Wrong),
-            Err(fault) => tell(rt, fault_name(&fault))?,
-        }
+        tell_task(rt, &words)?;
     }
     Ok(())
+}
+
+// Prints the ring and the numbers of identifiers and segments of a run in words, or their fault.
+fn tell_task<R: AllocGlobal + Print>(rt: &R, words: &[String]) -> Result<(), Miss> {
+    let answer = match task_of(rt.alloc(), words) {
+        Err(WordsFault::OutOfMemory) => {
+            tell(rt, "OutOfMemory")?;
+            task_of(rt.alloc(), words)
+        }
+        answer => answer,
+    };
+    match answer {
+        Ok(
+            Task::Run {
+                ids,
+                ring,
+                segments,
+            },
+        ) => {
+            tell_numbers(rt, &ring)?;
+            tell_numbers(rt, &[ids, segments])
+        }
+        Ok(_) => Err(Miss::Wrong),
+        Err(fault) => tell(rt, fault_name(&fault)),
+    }
 }
 
 /// `words_fault`: prints the text for words that are not UTF-8.
