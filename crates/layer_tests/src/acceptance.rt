@@ -104,9 +104,9 @@ fn cv1_plan(alloc: Global, channels: u32, ids: u32) -> Option<Plan> {
 
 #[test]
 fn bounds_of_expressions(rt: HostRuntime) -> Result<(), Fail> {
-    for (text, want) in BOUNDS {
+    for (text, want) in &BOUNDS {
         let bound = bound_of(rt.alloc(), text);
-        assert!(rt; bound == Some(want), "{text}");
+        assert!(rt; bound == Some(*want), "{text}");
     }
     Ok(())
 }

@@ -1,12 +1,43 @@
 //! The fill machine.
 
 use fill_core::{FillEvent, FillWorld, replay};
-use lang_check::Plan;
 use std::alloc::Global;
-use std::test::Fail;
 use test_programs::{CV1, plan_of};
 
 // CV1 for 8 identifiers has three jobs: block 0 of level 0, and blocks 0 and 1 of level 1.
+
+// Two workers fill the three cells.
+const FILLED: [FillEvent; 10] = [
+    FillEvent::Draw(0),
+    FillEvent::Draw(1),
+    FillEvent::Install(1, 1, 0),
+    FillEvent::Install(0, 0, 0),
+    FillEvent::Look(1, 0, 0),
+    FillEvent::Install(1, 1, 0),
+    FillEvent::Draw(0),
+    FillEvent::Install(0, 1, 1),
+    FillEvent::Draw(0),
+    FillEvent::Draw(1),
+];
+
+// A worker installs a block in a full cell.
+const FULL: [FillEvent; 4] = [
+    FillEvent::Draw(0),
+    FillEvent::Draw(1),
+    FillEvent::Install(0, 0, 0),
+    FillEvent::Install(1, 0, 0),
+];
+
+// Events of a level, a block or a worker that is out of range.
+const OUT_OF_RANGE: [FillEvent; 7] = [
+    FillEvent::Draw(2),
+    FillEvent::Look(2, 0, 0),
+    FillEvent::Look(1, 2, 0),
+    FillEvent::Look(1, 0, 1),
+    FillEvent::Install(2, 1, 0),
+    FillEvent::Install(0, 2, 0),
+    FillEvent::Install(0, 1, 2),
+];
 
 // The maker of the block in the cell of a level and a number.
 fn maker(world: &FillWorld<'_>, level: u32, number: u32) -> Option<u32> {
@@ -49,8 +80,9 @@ fn found(world: &FillWorld<'_>) -> Found {
 }
 
 // What is found after these events of two workers.
-fn found_after(alloc: Global, plan: &Plan, events: &[FillEvent]) -> Option<Found> {
-    let world = replay(alloc, plan, 2, events).ok()?;
+fn found_after(alloc: Global, events: &[FillEvent]) -> Option<Found> {
+    let plan = plan_of(alloc, CV1, 8).ok()?;
+    let world = replay(alloc, &plan, 2, events).ok()?;
     Some(found(&world))
 }
 
@@ -63,58 +95,23 @@ fn out_of_range(world: &FillWorld<'_>) -> ([Option<u32>; 3], [bool; 3]) {
 }
 
 // What the readers return for what is out of range, before the first event.
-fn out_of_range_at_first(alloc: Global, plan: &Plan) -> Option<([Option<u32>; 3], [bool; 3])> {
-    let world = replay(alloc, plan, 2, &[]).ok()?;
+fn out_of_range_at_first(alloc: Global) -> Option<([Option<u32>; 3], [bool; 3])> {
+    let plan = plan_of(alloc, CV1, 8).ok()?;
+    let world = replay(alloc, &plan, 2, &[]).ok()?;
     Some(out_of_range(&world))
 }
 
-// Two workers fill the three cells.
-const FILLED: [FillEvent; 10] = [
-    FillEvent::Draw(0),
-    FillEvent::Draw(1),
-    FillEvent::Install(1, 1, 0),
-    FillEvent::Install(0, 0, 0),
-    FillEvent::Look(1, 0, 0),
-    FillEvent::Install(1, 1, 0),
-    FillEvent::Draw(0),
-    FillEvent::Install(0, 1, 1),
-    FillEvent::Draw(0),
-    FillEvent::Draw(1),
-];
-
-// A worker installs a block in a full cell.
-const FULL: [FillEvent; 4] = [
-    FillEvent::Draw(0),
-    FillEvent::Draw(1),
-    FillEvent::Install(0, 0, 0),
-    FillEvent::Install(1, 0, 0),
-];
-
-// Events of a level, a block or a worker that is out of range.
-const OUT_OF_RANGE: [FillEvent; 7] = [
-    FillEvent::Draw(2),
-    FillEvent::Look(2, 0, 0),
-    FillEvent::Look(1, 2, 0),
-    FillEvent::Look(1, 0, 1),
-    FillEvent::Install(2, 1, 0),
-    FillEvent::Install(0, 2, 0),
-    FillEvent::Install(0, 1, 2),
-];
-
 #[test]
-fn two_workers_fill_three_cells(rt: HostRuntime) -> Result<(), Fail> {
-    let plan = plan_of(rt.alloc(), CV1, 8)?;
+fn two_workers_fill_three_cells(rt: HostRuntime) {
     let want = (
         (3, [Some(0), Some(1), Some(0)]),
         ([(None, true), (None, true)], [[true, true], [true, false]]),
     );
-    assert!(rt; found_after(rt.alloc(), &plan, &FILLED) == Some(want));
-    Ok(())
+    assert!(rt; found_after(rt.alloc(), &FILLED) == Some(want));
 }
 
 #[test]
-fn an_install_into_a_full_cell_changes_nothing(rt: HostRuntime) -> Result<(), Fail> {
-    let plan = plan_of(rt.alloc(), CV1, 8)?;
+fn an_install_into_a_full_cell_changes_nothing(rt: HostRuntime) {
     let want = (
         (2, [Some(0), None, None]),
         (
@@ -122,29 +119,24 @@ fn an_install_into_a_full_cell_changes_nothing(rt: HostRuntime) -> Result<(), Fa
             [[true, false], [false, false]],
         ),
     );
-    assert!(rt; found_after(rt.alloc(), &plan, &FULL) == Some(want));
-    Ok(())
+    assert!(rt; found_after(rt.alloc(), &FULL) == Some(want));
 }
 
 #[test]
-fn events_out_of_range_change_nothing(rt: HostRuntime) -> Result<(), Fail> {
-    let plan = plan_of(rt.alloc(), CV1, 8)?;
+fn events_out_of_range_change_nothing(rt: HostRuntime) {
     let want = (
         (1, [Some(0), None, None]),
         ([(None, false); 2], [[true, false], [false, false]]),
     );
-    for event in OUT_OF_RANGE {
-        let events = [FillEvent::Draw(0), FillEvent::Install(0, 0, 0), event];
-        let found = found_after(rt.alloc(), &plan, &events);
+    for event in &OUT_OF_RANGE {
+        let events = [FillEvent::Draw(0), FillEvent::Install(0, 0, 0), *event];
+        let found = found_after(rt.alloc(), &events);
         assert!(rt; found == Some(want), "{event:?}");
     }
-    Ok(())
 }
 
 #[test]
-fn readers_take_what_is_out_of_range(rt: HostRuntime) -> Result<(), Fail> {
-    let plan = plan_of(rt.alloc(), CV1, 8)?;
-    let found = out_of_range_at_first(rt.alloc(), &plan);
+fn readers_take_what_is_out_of_range(rt: HostRuntime) {
+    let found = out_of_range_at_first(rt.alloc());
     assert!(rt; found == Some(([None, None, None], [true, false, false])));
-    Ok(())
 }

@@ -1,5 +1,6 @@
 //! Windows, tuples, jobs and rings of small shapes.
 
+use std::alloc::Global;
 use std::test::Fail;
 use win_index::{MAX_ROUNDS, Ring, RingFault, Shape, ShapeFault};
 
@@ -13,24 +14,31 @@ fn shape_of_eight(rounds: u32) -> Option<Shape>
 
 ghost use Rattle.std.specs.Prelude.{◌≡◌, ◌≤◌, IfSome};
 
+// Windows of level 1 of eight identifiers, and their numbers.
+const WINDOWS: [([u32; 3], u32); 4] = [
+    ([0, 1, 2], 0),
+    ([6, 0, 5], 256),
+    ([7, 5, 1], 325),
+    ([7, 6, 5], 335),
+];
+
+// Returns the window of level 1 with a number.
+fn window_of(shape: Shape, number: u32) -> Option<[u32; 3]> {
+    if shape.rounds() != 1 || number >= shape.count(1) {
+        return None;
+    }
+    let mut window = [0; 3];
+    shape.window(1, number, &mut window);
+    Some(window)
+}
+
 #[test]
 fn windows_of_eight_identifiers(rt: HostRuntime) -> Result<(), Fail> {
     let shape = shape_of_eight(1).ok_or("a shape")?;
-    assert!(rt; shape.rounds() == 1);
-    let count = shape.count(1);
-    assert!(rt; count == 336);
-    let table = [
-        ([0, 1, 2], 0),
-        ([6, 0, 5], 256),
-        ([7, 5, 1], 325),
-        ([7, 6, 5], 335),
-    ];
-    for (window, number) in table {
-        let mut out = [0; 3];
-        if number < count {
-            shape.window(1, number, &mut out);
-        }
-        assert!(rt; (shape.number(1, &window), out) == (Some(number), window));
+    assert!(rt; shape.rounds() == 1 && shape.count(1) == 336);
+    for (window, number) in &WINDOWS {
+        let found = (shape.number(1, window), window_of(shape, *number));
+        assert!(rt; found == (Some(*number), Some(*window)));
     }
     let none = [
         shape.number(1, &[7, 5, 7]),
@@ -54,70 +62,130 @@ fn a_window_of_seven_identifiers(rt: HostRuntime) -> Result<(), Fail> {
     Ok(())
 }
 
-#[test]
-fn windows_one_after_another(rt: HostRuntime) -> Result<(), Fail> {
-    let shape = shape_of_eight(1).ok_or("a shape")?;
-    assert!(rt; shape.rounds() == 1);
-    assert!(rt; shape.count(1) == 336);
-    let mut window = [0; 3];
-    for number in 0..335 {
-        shape.window(1, number, &mut window);
-        let first = shape.window_number(1, &window);
-        let moved = shape.next_window(1, &mut window);
-        let second = shape.number(1, &window);
-        assert!(rt; (first, moved, second) == (number, true, Some(number + 1)));
+// Returns the number of a window of level 1, whether a window comes after it, and that window.
+fn next_after(shape: Shape, number: u32) -> Option<(u32, bool, [u32; 3])> {
+    if shape.rounds() != 1 || number >= shape.count(1) {
+        return None;
     }
-    shape.window(1, 335, &mut window);
+    let mut window = [0; 3];
+    shape.window(1, number, &mut window);
+    let found = shape.window_number(1, &window);
     let moved = shape.next_window(1, &mut window);
-    assert!(rt; (moved, window) == (false, [7, 6, 5]));
-    Ok(())
+    Some((found, moved, window))
+}
+
+// Returns the number of a window of level 1, whether a window comes after it, and the number of that.
+fn numbers_of_two(shape: Shape, number: u32) -> Option<(u32, bool, Option<u32>)> {
+    if shape.rounds() != 1 {
+        return None;
+    }
+    let (first, moved, window) = next_after(shape, number)?;
+    Some((first, moved, shape.number(1, &window)))
 }
 
 #[test]
-fn places_of_the_windows_of_a_run(rt: HostRuntime) -> Result<(), Fail> {
+fn windows_one_after_another(rt: HostRuntime) -> Result<(), Fail> {
     let shape = shape_of_eight(1).ok_or("a shape")?;
-    assert!(rt; shape.rounds() == 1);
-    assert!(rt; shape.count(1) == 336);
+    assert!(rt; shape.rounds() == 1 && shape.count(1) == 336);
+    for number in 0..335 {
+        let want = (number, true, Some(number + 1));
+        assert!(rt; numbers_of_two(shape, number) == Some(want));
+    }
+    assert!(rt; next_after(shape, 335) == Some((335, false, [7, 6, 5])));
+    Ok(())
+}
+
+// What is found in the run of window 218 of level 1: the window and its place, the number of places,
+// `rest` and `series`, `after`, and the first window of the next run.
+type RunOfThree = (
+    ([u32; 3], u32),
+    (u32, u32, [u32; 3]),
+    [Option<u32>; 4],
+    (bool, [u32; 3]),
+);
+
+// Returns what is found in that run.
+fn run_of_three(shape: Shape) -> Option<RunOfThree> {
+    if shape.rounds() != 1 || shape.count(1) != 336 {
+        return None;
+    }
     let mut window = [0; 3];
     shape.window(1, 218, &mut window);
-    assert!(rt; (window, shape.place_in_run(0, &window)) == ([5, 1, 3], 3));
+    let at = (window, shape.place_in_run(0, &window));
     let places = shape.run_places(0, &window);
+    let rest = places.rest(0);
     // Eight places, with gaps at 1 and 5.
-    assert!(rt; places.rest(0) == 8);
+    if rest != 8 {
+        return None;
+    }
     let series = [
         places.series(3, 256),
         places.series(3, 1),
         places.series(6, 256),
     ];
-    assert!(rt; (places.rest(3), series) == (5, [2, 1, 2]));
     let after = [
         places.after(0),
         places.after(3),
         places.after(4),
         places.after(7),
     ];
-    assert!(rt; after == [Some(2), Some(4), Some(6), None]);
+    let rests = (rest, places.rest(3), series);
     let moved = shape.next_run(1, &mut window);
-    assert!(rt; (moved, window) == (true, [5, 2, 0]));
+    Some((at, rests, after, (moved, window)))
+}
+
+#[test]
+fn places_of_the_windows_of_a_run(rt: HostRuntime) -> Result<(), Fail> {
+    let shape = shape_of_eight(1).ok_or("a shape")?;
+    let want = (
+        ([5, 1, 3], 3),
+        (8, 5, [2, 1, 2]),
+        [Some(2), Some(4), Some(6), None],
+        (true, [5, 2, 0]),
+    );
+    assert!(rt; run_of_three(shape) == Some(want));
     Ok(())
+}
+
+// What is found in the run of window 3861 of level 2: the window and its place, the number of places
+// and `series`, `after`, and the first window of the next run.
+type RunOfFive = (
+    ([u32; 5], u32),
+    (u32, [u32; 2]),
+    [Option<u32>; 2],
+    (bool, [u32; 5]),
+);
+
+// Returns what is found in that run.
+fn run_of_five(shape: Shape) -> Option<RunOfFive> {
+    if shape.rounds() != 2 || shape.count(2) != 6720 {
+        return None;
+    }
+    let mut window = [0; 5];
+    shape.window(2, 3861, &mut window);
+    let at = (window, shape.place_in_run(1, &window));
+    let places = shape.run_places(1, &window);
+    let rest = places.rest(0);
+    // Six places, with gaps at 2 and 3.
+    if rest != 6 {
+        return None;
+    }
+    let series = [places.series(1, 256), places.series(4, 256)];
+    let after = [places.after(1), places.after(5)];
+    let moved = shape.next_run(2, &mut window);
+    Some((at, (rest, series), after, (moved, window)))
 }
 
 #[test]
 fn two_gaps_side_by_side(rt: HostRuntime) -> Result<(), Fail> {
     let shape = shape_of_eight(2).ok_or("a shape")?;
-    assert!(rt; shape.rounds() == 2);
-    assert!(rt; shape.count(2) == 6720);
-    let mut window = [0; 5];
-    shape.window(2, 3861, &mut window);
-    assert!(rt; (window, shape.place_in_run(1, &window)) == ([4, 5, 1, 0, 3], 1));
-    let places = shape.run_places(1, &window);
-    // Six places, with gaps at 2 and 3.
-    assert!(rt; places.rest(0) == 6);
-    let series = [places.series(1, 256), places.series(4, 256)];
-    let after = [places.after(1), places.after(5)];
-    assert!(rt; (series, after) == ([1, 2], [Some(4), None]));
-    let moved = shape.next_run(2, &mut window);
-    assert!(rt; (moved, window) == (true, [4, 5, 1, 2, 0]));
+    let want = (
+        ([4, 5, 1, 0, 3], 1),
+        (6, [1, 2]),
+        [Some(4), None],
+        (true, [4, 5, 1, 2, 0]),
+    );
+    assert!(rt; run_of_five(shape) == Some(want));
     Ok(())
 }
 
@@ -167,6 +235,12 @@ fn the_range_of_shapes(rt: HostRuntime) {
     assert!(rt; shapes == [true; 4]);
 }
 
+// Returns whether the identifiers of no ring are given back, and their fault.
+fn fault_of(alloc: Global, shape: Shape, ids: &[u32]) -> Option<(bool, RingFault)> {
+    let (back, fault) = Ring::new(shape, ids.to_vec(alloc).ok()?).err()?;
+    Some((back.as_slice() == ids, fault))
+}
+
 #[test]
 fn rings_and_their_first_faults(rt: HostRuntime) -> Result<(), Fail> {
     let shape = shape_of_eight(1).ok_or("a shape")?;
@@ -179,32 +253,46 @@ fn rings_and_their_first_faults(rt: HostRuntime) -> Result<(), Fail> {
         ([0, 1, 8, 0].as_slice(), RingFault::IdTooLarge(2)),
     ];
     for (ids, want) in faults {
-        let (back, fault) = Ring::new(shape, ids.to_vec(rt.alloc())?)
-            .err()
-            .ok_or("no ring")?;
-        assert!(rt; (back.as_slice(), fault) == (ids, want));
+        assert!(rt; fault_of(rt.alloc(), shape, ids) == Some((true, want)));
     }
     Ok(())
+}
+
+// Returns a ring of these identifiers.
+fn ring_of(alloc: Global, shape: Shape, ids: &[u32]) -> Option<Ring> {
+    Ring::new(shape, ids.to_vec(alloc).ok()?).ok()
+}
+
+// Returns the windows of level 1 at places 0, 3 and 1 of a ring of four places.
+fn windows_at_three_places(ring: &Ring) -> Option<[[u32; 3]; 3]> {
+    if ring.len() != 4 || ring.shape().rounds() != 1 {
+        return None;
+    }
+    let (mut first, mut last, mut second) = ([0; 3], [0; 3], [0; 3]);
+    ring.window_at(0, 1, &mut first);
+    ring.window_at(3, 1, &mut last);
+    ring.window_at(1, 1, &mut second);
+    Some([first, last, second])
+}
+
+// Returns the identifier at place 2 of a ring, and whether the ring is itself and whether it is the
+// ring that begins at its place 1.
+fn same_rings(alloc: Global, shape: Shape, ring: &Ring) -> Option<(u32, (bool, bool))> {
+    if ring.len() != 4 {
+        return None;
+    }
+    let turned = ring_of(alloc, shape, &[1, 3, 7, 5])?;
+    Some((ring.id(2), (ring.same(ring), ring.same(&turned))))
 }
 
 #[test]
 fn windows_round_the_end_of_a_ring(rt: HostRuntime) -> Result<(), Fail> {
     let shape = shape_of_eight(1).ok_or("a shape")?;
-    let ring = Ring::new(shape, [5, 1, 3, 7].to_vec(rt.alloc())?)
-        .ok()
-        .ok_or("a ring")?;
-    assert!(rt; ring.len() == 4);
-    assert!(rt; ring.shape().rounds() == 1);
-    let (mut first, mut last, mut second) = ([0; 3], [0; 3], [0; 3]);
-    ring.window_at(0, 1, &mut first);
-    ring.window_at(3, 1, &mut last);
-    ring.window_at(1, 1, &mut second);
-    assert!(rt; [first, last, second] == [[7, 5, 1], [3, 7, 5], [5, 1, 3]]);
-    let turned = Ring::new(shape, [1, 3, 7, 5].to_vec(rt.alloc())?)
-        .ok()
-        .ok_or("a ring")?;
-    let same = (ring.same(&ring), ring.same(&turned));
-    assert!(rt; (ring.id(2), same) == (3, (true, false)));
+    let ring = ring_of(rt.alloc(), shape, &[5, 1, 3, 7]).ok_or("a ring")?;
+    let windows = windows_at_three_places(&ring);
+    assert!(rt; windows == Some([[7, 5, 1], [3, 7, 5], [5, 1, 3]]));
+    let found = same_rings(rt.alloc(), shape, &ring);
+    assert!(rt; found == Some((3, (true, false))));
     Ok(())
 }
 

@@ -39,7 +39,15 @@ pub(crate) fn do_columns<R: AllocGlobal + Print>(rt: &R) -> Result<(), Miss> {
     if plan.shape().rounds() != 1 || plan.program().registers() != 1 {
         return Err(Miss::Wrong);
     }
-    let code = code_of(rt, &plan)?;
+    tell_three_nodes(rt, &plan)
+}
+
+// Prints the results of the first round of a plan of one register at three nodes.
+fn tell_three_nodes<R: AllocGlobal + Print>(rt: &R, plan: &Plan) -> Result<(), Miss>
+    requires rounds { length plan.now.program.steps ≡ 1 }
+    requires registers { length plan.now.program.start ≡ 1 }
+{
+    let code = code_of(rt, plan)?;
     tell_round(rt, &code, &three_neighbours(rt)?)
 }
 

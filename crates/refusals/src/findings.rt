@@ -22,18 +22,34 @@ pub(crate) fn do_findings<R: AllocGlobal + Print + Threads + Wait + Sync>(
     let alloc = rt.alloc();
     let plan = plan_of(alloc, CV1, 8)?;
     let ring = ring_for(alloc, &plan, &[5, 1, 3, 7])?;
-    let first = findings_of(rt, &plan, &ring, workers, segments);
-    match value_or_refusal(rt, first)? {
-        Some(findings) => tell_findings(rt, &findings),
-        None => tell_findings(
-            rt,
-            &retried(findings_of(rt, &plan, &ring, workers, segments))?,
-        ),
+    tell_findings(rt, &findings_of(rt, &plan, &ring, workers, segments)?)
+}
+
+// Prints the channels and the verdict.
+fn tell_findings<R: Print>(rt: &R, findings: &Findings) -> Result<(), Miss> {
+    tell_numbers(rt, &findings.channels)?;
+    tell_verdict(rt, &findings.verdict)
+}
+
+// Returns the findings of a plan and a ring.
+fn findings_of<R: AllocGlobal + Print + Threads + Wait + Sync>(
+    rt: &R,
+    plan: &Plan,
+    ring: &Ring,
+    workers: u32,
+    segments: u32,
+) -> Result<Findings, Miss>
+    requires ids { ring.now.ids ≡ plan.now.ids }
+    requires rounds { ring.now.rounds ≡ length plan.now.program.steps }
+{
+    match value_or_refusal(rt, answer_of(rt, plan, ring, workers, segments))? {
+        Some(findings) => Ok(findings),
+        None => retried(answer_of(rt, plan, ring, workers, segments)),
     }
 }
 
 // Calls `compile_run_and_judge` with a gate that is open.
-fn findings_of<R: AllocGlobal + Threads + Wait + Sync>(
+fn answer_of<R: AllocGlobal + Threads + Wait + Sync>(
     rt: &R,
     plan: &Plan,
     ring: &Ring,
@@ -53,10 +69,4 @@ fn findings_of<R: AllocGlobal + Threads + Wait + Sync>(
         segments,
         &OpenGate,
     )
-}
-
-// Prints the channels and the verdict.
-fn tell_findings<R: Print>(rt: &R, findings: &Findings) -> Result<(), Miss> {
-    tell_numbers(rt, &findings.channels)?;
-    tell_verdict(rt, &findings.verdict)
 }

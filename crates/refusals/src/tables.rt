@@ -46,8 +46,20 @@ pub(crate) fn do_compile<R: AllocGlobal + Print + Threads + Wait + Sync>(
     let alloc = rt.alloc();
     let plan = plan_of(alloc, CV1, 8)?;
     let memo = other_call(Memo::new(alloc, &plan))?;
-    let mut pass = other_call(memo.pass(alloc))?;
-    tell_entries(rt, &filled(rt, &plan, &memo, &mut pass, workers)?)
+    tell_filled(rt, &plan, &memo, workers)
+}
+
+// Prints the entries of the table of a plan that `workers` workers filled.
+fn tell_filled<R: AllocGlobal + Print + Threads + Wait + Sync>(
+    rt: &R,
+    plan: &Plan,
+    memo: &Memo<'_>,
+    workers: u32,
+) -> Result<(), Miss>
+    requires { memo_plan memo.now ≡ plan.now }
+{
+    let mut pass = other_call(memo.pass(rt.alloc()))?;
+    tell_entries(rt, &filled(rt, plan, memo, &mut pass, workers)?)
 }
 
 // Returns the table of a plan that `workers` workers filled.
