@@ -146,7 +146,8 @@ fn cv1_is_refused(rt: HostRuntime) -> Result<(), Fail> {
     Ok(())
 }
 
-// The channels, the bound, the identifiers, the rounds and the registers of the plan of that program.
+// The channels, the bound, the identifiers, the rounds and the registers of the plan of that
+// program.
 fn cv1_numbers(alloc: Global, channels: u32, ids: u32) -> Option<[u32; 5]> {
     let plan = cv1_plan(alloc, channels, ids)?;
     let shape = plan.shape();

@@ -52,8 +52,8 @@ fn has_state(plan: &Plan, level: u32, number: u32, identifiers: &[u32], want: &[
     *window == *identifiers && *state == *want
 }
 
-// The number of windows of level 4, the last of them and its state, for a program of four rounds and
-// one register.
+// The number of windows of level 4, the last of them and its state, for a program of four rounds
+// and one register.
 fn last_window(plan: &Plan) -> Option<(u32, [u32; 9], [u32; 1])> {
     let shape = plan.shape();
     if shape.rounds() != 4 || plan.program().registers() != 1 {

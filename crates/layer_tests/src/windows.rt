@@ -74,7 +74,8 @@ fn next_after(shape: Shape, number: u32) -> Option<(u32, bool, [u32; 3])> {
     Some((found, moved, window))
 }
 
-// Returns the number of a window of level 1, whether a window comes after it, and the number of that.
+// Returns the number of a window of level 1, whether a window comes after it, and the number of the
+// list that then stands in its place.
 fn numbers_of_two(shape: Shape, number: u32) -> Option<(u32, bool, Option<u32>)> {
     if shape.rounds() != 1 {
         return None;
@@ -95,8 +96,8 @@ fn windows_one_after_another(rt: HostRuntime) -> Result<(), Fail> {
     Ok(())
 }
 
-// What is found in the run of window 218 of level 1: the window and its place, the number of places,
-// `rest` and `series`, `after`, and the first window of the next run.
+// What is found in the run of window 218 of level 1: the window and its place, the number of
+// places, `rest` and `series`, `after`, and the first window of the next run.
 type RunOfThree = (
     ([u32; 3], u32),
     (u32, u32, [u32; 3]),
@@ -147,8 +148,8 @@ fn places_of_the_windows_of_a_run(rt: HostRuntime) -> Result<(), Fail> {
     Ok(())
 }
 
-// What is found in the run of window 3861 of level 2: the window and its place, the number of places
-// and `series`, `after`, and the first window of the next run.
+// What is found in the run of window 3861 of level 2: the window and its place, the number of
+// places and `series`, `after`, and the first window of the next run.
 type RunOfFive = (
     ([u32; 5], u32),
     (u32, [u32; 2]),
