@@ -6,6 +6,8 @@ mod audits;
 #[cfg(test)]
 mod columns;
 #[cfg(test)]
+mod desks;
+#[cfg(test)]
 mod engine_calls;
 #[cfg(test)]
 mod faults;
@@ -13,6 +15,8 @@ mod faults;
 mod findings;
 #[cfg(test)]
 mod load;
+#[cfg(test)]
+mod memo;
 #[cfg(test)]
 mod reports;
 #[cfg(test)]
