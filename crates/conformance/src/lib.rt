@@ -12,7 +12,11 @@ mod engine_calls;
 #[cfg(test)]
 mod faults;
 #[cfg(test)]
+mod filling;
+#[cfg(test)]
 mod findings;
+#[cfg(test)]
+mod gates;
 #[cfg(test)]
 mod load;
 #[cfg(test)]
