@@ -4,7 +4,15 @@
 #[cfg(test)]
 mod columns;
 #[cfg(test)]
+mod desks;
+#[cfg(test)]
+mod filling;
+#[cfg(test)]
 mod findings;
+#[cfg(test)]
+mod gates;
+#[cfg(test)]
+mod memo;
 #[cfg(test)]
 mod plain_runs;
 #[cfg(test)]

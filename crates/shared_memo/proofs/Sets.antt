@@ -14,7 +14,7 @@ use Rattle.shared_memo.specs.declared.entry.Entry.{Entry}
 use Rattle.once_cell.specs.Once.{cell_name}
 use Rattle.once_cell.specs.declared.race.once_box.OnceBox.{OnceBox}
 use Rattle.shared_memo.specs.PlanJobs.{job_of, IsKeyedBlock}
-use Rattle.shared_memo.specs.Known.{known_of, known_in, known_job, known_by, IsBlockOf, AllInPlace, cells_of}
+use Rattle.shared_memo.specs.Known.{known_of, known_in, known_job, known_by, seen_of, seen_in, seen_job, seen_by, IsBlockOf, AllInPlace, cells_of}
 use Rattle.shared_memo.specs.Passes.{LearnsAt, KnowsSame, IsJoined}
 
 -- the entry at an index
@@ -191,3 +191,11 @@ knows_nothing p es blank level number = none (job_of p level number)
     none : (o : Option ℕ) → known_job es o ≡ None
     none None = refl
     none (Some k) = blank k
+
+-- the block seen at an index after a look there
+pub seen_set_here : (es : List Entry) (at : ℕ) (e : Entry) → at < length es → seen_in (set es at e) at ≡ seen_of e
+seen_set_here es at e long = ap (λ (l : List (Option MadeBlock)). get_or l at None) (map-set seen_of es at e) ∙ get_or-set_same (map seen_of es) at (seen_of e) None (let n : length (map seen_of es) ≡ length es = length-map es seen_of in omega arith)
+
+-- the block seen at the key of an index
+pub seen_at_key : (p q : ProgramForIds) (es : List Entry) (level number at : ℕ) → p ≡ q → job_of q level number ≡ Some at → seen_by p es level number ≡ seen_in es at
+seen_at_key p q es level number at same job = ap (seen_job es) (ap (λ (x : ProgramForIds). job_of x level number) same ∙ job)

@@ -17,6 +17,10 @@ job_of plan level number = job_number plan.ids (length plan.program.steps) level
 abbrev pub IsKeyedBlock : ProgramForIds → ℕ → ℕ → MadeBlock → Type 0
 IsKeyedBlock plan level number b = (b.plan ≡ plan) × (b.level ≡ level) × (b.number ≡ number)
 
+-- a block of another plan, level or number
+abbrev pub IsStranger : ProgramForIds → ℕ → ℕ → MadeBlock → Type 0
+IsStranger plan level number b = ¬ IsKeyedBlock plan level number b
+
 -- for each level of the plan the number of the job of its first block; the others of the level follow it
 abbrev pub AreFirstJobs : ProgramForIds → List ℕ → Type 0
 AreFirstJobs plan firsts =

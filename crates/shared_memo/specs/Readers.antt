@@ -3,7 +3,7 @@ use Rattle.std.specs.Prelude.{◌≡◌, ℕ, Bool, true, false, None, Some}
 use Rattle.unroll.specs.BlockStates.{MadeBlock}
 use Rattle.unroll.specs.Entries.{Asked}
 use Rattle.shared_memo.specs.declared.reader.Reader.{Reader}
-use Rattle.shared_memo.specs.Passes.{known, LearnsAt, KnowsSame}
+use Rattle.shared_memo.specs.Passes.{known, seen, LearnsAt, KnowsSame}
 
 -- whether the reader has met a stranger
 abbrev pub met_stranger : Reader → Bool
@@ -25,3 +25,5 @@ pub record Asks (level number : ℕ) (found : Bool) (old new : Reader) : Type 0 
   pub mark_as_was : found ≡ true → met_stranger new ≡ met_stranger old
   -- if the mark was set, a block that was not known is not returned
   pub only_known : met_stranger old ≡ true → known old.pass.now level number ≡ None → found ≡ false
+  -- if none is returned, an empty cell was seen, or the mark is set
+  pub marked : found ≡ false → met_stranger new ≡ false → seen new.pass.now level number ≡ None

@@ -15,7 +15,7 @@ use unroll::{MakeFault, Source};
 use win_index::{MAX_BLOCKS, window_of_number};
 
 // The outcome of making a block.
-#[derive(Clone, Copy, Debug, PartialEq, Eq)]
+#[derive(Clone, Copy)]
 pub(crate) enum Made {
     // The block was stored in its cell.
     Fresh,

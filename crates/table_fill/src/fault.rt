@@ -17,14 +17,14 @@ pub enum FillFault {
 }
 
 // Why a worker did not fill its cells.
-#[derive(Clone, Copy, Debug, PartialEq, Eq)]
+#[derive(Clone, Copy)]
 pub(crate) enum WorkFault {
     OutOfMemory,
     Stranger,
 }
 
 // Why a pool of workers did not fill a memo. Their number is in its range by then.
-#[derive(Clone, Copy, Debug, PartialEq, Eq)]
+#[derive(Clone, Copy)]
 pub(crate) enum CrewFault {
     Work(WorkFault),
     NoThread,

@@ -20,6 +20,3 @@ pub use channel_tables::{Table, TableMaker};
 pub use fault::FillFault;
 pub use filling::compile;
 pub use laws::table_has_the_channels_of_rounds;
-
-#[cfg(test)]
-mod tests;

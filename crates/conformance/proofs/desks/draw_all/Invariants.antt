@@ -1,6 +1,6 @@
 use Rattle.std.proofs.Common.{◌≡◌, ◌-◌, length}
-use Rattle.shared_memo.specs.Tickets.{drawn, told, IsTicketOf}
-use Rattle.shared_memo.proofs.tests.desk.draw_all.Given as goal
+use Rattle.shared_memo.specs.Tickets.{drawn, told, numbers_of, IsTicketOf}
+use Rattle.conformance.proofs.desks.draw_all.Given as goal
 
 abbrev pub invariant-loop-number : goal.invariant-loop-number
 invariant-loop-number l = record {
@@ -9,4 +9,4 @@ invariant-loop-number l = record {
 }
 
 abbrev pub decreases-loop-number : goal.decreases-loop-number
-decreases-loop-number l = l.desk.total - length (drawn l.ticket)
+decreases-loop-number l = numbers_of l.desk - length (drawn l.ticket)

@@ -1,6 +1,0 @@
-//! Tests of what no clause says.
-
-mod blocks;
-mod desk;
-mod memo;
-mod reader;
