@@ -102,12 +102,21 @@ program = record {
   subs = [];
 }
 
--- the commands that read a program and take no ring, and those that take one
-abbrev pub program_commands : List Shape
-program_commands = check_command ∷ print_command ∷ table_command ∷ judge_command ∷ []
+-- the commands that read a program and make no table of it
+abbrev pub text_commands : List Shape
+text_commands = check_command ∷ print_command ∷ []
 
+-- the commands that read a program and take no ring
+abbrev pub program_commands : List Shape
+program_commands = text_commands ++ table_command ∷ judge_command ∷ []
+
+-- the commands that run a program on a ring
+abbrev pub running_commands : List Shape
+running_commands = run_command ∷ trace_command ∷ []
+
+-- the commands that read a program and take a ring
 abbrev pub ring_commands : List Shape
-ring_commands = run_command ∷ trace_command ∷ plan_command ∷ []
+ring_commands = running_commands ++ plan_command ∷ []
 
 -- the program with these commands
 abbrev pub line_of : List Shape → App

@@ -4,7 +4,7 @@ ghost use Rattle.std.specs.Prelude.{◌≡◌, IfOk, false, [], ◌∷◌, ◌++
 ghost use Rattle.clap.specs.Words.{app_of, rule_of};
 ghost use Rattle.task_words.specs.CommandLine.{IsCommandOf, command_of, program, option_rule, count_rule, ids_rule, ring_rule, workers_rule, segments_rule, near_rule, far_rule};
 ghost use Rattle.task_words.specs.CommandLine.{check_command, print_command, table_command, judge_command, run_command};
-ghost use Rattle.task_words.specs.CommandLine.{trace_command, plan_command, audit_command, migrate_command, program_commands, ring_commands, line_of, command_line};
+ghost use Rattle.task_words.specs.CommandLine.{trace_command, plan_command, audit_command, migrate_command, text_commands, program_commands, running_commands, ring_commands, line_of, command_line};
 
 use crate::help;
 use crate::limits::{MAX_COUNT, MAX_DISTANCE};
@@ -13,7 +13,7 @@ use clap::{Arg, ArgAction, Command, value_parser};
 use std::alloc::{AllocError, Global};
 
 // Returns the command line of the words after the program's name: one of the nine commands, and its
-// options. It is made in three steps, since the check takes long for a longer chain of calls.
+// options. It is made in steps, since the check takes long for a longer chain of calls.
 pub(crate) fn command_line<'a>(alloc: Global) -> Result<Command<'a>, AllocError>
     ensures { IfOk result (λ line. app_of line ≡ command_line) }
 {
@@ -26,21 +26,34 @@ pub(crate) fn command_line<'a>(alloc: Global) -> Result<Command<'a>, AllocError>
 fn ring_commands<'a>(alloc: Global) -> Result<Command<'a>, AllocError>
     ensures { IfOk result (λ line. app_of line ≡ line_of (program_commands ++ ring_commands)) }
 {
+    running_commands(alloc)?.subcommand(plan(alloc)?)
+}
+
+// Returns the program with the commands that read a program and take no ring, or run it on one.
+fn running_commands<'a>(alloc: Global) -> Result<Command<'a>, AllocError>
+    ensures { IfOk result (λ line. app_of line ≡ line_of (program_commands ++ running_commands)) }
+{
     program_commands(alloc)?
         .subcommand(run(alloc)?)?
-        .subcommand(trace(alloc)?)?
-        .subcommand(plan(alloc)?)
+        .subcommand(trace(alloc)?)
 }
 
 // Returns the program with the commands that read a program and take no ring.
 fn program_commands<'a>(alloc: Global) -> Result<Command<'a>, AllocError>
     ensures { IfOk result (λ line. app_of line ≡ line_of program_commands) }
 {
-    program(alloc)?
-        .subcommand(check(alloc)?)?
-        .subcommand(print(alloc))?
+    text_commands(alloc)?
         .subcommand(table(alloc)?)?
         .subcommand(judge(alloc)?)
+}
+
+// Returns the program with the commands that make no table of a program.
+fn text_commands<'a>(alloc: Global) -> Result<Command<'a>, AllocError>
+    ensures { IfOk result (λ line. app_of line ≡ line_of text_commands) }
+{
+    program(alloc)?
+        .subcommand(check(alloc)?)?
+        .subcommand(print(alloc))
 }
 
 // Returns the program without its commands.
@@ -150,6 +163,18 @@ fn with_ring<'a>(
     with_ids(alloc, name, about, details)?.arg(ring(alloc))
 }
 
+// Returns `NAME --ids M [--workers W]`.
+fn with_workers<'a>(
+    alloc: Global,
+    name: &'a str,
+    about: &'a str,
+    details: &'a str,
+) -> Result<Command<'a>, AllocError>
+    ensures { IfOk result (IsCommandOf (command_of name.entry.now (ids_rule ∷ workers_rule ∷ []))) }
+{
+    with_ids(alloc, name, about, details)?.arg(workers(alloc))
+}
+
 // Returns `NAME --ids M [--workers W] [--near P] [--far Q]`.
 fn with_distances<'a>(
     alloc: Global,
@@ -159,8 +184,7 @@ fn with_distances<'a>(
 ) -> Result<Command<'a>, AllocError>
     ensures { IfOk result (IsCommandOf (command_of name.entry.now (ids_rule ∷ workers_rule ∷ near_rule ∷ far_rule ∷ []))) }
 {
-    with_ids(alloc, name, about, details)?
-        .arg(workers(alloc))?
+    with_workers(alloc, name, about, details)?
         .arg(near(alloc))?
         .arg(far(alloc))
 }

@@ -1,11 +1,9 @@
 use Rattle.std.proofs.lemmas.Result.{IfOk-weaker}
-use Rattle.task_words.specs.CommandLine.{run_command, trace_command, plan_command}
+use Rattle.task_words.specs.CommandLine.{plan_command}
 use Rattle.task_words.proofs.Commands.{added}
 use Rattle.task_words.proofs.command_line.ring_commands.Goals as goal
 
 -- Each command comes after those before it.
 pub returns : goal.returns
 returns c =
-    let fifth = added _ _ _ _ run_command c.in_ok-program_commands.ensures c.in_ok-run.ensures c.in_ok-subcommand.ensures in
-    let sixth = added _ _ _ _ trace_command fifth c.in_ok-trace.ensures c.in_ok-subcommand-2.ensures in
-    IfOk-weaker c.subcommand-3.result _ _ (λ line adds. added _ _ line _ plan_command sixth c.in_ok-plan.ensures adds) c.subcommand-3.ensures
+    IfOk-weaker c.subcommand.result _ _ (λ line adds. added _ _ line _ plan_command c.in_ok-running_commands.ensures c.in_ok-plan.ensures adds) c.subcommand.ensures
