@@ -21,24 +21,56 @@ MARKS_AND_ORDER = [
 ]
 
 REGISTERS_AND_ROUNDS = [
-    ("registers 1\nstart\nr0 = id", "registers 2\nstart\nr0 = id r1 = 0", "nbhd: line 10, column 1: `finish` cannot stand here; wanted the assignment of r1"),
-    ("rounds 1", "rounds 2", "nbhd: line 10, column 1: `finish` cannot stand here; wanted `round`; there are as many rounds as `rounds` says"),
-    ("finish r0", "round\nsend left 0\nsend right r0\nr0 = r0\nfinish r0", "nbhd: line 10, column 1: `round` cannot stand here; wanted `finish`; there are as many rounds as `rounds` says"),
-    ("finish r0", "r0 = r0\nfinish r0", "nbhd: line 10, column 1: `r0` cannot stand here; wanted `finish`; each register is assigned once"),
+    (
+        "registers 1\nstart\nr0 = id",
+        "registers 2\nstart\nr0 = id r1 = 0",
+        "nbhd: line 10, column 1: `finish` cannot stand here; wanted the assignment of r1",
+    ),
+    (
+        "rounds 1",
+        "rounds 2",
+        "nbhd: line 10, column 1: `finish` cannot stand here; wanted `round`; there are as many rounds as `rounds` says",
+    ),
+    (
+        "finish r0",
+        "round\nsend left 0\nsend right r0\nr0 = r0\nfinish r0",
+        "nbhd: line 10, column 1: `round` cannot stand here; wanted `finish`; there are as many rounds as `rounds` says",
+    ),
+    (
+        "finish r0",
+        "r0 = r0\nfinish r0",
+        "nbhd: line 10, column 1: `r0` cannot stand here; wanted `finish`; each register is assigned once",
+    ),
     ("r0 = id", "r1 = id", "nbhd: line 5, column 1: `r1` cannot stand here; wanted the assignment of r0"),
     ("rounds 1", "rounds 5", "nbhd: line 1, column 8: a number out of its range: `rounds` is 0 to 4"),
     ("channels 6", "channels 0", "nbhd: line 2, column 10: a number out of its range: `rounds` is 0 to 4, `channels` 1 to 4096"),
-    ("channels 6", "channels 5000", "nbhd: line 2, column 10: a number out of its range: `rounds` is 0 to 4, `channels` 1 to 4096"),
-    ("registers 1", "registers 9", "nbhd: line 3, column 11: a number out of its range: `rounds` is 0 to 4, `channels` 1 to 4096, `registers` 1 to 8"),
+    (
+        "channels 6",
+        "channels 5000",
+        "nbhd: line 2, column 10: a number out of its range: `rounds` is 0 to 4, `channels` 1 to 4096",
+    ),
+    (
+        "registers 1",
+        "registers 9",
+        "nbhd: line 3, column 11: a number out of its range: `rounds` is 0 to 4, `channels` 1 to 4096, `registers` 1 to 8",
+    ),
     ("finish r0", "finish 4294967296", "nbhd: line 10, column 8: a number is at most 4294967295"),
 ]
 
 OPERANDS = [
-    ("finish r0", "finish if r0 then 1 else 2", "nbhd: line 10, column 11: `r0` cannot stand here; wanted `(`; the operands of an operation stand in brackets, as in `if(c, a, b)`"),
+    (
+        "finish r0",
+        "finish if r0 then 1 else 2",
+        "nbhd: line 10, column 11: `r0` cannot stand here; wanted `(`; the operands of an operation stand in brackets, as in `if(c, a, b)`",
+    ),
     ("finish r0", "finish if(r0, 1)", "nbhd: line 10, column 16: `)` cannot stand here; wanted `,`; `if` takes 3 operands"),
     ("finish r0", "finish not(r0, 1)", "nbhd: line 10, column 14: `,` cannot stand here; wanted `)`; `not` takes 1 operand"),
     ("finish r0", "finish min(r0, 1, 2)", "nbhd: line 10, column 17: `,` cannot stand here; wanted `)`; `min` takes 2 operands"),
-    ("finish r0", "finish if(r0 == 1, 0, 1)", "nbhd: line 10, column 14: `=` cannot stand here; wanted `,`; write `eq(a, b)` to compare"),
+    (
+        "finish r0",
+        "finish if(r0 == 1, 0, 1)",
+        "nbhd: line 10, column 14: `=` cannot stand here; wanted `,`; write `eq(a, b)` to compare",
+    ),
 ]
 
 WORDS_OF_OTHER_LANGUAGES = [
@@ -49,17 +81,33 @@ WORDS_OF_OTHER_LANGUAGES = [
     ("finish r0", "finish r0 + 1", "nbhd: line 10, column 11: `+` is no word of the language; write `add(a, b)`"),
     ("r0 = id", "r0 = 2*id", "nbhd: line 5, column 7: `*` is no word of the language; there is no product"),
     ("r0 = id", "r0 = mul(2, id)", "nbhd: line 5, column 6: `mul` is no word of the language; there is no product"),
-    ("r0 = id", "r0 = mod(id, 2)", "nbhd: line 5, column 6: `mod` is no word of the language; there is no remainder: that of 2 is `and(x, 1)`"),
+    (
+        "r0 = id",
+        "r0 = mod(id, 2)",
+        "nbhd: line 5, column 6: `mod` is no word of the language; there is no remainder: that of 2 is `and(x, 1)`",
+    ),
     ("ldb(r0, L), 1", "gt(r0, L), 1", "nbhd: line 9, column 14: `gt` is no word of the language; write `lt(b, a)` for a > b"),
     ("finish r0", "finish -1", "nbhd: line 10, column 8: `-` is no word of the language; write `sub(a, b)`, which stops at 0"),
     ("finish r0", "finish 0x5", "nbhd: line 10, column 8: `0x5` is no word of the language; numbers are decimal"),
     ("r0 = id", "r0 := id", "nbhd: line 5, column 4: `:` is no word of the language; an assignment is written `r0 = ..`"),
     ("rounds 1", "rounds 1;", "nbhd: line 1, column 9: `;` is no word of the language; lines end without a mark"),
-    ("r0 = id", "colour = id", "nbhd: line 5, column 1: `colour` is no word of the language; registers are `r0` to `r7`, and have no other names"),
+    (
+        "r0 = id",
+        "colour = id",
+        "nbhd: line 5, column 1: `colour` is no word of the language; registers are `r0` to `r7`, and have no other names",
+    ),
     ("finish r0", "return r0", "nbhd: line 10, column 1: `return` is no word of the language; the last line is `finish`"),
-    ("left 0\nsend right r0", "both r0", "nbhd: line 7, column 6: `both` is no word of the language; write `send left` and `send right`"),
+    (
+        "left 0\nsend right r0",
+        "both r0",
+        "nbhd: line 7, column 6: `both` is no word of the language; write `send left` and `send right`",
+    ),
     ("finish r0", "finish \"r0\"", "nbhd: line 10, column 8: `\"` is no word of the language; there are no texts in programs"),
-    ("finish r0\n", "finish r0\nend\n", "nbhd: line 11, column 1: `end` is no word of the language; the expression of `finish` ends the program"),
+    (
+        "finish r0\n",
+        "finish r0\nend\n",
+        "nbhd: line 11, column 1: `end` is no word of the language; the expression of `finish` ends the program",
+    ),
     ("finish r0\n", "finish r0\nrounds 1\n", "nbhd: line 11, column 1: `rounds` cannot stand here; wanted the end of the text"),
 ]
 
@@ -67,16 +115,37 @@ WORDS_OF_OTHER_LANGUAGES = [
 OTHER_FILES = [
     (b"// a program", "nbhd: line 1, column 1: `/` is no word of the language; a comment begins with `#`"),
     (b"/* a program */", "nbhd: line 1, column 1: `/` is no word of the language; a comment begins with `#`"),
-    (b"# the node\xe2\x80\x99s\nrounds 1", "nbhd: line 1, column 11: a byte over 127; a program text is ASCII, in its comments too"),
-    (b"\xef\xbb\xbfrounds 1", "nbhd: line 1, column 1: a byte over 127; a program text is ASCII, in its comments too; this is a byte order mark"),
-    (b"\xff\xfer\x00o\x00", "nbhd: line 1, column 1: a byte over 127; a program text is ASCII, in its comments too; the file is UTF-16"),
-    (b"rounds\xc2\xa01", "nbhd: line 1, column 7: a byte over 127; a program text is ASCII, in its comments too; this is a blank that does not break"),
+    (
+        b"# the node\xe2\x80\x99s\nrounds 1",
+        "nbhd: line 1, column 11: a byte over 127; a program text is ASCII, in its comments too",
+    ),
+    (
+        b"\xef\xbb\xbfrounds 1",
+        "nbhd: line 1, column 1: a byte over 127; a program text is ASCII, in its comments too; this is a byte order mark",
+    ),
+    (
+        b"\xff\xfer\x00o\x00",
+        "nbhd: line 1, column 1: a byte over 127; a program text is ASCII, in its comments too; the file is UTF-16",
+    ),
+    (
+        b"rounds\xc2\xa01",
+        "nbhd: line 1, column 7: a byte over 127; a program text is ASCII, in its comments too; this is a blank that does not break",
+    ),
     (b"", "nbhd: line 1, column 1: the text ends here; wanted `rounds`; the text is empty, so no file was given"),
-    (b"# Pighvani\n\nPighvani compiles", "nbhd: line 3, column 1: `Pighvani` is no word of the language; a program begins with `rounds`"),
+    (
+        b"# Pighvani\n\nPighvani compiles",
+        "nbhd: line 3, column 1: `Pighvani` is no word of the language; a program begins with `rounds`",
+    ),
     (b"nbhd-table 2\n", "nbhd: line 1, column 1: `nbhd` is no word of the language; the text of a table is for `nbhd audit`"),
-    (b"text fault N3 at 0\n", "nbhd: line 1, column 1: `text` is no word of the language; this is what `nbhd` printed, and no program"),
+    (
+        b"text fault N3 at 0\n",
+        "nbhd: line 1, column 1: `text` is no word of the language; this is what `nbhd` printed, and no program",
+    ),
     (b"rounds 1\r\n\tchanels 6", "nbhd: line 2, column 2: `chanels` is no word of the language"),
-    (b"rounds 0 channels 8 registers 2 start r1 = id r0 = 0 finish r1", "nbhd: line 1, column 39: `r1` cannot stand here; wanted the assignment of r0"),
+    (
+        b"rounds 0 channels 8 registers 2 start r1 = id r0 = 0 finish r1",
+        "nbhd: line 1, column 39: `r1` cannot stand here; wanted the assignment of r0",
+    ),
 ]
 
 # Texts and their whole notes, or the ends of these.
@@ -135,8 +204,14 @@ WINDOWS_AND_CHANNELS = [
     (b"nbhd-table 1\nrounds 0 ids 2 channels 2\n1 : 1\n0 : 0\nend\n", "nbhd: line 3 is not the line of window 0\n"),
     (b"nbhd-table 1\nrounds 1 ids 4 channels 6\n0 1 2 : 0\n0 2 1 : 3\n", "nbhd: line 4 is not the line of window 0 1 3\n"),
     (b"nbhd-table 1\nrounds 1 ids 4 channels 6\n0 0 1 : 2\n", "nbhd: line 3 is not the line of window 0 1 2\n"),
-    (b"nbhd-table 1\nrounds 1 ids 5 channels 6\n0 1 2 : 0\n0 1 3 : 3\n0 2 1 : 3\n", "nbhd: line 5 is not the line of window 0 1 4\n"),
-    (b"nbhd-table 1\nrounds 0 ids 2 channels 2\n0 : 2\n", "nbhd: line 3 has a channel that is not below the number of channels of line 2\n"),
+    (
+        b"nbhd-table 1\nrounds 1 ids 5 channels 6\n0 1 2 : 0\n0 1 3 : 3\n0 2 1 : 3\n",
+        "nbhd: line 5 is not the line of window 0 1 4\n",
+    ),
+    (
+        b"nbhd-table 1\nrounds 0 ids 2 channels 2\n0 : 2\n",
+        "nbhd: line 3 has a channel that is not below the number of channels of line 2\n",
+    ),
 ]
 
 # Words, inputs and the notes.

@@ -92,14 +92,31 @@ PLANS_AND_LARGE_TABLES = [
     ("plan --ids 8 --ring 5,1,3,7 --workers 2", CV1, "   0    5    2\n   1    1    4\n   2    3    3\n   3    7    5\n", 0),
     ("judge --ids 64", cv1_of(12), "yes: 15249024 tuples\n", 0),
     ("judge --ids 10 --workers 4", SHIFT4, "yes: 3628800 tuples\n", 0),
-    ("plan --ids 10 --ring 0,1,2,3,4,5,6,7,8,9 --workers 4", SHIFT4, "   0    0    6\n   1    1    7\n   2    2    8\n   3    3    9\n   4    4    0\n   5    5    1\n   6    6    2\n   7    7    3\n   8    8    4\n   9    9    5\n", 0),
+    (
+        "plan --ids 10 --ring 0,1,2,3,4,5,6,7,8,9 --workers 4",
+        SHIFT4,
+        "   0    0    6\n   1    1    7\n   2    2    8\n   3    3    9\n   4    4    0\n   5    5    1\n"
+        "   6    6    2\n   7    7    3\n   8    8    4\n   9    9    5\n",
+        0,
+    ),
 ]
 
 TRACES = [
-    ("trace --ids 8 --ring 5,1,3,7", CV1, "start r0 5 1 3 7\nround 1 left 0 0 0 0\nround 1 right 5 1 3 7\nround 1 r0 2 4 3 5\nfinish 2 4 3 5\n", 0),
+    (
+        "trace --ids 8 --ring 5,1,3,7",
+        CV1,
+        "start r0 5 1 3 7\nround 1 left 0 0 0 0\nround 1 right 5 1 3 7\nround 1 r0 2 4 3 5\nfinish 2 4 3 5\n",
+        0,
+    ),
     ("trace --ids 2 --ring 0,1", ID0, "start r0 0 1\nfinish 0 1\n", 0),
     ("trace --ids 2 --ring 1,0", ZERO, "start r0 1 0\nfinish 0 0\n", 0),
-    ("trace --ids 8 --ring 5,1,3,7", TWO_REGISTERS, "start r0 5 1 3 7\nstart r1 0 0 0 0\nround 1 left 0 0 0 0\nround 1 right 5 1 3 7\nround 1 r0 0 0 0 0\nround 1 r1 12 6 4 10\nfinish 12 6 4 10\n", 0),
+    (
+        "trace --ids 8 --ring 5,1,3,7",
+        TWO_REGISTERS,
+        "start r0 5 1 3 7\nstart r1 0 0 0 0\nround 1 left 0 0 0 0\nround 1 right 5 1 3 7\n"
+        "round 1 r0 0 0 0 0\nround 1 r1 12 6 4 10\nfinish 12 6 4 10\n",
+        0,
+    ),
 ]
 
 # A program is printed whether or not it is accepted.

@@ -107,7 +107,12 @@ BLANKS = [(134217728 * b" ", "A1 at 0"), (134217729 * b" ", "A1 at 134217728")]
 
 # Programs, options, lines of their table by their numbers from 1, and the number of lines.
 TABLE_LINES = [
-    (CV1, "--ids 8", {1: "nbhd-table 2", 2: "rounds 1 ids 8 channels 6 near 1 far 0", 3: "0 1 2 : 1", 328: "7 5 1 : 2", 338: "7 6 5 : 0", 339: "end"}, 339),
+    (
+        CV1,
+        "--ids 8",
+        {1: "nbhd-table 2", 2: "rounds 1 ids 8 channels 6 near 1 far 0", 3: "0 1 2 : 1", 328: "7 5 1 : 2", 338: "7 6 5 : 0", 339: "end"},
+        339,
+    ),
     (CV1, "--ids 8 --near 2 --far 1", {2: "rounds 1 ids 8 channels 6 near 2 far 1", 3: "0 1 2 : 1"}, 339),
     (RED, "--ids 8", {26259: "5 1 3 7 0 2 4 : 1"}, 40323),
 ]
