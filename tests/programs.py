@@ -30,6 +30,10 @@ TWO_REGISTERS = (
     b"round\nsend left r1\nsend right r0\nr0 = r1\nr1 = add(r0, L)\nfinish r1\n"
 )
 TWO_REGISTERS_OF_200 = TWO_REGISTERS.replace(b"channels 64", b"channels 200")
+# One round that swaps two registers.
+SWAP = (
+    b"rounds 1\nchannels 8\nregisters 2\nstart\nr0 = id\nr1 = 0\nround\nsend left r0\nsend right r1\nr0 = r1\nr1 = r0\nfinish r1\n"
+)
 # Eight registers and three rounds. Each round moves the registers down by one, and the message from the left becomes the
 # last.
 EIGHT_REGISTERS = (

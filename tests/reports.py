@@ -12,6 +12,7 @@ from programs import (
     OWN,
     RED,
     SHIFT4,
+    SWAP,
     THREE_ROUNDS,
     TWICE_ID,
     TWO_REGISTERS,
@@ -30,6 +31,8 @@ CHECKS = [
     ("check --ids 162", cv1_of(16), "accepted ids 162 rounds 1 channels 16 bound 15 windows 4173120\n", 0),
     ("check --ids 10", SHIFT4, "accepted ids 10 rounds 4 channels 10 bound 9 windows 3628800\n", 0),
     ("check --ids 8", RED, "accepted ids 8 rounds 3 channels 4 bound 3 windows 40320\n", 0),
+    ("check --ids 4", CV1, "accepted ids 4 rounds 1 channels 6 bound 3 windows 24\n", 0),
+    ("check --ids 1024", OWN, "accepted ids 1024 rounds 0 channels 1024 bound 1023 windows 1024\n", 0),
 ]
 
 RINGS_REFUSED = [
@@ -63,6 +66,7 @@ RUNS = [
     ("run --ids 8 --ring 5,1,3,7,0,2,4,6 --segments 3", RED, "1 0 3 1 0 3 2 3\n", 0),
     ("run --ids 8 --ring 5,1,3,7,0,2,4,6 --segments 8", RED, "1 0 3 1 0 3 2 3\n", 0),
     ("run --ids 8 --ring 5,1,3,7", TWO_REGISTERS, "12 6 4 10\n", 0),
+    ("run --ids 8 --ring 5,1,3,7", SWAP, "5 1 3 7\n", 0),
     ("run --ids 8 --ring 0,1,2,3,4,5,6,7", EIGHT_REGISTERS, "11 5 7 9 11 13 15 17\n", 0),
 ]
 
@@ -168,7 +172,10 @@ TEXT_FAULTS = [
 CHECK_FAULTS = [
     (cv1_of(14), 3, "check fault X1\n"),
     (SHIFT4, 9, "check fault X1\n"),
+    (OWN, 1, "check fault X1\n"),
+    (OWN, 1025, "check fault X1\n"),
     (cv1_of(16), 163, "check fault X2\n"),
+    (SHIFT4, 1024, "check fault X2\n"),
     (SHIFT4, 11, "check fault X2\n"),
     (cv1_of(11), 64, "check fault C4 bound 11\n"),
     (cv1_of(3), 8, "check fault C4 bound 5\n"),
@@ -176,6 +183,8 @@ CHECK_FAULTS = [
     (b"rounds 0\nchannels 2\nregisters 1\nstart\nr0 = id\nfinish id\n", 2, "check fault C2\n"),
     (b"rounds 0\nchannels 2\nregisters 1\nstart\nr0 = id\nfinish L\n", 2, "check fault C3\n"),
     (b"rounds 0\nchannels 2\nregisters 1\nstart\nr0 = id\nfinish add(id, r1)\n", 2, "check fault C1 register 1\n"),
+    (ID0.replace(b"finish r0", b"finish if(r3, r2, r1)"), 2, "check fault C1 register 3\n"),
+    (ID0.replace(b"finish r0", b"finish 2"), 2, "check fault C4 bound 2\n"),
     (CV1_SENDS_L, 8, "check fault C3\n"),
 ]
 

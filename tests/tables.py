@@ -1,6 +1,6 @@
 """Tables of programs and reports on table texts: a row has the words, the input, the standard output and the exit status."""
 
-from programs import CV1, ID0, ID0_OF_4, LDB, RED, TWICE_ID, TWO_REGISTERS, ZERO, cv1_of
+from programs import CV1, ID0, ID0_OF_4, LDB, RED, SHIFT4, TWICE_ID, TWO_REGISTERS, ZERO, cv1_of
 
 # The table of two identifiers and no rounds that gives each identifier itself as its channel, in both versions.
 OLD = b"nbhd-table 1\nrounds 0 ids 2 channels 2\n0 : 0\n1 : 1\nend\n"
@@ -115,6 +115,7 @@ TABLE_LINES = [
     ),
     (CV1, "--ids 8 --near 2 --far 1", {2: "rounds 1 ids 8 channels 6 near 2 far 1", 3: "0 1 2 : 1"}, 339),
     (RED, "--ids 8", {26259: "5 1 3 7 0 2 4 : 1"}, 40323),
+    (SHIFT4, "--ids 10", {3: "0 1 2 3 4 5 6 7 8 : 0", 3628802: "9 8 7 6 5 4 3 2 1 : 9"}, 3628803),
 ]
 
 # Programs and options whose table is the same with each number of workers.

@@ -2,6 +2,8 @@
 #![tactic(auto)]
 
 #[cfg(test)]
+mod blocks;
+#[cfg(test)]
 mod columns;
 #[cfg(test)]
 mod desks;
@@ -21,3 +23,5 @@ mod slow_devices;
 mod slow_inputs;
 #[cfg(test)]
 mod slow_outputs;
+#[cfg(test)]
+mod windows;

@@ -1,10 +1,10 @@
-//! States of windows, and blocks of them.
+//! Blocks of windows, made with and without the blocks below.
 
 use lang_check::Plan;
 use std::alloc::Global;
 use std::test::Fail;
-use test_programs::{CV1, RED, SHIFT4, TWO_REGISTERS, plan_of};
-use unroll::{Block, MakeFault, Source, make_block, window_state};
+use test_programs::{CV1, RED, plan_of};
+use unroll::{Block, MakeFault, Source, make_block};
 
 // A source whose only entry is the first of some borrowed blocks.
 #[derive(Drop)]
@@ -35,39 +35,6 @@ impl<'s> Source<'s> for FirstBlockSource<'s> {
             _ => None,
         }
     }
-}
-
-// Whether the window of a level and a number has these identifiers and this state.
-fn has_state(plan: &Plan, level: u32, number: u32, identifiers: &[u32], want: &[u32]) -> bool {
-    let shape = plan.shape();
-    if level > 3 || level > shape.rounds() || number >= shape.count(level) {
-        return false;
-    }
-    let mut cells = [0; 7];
-    let window = &mut cells[..2 * level as usize + 1];
-    shape.window(level, number, window);
-    let mut registers = [0; 8];
-    let state = &mut registers[..plan.program().registers() as usize];
-    window_state(plan, window, state);
-    *window == *identifiers && *state == *want
-}
-
-// The number of windows of level 4, the last of them and its state, for a program of four rounds
-// and one register.
-fn last_window(plan: &Plan) -> Option<(u32, [u32; 9], [u32; 1])> {
-    let shape = plan.shape();
-    if shape.rounds() != 4 || plan.program().registers() != 1 {
-        return None;
-    }
-    let count = shape.count(4);
-    if count == 0 {
-        return None;
-    }
-    let mut window = [0; 9];
-    shape.window(4, count - 1, &mut window);
-    let mut state = [0; 1];
-    window_state(plan, &window, &mut state);
-    Some((count, window, state))
 }
 
 // Whether a plan has a block of this level and number.
@@ -128,28 +95,6 @@ fn blocks_of_two_levels(alloc: Global, plan: &Plan) -> Option<(u32, Found)> {
     let below = [first_block(alloc, plan)?];
     let len = below[0].len();
     Some((len, second_block(alloc, plan, &below)?))
-}
-
-#[test]
-fn windows_have_their_states(rt: HostRuntime) -> Result<(), Fail> {
-    let table: [(&[u8], u32, u32, &[u32], &[u32]); 3] = [
-        (CV1, 1, 325, &[7, 5, 1], &[2]),
-        (TWO_REGISTERS, 1, 325, &[7, 5, 1], &[0, 12]),
-        (RED, 3, 26_256, &[5, 1, 3, 7, 0, 2, 4], &[1]),
-    ];
-    for (text, level, number, identifiers, want) in table {
-        let plan = plan_of(rt.alloc(), text, 8)?;
-        assert!(rt; has_state(&plan, level, number, identifiers, want));
-    }
-    Ok(())
-}
-
-#[test]
-fn the_last_window_of_four_rounds(rt: HostRuntime) -> Result<(), Fail> {
-    let plan = plan_of(rt.alloc(), SHIFT4, 10)?;
-    let want = (3_628_800, [9, 8, 7, 6, 5, 4, 3, 2, 1], [9]);
-    assert!(rt; last_window(&plan) == Some(want));
-    Ok(())
 }
 
 #[test]
