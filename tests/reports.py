@@ -39,6 +39,7 @@ RINGS_REFUSED = [
     ("run --ids 8 --ring 0,1,2 --segments 64", CV1, "ring fault G1\n", 4),
     ("run --ids 8 --ring 0,1,2,3,4,5,6,7,0 --segments 64", CV1, "ring fault G2\n", 4),
     ("run --ids 8 --ring 0,1,2,8 --segments 64", CV1, "ring fault G3 place 3\n", 4),
+    ("run --ids 8 --ring 4294967295,1,2,3 --segments 64", CV1, "ring fault G3 place 0\n", 4),
     ("run --ids 8 --ring 0,1,2,0 --segments 64", CV1, "ring fault G4 places 0 3\n", 4),
     ("run --ids 8 --ring 0,0,8,1 --segments 64", CV1, "ring fault G4 places 0 1\n", 4),
     ("run --ids 8 --ring 0,1,8,0 --segments 64", CV1, "ring fault G3 place 2\n", 4),

@@ -8,6 +8,8 @@ mod columns;
 #[cfg(test)]
 mod desks;
 #[cfg(test)]
+mod faults;
+#[cfg(test)]
 mod filling;
 #[cfg(test)]
 mod findings;

@@ -1,4 +1,0 @@
-//! The faults of words, and the ring texts.
-
-mod refusals;
-mod rings;
