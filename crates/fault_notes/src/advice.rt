@@ -2,6 +2,7 @@
 //! mistakes.
 
 use crate::operands::operands_advice;
+use crate::words::advice_in;
 use wanted_tokens::Wanted;
 
 const PRODUCT: &str = "; there is no product: twice x is `shl(x, 1)`";
@@ -15,6 +16,97 @@ const UNEQUAL: &str = "; write `ne(a, b)`, or `eq(x, 0)` where x is to be 0";
 const SUM: &str = "; write `add(a, b)`";
 
 const DIFFERENCE: &str = "; write `sub(a, b)`, which stops at 0; numbers are 0 to 4294967295";
+
+const CHOICE: &str = "; write `if(c, a, b)`";
+
+const RESULT: &str = "; the last line is `finish` and an expression";
+
+const IDENTIFIER: &str = "; the identifier is `id`";
+
+const ROUNDS: &str = "; there are as many rounds as `rounds` says";
+
+const PRINTED: &str = "; this is what `nbhd` printed, and no program";
+
+// Names that other languages have for operations, and other words, each with advice.
+const OPERATIONS: [(&[u8], &str); 13] = [
+    (b"mul", PRODUCT),
+    (b"times", PRODUCT),
+    (b"mult", PRODUCT),
+    (b"mod", REMAINDER),
+    (b"rem", REMAINDER),
+    (b"div", "; there is no quotient: half of x is `shr(x, 1)`"),
+    (b"gt", GREATER),
+    (b"ge", "; write `le(b, a)` for a >= b"),
+    (b"neq", UNEQUAL),
+    (b"equals", "; write `eq(a, b)`"),
+    (b"plus", SUM),
+    (b"sum", SUM),
+    (b"minus", DIFFERENCE),
+];
+
+// Keywords and names of other languages, each with advice.
+const KEYWORDS: [(&[u8], &str); 16] = [
+    (b"then", CHOICE),
+    (b"else", CHOICE),
+    (b"elif", CHOICE),
+    (b"endif", CHOICE),
+    (b"return", RESULT),
+    (b"output", RESULT),
+    (b"result", RESULT),
+    (
+        b"both",
+        "; write `send left` and `send right`, each with an expression",
+    ),
+    (b"true", "; write 1"),
+    (b"false", "; write 0"),
+    (b"l", "; the message from the left is `L`"),
+    (b"r", "; the message from the right is `R`"),
+    (b"self", IDENTIFIER),
+    (b"me", IDENTIFIER),
+    (b"my", IDENTIFIER),
+    (b"uid", IDENTIFIER),
+];
+
+// Words that `nbhd` prints, each with advice.
+const OUTPUT: [(&[u8], &str); 8] = [
+    (
+        b"nbhd",
+        "; the text of a table is for `nbhd audit` and `nbhd migrate`",
+    ),
+    (b"accepted", PRINTED),
+    (b"yes", PRINTED),
+    (b"no", PRINTED),
+    (b"text", PRINTED),
+    (b"check", PRINTED),
+    (b"ring", PRINTED),
+    (b"table", PRINTED),
+];
+
+// Words with a capital, each with advice.
+const CAPITALS: [(&[u8], &str); 22] = [
+    (b"True", "; write 1"),
+    (b"False", "; write 0"),
+    (b"ID", "; write `id`"),
+    (b"Id", "; write `id`"),
+    (b"Rounds", "; write `rounds`"),
+    (b"ROUNDS", "; write `rounds`"),
+    (b"Channels", "; write `channels`"),
+    (b"CHANNELS", "; write `channels`"),
+    (b"Registers", "; write `registers`"),
+    (b"REGISTERS", "; write `registers`"),
+    (b"Start", "; write `start`"),
+    (b"START", "; write `start`"),
+    (b"Round", "; write `round`"),
+    (b"ROUND", "; write `round`"),
+    (b"Send", "; write `send`"),
+    (b"SEND", "; write `send`"),
+    (b"Left", "; write `left`"),
+    (b"LEFT", "; write `left`"),
+    (b"Right", "; write `right`"),
+    (b"RIGHT", "; write `right`"),
+    (b"Finish", "; write `finish`"),
+    (b"FINISH", "; write `finish`"),
+];
 
 // Returns advice on a word that is not of the language, at a place where `wanted` can follow.
 pub(crate) fn word_advice(word: &[u8], wanted: Option<Wanted>) -> &'static str {
@@ -41,70 +133,28 @@ fn known_advice(word: &[u8]) -> &'static str {
 
 // Returns advice on the names that other languages have for operations, and on other words.
 fn operation_advice(word: &[u8]) -> &'static str {
-    match word {
-        b"mul" | b"times" | b"mult" => PRODUCT,
-        b"mod" | b"rem" => REMAINDER,
-        b"div" => "; there is no quotient: half of x is `shr(x, 1)`",
-        b"gt" => GREATER,
-        b"ge" => "; write `le(b, a)` for a >= b",
-        b"neq" => UNEQUAL,
-        b"equals" => "; write `eq(a, b)`",
-        b"plus" | b"sum" => SUM,
-        b"minus" => DIFFERENCE,
-        _ => keyword_advice(word),
+    match advice_in(&OPERATIONS, word) {
+        Some(advice) => advice,
+        None => keyword_advice(word),
     }
 }
 
 // Returns advice on the keywords and names of other languages, and on what `nbhd` prints.
 fn keyword_advice(word: &[u8]) -> &'static str {
-    match word {
-        b"then" | b"else" | b"elif" | b"endif" => "; write `if(c, a, b)`",
-        b"return" | b"output" | b"result" => "; the last line is `finish` and an expression",
-        b"both" => "; write `send left` and `send right`, each with an expression",
-        b"true" => "; write 1",
-        b"false" => "; write 0",
-        b"l" => "; the message from the left is `L`",
-        b"r" => "; the message from the right is `R`",
-        b"self" | b"me" | b"my" | b"uid" => "; the identifier is `id`",
-        _ => output_advice(word),
+    match advice_in(&KEYWORDS, word) {
+        Some(advice) => advice,
+        None => output_advice(word),
     }
 }
 
 // Returns advice on what `nbhd` prints.
 fn output_advice(word: &[u8]) -> &'static str {
-    match word {
-        b"nbhd" => "; the text of a table is for `nbhd audit` and `nbhd migrate`",
-        b"accepted" | b"yes" | b"no" | b"text" | b"check" | b"ring" | b"table" => {
-            "; this is what `nbhd` printed, and no program"
-        }
-        _ => "",
-    }
+    advice_in(&OUTPUT, word).unwrap_or("")
 }
 
 // Returns advice on words with a capital.
 fn capital_advice(word: &[u8]) -> &'static str {
-    match word {
-        b"True" => "; write 1",
-        b"False" => "; write 0",
-        b"ID" | b"Id" => "; write `id`",
-        b"Rounds" | b"ROUNDS" => "; write `rounds`",
-        b"Channels" | b"CHANNELS" => "; write `channels`",
-        b"Registers" | b"REGISTERS" => "; write `registers`",
-        b"Start" | b"START" => "; write `start`",
-        _ => later_capital_advice(word),
-    }
-}
-
-// Returns advice on the keywords of rounds and of the end with a capital.
-fn later_capital_advice(word: &[u8]) -> &'static str {
-    match word {
-        b"Round" | b"ROUND" => "; write `round`",
-        b"Send" | b"SEND" => "; write `send`",
-        b"Left" | b"LEFT" => "; write `left`",
-        b"Right" | b"RIGHT" => "; write `right`",
-        b"Finish" | b"FINISH" => "; write `finish`",
-        _ => "",
-    }
+    advice_in(&CAPITALS, word).unwrap_or("")
 }
 
 // Returns advice on the marks of other languages.
@@ -155,26 +205,41 @@ pub(crate) fn byte_advice(text: &[u8]) -> &'static str {
 
 // Returns advice on a word that cannot follow the text before it, after which `wanted` can follow.
 pub(crate) fn place_advice(before: &[u8], word: &[u8], wanted: Wanted) -> &'static str {
-    match (wanted, word) {
-        (Wanted::Comma, b"=") | (Wanted::Close, b"=") => "; write `eq(a, b)` to compare",
-        (_, b"=") => "; `=` stands only behind the register of an assignment",
-        (Wanted::Comma, b")") | (Wanted::Close, b",") => operands_advice(before),
-        (Wanted::Comma, _) => operands_advice(before),
-        (Wanted::Close, _) => "; a bracket is open",
-        (_, b")") => "; this bracket closes nothing",
-        (Wanted::Open, _) =>
-            "; the operands of an operation stand in brackets, as in `if(c, a, b)`",
-        (Wanted::Rounds | Wanted::Channels | Wanted::Registers, _) => {
+    if matches!(word, b"=") {
+        return equals_advice(wanted);
+    }
+    match wanted {
+        Wanted::Comma => operands_advice(before),
+        Wanted::Close if matches!(word, b",") => operands_advice(before),
+        Wanted::Close => "; a bracket is open",
+        _ if matches!(word, b")") => "; this bracket closes nothing",
+        Wanted::Finish if matches!(word, b"round") => ROUNDS,
+        _ => wanted_advice(wanted),
+    }
+}
+
+// Returns advice on a `=` at a place where `wanted` can follow.
+fn equals_advice(wanted: Wanted) -> &'static str {
+    match wanted {
+        Wanted::Comma | Wanted::Close => "; write `eq(a, b)` to compare",
+        _ => "; `=` stands only behind the register of an assignment",
+    }
+}
+
+// Returns advice on the words that can follow at a place.
+fn wanted_advice(wanted: Wanted) -> &'static str {
+    match wanted {
+        Wanted::Open => "; the operands of an operation stand in brackets, as in `if(c, a, b)`",
+        Wanted::Rounds | Wanted::Channels | Wanted::Registers => {
             "; a program begins with `rounds`, `channels` and `registers`"
         }
-        (Wanted::Send, _) => "; a round begins with `send left` and `send right`",
-        (Wanted::Left, _) => "; `send left` comes first, then `send right`",
-        (Wanted::Right, _) => "; `send left` is followed by `send right`",
-        (Wanted::Register(_), _) => "; each register is assigned, in order",
-        (Wanted::Round, _) => "; there are as many rounds as `rounds` says",
-        (Wanted::Finish, b"round") => "; there are as many rounds as `rounds` says",
-        (Wanted::Finish, _) => "; each register is assigned once, then comes `finish`",
-        (Wanted::End, _) => "; the expression of `finish` ends the program",
+        Wanted::Send => "; a round begins with `send left` and `send right`",
+        Wanted::Left => "; `send left` comes first, then `send right`",
+        Wanted::Right => "; `send left` is followed by `send right`",
+        Wanted::Register(_) => "; each register is assigned, in order",
+        Wanted::Round => ROUNDS,
+        Wanted::Finish => "; each register is assigned once, then comes `finish`",
+        Wanted::End => "; the expression of `finish` ends the program",
         _ => "",
     }
 }

@@ -2,17 +2,38 @@
 
 ghost use Rattle.std.specs.Prelude.{◌<◌, ◌≤◌, length, IfSome};
 
-use crate::words::is_word_byte;
+use crate::words::{advice_in, is_word_byte};
+
+// The operations, each with advice on the number of its operands.
+const OPERANDS: [(&[u8], &str); 17] = [
+    (b"not", "; `not` takes 1 operand"),
+    (b"and", "; `and` takes 2 operands"),
+    (b"or", "; `or` takes 2 operands"),
+    (b"xor", "; `xor` takes 2 operands"),
+    (b"shl", "; `shl` takes 2 operands"),
+    (b"shr", "; `shr` takes 2 operands"),
+    (b"add", "; `add` takes 2 operands"),
+    (b"sub", "; `sub` takes 2 operands"),
+    (b"min", "; `min` takes 2 operands"),
+    (b"max", "; `max` takes 2 operands"),
+    (b"ldb", "; `ldb` takes 2 operands"),
+    (b"bit", "; `bit` takes 2 operands"),
+    (b"eq", "; `eq` takes 2 operands"),
+    (b"ne", "; `ne` takes 2 operands"),
+    (b"lt", "; `lt` takes 2 operands"),
+    (b"le", "; `le` takes 2 operands"),
+    (b"if", "; `if` takes 3 operands"),
+];
 
 // Returns the index of the last bracket of a text that is not closed.
 fn open_bracket(text: &[u8]) -> Option<usize>
     ensures { IfSome result (λ at. at < length text.now) }
 {
     let mut closed = 0usize;
-    for (index, byte) in text.iter().enumerate().rev() {
-        if *byte == b')' {
+    for index in (0..text.len()).rev() {
+        if text[index] == b')' {
             closed = closed.saturating_add(1);
-        } else if *byte == b'(' {
+        } else if text[index] == b'(' {
             if closed == 0 {
                 return Some(index);
             }
@@ -45,24 +66,5 @@ fn open_operation(text: &[u8]) -> &[u8] {
 // Returns advice on the number of operands of the operation whose bracket is open at the end of a
 // text.
 pub(crate) fn operands_advice(text: &[u8]) -> &'static str {
-    match open_operation(text) {
-        b"not" => "; `not` takes 1 operand",
-        b"and" => "; `and` takes 2 operands",
-        b"or" => "; `or` takes 2 operands",
-        b"xor" => "; `xor` takes 2 operands",
-        b"shl" => "; `shl` takes 2 operands",
-        b"shr" => "; `shr` takes 2 operands",
-        b"add" => "; `add` takes 2 operands",
-        b"sub" => "; `sub` takes 2 operands",
-        b"min" => "; `min` takes 2 operands",
-        b"max" => "; `max` takes 2 operands",
-        b"ldb" => "; `ldb` takes 2 operands",
-        b"bit" => "; `bit` takes 2 operands",
-        b"eq" => "; `eq` takes 2 operands",
-        b"ne" => "; `ne` takes 2 operands",
-        b"lt" => "; `lt` takes 2 operands",
-        b"le" => "; `le` takes 2 operands",
-        b"if" => "; `if` takes 3 operands",
-        _ => "",
-    }
+    advice_in(&OPERANDS, open_operation(text)).unwrap_or("")
 }

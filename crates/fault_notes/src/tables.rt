@@ -13,6 +13,24 @@ use std::alloc::{AllocError, Global};
 use std::fmt::Write;
 use win_index::Shape;
 
+const PROGRAM: &str = "; this looks like a program: `nbhd judge` takes one";
+
+const PRINTED: &str = "; this is what `nbhd` printed in place of a table";
+
+// Beginnings of texts that are no table texts, each with advice.
+const BEGINNINGS: [(&[u8], &str); 7] = [
+    (
+        &[0xef, 0xbb, 0xbf],
+        "; the text begins with a byte order mark: save the file without one",
+    ),
+    (b"rounds", PROGRAM),
+    (b"#", PROGRAM),
+    (b"text ", PRINTED),
+    (b"check ", PRINTED),
+    (b"yes:", PRINTED),
+    (b"no:", PRINTED),
+];
+
 /// Returns the note on a text that is too long. Fails if memory was refused.
 pub fn long_note(alloc: Global) -> Result<String, AllocError>
     ensures { IfOk result (λ note. string_bytes note ≡ long_note) }
@@ -81,18 +99,12 @@ fn bytes_advice(line: &[u8]) -> &'static str {
 
 // Returns advice on a text that does not begin like a table text.
 fn first_advice(text: &[u8]) -> &'static str {
-    match text {
-        [0xef, 0xbb, 0xbf, ..] =>
-            "; the text begins with a byte order mark: save the file without one",
-        [b'r', b'o', b'u', b'n', b'd', b's', ..] | [b'#', ..] => {
-            "; this looks like a program: `nbhd judge` takes one"
+    for (beginning, advice) in &BEGINNINGS {
+        if text.starts_with(beginning) {
+            return advice;
         }
-        [b't', b'e', b'x', b't', b' ', ..]
-        | [b'c', b'h', b'e', b'c', b'k', b' ', ..]
-        | [b'y', b'e', b's', b':', ..]
-        | [b'n', b'o', b':', ..] => "; this is what `nbhd` printed in place of a table",
-        _ => "; its first line is `nbhd-table` and the version",
     }
+    "; its first line is `nbhd-table` and the version"
 }
 
 // Returns the window of this shape with this number.

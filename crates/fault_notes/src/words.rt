@@ -1,6 +1,6 @@
 //! The texts of notes for the word at a place, and for what can follow there.
 
-ghost use Rattle.std.specs.Prelude.{◌≡◌, ◌≤◌, ◌++◌, length, take, OnOk, string_bytes};
+ghost use Rattle.std.specs.Prelude.{◌≡◌, ◌≢◌, ℕ, ◌≤◌, ◌++◌, length, take, OnOk, string_bytes};
 ghost use Rattle.std.specs.List.{prefix_len};
 ghost use Rattle.node_lang.specs.Words.{is_word_byte as word_byte};
 ghost use Rattle.fault_notes.specs.Words.{wanted_text, wanted_part, first_word as first};
@@ -46,28 +46,49 @@ pub(crate) fn first_word(text: &[u8]) -> &[u8]
     prefix_of(text, len)
 }
 
+// Returns the advice on a word in a table of words with advice.
+pub(crate) fn advice_in(table: &[(&[u8], &'static str)], word: &[u8]) -> Option<&'static str> {
+    for (known, advice) in table {
+        if *known == word {
+            return Some(advice);
+        }
+    }
+    None
+}
+
+// Returns the text for what can follow, if it is not the assignment of a register.
+fn fixed_text(wanted: Wanted) -> &'static str
+    requires { (register : ℕ) → wanted ≢ Wanted.Register register }
+    ensures { result.now ≡ wanted_text wanted }
+{
+    match wanted {
+        Wanted::Rounds => "`rounds`",
+        Wanted::Channels => "`channels`",
+        Wanted::Registers => "`registers`",
+        Wanted::Start => "`start`",
+        Wanted::Round => "`round`",
+        Wanted::Send => "`send`",
+        Wanted::Left => "`left`",
+        Wanted::Right => "`right`",
+        Wanted::Finish => "`finish`",
+        Wanted::Open => "`(`",
+        Wanted::Close => "`)`",
+        Wanted::Comma => "`,`",
+        Wanted::Equals => "`=`",
+        Wanted::Register(_) => unreachable!(),
+        Wanted::Number => "a number",
+        Wanted::Expression => "an expression",
+        Wanted::End => "the end of the text",
+    }
+}
+
 // Writes the text for what can follow.
 fn write_wanted(out: &mut String, wanted: Wanted) -> Result<(), AllocError>
     ensures { OnOk result (string_bytes out.new ≡ string_bytes out.old ++ wanted_text wanted) }
 {
     match wanted {
-        Wanted::Rounds => out.push_str("`rounds`"),
-        Wanted::Channels => out.push_str("`channels`"),
-        Wanted::Registers => out.push_str("`registers`"),
-        Wanted::Start => out.push_str("`start`"),
-        Wanted::Round => out.push_str("`round`"),
-        Wanted::Send => out.push_str("`send`"),
-        Wanted::Left => out.push_str("`left`"),
-        Wanted::Right => out.push_str("`right`"),
-        Wanted::Finish => out.push_str("`finish`"),
-        Wanted::Open => out.push_str("`(`"),
-        Wanted::Close => out.push_str("`)`"),
-        Wanted::Comma => out.push_str("`,`"),
-        Wanted::Equals => out.push_str("`=`"),
         Wanted::Register(register) => write!(out, "the assignment of r{register}"),
-        Wanted::Number => out.push_str("a number"),
-        Wanted::Expression => out.push_str("an expression"),
-        Wanted::End => out.push_str("the end of the text"),
+        _ => out.push_str(fixed_text(wanted)),
     }
 }
 
