@@ -1,10 +1,11 @@
 //! The note on a fault of a program text.
 
 ghost use Rattle.fault_notes.specs.Words.{wanted_part, first_word as word};
-ghost use Rattle.std.specs.Prelude.{◌≡◌, ◌≢◌, ◌≤◌, ◌++◌, codes, length, take, drop, IfOk, IfSome, IfNone, OnOk, string_bytes};
+ghost use Rattle.std.specs.Prelude.{◌≡◌, ◌≢◌, ◌≤◌, ◌++◌, codes, ℕ, List, ◌∷◌, Option, length, take, drop, IfOk, IfSome, IfNone, OnOk, string_bytes};
 ghost use Rattle.node_lang.specs.Lexemes.{tokens_of};
 ghost use Rattle.node_lang.specs.declared.fault.FaultKind.TheVariants as kind;
 ghost use Rattle.wanted_tokens.specs.Wanted.{IsWanted, SaysNothing};
+ghost use Rattle.source_places.specs.Shown.{marked_line};
 ghost use Rattle.fault_notes.specs.TextNotes.{place_head, quoted, cause_of, IsTextNote, too_long_note};
 
 use crate::advice::{byte_advice, place_advice, word_advice};
@@ -26,15 +27,30 @@ pub fn text_note(alloc: Global, text: &[u8], fault: TextFault) -> Result<String,
     if fault.kind == FaultKind::TooLong {
         return format!(in alloc; "nbhd: a program text has at most 65536 bytes\n");
     }
-    let word = word_at(text, fault.offset);
     let wanted = wanted_at(alloc, text, fault)?;
     let mut note = String::new(alloc);
-    write_head(&mut note, text, fault.offset)?;
-    write_cause(&mut note, fault.kind, word, wanted)?;
-    note.push_str(advice_on(text, fault, word, wanted))?;
-    note.push_str("\n")?;
-    write_marked_line(&mut note, text, fault.offset)?;
+    write_note(&mut note, text, fault, wanted)?;
     Ok(note)
+}
+
+// Writes the note on a fault that has a place, at which `wanted` can follow.
+fn write_note(
+    out: &mut String,
+    text: &[u8],
+    fault: TextFault,
+    wanted: Option<Wanted>,
+) -> Result<(), AllocError>
+    requires { fault.offset ≤ length text.now }
+    ensures { OnOk result ((advice : List ℕ) × (string_bytes out.new ≡ string_bytes out.old ++ (place_head text.now fault.offset
+        ++ (cause_of fault.kind (word (drop fault.offset text.now)) wanted ++ (advice ++ 10 ∷ marked_line text.now fault.offset))))) }
+{
+    let word = word_at(text, fault.offset);
+    write_head(out, text, fault.offset)?;
+    write_cause(out, fault.kind, word, wanted)?;
+    out.push_str(advice_on(text, fault, word, wanted))?;
+    out.push_str("\n")?;
+    write_marked_line(out, text, fault.offset)?;
+    Ok(())
 }
 
 // Returns the word at an offset, or the byte there.
@@ -81,6 +97,28 @@ fn write_quoted(out: &mut String, word: &[u8]) -> Result<(), AllocError>
     out.push_str("`")
 }
 
+// Returns a cause that does not depend on the word at the place or on what can follow there.
+fn fixed_cause(fault: FaultKind) -> &'static str
+    requires no_word { fault ≢ kind.BadWord }
+    requires no_place { fault ≢ kind.Unexpected }
+    requires no_end { fault ≢ kind.EndOfText }
+    ensures { (word : List ℕ) (wanted : Option Wanted) → result.now ≡ cause_of fault word wanted }
+{
+    match fault {
+        FaultKind::NotAscii => "a byte over 127; a program text is ASCII, in its comments too",
+        FaultKind::NumberTooLarge => "a number is at most 4294967295",
+        FaultKind::HeaderRange => {
+            "a number out of its range: `rounds` is 0 to 4, `channels` 1 to 4096, `registers` 1 to 8"
+        }
+        FaultKind::TooDeep => "an expression is at most 64 deep",
+        FaultKind::TooManyNodes => {
+            "the expressions of a program have at most 4096 numbers, words and operations"
+        }
+        FaultKind::BadWord | FaultKind::Unexpected | FaultKind::EndOfText => unreachable!(),
+        FaultKind::TooLong | FaultKind::OutOfMemory => "",
+    }
+}
+
 // Writes the cause.
 fn write_cause(
     out: &mut String,
@@ -91,29 +129,30 @@ fn write_cause(
     ensures { OnOk result (string_bytes out.new ≡ string_bytes out.old ++ cause_of fault word.now wanted) }
 {
     match fault {
-        FaultKind::TooLong | FaultKind::OutOfMemory => Ok(()),
-        FaultKind::NotAscii => {
-            out.push_str("a byte over 127; a program text is ASCII, in its comments too")
-        }
-        FaultKind::BadWord => {
-            write_quoted(out, word)?;
-            out.push_str(" is no word of the language")
-        }
-        FaultKind::NumberTooLarge => out.push_str("a number is at most 4294967295"),
-        FaultKind::HeaderRange => out.push_str(
-            "a number out of its range: `rounds` is 0 to 4, `channels` 1 to 4096, `registers` 1 to 8",
-        ),
-        FaultKind::Unexpected => {
-            write_quoted(out, word)?;
-            out.push_str(" cannot stand here")?;
-            write_wanted_part(out, wanted)
-        }
-        FaultKind::TooDeep => out.push_str("an expression is at most 64 deep"),
-        FaultKind::TooManyNodes => out.push_str(
-            "the expressions of a program have at most 4096 numbers, words and operations",
-        ),
+        FaultKind::BadWord => write_bad_word(out, word),
+        FaultKind::Unexpected => write_unexpected(out, word, wanted),
         FaultKind::EndOfText => write_end(out, wanted),
+        _ => out.push_str(fixed_cause(fault)),
     }
+}
+
+// Writes that a word is not of the language.
+fn write_bad_word(out: &mut String, word: &[u8]) -> Result<(), AllocError>
+    ensures { OnOk result (string_bytes out.new ≡ string_bytes out.old ++ (quoted word.now ++ codes " is no word of the language")) }
+{
+    write_quoted(out, word)?;
+    out.push_str(" is no word of the language")?;
+    Ok(())
+}
+
+// Writes that a word cannot stand at its place.
+fn write_unexpected(out: &mut String, word: &[u8], wanted: Option<Wanted>) -> Result<(), AllocError>
+    ensures { OnOk result (string_bytes out.new ≡ string_bytes out.old ++ (quoted word.now ++ (codes " cannot stand here" ++ wanted_part wanted))) }
+{
+    write_quoted(out, word)?;
+    out.push_str(" cannot stand here")?;
+    write_wanted_part(out, wanted)?;
+    Ok(())
 }
 
 // Writes that a text ends too soon.
