@@ -1,8 +1,17 @@
 //! Numbers in decimal after their names.
 
-ghost use Rattle.std.specs.Prelude.{◌≡◌, ◌≢◌, ◌==◌, ◌<◌, ◌&&◌, ◌^◌, ℕ, List, ◌∷◌, ◌++◌, nat_lt, length, slice_index, IfSome, IfNone, MatchOption};
+ghost use Rattle.std.specs.Prelude.{◌≡◌, ◌≢◌, ◌==◌, ◌<◌, ◌&&◌, ◌^◌, ℕ, List, ◌∷◌, ◌++◌, nat_lt, length, slice_index, IfSome, IfNone, MatchOption, not, ◌≤◌};
+ghost use Rattle.std.specs.List.{prefix_len};
 ghost use Rattle.std.specs.Fmt.{decimal};
 ghost use Rattle.fault_notes.specs.Decimals.{Lacks};
+
+// Returns the number of bytes before the first byte of this value, or before the end.
+fn front_len(text: &[u8], end: u8) -> usize
+    ensures value { result ≡ prefix_len (λ b. not (b == end)) text.now }
+    ensures within { result ≤ length text.now }
+{
+    text.iter().take_while(|byte| **byte != end).count()
+}
 
 // Returns the parts of a text before and after the first byte of this value.
 fn cut_at(text: &[u8], end: u8) -> Option<(&[u8], &[u8])>
@@ -10,8 +19,11 @@ fn cut_at(text: &[u8], end: u8) -> Option<(&[u8], &[u8])>
     ensures first { IfSome result (λ parts. Lacks end parts.0.now) }
     ensures none { IfNone result (Lacks end text.now) }
 {
-    let place = text.iter().position(|byte| *byte == end)?;
-    Some((&text[..place], &text[place + 1..]))
+    let len = front_len(text, end);
+    if len == text.len() {
+        return None;
+    }
+    Some((&text[..len], &text[len + 1..]))
 }
 
 fn is_signed(word: &[u8]) -> bool
