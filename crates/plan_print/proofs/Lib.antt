@@ -1,4 +1,5 @@
 mod Joined
 mod TraceLines
 pub mod Aligned
+pub mod Reports
 pub mod Workers

@@ -1,12 +1,12 @@
 //! The report of a task. The task is done on the program of a program text, if the program is
 //! accepted, or on the table and the separation of a table text.
 
-ghost use Rattle.std.specs.Prelude.{◌≡◌, IfOk, IfErr};
+ghost use Rattle.std.specs.Prelude.{◌≡◌, ◌≢◌, IfOk, IfErr};
 ghost use Rattle.node_lang.specs.Grammar.{Reads};
 ghost use Rattle.lang_check.specs.Acceptance.{IsAccepted};
 ghost use Rattle.table_text.specs.Texts.{IsTextOf};
 ghost use Rattle.plan_print.specs.Engine.{thread_count_of, IsTaskFault};
-ghost use Rattle.plan_print.specs.Answers.{report_in, IsExplained};
+ghost use Rattle.plan_print.specs.Answers.{report_in, ids_of, IsAnswerTo, IsExplained, HasOwnCause};
 ghost use Rattle.plan_print.specs.Report.{IsReport, IsTextRefusal, IsProgramRefusal, IsTableRefusal};
 ghost use Rattle.task_words.specs.Task.{IsRunnable};
 
@@ -42,56 +42,150 @@ pub(crate) fn report_of<T: Threads + Wait + Sync>(
     ensures fault { IfErr result (IsTaskFault (thread_count_of task)) }
 {
     match task {
-        Task::Check { ids } => match plan_in(alloc, input, ids)? {
-            Ok(plan) => check_answer(alloc, &plan),
-            Err(refusal) => Ok(refusal),
-        },
-        Task::Print => match program_in(alloc, input)? {
-            Ok(program) => print_answer(alloc, &program),
-            Err(refusal) => Ok(refusal),
-        },
+        Task::Print => print_report(alloc, input),
+        Task::Audit => audit_text_report(rt, alloc, input),
+        Task::Migrate => migrate_report(alloc, input),
+        task => program_report(rt, alloc, task, input),
+    }
+}
+
+// Returns the report with the printed form of the program of a program text.
+fn print_report(alloc: Global, input: &[u8]) -> Result<Answer, EngineFault>
+    ensures report { IfOk result (λ r. IsReport Task.Print input.now (report_in r)) }
+    ensures cause { IfOk result (IsExplained input.now) }
+    ensures fault { IfErr result (λ fault. fault ≡ EngineFault.Memory) }
+{
+    match program_in(alloc, input)? {
+        Ok(program) => print_answer(alloc, &program),
+        Err(refusal) => Ok(refusal),
+    }
+}
+
+// Returns the report of the judge on a table text.
+fn audit_text_report<T: Threads + Wait + Sync>(
+    rt: &T,
+    alloc: Global,
+    input: &[u8],
+) -> Result<Answer, EngineFault>
+    ensures report { IfOk result (λ r. IsReport Task.Audit input.now (report_in r)) }
+    ensures cause { IfOk result (IsExplained input.now) }
+    ensures fault { IfErr result (λ fault. fault ≡ EngineFault.Memory) }
+{
+    match table_in(alloc, input)? {
+        Ok((table, separation)) => audit_report(rt, alloc, &table, separation),
+        Err(refusal) => Ok(refusal),
+    }
+}
+
+// Returns the report with the table and the separation of a table text.
+fn migrate_report(alloc: Global, input: &[u8]) -> Result<Answer, EngineFault>
+    ensures report { IfOk result (λ r. IsReport Task.Migrate input.now (report_in r)) }
+    ensures cause { IfOk result (IsExplained input.now) }
+    ensures fault { IfErr result (λ fault. fault ≡ EngineFault.Memory) }
+{
+    match table_in(alloc, input)? {
+        Ok((table, separation)) => Ok(Answer::Table(table, separation)),
+        Err(refusal) => Ok(refusal),
+    }
+}
+
+// Returns the report of a task on an accepted program.
+fn program_report<T: Threads + Wait + Sync>(
+    rt: &T,
+    alloc: Global,
+    task: Task,
+    input: &[u8],
+) -> Result<Answer, EngineFault>
+    requires runnable { IsRunnable task }
+    requires no_print { task ≢ Task.Print }
+    requires no_audit { task ≢ Task.Audit }
+    requires no_migrate { task ≢ Task.Migrate }
+    ensures report { IfOk result (λ r. IsReport task input.now (report_in r)) }
+    ensures cause { IfOk result (IsExplained input.now) }
+    ensures fault { IfErr result (IsTaskFault (thread_count_of task)) }
+{
+    match plan_in(alloc, input, ids_of(&task))? {
+        Ok(plan) => program_answer(rt, alloc, task, &plan),
+        Err(refusal) => Ok(refusal),
+    }
+}
+
+// Returns the number of identifiers of a task on an accepted program, 0 for other tasks.
+fn ids_of(task: &Task) -> u32
+    ensures { result ≡ ids_of task.now }
+{
+    match task {
+        Task::Check { ids } => *ids,
         Task::Table {
             ids,
-            workers,
-            near,
-            far,
-        } => match plan_in(alloc, input, ids)? {
-            Ok(plan) => table_answer(rt, alloc, &plan, Separation { near, far }, workers),
-            Err(refusal) => Ok(refusal),
-        },
+            workers: _,
+            near: _,
+            far: _,
+        } => *ids,
         Task::Judge {
             ids,
+            workers: _,
+            near: _,
+            far: _,
+        } => *ids,
+        Task::Run {
+            ids,
+            ring: _,
+            segments: _,
+        } => *ids,
+        Task::Trace { ids, ring: _ } => *ids,
+        Task::Plan {
+            ids,
+            ring: _,
+            workers: _,
+        } => *ids,
+        Task::Print | Task::Audit | Task::Migrate => 0,
+    }
+}
+
+// Returns the answer to a task on an accepted program, by its plan.
+fn program_answer<T: Threads + Wait + Sync>(
+    rt: &T,
+    alloc: Global,
+    task: Task,
+    plan: &Plan,
+) -> Result<Answer, EngineFault>
+    requires runnable { IsRunnable task }
+    requires no_print { task ≢ Task.Print }
+    requires no_audit { task ≢ Task.Audit }
+    requires no_migrate { task ≢ Task.Migrate }
+    ensures answer { IfOk result (λ r. IsAnswerTo task plan.now.ids plan.now.program (report_in r)) }
+    ensures cause { IfOk result HasOwnCause }
+    ensures fault { IfErr result (IsTaskFault (thread_count_of task)) }
+{
+    match task {
+        Task::Check { ids: _ } => check_answer(alloc, plan),
+        Task::Table {
+            ids: _,
             workers,
             near,
             far,
-        } => match plan_in(alloc, input, ids)? {
-            Ok(plan) => judge_report(rt, alloc, &plan, Separation { near, far }, workers),
-            Err(refusal) => Ok(refusal),
-        },
+        } => table_answer(rt, alloc, plan, Separation { near, far }, workers),
+        Task::Judge {
+            ids: _,
+            workers,
+            near,
+            far,
+        } => judge_report(rt, alloc, plan, Separation { near, far }, workers),
         Task::Run {
-            ids,
+            ids: _,
             ring,
             segments,
-        } => match plan_in(alloc, input, ids)? {
-            Ok(plan) => run_answer(rt, alloc, &plan, ring, segments),
-            Err(refusal) => Ok(refusal),
-        },
-        Task::Trace { ids, ring } => match plan_in(alloc, input, ids)? {
-            Ok(plan) => trace_answer(alloc, &plan, ring),
-            Err(refusal) => Ok(refusal),
-        },
-        Task::Plan { ids, ring, workers } => match plan_in(alloc, input, ids)? {
-            Ok(plan) => plan_answer(rt, alloc, &plan, ring, workers),
-            Err(refusal) => Ok(refusal),
-        },
-        Task::Audit => match table_in(alloc, input)? {
-            Ok((table, separation)) => audit_report(rt, alloc, &table, separation),
-            Err(refusal) => Ok(refusal),
-        },
-        Task::Migrate => match table_in(alloc, input)? {
-            Ok((table, separation)) => Ok(Answer::Table(table, separation)),
-            Err(refusal) => Ok(refusal),
-        },
+        } => run_answer(rt, alloc, plan, ring, segments),
+        Task::Trace { ids: _, ring } => trace_answer(alloc, plan, ring),
+        Task::Plan {
+            ids: _,
+            ring,
+            workers,
+        } => plan_answer(rt, alloc, plan, ring, workers),
+        Task::Print => unreachable!(),
+        Task::Audit => unreachable!(),
+        Task::Migrate => unreachable!(),
     }
 }
 

@@ -1,0 +1,31 @@
+use Rattle.plan_print.proofs.report.program_answer.Goals as goal
+
+pub returns-in-Check-clause-answer : goal.returns-in-Check-clause-answer
+returns-in-Check-clause-answer g c = rw c.in-Check.is c.check_answer.ensures.answer
+
+pub returns-in-Table-clause-answer : goal.returns-in-Table-clause-answer
+returns-in-Table-clause-answer g c = rw c.in-Table.is c.table_answer.ensures.answer
+
+pub returns-in-Table-clause-fault : goal.returns-in-Table-clause-fault
+returns-in-Table-clause-fault g c = rw c.in-Table.is c.table_answer.ensures.fault
+
+pub returns-in-Judge-clause-answer : goal.returns-in-Judge-clause-answer
+returns-in-Judge-clause-answer g c = rw c.in-Judge.is c.judge_report.ensures.answer
+
+pub returns-in-Judge-clause-fault : goal.returns-in-Judge-clause-fault
+returns-in-Judge-clause-fault g c = rw c.in-Judge.is c.judge_report.ensures.fault
+
+pub returns-in-Run-clause-answer : goal.returns-in-Run-clause-answer
+returns-in-Run-clause-answer g c = rw c.in-Run.is c.run_answer.ensures.answer
+
+pub returns-in-Run-clause-fault : goal.returns-in-Run-clause-fault
+returns-in-Run-clause-fault g c = rw c.in-Run.is c.run_answer.ensures.fault
+
+pub returns-in-Trace-clause-answer : goal.returns-in-Trace-clause-answer
+returns-in-Trace-clause-answer g c = rw c.in-Trace.is c.trace_answer.ensures.answer
+
+pub returns-in-Plan-clause-answer : goal.returns-in-Plan-clause-answer
+returns-in-Plan-clause-answer g c = rw c.in-Plan.is c.plan_answer.ensures.answer
+
+pub returns-in-Plan-clause-fault : goal.returns-in-Plan-clause-fault
+returns-in-Plan-clause-fault g c = rw c.in-Plan.is c.plan_answer.ensures.fault

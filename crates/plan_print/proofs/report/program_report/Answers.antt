@@ -1,0 +1,27 @@
+use Rattle.std.proofs.Common.{◌≡◌, rules}
+use Rattle.std.proofs.lemmas.Result.{IfOk-weaker}
+use Rattle.node_lang.specs.Grammar.{Reads}
+use Rattle.lang_check.specs.Acceptance.{IsAccepted}
+use Rattle.plan_print.specs.Answers.{report_in}
+use Rattle.plan_print.specs.Report.{IsProgramRefusal, answered, program_refused}
+use Rattle.plan_print.proofs.Reports.{as_report}
+use Rattle.plan_print.proofs.report.program_report.Goals as goal
+
+pub returns-in-Ok-clause-report : goal.returns-in-Ok-clause-report
+returns-in-Ok-clause-report g c =
+    let p = c.in-Ok.plan.program in
+    let ids : c.in-Ok.plan.ids ≡ c.ids_of.result = search rules in
+    let reads : Reads c.args.input.now p = search rules in
+    let accepted : IsAccepted c.ids_of.result p = search rules in
+    IfOk-weaker c.program_answer.result _ _
+    (λ r said. as_report c.args.task c.ids_of.result c.args.input.now (report_in r) c.requires.no_print c.requires.no_audit c.requires.no_migrate c.ids_of.ensures
+    (answered p reads accepted (rw ids at said))) c.program_answer.ensures.answer
+
+pub returns-in-Ok-clause-cause : goal.returns-in-Ok-clause-cause
+returns-in-Ok-clause-cause g c = IfOk-weaker c.program_answer.result _ _ (λ r own. own c.args.input.now) c.program_answer.ensures.cause
+
+pub returns-in-Err-clause-report : goal.returns-in-Err-clause-report
+returns-in-Err-clause-report g c =
+    let refused : IsProgramRefusal c.ids_of.result c.args.input.now (report_in c.in-Err.refusal) = rw c.in-Err.is at c.in_ok-plan.ensures.refusal in
+    as_report c.args.task c.ids_of.result c.args.input.now (report_in c.in-Err.refusal) c.requires.no_print c.requires.no_audit c.requires.no_migrate c.ids_of.ensures
+    (program_refused refused)
