@@ -20,15 +20,30 @@ pub(crate) fn trace_text(alloc: Global, plan: &Plan, ring: &Ring) -> Result<Stri
 {
     let mut text = String::new(alloc);
     let mut places = Configuration::new(alloc, plan, ring)?;
-    write_registers(&mut text, &places)?;
-    for round in 0..plan.shape().rounds() {
-        write_messages(&mut text, &places, round + 1)?;
+    write_trace(&mut text, &mut places, plan.shape().rounds())?;
+    Ok(text)
+}
+
+// Writes the trace of a ring, before its first round, to an empty text. Does the rounds.
+fn write_trace(
+    text: &mut String,
+    places: &mut Configuration<'_>,
+    rounds: u32,
+) -> Result<(), AllocError>
+    requires empty { string_bytes text.old ≡ [] }
+    requires start { places.old.round ≡ 0 }
+    requires rounds { rounds ≡ length places.old.program.steps }
+    ensures { OnOk result (string_bytes text.new ≡ trace_lines places.old.program places.old.places) }
+{
+    write_registers(text, places)?;
+    for round in 0..rounds {
+        write_messages(text, places, round + 1)?;
         places.advance();
-        write_registers(&mut text, &places)?;
+        write_registers(text, places)?;
     }
     text.push_str("finish")?;
-    write_row(&mut text, &places, Told::Channel)?;
-    Ok(text)
+    write_row(text, places, Told::Channel)?;
+    Ok(())
 }
 
 // Writes a line for each register, with its value at each place.

@@ -1,10 +1,18 @@
-use Rattle.std.proofs.Common.{◌≡◌, ◌+◌, ◌++◌, [], ◌∷◌, length, codes, string_bytes, ap, ◌∙◌, arith}
+use Rattle.std.proofs.Common.{◌≡◌, ◌+◌, ◌++◌, [], ◌∷◌, length, codes, string_bytes, append-nil, sym, ap, ◌∙◌, arith}
 use Rattle.ring_trace.specs.Configuration.{RingConfiguration, told}
 use Rattle.ring_trace.specs.declared.configuration.Told.TheVariants.{Channel}
 use Rattle.plan_print.specs.Lines.{line, numbers_text}
 use Rattle.plan_print.specs.Trace.{of_places, register_lines, message_lines}
 use Rattle.plan_print.proofs.TraceLines.{round_more, finished}
-use Rattle.plan_print.proofs.trace.trace_text.Goals as goal
+use Rattle.plan_print.proofs.trace.write_trace.Goals as goal
+
+pub loop-round-init : goal.loop-round-init
+loop-round-init c =
+    let start = c.args.places.now in
+    record {
+      done = ap (λ r. record start { round = r }) c.requires.start;
+      text = c.in_ok-write_registers.ensures ∙ (λ i. c.requires.empty i ++ register_lines start.program start.places (c.requires.start i)) ∙ sym (append-nil (register_lines start.program start.places 0));
+    }
 
 -- One more round was done and written.
 pub loop-round-preserved : goal.loop-round-preserved
@@ -17,17 +25,15 @@ loop-round-preserved c =
     let registers = c.in_ok-write_registers-2.ensures ∙ ap (λ (s : RingConfiguration). sent ++ register_lines s.program s.places s.round) done in
     record {
       done = done;
-      text = round_more c.args.plan.now.program c.args.ring.now.places c.loop-round.round _ _ _ c.loop-round.invariant.text messages registers;
+      text = round_more c.args.places.now.program c.args.places.now.places c.loop-round.round _ _ _ c.loop-round.invariant.text messages registers;
     }
 
 -- The channels are written after the last round.
-pub returns-clause-text : goal.returns-clause-text
-returns-clause-text c =
-    let rounds : c.shape.result.rounds ≡ length c.args.plan.now.program.steps = c.shape.ensures.rounds in
-    let end : c.rounds-round-end.result ≡ c.shape.result.rounds = c.rounds-round-end.ensures in
-    let all : c.loop-round.round ≡ length c.args.plan.now.program.steps = omega arith in
+pub returns : goal.returns
+returns c =
+    let all : c.loop-round.round ≡ length c.args.places.now.program.steps = omega arith in
     let named = string_bytes c.push_str.new.self in
     let channels =
     c.in_ok-write_row.ensures
     ∙ ap (λ (s : RingConfiguration). named ++ line (codes " " ∷ numbers_text (of_places s.places (told s Channel)) ∷ [])) c.loop-round.invariant.done in
-    finished c.args.plan.now.program c.args.ring.now.places c.loop-round.round _ _ _ all c.loop-round.invariant.text c.in_ok-push_str.ensures.bytes channels
+    finished c.args.places.now.program c.args.places.now.places c.loop-round.round _ _ _ all c.loop-round.invariant.text c.in_ok-push_str.ensures.bytes channels
