@@ -1,10 +1,11 @@
 //! Doing a task: reading the whole input, then writing its report.
 
-ghost use Rattle.std.specs.Prelude.{◌≡◌, ◌≢◌, ◌+◌, ◌≤◌, ◌↔◌, ℕ, List, false, IsTrue, IfOk, IfErr, IfSome, OnErr, IsErrOf, string_bytes};
+ghost use Rattle.std.specs.Prelude.{◌≡◌, ◌≢◌, ◌+◌, ◌≤◌, ◌↔◌, ℕ, List, false, IsTrue, IfOk, IfErr, IfSome, OnOk, OnErr, IsErrOf, string_bytes};
 ghost use Rattle.std.specs.Io.KnownBytes.{Appends};
 ghost use Rattle.task_words.specs.Task.{IsRunnable};
 ghost use Rattle.devices.specs.Input.{TakesFront};
 ghost use Rattle.devices.specs.Watched.{device_of, has_failed, calls_of};
+ghost use Rattle.table_text.specs.TableText.{table_text};
 ghost use Rattle.plan_print.specs.Answers.{report_in, cause_in};
 ghost use Rattle.plan_print.specs.Causes.{Explains, IsNoteOn};
 ghost use Rattle.plan_print.specs.Engine.{limit_of, WritesReport, TellsReport, LeavesOutput, LeavesFront, TellsFailures, thread_count_of, MayHave};
@@ -13,10 +14,12 @@ use crate::answer::Answer;
 use crate::cause::{Cause, note_on};
 use crate::report::report_of;
 use crate::status::Status;
+use channel_tables::Table;
 use devices::fault::{EngineFault, OutFault};
 use devices::input::read_input;
 use devices::output::send;
 use devices::watched::Watched;
+use nbhd_check::Separation;
 use node_lang::LONGEST_TEXT;
 use std::alloc::Global;
 use std::io::{Read, Write};
@@ -127,20 +130,66 @@ fn write_answer<W: Write>(
     ensures own { IfErr result (MayHave 0) }
     ensures failed { IsErrOf result EngineFault.Write ↔ IsTrue (has_failed writer.new) }
 {
+    write_report(alloc, &answer, writer)?;
+    Ok(status_and_cause(answer))
+}
+
+// Returns the status of a report, and its cause if it is a refusal or a no.
+fn status_and_cause(answer: Answer) -> (Status, Option<Cause>)
+    ensures status { result.0 ≡ (report_in answer).status }
+    ensures cause { result.1 ≡ cause_in answer }
+{
     match answer {
-        Answer::Text(text, status) => {
+        Answer::Text(_, status) => (status, None),
+        Answer::Told(_, status, cause) => (status, Some(cause)),
+        Answer::Table(_, _) => (Status::Done, None),
+    }
+}
+
+// Writes the bytes of a report.
+fn write_report<W: Write>(
+    alloc: Global,
+    answer: &Answer,
+    writer: &mut Watched<W>,
+) -> Result<(), EngineFault>
+    requires { has_failed writer.old ≡ false }
+    ensures report { OnOk result (Appends (W.contents (device_of writer.old)) (W.contents (device_of writer.new)) (report_in answer.now).bytes) }
+    ensures left { IfErr result (LeavesFront (report_in answer.now).bytes (W.contents (device_of writer.old)) (W.contents (device_of writer.new))) }
+    ensures fault { IfErr result (λ fault. fault ≢ EngineFault.Read) }
+    ensures own { IfErr result (MayHave 0) }
+    ensures failed { IsErrOf result EngineFault.Write ↔ IsTrue (has_failed writer.new) }
+{
+    match answer {
+        Answer::Text(text, _) => {
             send(writer, text.as_bytes())?;
-            Ok((status, None))
+            Ok(())
         }
-        Answer::Told(text, status, cause) => {
+        Answer::Told(text, _, _) => {
             send(writer, text.as_bytes())?;
-            Ok((status, Some(cause)))
+            Ok(())
         }
-        Answer::Table(table, separation) => match write_table(alloc, &table, separation, writer) {
-            Ok(()) => Ok((Status::Done, None)),
-            Err(OutFault::Write) => Err(EngineFault::Write),
-            Err(OutFault::Memory) => Err(EngineFault::Memory),
-        },
+        Answer::Table(table, separation) => write_table_text(alloc, table, *separation, writer),
+    }
+}
+
+// Writes the text of a table and a separation.
+fn write_table_text<W: Write>(
+    alloc: Global,
+    table: &Table,
+    separation: Separation,
+    writer: &mut Watched<W>,
+) -> Result<(), EngineFault>
+    requires { has_failed writer.old ≡ false }
+    ensures report { OnOk result (Appends (W.contents (device_of writer.old)) (W.contents (device_of writer.new)) (table_text table.now separation)) }
+    ensures left { IfErr result (LeavesFront (table_text table.now separation) (W.contents (device_of writer.old)) (W.contents (device_of writer.new))) }
+    ensures fault { IfErr result (λ fault. fault ≢ EngineFault.Read) }
+    ensures own { IfErr result (MayHave 0) }
+    ensures failed { IsErrOf result EngineFault.Write ↔ IsTrue (has_failed writer.new) }
+{
+    match write_table(alloc, table, separation, writer) {
+        Ok(()) => Ok(()),
+        Err(OutFault::Write) => Err(EngineFault::Write),
+        Err(OutFault::Memory) => Err(EngineFault::Memory),
     }
 }
 
