@@ -8,7 +8,7 @@ ghost use Rattle.win_index.specs.Windows.{windows, IsWindow};
 ghost use Rattle.nbhd_check.specs.declared.separation.Separation.{Separation};
 ghost use Rattle.table_text.specs.declared.version.Version.TheVariants.{Two};
 ghost use Rattle.table_text.specs.TableText.{written, head_then, ids_then, lines_then, table_text};
-ghost use Rattle.table_text.specs.Pieces.{held, prefix_text, piece_text, id_text, AreTexts, ArePieces, IsWrittenSoFar};
+ghost use Rattle.table_text.specs.Pieces.{held, prefix_text, piece_text, id_text, channel_text, AreTexts, ArePieces, IsWrittenSoFar};
 
 use crate::chunk::Chunk;
 use crate::limits::CHUNK_LEN;
@@ -124,12 +124,11 @@ fn write_entries<W: Write>(
     let window = &mut cells[..2 * level as usize + 1];
     shape.window(level, 0, window);
     let ids: &[Piece] = &pieces.ids;
-    let ends: &[Piece] = &pieces.channels;
     let mut prefix = line_prefix_of(ids, &window[..2 * level as usize]);
     for number in 0..count {
         flush_if_full(chunk, writer)?;
-        let last = ids[window[2 * level as usize] as usize];
-        store_line(chunk, &prefix, last, ends[table.entry(number) as usize]);
+        let last = window[2 * level as usize];
+        store_entry(chunk, pieces, &prefix, last, table.entry(number));
         advance(shape, ids, window, &mut prefix);
     }
     flush_if_full(chunk, writer)
@@ -167,6 +166,20 @@ fn flush_if_full<W: Write>(chunk: &mut Chunk, writer: &mut Watched<W>) -> Result
         send_held(chunk, writer)?;
     }
     Ok(())
+}
+
+// Appends to a chunk the line of a window with this prefix, last identifier and channel.
+fn store_entry(chunk: &mut Chunk, pieces: &Pieces, prefix: &LinePrefix, last: u32, channel: u32)
+    requires room { chunk.old.filled + LINE_LEN ≤ CHUNK_LEN }
+    requires ids { AreTexts id_text pieces.now.ids.items }
+    requires channels { AreTexts channel_text pieces.now.channels.items }
+    requires last { last < length pieces.now.ids.items }
+    requires channel { channel < length pieces.now.channels.items }
+    ensures { held chunk.new ≡ held chunk.old ++ (prefix_text prefix.now ++ (id_text last ++ channel_text channel)) }
+{
+    let ids: &[Piece] = &pieces.ids;
+    let ends: &[Piece] = &pieces.channels;
+    store_line(chunk, prefix, ids[last as usize], ends[channel as usize]);
 }
 
 // Appends a line to a chunk: the prefix of a window, the piece of its last identifier and that of

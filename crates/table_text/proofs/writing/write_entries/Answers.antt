@@ -3,8 +3,7 @@ use Rattle.std.proofs.lemmas.Result.{on_err_weaker}
 use Rattle.std.proofs.KnownBytes.{Appends-nil}
 use Rattle.channel_tables.specs.Tables.{windows_of}
 use Rattle.table_text.specs.TableText.{lines_then, entry_then}
-use Rattle.table_text.specs.Pieces.{held, piece_text, id_text, channel_text, AreTexts, IsWrittenSoFar}
-use Rattle.table_text.proofs.PieceTexts.{piece_at}
+use Rattle.table_text.specs.Pieces.{held, id_text, channel_text, IsWrittenSoFar}
 use Rattle.table_text.proofs.WrittenLines.{front_more, lines_front, line_of_run}
 use Rattle.table_text.proofs.WrittenChunks.{tells_more, tells_front, on_err}
 use Rattle.table_text.proofs.writing.write_entries.Goals as goal
@@ -30,26 +29,20 @@ loop-number-preserved g c =
     let window = c.loop-number.window in
     let channel = c.entry.result in
     let level : c.rounds-level.result ≡ t.rounds = search rules in
-    let last = get_or window (2 * t.rounds) 0 in
     let line = entry_then window channel [] in
     let own = c.loop-number.invariant.window in
-    let ids : AreTexts id_text c.deref-ids.result.now = search rules in
-    let ends : AreTexts channel_text c.deref-ends.result.now = search rules in
-    let last_text : piece_text c.index-ids-window.result ≡ id_text last =
-    rw level at (ap piece_text c.index-ids-window.is ∙ piece_at id_text c.deref-ids.result.now (get_or window (2 * c.rounds-level.result) 0) _ ids (search rules)) in
-    let end_text = ap piece_text c.index-ends-entry.is ∙ piece_at channel_text c.deref-ends.result.now channel _ ends (search rules) in
-    let stored : held c.store_line.new.chunk ≡ held c.flush_if_full.new.chunk ++ line =
-    c.store_line.ensures ∙ ap (λ text. held c.flush_if_full.new.chunk ++ text)
-    ((λ i. c.loop-number.invariant.prefix i ++ (last_text i ++ end_text i)) ∙ line_of_run (2 * t.rounds) window channel own.size) in
+    let stored : held c.store_entry.new.chunk ≡ held c.flush_if_full.new.chunk ++ line =
+    c.store_entry.ensures ∙ ap (λ text. held c.flush_if_full.new.chunk ++ text)
+    ((λ i. c.loop-number.invariant.prefix i ++ (id_text (get_or window (2 * level i) 0) ++ channel_text channel)) ∙ line_of_run (2 * t.rounds) window channel own.size) in
     let before = c.in_ok-flush_if_full.ensures.ok _ _ c.loop-number.invariant.told in
-    let more = tells_more _ _ _ (held c.store_line.new.chunk) line _ before stored in
+    let more = tells_more _ _ _ (held c.store_entry.new.chunk) line _ before stored in
     let lines = front_more t c.args.separation n c.entry.result window _ line (omega (arith, size, within)) (c.loop-number.invariant.next within) refl c.entry.ensures.value refl in
     record {
       next = search rules;
       window = search rules;
       prefix = search rules;
       working = search rules;
-      told = subst (IsWrittenSoFar _ _ (held c.store_line.new.chunk)) lines more;
+      told = subst (IsWrittenSoFar _ _ (held c.store_entry.new.chunk)) lines more;
     }
 
 pub returns-in_err-flush_if_full-clause-err : goal.returns-in_err-flush_if_full-clause-err
