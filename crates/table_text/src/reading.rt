@@ -1,6 +1,6 @@
 //! Reading a table text, line by line.
 
-ghost use Rattle.std.specs.Prelude.{◌≡◌, ◌≤◌, length, MatchResult, IfOk, OnOk, IfErr};
+ghost use Rattle.std.specs.Prelude.{◌≡◌, ◌<◌, ◌≤◌, true, false, length, MatchResult, IfOk, OnOk, IfErr};
 ghost use Rattle.nbhd_check.specs.declared.separation.Separation.{Separation};
 ghost use Rattle.channel_tables.specs.Tables.{ChannelTable, IsTable};
 ghost use Rattle.table_text.specs.TableText.{written, title_then, sizes_then, lines_then, text_of};
@@ -116,7 +116,7 @@ fn entries<'a>(
             Line::Malformed => return Err(syntax(text, rest)),
             Line::OtherWindow => return Err(TableFault::WrongWindow(number + 3)),
             Line::Entry(channel, after) => {
-                if channel >= header.channels {
+                if is_too_large(channel, header) {
                     return Err(TableFault::ChannelTooLarge(number + 3));
                 }
                 maker.push(channel);
@@ -126,6 +126,14 @@ fn entries<'a>(
         shape.next_window(level, window);
     }
     Ok((maker.done(), rest))
+}
+
+// Returns whether a channel is not below the number of channels of the second line.
+fn is_too_large(channel: u32, header: Header) -> bool
+    ensures yes { result ≡ true → header.channels ≤ channel }
+    ensures no { result ≡ false → channel < header.channels }
+{
+    channel >= header.channels
 }
 
 // Fails unless `rest` is the last line and nothing more.
