@@ -1,5 +1,5 @@
 -- Lemmas on the readers, for the methods of the parser.
-use Rattle.std.proofs.Common.{◌≡◌, ℕ, zero, suc, ◌+◌, ◌-◌, ◌<◌, true, List, [], ◌∷◌, ◌++◌, map, Err, Ok, refl, ap, ◌∙◌, arith}
+use Rattle.std.proofs.Common.{◌≡◌, ℕ, zero, suc, ◌+◌, ◌-◌, ◌<◌, true, List, [], ◌∷◌, ◌++◌, map, Option, Some, Result, Err, Ok, refl, sym, ap, subst, length, ◌≤◌, ◌∙◌, arith}
 use Rattle.std.proofs.lemmas.Bool.{eqb-true}
 use Rattle.std.proofs.lemmas.List.{map-append}
 use Rattle.node_lang.specs.declared.fault.TextFault.{TextFault}
@@ -7,8 +7,12 @@ use Rattle.node_lang.specs.declared.parser.Parser.{Parser}
 use Rattle.node_lang.specs.declared.token.Token.{Token}
 use Rattle.node_lang.specs.declared.token.Token.TheVariants as token
 use Rattle.node_lang.specs.Lexemes.{Lexeme}
-use Rattle.node_lang.specs.Reading.{Read, each, expression, go_on, operand, same_token}
-use Rattle.node_lang.specs.Parsing.{Gives, lexemes_left}
+use Rattle.node_lang.specs.Reading.{Read, Reader, Got, Fault, ◌>>=◌, ◌>>◌, after, assigns, done, each, exactly, expression, go_on, header, next, node, number, one_of, operand, round, same_token, three_of, two_of}
+use Rattle.node_lang.specs.Parsing.{Gives, after_if, after_one, after_two, field, lexemes_left, marked, message}
+use Rattle.node_program.specs.declared.limits.TheConstants.{MAX_CHANNELS, MAX_DEPTH, MAX_REGISTERS, MAX_ROUNDS}
+use Rattle.node_program.specs.declared.tree.UnOp.{UnOp}
+use Rattle.node_program.specs.declared.tree.BinOp.{BinOp}
+use Rattle.node_program.specs.Term.{Term, One, Two, Choose}
 
 -- tokens that are the same are equal
 pub same_token_is : (s t : Token) → same_token s t ≡ true → s ≡ t
@@ -48,3 +52,96 @@ stops_there {tree = tree} {part} {high} {j} {parts} {now = now} f h done stopped
       let at = rw done.text_is at (stopped.1 m) in
       (at.0, done.reads ∙ next_read part high j (map tree parts) now.nodes _ _ h at.1),
 )
+
+-- readers in a row in two groupings, if they behave the same after the first
+same_after : {A B : Type 0} (first : Read A) (second other : A → ℕ → List Lexeme → Read B) → ((a : A) (n : ℕ) (l : List Lexeme) → second a n l ≡ other a n l) →
+    go_on first second ≡ go_on first other
+same_after (Got a n l) second other same = same a n l
+same_after (Fault k from) second other same = refl
+
+regrouped : {A B C : Type 0} (first : Read A) (second : A → ℕ → List Lexeme → Read B) (third : B → ℕ → List Lexeme → Read C) (other : A → ℕ → List Lexeme → Read C) →
+    ((a : A) (n : ℕ) (l : List Lexeme) → go_on (second a n l) third ≡ other a n l) → go_on (go_on first second) third ≡ go_on first other
+regrouped (Got a n l) second third other same = same a n l
+regrouped (Fault k from) second third other same = refl
+
+both_regrouped : {A B C D : Type 0} (first : Read A) (second : A → ℕ → List Lexeme → Read B) (third : B → ℕ → List Lexeme → Read D)
+    (second' : A → ℕ → List Lexeme → Read C) (third' : C → ℕ → List Lexeme → Read D) →
+    ((a : A) (n : ℕ) (l : List Lexeme) → go_on (second a n l) third ≡ go_on (second' a n l) third') → go_on (go_on first second) third ≡ go_on (go_on first second') third'
+both_regrouped (Got a n l) second third second' third' same = same a n l
+both_regrouped (Fault k from) second third second' third' same = refl
+
+-- the header, field by field
+pub header_is : (nodes : ℕ) (left : List Lexeme) → header nodes left ≡ (do
+  rounds ← field token.Rounds 0 MAX_ROUNDS
+  channels ← field token.Channels 1 MAX_CHANNELS
+  registers ← field token.Registers 1 MAX_REGISTERS
+  exactly token.Start
+  done (record { rounds = rounds; channels = channels; registers = registers })) nodes left
+unfolding header
+header_is nodes left =
+    sym (regrouped (exactly token.Rounds nodes left) _ _ _ (λ _ n l. same_after (number 0 MAX_ROUNDS n l) _ _ (λ rounds n l.
+    regrouped (exactly token.Channels n l) _ _ _ (λ _ n l. same_after (number 1 MAX_CHANNELS n l) _ _ (λ channels n l.
+    regrouped (exactly token.Registers n l) _ _ _ (λ _ n l. refl))))))
+
+-- a round, message by message
+pub round_is : (registers nodes : ℕ) (left : List Lexeme) → round registers nodes left ≡ (do
+  exactly token.Round
+  left ← message token.Left
+  right ← message token.Right
+  next ← assigns registers
+  done (record { left = left; right = right; next = next })) nodes left
+unfolding round message
+round_is registers nodes left =
+    sym (same_after (exactly token.Round nodes left) _ _ (λ _ n l.
+    regrouped (exactly token.Send n l) _ _ _ (λ _ n l. regrouped (exactly token.Left n l) _ _ _ (λ _ n l. same_after (expression MAX_DEPTH n l) _ _ (λ left n l.
+    regrouped (exactly token.Send n l) _ _ _ (λ _ n l. regrouped (exactly token.Right n l) _ _ _ (λ _ n l. refl)))))))
+
+-- the rest of an operation, operand by operand
+pub one_is : (op : UnOp) (levels from nodes : ℕ) (left : List Lexeme) →
+    (node levels from >> (one_of (operand levels) >>= λ a. done (One op a))) nodes left ≡ after_one op levels from nodes left
+unfolding one_of
+one_is op levels from nodes left =
+    sym (regrouped (node levels from nodes left) _ _ _ (λ _ n l. sym (regrouped (exactly token.Open n l) _ _ _ (λ _ n l. refl))))
+
+pub two_is : (op : BinOp) (levels from nodes : ℕ) (left : List Lexeme) →
+    (node levels from >> (two_of (operand levels) >>= λ p. done (Two op p.0 p.1))) nodes left ≡ after_two op levels from nodes left
+unfolding two_of
+two_is op levels from nodes left =
+    sym (regrouped (node levels from nodes left) _ _ _ (λ _ n l. sym (regrouped (exactly token.Open n l) _ _ _ (λ _ n l.
+    both_regrouped (operand levels n l) _ _ _ _ (λ a n l. both_regrouped (exactly token.Comma n l) _ _ _ _ (λ _ n l.
+    both_regrouped (operand levels n l) _ _ _ _ (λ b n l. both_regrouped (exactly token.Close n l) _ _ _ _ (λ _ n l. refl))))))))
+
+pub if_is : (levels from nodes : ℕ) (left : List Lexeme) →
+    (node levels from >> (three_of (operand levels) >>= λ p. done (Choose p.0 p.1 p.2))) nodes left ≡ after_if levels from nodes left
+unfolding three_of
+if_is levels from nodes left =
+    sym (regrouped (node levels from nodes left) _ _ _ (λ _ n l. sym (regrouped (exactly token.Open n l) _ _ _ (λ _ n l.
+    both_regrouped (operand levels n l) _ _ _ _ (λ c n l. both_regrouped (exactly token.Comma n l) _ _ _ _ (λ _ n l.
+    both_regrouped (operand levels n l) _ _ _ _ (λ a n l. both_regrouped (exactly token.Comma n l) _ _ _ _ (λ _ n l.
+    both_regrouped (operand levels n l) _ _ _ _ (λ b n l. both_regrouped (exactly token.Close n l) _ _ _ _ (λ _ n l. refl))))))))))
+
+-- a method whose last step behaves as the rest of its reader
+pub gives_rest : {T A : Type 0} (tree : T → A) (old now new : Parser) (r : Result T TextFault) (whole rest : ℕ → List Lexeme → Read A) → now.text.now ≡ old.text.now →
+    whole old.nodes (lexemes_left old.text.now old.at) ≡ rest now.nodes (lexemes_left now.text.now now.at) → Gives tree now new r rest → Gives tree old new r whole
+gives_rest tree old now new (Ok v) whole rest same begins given = (given.0 ∙ same, begins ∙ given.1 ∙ ap (λ t. Got (tree v) new.nodes (lexemes_left t new.at)) same)
+gives_rest tree old now new (Err f) whole rest same begins given = (
+  given.0,
+  λ m.
+      let at = given.1 m in
+      (subst (λ t. f.offset ≤ length t) same at.0, begins ∙ at.1 ∙ ap (λ t. Fault f.kind (length t - f.offset)) same),
+)
+
+-- a method that reads one part and then behaves as the reader of the next
+pub gives_next : {T U A B : Type 0} (tree : T → A) (tree' : U → B) (old now new : Parser) (v : T) (r : Result U TextFault) (first : ℕ → List Lexeme → Read A)
+    (second : A → ℕ → List Lexeme → Read B) → Gives tree old now (Ok v) first → Gives tree' now new r (second (tree v)) → Gives tree' old new r (λ n l. go_on (first n l) second)
+gives_next tree tree' old now new v r first second given more =
+    gives_rest tree' old now new r (λ n l. go_on (first n l) second) (second (tree v)) given.0
+    (ap (λ x. go_on x second) given.1 ∙ ap (λ t. second (tree v) now.nodes (lexemes_left t now.at)) (sym given.0)) more
+
+-- an expression from its first token on
+pub expression_begins : (old now : Parser) (levels offset : ℕ) (t : Token) (more : Reader Term) → now.text.now ≡ old.text.now →
+    next old.nodes (lexemes_left old.text.now old.at) ≡ Got (record { from = length old.text.now - offset; token = t }) now.nodes (lexemes_left old.text.now now.at) →
+    after (operand levels) t ≡ Some more →
+    expression levels old.nodes (lexemes_left old.text.now old.at) ≡ (node levels (length now.text.now - offset) >> more) now.nodes (lexemes_left now.text.now now.at)
+unfolding expression
+expression_begins old now levels offset t more same reads begins = rw (same, reads, begins) refl

@@ -4,7 +4,13 @@ use Rattle.node_lang.specs.declared.fault.FaultKind.TheVariants as kind
 use Rattle.node_lang.specs.declared.fault.TextFault.{TextFault}
 use Rattle.node_lang.specs.declared.parser.Parser.{Parser}
 use Rattle.node_lang.specs.Lexemes.{Lexeme, lexemes_of}
-use Rattle.node_lang.specs.Reading.{Read, Got, Fault}
+use Rattle.node_lang.specs.Reading.{Read, Reader, Got, Fault, ◌>>=◌, ◌>>◌, done, exactly, expression, node, number, operand}
+use Rattle.node_lang.specs.declared.token.Token.{Token}
+use Rattle.node_lang.specs.declared.token.Token.TheVariants as token
+use Rattle.node_program.specs.declared.limits.TheConstants.{MAX_DEPTH}
+use Rattle.node_program.specs.declared.tree.UnOp.{UnOp}
+use Rattle.node_program.specs.declared.tree.BinOp.{BinOp}
+use Rattle.node_program.specs.Term.{Term, One, Two, Choose}
 
 -- the lexemes of a text from the byte `at` on
 abbrev pub lexemes_left : List ℕ → ℕ → List Lexeme
@@ -18,3 +24,47 @@ Gives tree old new (Ok v) read =
 Gives tree old new (Err f) read =
     (f.kind ≡ kind.OutOfMemory → f.offset ≡ 0)
     × (f.kind ≢ kind.OutOfMemory → (f.offset ≤ length old.text.now) × (read old.nodes (lexemes_left old.text.now old.at) ≡ Fault f.kind (length old.text.now - f.offset)))
+
+-- a word of the header and its number
+abbrev pub field : Token → ℕ → ℕ → Reader ℕ
+field word low high = exactly word >> number low high
+
+-- the message of a round to this side
+unfoldable pub message : Token → Reader Term
+message side = do
+  exactly token.Send
+  exactly side
+  expression MAX_DEPTH
+
+-- an operand and the mark after it
+abbrev pub marked : Reader Term → Token → Reader Term
+marked operand mark = do
+  a ← operand
+  exactly mark
+  done a
+
+-- the count of an operation's node, and the parenthesis that opens its operands
+abbrev pub opened : ℕ → ℕ → Reader (Unit {0})
+opened levels from = node levels from >> exactly token.Open
+
+-- the rest of an operation, with this many levels left, from its node's count on
+abbrev pub after_one : UnOp → ℕ → ℕ → Reader Term
+after_one op levels from = do
+  opened levels from
+  a ← marked (operand levels) token.Close
+  done (One op a)
+
+abbrev pub after_two : BinOp → ℕ → ℕ → Reader Term
+after_two op levels from = do
+  opened levels from
+  a ← marked (operand levels) token.Comma
+  b ← marked (operand levels) token.Close
+  done (Two op a b)
+
+abbrev pub after_if : ℕ → ℕ → Reader Term
+after_if levels from = do
+  opened levels from
+  c ← marked (operand levels) token.Comma
+  a ← marked (operand levels) token.Comma
+  b ← marked (operand levels) token.Close
+  done (Choose c a b)

@@ -1,13 +1,15 @@
-ghost use Rattle.std.specs.Prelude.{◌≤◌, length};
+ghost use Rattle.std.specs.Prelude.{◌≡◌, ◌≤◌, length, IfOk};
 ghost use Rattle.node_program.specs.declared.limits.TheConstants.{MAX_NODES};
+ghost use Rattle.node_program.specs.Term.{term_of, Two, Choose};
 
 use crate::fault::{FaultKind, TextFault};
 use crate::lexer::token_from;
 use crate::token::Token;
 use node_program::{
-    Expr, MAX_CHANNELS, MAX_DEPTH, MAX_NODES, MAX_REGISTERS, MAX_ROUNDS, Program, Round,
+    BinOp, Expr, MAX_CHANNELS, MAX_DEPTH, MAX_NODES, MAX_REGISTERS, MAX_ROUNDS, Program, Round,
+    UnOp,
 };
-use std::alloc::{AllocFailed, Global};
+use std::alloc::{AllocError, AllocFailed, Global};
 
 // The numbers of a program's header.
 #[derive(Clone, Copy)]
@@ -28,11 +30,29 @@ pub(crate) struct Parser<'a> {
     ghost few: { nodes ≤ MAX_NODES },
 }
 
+// Returns the operation on two operands.
+fn binary(alloc: Global, op: BinOp, a: Expr, b: Expr) -> Result<Expr, AllocError>
+    ensures { IfOk result (λ e. term_of e ≡ Two op (term_of a) (term_of b)) }
+{
+    Ok(Expr::Two(op, Box::new(alloc, a)?, Box::new(alloc, b)?))
+}
+
+// Returns the choice between `a` and `b` by `c`.
+fn choice(alloc: Global, c: Expr, a: Expr, b: Expr) -> Result<Expr, AllocError>
+    ensures { IfOk result (λ e. term_of e ≡ Choose (term_of c) (term_of a) (term_of b)) }
+{
+    Ok(Expr::Choose(
+        Box::new(alloc, c)?,
+        Box::new(alloc, a)?,
+        Box::new(alloc, b)?,
+    ))
+}
+
 impl<'a> Parser<'a> {
     ghost use Rattle.std.specs.Prelude.{◌≡◌, ◌-◌, ◌<◌, map, true, IfOk};
     ghost use Rattle.node_program.specs.Term.{step_of, term_of};
-    ghost use Rattle.node_lang.specs.Reading.{Counts, assign, assigns, end, exactly, expression, header, next, node, number, one_of, operand, program, round, rounds, same_token, three_of, two_of};
-    ghost use Rattle.node_lang.specs.Parsing.{Gives};
+    ghost use Rattle.node_lang.specs.Reading.{Counts, assign, assigns, end, exactly, expression, header, next, node, number, operand, program, round, rounds, same_token};
+    ghost use Rattle.node_lang.specs.Parsing.{Gives, after_if, after_one, after_two, field, marked, message, opened};
 
     // Returns the next token and its offset.
     fn next(&mut self) -> Result<(Token, usize), TextFault>
@@ -85,6 +105,19 @@ impl<'a> Parser<'a> {
         Ok(levels - 1)
     }
 
+    // Counts the node of an operation at `offset`, as `count_node` does, and consumes the parenthesis
+    // that opens its operands.
+    fn open(&mut self, levels: u32, offset: usize) -> Result<u32, TextFault>
+        requires { offset ≤ length self.old.text.now }
+        ensures reads { Gives (λ _. tt) self.old self.new result (opened levels (length self.old.text.now - offset)) }
+        ensures below { IfOk result (λ below. operand levels ≡ expression below) }
+        ensures fewer { IfOk result (λ below. below < levels) }
+    {
+        let below = self.count_node(levels, offset)?;
+        self.expect(Token::Open)?;
+        Ok(below)
+    }
+
     // Parses an expression of at most `levels` levels.
     #[cycle(expr)]
     #[tactic(auto, unfolding(crate::specs::Reading::expression))]
@@ -98,71 +131,60 @@ impl<'a> Parser<'a> {
             Token::FromLeft => Expr::FromLeft,
             Token::FromRight => Expr::FromRight,
             Token::Register(register) => Expr::Register(register),
-            Token::One(op) => {
-                let below = self.count_node(levels, offset)?;
-                let a = self.one(below)?;
-                return Ok(Expr::One(op, Box::new(self.alloc, a)?));
-            }
-            Token::Two(op) => {
-                let below = self.count_node(levels, offset)?;
-                let (a, b) = self.two(below)?;
-                return Ok(Expr::Two(op, Box::new(self.alloc, a)?, Box::new(self.alloc, b)?));
-            }
-            Token::If => {
-                let below = self.count_node(levels, offset)?;
-                let (c, a, b) = self.three(below)?;
-                return Ok(Expr::Choose(
-                    Box::new(self.alloc, c)?,
-                    Box::new(self.alloc, a)?,
-                    Box::new(self.alloc, b)?,
-                ));
-            }
+            Token::One(op) => return self.one(op, levels, offset),
+            Token::Two(op) => return self.two(op, levels, offset),
+            Token::If => return self.choose(levels, offset),
             _ => return Err(TextFault::at(FaultKind::Unexpected, offset)),
         };
         self.count_node(levels, offset)?;
         Ok(leaf)
     }
 
-    // Parses one operand in parentheses.
+    // Parses an operand and the mark after it.
     #[cycle(expr)]
-    #[tactic(auto, unfolding(crate::specs::Reading::one_of))]
-    fn one(&mut self, levels: u32) -> Result<Expr, TextFault>
-        ensures { Gives term_of self.old self.new result (one_of (expression levels)) }
+    fn operand(&mut self, levels: u32, mark: Token) -> Result<Expr, TextFault>
+        requires { same_token mark mark ≡ true }
+        ensures { Gives term_of self.old self.new result (marked (expression levels) mark) }
     {
-        self.expect(Token::Open)?;
-        let a = self.expr(levels)?;
-        self.expect(Token::Close)?;
-        Ok(a)
+        let operand = self.expr(levels)?;
+        self.expect(mark)?;
+        Ok(operand)
     }
 
-    // Parses two operands in parentheses.
+    // Parses the operand of an operation whose name is at `offset`.
     #[cycle(expr)]
-    #[tactic(auto, unfolding(crate::specs::Reading::two_of))]
-    fn two(&mut self, levels: u32) -> Result<(Expr, Expr), TextFault>
-        ensures { Gives (λ p. (term_of p.0, term_of p.1)) self.old self.new result (two_of (expression levels)) }
+    fn one(&mut self, op: UnOp, levels: u32, offset: usize) -> Result<Expr, TextFault>
+        requires { offset ≤ length self.old.text.now }
+        ensures { Gives term_of self.old self.new result (after_one op levels (length self.old.text.now - offset)) }
     {
-        self.expect(Token::Open)?;
-        let a = self.expr(levels)?;
-        self.expect(Token::Comma)?;
-        let b = self.expr(levels)?;
-        self.expect(Token::Close)?;
-        Ok((a, b))
+        let below = self.open(levels, offset)?;
+        let a = self.operand(below, Token::Close)?;
+        Ok(Expr::One(op, Box::new(self.alloc, a)?))
     }
 
-    // Parses three operands in parentheses.
+    // Parses the two operands of an operation whose name is at `offset`.
     #[cycle(expr)]
-    #[tactic(auto, unfolding(crate::specs::Reading::three_of))]
-    fn three(&mut self, levels: u32) -> Result<(Expr, Expr, Expr), TextFault>
-        ensures { Gives (λ p. (term_of p.0, term_of p.1, term_of p.2)) self.old self.new result (three_of (expression levels)) }
+    fn two(&mut self, op: BinOp, levels: u32, offset: usize) -> Result<Expr, TextFault>
+        requires { offset ≤ length self.old.text.now }
+        ensures { Gives term_of self.old self.new result (after_two op levels (length self.old.text.now - offset)) }
     {
-        self.expect(Token::Open)?;
-        let c = self.expr(levels)?;
-        self.expect(Token::Comma)?;
-        let a = self.expr(levels)?;
-        self.expect(Token::Comma)?;
-        let b = self.expr(levels)?;
-        self.expect(Token::Close)?;
-        Ok((c, a, b))
+        let below = self.open(levels, offset)?;
+        let a = self.operand(below, Token::Comma)?;
+        let b = self.operand(below, Token::Close)?;
+        Ok(binary(self.alloc, op, a, b)?)
+    }
+
+    // Parses the three operands of an `if` at `offset`.
+    #[cycle(expr)]
+    fn choose(&mut self, levels: u32, offset: usize) -> Result<Expr, TextFault>
+        requires { offset ≤ length self.old.text.now }
+        ensures { Gives term_of self.old self.new result (after_if levels (length self.old.text.now - offset)) }
+    {
+        let below = self.open(levels, offset)?;
+        let c = self.operand(below, Token::Comma)?;
+        let a = self.operand(below, Token::Comma)?;
+        let b = self.operand(below, Token::Close)?;
+        Ok(choice(self.alloc, c, a, b)?)
     }
 
     // Parses a number of the header, from `low` to `high`.
@@ -179,17 +201,23 @@ impl<'a> Parser<'a> {
         Ok(number)
     }
 
+    // Parses this word of the header and its number, from `low` to `high`.
+    fn field(&mut self, word: Token, low: u32, high: u32) -> Result<u32, TextFault>
+        requires { same_token word word ≡ true }
+        ensures { Gives (λ n. n) self.old self.new result (field word low high) }
+    {
+        self.expect(word)?;
+        Ok(self.number(low, high)?)
+    }
+
     // Parses the header, up to and including `start`.
-    #[tactic(auto, unfolding(crate::specs::Reading::header))]
+    #[tactic(auto, using(crate::proofs::Parsing::header_is))]
     fn header(&mut self) -> Result<Header, TextFault>
         ensures { Gives (λ h. record { rounds = h.rounds; channels = h.channels; registers = h.registers }) self.old self.new result header }
     {
-        self.expect(Token::Rounds)?;
-        let rounds = self.number(0, MAX_ROUNDS)?;
-        self.expect(Token::Channels)?;
-        let channels = self.number(1, MAX_CHANNELS)?;
-        self.expect(Token::Registers)?;
-        let registers = self.number(1, MAX_REGISTERS)?;
+        let rounds = self.field(Token::Rounds, 0, MAX_ROUNDS)?;
+        let channels = self.field(Token::Channels, 1, MAX_CHANNELS)?;
+        let registers = self.field(Token::Registers, 1, MAX_REGISTERS)?;
         self.expect(Token::Start)?;
         Ok(Header {
             rounds,
@@ -236,17 +264,24 @@ impl<'a> Parser<'a> {
         Ok(expressions)
     }
 
-    #[tactic(auto, unfolding(crate::specs::Reading::round))]
+    // Parses the message of a round to this side.
+    #[tactic(auto, unfolding(crate::specs::Parsing::message))]
+    fn message(&mut self, side: Token) -> Result<Expr, TextFault>
+        requires { same_token side side ≡ true }
+        ensures { Gives term_of self.old self.new result (message side) }
+    {
+        self.expect(Token::Send)?;
+        self.expect(side)?;
+        self.expr(MAX_DEPTH)
+    }
+
+    #[tactic(auto, using(crate::proofs::Parsing::round_is))]
     fn round(&mut self, registers: u32) -> Result<Round, TextFault>
         ensures { Gives step_of self.old self.new result (round registers) }
     {
         self.expect(Token::Round)?;
-        self.expect(Token::Send)?;
-        self.expect(Token::Left)?;
-        let left = self.expr(MAX_DEPTH)?;
-        self.expect(Token::Send)?;
-        self.expect(Token::Right)?;
-        let right = self.expr(MAX_DEPTH)?;
+        let left = self.message(Token::Left)?;
+        let right = self.message(Token::Right)?;
         let next = self.assigns(registers)?;
         Ok(Round { left, right, next })
     }

@@ -3,13 +3,16 @@ use Rattle.std.proofs.Common.{◌+◌, ◌*◌}
 use Rattle.node_lang.proofs.parser.Parser.+expr.Given as goal
 
 abbrev pub decreases-expr : goal.decreases-expr
-decreases-expr l = 2 * l.levels
+decreases-expr l = 3 * l.levels + 1
+
+abbrev pub decreases-operand : goal.decreases-operand
+decreases-operand l = 3 * l.levels + 2
 
 abbrev pub decreases-one : goal.decreases-one
-decreases-one l = 2 * l.levels + 1
+decreases-one l = 3 * l.levels
 
 abbrev pub decreases-two : goal.decreases-two
-decreases-two l = 2 * l.levels + 1
+decreases-two l = 3 * l.levels
 
-abbrev pub decreases-three : goal.decreases-three
-decreases-three l = 2 * l.levels + 1
+abbrev pub decreases-choose : goal.decreases-choose
+decreases-choose l = 3 * l.levels
