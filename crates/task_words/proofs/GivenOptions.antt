@@ -14,7 +14,7 @@ use Rattle.option_values.specs.Laws.{OptionsHaveValues}
 use Rattle.task_words.specs.CommandLine.{command_line, ids_rule, ring_rule, workers_rule, segments_rule, near_rule, far_rule}
 use Rattle.task_words.specs.Options.{IsNumberGiven, IsTextGiven}
 use Rattle.task_words.specs.declared.limits.TheConstants.{MAX_COUNT, MAX_DISTANCE}
-use Rattle.task_words.specs.Words.{HasNumber}
+use Rattle.task_words.specs.Words.{HasNumber, IsRingName}
 
 -- ---- the options of each command
 
@@ -38,6 +38,12 @@ other_name : (test : Text → Bool) (name other : Text) → test other ≡ false
 other_name test name other fails passes is =
     let bad : true ≡ false = sym passes ∙ (ap test is ∙ fails) in
     cc
+
+-- each name of a command with a ring passes a test that all three names pass
+pub ring_takes : (test : Text → Bool) (name : Text) → test (codes "run") ≡ true → test (codes "trace") ≡ true → test (codes "plan") ≡ true → IsRingName name → test name ≡ true
+ring_takes test name run trace plan (inl is) = ap test is ∙ run
+ring_takes test name run trace plan (inr (inl is)) = ap test is ∙ trace
+ring_takes test name run trace plan (inr (inr is)) = ap test is ∙ plan
 
 ids_of_value : (values : List Row) → HasValue ids_rule values → IsNumberGiven values (codes "ids") 0 4294967295
 ids_of_value values value = (value.0, value.2, value.3)

@@ -1,6 +1,6 @@
 //! The task of a command, from the values of its options.
 
-ghost use Rattle.std.specs.Prelude.{◌≡◌, ◌⊎◌, codes, IfOk, IfErr};
+ghost use Rattle.std.specs.Prelude.{◌≡◌, ◌⊎◌, ◌↔◌, codes, IfOk, IfErr, IsTrue};
 ghost use Rattle.clap.specs.Words.{found_of, rows_of};
 ghost use Rattle.option_values.specs.OptionLines.{IsOneOf};
 ghost use Rattle.task_words.specs.CommandLine.{command_line};
@@ -31,39 +31,75 @@ pub(crate) fn task_in(
     ensures refused { IfErr result (λ fault. (fault ≡ OutOfMemory)
         ⊎ ((fault ≡ BadRing) × IsRingName name.now × IsRingBad (rows_of (found_of options.now)))) }
 {
+    if takes_ring(name) {
+        return ring_task(alloc, name, options);
+    }
+    Ok(ringless_task(name, options))
+}
+
+// Returns whether the command with this name takes a ring.
+fn takes_ring(name: &str) -> bool
+    ensures { IsTrue result ↔ IsRingName name.now }
+{
+    matches!(name, "run" | "trace" | "plan")
+}
+
+// Returns the task of a command that takes a ring.
+fn ring_task(alloc: Global, name: &str, options: &ArgMatches<'_>) -> Result<Task, WordsFault>
+    requires one { IsOneOf command_line.subs name.now (rows_of (found_of options.now)) }
+    requires ring { IsRingName name.now }
+    ensures task { IfOk result (IsTaskFor name.now (rows_of (found_of options.now))) }
+    ensures runnable { IfOk result IsRunnable }
+    ensures segments { IfOk result (λ task. IsCount (segments_of task)) }
+    ensures good { IfOk result (λ _. ¬ IsRingBad (rows_of (found_of options.now))) }
+    ensures refused { IfErr result (λ fault. (fault ≡ OutOfMemory)
+        ⊎ ((fault ≡ BadRing) × IsRingBad (rows_of (found_of options.now)))) }
+{
+    let ids = ids_of(options);
+    let ring = ring_in(alloc, options)?;
     match name {
-        "check" => Ok(Task::Check {
-            ids: ids_of(options),
-        }),
-        "print" => Ok(Task::Print),
-        "table" => Ok(Task::Table {
-            ids: ids_of(options),
-            workers: count_of(options, "workers"),
-            near: near_of(options),
-            far: far_of(options),
-        }),
-        "judge" => Ok(Task::Judge {
-            ids: ids_of(options),
-            workers: count_of(options, "workers"),
-            near: near_of(options),
-            far: far_of(options),
-        }),
         "run" => Ok(Task::Run {
-            ids: ids_of(options),
-            ring: ring_in(alloc, options)?,
+            ids,
+            ring,
             segments: count_of(options, "segments"),
         }),
-        "trace" => Ok(Task::Trace {
-            ids: ids_of(options),
-            ring: ring_in(alloc, options)?,
-        }),
+        "trace" => Ok(Task::Trace { ids, ring }),
         "plan" => Ok(Task::Plan {
-            ids: ids_of(options),
-            ring: ring_in(alloc, options)?,
+            ids,
+            ring,
             workers: count_of(options, "workers"),
         }),
-        "audit" => Ok(Task::Audit),
-        "migrate" => Ok(Task::Migrate),
+        _ => unreachable!(),
+    }
+}
+
+// Returns the task of a command that takes no ring.
+fn ringless_task(name: &str, options: &ArgMatches<'_>) -> Task
+    requires one { IsOneOf command_line.subs name.now (rows_of (found_of options.now)) }
+    requires ringless { ¬ IsRingName name.now }
+    ensures task { IsTaskFor name.now (rows_of (found_of options.now)) result }
+    ensures runnable { IsRunnable result }
+    ensures segments { IsCount (segments_of result) }
+{
+    match name {
+        "check" => Task::Check {
+            ids: ids_of(options),
+        },
+        "print" => Task::Print,
+        "table" => Task::Table {
+            ids: ids_of(options),
+            workers: count_of(options, "workers"),
+            near: near_of(options),
+            far: far_of(options),
+        },
+        "judge" => Task::Judge {
+            ids: ids_of(options),
+            workers: count_of(options, "workers"),
+            near: near_of(options),
+            far: far_of(options),
+        },
+        "audit" => Task::Audit,
+        "migrate" => Task::Migrate,
         _ => unreachable!(),
     }
 }
