@@ -1,7 +1,7 @@
 //! The command line of the program: its commands and their options, with the help texts.
 
-ghost use Rattle.std.specs.Prelude.{◌≡◌, IfOk, false, [], ◌∷◌, ◌++◌};
-ghost use Rattle.clap.specs.Words.{app_of, rule_of};
+ghost use Rattle.std.specs.Prelude.{◌≡◌, IfOk, IsOkAnd, false, [], ◌∷◌, ◌++◌};
+ghost use Rattle.clap.specs.Words.{AddsSubcommand, app_of, rule_of};
 ghost use Rattle.task_words.specs.CommandLine.{IsCommandOf, command_of, program, option_rule, count_rule, ids_rule, ring_rule, workers_rule, segments_rule, near_rule, far_rule};
 ghost use Rattle.task_words.specs.CommandLine.{check_command, print_command, table_command, judge_command, run_command};
 ghost use Rattle.task_words.specs.CommandLine.{trace_command, plan_command, audit_command, migrate_command, text_commands, program_commands, running_commands, ring_commands, line_of, command_line};
@@ -26,34 +26,40 @@ pub(crate) fn command_line<'a>(alloc: Global) -> Result<Command<'a>, AllocError>
 fn ring_commands<'a>(alloc: Global) -> Result<Command<'a>, AllocError>
     ensures { IfOk result (λ line. app_of line ≡ line_of (program_commands ++ ring_commands)) }
 {
-    running_commands(alloc)?.subcommand(plan(alloc)?)
+    with_command(running_commands(alloc)?, plan(alloc))
 }
 
 // Returns the program with the commands that read a program and take no ring, or run it on one.
 fn running_commands<'a>(alloc: Global) -> Result<Command<'a>, AllocError>
     ensures { IfOk result (λ line. app_of line ≡ line_of (program_commands ++ running_commands)) }
 {
-    program_commands(alloc)?
-        .subcommand(run(alloc)?)?
-        .subcommand(trace(alloc)?)
+    let line = with_command(program_commands(alloc)?, run(alloc))?;
+    with_command(line, trace(alloc))
 }
 
 // Returns the program with the commands that read a program and take no ring.
 fn program_commands<'a>(alloc: Global) -> Result<Command<'a>, AllocError>
     ensures { IfOk result (λ line. app_of line ≡ line_of program_commands) }
 {
-    text_commands(alloc)?
-        .subcommand(table(alloc)?)?
-        .subcommand(judge(alloc)?)
+    let line = with_command(text_commands(alloc)?, table(alloc))?;
+    with_command(line, judge(alloc))
 }
 
 // Returns the program with the commands that make no table of a program.
 fn text_commands<'a>(alloc: Global) -> Result<Command<'a>, AllocError>
     ensures { IfOk result (λ line. app_of line ≡ line_of text_commands) }
 {
-    program(alloc)?
-        .subcommand(check(alloc)?)?
-        .subcommand(print(alloc))
+    with_command(program(alloc)?, check(alloc))?.subcommand(print(alloc))
+}
+
+// Returns the program with one more command. Fails if the command could not be made.
+fn with_command<'a>(
+    line: Command<'a>,
+    command: Result<Command<'a>, AllocError>,
+) -> Result<Command<'a>, AllocError>
+    ensures { IfOk result (λ longer. IsOkAnd command.entry (λ command. AddsSubcommand line.entry command longer)) }
+{
+    line.subcommand(command?)
 }
 
 // Returns the program without its commands.
