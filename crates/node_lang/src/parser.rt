@@ -211,7 +211,6 @@ impl<'a> Parser<'a> {
     }
 
     // Parses the header, up to and including `start`.
-    #[tactic(auto, using(crate::proofs::Parsing::header_is))]
     fn header(&mut self) -> Result<Header, TextFault>
         ensures { Gives (λ h. record { rounds = h.rounds; channels = h.channels; registers = h.registers }) self.old self.new result header }
     {
@@ -275,7 +274,6 @@ impl<'a> Parser<'a> {
         self.expr(MAX_DEPTH)
     }
 
-    #[tactic(auto, using(crate::proofs::Parsing::round_is))]
     fn round(&mut self, registers: u32) -> Result<Round, TextFault>
         ensures { Gives step_of self.old self.new result (round registers) }
     {
