@@ -2,7 +2,7 @@ ghost use Rattle.std.specs.Prelude.{◌≡◌, ◌++◌, length, map, IfOk, IfEr
 ghost use Rattle.std.specs.List.{flat_map};
 ghost use Rattle.node_lang.specs.declared.fault.FaultKind.TheVariants as kind;
 ghost use Rattle.node_program.specs.Term.{step_of, term_of};
-ghost use Rattle.node_lang.specs.Printed.{printed_expression, assignment_line, assignment_lines, send_line, round_lines, printed};
+ghost use Rattle.node_lang.specs.Printed.{printed_expression, assignment_line, assignment_lines, header_lines, send_line, round_lines, printed};
 
 use crate::fault::TextFault;
 use crate::words::operation_name;
@@ -93,8 +93,9 @@ fn write_rounds(text: &mut String, rounds: &[Round]) -> Result<(), AllocError>
     Ok(())
 }
 
-fn write_program(text: &mut String, program: &Program) -> Result<(), AllocError>
-    ensures { OnOk result (string_bytes text.new ≡ string_bytes text.old ++ printed program.now) }
+// Appends the lines of the header.
+fn write_header(text: &mut String, program: &Program) -> Result<(), AllocError>
+    ensures { OnOk result (string_bytes text.new ≡ string_bytes text.old ++ header_lines program.now) }
 {
     let rounds = program.rounds();
     let channels = program.channels();
@@ -102,7 +103,13 @@ fn write_program(text: &mut String, program: &Program) -> Result<(), AllocError>
     write!(
         text,
         "rounds {rounds}\nchannels {channels}\nregisters {registers}\nstart\n"
-    )?;
+    )
+}
+
+fn write_program(text: &mut String, program: &Program) -> Result<(), AllocError>
+    ensures { OnOk result (string_bytes text.new ≡ string_bytes text.old ++ printed program.now) }
+{
+    write_header(text, program)?;
     write_assignments(text, program.start())?;
     write_rounds(text, program.steps())?;
     text.push_str("finish ")?;
