@@ -80,11 +80,20 @@ fn puts_and_takes<L: Ledger, M: Ledger, R: Print + Wait>(
     let Ok((border, mut right, mut left)) = Border::<Note, L, M>::new(alloc, right, left) else {
         return Ok(Outcome::NotMade);
     };
-    exchange(rt, &border, &mut right, &mut left)?;
+    exchange_and_close(rt, &border, &mut right, &mut left)?;
+    settle(rt, border, right, left)
+}
+
+// Puts and takes on a border before it is closed and after that.
+fn exchange_and_close<L: Ledger, M: Ledger, R: Print + Wait>(
+    rt: &R,
+    border: &Border<Note, L, M>,
+    right: &mut Seat<L, M>,
+    left: &mut Seat<L, M>,
+) -> Result<(), Miss> {
+    exchange(rt, border, right, left)?;
     border.close(rt);
-    use_closed_border(rt, &border, &mut right)?;
-    settle(rt, border, right, left)?;
-    Ok(Outcome::Told)
+    use_closed_border(rt, border, right)
 }
 
 // Puts messages from both sides, two of them out of turn, and takes those of the first round.
@@ -126,11 +135,20 @@ fn eight_puts<L: Ledger, M: Ledger, R: Print + Wait>(
     let Ok((border, mut right, left)) = Border::<Note, L, M>::new(alloc, right, left) else {
         return Ok(Outcome::NotMade);
     };
+    put_eight(rt, &border, &mut right)?;
+    settle(rt, border, right, left)
+}
+
+// Puts eight messages to the right.
+fn put_eight<L: Ledger, M: Ledger, R: Print + Wait>(
+    rt: &R,
+    border: &Border<Note, L, M>,
+    right: &mut Seat<L, M>,
+) -> Result<(), Miss> {
     for round in 0..8 {
-        put(rt, &border, &mut right, to_the_right(round, round))?;
+        put(rt, border, right, to_the_right(round, round))?;
     }
-    settle(rt, border, right, left)?;
-    Ok(Outcome::Told)
+    Ok(())
 }
 
 // Puts a message, and prints the result. If memory was refused, puts the returned message a second
@@ -181,7 +199,7 @@ fn settle<L: Ledger, M: Ledger, R: Print>(
     border: Border<Note, L, M>,
     right: Seat<L, M>,
     left: Seat<L, M>,
-) -> Result<(), Miss>
+) -> Result<Outcome, Miss>
     requires { (L.parts ≡ 1) × (M.parts ≡ 1) }
 {
     if right.side() != Side::Rightward || left.side() != Side::Leftward {
@@ -191,12 +209,12 @@ fn settle<L: Ledger, M: Ledger, R: Print>(
 }
 
 // Prints the numbers of messages to the right and to the left, then their values in that order.
-fn tell_totals<R: Print>(rt: &R, totals: &Totals<Note>) -> Result<(), Miss> {
+fn tell_totals<R: Print>(rt: &R, totals: &Totals<Note>) -> Result<Outcome, Miss> {
     println!(rt; "{} {}", totals.rightward.len(), totals.leftward.len())?;
     for note in totals.rightward.iter().chain(totals.leftward.iter()) {
         println!(rt; "{}", note.value)?;
     }
-    Ok(())
+    Ok(Outcome::Told)
 }
 
 // Returns a message to the right of this round.

@@ -1,5 +1,5 @@
-ghost use Rattle.std.specs.Prelude.{◌≡◌, [], All, IfOk, OnOk};
-ghost use Rattle.shared_memo.specs.Tickets.{drawn, told, tickets_of, IsTicketOf};
+ghost use Rattle.std.specs.Prelude.{◌≡◌, ◌≤◌, All, IfOk, OnOk};
+ghost use Rattle.shared_memo.specs.Tickets.{told, tickets_of, IsTicketOf, IsFreshTicketOf};
 
 use crate::miss::Miss;
 use crate::tell::{other_call, retried, value_or_refusal};
@@ -9,13 +9,32 @@ use std::alloc::Global;
 /// `Desk::new`: prints the results of two tickets that draw three numbers in turn, and of one at a
 /// desk without numbers.
 pub(crate) fn do_desk<R: AllocGlobal + Print>(rt: &R) -> Result<(), Miss> {
-    let (desk, tickets) = match value_or_refusal(rt, Desk::new(rt.alloc(), 3, 2))? {
-        Some(made) => made,
-        None => retried(Desk::new(rt.alloc(), 3, 2))?,
-    };
-    let (b, a) = two_tickets(&desk, tickets)?;
-    tell_draws(rt, desk, a, b)?;
+    do_full_desk(rt)?;
     do_empty_desk(rt)
+}
+
+// Draws with two tickets at a desk of three numbers.
+fn do_full_desk<R: AllocGlobal + Print>(rt: &R) -> Result<(), Miss> {
+    let (desk, tickets) = desk_of(rt, 3, 2)?;
+    let (b, a) = two_tickets(&desk, tickets)?;
+    tell_draws(rt, desk, a, b)
+}
+
+// Returns a desk with this many numbers and tickets.
+fn desk_of<R: AllocGlobal + Print>(
+    rt: &R,
+    total: u32,
+    tickets: u32,
+) -> Result<(Desk, Vec<Ticket>), Miss>
+    requires total { total ≤ 3 }
+    requires tickets { (1 ≤ tickets) × (tickets ≤ 2) }
+    ensures count { IfOk result (λ r. tickets_of r.0 ≡ tickets) }
+    ensures fresh { IfOk result (λ r. All (IsFreshTicketOf r.0) r.1.items) }
+{
+    match value_or_refusal(rt, Desk::new(rt.alloc(), total, tickets))? {
+        Some(made) => Ok(made),
+        None => retried(Desk::new(rt.alloc(), total, tickets)),
+    }
 }
 
 // Draws with two tickets until both are told that all numbers are drawn, and closes the desk.
@@ -29,10 +48,21 @@ fn tell_draws<R: AllocGlobal + Print>(
     requires a { IsTicketOf desk a × (told a ≡ 0) }
     requires b { IsTicketOf desk b × (told b ≡ 0) }
 {
-    let [first, second, third] = draw_three(&desk, &mut a, &mut b)?;
-    let of_b = desk.draw(&mut b);
-    let of_a = desk.draw(&mut a);
+    let drawn = draw_three(&desk, &mut a, &mut b)?;
+    let told = (desk.draw(&mut b), desk.draw(&mut a));
     let count = close_of_two(rt.alloc(), desk, a, b)?;
+    tell_desk_of_two(rt, drawn, told, count)
+}
+
+// Prints three numbers, what two tickets are told then, and how many numbers were drawn.
+fn tell_desk_of_two<R: Print>(
+    rt: &R,
+    drawn: [u32; 3],
+    told: (Option<u32>, Option<u32>),
+    count: u32,
+) -> Result<(), Miss> {
+    let [first, second, third] = drawn;
+    let (of_b, of_a) = told;
     println!(rt; "{first} {second} {third} {of_b:?} {of_a:?} {count}")?;
     Ok(())
 }
@@ -64,7 +94,7 @@ fn close_of_two(alloc: Global, desk: Desk, a: Ticket, b: Ticket) -> Result<u32, 
 
 // Removes the last two tickets, and drops the list.
 fn two_tickets(desk: &Desk, mut tickets: Vec<Ticket>) -> Result<(Ticket, Ticket), Miss>
-    requires { All (λ t. IsTicketOf desk.now t × (drawn t ≡ []) × (told t ≡ 0)) tickets.items }
+    requires { All (IsFreshTicketOf desk.now) tickets.items }
     ensures last { IfOk result (λ pair. IsTicketOf desk.now pair.0 × (told pair.0 ≡ 0)) }
     ensures before { IfOk result (λ pair. IsTicketOf desk.now pair.1 × (told pair.1 ≡ 0)) }
 {
@@ -75,23 +105,28 @@ fn two_tickets(desk: &Desk, mut tickets: Vec<Ticket>) -> Result<(Ticket, Ticket)
 
 // Draws with one ticket at a desk without numbers.
 fn do_empty_desk<R: AllocGlobal + Print>(rt: &R) -> Result<(), Miss> {
-    let (desk, mut tickets) = match value_or_refusal(rt, Desk::new(rt.alloc(), 0, 1))? {
-        Some(made) => made,
-        None => retried(Desk::new(rt.alloc(), 0, 1))?,
-    };
-    let mut ticket = pop_ticket(&desk, &mut tickets)?;
-    let found = desk.draw(&mut ticket);
-    let mut back = Vec::new(rt.alloc());
-    other_call(back.push(ticket))?;
-    let count = desk.close(back);
+    let (desk, mut tickets) = desk_of(rt, 0, 1)?;
+    let ticket = pop_ticket(&desk, &mut tickets)?;
+    let (found, count) = draw_and_close(rt.alloc(), desk, ticket)?;
     println!(rt; "{found:?} {count}")?;
     Ok(())
 }
 
+// Draws with the only ticket of a desk, and closes the desk.
+fn draw_and_close(alloc: Global, desk: Desk, mut ticket: Ticket) -> Result<(Option<u32>, u32), Miss>
+    requires count { tickets_of desk ≡ 1 }
+    requires ticket { IsTicketOf desk ticket × (told ticket ≡ 0) }
+{
+    let found = desk.draw(&mut ticket);
+    let mut back = Vec::new(alloc);
+    other_call(back.push(ticket))?;
+    Ok((found, desk.close(back)))
+}
+
 // Removes the last ticket.
 fn pop_ticket(desk: &Desk, tickets: &mut Vec<Ticket>) -> Result<Ticket, Miss>
-    requires { All (λ t. IsTicketOf desk.now t × (drawn t ≡ []) × (told t ≡ 0)) tickets.old.items }
-    ensures rest { All (λ t. IsTicketOf desk.now t × (drawn t ≡ []) × (told t ≡ 0)) tickets.new.items }
+    requires { All (IsFreshTicketOf desk.now) tickets.old.items }
+    ensures rest { All (IsFreshTicketOf desk.now) tickets.new.items }
     ensures ticket { IfOk result (λ t. IsTicketOf desk.now t × (told t ≡ 0)) }
 {
     tickets.pop().ok_or(Miss::Wrong)

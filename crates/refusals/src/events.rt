@@ -32,8 +32,13 @@ const FULL: [FillEvent; 4] = [
 /// whether worker 1 knows the first block.
 pub(crate) fn do_fill_replay<R: AllocGlobal + Print>(rt: &R) -> Result<(), Miss> {
     let plan = plan_of(rt.alloc(), CV1, 8)?;
-    tell_after(rt, &plan, &FILLED)?;
-    tell_after(rt, &plan, &FULL)
+    tell_after_both(rt, &plan)
+}
+
+// Prints two workers and the cells after each list.
+fn tell_after_both<R: AllocGlobal + Print>(rt: &R, plan: &Plan) -> Result<(), Miss> {
+    tell_after(rt, plan, &FILLED)?;
+    tell_after(rt, plan, &FULL)
 }
 
 // Prints two workers and the cells after these events.
@@ -42,7 +47,8 @@ fn tell_after<R: AllocGlobal + Print>(
     plan: &Plan,
     events: &[FillEvent],
 ) -> Result<(), Miss> {
-    tell_world(rt, &after(rt, plan, events)?)
+    let world = after(rt, plan, events)?;
+    tell_world(rt, &world)
 }
 
 // Returns two workers after these events.

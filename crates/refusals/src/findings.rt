@@ -2,15 +2,18 @@ ghost use Rattle.std.specs.Prelude.{◌≡◌, length};
 
 use crate::miss::Miss;
 use crate::plans::{plan_of, ring_for};
-use crate::tell::{retried, tell_numbers, value_or_refusal};
-use crate::verdicts::{NEIGHBOURS_DIFFER, tell_verdict};
+use crate::tell::{retried, tell, tell_numbers, value_or_refusal};
 use headline::{Findings, FindingsFault, compile_run_and_judge};
 use lang_check::Plan;
+use nbhd_check::{Separation, Verdict};
 use round_eval::OpenGate;
 use std::sync::Wait;
 use std::thread::Threads;
 use test_programs::CV1;
 use win_index::Ring;
+
+/// Neighbours' channels have to differ, and nothing else is required.
+const NEIGHBOURS_DIFFER: Separation = Separation { near: 1, far: 0 };
 
 /// `compile_run_and_judge`: prints the channels of four places for a program for eight identifiers,
 /// and the verdict on its table, with these numbers of workers and segments.
@@ -19,16 +22,43 @@ pub(crate) fn do_findings<R: AllocGlobal + Print + Threads + Wait + Sync>(
     workers: u32,
     segments: u32,
 ) -> Result<(), Miss> {
-    let alloc = rt.alloc();
-    let plan = plan_of(alloc, CV1, 8)?;
-    let ring = ring_for(alloc, &plan, &[5, 1, 3, 7])?;
-    tell_findings(rt, &findings_of(rt, &plan, &ring, workers, segments)?)
+    let plan = plan_of(rt.alloc(), CV1, 8)?;
+    tell_run(rt, &plan, workers, segments)
 }
 
-// Prints the channels and the verdict.
+// Prints the findings of a plan and a ring of four places.
+fn tell_run<R: AllocGlobal + Print + Threads + Wait + Sync>(
+    rt: &R,
+    plan: &Plan,
+    workers: u32,
+    segments: u32,
+) -> Result<(), Miss> {
+    let ring = ring_for(rt.alloc(), plan, &[5, 1, 3, 7])?;
+    tell_findings_of(rt, plan, &ring, workers, segments)
+}
+
+// Prints the findings of a plan and a ring.
+fn tell_findings_of<R: AllocGlobal + Print + Threads + Wait + Sync>(
+    rt: &R,
+    plan: &Plan,
+    ring: &Ring,
+    workers: u32,
+    segments: u32,
+) -> Result<(), Miss>
+    requires ids { ring.now.ids ≡ plan.now.ids }
+    requires rounds { ring.now.rounds ≡ length plan.now.program.steps }
+{
+    let findings = findings_of(rt, plan, ring, workers, segments)?;
+    tell_findings(rt, &findings)
+}
+
+// Prints the channels and the verdict, which is yes.
 fn tell_findings<R: Print>(rt: &R, findings: &Findings) -> Result<(), Miss> {
+    if findings.verdict != Verdict::Yes {
+        return Err(Miss::Wrong);
+    }
     tell_numbers(rt, &findings.channels)?;
-    tell_verdict(rt, &findings.verdict)
+    tell(rt, "yes")
 }
 
 // Returns the findings of a plan and a ring.

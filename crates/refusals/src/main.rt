@@ -9,25 +9,20 @@
 
 mod blocks;
 mod borders;
-mod code;
 mod desks;
 mod events;
 mod findings;
-mod input;
 mod language;
-mod memos;
 mod messages;
 mod miss;
 mod plans;
 mod refusal;
-mod report;
 mod rounds;
 mod rows;
 mod segments;
 mod tables;
 mod tell;
 mod texts;
-mod verdicts;
 mod words;
 
 use miss::Miss;

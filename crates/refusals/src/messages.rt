@@ -18,10 +18,33 @@ pub(crate) fn do_run<R: AllocGlobal + Print + Threads + Wait + Sync>(
     ids: &[u32],
     segments: u32,
 ) -> Result<(), Miss> {
-    let alloc = rt.alloc();
-    let plan = plan_of(alloc, text, 8)?;
-    let ring = ring_for(alloc, &plan, ids)?;
-    tell_numbers(rt, &channels_of(rt, &plan, &ring, segments)?)
+    let plan = plan_of(rt.alloc(), text, 8)?;
+    tell_run(rt, &plan, ids, segments)
+}
+
+// Prints the channels of a ring of these identifiers for a plan.
+fn tell_run<R: AllocGlobal + Print + Threads + Wait + Sync>(
+    rt: &R,
+    plan: &Plan,
+    ids: &[u32],
+    segments: u32,
+) -> Result<(), Miss> {
+    let ring = ring_for(rt.alloc(), plan, ids)?;
+    tell_channels(rt, plan, &ring, segments)
+}
+
+// Prints the channels of a ring in `segments` segments.
+fn tell_channels<R: AllocGlobal + Print + Threads + Wait + Sync>(
+    rt: &R,
+    plan: &Plan,
+    ring: &Ring,
+    segments: u32,
+) -> Result<(), Miss>
+    requires ids { ring.now.ids ≡ plan.now.ids }
+    requires rounds { ring.now.rounds ≡ length plan.now.program.steps }
+{
+    let channels = channels_of(rt, plan, ring, segments)?;
+    tell_numbers(rt, &channels)
 }
 
 // Returns the channels of a ring in `segments` segments.

@@ -1,11 +1,7 @@
-use devices::fault::{EngineFault, OutFault};
 use headline::FindingsFault;
 use node_lang::{FaultKind, OutOfMemory, TextFault};
 use ring_exec::RunFault;
-use std::alloc::AllocError;
 use table_fill::FillFault;
-use table_text::TableFault;
-use task_words::words::WordsFault;
 use unroll::MakeFault;
 
 /// A fault of a call, which can be a refusal of memory or of a thread.
@@ -15,12 +11,6 @@ pub(crate) trait Refusal {
 }
 
 impl Refusal for OutOfMemory {
-    fn name(&self) -> Option<&'static str> {
-        Some("OutOfMemory")
-    }
-}
-
-impl Refusal for AllocError {
     fn name(&self) -> Option<&'static str> {
         Some("OutOfMemory")
     }
@@ -70,43 +60,6 @@ impl Refusal for FindingsFault {
             FindingsFault::Table(fault) => fault.name(),
             FindingsFault::Run(fault) => fault.name(),
             FindingsFault::OutOfMemory => Some("OutOfMemory"),
-        }
-    }
-}
-
-impl Refusal for WordsFault {
-    fn name(&self) -> Option<&'static str> {
-        match self {
-            WordsFault::OutOfMemory => Some("OutOfMemory"),
-            WordsFault::Usage(_) | WordsFault::BadRing | WordsFault::Help(_) => None,
-        }
-    }
-}
-
-impl Refusal for TableFault {
-    fn name(&self) -> Option<&'static str> {
-        match self {
-            TableFault::OutOfMemory => Some("OutOfMemory"),
-            _ => None,
-        }
-    }
-}
-
-impl Refusal for OutFault {
-    fn name(&self) -> Option<&'static str> {
-        match self {
-            OutFault::Memory => Some("Memory"),
-            OutFault::Write => None,
-        }
-    }
-}
-
-impl Refusal for EngineFault {
-    fn name(&self) -> Option<&'static str> {
-        match self {
-            EngineFault::Memory => Some("Memory"),
-            EngineFault::Thread => Some("Thread"),
-            EngineFault::Read | EngineFault::Write | EngineFault::Stranger => None,
         }
     }
 }

@@ -4,7 +4,7 @@ use crate::miss::Miss;
 use crate::plans::{plan_of, ring_for};
 use crate::tell::{retried, tell_numbers, value_or_refusal};
 use lang_check::Plan;
-use ring_core::{RingEvent, Segment, World, replay};
+use ring_core::{RingEvent, World, replay};
 use test_programs::CV1;
 use win_index::Ring;
 
@@ -20,52 +20,27 @@ const EVENTS: [RingEvent; 8] = [
     RingEvent::Advance(1),
 ];
 
-/// `Segment::new`: prints the registers of the first of two segments, and the values that it sends
-/// to the right and to the left.
-pub(crate) fn do_segment<R: AllocGlobal + Print>(rt: &R) -> Result<(), Miss> {
-    let alloc = rt.alloc();
-    let plan = plan_of(alloc, CV1, 8)?;
-    let ring = ring_for(alloc, &plan, &[5, 1, 3, 7])?;
-    tell_segment(rt, &first_segment(rt, &plan, &ring)?)
-}
-
-// Prints the registers of a segment, and the values that it sends in the first round.
-fn tell_segment<R: Print>(rt: &R, segment: &Segment<'_>) -> Result<(), Miss>
-    requires { segment.now.round ≡ 0 }
-{
-    tell_numbers(rt, segment.states())?;
-    if segment.rounds() != 1 {
-        return Err(Miss::Wrong);
-    }
-    let (right, left) = segment.outgoing();
-    tell_numbers(rt, &[right.value(), left.value()])
-}
-
-// Returns the first of two segments.
-fn first_segment<'a, R: AllocGlobal + Print>(
-    rt: &R,
-    plan: &'a Plan,
-    ring: &'a Ring,
-) -> Result<Segment<'a>, Miss>
-    requires ids { ring.now.ids ≡ plan.now.ids }
-    requires rounds { ring.now.rounds ≡ length plan.now.program.steps }
-    requires places { 2 ≤ length ring.now.places }
-    ensures { IfOk result (λ segment. segment.round ≡ 0) }
-{
-    match value_or_refusal(rt, Segment::new(rt.alloc(), plan, ring, 2, 0))? {
-        Some(segment) => Ok(segment),
-        None => retried(Segment::new(rt.alloc(), plan, ring, 2, 0)),
-    }
-}
-
 /// `ring_core::replay`: prints the rounds and the registers of both segments after seven events and
 /// after one more.
 pub(crate) fn do_ring_replay<R: AllocGlobal + Print>(rt: &R) -> Result<(), Miss> {
-    let alloc = rt.alloc();
-    let plan = plan_of(alloc, CV1, 8)?;
-    let ring = ring_for(alloc, &plan, &[5, 1, 3, 7])?;
-    tell_after(rt, &plan, &ring, &EVENTS[..7])?;
-    tell_after(rt, &plan, &ring, &EVENTS)
+    let plan = plan_of(rt.alloc(), CV1, 8)?;
+    tell_ring(rt, &plan)
+}
+
+// Prints both segments of a ring of four places after these events.
+fn tell_ring<R: AllocGlobal + Print>(rt: &R, plan: &Plan) -> Result<(), Miss> {
+    let ring = ring_for(rt.alloc(), plan, &[5, 1, 3, 7])?;
+    tell_after_both(rt, plan, &ring)
+}
+
+// Prints two segments after seven events and after one more.
+fn tell_after_both<R: AllocGlobal + Print>(rt: &R, plan: &Plan, ring: &Ring) -> Result<(), Miss>
+    requires ids { ring.now.ids ≡ plan.now.ids }
+    requires rounds { ring.now.rounds ≡ length plan.now.program.steps }
+    requires places { 2 ≤ length ring.now.places }
+{
+    tell_after(rt, plan, ring, &EVENTS[..7])?;
+    tell_after(rt, plan, ring, &EVENTS)
 }
 
 // Prints two segments after these events.
@@ -79,7 +54,8 @@ fn tell_after<R: AllocGlobal + Print>(
     requires rounds { ring.now.rounds ≡ length plan.now.program.steps }
     requires places { 2 ≤ length ring.now.places }
 {
-    tell_world(rt, &after(rt, plan, ring, events)?)
+    let world = after(rt, plan, ring, events)?;
+    tell_world(rt, &world)
 }
 
 // Returns two segments after these events.

@@ -1,14 +1,8 @@
 use crate::miss::Miss;
-use crate::tables::table_of;
-use crate::tell::{retried, tell_numbers, value_or_refusal};
+use crate::tell::{tell, tell_numbers};
 use channel_tables::Table;
-use devices::watched::Watched;
 use nbhd_check::Separation;
-use std::io;
-use std::sync::Wait;
-use std::thread::Threads;
-use table_text::{TableFault, read_table, write_table};
-use test_programs::ID0;
+use table_text::{TableFault, read_table};
 
 /// The text of the table of two identifiers that gives each itself as its channel.
 const TABLE: &[u8] = b"nbhd-table 2\nrounds 0 ids 2 channels 2 near 2 far 1\n0 : 0\n1 : 1\nend\n";
@@ -19,48 +13,45 @@ const EXCHANGED: &[u8] = b"nbhd-table 1\nrounds 0 ids 2 channels 2\n1 : 1\n0 : 0
 /// A text of version 1 with a channel of 2.
 const OVER: &[u8] = b"nbhd-table 1\nrounds 0 ids 2 channels 2\n0 : 0\n1 : 2\nend\n";
 
-/// `write_table`: prints the text of the table of two identifiers.
-pub(crate) fn do_write_table<R: AllocGlobal + Print + Threads + Wait + Sync>(
-    rt: &R,
-) -> Result<(), Miss> {
-    let alloc = rt.alloc();
-    let table = table_of(rt, ID0, 2)?;
-    let separation = Separation { near: 1, far: 0 };
-    let mut writer = Watched::new(io::writer(rt));
-    if value_or_refusal(rt, write_table(alloc, &table, separation, &mut writer))?.is_none() {
-        let mut writer = Watched::new(io::writer(rt));
-        retried(write_table(alloc, &table, separation, &mut writer))?;
-    }
-    Ok(())
-}
-
 /// `read_table`: prints the numbers of rounds, identifiers and channels and the entries of the
 /// table of a text, near and far, and the faults of three other texts.
 pub(crate) fn do_read_table<R: AllocGlobal + Print>(rt: &R) -> Result<(), Miss> {
     for text in [TABLE, EXCHANGED, OVER, &TABLE[..66]] {
-        match read(rt, text)? {
-            Ok((table, separation)) => {
-                tell_table(rt, &table)?;
-                tell_numbers(rt, &[separation.near, separation.far])?;
-            }
-            Err(fault) => println!(rt; "{fault:?}")?,
-        }
+        tell_read(rt, text)?;
     }
     Ok(())
 }
 
-// Returns the table and the separation of a text, or its fault.
-fn read<R: AllocGlobal + Print>(
-    rt: &R,
-    text: &[u8],
-) -> Result<Result<(Table, Separation), TableFault>, Miss> {
+// Prints the table and the separation of a text, or its fault. Reads the text a second time if
+// memory was refused.
+fn tell_read<R: AllocGlobal + Print>(rt: &R, text: &[u8]) -> Result<(), Miss> {
     match read_table(rt.alloc(), text) {
         Err(TableFault::OutOfMemory) => {
-            println!(rt; "OutOfMemory")?;
-            Ok(read_table(rt.alloc(), text))
+            tell(rt, "OutOfMemory")?;
+            tell_answer(rt, &read_table(rt.alloc(), text))
         }
-        answer => Ok(answer),
+        answer => tell_answer(rt, &answer),
     }
+}
+
+// Prints the table and the separation of a text, or its fault.
+fn tell_answer<R: Print>(
+    rt: &R,
+    answer: &Result<(Table, Separation), TableFault>,
+) -> Result<(), Miss> {
+    match answer {
+        Ok((table, separation)) => {
+            tell_table(rt, table)?;
+            tell_numbers(rt, &[separation.near, separation.far])
+        }
+        Err(fault) => tell_fault(rt, *fault),
+    }
+}
+
+// Prints a fault.
+fn tell_fault<R: Print>(rt: &R, fault: TableFault) -> Result<(), Miss> {
+    println!(rt; "{fault:?}")?;
+    Ok(())
 }
 
 // Prints the numbers of rounds, identifiers and channels of a table, and its entries.

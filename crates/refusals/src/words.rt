@@ -17,16 +17,20 @@ pub(crate) fn do_ring_of<R: AllocGlobal + Print>(rt: &R) -> Result<(), Miss> {
 
 // Prints the identifiers of a ring text, or its fault.
 fn tell_ring<R: AllocGlobal + Print>(rt: &R, text: &str) -> Result<(), Miss> {
-    let answer = match ring_of(rt.alloc(), text) {
+    match ring_of(rt.alloc(), text) {
         Err(WordsFault::OutOfMemory) => {
             tell(rt, "OutOfMemory")?;
-            ring_of(rt.alloc(), text)
+            tell_ring_answer(rt, &ring_of(rt.alloc(), text))
         }
-        answer => answer,
-    };
+        answer => tell_ring_answer(rt, &answer),
+    }
+}
+
+// Prints the identifiers of a ring, or a fault.
+fn tell_ring_answer<R: Print>(rt: &R, answer: &Result<Vec<u32>, WordsFault>) -> Result<(), Miss> {
     match answer {
-        Ok(ring) => tell_numbers(rt, &ring),
-        Err(fault) => tell(rt, fault_name(&fault)),
+        Ok(ring) => tell_numbers(rt, ring),
+        Err(fault) => tell(rt, fault_name(fault)),
     }
 }
 
@@ -34,21 +38,30 @@ fn tell_ring<R: AllocGlobal + Print>(rt: &R, text: &str) -> Result<(), Miss> {
 /// of a table by no workers.
 pub(crate) fn do_task_of<R: AllocGlobal + Print>(rt: &R) -> Result<(), Miss> {
     for line in ["run --ids 8 --ring 5,1,3,7", "table --ids 8 --workers 0"] {
-        let words = words_of(rt.alloc(), line)?;
-        tell_task(rt, &words)?;
+        tell_task_of(rt, line)?;
     }
     Ok(())
 }
 
+// Prints the task of a line's words, or their fault.
+fn tell_task_of<R: AllocGlobal + Print>(rt: &R, line: &str) -> Result<(), Miss> {
+    let words = words_of(rt.alloc(), line)?;
+    tell_task(rt, &words)
+}
+
 // Prints the ring and the numbers of identifiers and segments of a run in words, or their fault.
 fn tell_task<R: AllocGlobal + Print>(rt: &R, words: &[String]) -> Result<(), Miss> {
-    let answer = match task_of(rt.alloc(), words) {
+    match task_of(rt.alloc(), words) {
         Err(WordsFault::OutOfMemory) => {
             tell(rt, "OutOfMemory")?;
-            task_of(rt.alloc(), words)
+            tell_task_answer(rt, &task_of(rt.alloc(), words))
         }
-        answer => answer,
-    };
+        answer => tell_task_answer(rt, &answer),
+    }
+}
+
+// Prints the ring and the numbers of identifiers and segments of a run, or a fault.
+fn tell_task_answer<R: Print>(rt: &R, answer: &Result<Task, WordsFault>) -> Result<(), Miss> {
     match answer {
         Ok(
             Task::Run {
@@ -57,11 +70,11 @@ fn tell_task<R: AllocGlobal + Print>(rt: &R, words: &[String]) -> Result<(), Mis
                 segments,
             },
         ) => {
-            tell_numbers(rt, &ring)?;
-            tell_numbers(rt, &[ids, segments])
+            tell_numbers(rt, ring)?;
+            tell_numbers(rt, &[*ids, *segments])
         }
         Ok(_) => Err(Miss::Wrong),
-        Err(fault) => tell(rt, fault_name(&fault)),
+        Err(fault) => tell(rt, fault_name(fault)),
     }
 }
 
@@ -84,10 +97,15 @@ pub(crate) fn do_words_fault<R: AllocGlobal + Print>(rt: &R) -> Result<(), Miss>
 fn words_of(alloc: Global, line: &str) -> Result<Vec<String>, Miss> {
     let mut words = Vec::new(alloc);
     for word in line.split(' ') {
-        let word = other_call(String::from_str(alloc, word))?;
-        other_call(words.push(word))?;
+        push_word(alloc, &mut words, word)?;
     }
     Ok(words)
+}
+
+// Appends a word.
+fn push_word(alloc: Global, words: &mut Vec<String>, word: &str) -> Result<(), Miss> {
+    let word = other_call(String::from_str(alloc, word))?;
+    other_call(words.push(word))
 }
 
 // Returns the name of a fault of words.
