@@ -1,26 +1,16 @@
 //! Tables that are filled by columns, compared with the states of single windows.
 
+use crate::filling::table_by;
 use channel_tables::Table;
 use lang_check::Plan;
 use node_lang::MAX_REGISTERS;
-use round_eval::{OpenGate, channel, width_of};
-use shared_memo::Memo;
+use round_eval::{channel, width_of};
 use std::alloc::Global;
 use std::sync::Wait;
-use std::test::Fail;
 use std::thread::Threads;
-use table_fill::compile;
 use test_programs::{CV1, EIGHT_REGISTERS, RED, TWO_REGISTERS, plan_of};
 use unroll::window_state;
 use win_index::MAX_WINDOW_LEN;
-
-/// Returns the table of a plan, filled by two workers.
-fn table_of<R: Threads + Wait + Sync>(rt: &R, alloc: Global, plan: &Plan) -> Result<Table, Fail> {
-    let memo = Memo::new(alloc, plan).ok().ok_or("a memo")?;
-    let mut pass = memo.pass(alloc).ok().ok_or("a pass")?;
-    let table = compile(rt, alloc, plan, &memo, &mut pass, 2, &OpenGate);
-    Ok(table.ok().ok_or("a table")?)
-}
 
 /// Returns whether the window with this number has the channel of its state after the rounds.
 fn has_its_channel(plan: &Plan, table: &Table, number: u32) -> bool {
@@ -38,19 +28,47 @@ fn has_its_channel(plan: &Plan, table: &Table, number: u32) -> bool {
     table.channel_at(window) == Some(channel(plan, state))
 }
 
-#[test]
-fn tables_have_the_channels_of_single_windows(rt: HostRuntime) -> Result<(), Fail> {
-    for (text, windows) in [
-        (CV1, 336),
-        (TWO_REGISTERS, 336),
-        (EIGHT_REGISTERS, 40_320),
-        (RED, 40_320),
-    ] {
-        let plan = plan_of(rt.alloc(), text, 8)?;
-        let table = table_of(&rt, rt.alloc(), &plan)?;
-        for number in 0..windows {
-            assert!(rt; has_its_channel(&plan, &table, number), "window {number}");
+/// Returns how many of the first windows have the channels of their states after the rounds.
+fn agreeing(plan: &Plan, table: &Table, windows: u32) -> u32 {
+    let mut agreeing = 0u32;
+    for number in 0..windows {
+        if has_its_channel(plan, table, number) {
+            agreeing = agreeing.saturating_add(1);
         }
     }
-    Ok(())
+    agreeing
+}
+
+/// Returns that number for the table of a plan, filled by two workers.
+fn agreeing_of_plan<R: Threads + Wait + Sync>(
+    rt: &R,
+    alloc: Global,
+    plan: &Plan,
+    windows: u32,
+) -> Option<u32> {
+    let table = table_by(rt, alloc, plan, 2)?;
+    Some(agreeing(plan, &table, windows))
+}
+
+/// Returns that number for a program and eight identifiers.
+fn agreeing_windows<R: Threads + Wait + Sync>(
+    rt: &R,
+    alloc: Global,
+    text: &[u8],
+    windows: u32,
+) -> Option<u32> {
+    let plan = plan_of(alloc, text, 8).ok()?;
+    agreeing_of_plan(rt, alloc, &plan, windows)
+}
+
+#[test]
+fn tables_have_the_channels_of_single_windows(rt: HostRuntime) {
+    let alloc = rt.alloc();
+    let found = [
+        agreeing_windows(&rt, alloc, CV1, 336),
+        agreeing_windows(&rt, alloc, TWO_REGISTERS, 336),
+        agreeing_windows(&rt, alloc, EIGHT_REGISTERS, 40_320),
+        agreeing_windows(&rt, alloc, RED, 40_320),
+    ];
+    assert!(rt; found == [Some(336), Some(336), Some(40_320), Some(40_320)]);
 }

@@ -1,12 +1,14 @@
 //! The findings on a program and a ring from one call.
 
-use headline::{FindingsFault, compile_run_and_judge};
+ghost use Rattle.std.specs.Prelude.{◌≡◌, length};
+
+use headline::{Findings, FindingsFault, compile_run_and_judge};
+use lang_check::Plan;
 use nbhd_check::{Separation, Verdict};
 use ring_exec::RunFault;
 use round_eval::OpenGate;
 use std::alloc::Global;
 use std::sync::Wait;
-use std::test::Fail;
 use std::thread::Threads;
 use table_fill::FillFault;
 use test_programs::{CV1, LDB, plan_of};
@@ -15,81 +17,125 @@ use win_index::Ring;
 // Neighbours' channels have to differ, and nothing else is required.
 const NEIGHBOURS_DIFFER: Separation = Separation { near: 1, far: 0 };
 
-// The findings: the table's channel around 7 5 1, the channels of the ring, and the judge's
-// verdict.
-#[derive(Debug, PartialEq, Eq, Drop)]
-struct Found {
-    around: Option<u32>,
-    channels: Vec<u32>,
-    verdict: Verdict,
-}
-
-// Returns the findings on a program of one round for 8 identifiers, on the ring 5 1 3 7.
-fn findings_of<R: Threads + Wait + Sync>(
-    rt: &R,
-    alloc: Global,
-    text: &[u8],
+// A call for a program of one round for 8 identifiers, on the ring 5 1 3 7, and its findings: the
+// table's channel around 7 5 1, the channels of the ring, and the ring, the places and the channels
+// of a no.
+#[derive(Clone, Copy)]
+struct Row<'a> {
+    text: &'a [u8],
     workers: u32,
     segments: u32,
-) -> Option<Result<Found, FindingsFault>> {
-    let plan = plan_of(alloc, text, 8).ok()?;
-    let ids = vec![in alloc; 5, 1, 3, 7].ok()?;
-    let ring = Ring::new(plan.shape(), ids).ok()?;
-    if plan.shape().rounds() != 1 || plan.shape().ids() != 8 {
-        return None;
+    around: u32,
+    channels: &'a [u32],
+    no: Option<(&'a [u32], (u32, u32), (u32, u32))>,
+}
+
+// Returns the ring of a no, its places and their channels.
+fn found_in(verdict: &Verdict) -> Option<(&[u32], (u32, u32), (u32, u32))> {
+    match verdict {
+        Verdict::Yes => None,
+        Verdict::No {
+            ring,
+            places,
+            channels,
+        } => Some((ring.as_slice(), *places, *channels)),
     }
-    Some(compile_run_and_judge(
+}
+
+// Returns whether findings are those of a row.
+fn are_of(found: &Findings, row: &Row<'_>) -> bool {
+    found.table.channel_at(&[7, 5, 1]) == Some(row.around)
+        && found.channels.as_slice() == row.channels
+        && found_in(&found.verdict) == row.no
+}
+
+// Returns whether the findings on a plan and a ring are those of a row, or their fault.
+fn found_on_ring<R: Threads + Wait + Sync>(
+    rt: &R,
+    alloc: Global,
+    plan: &Plan,
+    ring: &Ring,
+    row: &Row<'_>,
+) -> Result<bool, FindingsFault>
+    requires ids { ring.now.ids ≡ plan.now.ids }
+    requires rounds { ring.now.rounds ≡ length plan.now.program.steps }
+{
+    match compile_run_and_judge(
         rt,
         alloc,
-        &plan,
-        &ring,
+        plan,
+        ring,
         NEIGHBOURS_DIFFER,
+        row.workers,
+        row.segments,
+        &OpenGate,
+    ) {
+        Ok(found) => Ok(are_of(&found, row)),
+        Err(fault) => Err(fault),
+    }
+}
+
+// Returns the same for a plan.
+fn found_for_plan<R: Threads + Wait + Sync>(
+    rt: &R,
+    alloc: Global,
+    plan: &Plan,
+    row: &Row<'_>,
+) -> Option<Result<bool, FindingsFault>> {
+    let ids = [5, 1, 3, 7].to_vec(alloc).ok()?;
+    let ring = Ring::new(plan.shape(), ids).ok()?;
+    Some(found_on_ring(rt, alloc, plan, &ring, row))
+}
+
+// Returns whether the findings of a row's call are the row's, or their fault.
+fn found<R: Threads + Wait + Sync>(
+    rt: &R,
+    alloc: Global,
+    row: &Row<'_>,
+) -> Option<Result<bool, FindingsFault>> {
+    let plan = plan_of(alloc, row.text, 8).ok()?;
+    found_for_plan(rt, alloc, &plan, row)
+}
+
+// Returns the row of `CV1` for these numbers of workers and segments.
+fn row_of_cv1(workers: u32, segments: u32) -> Row<'static> {
+    Row {
+        text: CV1,
         workers,
         segments,
-        &OpenGate,
-    )
-    .map(|found| {
-        Found {
-            around: found.table.channel_at(&[7, 5, 1]),
-            channels: found.channels,
-            verdict: found.verdict,
-        }
-    }))
+        around: 2,
+        channels: &[2, 4, 3, 5],
+        no: None,
+    }
 }
 
 #[test]
-fn a_program_that_colours_every_ring(rt: HostRuntime) -> Result<(), Fail> {
-    let expected = Found {
-        around: Some(2),
-        channels: vec![in rt.alloc(); 2, 4, 3, 5].ok().ok_or("a list")?,
-        verdict: Verdict::Yes,
-    };
-    let found = findings_of(&rt, rt.alloc(), CV1, 2, 3);
-    assert!(rt; found == Some(Ok(expected)));
-    Ok(())
+fn a_program_that_colours_every_ring(rt: HostRuntime) {
+    assert!(rt; found(&rt, rt.alloc(), &row_of_cv1(2, 3)) == Some(Ok(true)));
 }
 
 #[test]
-fn a_program_that_does_not(rt: HostRuntime) -> Result<(), Fail> {
-    let ring = vec![in rt.alloc(); 0, 1, 2, 3].ok().ok_or("a list")?;
-    let expected = Found {
-        around: Some(1),
-        channels: vec![in rt.alloc(); 1, 2, 1, 2].ok().ok_or("a list")?,
-        verdict: Verdict::No {
-            ring,
-            places: (1, 2),
-            channels: (0, 0),
-        },
+fn a_program_that_does_not(rt: HostRuntime) {
+    let row = Row {
+        text: LDB,
+        workers: 1,
+        segments: 4,
+        around: 1,
+        channels: &[1, 2, 1, 2],
+        no: Some((&[0, 1, 2, 3], (1, 2), (0, 0))),
     };
-    let found = findings_of(&rt, rt.alloc(), LDB, 1, 4);
-    assert!(rt; found == Some(Ok(expected)));
-    Ok(())
+    assert!(rt; found(&rt, rt.alloc(), &row) == Some(Ok(true)));
 }
 
 #[test]
 fn numbers_out_of_range(rt: HostRuntime) {
-    let workers = FindingsFault::Table(FillFault::WorkersOutOfRange);
-    assert!(rt; findings_of(&rt, rt.alloc(), CV1, 65, 5) == Some(Err(workers)));
-    let segments = FindingsFault::Run(RunFault::SegmentsOutOfRange);
-    assert!(rt; findings_of(&rt, rt.alloc(), CV1, 64, 5) == Some(Err(segments)));
+    let faults = [
+        found(&rt, rt.alloc(), &row_of_cv1(65, 5)),
+        found(&rt, rt.alloc(), &row_of_cv1(64, 5)),
+    ];
+    let want = [
+        Some(Err(FindingsFault::Table(FillFault::WorkersOutOfRange))),
+        Some(Err(FindingsFault::Run(RunFault::SegmentsOutOfRange))),
+    ];
+    assert!(rt; faults == want);
 }

@@ -1,15 +1,16 @@
 //! What a gate sees of the workers of a table. `CV1` for 8 identifiers has three jobs: 0 is the
 //! block of level 0, which 1 and 2, the blocks of level 1, are made from.
 
+ghost use Rattle.shared_memo.specs.Passes.{IsPassOf};
+
 use crate::memo::maker_of;
 use lang_check::Plan;
 use round_eval::Gate;
-use shared_memo::Memo;
+use shared_memo::{Memo, Pass};
 use std::alloc::Global;
 use std::sync::Wait;
 use std::sync::atomic::AtomicU64;
 use std::sync::atomic::Ordering::SeqCst;
-use std::test::Fail;
 use std::thread::Threads;
 use table_fill::compile;
 use test_programs::{CV1, plan_of};
@@ -28,10 +29,17 @@ fn makers_by<R: Threads + Wait + Sync, G: Gate + Sync>(
 ) -> Option<[u32; 3]> {
     let mut pass = memo.pass(alloc).ok()?;
     compile(rt, alloc, memo.plan(), memo, &mut pass, workers, gate).ok()?;
+    three_makers(memo, &mut pass)
+}
+
+/// Returns the makers of the blocks of the first three jobs.
+fn three_makers<'a>(memo: &Memo<'a>, pass: &mut Pass<'a>) -> Option<[u32; 3]>
+    requires { IsPassOf memo.now pass.old }
+{
     Some([
-        maker_of(memo, &mut pass, 0)?,
-        maker_of(memo, &mut pass, 1)?,
-        maker_of(memo, &mut pass, 2)?,
+        maker_of(memo, pass, 0)?,
+        maker_of(memo, pass, 1)?,
+        maker_of(memo, pass, 2)?,
     ])
 }
 
@@ -121,18 +129,22 @@ fn seen_by_two<R: Threads + Wait + Sync>(rt: &R, alloc: Global, plan: &Plan) -> 
     Some(gate.seen(makers))
 }
 
+/// Compiles the table of `CV1` with two workers, one of which is held.
+fn seen_by_two_of_cv1<R: Threads + Wait + Sync>(rt: &R, alloc: Global) -> Option<Seen> {
+    let plan = plan_of(alloc, CV1, 8).ok()?;
+    seen_by_two(rt, alloc, &plan)
+}
+
 // While a worker is held with the block below, the other makes that block itself.
 #[test]
-fn a_worker_makes_a_missing_block_and_tries_again(rt: HostRuntime) -> Result<(), Fail> {
-    let plan = plan_of(rt.alloc(), CV1, 8)?;
+fn a_worker_makes_a_missing_block_and_tries_again(rt: HostRuntime) {
     let seen = Seen {
         late: false,
         times: [1; 3],
         entered: [1; 2],
         makers: [1; 3],
     };
-    assert!(rt; seen_by_two(&rt, rt.alloc(), &plan) == Some(seen));
-    Ok(())
+    assert!(rt; seen_by_two_of_cv1(&rt, rt.alloc()) == Some(seen));
 }
 
 /// Counts its calls, and those at which the cell of the job is still empty, and adds up the numbers
@@ -200,10 +212,17 @@ fn seen_alone<R: Threads + Wait + Sync>(
     Some((counts, makers))
 }
 
+/// Compiles the table of `CV1` with a single worker.
+fn seen_alone_of_cv1<R: Threads + Wait + Sync>(
+    rt: &R,
+    alloc: Global,
+) -> Option<([u64; 3], [u32; 3])> {
+    let plan = plan_of(alloc, CV1, 8).ok()?;
+    seen_alone(rt, alloc, &plan)
+}
+
 // A worker alone has the number 0.
 #[test]
-fn the_gate_is_told_before_a_job_is_done(rt: HostRuntime) -> Result<(), Fail> {
-    let plan = plan_of(rt.alloc(), CV1, 8)?;
-    assert!(rt; seen_alone(&rt, rt.alloc(), &plan) == Some(([3, 3, 0], [0; 3])));
-    Ok(())
+fn the_gate_is_told_before_a_job_is_done(rt: HostRuntime) {
+    assert!(rt; seen_alone_of_cv1(&rt, rt.alloc()) == Some(([3, 3, 0], [0; 3])));
 }

@@ -5,68 +5,68 @@ use std::alloc::Global;
 use std::io;
 use std::io::{ErrorKind, Read, Write};
 
-/// The calls of a device, counted from 1. The call with number `failing` fails, with an error of
-/// this kind.
-#[derive(Drop)]
-struct Calls {
-    made: usize,
+/// How a device works: it gives or takes at most `most` bytes per call, and the call with number
+/// `failing`, counted from 1, fails with an error of this kind.
+#[derive(Clone, Copy)]
+pub(crate) struct Pace {
+    most: usize,
     failing: usize,
     kind: ErrorKind,
 }
 
-impl Calls {
-    /// Counts a call. Fails if it is the one to fail.
-    fn count(&mut self) -> io::Result<()> {
-        self.made = self.made.saturating_add(1);
-        if self.made == self.failing {
+impl Pace {
+    /// Returns a pace at which no call fails.
+    pub(crate) fn of(most: usize) -> Pace {
+        Pace::failing_at(0, ErrorKind::Other, most)
+    }
+
+    /// Returns a pace at which only the call with this number fails.
+    pub(crate) fn failing_at(call: usize, kind: ErrorKind, most: usize) -> Pace {
+        Pace {
+            most,
+            failing: call,
+            kind,
+        }
+    }
+
+    /// Fails if this is the number of the call to fail.
+    fn check(self, call: usize) -> io::Result<()> {
+        if call == self.failing {
             return Err(io::Error::from(self.kind));
         }
         Ok(())
     }
 }
 
-/// A reader of a text that gives at most `most` bytes per call.
+/// A reader of a text.
 #[derive(Drop)]
 pub(crate) struct SlowReader<'a> {
     rest: &'a [u8],
-    most: usize,
-    calls: Calls,
+    pace: Pace,
+    calls: usize,
 }
 
 impl<'a> SlowReader<'a> {
-    /// Returns a reader of a text, no call of which fails.
-    pub(crate) fn new(text: &'a [u8], most: usize) -> SlowReader<'a> {
-        SlowReader::failing_at(0, ErrorKind::Other, text, most)
-    }
-
-    /// Returns a reader of a text. Only the call with this number fails.
-    pub(crate) fn failing_at(
-        call: usize,
-        kind: ErrorKind,
-        text: &'a [u8],
-        most: usize,
-    ) -> SlowReader<'a> {
+    /// Returns a reader of a text.
+    pub(crate) fn new(text: &'a [u8], pace: Pace) -> SlowReader<'a> {
         SlowReader {
             rest: text,
-            most,
-            calls: Calls {
-                made: 0,
-                failing: call,
-                kind,
-            },
+            pace,
+            calls: 0,
         }
     }
 
     /// Returns the number of calls.
     pub(crate) fn calls(&self) -> usize {
-        self.calls.made
+        self.calls
     }
 }
 
 impl<'a> Read for SlowReader<'a> {
     fn read(&mut self, buffer: &mut [u8]) -> io::Result<usize> {
-        self.calls.count()?;
-        let count = self.most.min(buffer.len()).min(self.rest.len());
+        self.calls = self.calls.saturating_add(1);
+        self.pace.check(self.calls)?;
+        let count = self.pace.most.min(buffer.len()).min(self.rest.len());
         let (given, rest) = self.rest.split_at(count);
         buffer[..count].copy_from_slice(given);
         self.rest = rest;
@@ -74,53 +74,40 @@ impl<'a> Read for SlowReader<'a> {
     }
 }
 
-/// A writer to memory that takes at most `most` bytes per call.
+/// A writer to memory.
 #[derive(Drop)]
 pub(crate) struct SlowWriter {
     taken: Vec<u8>,
-    most: usize,
-    calls: Calls,
+    pace: Pace,
+    calls: usize,
 }
 
 impl SlowWriter {
-    /// Returns a writer, no call of which fails.
-    pub(crate) fn new(alloc: Global, most: usize) -> SlowWriter {
-        SlowWriter::failing_at(0, ErrorKind::Other, alloc, most)
-    }
-
-    /// Returns a writer. Only the call with this number fails.
-    pub(crate) fn failing_at(
-        call: usize,
-        kind: ErrorKind,
-        alloc: Global,
-        most: usize,
-    ) -> SlowWriter {
+    /// Returns a writer.
+    pub(crate) fn new(alloc: Global, pace: Pace) -> SlowWriter {
         SlowWriter {
             taken: Vec::new(alloc),
-            most,
-            calls: Calls {
-                made: 0,
-                failing: call,
-                kind,
-            },
+            pace,
+            calls: 0,
         }
     }
 
     /// Returns the number of calls.
     pub(crate) fn calls(&self) -> usize {
-        self.calls.made
+        self.calls
     }
 
     /// Returns the bytes that it took.
-    pub(crate) fn into_taken(self) -> Vec<u8> {
-        self.taken
+    pub(crate) fn taken(&self) -> &[u8] {
+        &self.taken
     }
 }
 
 impl Write for SlowWriter {
     fn write(&mut self, bytes: &[u8]) -> io::Result<usize> {
-        self.calls.count()?;
-        let count = self.most.min(bytes.len());
+        self.calls = self.calls.saturating_add(1);
+        self.pace.check(self.calls)?;
+        let count = self.pace.most.min(bytes.len());
         self.taken.extend_from_slice(&bytes[..count])?;
         Ok(count)
     }

@@ -1,6 +1,6 @@
 //! Inputs that come a few bytes per call, and reads that fail.
 
-use crate::slow_devices::{SlowReader, SlowWriter};
+use crate::slow_devices::{Pace, SlowReader, SlowWriter};
 use plan_print::engine::engine;
 use plan_print::fault::EngineFault;
 use plan_print::input::read_input;
@@ -9,143 +9,211 @@ use plan_print::task::Task;
 use plan_print::watched::Watched;
 use std::alloc::Global;
 use std::io::ErrorKind;
-use std::process::Abort;
 use std::sync::Wait;
-use std::test::Fail;
 use std::thread::Threads;
 use test_programs::CV1;
 
 /// The report of the run in these tests.
 pub(crate) const REPORT: &[u8] = b"2 4 3 5\n";
 
-/// The outcome of a task: the engine's result, the numbers of reads and of writes, and the bytes
-/// written.
-#[derive(Drop)]
+/// The devices of a task, and the bytes that it is to write.
+#[derive(Clone, Copy)]
+pub(crate) struct Streams<'a> {
+    pub(crate) text: &'a [u8],
+    pub(crate) reader: Pace,
+    pub(crate) writer: Pace,
+    pub(crate) want: &'a [u8],
+}
+
+/// The outcome of a task: the engine's result, the numbers of reads and of writes, and whether the
+/// bytes that were to be written were written, and no others.
+#[derive(Clone, Copy, PartialEq, Eq)]
 pub(crate) struct Outcome {
     pub(crate) answer: Result<Status, EngineFault>,
     pub(crate) reads: usize,
     pub(crate) writes: usize,
-    pub(crate) taken: Vec<u8>,
+    pub(crate) as_wanted: bool,
 }
 
-/// Does a task with these devices.
-pub(crate) fn outcome_of<R: Abort + Threads + Wait + Sync>(
+/// Does a task with these devices. Returns the engine's result, the number of reads, and the
+/// writer.
+pub(crate) fn done<R: Threads + Wait + Sync>(
     rt: &R,
     alloc: Global,
     task: Task,
-    reader: SlowReader<'_>,
-    writer: SlowWriter,
-) -> Outcome {
-    assert!(rt; task.is_runnable());
-    let mut reader = Watched::new(reader);
-    let mut writer = Watched::new(writer);
-    let answer = engine(rt, alloc, task, &mut reader, &mut writer);
-    let writer = writer.into_device();
-    Outcome {
-        answer,
-        reads: reader.into_device().calls(),
-        writes: writer.calls(),
-        taken: writer.into_taken(),
+    streams: &Streams<'_>,
+) -> Option<(Result<Status, EngineFault>, usize, SlowWriter)> {
+    if !task.is_runnable() {
+        return None;
     }
+    let mut reader = Watched::new(SlowReader::new(streams.text, streams.reader));
+    let mut writer = Watched::new(SlowWriter::new(alloc, streams.writer));
+    let answer = engine(rt, alloc, task, &mut reader, &mut writer);
+    Some((answer, reader.into_device().calls(), writer.into_device()))
+}
+
+/// Does a task with these devices.
+pub(crate) fn outcome_of<R: Threads + Wait + Sync>(
+    rt: &R,
+    alloc: Global,
+    task: Task,
+    streams: &Streams<'_>,
+) -> Option<Outcome> {
+    let (answer, reads, writer) = done(rt, alloc, task, streams)?;
+    Some(Outcome {
+        answer,
+        reads,
+        writes: writer.calls(),
+        as_wanted: writer.taken() == streams.want,
+    })
 }
 
 /// Runs the program of one round on the ring 5 1 3 7 with these devices.
-pub(crate) fn outcome_of_run<R: Abort + Threads + Wait + Sync>(
+pub(crate) fn outcome_of_run<R: Threads + Wait + Sync>(
     rt: &R,
     alloc: Global,
-    reader: SlowReader<'_>,
-    writer: SlowWriter,
-) -> Result<Outcome, Fail> {
+    streams: &Streams<'_>,
+) -> Option<Outcome> {
+    let ring = [5, 1, 3, 7].to_vec(alloc).ok()?;
     let task = Task::Run {
         ids: 8,
-        ring: [5, 1, 3, 7].to_vec(alloc)?,
+        ring,
         segments: 1,
     };
-    Ok(outcome_of(rt, alloc, task, reader, writer))
+    outcome_of(rt, alloc, task, streams)
+}
+
+// Runs with a reader of this pace, and a writer that takes all bytes and is to take these.
+fn read_at<R: Threads + Wait + Sync>(
+    rt: &R,
+    alloc: Global,
+    reader: Pace,
+    want: &[u8],
+) -> Option<Outcome> {
+    let streams = Streams {
+        text: CV1,
+        reader,
+        writer: Pace::of(usize::MAX),
+        want,
+    };
+    outcome_of_run(rt, alloc, &streams)
 }
 
 #[test]
-fn an_input_of_single_bytes_has_the_same_report(rt: HostRuntime) -> Result<(), Fail> {
-    let reader = SlowReader::new(CV1, 1);
-    let writer = SlowWriter::new(rt.alloc(), usize::MAX);
-    let outcome = outcome_of_run(&rt, rt.alloc(), reader, writer)?;
-    assert!(rt; outcome.answer == Ok(Status::Done));
-    assert!(rt; outcome.taken.as_slice() == REPORT);
+fn an_input_of_single_bytes_has_the_same_report(rt: HostRuntime) {
+    let outcome = read_at(&rt, rt.alloc(), Pace::of(1), REPORT).expect(&rt, "an outcome");
     // One call for each byte, and one that finds the end.
-    assert!(rt; outcome.reads == CV1.len().saturating_add(1));
-    Ok(())
+    let reads = CV1.len().saturating_add(1);
+    let found = (outcome.answer, outcome.reads, outcome.as_wanted);
+    assert!(rt; found == (Ok(Status::Done), reads, true));
 }
 
 /// Runs with a reader that gives at most `most` bytes per call and fails at the call with this
-/// number. Checks that it is not called again, and that nothing is written.
-fn fails_at<R: Abort + Threads + Wait + Sync>(
+/// number. Returns whether it is not called again, and nothing is written.
+fn fails_at<R: Threads + Wait + Sync>(
     rt: &R,
     alloc: Global,
     call: usize,
     kind: ErrorKind,
     most: usize,
-) -> Result<(), Fail> {
-    let reader = SlowReader::failing_at(call, kind, CV1, most);
-    let writer = SlowWriter::new(alloc, usize::MAX);
-    let outcome = outcome_of_run(rt, alloc, reader, writer)?;
-    assert!(rt; outcome.answer == Err(EngineFault::Read), "call {call}");
-    assert!(rt; outcome.reads == call);
-    assert!(rt; outcome.writes == 0, "call {call}");
-    Ok(())
+) -> bool {
+    let want = Outcome {
+        answer: Err(EngineFault::Read),
+        reads: call,
+        writes: 0,
+        as_wanted: true,
+    };
+    read_at(rt, alloc, Pace::failing_at(call, kind, most), b"") == Some(want)
 }
 
-#[test]
-fn a_read_that_fails_at_each_call(rt: HostRuntime) -> Result<(), Fail> {
-    for most in [1, 10, usize::MAX] {
-        let reader = SlowReader::new(CV1, most);
-        let writer = SlowWriter::new(rt.alloc(), usize::MAX);
-        let calls = outcome_of_run(&rt, rt.alloc(), reader, writer)?.reads;
-        assert!(rt; calls >= 2);
-        for call in 1..calls.saturating_add(1) {
-            fails_at(&rt, rt.alloc(), call, ErrorKind::Interrupted, most)?;
-            fails_at(&rt, rt.alloc(), call, ErrorKind::Other, most)?;
-        }
+/// Returns whether a reader that gives at most `most` bytes per call is called twice at least, and
+/// can fail at each call.
+fn fails_at_each<R: Threads + Wait + Sync>(rt: &R, alloc: Global, most: usize) -> Option<bool> {
+    let calls = read_at(rt, alloc, Pace::of(most), REPORT)?.reads;
+    let mut fails = calls >= 2;
+    for call in 1..calls.saturating_add(1) {
+        fails = fails
+            && fails_at(rt, alloc, call, ErrorKind::Interrupted, most)
+            && fails_at(rt, alloc, call, ErrorKind::Other, most);
     }
-    assert!(rt; EngineFault::Read.code() == 5);
-    Ok(())
+    Some(fails)
 }
 
 #[test]
-fn a_long_input_is_read_in_one_call_more_than_its_limit(rt: HostRuntime) -> Result<(), Fail> {
-    let text = vec![in rt.alloc(); b' '; 100_000]?;
-    let reader = SlowReader::new(&text, 1);
-    let writer = SlowWriter::new(rt.alloc(), usize::MAX);
-    let task = Task::Check { ids: 8 };
-    let outcome = outcome_of(&rt, rt.alloc(), task, reader, writer);
-    assert!(rt; outcome.answer == Ok(Status::Refused));
-    assert!(rt; outcome.reads == 65_537);
-    assert!(rt; outcome.taken.as_slice() == b"text fault N1 at 65536\n".as_slice());
-    Ok(())
+fn a_read_that_fails_at_each_call(rt: HostRuntime) {
+    let alloc = rt.alloc();
+    let fails = [
+        fails_at_each(&rt, alloc, 1),
+        fails_at_each(&rt, alloc, 10),
+        fails_at_each(&rt, alloc, usize::MAX),
+    ];
+    assert!(rt; (fails, EngineFault::Read.code()) == ([Some(true); 3], 5));
+}
+
+/// Checks a program text of 100,000 blanks, which comes in single bytes.
+fn outcome_of_blanks<R: Threads + Wait + Sync>(rt: &R, alloc: Global) -> Option<Outcome> {
+    let text = vec![in alloc; b' '; 100_000].ok()?;
+    let streams = Streams {
+        text: &text,
+        reader: Pace::of(1),
+        writer: Pace::of(usize::MAX),
+        want: b"text fault N1 at 65536\n",
+    };
+    outcome_of(rt, alloc, Task::Check { ids: 8 }, &streams)
 }
 
 #[test]
-fn single_bytes_are_read_in_no_more_calls_than_bytes(rt: HostRuntime) -> Result<(), Fail> {
-    let mut reader = Watched::new(SlowReader::new(b"start", 1));
-    assert!(rt; read_input(rt.alloc(), &mut reader, 3)?.as_slice() == b"star".as_slice());
-    assert!(rt; reader.into_device().calls() == 4);
-    Ok(())
+fn a_long_input_is_read_in_one_call_more_than_its_limit(rt: HostRuntime) {
+    let outcome = outcome_of_blanks(&rt, rt.alloc()).expect(&rt, "an outcome");
+    let found = (outcome.answer, outcome.reads, outcome.as_wanted);
+    assert!(rt; found == (Ok(Status::Refused), 65_537, true));
+}
+
+// Reads single bytes up to a limit of 3. Returns whether one byte more was read, and the number of
+// calls.
+fn read_past_three(alloc: Global) -> Option<(bool, usize)> {
+    let mut reader = Watched::new(SlowReader::new(b"start", Pace::of(1)));
+    let input = read_input(alloc, &mut reader, 3).ok()?;
+    Some((
+        input.as_slice() == b"star".as_slice(),
+        reader.into_device().calls(),
+    ))
+}
+
+#[test]
+fn single_bytes_are_read_in_no_more_calls_than_bytes(rt: HostRuntime) {
+    assert!(rt; read_past_three(rt.alloc()) == Some((true, 4)));
+}
+
+// Reads twice into no room, with a reader that fails at the second call. Returns both results, and
+// whether a failure was noted at the end; `None` if it was noted before.
+fn read_into_no_room() -> Option<([Result<usize, EngineFault>; 2], bool)> {
+    let pace = Pace::failing_at(2, ErrorKind::Interrupted, 1);
+    let mut reader = Watched::new(SlowReader::new(b"start", pace));
+    let first = reader.read(&mut []);
+    if reader.failed() {
+        return None;
+    }
+    let second = reader.read(&mut []);
+    Some(([first, second], reader.failed()))
 }
 
 #[test]
 fn a_read_into_no_room_is_no_failure(rt: HostRuntime) {
-    let device = SlowReader::failing_at(2, ErrorKind::Interrupted, b"start", 1);
-    let mut reader = Watched::new(device);
-    assert!(rt; reader.read(&mut []) == Ok(0));
-    assert!(rt; !reader.failed());
-    assert!(rt; reader.read(&mut []) == Err(EngineFault::Read));
-    assert!(rt; reader.failed());
+    let answers = [Ok(0), Err(EngineFault::Read)];
+    assert!(rt; read_into_no_room() == Some((answers, true)));
+}
+
+// Reads with a reader that fails at the third call. Returns the fault, whether it was noted, and
+// the number of calls.
+fn failed_read(alloc: Global) -> (Option<EngineFault>, bool, usize) {
+    let pace = Pace::failing_at(3, ErrorKind::Interrupted, 1);
+    let mut reader = Watched::new(SlowReader::new(b"start", pace));
+    let fault = read_input(alloc, &mut reader, 3).err();
+    (fault, reader.failed(), reader.into_device().calls())
 }
 
 #[test]
 fn a_failed_read_is_the_fault_at_once(rt: HostRuntime) {
-    let device = SlowReader::failing_at(3, ErrorKind::Interrupted, b"start", 1);
-    let mut reader = Watched::new(device);
-    assert!(rt; read_input(rt.alloc(), &mut reader, 3).err() == Some(EngineFault::Read));
-    assert!(rt; reader.failed());
-    assert!(rt; reader.into_device().calls() == 3);
+    assert!(rt; failed_read(rt.alloc()) == (Some(EngineFault::Read), true, 3));
 }
