@@ -62,9 +62,9 @@ fn tell_desk_of_two<R: Print>(
     count: u32,
 ) -> Result<(), Miss> {
     let [first, second, third] = drawn;
-    let (of_b, of_a) = told;
-    println!(rt; "{first} {second} {third} {of_b:?} {of_a:?} {count}")?;
-    Ok(())
+    print!(rt; "{first} {second} {third} ")?;
+    print!(rt; "{:?} ", told.0)?;
+    tell_draw(rt, told.1, count)
 }
 
 // Draws a number with each of two tickets, and one more with the first.
@@ -105,11 +105,28 @@ fn two_tickets(desk: &Desk, mut tickets: Vec<Ticket>) -> Result<(Ticket, Ticket)
 
 // Draws with one ticket at a desk without numbers.
 fn do_empty_desk<R: AllocGlobal + Print>(rt: &R) -> Result<(), Miss> {
-    let (desk, mut tickets) = desk_of(rt, 0, 1)?;
-    let ticket = pop_ticket(&desk, &mut tickets)?;
-    let (found, count) = draw_and_close(rt.alloc(), desk, ticket)?;
+    let (desk, tickets) = desk_of(rt, 0, 1)?;
+    let (found, count) = draw_with_last(rt.alloc(), desk, tickets)?;
+    tell_draw(rt, found, count)
+}
+
+// Prints what a ticket drew, and how many numbers were drawn.
+fn tell_draw<R: Print>(rt: &R, found: Option<u32>, count: u32) -> Result<(), Miss> {
     println!(rt; "{found:?} {count}")?;
     Ok(())
+}
+
+// Draws with the last of these tickets, which is the desk's only one, and closes the desk.
+fn draw_with_last(
+    alloc: Global,
+    desk: Desk,
+    mut tickets: Vec<Ticket>,
+) -> Result<(Option<u32>, u32), Miss>
+    requires count { tickets_of desk ≡ 1 }
+    requires fresh { All (IsFreshTicketOf desk) tickets.items }
+{
+    let ticket = pop_ticket(&desk, &mut tickets)?;
+    draw_and_close(alloc, desk, ticket)
 }
 
 // Draws with the only ticket of a desk, and closes the desk.

@@ -1,6 +1,6 @@
 use crate::miss::Miss;
 use crate::plans::plan_of;
-use crate::tell::{retried, value_or_refusal};
+use crate::tell::{retried, tell, tell_numbers, value_or_refusal};
 use fill_core::{FillEvent, FillWorld, replay};
 use lang_check::Plan;
 use test_programs::CV1;
@@ -65,15 +65,30 @@ fn after<'a, R: AllocGlobal + Print>(
 
 // Prints the contents of the cells, and the workers.
 fn tell_world<R: Print>(rt: &R, world: &FillWorld<'_>) -> Result<(), Miss> {
-    for (level, number) in [(0, 0), (1, 0), (1, 1)] {
-        tell_maker(rt, maker(world, level, number))?;
-    }
-    println!(rt; "{}", world.next())?;
-    for worker in [0, 1] {
-        tell_worker(rt, world, worker)?;
-    }
-    println!(rt; "{}", world.knows(1, 0, 0))?;
-    Ok(())
+    tell_makers(rt, world)?;
+    tell_numbers(rt, &[world.next()])?;
+    tell_workers(rt, world)
+}
+
+// Prints the makers of the three blocks.
+fn tell_makers<R: Print>(rt: &R, world: &FillWorld<'_>) -> Result<(), Miss> {
+    tell_maker(rt, maker(world, 0, 0))?;
+    tell_maker(rt, maker(world, 1, 0))?;
+    tell_maker(rt, maker(world, 1, 1))
+}
+
+// Prints both workers, and whether worker 1 knows the first block.
+fn tell_workers<R: Print>(rt: &R, world: &FillWorld<'_>) -> Result<(), Miss> {
+    tell_worker(rt, world, 0)?;
+    tell_worker(rt, world, 1)?;
+    tell(
+        rt,
+        if world.knows(1, 0, 0) {
+            "true"
+        } else {
+            "false"
+        },
+    )
 }
 
 // Prints the maker of a block, if there is one.
