@@ -107,12 +107,13 @@ fn the_last_block_of_a_level(rt: HostRuntime) -> Result<(), Fail> {
     Ok(())
 }
 
+// The first window of block 26 of level 2 has number 6,656. Its first part has number 332, which is
+// in block 1.
 #[test]
 fn a_block_below_is_missing(rt: HostRuntime) -> Result<(), Fail> {
-    let plan = plan_of(rt.alloc(), RED, 8)?;
-    // The first window of block 26 of level 2 has number 6,656. Its first part has number 332,
-    // which is in block 1.
-    for (level, number, missing) in [(1, 0, 0), (2, 0, 0), (2, 26, 1)] {
+    let rows: [(&[u8], u32, u32, u32); 3] = [(CV1, 1, 0, 0), (RED, 2, 0, 0), (RED, 2, 26, 1)];
+    for (text, level, number, missing) in rows {
+        let plan = plan_of(rt.alloc(), text, 8)?;
         let fault = fault_without_blocks(rt.alloc(), &plan, level, number);
         assert!(rt; fault == Some(MakeFault::Missing(level - 1, missing)));
     }

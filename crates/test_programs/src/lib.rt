@@ -6,6 +6,4 @@ mod plans;
 mod texts;
 
 pub use plans::plan_of;
-pub use texts::{
-    CV1, CV1_OF_12, CV1_WITH_BLANKS, EIGHT_REGISTERS, ID0, LDB, RED, SHIFT4, TWO_REGISTERS,
-};
+pub use texts::{CV1, CV1_OF_12, EIGHT_REGISTERS, ID0, LDB, RED, TWO_REGISTERS};

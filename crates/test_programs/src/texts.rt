@@ -17,15 +17,6 @@ pub const ID0: &[u8] = b"rounds 0\nchannels 2\nregisters 1\nstart\nr0 = id\nfini
 pub const RED: &[u8] =
     b"rounds 3\nchannels 4\nregisters 1\nstart\nr0 = id\nround\nsend left 0\nsend right r0\nr0 = add(shl(ldb(r0, L), 1), bit(r0, ldb(r0, L)))\nround\nsend left r0\nsend right r0\nr0 = min(if(eq(r0, 5), if(and(ne(L, 0), ne(R, 0)), 0, if(and(ne(L, 1), ne(R, 1)), 1, 2)), r0), 4)\nround\nsend left r0\nsend right r0\nr0 = min(if(eq(r0, 4), if(and(ne(L, 0), ne(R, 0)), 0, if(and(ne(L, 1), ne(R, 1)), 1, 2)), r0), 3)\nfinish r0\n";
 
-/// `CV1` with each blank doubled, after a comment.
-pub const CV1_WITH_BLANKS: &[u8] =
-    b"# note\nrounds  1\nchannels  6\nregisters  1\nstart\nr0  =  id\nround\nsend  left  0\nsend  right  r0\nr0  =  add(shl(ldb(r0,  L),  1),  bit(r0,  ldb(r0,  L)))\nfinish  r0\n";
-
-/// Four rounds, in each of which a node takes its left neighbour's register. The channel is the
-/// identifier four places to the left.
-pub const SHIFT4: &[u8] =
-    b"rounds 4\nchannels 10\nregisters 1\nstart\nr0 = id\nround\nsend left 0\nsend right r0\nr0 = L\nround\nsend left 0\nsend right r0\nr0 = L\nround\nsend left 0\nsend right r0\nr0 = L\nround\nsend left 0\nsend right r0\nr0 = L\nfinish r0\n";
-
 /// Two registers, each computed from the other. The channel is the sum of the identifier and the
 /// left neighbour's.
 pub const TWO_REGISTERS: &[u8] =
