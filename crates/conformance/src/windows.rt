@@ -46,31 +46,31 @@ fn windows_of_eight_identifiers(rt: HostRuntime) -> Result<(), Fail> {
     Ok(())
 }
 
-// Whether a window of the last level has this state.
-fn has_state(plan: &Plan, window: &[u32], want: &[u32]) -> bool {
+// Whether the window of a level and a number has these identifiers and this state.
+fn has_state(plan: &Plan, level: u32, number: u32, identifiers: &[u32], want: &[u32]) -> bool {
     let shape = plan.shape();
-    if shape.number(shape.rounds(), window).is_none() || want.len() > 8 {
+    if level > 3 || level > shape.rounds() || number >= shape.count(level) {
         return false;
     }
-    if want.len() != plan.program().registers() as usize {
-        return false;
-    }
+    let mut cells = [0; 7];
+    let window = &mut cells[..2 * level as usize + 1];
+    shape.window(level, number, window);
     let mut registers = [0; 8];
-    let state = &mut registers[..want.len()];
+    let state = &mut registers[..plan.program().registers() as usize];
     window_state(plan, window, state);
-    *state == *want
+    *window == *identifiers && *state == *want
 }
 
 #[test]
 fn windows_have_their_states(rt: HostRuntime) -> Result<(), Fail> {
-    let rows: [(&[u8], &[u32], &[u32]); 3] = [
-        (CV1, &[7, 5, 1], &[2]),
-        (TWO_REGISTERS, &[7, 5, 1], &[0, 12]),
-        (RED, &[5, 1, 3, 7, 0, 2, 4], &[1]),
+    let rows: [(&[u8], u32, u32, &[u32], &[u32]); 3] = [
+        (CV1, 1, 325, &[7, 5, 1], &[2]),
+        (TWO_REGISTERS, 1, 325, &[7, 5, 1], &[0, 12]),
+        (RED, 3, 26_256, &[5, 1, 3, 7, 0, 2, 4], &[1]),
     ];
-    for (text, window, want) in rows {
+    for (text, level, number, identifiers, want) in rows {
         let plan = plan_of(rt.alloc(), text, 8)?;
-        assert!(rt; has_state(&plan, window, want));
+        assert!(rt; has_state(&plan, level, number, identifiers, want));
     }
     Ok(())
 }
