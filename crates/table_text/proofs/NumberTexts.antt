@@ -1,13 +1,10 @@
 -- Numbers in decimal, and the byte that ends them.
-use Rattle.std.proofs.Common.{◌≡◌, ◌≢◌, ℕ, zero, suc, ◌^◌, ◌<◌, true, false, nat_lt, ◌&&◌, ◌==◌, List, [], ◌∷◌, ◌++◌, length, get_or, drop, slice_index, refl, sym, ap, ◌∙◌, arith, Bool, not, cond, ◌+◌, take, subst}
+use Rattle.std.proofs.Common.{◌≡◌, ◌≢◌, ℕ, zero, suc, ◌^◌, ◌<◌, true, false, nat_lt, ◌&&◌, ◌==◌, List, [], ◌∷◌, ◌++◌, length, get_or, drop, slice_index, refl, sym, ap, ◌∙◌, arith}
 use Rattle.std.specs.Fmt.{decimal}
 use Rattle.std.specs.Int.{IsInRange}
 use Rattle.std.specs.Str.{IsUtf8}
 use Rattle.std.specs.Str.Parse.{AllDigits, IsNumeral, digits_value, without_leading_plus}
-use Rattle.std.specs.List.{prefix_len}
-use Rattle.std.proofs.lemmas.List.{take_all}
-use Rattle.std.proofs.lemmas.List.Sums.{split_at_first, passes_at_first}
-use Rattle.std.proofs.lemmas.Bool.{and_parts, eqb-true, eqb-false}
+use Rattle.std.proofs.lemmas.Bool.{and_parts, eqb-true}
 use Rattle.std.proofs.lemmas.Bool.Decides.{nat_tests}
 use Rattle.std.proofs.lemmas.Fmt.{decimal_is_IsNumeral, decimal_digit, first_decimal, IsAscii-decimal, decimal_injective, decimal-digits_value}
 use Rattle.std.proofs.lemmas.Str.{IsUtf8-from_ascii}
@@ -94,35 +91,3 @@ pub number_once : (end m n : ℕ) (xs ys : List ℕ) → end < 48 → m < 2 ^ 32
 number_once end m n xs ys small p q same =
     let cut = one_cut end (decimal m) (decimal n) xs ys (lacks_decimal end m small p) (lacks_decimal end n small q) same in
     (decimal_injective m n (omega arith) (omega arith) cut.0, cut.1)
-
-by_test : {P : Type 0} (b : Bool) → (b ≡ true → P) → (b ≡ false → P) → P
-by_test true holds fails = holds refl
-by_test false holds fails = fails refl
-
--- the bytes before the first byte of a value are others
-front_lacks : (end : ℕ) (text : List ℕ) → Lacks end (take (prefix_len (λ b. not (b == end)) text) text)
-front_lacks end [] = tt
-front_lacks end (x ∷ text) =
-    let n = prefix_len (λ (b : ℕ). not (b == end)) text in
-    let one : 1 + n ≡ suc n = omega arith in
-    by_test (x == end)
-    (λ same. subst (λ (m : ℕ). Lacks end (take m (x ∷ text))) (sym (λ i. cond (not (same i)) (1 + n) 0)) tt)
-    (λ other. subst (λ (m : ℕ). Lacks end (take m (x ∷ text))) (sym ((λ i. cond (not (other i)) (1 + n) 0) ∙ one)) (eqb-false x end other, front_lacks end text))
-
--- the first n bytes of a text, if n is the number before the first byte of a value
-pub lacks_before : (end : ℕ) (text : List ℕ) (n : ℕ) → n ≡ prefix_len (λ b. not (b == end)) text → Lacks end (take n text)
-lacks_before end text n is = subst (λ (m : ℕ). Lacks end (take m text)) (sym is) (front_lacks end text)
-
--- the whole text, if that number is its length
-pub lacks_whole : (end : ℕ) (text : List ℕ) (n : ℕ) → n ≡ prefix_len (λ b. not (b == end)) text → n ≡ length text → Lacks end text
-lacks_whole end text n is whole = subst (Lacks end) (take_all n text (omega (arith, whole))) (lacks_before end text n is)
-
--- a text is cut at the first byte of a value
-pub first_cut : (end : ℕ) (text : List ℕ) (n : ℕ) → n ≡ prefix_len (λ b. not (b == end)) text → n < length text → text ≡ take n text ++ end ∷ drop (n + 1) text
-first_cut end text n is inside =
-    let p = λ (b : ℕ). b == end in
-    let first = prefix_len (λ (b : ℕ). not (b == end)) text in
-    let within : first < length text = omega (arith, is, inside) in
-    let byte : get_or text first 0 ≡ end = eqb-true (get_or text first 0) end (passes_at_first p text 0 within) in
-    subst (λ (m : ℕ). text ≡ take m text ++ end ∷ drop (m + 1) text) (sym is)
-    (subst (λ (e : ℕ). text ≡ take first text ++ e ∷ drop (first + 1) text) byte (split_at_first p text 0 within))

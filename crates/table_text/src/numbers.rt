@@ -1,18 +1,9 @@
 //! Numbers at the start of a text.
 
-ghost use Rattle.std.specs.Prelude.{◌≡◌, ◌==◌, ◌<◌, ◌&&◌, ◌^◌, ℕ, List, ◌∷◌, ◌++◌, All, nat_lt, length, slice_index, IfSome, IfNone, not, ◌≤◌};
-ghost use Rattle.std.specs.List.{prefix_len};
+ghost use Rattle.std.specs.Prelude.{◌≡◌, ◌==◌, ◌<◌, ◌&&◌, ◌^◌, ℕ, List, ◌∷◌, ◌++◌, All, nat_lt, length, slice_index, IfSome, IfNone};
 ghost use Rattle.std.specs.Fmt.{decimal};
 ghost use Rattle.table_text.specs.TableText.{ids_then};
 ghost use Rattle.table_text.specs.LinePrefixes.{Lacks};
-
-// Returns the number of bytes before the first byte of this value, or before the end.
-fn front_len(text: &[u8], end: u8) -> usize
-    ensures value { result ≡ prefix_len (λ b. not (b == end)) text.now }
-    ensures within { result ≤ length text.now }
-{
-    text.iter().take_while(|byte| **byte != end).count()
-}
 
 // Returns the parts of a text before and after the first byte of this value.
 fn cut_at(text: &[u8], end: u8) -> Option<(&[u8], &[u8])>
@@ -20,11 +11,8 @@ fn cut_at(text: &[u8], end: u8) -> Option<(&[u8], &[u8])>
     ensures first { IfSome result (λ parts. Lacks end parts.0.now) }
     ensures none { IfNone result (Lacks end text.now) }
 {
-    let len = front_len(text, end);
-    if len == text.len() {
-        return None;
-    }
-    Some((&text[..len], &text[len + 1..]))
+    let place = text.iter().position(|byte| *byte == end)?;
+    Some((&text[..place], &text[place + 1..]))
 }
 
 fn is_signed(word: &[u8]) -> bool
