@@ -113,6 +113,16 @@ TRACES = [
         "start r0 5 1 3 7\nround 1 left 0 0 0 0\nround 1 right 5 1 3 7\nround 1 r0 2 4 3 5\nfinish 2 4 3 5\n",
         0,
     ),
+    (
+        "trace --ids 8 --ring 5,1,3,7,0,2,4,6",
+        RED,
+        "start r0 5 1 3 7 0 2 4 6\n"
+        "round 1 left 0 0 0 0 0 0 0 0\nround 1 right 5 1 3 7 0 2 4 6\nround 1 r0 1 4 3 5 0 3 2 3\n"
+        "round 2 left 1 4 3 5 0 3 2 3\nround 2 right 1 4 3 5 0 3 2 3\nround 2 r0 1 4 3 1 0 3 2 3\n"
+        "round 3 left 1 4 3 1 0 3 2 3\nround 3 right 1 4 3 1 0 3 2 3\nround 3 r0 1 0 3 1 0 3 2 3\n"
+        "finish 1 0 3 1 0 3 2 3\n",
+        0,
+    ),
     ("trace --ids 2 --ring 0,1", ID0, "start r0 0 1\nfinish 0 1\n", 0),
     ("trace --ids 2 --ring 1,0", ZERO, "start r0 1 0\nfinish 0 0\n", 0),
     (
