@@ -1,5 +1,5 @@
-"""Verdicts on tables and on programs, most of them beside a walk over all tuples: a row has the words, the input, the standard
-output and the exit status."""
+"""Verdicts on tables and programs, most of them compared with a walk over all tuples: a row has the words, the input, the
+standard output and the exit status."""
 
 from itertools import islice, permutations
 from math import perm
@@ -41,8 +41,9 @@ OF_PAIRS = [
 # Identifiers and rounds of random tables.
 SHAPES = [(2, 0), (3, 0), (5, 0), (9, 0), (16, 0), (4, 1), (5, 1), (6, 1), (6, 2), (7, 2), (8, 3)]
 
-# Identifiers, rounds, near and far of programs that give each window its middle, but one window another channel: each so many
-# windows, and the last. The judge counts the blocks of these shapes.
+# Identifiers, rounds, near, far and a step. The programs give each window its middle, except one window, which has another
+# channel: in turn every window whose number is a multiple of the step, and the last. The judge counts the blocks of these
+# shapes.
 MIDDLES = [(5, 1, 1, 1, 1), (6, 1, 1, 0, 7), (6, 1, 1, 2, 11), (7, 2, 1, 1, 499)]
 
 WORKERS = [1, 2, 3, 9, 64]
@@ -75,7 +76,7 @@ def table_text(ids, rounds, near, far, channels):
 
 
 def chosen(cases, otherwise):
-    """An expression that is a channel in each case, the first that holds, and else another expression."""
+    """An expression: the channel of the first case whose condition holds, else another expression."""
     for condition, channel in reversed(cases):
         otherwise = f"if({condition}, {channel}, {otherwise})"
     return otherwise
@@ -119,11 +120,11 @@ def of_numbers(ids, channels):
     return of_windows(1, 4096, channels, numbers[ids])
 
 
-def of_middles(ids, rounds, each):
-    """Windows of which one has another channel than its middle, and that channel."""
+def of_middles(ids, rounds, step):
+    """The windows that have another channel than their middle, each with that channel."""
     windows = [*permutations(range(ids), 2 * rounds + 1)]
     for number, window in enumerate(windows):
-        if number % each == 0 or number + 1 == len(windows):
+        if number % step == 0 or number + 1 == len(windows):
             yield {window: number % ids}
 
 
@@ -138,10 +139,10 @@ def random_tables():
             yield "audit", table_text(ids, rounds, near, far, channels.values()), *verdict(ids, rounds, near, far, channels.get)
 
 
-def one_bad_tuple(ids, far, each):
-    """Programs of which one tuple alone is bad, each so many, and the lines of the judge."""
+def one_bad_tuple(ids, far, step):
+    """Programs with a single bad tuple, in turn every one whose number is a multiple of `step`, and the lines of the judge."""
     windows = {window: number for number, window in enumerate(permutations(range(ids), 3))}
-    for ring in islice(tuples(ids, 1, far), 0, None, each):
+    for ring in islice(tuples(ids, 1, far), 0, None, step):
         channel = windows[ring[:3]]
         line = f"no: ring {' '.join(str(it) for it in ring)} "
         line += f"places 1 3 channels {channel} {channel}\n" if far else f"place 1 channel {channel}\n"
@@ -157,11 +158,12 @@ def rows():
         for workers in WORKERS:
             yield f"judge --ids {len(channels)} --near {near} --far {far} --workers {workers}", text, f"{line}\n", status
     for channels, line in OF_PAIRS:
+        text, status = of_identifiers(channels, 1024), int(line.startswith("no"))
         for workers in [*WORKERS, 4, 5]:
-            yield f"judge --ids 1024 --workers {workers}", of_identifiers(channels, 1024), f"{line}\n", int(line.startswith("no"))
+            yield f"judge --ids 1024 --workers {workers}", text, f"{line}\n", status
     yield from random_tables()
-    for ids, rounds, near, far, each in MIDDLES:
-        for channels in of_middles(ids, rounds, each):
+    for ids, rounds, near, far, step in MIDDLES:
+        for channels in of_middles(ids, rounds, step):
             answer = verdict(ids, rounds, near, far, lambda window: channels.get(window, window[rounds]))
             for workers in WORKERS:
                 line = f"judge --ids {ids} --near {near} --far {far} --workers {workers}"
