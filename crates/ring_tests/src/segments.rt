@@ -1,6 +1,8 @@
-//! What a segment holds and sends.
+//! What a segment holds and sends, and the segment machine.
 
 ghost use Rattle.std.specs.Prelude.{◌≡◌, IfSome, length};
+
+mod machine;
 
 use lang_check::Plan;
 use ring_core::Segment;

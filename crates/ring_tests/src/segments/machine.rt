@@ -1,0 +1,81 @@
+//! The segment machine on a ring whose registers are known.
+
+ghost use Rattle.std.specs.Prelude.{◌≡◌, ◌≤◌, IfSome, length};
+
+use super::ring_of;
+use lang_check::Plan;
+use ring_core::{RingEvent, World, replay};
+use std::alloc::Global;
+use std::test::Fail;
+use test_programs::{CV1, plan_of};
+use win_index::Ring;
+
+// Events of CV1 on the ring 5 1 3 7 in two segments, 5 1 and 3 7. Segment 0 advances at the third
+// try, and then segment 1.
+const EVENTS: [RingEvent; 8] = [
+    RingEvent::SendRight(0),
+    RingEvent::SendLeft(0),
+    RingEvent::Advance(0),
+    RingEvent::SendRight(1),
+    RingEvent::Advance(0),
+    RingEvent::SendLeft(1),
+    RingEvent::Advance(0),
+    RingEvent::Advance(1),
+];
+
+// Returns two segments after these events.
+fn after<'a>(
+    alloc: Global,
+    plan: &'a Plan,
+    ring: &'a Ring,
+    events: &[RingEvent],
+) -> Option<World<'a>>
+    requires ids { ring.now.ids ≡ plan.now.ids }
+    requires rounds { ring.now.rounds ≡ length plan.now.program.steps }
+    requires places { 2 ≤ length ring.now.places }
+    ensures { IfSome result (λ world. length world.segments ≡ 2) }
+{
+    replay(alloc, plan, ring, 2, events).ok()
+}
+
+// Returns the rounds of two segments, and their registers.
+fn segments_of<'w>(world: &'w World<'_>) -> [(u32, &'w [u32]); 2]
+    requires { length world.now.segments ≡ 2 }
+{
+    [
+        (world.round(0), world.states(0)),
+        (world.round(1), world.states(1)),
+    ]
+}
+
+// Returns whether two segments have these rounds and registers after these events.
+fn segments_are(
+    alloc: Global,
+    plan: &Plan,
+    ring: &Ring,
+    events: &[RingEvent],
+    segments: [(u32, &[u32]); 2],
+) -> Option<bool>
+    requires ids { ring.now.ids ≡ plan.now.ids }
+    requires rounds { ring.now.rounds ≡ length plan.now.program.steps }
+    requires places { 2 ≤ length ring.now.places }
+{
+    let world = after(alloc, plan, ring, events)?;
+    Some(segments_of(&world) == segments)
+}
+
+#[test]
+fn a_segment_advances_once_both_neighbours_have_sent(rt: HostRuntime) -> Result<(), Fail> {
+    let plan = plan_of(rt.alloc(), CV1, 8)?;
+    let ring = ring_of(rt.alloc(), &plan, &[5, 1, 3, 7]).ok_or("a ring")?;
+    let rows = [
+        (6, [(0, [5, 1].as_slice()), (0, [3, 7].as_slice())]),
+        (7, [(1, [2, 4].as_slice()), (0, [3, 7].as_slice())]),
+        (8, [(1, [2, 4].as_slice()), (1, [3, 5].as_slice())]),
+    ];
+    for (done, segments) in rows {
+        let is_so = segments_are(rt.alloc(), &plan, &ring, &EVENTS[..done], segments);
+        assert!(rt; is_so == Some(true), "{done}");
+    }
+    Ok(())
+}
