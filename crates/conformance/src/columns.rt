@@ -9,8 +9,8 @@ use std::alloc::Global;
 use std::sync::Wait;
 use std::thread::Threads;
 use test_programs::{CV1, EIGHT_REGISTERS, RED, TWO_REGISTERS, plan_of};
-use unroll::window_state;
 use win_index::MAX_WINDOW_LEN;
+use window_states::window_state;
 
 /// Returns whether the window with this number has the channel of its state after the rounds.
 fn has_its_channel(plan: &Plan, table: &Table, number: u32) -> bool {

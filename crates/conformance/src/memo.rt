@@ -9,7 +9,8 @@ use std::alloc::Global;
 use std::thread;
 use std::thread::Threads;
 use test_programs::{CV1, RED, plan_of};
-use unroll::{Block, make_block};
+use unroll::make_block;
+use window_states::Block;
 
 /// Returns the first block of level 0 of a plan, made by this maker.
 fn first_block<'a>(alloc: Global, plan: &'a Plan, maker: u32) -> Option<Box<Block<'a>>>

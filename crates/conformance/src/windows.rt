@@ -3,8 +3,8 @@
 use lang_check::Plan;
 use std::test::Fail;
 use test_programs::{CV1, RED, TWO_REGISTERS, plan_of};
-use unroll::window_state;
 use win_index::Shape;
+use window_states::window_state;
 
 // Levels of eight identifiers, windows of them, and their numbers.
 const WINDOWS: [(u32, &[u32], Option<u32>); 9] = [

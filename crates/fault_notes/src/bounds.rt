@@ -5,8 +5,8 @@ ghost use Rattle.node_program.specs.Bounds as bounds;
 ghost use Rattle.fault_notes.specs.BoundNotes as notes;
 
 use crate::numbers::write_joined;
-use lang_check::{bounds_after, register_over_channels};
 use node_lang::{MAX_REGISTERS, Program};
+use program_analysis::{bounds_after, register_over_channels};
 use std::alloc::{AllocError, Global};
 use std::fmt::Write;
 

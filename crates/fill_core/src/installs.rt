@@ -10,8 +10,9 @@ use crate::state::World;
 use lang_check::Plan;
 use node_program::OutOfMemory;
 use std::alloc::Global;
-use unroll::{Block, MakeFault, make_block};
+use unroll::{MakeFault, make_block};
 use win_index::jobs_have_numbers;
+use window_states::Block;
 
 // Makes a block from the cells that are known, or returns `None` if a block below is not known.
 fn make_known<'a, 's>(

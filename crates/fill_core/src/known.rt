@@ -1,12 +1,12 @@
 ghost use Rattle.std.specs.Prelude.{◌≡◌, length};
 ghost use Rattle.shared_memo.specs.PlanJobs.{job_count};
-ghost use Rattle.unroll.specs.Entries.{Entries};
+ghost use Rattle.window_states.specs.Entries.{Entries};
 ghost use Rattle.fill_core.specs.FillPromises.{HoldsJobs};
 ghost use Rattle.fill_core.specs.KnownCells.{known_entries};
 
 use lang_check::Plan;
-use unroll::{Block, Source};
 use win_index::jobs_have_numbers;
+use window_states::{Block, Source};
 
 // The cells that a worker knows.
 #[derive(Drop)]

@@ -8,8 +8,8 @@ use crate::state::{Hand, World};
 use lang_check::Plan;
 use node_program::OutOfMemory;
 use std::alloc::Global;
-use unroll::Block;
 use win_index::jobs_have_numbers;
+use window_states::Block;
 
 // Runs the events from the opening state with this many workers.
 pub(crate) fn run<'a>(

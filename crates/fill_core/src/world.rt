@@ -5,8 +5,8 @@ use lang_check::Plan;
 use node_program::OutOfMemory;
 use std::alloc::Global;
 use std::marker::Model;
-use unroll::Block;
 use win_index::jobs_have_numbers;
+use window_states::Block;
 
 /// The state after a list of events: the cells of a plan's jobs, the next job, and the workers.
 /// Only `replay` makes one. Its methods take any worker, level and number; a number that no worker

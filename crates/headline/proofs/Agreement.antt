@@ -11,7 +11,7 @@ use Rattle.node_program.specs.GlobalRounds.{right_of, channel_at, channels_of}
 use Rattle.win_index.specs.Ring.{IsRing}
 use Rattle.win_index.specs.Arcs.{arc, window_around}
 use Rattle.channel_tables.specs.Tables.{ChannelTable, channel_of}
-use Rattle.nbhd_check.specs.declared.separation.Separation.{Separation}
+use Rattle.channel_tables.specs.declared.separation.Separation.{Separation}
 use Rattle.nbhd_check.specs.Apart.{AreApart, IsApartEverywhere}
 use Rattle.headline.specs.Headline.{TableAgrees, RunAgrees, ChannelsAreApart}
 

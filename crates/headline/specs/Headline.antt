@@ -7,7 +7,7 @@ use Rattle.node_program.specs.GlobalRounds.{right_of, channel_at}
 use Rattle.win_index.specs.Ring.{IsRing}
 use Rattle.win_index.specs.Arcs.{window_around}
 use Rattle.channel_tables.specs.Tables.{ChannelTable, channel_of}
-use Rattle.nbhd_check.specs.declared.separation.Separation.{Separation}
+use Rattle.channel_tables.specs.declared.separation.Separation.{Separation}
 use Rattle.nbhd_check.specs.Apart.{extra}
 use Rattle.nbhd_check.specs.Verdicts.{IsVerdict}
 use Rattle.nbhd_check.specs.declared.verdict.Verdict.{Verdict}

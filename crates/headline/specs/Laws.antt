@@ -1,8 +1,8 @@
 -- The law of this crate.
 use Rattle.std.specs.Prelude.{◌↔◌, ℕ}
 use Rattle.node_program.specs.Term.{ProgramTree}
-use Rattle.table_fill.specs.ProgramTables.{table_of}
-use Rattle.nbhd_check.specs.declared.separation.Separation.{Separation}
+use Rattle.table_entries.specs.ProgramTables.{table_of}
+use Rattle.channel_tables.specs.declared.separation.Separation.{Separation}
 use Rattle.nbhd_check.specs.Apart.{IsApartEverywhere}
 use Rattle.headline.specs.Headline.{ChannelsAreApart}
 

@@ -1,6 +1,6 @@
 ghost use Rattle.std.specs.Prelude.{◌≡◌, ◌↔◌, IfOk, IfErr, OnOk, length};
-ghost use Rattle.table_fill.specs.Workers.{IsWorkerCount};
-ghost use Rattle.ring_exec.specs.SegmentCounts.{IsSegmentCount};
+ghost use Rattle.job_crew.specs.Workers.{IsWorkerCount};
+ghost use Rattle.ring_core.specs.SegmentCounts.{IsSegmentCount};
 ghost use Rattle.headline.specs.Headline.{IsHeadline, TableAgrees};
 ghost use Rattle.ring_exec.specs.declared.fault.RunFault.{RunFault};
 
@@ -93,7 +93,7 @@ fn in_range(ring: &Ring, workers: u32, segments: u32) -> Result<(), FindingsFaul
 }
 
 // The table of a plan's program, from a memo of its own.
-#[tactic(auto, unfolding(table_fill::specs::ProgramTables::table_of))]
+#[tactic(auto, unfolding(table_entries::specs::ProgramTables::table_of))]
 fn compiled<R: Threads + Wait + Sync, G: Gate + Sync>(
     rt: &R,
     alloc: Global,

@@ -1,7 +1,3 @@
--- Lemmas that several proofs share.
-mod OccurrenceLemmas
-mod Bits
-mod Within
+-- Lemmas of the laws.
 mod States
-mod Images
 mod Refused

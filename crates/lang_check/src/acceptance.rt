@@ -1,17 +1,12 @@
-ghost use Rattle.std.specs.Prelude.{◌≡◌, ◌↔◌, ℕ, length, IfOk, IfErr, IsOk, find, flat_map};
-ghost use Rattle.std.specs.List.{list_any};
+ghost use Rattle.std.specs.Prelude.{◌≡◌, ◌↔◌, length, IfOk, IfErr, IsOk};
 ghost use Rattle.win_index.specs.ShapeRange.{IsShape};
 ghost use Rattle.node_program.specs.Bounds.{finish_bound};
-ghost use Rattle.lang_check.specs.Acceptance.{IsAccepted, first_missing_register, reads_id_outside_start, reads_message_outside_step};
+ghost use Rattle.lang_check.specs.Acceptance.{IsAccepted};
 ghost use Rattle.lang_check.specs.Refusals.{IsFirstRefusal};
 
-use crate::occurrences::{
-    any_uses_message, missing_in_rounds, missing_in_term, missing_in_terms, rounds_use_id,
-    sends_use_message, uses_id, uses_message,
-};
 use crate::plan::Plan;
-use crate::register_bounds::finish_bound as bound_of_finish;
 use node_program::Program;
+use program_analysis::{bound_of_finish, id_is_misplaced, message_is_misplaced, missing_register};
 use win_index::{Shape, ShapeFault};
 
 /// Why a program is not accepted for a number of identifiers.
@@ -74,30 +69,4 @@ fn channel_bound(program: &Program, ids: u32) -> Result<u32, CheckFault>
         return Err(CheckFault::ChannelBound(bound));
     }
     Ok(bound)
-}
-
-// The first register in reading order that the program does not have.
-fn missing_register(program: &Program) -> Option<u32>
-    ensures { result ≡ first_missing_register program.now }
-{
-    let count = program.registers();
-    let in_rounds = missing_in_rounds(count, program.steps());
-    let later = in_rounds.or(missing_in_term(count, program.finish()));
-    missing_in_terms(count, program.start()).or(later)
-}
-
-// Whether the identifier is read outside the start.
-fn id_is_misplaced(program: &Program) -> bool
-    ensures { result ≡ reads_id_outside_start program.now }
-{
-    rounds_use_id(program.steps()) || uses_id(program.finish())
-}
-
-// Whether a message is read outside the assignments of a round.
-fn message_is_misplaced(program: &Program) -> bool
-    ensures { result ≡ reads_message_outside_step program.now }
-{
-    any_uses_message(program.start())
-        || sends_use_message(program.steps())
-        || uses_message(program.finish())
 }

@@ -1,5 +1,5 @@
-use crate::equality::same_program;
 use node_program::Program;
+use program_analysis::same_program;
 use std::marker::Model;
 use win_index::Shape;
 

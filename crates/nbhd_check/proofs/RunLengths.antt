@@ -4,7 +4,7 @@ use Rattle.std.proofs.Math.Nat.{mul_assoc, one-mul, mul-one}
 use Rattle.win_index.specs.Falling.{falling}
 use Rattle.win_index.specs.Laws.{CountOfWindows}
 use Rattle.channel_tables.specs.Tables.{ChannelTable, windows_of}
-use Rattle.nbhd_check.specs.declared.separation.Separation.{Separation}
+use Rattle.channel_tables.specs.declared.separation.Separation.{Separation}
 use Rattle.nbhd_check.specs.Apart.{extra, tuples}
 use Rattle.nbhd_check.specs.Runs.{run_len}
 

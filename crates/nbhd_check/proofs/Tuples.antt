@@ -5,7 +5,7 @@ use Rattle.win_index.specs.Arcs.{arc, window_around, part_at}
 use Rattle.win_index.specs.Laws.{NumberOfWindow, WindowOfNumber, WindowsHaveNumbers, RingsHaveWindows, TuplesAreRings, RingsHaveTuples}
 use Rattle.win_index.specs.Windows.{number_of, IsWindow}
 use Rattle.channel_tables.specs.Tables.{ChannelTable, channel_of}
-use Rattle.nbhd_check.specs.declared.separation.Separation.{Separation}
+use Rattle.channel_tables.specs.declared.separation.Separation.{Separation}
 use Rattle.nbhd_check.specs.Apart.{extra, tuples, AreClose, IsBad, IsApart, IsApartEverywhere, NoneIsBad, IsLeastBad}
 use Rattle.nbhd_check.specs.Laws.{TuplesSuffice, BadTuplesAreRings, OneWitness, ApartTablesHaveNoWitness}
 use Rattle.nbhd_check.specs.Verdicts.{IsStep, IsWitness}

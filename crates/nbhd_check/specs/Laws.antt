@@ -5,7 +5,7 @@ use Rattle.win_index.specs.Ring.{IsRing}
 use Rattle.win_index.specs.Arcs.{window_around}
 use Rattle.win_index.specs.Windows.{IsWindow}
 use Rattle.channel_tables.specs.Tables.{ChannelTable, channel_of}
-use Rattle.nbhd_check.specs.declared.separation.Separation.{Separation}
+use Rattle.channel_tables.specs.declared.separation.Separation.{Separation}
 use Rattle.nbhd_check.specs.Apart.{extra, AreClose, IsBad, IsApart, IsApartEverywhere}
 use Rattle.nbhd_check.specs.Proper.{IsProper, IsGoodEverywhere}
 use Rattle.nbhd_check.specs.Verdicts.{IsWitness}

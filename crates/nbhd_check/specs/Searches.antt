@@ -1,7 +1,7 @@
 -- The result of a search for the least bad tuple.
 use Rattle.std.specs.Prelude.{◌≡◌, ℕ, ◌+◌, ◌*◌, ◌<◌, Bool, true, false, List, Option, MatchOption, slice_index_or}
 use Rattle.channel_tables.specs.Tables.{ChannelTable}
-use Rattle.nbhd_check.specs.declared.separation.Separation.{Separation}
+use Rattle.channel_tables.specs.declared.separation.Separation.{Separation}
 use Rattle.nbhd_check.specs.Apart.{NoneIsBad, IsLeastBad}
 
 -- the result is the least number of a bad tuple from low on and below high, or None if none of these is bad

@@ -2,7 +2,7 @@
 use Rattle.std.specs.Prelude.{◌≡◌, ℕ, ◌+◌, ◌⊎◌, List, Some}
 use Rattle.win_index.specs.Arcs.{window_around}
 use Rattle.channel_tables.specs.Tables.{ChannelTable, channel_of}
-use Rattle.nbhd_check.specs.declared.separation.Separation.{Separation}
+use Rattle.channel_tables.specs.declared.separation.Separation.{Separation}
 use Rattle.nbhd_check.specs.Apart.{AreClose, IsApartEverywhere, IsLeastBad}
 use Rattle.nbhd_check.specs.declared.verdict.Verdict.{Verdict}
 use Rattle.nbhd_check.specs.declared.verdict.Verdict.TheVariants.{Yes, No}

@@ -9,9 +9,8 @@ use crate::far_parts::{MAX_FAR_PARTS, far_free_windows, searchers};
 use crate::laws::numbers_of_windows;
 use crate::part::{judge_part, run_len, window_count};
 use crate::parts::least_by_runs;
-use crate::separation::Separation;
 use crate::tuple::tuple_count;
-use channel_tables::Table;
+use channel_tables::{Separation, Table};
 use std::alloc::Global;
 use std::thread::Threads;
 

@@ -7,9 +7,8 @@ ghost use Rattle.nbhd_check.specs.Runs.{run_len};
 
 use crate::laws::numbers_of_windows;
 use crate::run::may_begin_bad_tuple;
-use crate::separation::Separation;
 use crate::tuple::least_bad_tuple;
-use channel_tables::Table;
+use channel_tables::{Separation, Table};
 use win_index::{MAX_WINDOW_LEN, count_of_windows};
 
 /// Returns the least number, from `low` on and below `high`, of a tuple that breaks the separation,

@@ -6,9 +6,8 @@ ghost use Rattle.nbhd_check.specs.Apart.{tuples};
 ghost use Rattle.nbhd_check.specs.Searches.{IsLeastIn, AreGoodParts};
 
 use crate::part::{judge_part, run_len, window_count};
-use crate::separation::Separation;
 use crate::tuple::tuple_count;
-use channel_tables::Table;
+use channel_tables::{Separation, Table};
 use rayon::join;
 use std::sync::atomic::{AtomicUsize, Ordering};
 use std::thread::Threads;

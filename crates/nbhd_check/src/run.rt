@@ -8,9 +8,8 @@ ghost use Rattle.nbhd_check.specs.Runs.{BeginsBadTuple, BeginsFarTuple, NoneClos
 
 use crate::gaps::has_close_outside;
 use crate::laws::numbers_of_windows;
-use crate::separation::Separation;
 use crate::tuple::contains;
-use channel_tables::Table;
+use channel_tables::{Separation, Table};
 use win_index::{MAX_TUPLE_LEN, place_among_unused};
 
 // Returns `false` only if no tuple that begins with this window is bad.

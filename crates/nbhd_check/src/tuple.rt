@@ -6,8 +6,8 @@ ghost use Rattle.win_index.specs.Arcs.{part_at};
 ghost use Rattle.channel_tables.specs.Tables.{channel_of};
 ghost use Rattle.nbhd_check.specs.Apart.{extra, tuples, AreClose, IsBad, NoneIsBad, IsLeastBad};
 
-use crate::separation::{Separation, extra_of};
-use channel_tables::Table;
+use crate::separation::extra_of;
+use channel_tables::{Separation, Table};
 use win_index::MAX_TUPLE_LEN;
 
 // Returns the least number of a bad tuple from `low` on and below `high`.

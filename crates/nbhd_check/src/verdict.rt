@@ -1,8 +1,7 @@
 use crate::laws::tuples_suffice;
 use crate::least::least_of_all;
-use crate::separation::Separation;
 use crate::tuple::{channel_from, is_close_next, tuple_len, write_tuple};
-use channel_tables::Table;
+use channel_tables::{Separation, Table};
 use node_program::OutOfMemory;
 use rayon::current_num_threads;
 use std::alloc::Global;

@@ -1,9 +1,10 @@
 -- The report of a task on an accepted program.
-use Rattle.std.proofs.Common.{◌≡◌, ◌≢◌, ℕ, List, refl, sym, subst}
+use Rattle.std.proofs.Common.{◌≡◌, ◌≢◌, ℕ, List, refl, subst}
 use Rattle.task_words.specs.declared.task.Task.{Task}
 use Rattle.task_words.specs.declared.task.Task.TheVariants as task
 use Rattle.plan_print.specs.Answers.{ids_of, IsAnswerTo}
-use Rattle.plan_print.specs.Report.{Report, IsReport, IsProgramReport}
+use Rattle.reports.specs.Report.{Report, IsProgramReport}
+use Rattle.plan_print.specs.TaskReport.{IsReport}
 
 -- the report on the program is that of the task
 pub as_report : (t : Task) (ids : ℕ) (input : List ℕ) (r : Report) → t ≢ task.Print → t ≢ task.Audit → t ≢ task.Migrate → ids ≡ ids_of t

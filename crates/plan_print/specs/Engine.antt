@@ -1,17 +1,19 @@
 -- The effect of the engine on its reader and its writer.
-use Rattle.std.specs.Prelude.{◌≡◌, ◌≢◌, ◌<◌, ◌↔◌, ℕ, Bool, List, Option, Result, IfSome, IsErrOf, IsTrue, string_bytes, ⊤}
+use Rattle.std.specs.Prelude.{◌≡◌, ◌≢◌, ◌↔◌, ℕ, Bool, List, Option, Result, IfSome, IsErrOf, IsTrue, string_bytes}
 use Rattle.std.specs.Io.KnownBytes.{Appends, Keeps}
 use Rattle.devices.specs.declared.fault.EngineFault.{EngineFault}
-use Rattle.devices.specs.declared.fault.EngineFault.TheVariants.{Read, Write, Memory, Thread, Stranger}
-use Rattle.plan_print.specs.declared.status.Status.{Status}
+use Rattle.devices.specs.declared.fault.EngineFault.TheVariants.{Read, Write}
+use Rattle.reports.specs.declared.status.Status.{Status}
 use Rattle.task_words.specs.declared.task.Task.{Task}
 use Rattle.task_words.specs.declared.task.Task.TheVariants.{Check, Print, Table, Judge, Run, Trace, Plan, Audit, Migrate}
 use Rattle.node_lang.specs.declared.limits.TheConstants.{LONGEST_TEXT}
 use Rattle.table_text.specs.declared.limits.TheConstants.{LONGEST_TABLE_TEXT}
 use Rattle.devices.specs.Input.{GivesInput}
 use Rattle.devices.specs.Output.{AppendsFront}
-use Rattle.plan_print.specs.Report.{Report, IsReport}
-use Rattle.plan_print.specs.Causes.{IsNoteOn}
+use Rattle.reports.specs.Report.{Report}
+use Rattle.reports.specs.Written.{MayHave}
+use Rattle.plan_print.specs.TaskReport.{IsReport}
+use Rattle.reports.specs.Notes.{IsNoteOn}
 use Rattle.plan_print.specs.declared.engine.Told.{Told}
 
 -- the maximum length of the input of a task: that of a program text, or of a table text for a task on such a text
@@ -54,11 +56,6 @@ abbrev pub LeavesOutput : Task → (unread left before after : Option (List ℕ)
 LeavesOutput task unread left before after Write = WritesFront task unread left before after
 LeavesOutput task unread left before after _ = Keeps before after
 
--- likewise for a report of these bytes
-abbrev pub LeavesFront : List ℕ → (before after : Option (List ℕ)) → EngineFault → Type 0
-LeavesFront bytes before after Write = AppendsFront before after bytes
-LeavesFront bytes before after _ = Keeps before after
-
 -- the fault is Read exactly if a read failed, and Write exactly if a write failed
 abbrev pub TellsFailures : {T : Type 0} → Result T EngineFault → (read_failed write_failed : Bool) → Type 0
 TellsFailures result read_failed write_failed =
@@ -75,15 +72,6 @@ thread_count_of (Trace ids ring) = 0
 thread_count_of (Plan ids ring workers) = workers
 thread_count_of Audit = 0
 thread_count_of Migrate = 0
-
--- the fault is possible for a task with this number of workers or of segments: threads are started only for two or
--- more, and only a worker or a segment has the fault Stranger
-abbrev pub MayHave : ℕ → EngineFault → Type 0
-MayHave count Read = ⊤
-MayHave count Write = ⊤
-MayHave count Memory = ⊤
-MayHave count Thread = 1 < count
-MayHave count Stranger = 0 < count
 
 -- The fault is of the task itself: no read and no write failed.
 abbrev pub IsTaskFault : ℕ → EngineFault → Type 0

@@ -1,25 +1,11 @@
 -- The exit status of the process.
-use Rattle.std.specs.Prelude.{◌≡◌, ◌⊎◌, ℕ, Result, Ok, Err}
-use Rattle.plan_print.specs.declared.status.Status.{Status}
-use Rattle.plan_print.specs.declared.status.Status.TheVariants.{Done, No, Words, Refused, RingRefused}
+use Rattle.std.specs.Prelude.{◌≡◌, ◌⊎◌, ℕ, Result}
+use Rattle.reports.specs.StatusCodes.{answer_code}
+use Rattle.reports.specs.declared.status.Status.{Status}
 use Rattle.devices.specs.declared.fault.EngineFault.{EngineFault}
-use Rattle.devices.specs.FaultCodes.{engine_fault_code}
 use Rattle.task_words.specs.declared.words.WordsFault.{WordsFault}
 use Rattle.task_words.specs.declared.words.WordsFault.TheVariants.{Usage, BadRing, OutOfMemory, Help}
 use Rattle.task_words.specs.WordsFault.{words_fault_code}
-
--- after a report
-abbrev pub exit_code : Status → ℕ
-exit_code Done = 0
-exit_code No = 1
-exit_code Words = 2
-exit_code Refused = 3
-exit_code RingRefused = 4
-
--- after a result of the engine
-abbrev pub answer_code : Result Status EngineFault → ℕ
-answer_code (Ok status) = exit_code status
-answer_code (Err fault) = engine_fault_code fault
 
 -- the status after words that give no task: that of their fault, and after help that of writing it
 abbrev pub IsStatusAfter : WordsFault → ℕ → Type 0

@@ -2,14 +2,14 @@
 
 ghost use Rattle.std.specs.Prelude.{◌≡◌, ◌<◌, length, IfOk, string_bytes};
 ghost use Rattle.node_program.specs.GlobalRounds.{channel_at};
-ghost use Rattle.table_fill.specs.ProgramTables.{table_of};
-ghost use Rattle.plan_print.specs.Report.{place_lines};
+ghost use Rattle.table_entries.specs.ProgramTables.{table_of};
+ghost use Rattle.reports.specs.Report.{place_lines};
 
-use crate::lines::write_place;
 use channel_tables::Table;
 use lang_check::Plan;
+use reports::lines::write_place;
 use std::alloc::{AllocError, Global};
-use table_fill::table_has_the_channels_of_rounds;
+use table_entries::table_has_the_channels_of_rounds;
 use win_index::{MAX_WINDOW_LEN, Ring};
 
 // Returns the lines of a ring's places, from place 0 on, by the table of a plan's program.

@@ -4,23 +4,23 @@
 ghost use Rattle.std.specs.Prelude.{◌≡◌, ◌↔◌, false, IsTrue, IfOk, IfErr, OnOk, IsErrOf};
 ghost use Rattle.std.specs.Io.KnownBytes.{Appends};
 ghost use Rattle.devices.specs.Watched.{device_of, has_failed};
-ghost use Rattle.plan_print.specs.ExitCodes.{answer_code, exit_code, IsExitStatus, IsStatusAfter};
+ghost use Rattle.plan_print.specs.ExitCodes.{IsExitStatus, IsStatusAfter};
+ghost use Rattle.reports.specs.StatusCodes.{answer_code, exit_code};
 ghost use Rattle.task_words.specs.Task.{IsRunnable};
-ghost use Rattle.task_words.specs.WordsFault.{words_fault_code};
 
 use crate::engine::{Told, engine_with_note};
-use crate::status::{Status, code_of};
 use devices::fault::EngineFault;
 use devices::output::send;
 use devices::watched::Watched;
+use reports::status::{Status, code_of};
+use std::io;
 use std::io::Write;
 use std::rt::Env;
 use std::sync::Wait;
 use std::thread::Threads;
-use std::{env, io};
 use task_words::task::Task;
-use task_words::words::{WordsFault, task_of, words_fault};
-use word_tips::{ring_tip, ring_word, usage_tip};
+use task_words::words::WordsFault;
+use word_tips::{parse_task, print_words_fault};
 
 /// Does what the words after the program's name request, and returns the exit status. Writes the
 /// report or the help text to standard output, and prints faults and the note on a report to
@@ -49,51 +49,6 @@ fn status_after<T: AllocGlobal + Env + Input + Print + Eprint + Threads + Wait +
             print_fault(rt, write_text(&mut writer, &text))
         }
         Err(fault) => print_words_fault(rt, &fault),
-    }
-}
-
-// Returns the task that the words after the program's name request.
-fn parse_task<T: AllocGlobal + Env>(rt: &T) -> Result<Task, WordsFault>
-    ensures { IfOk result IsRunnable }
-{
-    let alloc = rt.alloc();
-    let mut args = match env::args(rt) {
-        Ok(args) => args,
-        Err(error) => return Err(words_fault(alloc, error)),
-    };
-    let _name = args.next();
-    let words = args.collect::<Vec<_>>(alloc)?;
-    task_of(alloc, &words)
-}
-
-// Prints the fault of the words to standard error, and a tip if there is one. Returns the exit
-// status.
-fn print_words_fault<T: AllocGlobal + Env + Eprint>(rt: &T, fault: &WordsFault) -> u8
-    ensures { result ≡ words_fault_code fault.now }
-{
-    let _ = match fault {
-        WordsFault::Usage(text) | WordsFault::Help(text) => eprint!(rt; "{text}"),
-        WordsFault::BadRing | WordsFault::OutOfMemory => eprintln!(rt; "{fault}"),
-    };
-    if let Some(tip) = tip_on(rt, fault) {
-        let _ = eprintln!(rt; "{tip}");
-    }
-    fault.code()
-}
-
-// Returns a tip on refused words, or `None` if there is none, or if memory was refused.
-fn tip_on<T: AllocGlobal + Env>(rt: &T, fault: &WordsFault) -> Option<String> {
-    let alloc = rt.alloc();
-    let mut args = env::args(rt).ok()?;
-    let _name = args.next();
-    let words = args.collect::<Vec<_>>(alloc).ok()?;
-    match fault {
-        WordsFault::BadRing => ring_tip(alloc, ring_word(&words)?).ok()?,
-        WordsFault::Usage(_) => {
-            let tip = usage_tip(&words)?;
-            format!(in alloc; "{tip}").ok()
-        }
-        WordsFault::Help(_) | WordsFault::OutOfMemory => None,
     }
 }
 

@@ -2,31 +2,22 @@
 //! accepted, or on the table and the separation of a table text.
 
 ghost use Rattle.std.specs.Prelude.{◌≡◌, ◌≢◌, IfOk, IfErr};
-ghost use Rattle.node_lang.specs.Grammar.{Reads};
-ghost use Rattle.lang_check.specs.Acceptance.{IsAccepted};
-ghost use Rattle.table_text.specs.Texts.{IsTextOf};
+ghost use Rattle.plan_print.specs.Answers.{ids_of, IsAnswerTo};
 ghost use Rattle.plan_print.specs.Engine.{thread_count_of, IsTaskFault};
-ghost use Rattle.plan_print.specs.Answers.{report_in, ids_of, IsAnswerTo, IsExplained, HasOwnCause};
-ghost use Rattle.plan_print.specs.Report.{IsReport, IsTextRefusal, IsProgramRefusal, IsTableRefusal};
+ghost use Rattle.plan_print.specs.TaskReport.{IsReport};
+ghost use Rattle.reports.specs.Answers.{report_in, IsExplained, HasOwnCause};
 ghost use Rattle.task_words.specs.Task.{IsRunnable};
 
-use crate::answer::{
-    Answer, check_answer, judge_report, plan_answer, print_answer, run_answer, table_answer,
-    trace_answer,
-};
-use crate::cause::Cause;
-use crate::judgement::audit_report;
-use crate::lines::{check_fault_line, table_fault_line, text_fault_line};
-use crate::status::Status;
-use channel_tables::Table;
+use crate::answer::{judge_report, plan_answer, run_answer, table_answer};
 use devices::fault::EngineFault;
-use lang_check::{Plan, accept};
+use lang_check::Plan;
 use nbhd_check::Separation;
-use node_lang::{FaultKind, Program, TextFault, parse};
+use reports::answer::Answer;
+use reports::rings::trace_answer;
+use reports::texts::{audit_text_report, check_answer, migrate_report, plan_in, print_report};
 use std::alloc::Global;
 use std::sync::Wait;
 use std::thread::Threads;
-use table_text::{TableFault, read_table};
 use task_words::task::Task;
 
 // Returns the report of a task on an input.
@@ -46,46 +37,6 @@ pub(crate) fn report_of<T: Threads + Wait + Sync>(
         Task::Audit => audit_text_report(rt, alloc, input),
         Task::Migrate => migrate_report(alloc, input),
         task => program_report(rt, alloc, task, input),
-    }
-}
-
-// Returns the report with the printed form of the program of a program text.
-fn print_report(alloc: Global, input: &[u8]) -> Result<Answer, EngineFault>
-    ensures report { IfOk result (λ r. IsReport Task.Print input.now (report_in r)) }
-    ensures cause { IfOk result (IsExplained input.now) }
-    ensures fault { IfErr result (λ fault. fault ≡ EngineFault.Memory) }
-{
-    match program_in(alloc, input)? {
-        Ok(program) => print_answer(alloc, &program),
-        Err(refusal) => Ok(refusal),
-    }
-}
-
-// Returns the report of the judge on a table text.
-fn audit_text_report<T: Threads + Wait + Sync>(
-    rt: &T,
-    alloc: Global,
-    input: &[u8],
-) -> Result<Answer, EngineFault>
-    ensures report { IfOk result (λ r. IsReport Task.Audit input.now (report_in r)) }
-    ensures cause { IfOk result (IsExplained input.now) }
-    ensures fault { IfErr result (λ fault. fault ≡ EngineFault.Memory) }
-{
-    match table_in(alloc, input)? {
-        Ok((table, separation)) => audit_report(rt, alloc, &table, separation),
-        Err(refusal) => Ok(refusal),
-    }
-}
-
-// Returns the report with the table and the separation of a table text.
-fn migrate_report(alloc: Global, input: &[u8]) -> Result<Answer, EngineFault>
-    ensures report { IfOk result (λ r. IsReport Task.Migrate input.now (report_in r)) }
-    ensures cause { IfOk result (IsExplained input.now) }
-    ensures fault { IfErr result (λ fault. fault ≡ EngineFault.Memory) }
-{
-    match table_in(alloc, input)? {
-        Ok((table, separation)) => Ok(Answer::Table(table, separation)),
-        Err(refusal) => Ok(refusal),
     }
 }
 
@@ -186,68 +137,5 @@ fn program_answer<T: Threads + Wait + Sync>(
         Task::Print => unreachable!(),
         Task::Audit => unreachable!(),
         Task::Migrate => unreachable!(),
-    }
-}
-
-// Returns the plan of the program text for `ids` identifiers, or the report of its refusal.
-fn plan_in(alloc: Global, input: &[u8], ids: u32) -> Result<Result<Plan, Answer>, EngineFault>
-    ensures plan { IfOk result (λ told. IfOk told (λ plan. (plan.ids ≡ ids) × Reads input.now plan.program × IsAccepted ids plan.program)) }
-    ensures refusal { IfOk result (λ told. IfErr told (λ r. IsProgramRefusal ids input.now (report_in r))) }
-    ensures cause { IfOk result (λ told. IfErr told (IsExplained input.now)) }
-    ensures fault { IfErr result (λ fault. fault ≡ EngineFault.Memory) }
-{
-    match program_in(alloc, input)? {
-        Ok(program) => match accept(program, ids) {
-            Ok(plan) => Ok(Ok(plan)),
-            Err((program, fault)) => {
-                let line = check_fault_line(alloc, fault)?;
-                let cause = Cause::Program {
-                    program,
-                    ids,
-                    fault,
-                };
-                Ok(Err(Answer::Told(line, Status::Refused, cause)))
-            }
-        },
-        Err(refusal) => Ok(Err(refusal)),
-    }
-}
-
-// Returns the program of the program text, or the report of its refusal.
-fn program_in(alloc: Global, input: &[u8]) -> Result<Result<Program, Answer>, EngineFault>
-    ensures program { IfOk result (λ told. IfOk told (λ program. Reads input.now program)) }
-    ensures refusal { IfOk result (λ told. IfErr told (λ r. IsTextRefusal input.now (report_in r))) }
-    ensures cause { IfOk result (λ told. IfErr told (IsExplained input.now)) }
-    ensures fault { IfErr result (λ fault. fault ≡ EngineFault.Memory) }
-{
-    match parse(alloc, input) {
-        Ok(program) => Ok(Ok(program)),
-        Err(
-            TextFault {
-                kind: FaultKind::OutOfMemory,
-                offset: _,
-            },
-        ) => Err(EngineFault::Memory),
-        Err(fault) => {
-            let line = text_fault_line(alloc, fault)?;
-            Ok(Err(Answer::Told(line, Status::Refused, Cause::Text(fault))))
-        }
-    }
-}
-
-// Returns the table and the separation of the table text, or the report of its refusal.
-fn table_in(alloc: Global, input: &[u8]) -> Result<Result<(Table, Separation), Answer>, EngineFault>
-    ensures table { IfOk result (λ told. IfOk told (λ read. IsTextOf input.now read.0 read.1)) }
-    ensures refusal { IfOk result (λ told. IfErr told (λ r. IsTableRefusal input.now (report_in r))) }
-    ensures cause { IfOk result (λ told. IfErr told (IsExplained input.now)) }
-    ensures fault { IfErr result (λ fault. fault ≡ EngineFault.Memory) }
-{
-    match read_table(alloc, input) {
-        Ok((table, separation)) => Ok(Ok((table, separation))),
-        Err(TableFault::OutOfMemory) => Err(EngineFault::Memory),
-        Err(fault) => {
-            let line = table_fault_line(alloc, fault)?;
-            Ok(Err(Answer::Told(line, Status::Refused, Cause::TableText(fault))))
-        }
     }
 }

@@ -9,7 +9,8 @@ use lang_check::Plan;
 use round_columns::Code;
 use shared_memo::{Memo, Reader};
 use test_programs::CV1;
-use unroll::{Block, BlockMaker};
+use unroll::BlockMaker;
+use window_states::Block;
 
 /// `BlockMaker`: prints the number of states of the first block of level 0, and its first state. A
 /// maker that was refused memory for the block makes it a second time.

@@ -13,13 +13,14 @@ use Rattle.table_text.specs.Texts.{IsTextOf}
 use Rattle.table_text.specs.Faults.{IsFault}
 use Rattle.table_text.specs.Laws.{OneTableFault, TableTextsAreApart, TableTextsAreRead}
 use Rattle.lang_check.specs.Laws.{OneRefusal, AcceptedProgramsHaveNoRefusal}
-use Rattle.nbhd_check.specs.declared.separation.Separation.{Separation}
+use Rattle.channel_tables.specs.declared.separation.Separation.{Separation}
 use Rattle.nbhd_check.specs.Laws.{OneWitness, ApartTablesHaveNoWitness}
 use Rattle.task_words.specs.declared.task.Task.{Task}
 use Rattle.task_words.specs.declared.task.Task.TheVariants.{Check, Print, Table, Judge, Run, Trace, Plan, Audit, Migrate}
-use Rattle.plan_print.specs.declared.status.Status.{Status}
-use Rattle.plan_print.specs.Report as report
-use Rattle.plan_print.specs.Report.{Report, Says, IsJudgement, good, bad, IsAnswerOnRing, ring_fault, on_ring, IsRunAnswer, out_of_range, ran, IsTableText, IsTextRefusal, IsPrintReport, text_refused, in_print, IsProgramRefusal, text_fault, check_fault, IsProgramReport, program_refused, answered, IsTableRefusal, IsTableReport, table_refused, of_table, IsReport}
+use Rattle.reports.specs.declared.status.Status.{Status}
+use Rattle.reports.specs.Report as report
+use Rattle.reports.specs.Report.{Report, Says, IsJudgement, good, bad, IsAnswerOnRing, ring_fault, on_ring, IsRunAnswer, out_of_range, ran, IsTableText, IsTextRefusal, IsPrintReport, text_refused, in_print, IsProgramRefusal, text_fault, check_fault, IsProgramReport, program_refused, answered, IsTableRefusal, IsTableReport, table_refused, of_table}
+use Rattle.plan_print.specs.TaskReport.{IsReport}
 use Rattle.report_laws.specs.Laws.{OneReport}
 
 -- two reports with the same bytes and the same status are equal

@@ -10,17 +10,17 @@ use Rattle.node_lang.specs.Laws.{OneReading, PrintedIsRead}
 use Rattle.win_index.specs.Laws.{RingsHaveNoFault}
 use Rattle.win_index.specs.Ring.{IsRing}
 use Rattle.lang_check.specs.Laws.{AcceptedProgramsHaveNoRefusal}
-use Rattle.table_fill.specs.Laws.{TableHasTheChannelsOfRounds}
-use Rattle.table_fill.specs.ProgramTables.{table_of}
-use Rattle.nbhd_check.specs.declared.separation.Separation.{Separation}
+use Rattle.table_entries.specs.Laws.{TableHasTheChannelsOfRounds}
+use Rattle.table_entries.specs.ProgramTables.{table_of}
+use Rattle.channel_tables.specs.declared.separation.Separation.{Separation}
 use Rattle.nbhd_check.specs.Laws.{ApartTablesHaveNoWitness}
 use Rattle.headline.specs.Headline.{ChannelsAreApart}
 use Rattle.headline.specs.Laws.{ProgramTablesAreApart}
-use Rattle.ring_exec.specs.SegmentCounts.{IsSegmentCount}
-use Rattle.plan_print.specs.declared.status.Status.TheVariants.{Done, No}
-use Rattle.plan_print.specs.Lines.{line, numbers_text}
-use Rattle.plan_print.specs.Trace.{register_lines, round_lines, row_line, trace_lines}
-use Rattle.plan_print.specs.Report.{Report, Says, IsJudgement, good, bad, IsAnswerOnRing, ring_fault, on_ring, IsRunAnswer, out_of_range, ran, text_refused, in_print, IsProgramReport, program_refused, answered}
+use Rattle.ring_core.specs.SegmentCounts.{IsSegmentCount}
+use Rattle.reports.specs.declared.status.Status.TheVariants.{Done, No}
+use Rattle.reports.specs.Lines.{line, numbers_text}
+use Rattle.reports.specs.Trace.{register_lines, round_lines, row_line, trace_lines}
+use Rattle.reports.specs.Report.{Report, Says, IsJudgement, good, bad, IsAnswerOnRing, ring_fault, on_ring, IsRunAnswer, out_of_range, ran, text_refused, in_print, IsProgramReport, program_refused, answered}
 use Rattle.report_laws.specs.Laws.{IsAcceptedText, JudgeTellsRounds, RunTellsRounds, TraceTellsRounds, TraceEndsWithRun, PlanTellsRounds, TableTellsRounds, PrintsAreReadBack, SameForWorkers, SameForSegments}
 use Rattle.report_laws.proofs.OneReport.{accepted_or_refused}
 

@@ -9,16 +9,17 @@ use Rattle.win_index.specs.Ring.{IsRing}
 use Rattle.win_index.specs.Arcs.{window_around}
 use Rattle.lang_check.specs.Acceptance.{IsAccepted}
 use Rattle.channel_tables.specs.Tables.{channel_of}
-use Rattle.table_fill.specs.ProgramTables.{table_of}
-use Rattle.ring_exec.specs.SegmentCounts.{IsSegmentCount}
+use Rattle.table_entries.specs.ProgramTables.{table_of}
+use Rattle.ring_core.specs.SegmentCounts.{IsSegmentCount}
 use Rattle.headline.specs.Headline.{ChannelsAreApart}
 use Rattle.table_text.specs.TableText.{table_text}
 use Rattle.task_words.specs.declared.task.Task.{Task}
 use Rattle.task_words.specs.declared.task.Task.TheVariants.{Print, Table, Judge, Run, Trace, Plan}
-use Rattle.plan_print.specs.declared.status.Status.TheVariants.{Done, No}
-use Rattle.plan_print.specs.Lines.{line, numbers_text}
-use Rattle.plan_print.specs.Trace.{trace_lines}
-use Rattle.plan_print.specs.Report.{Report, Says, place_lines, IsReport}
+use Rattle.reports.specs.declared.status.Status.TheVariants.{Done, No}
+use Rattle.reports.specs.Lines.{line, numbers_text}
+use Rattle.reports.specs.Trace.{trace_lines}
+use Rattle.reports.specs.Report.{Report, Says, place_lines}
+use Rattle.plan_print.specs.TaskReport.{IsReport}
 
 -- two reports of a task on an input are equal
 abbrev pub OneReport : Type 0

@@ -6,7 +6,7 @@ use headline::program_tables_are_apart;
 use lang_check::one_refusal;
 use nbhd_check::one_witness;
 use node_lang::{one_reading, one_text_fault, printed_is_read_back};
-use table_fill::table_has_the_channels_of_rounds;
+use table_entries::table_has_the_channels_of_rounds;
 use table_text::{one_table_fault, table_texts_are_apart, table_texts_are_read};
 use win_index::one_ring_fault;
 

@@ -3,11 +3,13 @@
 #![tactic(auto)]
 
 mod laws;
+mod limits;
 mod machine;
 mod message;
 mod segment;
 
 pub use laws::{one_run, segments_cover_the_ring};
+pub use limits::MAX_SEGMENTS;
 pub use machine::{RingEvent, World, replay};
 pub use message::Msg;
 pub use segment::{Segment, Strange};

@@ -2,7 +2,7 @@
 ghost use Rattle.std.specs.Prelude.{◌≡◌, ℕ, ◌+◌, ◌<◌, ◌≤◌, OnOk, length, slice_index};
 ghost use Rattle.node_program.specs.GlobalRounds.{channel_at, channels_of};
 ghost use Rattle.ring_core.specs.Segments.{first_of, places_of};
-ghost use Rattle.ring_exec.specs.SegmentCounts.{IsSegmentCount};
+ghost use Rattle.ring_core.specs.SegmentCounts.{IsSegmentCount};
 
 use crate::fault::SegmentFault;
 use lang_check::Plan;

@@ -8,12 +8,10 @@ mod end;
 mod fault;
 mod gathering;
 mod joined;
-mod limits;
 mod message_run;
 mod relay;
 mod runner;
 
 pub use fault::RunFault;
-pub use limits::MAX_SEGMENTS;
 pub use message_run::run;
-pub use ring_core::{Msg, Segment, Strange};
+pub use ring_core::{MAX_SEGMENTS, Msg, Segment, Strange};

@@ -1,4 +1,3 @@
 -- Lemmas that several proofs share.
-mod LowestDifference
 mod RowLemmas
 mod GlobalRounds

@@ -9,7 +9,7 @@ use Rattle.std.proofs.lemmas.Option.{some_pair_parts}
 use Rattle.std.specs.Prelude.{slice_get}
 use Rattle.win_index.specs.Jobs.{jobs_of, job_number}
 use Rattle.lang_check.specs.Plans.{ProgramForIds}
-use Rattle.unroll.specs.BlockStates.{MadeBlock}
+use Rattle.window_states.specs.BlockStates.{MadeBlock}
 use Rattle.shared_memo.specs.declared.entry.Entry.{Entry}
 use Rattle.once_cell.specs.Once.{cell_name}
 use Rattle.once_cell.specs.declared.race.once_box.OnceBox.{OnceBox}

@@ -2,8 +2,8 @@
 use Rattle.std.specs.Prelude.{◌≡◌, ℕ, ◌+◌, List, Option, Some, length, slice_index}
 use Rattle.win_index.specs.Jobs.{jobs_of, job_number}
 use Rattle.lang_check.specs.Plans.{ProgramForIds}
-use Rattle.unroll.specs.BlockStates.{MadeBlock}
-pub use Rattle.unroll.specs.BlockStates.{IsKey}
+use Rattle.window_states.specs.BlockStates.{MadeBlock}
+pub use Rattle.window_states.specs.BlockStates.{IsKey, IsKeyedBlock}
 
 -- the number of jobs of a plan
 abbrev pub job_count : ProgramForIds → ℕ
@@ -12,10 +12,6 @@ job_count plan = length (jobs_of plan.ids (length plan.program.steps))
 -- the number of the job for a block of a level, if there is one
 abbrev pub job_of : ProgramForIds → ℕ → ℕ → Option ℕ
 job_of plan level number = job_number plan.ids (length plan.program.steps) level number
-
--- a block of this plan, level and number
-abbrev pub IsKeyedBlock : ProgramForIds → ℕ → ℕ → MadeBlock → Type 0
-IsKeyedBlock plan level number b = (b.plan ≡ plan) × (b.level ≡ level) × (b.number ≡ number)
 
 -- a block of another plan, level or number
 abbrev pub IsStranger : ProgramForIds → ℕ → ℕ → MadeBlock → Type 0

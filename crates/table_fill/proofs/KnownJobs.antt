@@ -4,8 +4,8 @@ use Rattle.std.specs.Prelude.{is_some, slice_get, unwrap_or}
 use Rattle.std.proofs.lemmas.Bool.{false≢true}
 use Rattle.std.proofs.lemmas.List.Elements.{All-append, All-cons, All-nil}
 use Rattle.lang_check.specs.Plans.{ProgramForIds}
-use Rattle.unroll.specs.BlockStates.{MadeBlock}
-use Rattle.unroll.specs.Entries.{Entries, Grows}
+use Rattle.window_states.specs.BlockStates.{MadeBlock}
+use Rattle.window_states.specs.Entries.{Entries, Grows}
 use Rattle.win_index.specs.Jobs.{jobs_of}
 use Rattle.win_index.specs.Laws.{JobsStandAtNumbers}
 use Rattle.shared_memo.specs.PlanJobs.{job_of}

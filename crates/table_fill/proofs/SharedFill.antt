@@ -4,7 +4,7 @@ use Rattle.node_program.proofs.tree.BinOp.TheSendSync as bin_op
 use Rattle.node_program.proofs.tree.UnOp.TheSendSync as un_op
 use Rattle.node_program.proofs.tree.Expr.TheLaws.TheKnot
 use Rattle.round_columns.proofs.code.RoundCode.TheSendSync as round_code
-use Rattle.round_columns.proofs.postfix.Postfix.TheSendSync as postfix
+use Rattle.column_machine.proofs.postfix.Postfix.TheSendSync as postfix
 use Rattle.shared_memo.below.once_cell.proofs.race.once_box.OnceBox.TheSendSync as once_box
 use Rattle.win_index.proofs.shape.Shape.TheSendSync as shape
 use Rattle.std.proofs.Crossing

@@ -1,8 +1,15 @@
--- What a pass knows once a worker has filled its jobs, and once all cells are full.
+-- What a pass has learned, and what it knows once a worker has filled its jobs, and once all cells are full.
 use Rattle.std.specs.Prelude.{◌≡◌, ℕ, List, Some, All, true, is_some}
 use Rattle.lang_check.specs.Plans.{ProgramForIds}
-use Rattle.unroll.specs.Entries.{Entries}
+use Rattle.window_states.specs.Entries.{Entries, Grows}
+use Rattle.shared_memo.specs.declared.memo.Memo.{Memo}
+use Rattle.shared_memo.specs.declared.pass.Pass.{Pass}
+use Rattle.shared_memo.specs.Passes.{known, IsPassOf}
 use Rattle.shared_memo.specs.PlanJobs.{IsKey, job_of}
+
+-- a pass of this memo that knows at least what it knew before
+abbrev pub HasLearned : Memo → Pass → Pass → Type 0
+HasLearned memo old new = IsPassOf memo new × Grows (known old) (known new)
 
 -- the block of each of these jobs
 abbrev pub AreKnown : ProgramForIds → Entries → List ℕ → Type 0

@@ -5,14 +5,15 @@ ghost use Rattle.shared_memo.specs.Passes.{known};
 ghost use Rattle.shared_memo.specs.PlanJobs.{IsKey};
 ghost use Rattle.table_fill.specs.MissingBlocks.{IsMissingBlock};
 ghost use Rattle.table_fill.specs.declared.cell.Made.TheVariants.{Fresh};
-ghost use Rattle.unroll.specs.Entries.{Entries, Grows};
+ghost use Rattle.window_states.specs.Entries.{Entries, Grows};
 
 use crate::cell_maker::CellMaker;
-use crate::fault::WorkFault;
+use job_crew::WorkFault;
 use shared_memo::Installed;
 use std::alloc::Global;
-use unroll::{MakeFault, Source};
+use unroll::MakeFault;
 use win_index::{MAX_BLOCKS, window_of_number};
+use window_states::Source;
 
 // The outcome of making a block.
 #[derive(Clone, Copy)]

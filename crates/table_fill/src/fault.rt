@@ -1,6 +1,7 @@
 ghost use Rattle.std.specs.Prelude.{◌≡◌, ◌≢◌};
 ghost use Rattle.table_fill.specs.Faults.{fill_fault_of};
-ghost use Rattle.table_fill.specs.declared.fault.CrewFault.TheVariants.{Work};
+
+use job_crew::{CrewFault, WorkFault};
 
 /// Why a table was not compiled.
 #[derive(Clone, Copy, Debug, PartialEq, Eq)]
@@ -14,28 +15,6 @@ pub enum FillFault {
     Stranger,
     /// The start of a thread was refused.
     NoThread,
-}
-
-// Why a worker did not fill its cells.
-#[derive(Clone, Copy)]
-pub(crate) enum WorkFault {
-    OutOfMemory,
-    Stranger,
-}
-
-// Why a pool of workers did not fill a memo. Their number is in its range by then.
-#[derive(Clone, Copy)]
-pub(crate) enum CrewFault {
-    Work(WorkFault),
-    NoThread,
-}
-
-impl From<WorkFault> for CrewFault {
-    ghost from_gives = { λ work fault. fault ≡ Work work };
-
-    fn from(fault: WorkFault) -> CrewFault {
-        CrewFault::Work(fault)
-    }
 }
 
 // Converts a fault of a pool of workers to `compile`'s.

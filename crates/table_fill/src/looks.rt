@@ -1,7 +1,6 @@
 ghost use Rattle.std.specs.Prelude.{◌≡◌, IfSome, IsTrue};
 ghost use Rattle.shared_memo.specs.Passes.{known, memo_plan, IsPassOf};
-ghost use Rattle.table_fill.specs.Filled.{KnowsAll};
-ghost use Rattle.unroll.specs.Entries.{Grows};
+ghost use Rattle.table_fill.specs.Filled.{HasLearned, KnowsAll};
 
 use shared_memo::{Memo, Pass};
 
@@ -9,8 +8,7 @@ use shared_memo::{Memo, Pass};
 // knows them all.
 pub(crate) fn look_at_all<'a>(memo: &Memo<'a>, pass: &mut Pass<'a>) -> bool
     requires { IsPassOf memo.now pass.old }
-    ensures pass { IsPassOf memo.now pass.new }
-    ensures kept { Grows (known pass.old) (known pass.new) }
+    ensures learned { HasLearned memo.now pass.old pass.new }
     ensures known { IsTrue result → KnowsAll (memo_plan memo.now) (known pass.new) }
 {
     let shape = memo.plan().shape();
@@ -28,8 +26,7 @@ pub(crate) fn look_at_all<'a>(memo: &Memo<'a>, pass: &mut Pass<'a>) -> bool
 pub(crate) fn learn_left<'a>(memo: &Memo<'a>, pass: &mut Pass<'a>, left: Option<Pass<'a>>)
     requires pass { IsPassOf memo.now pass.old }
     requires left { IfSome left (IsPassOf memo.now) }
-    ensures pass { IsPassOf memo.now pass.new }
-    ensures kept { Grows (known pass.old) (known pass.new) }
+    ensures learned { HasLearned memo.now pass.old pass.new }
 {
     if let Some(mut left) = left {
         memo.learn(pass, &mut left);

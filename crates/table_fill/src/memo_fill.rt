@@ -1,8 +1,15 @@
 // What workers share that fill a memo.
-ghost use Rattle.std.specs.Prelude.{◌≡◌};
+ghost use Rattle.std.specs.Prelude.{◌≡◌, ◌<◌, IfOk, IfErr, IfSome};
+ghost use Rattle.job_crew.specs.Workers.{IsWorkerCount};
+ghost use Rattle.shared_memo.specs.Passes.{IsPassOf};
 
+use job_crew::{CrewFault, fill_by_workers};
 use round_columns::Code;
-use shared_memo::Memo;
+use round_eval::Gate;
+use shared_memo::{Memo, Pass};
+use std::alloc::Global;
+use std::sync::Wait;
+use std::thread::Threads;
 
 // A memo to be filled, and the code of its plan, which is compiled once and lent to all workers.
 #[derive(Drop)]
@@ -10,4 +17,20 @@ pub(crate) struct MemoFill<'m, 'a> {
     pub(crate) memo: &'m Memo<'a>,
     pub(crate) code: &'m Code<'a>,
     pub(crate) ghost one_plan: { code.now ≡ memo.now.plan.now },
+}
+
+// Fills a memo with this many workers. A single worker returns its pass. That threads can share a
+// memo is proved here, where few values are in scope.
+pub(crate) fn fill_memo<'a, R: Threads + Wait + Sync, G: Gate + Sync>(
+    rt: &R,
+    alloc: Global,
+    fill: &MemoFill<'_, 'a>,
+    workers: u32,
+    gate: &G,
+) -> Result<Option<Pass<'a>>, CrewFault>
+    requires { IsWorkerCount workers }
+    ensures left { IfOk result (λ left. IfSome left (IsPassOf fill.now.memo.now)) }
+    ensures alone { IfErr result (λ fault. fault ≡ CrewFault.NoThread → 1 < workers) }
+{
+    fill_by_workers(rt, alloc, fill, workers, gate)
 }

@@ -2,7 +2,7 @@
 ghost use Rattle.shared_memo.specs.Passes.{IsPassOf, IsPassOf-prop};
 
 use shared_memo::{Memo, Pass, found_in};
-use unroll::{Block, Source};
+use window_states::{Block, Source};
 
 // A source of blocks that looks into a memo through a pass of its own, and marks a stranger. It
 // keeps looking after one, so a block that the pass knows is always found.

@@ -12,7 +12,7 @@ use Rattle.win_index.specs.Falling.{falling}
 use Rattle.win_index.specs.Windows.{IsWindow}
 use Rattle.win_index.specs.Laws.{CountOfWindows, NumberOfWindow, WindowsHaveNumbers}
 use Rattle.channel_tables.specs.Tables.{ChannelTable, IsBegun, windows_of}
-use Rattle.nbhd_check.specs.declared.separation.Separation.{Separation}
+use Rattle.channel_tables.specs.declared.separation.Separation.{Separation}
 use Rattle.table_text.specs.declared.version.Version.{Version}
 use Rattle.table_text.specs.declared.version.Version.TheVariants.{One, Two}
 use Rattle.table_text.specs.TableText.{Written, counts_then, counts_end, distances_then, ids_then, entry_then, entries_then, end_then, head_then, lines_then, text_of}

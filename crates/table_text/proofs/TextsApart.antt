@@ -3,7 +3,7 @@ use Rattle.std.proofs.Common.{◌≡◌, ℕ, List, [], ◌∷◌, ◌++◌, dro
 use Rattle.std.specs.Prelude.{codes}
 use Rattle.std.specs.Fmt.{decimal}
 use Rattle.channel_tables.specs.Tables.{windows_of}
-use Rattle.nbhd_check.specs.declared.separation.Separation.{Separation}
+use Rattle.channel_tables.specs.declared.separation.Separation.{Separation}
 use Rattle.table_text.specs.declared.version.Version.{Version}
 use Rattle.table_text.specs.declared.version.Version.TheVariants.{One, Two}
 use Rattle.table_text.specs.TableText.{Written, title_then, counts_then, counts_end, distances_then, sizes_then, ids_then, entry_then, entries_then, end_then, head_then, lines_then, text_of}

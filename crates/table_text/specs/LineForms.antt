@@ -3,7 +3,7 @@ use Rattle.std.specs.Prelude.{◌≡◌, ℕ, ◌^◌, ◌<◌, ◌≤◌, List,
 use Rattle.node_program.specs.declared.limits.TheConstants.{MAX_CHANNELS}
 use Rattle.win_index.specs.declared.limits.TheConstants.{MAX_ROUNDS}
 use Rattle.win_index.specs.ShapeRange.{IsShape}
-use Rattle.nbhd_check.specs.declared.separation.Separation.{Separation}
+use Rattle.channel_tables.specs.declared.separation.Separation.{Separation}
 use Rattle.table_text.specs.declared.version.Version.{Version}
 use Rattle.table_text.specs.declared.version.Version.TheVariants.{One, Two}
 use Rattle.table_text.specs.TableText.{title_then, sizes_then, entry_then, end_then}

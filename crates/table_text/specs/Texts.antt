@@ -1,7 +1,7 @@
 -- The texts of tables and separations.
 use Rattle.std.specs.Prelude.{◌≡◌, ℕ, List}
 use Rattle.channel_tables.specs.Tables.{ChannelTable, IsBegun, IsTable}
-use Rattle.nbhd_check.specs.declared.separation.Separation.{Separation}
+use Rattle.channel_tables.specs.declared.separation.Separation.{Separation}
 use Rattle.table_text.specs.declared.version.Version.{Version}
 use Rattle.table_text.specs.TableText.{Written, written, text_of}
 use Rattle.table_text.specs.LineForms.{IsSeparationOf}

@@ -2,14 +2,14 @@
 
 ghost use Rattle.std.specs.Prelude.{◌≡◌, ◌≢◌, ◌<◌, ◌≤◌, ◌^◌, ℕ, List, ◌∷◌, ◌++◌, length, MatchOption, IfSome, IfNone};
 ghost use Rattle.std.specs.Fmt.{decimal};
-ghost use Rattle.nbhd_check.specs.declared.separation.Separation.{Separation};
+ghost use Rattle.channel_tables.specs.declared.separation.Separation.{Separation};
 ghost use Rattle.table_text.specs.TableText.{title_then, counts_then, counts_end, distances_then, sizes_then, end_then};
 ghost use Rattle.table_text.specs.LineForms.{HasTitle, AreSizes, IsSeparationOf, HasSizes, IsEntry, HasEntry, HasEnd};
 ghost use Rattle.table_text.specs.LinePrefixes.{IsLine};
 
 use crate::numbers::{number_before, numbers_in};
 use crate::version::Version;
-use nbhd_check::Separation;
+use channel_tables::Separation;
 use node_program::MAX_CHANNELS;
 use win_index::{MAX_ROUNDS, MAX_WINDOW_LEN, Shape};
 

@@ -1,7 +1,7 @@
 //! Reading a table text, line by line.
 
 ghost use Rattle.std.specs.Prelude.{◌≡◌, ◌<◌, ◌≤◌, true, false, length, MatchResult, IfOk, OnOk, IfErr};
-ghost use Rattle.nbhd_check.specs.declared.separation.Separation.{Separation};
+ghost use Rattle.channel_tables.specs.declared.separation.Separation.{Separation};
 ghost use Rattle.channel_tables.specs.Tables.{ChannelTable, IsTable};
 ghost use Rattle.table_text.specs.TableText.{written, title_then, sizes_then, lines_then, text_of};
 ghost use Rattle.table_text.specs.LineForms.{AreSizes, IsSeparationOf};
@@ -13,8 +13,7 @@ use crate::laws::{table_texts_are_apart, table_texts_are_read};
 use crate::limits::LONGEST_TABLE_TEXT;
 use crate::lines::{Header, Line, after_end, after_title, line_of, sizes};
 use crate::version::Version;
-use channel_tables::{Table, TableMaker};
-use nbhd_check::Separation;
+use channel_tables::{Separation, Table, TableMaker};
 use std::alloc::Global;
 use win_index::MAX_WINDOW_LEN;
 

@@ -4,9 +4,9 @@ use Rattle.std.proofs.lemmas.Bool.{false≢true}
 use Rattle.std.proofs.lemmas.Option.{get_or_from_slice_get}
 use Rattle.win_index.specs.Windows.{windows, number_of}
 use Rattle.unroll.specs.Below.{part}
-use Rattle.unroll.specs.BlockStates.{MadeBlock, window_numbered, block_len}
+use Rattle.window_states.specs.BlockStates.{MadeBlock, window_numbered, block_len}
 use Rattle.lang_check.specs.Plans.{ProgramForIds}
-use Rattle.unroll.specs.Entries.{Entries, Grows, Asked}
+use Rattle.window_states.specs.Entries.{Entries, Grows, Asked}
 use Rattle.unroll.specs.MakeFaults.{KnowsAllBelow, IsMissingBelow, IsMakeFault}
 use Rattle.unroll.specs.Parts.{KnowsPart, KnowsParts, KnowsBelow, IsMissingPart, IsMissingBlock}
 use Rattle.unroll.specs.declared.fault.MakeFault.{MakeFault}

@@ -7,8 +7,8 @@ use Rattle.win_index.specs.declared.series.RunPlaces.{RunPlaces}
 use Rattle.lang_check.specs.Plans.{ProgramForIds}
 use Rattle.node_program.specs.Node.{to_right}
 use Rattle.unroll.specs.Below.{part}
-use Rattle.unroll.specs.Entries.{Entries, Grows}
-use Rattle.unroll.specs.Line.{middle_state}
+use Rattle.window_states.specs.Entries.{Entries, Grows}
+use Rattle.window_states.specs.Line.{middle_state}
 use Rattle.unroll.specs.Parts.{KnowsPart, IsFirstPart, IsRun}
 use Rattle.unroll.specs.declared.run.FirstPart.{FirstPart}
 use Rattle.unroll.specs.declared.run.Run.{Run}

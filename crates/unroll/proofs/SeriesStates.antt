@@ -11,9 +11,9 @@ use Rattle.win_index.specs.Windows.{windows, IsWindow}
 use Rattle.lang_check.specs.Plans.{ProgramForIds}
 use Rattle.node_program.specs.Node.{to_left, to_right}
 use Rattle.unroll.specs.Below.{part}
-use Rattle.unroll.specs.BlockStates.{window_numbered, block_state}
-use Rattle.unroll.specs.Entries.{Entries, Grows}
-use Rattle.unroll.specs.Line.{middle_state}
+use Rattle.window_states.specs.BlockStates.{window_numbered, block_state}
+use Rattle.window_states.specs.Entries.{Entries, Grows}
+use Rattle.window_states.specs.Line.{middle_state}
 use Rattle.unroll.specs.Parts.{KnowsParts, KnowsBelow, IsRun}
 use Rattle.unroll.specs.declared.run.Run.{Run}
 use Rattle.unroll.specs.WideColumns.{part_state, HoldParts, AreWritten}

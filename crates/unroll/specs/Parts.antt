@@ -4,10 +4,10 @@ use Rattle.lang_check.specs.Plans.{ProgramForIds}
 use Rattle.node_program.specs.Node.{to_right}
 use Rattle.win_index.specs.Runs.{IsRunStart, HasPlaces, IsEndOfSame}
 use Rattle.win_index.specs.Windows.{windows, number_of, IsWindow}
-use Rattle.unroll.specs.Line.{middle_state}
+use Rattle.window_states.specs.Line.{middle_state}
 use Rattle.unroll.specs.Below.{part, IsPartNumber}
-use Rattle.unroll.specs.BlockStates.{MadeBlock, window_numbered, block_len, block_state}
-use Rattle.unroll.specs.Entries.{Entries, IsEntry}
+use Rattle.window_states.specs.BlockStates.{MadeBlock, window_numbered, block_len, block_state}
+use Rattle.window_states.specs.Entries.{Entries, IsEntry}
 use Rattle.unroll.specs.declared.run.Reached.{Reached}
 use Rattle.unroll.specs.declared.upper_block.UpperBlock.{UpperBlock}
 use Rattle.unroll.specs.declared.run.FirstPart.{FirstPart}

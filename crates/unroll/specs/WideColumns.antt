@@ -5,11 +5,11 @@ use Rattle.node_program.specs.Term.{terms}
 use Rattle.win_index.specs.declared.limits.TheConstants.{BLOCK_WINDOWS}
 use Rattle.lang_check.specs.Plans.{ProgramForIds}
 use Rattle.round_columns.specs.States.{NodeStates, HasSize}
-use Rattle.round_columns.specs.StackNeed.{most_columns}
+use Rattle.column_machine.specs.StackNeed.{most_columns}
 use Rattle.unroll.specs.Below.{part}
-use Rattle.unroll.specs.BlockStates.{MadeBlock, window_numbered, block_len}
-use Rattle.unroll.specs.Line.{middle_state}
-use Rattle.unroll.specs.Entries.{Entries, IsEntry}
+use Rattle.window_states.specs.BlockStates.{MadeBlock, window_numbered, block_len}
+use Rattle.window_states.specs.Line.{middle_state}
+use Rattle.window_states.specs.Entries.{Entries, IsEntry}
 use Rattle.unroll.specs.Parts.{KnowsBelow, EndsAt}
 use Rattle.unroll.specs.declared.part_columns.PartColumns.{PartColumns}
 use Rattle.unroll.specs.declared.part_columns.Scratch.{Scratch}

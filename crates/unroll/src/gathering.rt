@@ -1,33 +1,22 @@
 // The states of a block's windows, from the states of their parts in blocks one level lower.
 ghost use Rattle.std.specs.Prelude.{◌≡◌, ℕ, ◌+◌, ◌-◌, ◌*◌, ◌<◌, ◌≤◌, [], ◌∷◌, length, take, slice_get, slice_index, Some, IfOk, IfErr, OnOk};
-ghost use Rattle.unroll.specs.BlockStates.{IsKey, block_len, window_numbered};
-ghost use Rattle.unroll.specs.Entries.{Asked};
-ghost use Rattle.unroll.specs.HeldStates.{first_states, HoldsSent};
+ghost use Rattle.window_states.specs.BlockStates.{IsKey, block_len, window_numbered};
+ghost use Rattle.window_states.specs.Entries.{Asked};
+ghost use Rattle.window_states.specs.HeldStates.{first_states, HoldsSent};
 ghost use Rattle.unroll.specs.MakeFaults.{KnowsAllBelow, IsMissingBelow};
 ghost use Rattle.unroll.specs.Parts.{IsReached};
 ghost use Rattle.unroll.specs.WideColumns.{AreWide, AreGathered, IsRunGathered, HoldParts, IsReady};
 ghost use Rattle.win_index.specs.Blocks.{block_count};
 ghost use Rattle.win_index.specs.Windows.{windows, IsWindow};
 
-use crate::block::Block;
 use crate::fault::MakeFault;
 use crate::part_columns::{PartColumns, Scratch};
 use crate::parts::numbered_block;
 use crate::run::{Reached, next_run, start_run};
-use crate::source::Source;
 use crate::upper_block::UpperBlock;
 use round_columns::{Code, next_columns, start_columns, to_left_columns, to_right_columns};
 use win_index::{BLOCK_WINDOWS, MAX_WINDOW_LEN, Shape, number_of_window, windows_have_numbers};
-
-// The number of windows of a block.
-pub(crate) fn len_of(shape: Shape, level: u32, number: u32) -> u32
-    requires level { level ≤ shape.rounds }
-    requires number { number < block_count shape.ids level }
-    ensures value { result ≡ block_len shape.ids level number }
-    ensures few { result ≤ BLOCK_WINDOWS }
-{
-    (shape.count(level) - first_number(shape, level, number)).min(BLOCK_WINDOWS)
-}
+use window_states::{Block, Source, block_len, first_number, states_from_parts};
 
 // Gathers the parts of each window of a block. `window` is the block's first window, and is
 // advanced in place.
@@ -49,7 +38,7 @@ pub(crate) fn gather<'s, S: Source<'s>>(
 {
     let plan = upper.plan;
     let shape = plan.shape();
-    let len = len_of(shape, upper.below + 1, upper.number);
+    let len = block_len(shape, upper.below + 1, upper.number);
     let mut index = 0;
     let mut first = None;
     let mut last = None;
@@ -94,7 +83,7 @@ fn gather_run<'s, S: Source<'s>>(
     let shape = upper.plan.shape();
     // The proof takes the limit of the number of windows from this call.
     let _windows = shape.count(upper.below);
-    let len = len_of(shape, upper.below + 1, upper.number);
+    let len = block_len(shape, upper.below + 1, upper.number);
     let Reached {
         index: from,
         window,
@@ -126,17 +115,6 @@ fn gather_run<'s, S: Source<'s>>(
         at = next;
         last = Some(block);
     }
-}
-
-// The number of the first window of a block.
-fn first_number(shape: Shape, level: u32, number: u32) -> u32
-    requires level { level ≤ shape.rounds }
-    requires number { number < block_count shape.ids level }
-    ensures { result ≡ BLOCK_WINDOWS * number }
-{
-    // The proof takes the limit of the number of windows from this call.
-    let _windows = shape.count(level);
-    BLOCK_WINDOWS * number
 }
 
 // Writes the states of the windows of a block: at level 0 from their identifiers, above it from
@@ -186,6 +164,7 @@ pub(crate) fn step_parts(code: &Code<'_>, below: u32, scratch: &mut Scratch)
     ensures states { (b count : ℕ) → count ≤ BLOCK_WINDOWS → HoldParts code.now below b count scratch.old.parts
         → take count scratch.new.made.states ≡ first_states code.now (below + 1) b count }
 {
+    states_from_parts();
     let Scratch { work, parts, made } = scratch;
     next_columns(
         code,
@@ -209,6 +188,7 @@ pub(crate) fn start_states(code: &Code<'_>, number: u32, window: &mut [u32], scr
     ensures states { take (block_len code.now.ids 0 number) scratch.new.made.states
         ≡ first_states code.now 0 number (block_len code.now.ids 0 number) }
 {
+    states_from_parts();
     let mut ids = [0; BLOCK_WINDOWS as usize];
     put_ids(code.plan().shape(), number, window, &mut ids);
     start_columns(code, &ids, &mut scratch.work, &mut scratch.made);
@@ -224,7 +204,7 @@ fn put_ids(shape: Shape, number: u32, window: &mut [u32], ids: &mut [u32])
     ensures { (i : ℕ) → i < block_len shape.ids 0 number
         → window_numbered shape.ids 0 (BLOCK_WINDOWS * number + i) ≡ slice_index ids.new i ∷ [] }
 {
-    for place in 0..len_of(shape, 0, number) as usize {
+    for place in 0..block_len(shape, 0, number) as usize {
         ids[place] = window[0];
         shape.next_window(0, window);
     }

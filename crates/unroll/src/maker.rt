@@ -1,14 +1,13 @@
-use crate::block::Block;
 use crate::fault::MakeFault;
-use crate::gathering::{len_of, send_states, write_states};
+use crate::gathering::{send_states, write_states};
 use crate::part_columns::{Scratch, zeros};
-use crate::source::Source;
 use node_program::OutOfMemory;
 use round_columns::Code;
-use round_eval::width_of;
+use round_eval::{rows_are_taken, width_of};
 use std::alloc::Global;
 use std::marker::Model;
 use win_index::{BLOCK_WINDOWS, Shape};
+use window_states::{Block, BlockLists, Source, block_len};
 
 /// Makes blocks of a plan, one after another, with scratch columns that it reuses. Its model is the
 /// plan.
@@ -34,8 +33,8 @@ impl<'c, 'p> Model for BlockMaker<'c, 'p> {
 
 impl<'c, 'p> BlockMaker<'c, 'p> {
     ghost use Rattle.std.specs.Prelude.{◌≡◌, IfOk};
-    ghost use Rattle.unroll.specs.BlockStates.{IsKey};
-    ghost use Rattle.unroll.specs.Entries.{Asked};
+    ghost use Rattle.window_states.specs.BlockStates.{IsKey};
+    ghost use Rattle.window_states.specs.Entries.{Asked};
     ghost use Rattle.unroll.specs.MakeFaults.{IsMade};
 
     /// Returns a maker of blocks of the plan that was compiled to this code, or the error that
@@ -70,13 +69,14 @@ impl<'c, 'p> BlockMaker<'c, 'p> {
     {
         let plan = self.code.plan();
         let shape = plan.shape();
-        let len = len_of(shape, level, number);
+        let len = block_len(shape, level, number);
         let cells = len as usize * width_of(plan);
         let sent = sent_len(shape, level);
         let mut states = zeros(self.alloc, cells).map_err(|_| MakeFault::OutOfMemory)?;
         let mut to_left = zeros(self.alloc, sent).map_err(|_| MakeFault::OutOfMemory)?;
         let mut to_right = zeros(self.alloc, sent).map_err(|_| MakeFault::OutOfMemory)?;
         write_states(self.code, source, level, number, &mut self.scratch)?;
+        rows_are_taken();
         self.scratch.made.take_rows(len as usize, &mut states);
         send_states(
             self.code,
@@ -85,16 +85,12 @@ impl<'c, 'p> BlockMaker<'c, 'p> {
             &mut to_left,
             &mut to_right,
         );
-        Ok(Block {
-            plan,
-            level,
-            number,
-            maker,
-            len,
+        let lists = BlockLists {
             states,
             to_left,
             to_right,
-        })
+        };
+        Ok(Block::new(plan, level, number, maker, lists))
     }
 }
 

@@ -1,15 +1,14 @@
 ghost use Rattle.std.specs.Prelude.{◌≡◌};
-ghost use Rattle.unroll.specs.BlockStates.{IsKey};
-ghost use Rattle.unroll.specs.Entries.{Asked};
+ghost use Rattle.window_states.specs.BlockStates.{IsKey};
+ghost use Rattle.window_states.specs.Entries.{Asked};
 ghost use Rattle.unroll.specs.MakeFaults.{IsMade};
 
-use crate::block::Block;
 use crate::fault::MakeFault;
 use crate::maker::BlockMaker;
-use crate::source::Source;
 use lang_check::Plan;
 use round_columns::Code;
 use std::alloc::Global;
+use window_states::{Block, Source};
 
 /// Makes the block of a plan with this level, number and maker.
 ///

@@ -2,16 +2,15 @@
 // level lower. They are at the offsets 0, 1 and 2.
 ghost use Rattle.std.specs.Prelude.{◌≡◌, ◌+◌, ◌*◌, ◌/◌, ◌<◌, ◌≤◌, length, Some, None, IfSome, IfNone, IfOk, IfErr};
 ghost use Rattle.unroll.specs.Below.{part};
-ghost use Rattle.unroll.specs.BlockStates.{IsKey};
-ghost use Rattle.unroll.specs.Entries.{Asked, IsEntry};
+ghost use Rattle.window_states.specs.BlockStates.{IsKey};
+ghost use Rattle.window_states.specs.Entries.{Asked, IsEntry};
 ghost use Rattle.unroll.specs.Parts.{HoldsPart, HoldsWindow, IsMissingPart, IsMissingBlock, IsWindowAbove};
 ghost use Rattle.win_index.specs.Blocks.{window_count};
 
-use crate::block::Block;
 use crate::fault::MakeFault;
-use crate::source::Source;
 use lang_check::Plan;
 use win_index::BLOCK_WINDOWS;
+use window_states::{Block, Source};
 
 // The block that holds the part of a window at this offset, and the index of the part in it.
 pub(crate) fn part_below<'s, S: Source<'s>>(

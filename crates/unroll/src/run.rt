@@ -1,17 +1,16 @@
 // Runs: the windows with a common prefix, all identifiers but the last.
 ghost use Rattle.std.specs.Prelude.{◌≡◌, ◌↔◌, IsTrue, ℕ, List, ◌+◌, ◌*◌, ◌<◌, length, take, drop, slice_get, Some, IfSome, IfOk, IfErr};
 ghost use Rattle.unroll.specs.Below.{part};
-ghost use Rattle.unroll.specs.Entries.{Asked};
+ghost use Rattle.window_states.specs.Entries.{Asked};
 ghost use Rattle.unroll.specs.Parts.{IsFirstPart, IsRun, IsMissingPart, IsWindowAbove};
 ghost use Rattle.win_index.specs.Runs.{IsRunStart, IsEndOfSame};
 ghost use Rattle.win_index.specs.Windows.{windows, IsWindow};
 
-use crate::block::Block;
 use crate::fault::MakeFault;
 use crate::parts::part_below;
-use crate::source::Source;
 use lang_check::Plan;
 use win_index::{MAX_WINDOW_LEN, RunPlaces, Shape};
+use window_states::{Block, Source};
 
 // The first part of a window: its identifiers, and the message of its node to the right in the next
 // round.

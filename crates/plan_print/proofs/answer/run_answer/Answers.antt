@@ -1,7 +1,7 @@
 use Rattle.std.proofs.Common.{◌≡◌, length, rules}
 use Rattle.std.proofs.lemmas.Result.{IfOk-weaker}
 use Rattle.win_index.specs.RingFaults.{IsFirstFault}
-use Rattle.plan_print.specs.Report.{ring_fault}
+use Rattle.reports.specs.Report.{ring_fault}
 use Rattle.plan_print.proofs.answer.run_answer.Goals as goal
 
 -- The list is not a ring.

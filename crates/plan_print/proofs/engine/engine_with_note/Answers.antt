@@ -2,10 +2,10 @@ use Rattle.std.proofs.Common.{ℕ, List, subst, string_bytes, rules}
 use Rattle.std.specs.Prelude.{IfSome}
 use Rattle.devices.specs.Input.{GivesInput}
 use Rattle.devices.specs.Watched.{device_of}
-use Rattle.plan_print.specs.Answers.{report_in}
-use Rattle.plan_print.specs.Causes.{IsNoteOn}
+use Rattle.reports.specs.Answers.{report_in}
+use Rattle.reports.specs.Notes.{IsNoteOn}
 use Rattle.plan_print.specs.Engine.{limit_of}
-use Rattle.plan_print.specs.Report.{IsReport}
+use Rattle.plan_print.specs.TaskReport.{IsReport}
 use Rattle.plan_print.proofs.engine.engine_with_note.Goals as goal
 
 -- The report and the note are on the input that was read.

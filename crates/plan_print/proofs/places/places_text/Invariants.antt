@@ -1,7 +1,7 @@
 use Rattle.std.proofs.Common.{◌≡◌, slice_index, string_bytes}
 use Rattle.std.specs.List.{flat_map, range_with_len}
 use Rattle.node_program.specs.GlobalRounds.{channel_at}
-use Rattle.plan_print.specs.Report.{place_line}
+use Rattle.reports.specs.Report.{place_line}
 use Rattle.plan_print.proofs.places.places_text.Given as goal
 
 -- the lines of the places so far are in the text

@@ -2,8 +2,8 @@ use Rattle.std.proofs.Common.{◌≡◌, rules}
 use Rattle.std.proofs.lemmas.Result.{IfOk-weaker}
 use Rattle.node_lang.specs.Grammar.{Reads}
 use Rattle.lang_check.specs.Acceptance.{IsAccepted}
-use Rattle.plan_print.specs.Answers.{report_in}
-use Rattle.plan_print.specs.Report.{IsProgramRefusal, answered, program_refused}
+use Rattle.reports.specs.Answers.{report_in}
+use Rattle.reports.specs.Report.{IsProgramRefusal, answered, program_refused}
 use Rattle.plan_print.proofs.Reports.{as_report}
 use Rattle.plan_print.proofs.report.program_report.Goals as goal
 

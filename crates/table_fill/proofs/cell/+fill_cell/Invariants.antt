@@ -1,5 +1,5 @@
 use Rattle.std.proofs.Common.{◌≡◌}
-use Rattle.unroll.specs.Entries.{Grows}
+use Rattle.window_states.specs.Entries.{Grows}
 use Rattle.table_fill.proofs.cell.+fill_cell.Given as goal
 
 abbrev pub decreases-fill_cell : goal.decreases-fill_cell

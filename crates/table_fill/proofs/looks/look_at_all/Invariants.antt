@@ -1,7 +1,7 @@
 use Rattle.std.proofs.Common.{◌≡◌, ℕ, ◌<◌, true}
 use Rattle.std.specs.Prelude.{is_some}
 use Rattle.win_index.specs.Blocks.{block_count}
-use Rattle.unroll.specs.Entries.{Grows}
+use Rattle.window_states.specs.Entries.{Grows}
 use Rattle.shared_memo.specs.Passes.{IsPassOf, known}
 use Rattle.table_fill.proofs.looks.look_at_all.Given as goal
 

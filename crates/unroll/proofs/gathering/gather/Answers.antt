@@ -1,7 +1,7 @@
 use Rattle.std.proofs.Common.{◌≡◌, ◌+◌, ◌-◌, ◌*◌, ◌/◌, ◌<◌, refl, ◌∙◌, arith, subst}
 use Rattle.std.proofs.lemmas.Result.{err_from_is_err_and}
-use Rattle.unroll.specs.BlockStates.{block_len}
-use Rattle.unroll.specs.Entries.{IsEntry}
+use Rattle.window_states.specs.BlockStates.{block_len}
+use Rattle.window_states.specs.Entries.{IsEntry}
 use Rattle.unroll.specs.WideColumns.{AreGathered}
 use Rattle.unroll.proofs.Known.{still_known, window_at, asked_both, fault_of_block, if_some_more}
 use Rattle.unroll.proofs.SameRun.{first_grows}
@@ -68,7 +68,7 @@ returns-then-after-len-clause-asked g c =
 pub returns-then-after-len-clause-gathered : goal.returns-then-after-len-clause-gathered
 returns-then-after-len-clause-gathered g c =
     let upper = c.args.upper in
-    let len = rw c.shape-shape.ensures.ids at c.len_of-len.ensures.value in
+    let len = rw c.shape-shape.ensures.ids at c.block_len-len.ensures.value in
     let done : c.in_ok-after.after ≡ block_len upper.plan.now.ids (upper.below + 1) upper.number = omega (arith, len, c.if-after-len.true) in
     let entries = g.S.Source.entries c.gather_run.new.source in
     subst (λ count. AreGathered entries upper count c.gather_run.new.parts) done c.in_ok-after.ensures.gathered.gathered
@@ -85,7 +85,7 @@ loop-run-preserved g c =
     let asked = c.in_ok-run.ensures in
     let went = c.in_ok-after.ensures in
     let run = went.gathered in
-    let len = rw c.shape-shape.ensures.ids at c.len_of-len.ensures.value in
+    let len = rw c.shape-shape.ensures.ids at c.block_len-len.ensures.value in
     let within : after < block_len m (low + 1) b = omega (arith, len, run.within, c.if-after-len.false) in
     let end = run.ended within in
     let sum : BLOCK_WINDOWS * b + (after - 1) + 1 ≡ BLOCK_WINDOWS * b + after = omega (arith, run.later) in

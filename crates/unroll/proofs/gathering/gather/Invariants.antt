@@ -1,7 +1,7 @@
 use Rattle.std.proofs.Common.{◌≡◌, ◌+◌, ◌-◌, ◌*◌, ◌<◌, slice_get, Some, IfSome}
 use Rattle.win_index.specs.Windows.{windows, IsWindow}
-use Rattle.unroll.specs.BlockStates.{block_len}
-use Rattle.unroll.specs.Entries.{Asked, IsEntry}
+use Rattle.window_states.specs.BlockStates.{block_len}
+use Rattle.window_states.specs.Entries.{Asked, IsEntry}
 use Rattle.unroll.specs.Parts.{IsFirstPart}
 use Rattle.unroll.specs.WideColumns.{AreWide, AreGathered}
 use Rattle.unroll.proofs.gathering.gather.Given as goal

@@ -4,8 +4,8 @@ use Rattle.std.proofs.lemmas.Option.{slice_get_within}
 use Rattle.win_index.specs.Runs.{IsAtPlace, place_in_run}
 use Rattle.win_index.specs.Windows.{windows, IsWindow}
 use Rattle.unroll.specs.Below.{part}
-use Rattle.unroll.specs.BlockStates.{block_len}
-use Rattle.unroll.specs.Entries.{IsEntry}
+use Rattle.window_states.specs.BlockStates.{block_len}
+use Rattle.window_states.specs.Entries.{IsEntry}
 use Rattle.unroll.specs.Parts.{EndsAt}
 use Rattle.unroll.specs.WideColumns.{AreGathered, AreWide}
 use Rattle.unroll.proofs.Known.{window_at, asked_both, fault_of_last}
@@ -105,8 +105,8 @@ module _ (g : Over) (c : After-put_lasts g) where
       rw from at (further_place c.number_of_window.ensures c.windows_have_numbers.ensures plan (g.S.Source.entries c.numbered_block.new.source) low
       c.args.upper.number c.loop-block.place block.number index (count - 1) c.loop-block.at c.loop-block.invariant.here.0 run last start)
 
-  len_is : c.len_of-len.result ≡ block_len c.args.upper.plan.now.ids (c.args.upper.below + 1) c.args.upper.number
-  len_is = rw c.shape-shape.ensures.ids at c.len_of-len.ensures.value
+  len_is : c.block_len-len.result ≡ block_len c.args.upper.plan.now.ids (c.args.upper.below + 1) c.args.upper.number
+  len_is = rw c.shape-shape.ensures.ids at c.block_len-len.ensures.value
 
   -- the end of these windows is behind the place that was reached, and inside the block
   later : c.args.reached.index < c.loop-block.place + c.series-count.result
@@ -205,7 +205,7 @@ returns-in_err-block-clause-missing g c =
     let right = last_part_here plan (entries c.args.source.now) (entries c.loop-block.source) low c.loop-block.at c.args.reached.window.now w run before.asked.grows c.requires.reached.run before.here.2 before.here.3 in
     let own = window_at m (low + 1) (BLOCK_WINDOWS * b + c.loop-block.place) w before.here.1 in
     let number = c.number_of_window.ensures (2 * low + 1) m (run.start + c.loop-block.at) (part w low 2) right in
-    let len = rw c.shape-shape.ensures.ids at c.len_of-len.ensures.value in
+    let len = rw c.shape-shape.ensures.ids at c.block_len-len.ensures.value in
     let p = err_from_is_err_and c.from_residual.result c.from_residual.ensures.1 in
     rw (p.1, p.2)
     (fault_of_last (entries c.numbered_block.new.source) m low b c.loop-block.place (run.start + c.loop-block.at) w c.in_err-block.field-0.0
@@ -223,7 +223,7 @@ loop-block-init g c =
     let last : 2 * low + 2 ≡ 2 * low + 1 + 1 = omega arith in
     let place = subst (λ i. c.place_in_run-at.result ≡ place_in_run (2 * low + 1) window (get_or window i 0)) last c.place_in_run-at.ensures.value in
     let at_inside = rw c.shape-shape.ensures.ids at c.place_in_run-at.ensures.inside in
-    let len = rw c.shape-shape.ensures.ids at c.len_of-len.ensures.value in
+    let len = rw c.shape-shape.ensures.ids at c.block_len-len.ensures.value in
     let put = c.put_fronts.ensures in
     record {
       after = omega arith;

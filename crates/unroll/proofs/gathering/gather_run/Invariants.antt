@@ -1,7 +1,7 @@
 use Rattle.std.proofs.Common.{◌≡◌, ℕ, ◌+◌, ◌-◌, ◌*◌, ◌<◌, ◌≤◌, List, [], take, slice_index, slice_get, Some, IfSome}
 use Rattle.win_index.specs.Runs.{IsAtPlace, place_in_run}
 use Rattle.win_index.specs.Windows.{windows}
-use Rattle.unroll.specs.Entries.{Asked, IsEntry}
+use Rattle.window_states.specs.Entries.{Asked, IsEntry}
 use Rattle.unroll.specs.WideColumns.{AreWide, AreWritten, AreGathered}
 use Rattle.unroll.proofs.gathering.gather_run.Given as goal
 use Rattle.win_index.specs.declared.limits.TheConstants.{BLOCK_WINDOWS}

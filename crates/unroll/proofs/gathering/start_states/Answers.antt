@@ -1,10 +1,9 @@
-use Rattle.std.proofs.Common.{[], ◌∷◌, get_or, refl, sym, ◌∙◌, ap, arith}
+use Rattle.std.proofs.Common.{[], ◌∷◌, get_or, sym, ◌∙◌, ap, arith}
 use Rattle.std.proofs.lemmas.List.{get_or-map}
 use Rattle.node_program.specs.Node.{start}
-use Rattle.unroll.specs.BlockStates.{block_len, block_state}
-use Rattle.unroll.specs.Line.{middle_state}
+use Rattle.window_states.specs.BlockStates.{block_len, block_state}
+use Rattle.window_states.specs.Line.{middle_state}
 use Rattle.unroll.proofs.ColumnStates.{take_states}
-use Rattle.unroll.proofs.Lines.{middle_state-zero}
 use Rattle.unroll.proofs.gathering.start_states.Goals as goal
 
 pub returns-clause-states : goal.returns-clause-states
@@ -19,4 +18,4 @@ returns-clause-states c =
     (λ i lt.
     ap (λ u. get_or u i []) c.start_columns.ensures.states
     ∙ get_or-map (start plan.program) ids i 0 [] (omega (arith, lt, size))
-    ∙ sym (ap (middle_state plan.program 0) (written i lt) ∙ middle_state-zero plan.program (get_or ids i 0) (get_or ids i 0 ∷ []) (omega arith) refl))
+    ∙ sym (ap (middle_state plan.program 0) (written i lt) ∙ c.states_from_parts.ensures.start plan.program (get_or ids i 0 ∷ []) (omega arith)))

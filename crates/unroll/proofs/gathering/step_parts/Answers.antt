@@ -1,9 +1,7 @@
-use Rattle.std.proofs.Common.{◌+◌, ◌*◌, [], get_or, refl, ◌∙◌, arith}
+use Rattle.std.proofs.Common.{◌+◌, ◌*◌, sym, ◌∙◌, arith}
 use Rattle.node_program.specs.Node.{next}
-use Rattle.unroll.specs.BlockStates.{window_numbered, block_state}
-use Rattle.unroll.specs.WideColumns.{part_state}
+use Rattle.window_states.specs.BlockStates.{window_numbered, block_state}
 use Rattle.unroll.proofs.ColumnStates.{take_states}
-use Rattle.unroll.proofs.Lines.{middle_from_parts}
 use Rattle.unroll.proofs.gathering.step_parts.Goals as goal
 use Rattle.win_index.specs.declared.limits.TheConstants.{BLOCK_WINDOWS}
 
@@ -17,6 +15,6 @@ returns-clause-states c = λ b count few held.
     take_states count made (block_state plan (low + 1) b) (omega (arith, few, c.next_columns.ensures.size.0, ready.made_wide.0))
     (λ i lt.
     let stepped = rw (c.deref.ensures.value, c.deref-2.ensures.value) at c.next_columns.ensures.states i (omega (arith, lt, few, ready.parts_wide.1.0)) in
-    middle_from_parts plan.program low (low + 1) (window_numbered plan.ids (low + 1) (BLOCK_WINDOWS * b + i)) (part_state plan low b 0 i) (get_or own i [])
-    (part_state plan low b 2 i) (get_or made i []) refl (held.sizes i lt) refl (held.own i lt) refl
-    (stepped ∙ (λ j. next plan.program low (get_or own i []) (held.left i lt j) (held.right i lt j))))
+    stepped
+    ∙ (λ j. next plan.program low (held.own i lt j) (held.left i lt j) (held.right i lt j))
+    ∙ sym (c.states_from_parts.ensures.next plan.program low (window_numbered plan.ids (low + 1) (BLOCK_WINDOWS * b + i)) (held.sizes i lt)))

@@ -1,6 +1,6 @@
 use Rattle.std.proofs.Common.{◌≡◌, ◌+◌, ◌-◌, ◌≤◌, take, subst, arith}
-use Rattle.unroll.specs.BlockStates.{block_len}
-use Rattle.unroll.specs.HeldStates.{first_states}
+use Rattle.window_states.specs.BlockStates.{block_len}
+use Rattle.window_states.specs.HeldStates.{first_states}
 use Rattle.unroll.specs.Parts.{KnowsBelow}
 use Rattle.unroll.proofs.Known.{knows_all_below}
 use Rattle.unroll.proofs.gathering.write_states.Goals as goal

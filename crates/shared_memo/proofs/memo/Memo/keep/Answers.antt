@@ -1,5 +1,5 @@
 use Rattle.std.proofs.Common.{◌≡◌, ◌<◌, Some, set, ◌∙◌, subst}
-use Rattle.unroll.specs.BlockStates.{MadeBlock}
+use Rattle.window_states.specs.BlockStates.{MadeBlock}
 use Rattle.shared_memo.specs.PlanJobs.{job_of, job_count}
 use Rattle.shared_memo.proofs.Sets.{in_range, cell_at, right_put, keeps_set, known_here, known_set_here, cells_set, grows_set, else_set, same_set, learns_at, knows_same, at_key}
 use Rattle.shared_memo.proofs.memo.Memo.keep.Goals as goal

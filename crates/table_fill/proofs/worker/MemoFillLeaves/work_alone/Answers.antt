@@ -1,7 +1,7 @@
 use Rattle.std.proofs.Common.{rules, ◌≡◌, ℕ, true, [], ◌∷◌, ◌++◌, length, Some}
 use Rattle.std.specs.Prelude.{is_some, slice_get}
 use Rattle.win_index.specs.Jobs.{jobs_of}
-use Rattle.unroll.specs.Entries.{Entries}
+use Rattle.window_states.specs.Entries.{Entries}
 use Rattle.shared_memo.specs.Passes.{known}
 use Rattle.shared_memo.specs.PlanJobs.{job_of}
 use Rattle.shared_memo.specs.Tickets.{drawn}

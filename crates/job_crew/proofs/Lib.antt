@@ -1,0 +1,2 @@
+-- A lemma of a crew.
+mod Numbered

@@ -1,0 +1,6 @@
+-- Lemmas that several proofs share.
+mod OccurrenceLemmas
+mod Bits
+mod Within
+mod States
+mod Images

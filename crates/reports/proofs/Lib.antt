@@ -1,0 +1,3 @@
+mod Joined
+mod TraceLines
+pub mod Aligned

@@ -1,0 +1,40 @@
+//! The cause of a report that is a refusal or a no.
+
+use lang_check::CheckFault;
+use node_lang::{Program, TextFault};
+use table_text::TableFault;
+use win_index::RingFault;
+
+/// The cause of a report that is a refusal or a no.
+#[derive(Drop)]
+pub enum Cause {
+    /// The fault of a program text.
+    Text(TextFault),
+    /// The refusal of a program.
+    Program {
+        program: Program,
+        ids: u32,
+        fault: CheckFault,
+    },
+    /// The fault of a list of identifiers that is not a ring.
+    Ring {
+        rounds: u32,
+        ids: u32,
+        places: Vec<u32>,
+        fault: RingFault,
+    },
+    /// A number of segments, and the number of places of the ring.
+    Segments {
+        segments: u32,
+        places: usize,
+    },
+    /// The fault of a table text.
+    TableText(TableFault),
+    /// The ring, the places and their channels at which a table breaks a separation.
+    No {
+        rounds: u32,
+        ring: Vec<u32>,
+        places: (u32, u32),
+        channels: (u32, u32),
+    },
+}

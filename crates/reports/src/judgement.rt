@@ -1,0 +1,65 @@
+//! The report of the judge on a table. Each call fails only with `Memory`, if memory was refused.
+
+ghost use Rattle.std.specs.Prelude.{◌≡◌, IfOk, IfErr};
+ghost use Rattle.nbhd_check.specs.Verdicts.{IsVerdict};
+ghost use Rattle.reports.specs.Answers.{report_in, HasOwnCause};
+ghost use Rattle.reports.specs.Report.{IsJudgement};
+
+use crate::answer::Answer;
+use crate::cause::Cause;
+use crate::lines::{good_line, no_line};
+use crate::status::Status;
+use channel_tables::Table;
+use devices::fault::EngineFault;
+use nbhd_check::{Separation, Verdict, judge, tuple_count};
+use std::alloc::Global;
+use std::thread::Threads;
+
+/// Returns the report of this verdict on the table.
+pub fn verdict_answer(
+    alloc: Global,
+    table: &Table,
+    separation: Separation,
+    verdict: Verdict,
+) -> Result<Answer, EngineFault>
+    requires { IsVerdict table.now separation verdict }
+    ensures answer { IfOk result (λ r. IsJudgement table.now separation (report_in r)) }
+    ensures cause { IfOk result HasOwnCause }
+    ensures fault { IfErr result (λ fault. fault ≡ EngineFault.Memory) }
+{
+    match verdict {
+        Verdict::Yes => Ok(Answer::Text(
+            good_line(alloc, tuple_count(table, separation))?,
+            Status::Done,
+        )),
+        Verdict::No {
+            ring,
+            places,
+            channels,
+        } => {
+            let line = no_line(alloc, separation, &ring, places, channels)?;
+            let cause = Cause::No {
+                rounds: table.shape().rounds(),
+                ring,
+                places,
+                channels,
+            };
+            Ok(Answer::Told(line, Status::No, cause))
+        }
+    }
+}
+
+// Returns the report of the judge on a table, by at most as many threads as there are processors.
+pub(crate) fn audit_report<T: Threads + Sync>(
+    rt: &T,
+    alloc: Global,
+    table: &Table,
+    separation: Separation,
+) -> Result<Answer, EngineFault>
+    ensures answer { IfOk result (λ r. IsJudgement table.now separation (report_in r)) }
+    ensures cause { IfOk result HasOwnCause }
+    ensures fault { IfErr result (λ fault. fault ≡ EngineFault.Memory) }
+{
+    let verdict = judge(rt, alloc, table, separation)?;
+    verdict_answer(alloc, table, separation, verdict)
+}

@@ -1,0 +1,193 @@
+//! Lines of the report. Each call fails only if memory was refused.
+
+ghost use Rattle.std.specs.Prelude.{◌≡◌, [], ◌∷◌, ◌++◌, IfOk, OnOk, string_bytes};
+ghost use Rattle.reports.specs.Lines.{line, numbers_text};
+ghost use Rattle.reports.specs.Report as report;
+
+use lang_check::{CheckFault, Plan};
+use nbhd_check::Separation;
+use node_lang::{FaultKind, TextFault};
+use std::alloc::{AllocError, Global};
+use std::fmt::Write;
+use table_text::TableFault;
+use win_index::RingFault;
+
+// Writes numbers in decimal, separated by single blanks.
+pub(crate) fn write_numbers(text: &mut String, numbers: &[u32]) -> Result<(), AllocError>
+    ensures { OnOk result (string_bytes text.new ≡ string_bytes text.old ++ numbers_text numbers.now) }
+{
+    let [first, others @ ..] = numbers else {
+        return Ok(());
+    };
+    write!(text, "{first}")?;
+    for number in others {
+        write!(text, " {number}")?;
+    }
+    Ok(())
+}
+
+/// Returns a line of numbers in decimal, separated by single blanks and followed by a line feed.
+pub fn numbers_line(alloc: Global, numbers: &[u32]) -> Result<String, AllocError>
+    ensures { IfOk result (λ text. string_bytes text ≡ line (numbers_text numbers.now ∷ [])) }
+{
+    let mut text = String::new(alloc);
+    write_numbers(&mut text, numbers)?;
+    text.push_str("\n")?;
+    Ok(text)
+}
+
+// Returns the number of a kind of text fault.
+fn number_of(fault: FaultKind) -> u32
+    ensures { result ≡ report.kind_number fault }
+{
+    match fault {
+        FaultKind::TooLong => 1,
+        FaultKind::NotAscii => 2,
+        FaultKind::BadWord => 3,
+        FaultKind::NumberTooLarge => 4,
+        FaultKind::HeaderRange => 5,
+        FaultKind::Unexpected => 6,
+        FaultKind::TooDeep => 7,
+        FaultKind::TooManyNodes => 8,
+        FaultKind::EndOfText => 9,
+        FaultKind::OutOfMemory => 10,
+    }
+}
+
+// Returns the line of a text fault.
+pub(crate) fn text_fault_line(alloc: Global, fault: TextFault) -> Result<String, AllocError>
+    ensures { IfOk result (λ text. string_bytes text ≡ report.text_fault_line fault.kind fault.offset) }
+{
+    let number = number_of(fault.kind);
+    let offset = fault.offset;
+    format!(in alloc; "text fault N{number} at {offset}\n")
+}
+
+// Returns the line of a program that is not accepted.
+pub(crate) fn check_fault_line(alloc: Global, fault: CheckFault) -> Result<String, AllocError>
+    ensures { IfOk result (λ text. string_bytes text ≡ report.check_fault_line fault) }
+{
+    match fault {
+        CheckFault::IdsOutOfRange => format!(in alloc; "check fault X1\n"),
+        CheckFault::TooManyWindows => format!(in alloc; "check fault X2\n"),
+        CheckFault::RegisterOutOfRange(register) => {
+            format!(in alloc; "check fault C1 register {register}\n")
+        }
+        CheckFault::IdOutsideStart => format!(in alloc; "check fault C2\n"),
+        CheckFault::MessageOutsideStep => format!(in alloc; "check fault C3\n"),
+        CheckFault::ChannelBound(bound) => format!(in alloc; "check fault C4 bound {bound}\n"),
+    }
+}
+
+// Returns the line of a list that is not a ring.
+pub(crate) fn ring_fault_line(alloc: Global, fault: RingFault) -> Result<String, AllocError>
+    ensures { IfOk result (λ text. string_bytes text ≡ report.ring_fault_line fault) }
+{
+    match fault {
+        RingFault::TooShort => format!(in alloc; "ring fault G1\n"),
+        RingFault::TooLong => format!(in alloc; "ring fault G2\n"),
+        RingFault::IdTooLarge(place) => format!(in alloc; "ring fault G3 place {place}\n"),
+        RingFault::Repeated(first, second) => {
+            format!(in alloc; "ring fault G4 places {first} {second}\n")
+        }
+    }
+}
+
+// Returns the line of a ring that can't be run in the requested number of segments.
+pub(crate) fn segments_fault_line(alloc: Global) -> Result<String, AllocError>
+    ensures { IfOk result (λ text. string_bytes text ≡ report.segments_fault_line) }
+{
+    format!(in alloc; "segments fault E1\n")
+}
+
+// Returns the line of a text that is not a table text, or an empty text for `OutOfMemory`.
+pub(crate) fn table_fault_line(alloc: Global, fault: TableFault) -> Result<String, AllocError>
+    ensures { IfOk result (λ text. string_bytes text ≡ report.table_fault_line fault) }
+{
+    match fault {
+        TableFault::Syntax(offset) => format!(in alloc; "table fault A1 at {offset}\n"),
+        TableFault::WrongWindow(line) => format!(in alloc; "table fault A2 line {line}\n"),
+        TableFault::ChannelTooLarge(line) => format!(in alloc; "table fault A3 line {line}\n"),
+        TableFault::OutOfMemory => Ok(String::new(alloc)),
+    }
+}
+
+// Returns the line of an accepted program.
+pub(crate) fn accepted_line(alloc: Global, plan: &Plan) -> Result<String, AllocError>
+    ensures { IfOk result (λ text. string_bytes text ≡ report.accepted_line plan.now.ids plan.now.program) }
+{
+    let shape = plan.shape();
+    let ids = shape.ids();
+    let rounds = shape.rounds();
+    let channels = plan.channels();
+    let bound = plan.bound();
+    let windows = shape.count(rounds);
+    format!(in alloc;
+        "accepted ids {ids} rounds {rounds} channels {channels} bound {bound} windows {windows}\n"
+    )
+}
+
+// Returns the line of a table whose channels are far enough apart everywhere.
+pub(crate) fn good_line(alloc: Global, tuples: u64) -> Result<String, AllocError>
+    ensures { IfOk result (λ text. string_bytes text ≡ report.good_line tuples) }
+{
+    format!(in alloc; "yes: {tuples} tuples\n")
+}
+
+// Returns the line of a ring on which a place and its right neighbour have the same channel.
+fn bad_line(alloc: Global, ring: &[u32], place: u32, channel: u32) -> Result<String, AllocError>
+    ensures { IfOk result (λ text. string_bytes text ≡ report.bad_line ring.now place channel) }
+{
+    let mut text = String::new(alloc);
+    text.push_str("no: ring ")?;
+    write_numbers(&mut text, ring)?;
+    write!(text, " place {place} channel {channel}\n")?;
+    Ok(text)
+}
+
+// Returns the line of a ring on which the channels of two places are too close.
+fn close_line(
+    alloc: Global,
+    ring: &[u32],
+    places: (u32, u32),
+    channels: (u32, u32),
+) -> Result<String, AllocError>
+    ensures { IfOk result (λ text. string_bytes text ≡ report.close_line ring.now places channels) }
+{
+    let mut text = String::new(alloc);
+    text.push_str("no: ring ")?;
+    write_numbers(&mut text, ring)?;
+    let (place, other_place) = places;
+    let (channel, other_channel) = channels;
+    write!(
+        text,
+        " places {place} {other_place} channels {channel} {other_channel}\n"
+    )?;
+    Ok(text)
+}
+
+// Returns the line of a no. If neighbours' channels only have to differ, it has the one channel of
+// both places.
+pub(crate) fn no_line(
+    alloc: Global,
+    separation: Separation,
+    ring: &[u32],
+    places: (u32, u32),
+    channels: (u32, u32),
+) -> Result<String, AllocError>
+    ensures { IfOk result (λ text. string_bytes text ≡ report.no_line separation ring.now places channels) }
+{
+    if separation.near == 1 && separation.far == 0 {
+        bad_line(alloc, ring, places.0, channels.0)
+    } else {
+        close_line(alloc, ring, places, channels)
+    }
+}
+
+/// Writes the line of a place, with its identifier and its channel.
+#[tactic(auto, using(crate::proofs::Aligned::aligned))]
+pub fn write_place(text: &mut String, place: u32, id: u32, channel: u32) -> Result<(), AllocError>
+    ensures { OnOk result (string_bytes text.new ≡ string_bytes text.old ++ report.place_line place id channel) }
+{
+    write!(text, "{place:>4} {id:>4} {channel:>4}\n")
+}

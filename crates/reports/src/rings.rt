@@ -1,0 +1,70 @@
+//! Reports on rings, and on lists of identifiers that are not rings. Each call fails only with
+//! `Memory`, if memory was refused.
+
+ghost use Rattle.std.specs.Prelude.{◌≡◌, length, IfOk, IfErr};
+ghost use Rattle.reports.specs.Answers.{report_in, HasOwnCause};
+ghost use Rattle.reports.specs.Trace.{trace_lines};
+ghost use Rattle.reports.specs.Report as report;
+ghost use Rattle.reports.specs.Report.{Says, IsAnswerOnRing};
+ghost use Rattle.ring_core.specs.SegmentCounts.{IsSegmentCount};
+ghost use Rattle.win_index.specs.RingFaults.{IsFirstFault};
+
+use crate::answer::Answer;
+use crate::cause::Cause;
+use crate::lines::{ring_fault_line, segments_fault_line};
+use crate::status::Status;
+use crate::trace::trace_text;
+use devices::fault::EngineFault;
+use lang_check::Plan;
+use std::alloc::Global;
+use win_index::{Ring, RingFault, Shape};
+
+/// Returns the report on a list of identifiers that is not a ring of this shape.
+pub fn ring_refusal(
+    alloc: Global,
+    shape: Shape,
+    places: Vec<u32>,
+    fault: RingFault,
+) -> Result<Answer, EngineFault>
+    requires { IsFirstFault shape.ids shape.rounds places.items fault }
+    ensures answer { IfOk result (λ r. Says (report.ring_fault_line fault) Status.RingRefused (report_in r)) }
+    ensures cause { IfOk result HasOwnCause }
+    ensures fault { IfErr result (λ fault. fault ≡ EngineFault.Memory) }
+{
+    let line = ring_fault_line(alloc, fault)?;
+    let cause = Cause::Ring {
+        rounds: shape.rounds(),
+        ids: shape.ids(),
+        places,
+        fault,
+    };
+    Ok(Answer::Told(line, Status::RingRefused, cause))
+}
+
+/// Returns the report on a number of segments in which the ring can't be run.
+pub fn segments_refusal(alloc: Global, segments: u32, ring: &Ring) -> Result<Answer, EngineFault>
+    requires { ¬ IsSegmentCount segments (length ring.now.places) }
+    ensures answer { IfOk result (λ r. Says report.segments_fault_line Status.Words (report_in r)) }
+    ensures cause { IfOk result HasOwnCause }
+    ensures fault { IfErr result (λ fault. fault ≡ EngineFault.Memory) }
+{
+    let line = segments_fault_line(alloc)?;
+    let cause = Cause::Segments {
+        segments,
+        places: ring.len() as usize,
+    };
+    Ok(Answer::Told(line, Status::Words, cause))
+}
+
+/// Returns the report of a trace of a list of identifiers.
+pub fn trace_answer(alloc: Global, plan: &Plan, ids: Vec<u32>) -> Result<Answer, EngineFault>
+    ensures answer { IfOk result (λ r. IsAnswerOnRing plan.now.ids (length plan.now.program.steps) ids.items
+        (Says (trace_lines plan.now.program ids.items) Status.Done) (report_in r)) }
+    ensures cause { IfOk result HasOwnCause }
+    ensures fault { IfErr result (λ fault. fault ≡ EngineFault.Memory) }
+{
+    match Ring::new(plan.shape(), ids) {
+        Ok(ring) => Ok(Answer::Text(trace_text(alloc, plan, &ring)?, Status::Done)),
+        Err((ids, fault)) => ring_refusal(alloc, plan.shape(), ids, fault),
+    }
+}

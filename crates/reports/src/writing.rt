@@ -1,0 +1,101 @@
+//! Writing a report.
+
+ghost use Rattle.std.specs.Prelude.{◌≡◌, ◌≢◌, ◌↔◌, false, IsTrue, IfOk, IfErr, OnOk, IsErrOf};
+ghost use Rattle.std.specs.Io.KnownBytes.{Appends};
+ghost use Rattle.devices.specs.Watched.{device_of, has_failed};
+ghost use Rattle.table_text.specs.TableText.{table_text};
+ghost use Rattle.reports.specs.Answers.{report_in, cause_in};
+ghost use Rattle.reports.specs.Written.{LeavesFront, MayHave};
+
+use crate::answer::Answer;
+use crate::cause::Cause;
+use crate::status::Status;
+use channel_tables::Table;
+use devices::fault::{EngineFault, OutFault};
+use devices::output::send;
+use devices::watched::Watched;
+use nbhd_check::Separation;
+use std::alloc::Global;
+use std::io::Write;
+use table_text::write_table;
+
+/// Writes a report. Returns its status, and its cause if it is a refusal or a no.
+///
+/// Fails with `Write` exactly if a write failed or took no byte, and a prefix of the report was
+/// written then; with `Memory` if memory was refused, and nothing was written then.
+pub fn write_answer<W: Write>(
+    alloc: Global,
+    answer: Answer,
+    writer: &mut Watched<W>,
+) -> Result<(Status, Option<Cause>), EngineFault>
+    requires { has_failed writer.old ≡ false }
+    ensures report { IfOk result (λ told. Appends (W.contents (device_of writer.old)) (W.contents (device_of writer.new)) (report_in answer).bytes
+        × (told.0 ≡ (report_in answer).status)) }
+    ensures cause { IfOk result (λ told. told.1 ≡ cause_in answer) }
+    ensures left { IfErr result (LeavesFront (report_in answer).bytes (W.contents (device_of writer.old)) (W.contents (device_of writer.new))) }
+    ensures fault { IfErr result (λ fault. fault ≢ EngineFault.Read) }
+    ensures own { IfErr result (MayHave 0) }
+    ensures failed { IsErrOf result EngineFault.Write ↔ IsTrue (has_failed writer.new) }
+{
+    write_report(alloc, &answer, writer)?;
+    Ok(status_and_cause(answer))
+}
+
+// Returns the status of a report, and its cause if it is a refusal or a no.
+fn status_and_cause(answer: Answer) -> (Status, Option<Cause>)
+    ensures status { result.0 ≡ (report_in answer).status }
+    ensures cause { result.1 ≡ cause_in answer }
+{
+    match answer {
+        Answer::Text(_, status) => (status, None),
+        Answer::Told(_, status, cause) => (status, Some(cause)),
+        Answer::Table(_, _) => (Status::Done, None),
+    }
+}
+
+// Writes the bytes of a report.
+fn write_report<W: Write>(
+    alloc: Global,
+    answer: &Answer,
+    writer: &mut Watched<W>,
+) -> Result<(), EngineFault>
+    requires { has_failed writer.old ≡ false }
+    ensures report { OnOk result (Appends (W.contents (device_of writer.old)) (W.contents (device_of writer.new)) (report_in answer.now).bytes) }
+    ensures left { IfErr result (LeavesFront (report_in answer.now).bytes (W.contents (device_of writer.old)) (W.contents (device_of writer.new))) }
+    ensures fault { IfErr result (λ fault. fault ≢ EngineFault.Read) }
+    ensures own { IfErr result (MayHave 0) }
+    ensures failed { IsErrOf result EngineFault.Write ↔ IsTrue (has_failed writer.new) }
+{
+    match answer {
+        Answer::Text(text, _) => {
+            send(writer, text.as_bytes())?;
+            Ok(())
+        }
+        Answer::Told(text, _, _) => {
+            send(writer, text.as_bytes())?;
+            Ok(())
+        }
+        Answer::Table(table, separation) => write_table_text(alloc, table, *separation, writer),
+    }
+}
+
+// Writes the text of a table and a separation.
+fn write_table_text<W: Write>(
+    alloc: Global,
+    table: &Table,
+    separation: Separation,
+    writer: &mut Watched<W>,
+) -> Result<(), EngineFault>
+    requires { has_failed writer.old ≡ false }
+    ensures report { OnOk result (Appends (W.contents (device_of writer.old)) (W.contents (device_of writer.new)) (table_text table.now separation)) }
+    ensures left { IfErr result (LeavesFront (table_text table.now separation) (W.contents (device_of writer.old)) (W.contents (device_of writer.new))) }
+    ensures fault { IfErr result (λ fault. fault ≢ EngineFault.Read) }
+    ensures own { IfErr result (MayHave 0) }
+    ensures failed { IsErrOf result EngineFault.Write ↔ IsTrue (has_failed writer.new) }
+{
+    match write_table(alloc, table, separation, writer) {
+        Ok(()) => Ok(()),
+        Err(OutFault::Write) => Err(EngineFault::Write),
+        Err(OutFault::Memory) => Err(EngineFault::Memory),
+    }
+}

@@ -1,0 +1,62 @@
+-- The table of a program, window by window.
+use Rattle.std.proofs.Common.{◌≡◌, ℕ, ◌+◌, ◌*◌, ◌<◌, List, [], map, length, slice_get, slice_index, Option, option_map, Some, None, IsSome, subst, sym, ap, ◌∙◌, arith, refl}
+use Rattle.std.proofs.lemmas.Bool.{false≢true}
+use Rattle.std.proofs.lemmas.List.{get_or-map}
+use Rattle.std.proofs.lemmas.Option.{get_or_from_slice_get, slice_get_within, slice_get-get_or}
+use Rattle.node_program.specs.Node.{channel}
+use Rattle.node_program.specs.GlobalRounds.{channel_at}
+use Rattle.node_program.specs.Term.{ProgramTree}
+use Rattle.window_states.specs.BlockStates.{window_numbered}
+use Rattle.window_states.specs.Laws.{Locality}
+use Rattle.win_index.specs.Arcs.{window_around}
+use Rattle.win_index.specs.Laws.{RingsHaveWindows, NumberOfWindow, WindowsHaveNumbers, WindowOfNumber}
+use Rattle.win_index.specs.Windows.{windows, number_of, IsWindow}
+use Rattle.table_entries.specs.Laws.{TableHasTheChannelsOfRounds}
+use Rattle.table_entries.specs.ProgramTables.{table_of, window_channel}
+use Rattle.channel_tables.specs.Tables.{ChannelTable, channel_of}
+
+-- a table with these parts
+pub table_with :
+    (p : ProgramTree) (m : ℕ) (t : ChannelTable) → t.ids ≡ m → t.rounds ≡ length p.steps → t.channels ≡ p.channels
+    → t.entries ≡ map (window_channel p) (windows (2 * length p.steps + 1) m) → t ≡ table_of p m
+unfolding table_of
+table_with p m t ids rounds channels entries = λ i. record { ids = ids i; rounds = rounds i; channels = channels i; entries = entries i }
+
+-- the window at a number is a window
+pub numbered_is_window :
+    NumberOfWindow → WindowsHaveNumbers → (m t n : ℕ) → n < length (windows (2 * t + 1) m) → IsWindow (2 * t + 1) m (window_numbered m t n)
+numbered_is_window number is_window m t n lt =
+    let at' = slice_get-get_or (windows (2 * t + 1) m) n [] lt in
+    let is : IsSome (number_of (2 * t + 1) m (window_numbered m t n)) = subst IsSome (sym (number (2 * t + 1) m n (window_numbered m t n) at')) refl in
+    (is_window (2 * t + 1) m (window_numbered m t n)).0 is
+
+-- a list with a number is at that number
+some_number : (o : Option ℕ) → IsSome o → (n : ℕ) × (o ≡ Some n)
+some_number (Some n) is = (n, refl)
+some_number None is = absurd (false≢true is)
+
+-- the channel of the table at a window
+pub channel_at_window :
+    (p : ProgramTree) (m n : ℕ) (window : List ℕ) → number_of (2 * length p.steps + 1) m window ≡ Some n
+    → slice_get (windows (2 * length p.steps + 1) m) n ≡ Some window
+    → channel_of (table_of p m) window ≡ Some (window_channel p window)
+unfolding table_of
+channel_at_window p m n window number at' =
+    let ws = windows (2 * length p.steps + 1) m in
+    let entries = map (window_channel p) ws in
+    let within = slice_get_within ws n window at' in
+    let own : slice_index entries n ≡ window_channel p window =
+    get_or-map (window_channel p) ws n [] 0 within ∙ ap (window_channel p) (get_or_from_slice_get ws n window [] at') in
+    ap (option_map (slice_index entries)) number ∙ ap Some own
+
+pub channels_of_rounds :
+    (local : Locality) (is_window : RingsHaveWindows) (has_number : WindowsHaveNumbers) (item_of : WindowOfNumber)
+    → TableHasTheChannelsOfRounds
+unfolding channel_at
+channels_of_rounds local is_window has_number item_of p m ring place is lt =
+    let t = length p.steps in
+    let window = window_around ring t place in
+    let numbered = some_number (number_of (2 * t + 1) m window) ((has_number (2 * t + 1) m window).1 (is_window m t t place ring is (omega arith))) in
+    let same = local p m t t place ring is (omega arith) lt in
+    channel_at_window p m numbered.0 window numbered.1 (item_of (2 * t + 1) m numbered.0 window numbered.1)
+    ∙ ap (λ s. Some (channel p s)) (sym same)

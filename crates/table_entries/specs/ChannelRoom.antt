@@ -1,0 +1,27 @@
+-- Scratch for reading the channels of a block's windows. No public contract cites this file.
+use Rattle.std.specs.Prelude.{◌≡◌, ℕ, ◌+◌, ◌*◌, ◌<◌, ◌≤◌, List, length, slice_index}
+use Rattle.node_program.specs.Term.{terms}
+use Rattle.win_index.specs.declared.limits.TheConstants.{BLOCK_WINDOWS}
+use Rattle.lang_check.specs.Plans.{ProgramForIds}
+use Rattle.round_columns.specs.States.{NodeStates}
+use Rattle.column_machine.specs.StackNeed.{most_columns}
+use Rattle.window_states.specs.BlockStates.{block_len, window_numbered}
+use Rattle.table_entries.specs.ProgramTables.{window_channel}
+use Rattle.table_entries.specs.declared.entry_columns.EntryColumns.{EntryColumns}
+
+-- columns for the registers of the plan at BLOCK_WINDOWS windows
+abbrev pub IsStatesRoom : ProgramForIds → NodeStates → Type 0
+IsStatesRoom plan states = (states.registers ≡ length plan.program.start) × (length states.states ≡ BLOCK_WINDOWS)
+
+-- scratch for the states of a block of the plan and for their channels
+pub record IsChannelRoom (plan : ProgramForIds) (scratch : EntryColumns) : Type 0 where
+  pub room : most_columns (terms plan.program) ≤ scratch.work.columns
+  pub width : scratch.work.width ≡ BLOCK_WINDOWS
+  pub states_wide : IsStatesRoom plan scratch.states
+  pub channels_wide : length scratch.channels.items ≡ BLOCK_WINDOWS
+
+-- the channels of the windows of block b of the last level, each below the number of channels
+abbrev pub AreChannels : ProgramForIds → ℕ → List ℕ → Type 0
+AreChannels plan b channels = (i : ℕ) → i < block_len plan.ids (length plan.program.steps) b
+    → (slice_index channels i ≡ window_channel plan.program (window_numbered plan.ids (length plan.program.steps) (BLOCK_WINDOWS * b + i)))
+    × (slice_index channels i < plan.program.channels)

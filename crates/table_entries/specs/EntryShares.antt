@@ -1,0 +1,25 @@
+-- The entries of a table, read in shares from the blocks of the last level.
+use Rattle.std.specs.Prelude.{◌≡◌, ℕ, ◌+◌, ◌*◌, ◌%◌, ◌<◌, ◌≤◌, ◌⊎◌, List, Some, length, slice_index, slice_get}
+use denote.Ref.{Bor}
+use Rattle.lang_check.specs.Plans.{ProgramForIds}
+use Rattle.window_states.specs.BlockStates.{IsKeyedBlock}
+use Rattle.window_states.specs.BlockStates.{MadeBlock, window_numbered}
+use Rattle.win_index.specs.Blocks.{block_count, window_count}
+use Rattle.table_entries.specs.ProgramTables.{window_channel}
+use Rattle.win_index.specs.declared.limits.TheConstants.{BLOCK_WINDOWS}
+
+-- the blocks of the last level, in order
+pub record AreLastBlocks (plan : ProgramForIds) (blocks : List (Bor MadeBlock)) : Type 0 where
+  pub count : length blocks ≡ block_count plan.ids (length plan.program.steps)
+  pub each : (n : ℕ) (b : Bor MadeBlock) → slice_get blocks n ≡ Some b → IsKeyedBlock plan (length plan.program.steps) n b.now
+
+-- the channels of consecutive windows of the last level, the first of which has this number
+abbrev pub AreEntries : ProgramForIds → ℕ → List ℕ → Type 0
+AreEntries plan first entries = (i : ℕ) → i < length entries
+    → (slice_index entries i ≡ window_channel plan.program (window_numbered plan.ids (length plan.program.steps) (first + i)))
+    × (slice_index entries i < plan.program.channels)
+
+-- a share that begins with this block and has this many windows: those of whole blocks, or all that are left
+pub record IsShare (plan : ProgramForIds) (first len : ℕ) : Type 0 where
+  pub within : BLOCK_WINDOWS * first + len ≤ window_count plan.ids (length plan.program.steps)
+  pub ends_a_block : (len % BLOCK_WINDOWS ≡ 0) ⊎ (BLOCK_WINDOWS * first + len ≡ window_count plan.ids (length plan.program.steps))

@@ -1,0 +1,15 @@
+-- The statement of the law of this crate.
+use Rattle.std.specs.Prelude.{◌≡◌, ℕ, ◌<◌, List, length, Some}
+use Rattle.node_program.specs.GlobalRounds.{channel_at}
+use Rattle.win_index.specs.Ring.{IsRing}
+use Rattle.node_program.specs.Term.{ProgramTree}
+use Rattle.win_index.specs.Arcs.{window_around}
+use Rattle.table_entries.specs.ProgramTables.{table_of}
+use Rattle.channel_tables.specs.Tables.{channel_of}
+
+-- on every ring, the channel of a program's table at the window of a place is the channel of that place after all
+-- rounds
+abbrev pub TableHasTheChannelsOfRounds : Type 0
+TableHasTheChannelsOfRounds =
+    (p : ProgramTree) (m : ℕ) (ring : List ℕ) (place : ℕ) → IsRing m (length p.steps) ring → place < length ring
+    → channel_of (table_of p m) (window_around ring (length p.steps) place) ≡ Some (channel_at p ring place)

@@ -1,0 +1,92 @@
+// The blocks of the last level, from which the table is read, and room for its entries.
+ghost use Rattle.std.specs.Prelude.{◌≡◌, ◌≤◌, [], length, vec_len, vec_capacity, IfOk};
+ghost use Rattle.shared_memo.specs.PlanJobs.{IsKey, IsKeyedBlock};
+ghost use Rattle.shared_memo.specs.Passes.{known, memo_plan, IsPassOf};
+ghost use Rattle.table_entries.specs.EntryShares.{AreLastBlocks};
+ghost use Rattle.table_fill.specs.Filled.{HasLearned, KnowsAll};
+ghost use Rattle.win_index.specs.Blocks.{block_count, window_count};
+
+use lang_check::Plan;
+use node_program::OutOfMemory;
+use shared_memo::{Memo, Pass};
+use std::alloc::Global;
+use window_states::Block;
+
+// The number of entries of a plan's table.
+pub(crate) fn entry_count(plan: &Plan) -> usize
+    ensures { result ≡ window_count plan.now.ids (length plan.now.program.steps) }
+{
+    let shape = plan.shape();
+    shape.count(shape.rounds()) as usize
+}
+
+// An empty list with capacity for the entries of a plan's table.
+pub(crate) fn no_entries(alloc: Global, plan: &Plan) -> Result<Vec<u16>, OutOfMemory>
+    ensures { IfOk result (λ entries. window_count plan.now.ids (length plan.now.program.steps) ≤ vec_capacity entries) }
+{
+    Vec::with_capacity(alloc, entry_count(plan)).map_err(|_| OutOfMemory)
+}
+
+// Fills a list with `count` zeros, for which it has capacity.
+pub(crate) fn put_zeros(entries: &mut Vec<u16>, count: usize)
+    requires { count ≤ vec_capacity entries.old }
+    ensures { vec_len entries.new ≡ count }
+{
+    let Ok(()) = entries.resize(count, 0) else {
+        unreachable!()
+    };
+}
+
+// The block of a level and a number, which the pass knows.
+fn known_block<'s, 'a>(
+    memo: &'s Memo<'a>,
+    pass: &mut Pass<'a>,
+    level: u32,
+    number: u32,
+) -> &'s Block<'a>
+    requires pass { IsPassOf memo.now pass.old }
+    requires known { KnowsAll (memo_plan memo.now) (known pass.old) }
+    requires key { IsKey (memo_plan memo.now) level number }
+    ensures learned { HasLearned memo.now pass.old pass.new }
+    ensures known { KnowsAll (memo_plan memo.now) (known pass.new) }
+    ensures block { IsKeyedBlock (memo_plan memo.now) level number result.now }
+{
+    match memo.look(pass, level, number) {
+        Ok(Some(block)) => block,
+        _ => unreachable!(),
+    }
+}
+
+// An empty list with capacity for the blocks of the last level.
+pub(crate) fn no_blocks<'s, 'a>(
+    alloc: Global,
+    memo: &'s Memo<'a>,
+) -> Result<Vec<&'s Block<'a>>, OutOfMemory>
+    ensures none { IfOk result (λ blocks. blocks.items ≡ []) }
+    ensures room { IfOk result (λ blocks. block_count (memo_plan memo.now).ids (length (memo_plan memo.now).program.steps) ≤ vec_capacity blocks) }
+{
+    let shape = memo.plan().shape();
+    Vec::with_capacity(alloc, shape.blocks(shape.rounds()) as usize).map_err(|_| OutOfMemory)
+}
+
+// The blocks of the last level in order, in a list with capacity for them.
+pub(crate) fn last_blocks<'s, 'a>(
+    memo: &'s Memo<'a>,
+    pass: &mut Pass<'a>,
+    mut blocks: Vec<&'s Block<'a>>,
+) -> Vec<&'s Block<'a>>
+    requires pass { IsPassOf memo.now pass.old }
+    requires known { KnowsAll (memo_plan memo.now) (known pass.old) }
+    requires none { blocks.items ≡ [] }
+    requires room { block_count (memo_plan memo.now).ids (length (memo_plan memo.now).program.steps) ≤ vec_capacity blocks }
+    ensures learned { HasLearned memo.now pass.old pass.new }
+    ensures known { KnowsAll (memo_plan memo.now) (known pass.new) }
+    ensures blocks { AreLastBlocks (memo_plan memo.now) result.items }
+{
+    let shape = memo.plan().shape();
+    let level = shape.rounds();
+    for number in 0..shape.blocks(level) {
+        blocks.push_reserved(known_block(memo, pass, level, number));
+    }
+    blocks
+}
