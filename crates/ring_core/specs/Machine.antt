@@ -49,6 +49,10 @@ opening_segment plan ring g s =
 abbrev pub no_messages : BorderState
 no_messages = record { rightward = []; leftward = [] }
 
+-- a machine of this plan and ring, in so many segments
+abbrev pub IsMachineOf : ProgramForIds → OrientedRing → ℕ → Machine → Type 0
+IsMachineOf plan ring g m = (m.plan ≡ plan) × (m.ring ≡ ring) × (length m.segments ≡ g)
+
 abbrev pub opening : ProgramForIds → OrientedRing → ℕ → Machine
 opening plan ring g =
     record {

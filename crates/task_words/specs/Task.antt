@@ -28,3 +28,7 @@ IsRunnable (Trace ids ring) = ⊤
 IsRunnable (Plan ids ring workers) = IsCount workers
 IsRunnable Audit = ⊤
 IsRunnable Migrate = ⊤
+
+-- a task with all its numbers in their ranges: it can be done, and its number of segments is one that the option takes
+abbrev pub IsInRange : Task → Type 0
+IsInRange task = IsRunnable task × IsCount (segments_of task)

@@ -6,7 +6,7 @@ ghost use Rattle.option_values.specs.OptionLines.{IsOneOf};
 ghost use Rattle.task_words.specs.CommandLine.{command_line};
 ghost use Rattle.task_words.specs.Counts.{IsCount, IsNear, IsFar};
 ghost use Rattle.task_words.specs.Options.{IsNumberGiven, IsTextGiven};
-ghost use Rattle.task_words.specs.Task.{IsRunnable, segments_of};
+ghost use Rattle.task_words.specs.Task.{IsInRange, IsRunnable, segments_of};
 ghost use Rattle.task_words.specs.Words.{HasNumber, HasRing, IsRingBad, IsRingName, IsTaskFor};
 ghost use Rattle.task_words.specs.declared.limits.TheConstants.{MAX_COUNT, MAX_DISTANCE};
 ghost use Rattle.task_words.specs.declared.words.WordsFault.TheVariants.{BadRing, OutOfMemory};
@@ -25,8 +25,7 @@ pub(crate) fn task_in(
 ) -> Result<Task, WordsFault>
     requires { IsOneOf command_line.subs name.now (rows_of (found_of options.now)) }
     ensures task { IfOk result (IsTaskFor name.now (rows_of (found_of options.now))) }
-    ensures runnable { IfOk result IsRunnable }
-    ensures segments { IfOk result (λ task. IsCount (segments_of task)) }
+    ensures range { IfOk result IsInRange }
     ensures good { IfOk result (λ _. IsRingName name.now → ¬ IsRingBad (rows_of (found_of options.now))) }
     ensures refused { IfErr result (λ fault. (fault ≡ OutOfMemory)
         ⊎ ((fault ≡ BadRing) × IsRingName name.now × IsRingBad (rows_of (found_of options.now)))) }
@@ -49,8 +48,7 @@ fn ring_task(alloc: Global, name: &str, options: &ArgMatches<'_>) -> Result<Task
     requires one { IsOneOf command_line.subs name.now (rows_of (found_of options.now)) }
     requires ring { IsRingName name.now }
     ensures task { IfOk result (IsTaskFor name.now (rows_of (found_of options.now))) }
-    ensures runnable { IfOk result IsRunnable }
-    ensures segments { IfOk result (λ task. IsCount (segments_of task)) }
+    ensures range { IfOk result IsInRange }
     ensures good { IfOk result (λ _. ¬ IsRingBad (rows_of (found_of options.now))) }
     ensures refused { IfErr result (λ fault. (fault ≡ OutOfMemory)
         ⊎ ((fault ≡ BadRing) × IsRingBad (rows_of (found_of options.now)))) }

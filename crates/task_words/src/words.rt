@@ -1,8 +1,7 @@
 //! The words of the command line.
 
 ghost use Rattle.std.specs.Prelude.{◌≡◌, ◌≢◌, ◌↔◌, map, IsOk, IsErrOf, IfOk, string_bytes};
-ghost use Rattle.task_words.specs.Counts.{IsCount};
-ghost use Rattle.task_words.specs.Task.{IsRunnable, segments_of};
+ghost use Rattle.task_words.specs.Task.{IsInRange};
 ghost use Rattle.task_words.specs.Words.{IsCommand, AsksForHelp, IsRefused, HasBadRing, IsTaskOf};
 ghost use Rattle.task_words.specs.WordsFault.{MemoryAside, IsUsage, IsHelp, IsNotUtf8};
 ghost use Rattle.task_words.specs.declared.words.WordsFault.TheVariants.{OutOfMemory};
@@ -106,8 +105,7 @@ pub fn words_fault(alloc: Global, error: io::Error) -> WordsFault
 /// memory was refused.
 pub fn task_of(alloc: Global, words: &[String]) -> Result<Task, WordsFault>
     ensures task { IfOk result (λ task. IsCommand (map string_bytes words.now) × IsTaskOf (map string_bytes words.now) task) }
-    ensures runnable { IfOk result IsRunnable }
-    ensures segments { IfOk result (λ task. IsCount (segments_of task)) }
+    ensures range { IfOk result IsInRange }
     ensures ok { MemoryAside result (IsOk result
         ↔ (IsCommand (map string_bytes words.now) × ¬ HasBadRing (map string_bytes words.now))) }
     ensures bad_ring { MemoryAside result (IsErrOf result WordsFault.BadRing ↔ HasBadRing (map string_bytes words.now)) }

@@ -1,5 +1,5 @@
 ghost use Rattle.std.specs.Prelude.{◌≡◌, ◌≤◌, IfOk, OnOk, length};
-ghost use Rattle.ring_core.specs.Machine.{Steps, Runs, opening};
+ghost use Rattle.ring_core.specs.Machine.{IsMachineOf, opening, Runs, Steps};
 ghost use Rattle.ring_core.specs.MachinePromises.{HasGlobalStates, HasGlobalMessages, AreNear};
 
 use crate::machine::event::RingEvent;
@@ -33,9 +33,7 @@ pub fn replay<'a>(
     requires some { 1 ≤ segments }
     requires few { segments ≤ length ring.now.places }
     ensures runs { IfOk result (λ world. Runs (opening plan.now ring.now segments) events.now world) }
-    ensures plan { IfOk result (λ world. world.plan ≡ plan.entry.now) }
-    ensures ring { IfOk result (λ world. world.ring ≡ ring.entry.now) }
-    ensures segments { IfOk result (λ world. length world.segments ≡ segments) }
+    ensures machine { IfOk result (IsMachineOf plan.entry.now ring.entry.now segments) }
     ensures states { IfOk result (λ world. HasGlobalStates world) }
     ensures messages { IfOk result (λ world. HasGlobalMessages world) }
     ensures near { IfOk result (λ world. AreNear world) }

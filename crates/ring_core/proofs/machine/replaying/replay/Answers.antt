@@ -16,14 +16,8 @@ loop-event-preserved c =
     let more = run_more first c.loop-event.world c.step.new.self (take k events) event c.loop-event.invariant c.in_ok-step.ensures in
     subst (λ (done : List RingEvent). Runs first done c.step.new.self) (sym (take_more events k (SendRight 0) c.loop-event-test.true)) more
 
-pub returns-clause-plan : goal.returns-clause-plan
-returns-clause-plan c = (run_same _ _ _ c.loop-event.invariant).plan
-
-pub returns-clause-ring : goal.returns-clause-ring
-returns-clause-ring c = (run_same _ _ _ c.loop-event.invariant).ring
-
-pub returns-clause-segments : goal.returns-clause-segments
-returns-clause-segments c =
+pub returns-clause-machine : goal.returns-clause-machine
+returns-clause-machine c =
     let g = c.args.segments in
-    (run_same _ _ _ c.loop-event.invariant).segments
-    ∙ length-map-range_with_len (opening_segment c.args.plan.now c.args.ring.now g) 0 g
+    let same = run_same _ _ _ c.loop-event.invariant in
+    (same.plan, same.ring, same.segments ∙ length-map-range_with_len (opening_segment c.args.plan.now c.args.ring.now g) 0 g)
