@@ -1,5 +1,5 @@
--- The definitions that the contracts cite: exit statuses, printed lines and traces, reports, their causes and the notes on these, reports before
--- they are written, and what writing one leaves.
+-- The definitions that the contracts cite: exit statuses, printed lines and traces, reports, their causes and the notes
+-- on these, reports before they are written, and what writing one leaves.
 pub mod StatusCodes
 pub mod Lines
 pub mod Trace
