@@ -14,7 +14,7 @@ returns-clause-states c =
     let width : ℕ = length b.plan.program.start in
     let len = block_len b.plan.ids b.level b.number in
     let cells = c.states.result.now in
-    let written = rw c.requires.room.0 at c.put_rows.ensures.written in
+    let written = rw c.requires.room.0 at c.put_rows.ensures.states.written in
     λ i lt.
     let from_first : i ≡ 0 + i = omega arith in
     ap (λ k. get_or c.put_rows.new.self.states k []) from_first
