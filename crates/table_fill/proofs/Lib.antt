@@ -1,4 +1,5 @@
 -- Lemmas that several proofs share.
+mod AskedTwice
 pub mod BelowBlocks
 pub mod KnownJobs
 pub mod SharedFill

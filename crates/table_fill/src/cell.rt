@@ -5,7 +5,7 @@ ghost use Rattle.shared_memo.specs.Passes.{known};
 ghost use Rattle.shared_memo.specs.PlanJobs.{IsKey};
 ghost use Rattle.table_fill.specs.MissingBlocks.{IsMissingBlock};
 ghost use Rattle.table_fill.specs.declared.cell.Made.TheVariants.{Fresh};
-ghost use Rattle.window_states.specs.Entries.{Entries, Grows};
+ghost use Rattle.window_states.specs.Entries.{Asked, Entries};
 
 use crate::cell_maker::CellMaker;
 use job_crew::WorkFault;
@@ -39,9 +39,7 @@ pub(crate) trait Cells {
     // Looks at the cell of this level and number, and returns whether its block is known then.
     fn finds(&mut self, level: u32, number: u32) -> bool
         requires { IsKey (plan self.old) level number }
-        ensures plan { plan self.new ≡ plan self.old }
-        ensures same_fixed { fixed self.new ≡ fixed self.old }
-        ensures grows { Grows (entries self.old) (entries self.new) }
+        ensures asked { Asked plan fixed entries self.old self.new }
         ensures found { result ≡ is_some (entries self.new level number) };
 
     // Makes the block of this level and number and stores it, or returns a block of a lower level
@@ -54,9 +52,7 @@ pub(crate) trait Cells {
         number: u32,
     ) -> Result<Made, MakeFault>
         requires { IsKey (plan self.old) level number }
-        ensures plan { plan self.new ≡ plan self.old }
-        ensures same_fixed { fixed self.new ≡ fixed self.old }
-        ensures grows { Grows (entries self.old) (entries self.new) }
+        ensures asked { Asked plan fixed entries self.old self.new }
         ensures fresh { IfOk result (λ made. made ≡ Fresh → is_some (entries self.new level number) ≡ true) }
         ensures missing { IfErr result (IsMissingBlock (plan self.old) level) };
 
@@ -114,9 +110,7 @@ pub(crate) fn fill_cell<C: Cells>(
     number: u32,
 ) -> Result<(), WorkFault>
     requires { IsKey (C.plan cells.old) level number }
-    ensures plan { C.plan cells.new ≡ C.plan cells.old }
-    ensures same_fixed { C.fixed cells.new ≡ C.fixed cells.old }
-    ensures grows { Grows (C.entries cells.old) (C.entries cells.new) }
+    ensures asked { Asked C.plan C.fixed C.entries cells.old cells.new }
     ensures known { OnOk result (is_some (C.entries cells.new level number) ≡ true) }
 {
     if cells.finds(level, number) {

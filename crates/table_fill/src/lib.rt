@@ -9,6 +9,7 @@ mod last_blocks;
 mod looks;
 mod memo_fill;
 mod own_reader;
+mod table_room;
 mod worker;
 
 pub use channel_tables::{Table, TableMaker};

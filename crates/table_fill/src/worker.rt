@@ -1,6 +1,8 @@
 // A worker that fills a memo.
+ghost use Rattle.std.specs.Prelude.{◌≡◌, OnOk};
 ghost use Rattle.shared_memo.specs.Passes.{known, memo_plan, IsPassOf};
 ghost use Rattle.shared_memo.specs.PlanJobs.{job_count};
+ghost use Rattle.shared_memo.specs.Tickets.{drawn, numbers_of, IsFreshTicketOf};
 ghost use Rattle.table_fill.specs.Filled.{AreKnown};
 
 use crate::cell::fill_cell;
@@ -55,19 +57,37 @@ impl<'m, 'a> Leaves for MemoFill<'m, 'a> {
         let Ok(blocks) = BlockMaker::new(alloc, self.code) else {
             return Err(WorkFault::OutOfMemory);
         };
-        jobs_have_numbers();
-        let shape = self.memo.plan().shape();
         let reader = OwnReader {
             memo: self.memo,
             pass,
             stranger: false,
         };
         let mut cells = CellMaker { reader, blocks };
-        while let Some(job) = desk.draw(ticket) {
-            gate.entered(number, job);
-            let (level, block) = shape.job(job);
-            fill_cell(alloc, &mut cells, number, level, block)?;
-        }
+        fill_drawn(alloc, desk, ticket, gate, number, &mut cells)?;
         Ok(cells.reader.pass)
     }
+}
+
+// Fills the cell of each job that a worker draws, until none is left.
+fn fill_drawn<G: Gate>(
+    alloc: Global,
+    desk: &Desk,
+    ticket: &mut Ticket,
+    gate: &G,
+    number: u32,
+    cells: &mut CellMaker<'_, '_>,
+) -> Result<(), WorkFault>
+    requires ticket { IsFreshTicketOf desk.now ticket.old }
+    requires total { numbers_of desk.now ≡ job_count cells.old.reader.memo.now.plan.now }
+    ensures memo { cells.new.reader.memo.now ≡ cells.old.reader.memo.now }
+    ensures filled { OnOk result (AreKnown cells.new.reader.pass.plan.now (known cells.new.reader.pass) (drawn ticket.new)) }
+{
+    jobs_have_numbers();
+    let shape = cells.reader.memo.plan().shape();
+    while let Some(job) = desk.draw(ticket) {
+        gate.entered(number, job);
+        let (level, block) = shape.job(job);
+        fill_cell(alloc, cells, number, level, block)?;
+    }
+    Ok(())
 }

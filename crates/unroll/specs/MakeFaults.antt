@@ -1,9 +1,9 @@
--- The result of making a block.
+-- What making a block leaves of its source, and the result.
 use Rattle.std.specs.Prelude.{◌≡◌, ℕ, None, IsSome, Result, MatchResult}
 use Rattle.lang_check.specs.Plans.{ProgramForIds}
 use Rattle.unroll.specs.Below.{IsBelow}
 use Rattle.window_states.specs.BlockStates.{MadeBlock}
-use Rattle.window_states.specs.Entries.{Entries}
+use Rattle.window_states.specs.Entries.{Asked, Entries}
 use Rattle.unroll.specs.declared.fault.MakeFault.{MakeFault}
 use Rattle.unroll.specs.declared.fault.MakeFault.TheVariants.{Missing, OutOfMemory}
 
@@ -35,3 +35,8 @@ IsMakeFault entries old new m r b OutOfMemory = new ≡ old
 abbrev pub IsMade : {S : Type 0} → (S → Entries) → S → S → ProgramForIds → ℕ → ℕ → ℕ → Result MadeBlock MakeFault → Type 0
 IsMade entries old new plan level number maker result =
     MatchResult result (IsMadeFrom (entries new) plan level number maker) (IsMakeFault entries old new plan.ids level number)
+
+-- a source after a block of this level was made from it: it was asked, unless the level is 0
+pub record AskedFor {S F : Type 0} (level : ℕ) (plan : S → ProgramForIds) (fixed : S → F) (entries : S → Entries) (old new : S) : Type 0 where
+  pub asked : Asked plan fixed entries old new
+  pub not_for_0 : level ≡ 0 → new ≡ old

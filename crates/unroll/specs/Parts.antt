@@ -16,6 +16,11 @@ use Rattle.unroll.specs.declared.fault.MakeFault.{MakeFault}
 use Rattle.unroll.specs.declared.fault.MakeFault.TheVariants.{Missing, OutOfMemory}
 use Rattle.win_index.specs.declared.limits.TheConstants.{BLOCK_WINDOWS}
 
+-- w is the first window of block b of level r
+pub record IsFirstWindow (m r b : ℕ) (w : List ℕ) : Type 0 where
+  pub here : slice_get (windows (2 * r + 1) m) (BLOCK_WINDOWS * b) ≡ Some w
+  pub window : IsWindow (2 * r + 1) m w
+
 -- w is a window one level above low, which is below the last level
 abbrev pub IsWindowAbove : ProgramForIds → ℕ → List ℕ → Type 0
 IsWindowAbove plan low w = (low < length plan.program.steps) × IsWindow (2 * low + 3) plan.ids w

@@ -1,13 +1,12 @@
 // The states of a block's windows, from the states of their parts in blocks one level lower.
-ghost use Rattle.std.specs.Prelude.{◌≡◌, ℕ, ◌+◌, ◌-◌, ◌*◌, ◌<◌, ◌≤◌, [], ◌∷◌, length, take, slice_get, slice_index, Some, IfOk, IfErr, OnOk};
+ghost use Rattle.std.specs.Prelude.{◌≡◌, ℕ, ◌+◌, ◌-◌, ◌*◌, ◌<◌, ◌≤◌, [], ◌∷◌, length, take, slice_index, IfOk, IfErr, OnOk};
 ghost use Rattle.window_states.specs.BlockStates.{IsKey, block_len, window_numbered};
 ghost use Rattle.window_states.specs.Entries.{Asked};
 ghost use Rattle.window_states.specs.HeldStates.{first_states, HoldsSent};
-ghost use Rattle.unroll.specs.MakeFaults.{KnowsAllBelow, IsMissingBelow};
-ghost use Rattle.unroll.specs.Parts.{IsReached};
+ghost use Rattle.unroll.specs.MakeFaults.{AskedFor, KnowsAllBelow, IsMissingBelow};
+ghost use Rattle.unroll.specs.Parts.{IsFirstWindow, IsReached};
 ghost use Rattle.unroll.specs.WideColumns.{AreWide, AreGathered, IsRunGathered, HoldParts, IsReady};
 ghost use Rattle.win_index.specs.Blocks.{block_count};
-ghost use Rattle.win_index.specs.Windows.{windows, IsWindow};
 
 use crate::fault::MakeFault;
 use crate::part_columns::{PartColumns, Scratch};
@@ -27,8 +26,7 @@ pub(crate) fn gather<'s, S: Source<'s>>(
     parts: &mut PartColumns,
 ) -> Result<(), MakeFault>
     requires plan { S.plan source.old ≡ upper.plan.now }
-    requires first { slice_get (windows (2 * (upper.below + 1) + 1) upper.plan.now.ids) (BLOCK_WINDOWS * upper.number) ≡ Some window.old }
-    requires window { IsWindow (2 * upper.below + 3) upper.plan.now.ids window.old }
+    requires window { IsFirstWindow upper.plan.now.ids (upper.below + 1) upper.number window.old }
     requires wide { AreWide upper.plan.now parts.old }
     ensures asked { Asked S.plan S.fixed S.entries source.old source.new }
     ensures wide { AreWide upper.entry.plan.now parts.new }
@@ -129,8 +127,7 @@ pub(crate) fn write_states<'s, S: Source<'s>>(
     requires plan { S.plan source.old ≡ code.now }
     requires key { IsKey code.now level number }
     requires ready { IsReady code.now scratch.old }
-    ensures asked { Asked S.plan S.fixed S.entries source.old source.new }
-    ensures not_asked { level ≡ 0 → source.new ≡ source.old }
+    ensures asked { AskedFor level S.plan S.fixed S.entries source.old source.new }
     ensures ready { IsReady code.now scratch.new }
     ensures made { OnOk result ((take (block_len code.now.ids level number) scratch.new.made.states
         ≡ first_states code.now level number (block_len code.now.ids level number))
@@ -181,8 +178,7 @@ pub(crate) fn step_parts(code: &Code<'_>, below: u32, scratch: &mut Scratch)
 // is advanced in place.
 pub(crate) fn start_states(code: &Code<'_>, number: u32, window: &mut [u32], scratch: &mut Scratch)
     requires number { number < block_count code.now.ids 0 }
-    requires first { slice_get (windows 1 code.now.ids) (BLOCK_WINDOWS * number) ≡ Some window.old }
-    requires window { IsWindow 1 code.now.ids window.old }
+    requires window { IsFirstWindow code.now.ids 0 number window.old }
     requires ready { IsReady code.now scratch.old }
     ensures ready { IsReady code.now scratch.new }
     ensures states { take (block_len code.now.ids 0 number) scratch.new.made.states
@@ -198,8 +194,7 @@ pub(crate) fn start_states(code: &Code<'_>, number: u32, window: &mut [u32], scr
 // window, and is advanced in place.
 fn put_ids(shape: Shape, number: u32, window: &mut [u32], ids: &mut [u32])
     requires number { number < block_count shape.ids 0 }
-    requires first { slice_get (windows 1 shape.ids) (BLOCK_WINDOWS * number) ≡ Some window.old }
-    requires window { IsWindow 1 shape.ids window.old }
+    requires window { IsFirstWindow shape.ids 0 number window.old }
     requires ids { length ids.old ≡ BLOCK_WINDOWS }
     ensures { (i : ℕ) → i < block_len shape.ids 0 number
         → window_numbered shape.ids 0 (BLOCK_WINDOWS * number + i) ≡ slice_index ids.new i ∷ [] }

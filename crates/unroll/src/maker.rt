@@ -34,8 +34,7 @@ impl<'c, 'p> Model for BlockMaker<'c, 'p> {
 impl<'c, 'p> BlockMaker<'c, 'p> {
     ghost use Rattle.std.specs.Prelude.{◌≡◌, IfOk};
     ghost use Rattle.window_states.specs.BlockStates.{IsKey};
-    ghost use Rattle.window_states.specs.Entries.{Asked};
-    ghost use Rattle.unroll.specs.MakeFaults.{IsMade};
+    ghost use Rattle.unroll.specs.MakeFaults.{AskedFor, IsMade};
 
     /// Returns a maker of blocks of the plan that was compiled to this code, or the error that
     /// memory was refused.
@@ -63,8 +62,7 @@ impl<'c, 'p> BlockMaker<'c, 'p> {
         requires plan { S.plan source.old ≡ self.old }
         requires key { IsKey self.old level number }
         ensures same { self.new ≡ self.old }
-        ensures asked { Asked S.plan S.fixed S.entries source.old source.new }
-        ensures not_asked { level ≡ 0 → source.new ≡ source.old }
+        ensures asked { AskedFor level S.plan S.fixed S.entries source.old source.new }
         ensures made { IsMade S.entries source.old source.new self.old level number maker result }
     {
         let plan = self.code.plan();
@@ -72,29 +70,39 @@ impl<'c, 'p> BlockMaker<'c, 'p> {
         let len = block_len(shape, level, number);
         let cells = len as usize * width_of(plan);
         let sent = sent_len(shape, level);
-        let mut states = zeros(self.alloc, cells).map_err(|_| MakeFault::OutOfMemory)?;
-        let mut to_left = zeros(self.alloc, sent).map_err(|_| MakeFault::OutOfMemory)?;
-        let mut to_right = zeros(self.alloc, sent).map_err(|_| MakeFault::OutOfMemory)?;
+        let Ok(mut lists) = zero_lists(self.alloc, cells, sent) else {
+            return Err(MakeFault::OutOfMemory);
+        };
         write_states(self.code, source, level, number, &mut self.scratch)?;
         rows_are_taken();
-        self.scratch.made.take_rows(len as usize, &mut states);
+        self.scratch.made.take_rows(len as usize, &mut lists.states);
         send_states(
             self.code,
             level,
             &mut self.scratch,
-            &mut to_left,
-            &mut to_right,
+            &mut lists.to_left,
+            &mut lists.to_right,
         );
-        let lists = BlockLists {
-            states,
-            to_left,
-            to_right,
-        };
         Ok(Block::new(plan, level, number, maker, lists))
     }
 }
 
-ghost use Rattle.std.specs.Prelude.{◌≡◌, ◌<◌};
+ghost use Rattle.std.specs.Prelude.{◌≡◌, ◌<◌, vec_len, IfOk};
+
+// Allocates the lists of a block, with this many cells of states and messages to each side.
+fn zero_lists(alloc: Global, cells: usize, sent: usize) -> Result<BlockLists, OutOfMemory>
+    ensures { IfOk result (λ lists. (vec_len lists.states ≡ cells)
+        × (vec_len lists.to_left ≡ sent) × (vec_len lists.to_right ≡ sent)) }
+{
+    let states = zeros(alloc, cells)?;
+    let to_left = zeros(alloc, sent)?;
+    let to_right = zeros(alloc, sent)?;
+    Ok(BlockLists {
+        states,
+        to_left,
+        to_right,
+    })
+}
 
 // The number of messages that a block of a level holds; 0 on the last level.
 fn sent_len(shape: Shape, level: u32) -> usize

@@ -1,7 +1,6 @@
 ghost use Rattle.std.specs.Prelude.{◌≡◌};
 ghost use Rattle.window_states.specs.BlockStates.{IsKey};
-ghost use Rattle.window_states.specs.Entries.{Asked};
-ghost use Rattle.unroll.specs.MakeFaults.{IsMade};
+ghost use Rattle.unroll.specs.MakeFaults.{AskedFor, IsMade};
 
 use crate::fault::MakeFault;
 use crate::maker::BlockMaker;
@@ -28,8 +27,7 @@ pub fn make_block<'a, 's, S: Source<'s>>(
 ) -> Result<Block<'a>, MakeFault>
     requires plan { S.plan source.old ≡ plan.now }
     requires key { IsKey plan.now level number }
-    ensures asked { Asked S.plan S.fixed S.entries source.old source.new }
-    ensures not_asked { level ≡ 0 → source.new ≡ source.old }
+    ensures asked { AskedFor level S.plan S.fixed S.entries source.old source.new }
     ensures made { IsMade S.entries source.old source.new plan.now level number maker result }
 {
     let code = Code::new(alloc, plan).map_err(|_| MakeFault::OutOfMemory)?;

@@ -7,11 +7,11 @@ use Rattle.shared_memo.specs.PlanJobs.{job_of}
 use Rattle.shared_memo.specs.Tickets.{drawn}
 use Rattle.table_fill.specs.Filled.{AreKnown}
 use Rattle.table_fill.proofs.KnownJobs.{known_with, block_of_job}
-use Rattle.table_fill.proofs.worker.MemoFillLeaves.work_alone.Goals as goal
+use Rattle.table_fill.proofs.worker.fill_drawn.Goals as goal
 
 pub loop-job-preserved : goal.loop-job-preserved
 loop-job-preserved g c =
-    let plan = c.args.self.now.memo.now.plan.now in
+    let plan = c.args.cells.now.reader.memo.now.plan.now in
     let new : Entries = known c.fill_cell.new.cells.reader.pass in
     let jobs = drawn c.loop-job.ticket in
     let job = c.in-Some.job in
@@ -25,7 +25,7 @@ loop-job-preserved g c =
     let same = block_of_job stand plan.ids (length plan.program.steps) job l n level block at ((stand plan.ids (length plan.program.steps) l n job).0 is) in
     rw same.0 (rw same.1 filled) in
     let known_all : AreKnown plan new (jobs ++ job ∷ []) =
-    known_with plan (known c.loop-job.cells.reader.pass) new jobs job c.fill_cell.ensures.grows c.loop-job.invariant.filled last in
+    known_with plan (known c.loop-job.cells.reader.pass) new jobs job c.fill_cell.ensures.asked.grows c.loop-job.invariant.filled last in
     record {
       ticket = search rules;
       untold = search rules;

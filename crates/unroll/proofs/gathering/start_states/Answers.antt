@@ -1,5 +1,5 @@
-use Rattle.std.proofs.Common.{[], ◌∷◌, get_or, sym, ◌∙◌, ap, arith}
-use Rattle.std.proofs.lemmas.List.{get_or-map}
+use Rattle.std.proofs.Common.{[], ◌∷◌, length, get_or, sym, ◌∙◌, ap, arith}
+use Rattle.std.proofs.lemmas.List.{get_or-map, length-map}
 use Rattle.node_program.specs.Node.{start}
 use Rattle.window_states.specs.BlockStates.{block_len, block_state}
 use Rattle.window_states.specs.Line.{middle_state}
@@ -14,8 +14,8 @@ returns-clause-states c =
     let made = c.start_columns.new.out.states in
     let written = rw (c.shape.ensures.ids, c.plan.ensures) at c.put_ids.ensures in
     let size = c.put_ids.auto.ids in
-    take_states (block_len plan.ids 0 b) made (block_state plan 0 b) (omega (arith, c.start_columns.ensures.size.0, c.requires.ready.made_wide.0))
+    take_states (block_len plan.ids 0 b) made (block_state plan 0 b) (omega (arith, size, ap (λ s. length s.states) c.start_columns.ensures.out, length-map ids (start plan.program)))
     (λ i lt.
-    ap (λ u. get_or u i []) c.start_columns.ensures.states
+    ap (λ s. get_or s.states i []) c.start_columns.ensures.out
     ∙ get_or-map (start plan.program) ids i 0 [] (omega (arith, lt, size))
     ∙ sym (ap (middle_state plan.program 0) (written i lt) ∙ c.states_from_parts.ensures.start plan.program (get_or ids i 0 ∷ []) (omega arith)))

@@ -1,0 +1,14 @@
+use Rattle.table_fill.proofs.AskedTwice.{asked_both}
+use Rattle.table_fill.proofs.cell.+fill_cell.Goals as goal
+
+pub returns-in-Ok-Fresh-clause-asked : goal.returns-in-Ok-Fresh-clause-asked
+returns-in-Ok-Fresh-clause-asked g t c = asked_both g.C.Cells.plan g.C.Cells.fixed g.C.Cells.entries _ _ _ c.loop-attempt.invariant c.make.ensures.asked
+
+pub returns-in-Ok-Stood-clause-asked : goal.returns-in-Ok-Stood-clause-asked
+returns-in-Ok-Stood-clause-asked g t c = asked_both g.C.Cells.plan g.C.Cells.fixed g.C.Cells.entries _ _ _ (asked_both g.C.Cells.plan g.C.Cells.fixed g.C.Cells.entries _ _ _ c.loop-attempt.invariant c.make.ensures.asked) c.finds-in-Stood-1.ensures.asked
+
+pub returns-in_err-fill_cell-in-Err-Missing-clause-asked : goal.returns-in_err-fill_cell-in-Err-Missing-clause-asked
+returns-in_err-fill_cell-in-Err-Missing-clause-asked g t c = asked_both g.C.Cells.plan g.C.Cells.fixed g.C.Cells.entries _ _ _ (asked_both g.C.Cells.plan g.C.Cells.fixed g.C.Cells.entries _ _ _ c.loop-attempt.invariant c.make.ensures.asked) c.fill_cell.ensures.asked
+
+pub returns-in-Err-OutOfMemory-clause-asked : goal.returns-in-Err-OutOfMemory-clause-asked
+returns-in-Err-OutOfMemory-clause-asked g t c = asked_both g.C.Cells.plan g.C.Cells.fixed g.C.Cells.entries _ _ _ c.loop-attempt.invariant c.make.ensures.asked

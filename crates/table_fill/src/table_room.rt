@@ -1,0 +1,73 @@
+use crate::last_blocks::{last_blocks, no_blocks, no_entries};
+use channel_tables::Table;
+use node_program::OutOfMemory;
+use round_columns::Code;
+use shared_memo::{Memo, Pass};
+use std::alloc::Global;
+use std::thread::Threads;
+use table_entries::EntryReader;
+use window_states::Block;
+
+// Memory to read a table, allocated before the first worker starts: a reader, and lists with
+// capacity for the entries and for the blocks of the last level.
+#[derive(Drop)]
+pub(crate) struct TableRoom<'s, 'a> {
+    pub(crate) reader: EntryReader<'s, 'a>,
+    pub(crate) entries: Vec<u16>,
+    pub(crate) blocks: Vec<&'s Block<'a>>,
+}
+
+impl<'s, 'a> TableRoom<'s, 'a> {
+    ghost use Rattle.std.specs.Prelude.{◌≡◌, ◌<◌, ◌≤◌, length, vec_len, vec_capacity, IfOk};
+    ghost use Rattle.shared_memo.specs.Passes.{known, memo_plan, IsPassOf};
+    ghost use Rattle.table_entries.specs.ProgramTables.{table_of};
+    ghost use Rattle.table_fill.specs.Filled.{HasLearned, KnowsAll};
+    ghost use Rattle.table_fill.specs.TableRooms.{IsRoomFor};
+    ghost use Rattle.win_index.specs.Blocks.{window_count};
+
+    // Allocates room for the table of a memo's plan, which at most `shares` shares read.
+    pub(crate) fn new(
+        alloc: Global,
+        memo: &'s Memo<'a>,
+        code: &'s Code<'a>,
+        shares: u32,
+    ) -> Result<TableRoom<'s, 'a>, OutOfMemory>
+        requires plan { code.now ≡ memo_plan memo.now }
+        requires shares { 0 < shares }
+        ensures room { IfOk result (IsRoomFor (memo_plan memo.now)) }
+        ensures entries { IfOk result (λ room. window_count (memo_plan memo.now).ids (length (memo_plan memo.now).program.steps) ≤ vec_capacity room.entries) }
+    {
+        let reader = EntryReader::new(alloc, code, shares)?;
+        let entries = no_entries(alloc, memo.plan())?;
+        let blocks = no_blocks(alloc, memo)?;
+        Ok(TableRoom {
+            reader,
+            entries,
+            blocks,
+        })
+    }
+
+    // Reads the table from the blocks of the last level, which the pass knows, into the entries.
+    pub(crate) fn read<R: Threads + Sync>(
+        self,
+        rt: &R,
+        memo: &'s Memo<'a>,
+        pass: &mut Pass<'a>,
+    ) -> Table
+        requires pass { IsPassOf memo.now pass.old }
+        requires known { KnowsAll (memo_plan memo.now) (known pass.old) }
+        requires room { IsRoomFor (memo_plan memo.now) self }
+        requires size { vec_len self.entries ≡ window_count (memo_plan memo.now).ids (length (memo_plan memo.now).program.steps) }
+        ensures learned { HasLearned memo.now pass.old pass.new }
+        ensures known { KnowsAll (memo_plan memo.now) (known pass.new) }
+        ensures table { result ≡ table_of (memo_plan memo.now).program (memo_plan memo.now).ids }
+    {
+        let TableRoom {
+            reader,
+            entries,
+            blocks,
+        } = self;
+        let blocks = last_blocks(memo, pass, blocks);
+        reader.read(rt, &blocks, entries)
+    }
+}
