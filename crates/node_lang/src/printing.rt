@@ -14,37 +14,33 @@ fn write_expression(text: &mut String, expression: &Expr) -> Result<(), AllocErr
     ensures { OnOk result (string_bytes text.new ≡ string_bytes text.old ++ printed_expression (term_of expression.now)) }
 {
     match expression {
-        Expr::Number(number) => write!(text, "{number}")?,
-        Expr::Id => text.push_str("id")?,
-        Expr::FromLeft => text.push_str("L")?,
-        Expr::FromRight => text.push_str("R")?,
-        Expr::Register(register) => write!(text, "r{register}")?,
+        Expr::Number(number) => write!(text, "{number}"),
+        Expr::Id => text.push_str("id"),
+        Expr::FromLeft => text.push_str("L"),
+        Expr::FromRight => text.push_str("R"),
+        Expr::Register(register) => write!(text, "r{register}"),
         Expr::One(_, a) => {
-            text.push_str(operation_name(expression))?;
-            text.push_str("(")?;
+            write!(text, "{}(", operation_name(expression))?;
             write_expression(text, a)?;
-            text.push_str(")")?;
+            text.push_str(")")
         }
         Expr::Two(_, a, b) => {
-            text.push_str(operation_name(expression))?;
-            text.push_str("(")?;
+            write!(text, "{}(", operation_name(expression))?;
             write_expression(text, a)?;
             text.push_str(", ")?;
             write_expression(text, b)?;
-            text.push_str(")")?;
+            text.push_str(")")
         }
         Expr::Choose(c, a, b) => {
-            text.push_str(operation_name(expression))?;
-            text.push_str("(")?;
+            write!(text, "{}(", operation_name(expression))?;
             write_expression(text, c)?;
             text.push_str(", ")?;
             write_expression(text, a)?;
             text.push_str(", ")?;
             write_expression(text, b)?;
-            text.push_str(")")?;
+            text.push_str(")")
         }
     }
-    Ok(())
 }
 
 fn write_assignment(text: &mut String, register: usize, expression: &Expr) -> Result<(), AllocError>
