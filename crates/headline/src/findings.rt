@@ -1,6 +1,6 @@
 ghost use Rattle.std.specs.Prelude.{◌≡◌, ◌↔◌, IfOk, IfErr, OnOk, length};
 ghost use Rattle.job_crew.specs.Workers.{IsWorkerCount};
-ghost use Rattle.ring_core.specs.SegmentCounts.{IsSegmentCount};
+ghost use Rattle.ring_segments.specs.SegmentCounts.{IsSegmentCount};
 ghost use Rattle.headline.specs.Headline.{IsHeadline, TableAgrees};
 ghost use Rattle.ring_exec.specs.declared.fault.RunFault.{RunFault};
 

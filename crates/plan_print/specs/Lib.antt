@@ -34,7 +34,7 @@ pub use Rattle.table_entries.specs.ProgramTables
 pub use Rattle.nbhd_check.specs.Apart
 pub use Rattle.nbhd_check.specs.Proper
 pub use Rattle.nbhd_check.specs.Verdicts
-pub use Rattle.ring_core.specs.SegmentCounts
+pub use Rattle.ring_segments.specs.SegmentCounts
 pub use Rattle.reports.specs.Causes
 pub use Rattle.reports.specs.Notes
 pub use Rattle.reports.specs.Written

@@ -16,7 +16,7 @@ use Rattle.channel_tables.specs.declared.separation.Separation.{Separation}
 use Rattle.nbhd_check.specs.Laws.{ApartTablesHaveNoWitness}
 use Rattle.headline.specs.Headline.{ChannelsAreApart}
 use Rattle.headline.specs.Laws.{ProgramTablesAreApart}
-use Rattle.ring_core.specs.SegmentCounts.{IsSegmentCount}
+use Rattle.ring_segments.specs.SegmentCounts.{IsSegmentCount}
 use Rattle.reports.specs.declared.status.Status.TheVariants.{Done, No}
 use Rattle.reports.specs.Lines.{line, numbers_text}
 use Rattle.reports.specs.Trace.{register_lines, round_lines, row_line, trace_lines}

@@ -10,7 +10,7 @@ use Rattle.win_index.specs.Arcs.{window_around}
 use Rattle.lang_check.specs.Acceptance.{IsAccepted}
 use Rattle.channel_tables.specs.Tables.{channel_of}
 use Rattle.table_entries.specs.ProgramTables.{table_of}
-use Rattle.ring_core.specs.SegmentCounts.{IsSegmentCount}
+use Rattle.ring_segments.specs.SegmentCounts.{IsSegmentCount}
 use Rattle.headline.specs.Headline.{ChannelsAreApart}
 use Rattle.table_text.specs.TableText.{table_text}
 use Rattle.task_words.specs.declared.task.Task.{Task}

@@ -8,7 +8,7 @@ use Rattle.win_index.specs.RingFaults.{IsFirstFault}
 use Rattle.channel_tables.specs.Tables.{ChannelTable}
 use Rattle.channel_tables.specs.declared.separation.Separation.{Separation}
 use Rattle.nbhd_check.specs.Verdicts.{IsWitness}
-use Rattle.ring_core.specs.SegmentCounts.{IsSegmentCount}
+use Rattle.ring_segments.specs.SegmentCounts.{IsSegmentCount}
 use Rattle.table_text.specs.declared.fault.TableFault.TheVariants as table
 use Rattle.table_text.specs.Faults.{IsFault}
 use Rattle.reports.specs.declared.cause.Cause.{Cause}

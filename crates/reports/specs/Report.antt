@@ -23,7 +23,7 @@ use Rattle.channel_tables.specs.Tables.{ChannelTable}
 use Rattle.channel_tables.specs.declared.separation.Separation.{Separation}
 use Rattle.nbhd_check.specs.Apart.{tuples, IsApartEverywhere}
 use Rattle.nbhd_check.specs.Verdicts.{IsWitness}
-use Rattle.ring_core.specs.SegmentCounts.{IsSegmentCount}
+use Rattle.ring_segments.specs.SegmentCounts.{IsSegmentCount}
 use Rattle.reports.specs.declared.status.Status.{Status}
 use Rattle.reports.specs.declared.status.Status.TheVariants.{Done, No, Words, Refused, RingRefused}
 use Rattle.reports.specs.Lines.{line, numbers_text, right_aligned}

@@ -6,7 +6,7 @@ ghost use Rattle.reports.specs.Answers.{report_in, HasOwnCause};
 ghost use Rattle.reports.specs.Trace.{trace_lines};
 ghost use Rattle.reports.specs.Report as report;
 ghost use Rattle.reports.specs.Report.{Says, IsAnswerOnRing};
-ghost use Rattle.ring_core.specs.SegmentCounts.{IsSegmentCount};
+ghost use Rattle.ring_segments.specs.SegmentCounts.{IsSegmentCount};
 ghost use Rattle.win_index.specs.RingFaults.{IsFirstFault};
 
 use crate::answer::Answer;

@@ -1,6 +1,6 @@
 -- The events that are enabled, from the numbers of rounds and of messages alone.
 use Rattle.std.proofs.Common.{◌≡◌, ℕ, ◌<◌, length, arith, subst, sym, ap}
-use Rattle.ring_core.specs.Segments.{RingSegment}
+use Rattle.ring_segments.specs.Segments.{RingSegment}
 use Rattle.ring_core.specs.Machine.{CanSendRight, CanSendLeft, CanAdvance}
 use Rattle.ring_core.specs.Parts.{Parts, FitTogether, MaySendRight, MaySendLeft, part_at, round_at, machine_of}
 use Rattle.ring_core.proofs.Fits.{MayAdvance}

@@ -2,7 +2,7 @@
 use Rattle.std.proofs.Common.{◌≡◌, ℕ, ◌+◌, ◌<◌, length, arith, refl, inl, inr}
 use Rattle.std.proofs.Math.ListN.{set}
 use Rattle.round_eval.specs.Laws.{StretchesAreRows}
-use Rattle.ring_core.specs.declared.machine.event.RingEvent.TheVariants.{SendRight, SendLeft, Advance}
+use Rattle.ring_core.specs.declared.event.RingEvent.TheVariants.{SendRight, SendLeft, Advance}
 use Rattle.ring_core.specs.Machine.{Steps}
 use Rattle.ring_core.specs.Parts.{Progress, Parts, FitTogether, MaySendRight, MaySendLeft, part_at, round_at, at_round, machine_of}
 use Rattle.ring_core.proofs.Enabled.{is_part, can_send_right, can_send_left, can_advance, may_send_right, may_send_left}

@@ -2,7 +2,7 @@
 use Rattle.std.proofs.Common.{◌≡◌, ℕ, ◌+◌, ◌<◌, ◌≤◌, length, arith, refl, sym, ◌∙◌, ap}
 use Rattle.std.proofs.Math.ListN.{set}
 use Rattle.std.proofs.lemmas.List.{length-set}
-use Rattle.ring_core.specs.Segments.{RingSegment}
+use Rattle.ring_segments.specs.Segments.{RingSegment}
 use Rattle.ring_core.specs.Machine.{border_before, segment_after}
 use Rattle.ring_core.specs.Parts.{Progress, Parts, IsInStep, FitTogether, MaySendRight, MaySendLeft, no_part, part_at, round_at, at_round}
 use Rattle.ring_core.proofs.Updates.{set_cases}

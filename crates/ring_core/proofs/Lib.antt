@@ -1,6 +1,5 @@
 -- Lemmas that several proofs share.
 mod Places
-mod Stretches
 mod Neighbours
 mod Updates
 mod Fits

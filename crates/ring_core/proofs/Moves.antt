@@ -8,9 +8,9 @@ use Rattle.std.proofs.lemmas.List.FromFn.{map-range_with_len_more}
 use Rattle.node_program.specs.Node.{to_left, to_right}
 use Rattle.round_eval.specs.Rows.{row_after}
 use Rattle.round_eval.specs.Laws.{StretchesAreRows}
-use Rattle.ring_core.specs.Messages.{Heading, sent_under}
-use Rattle.ring_core.specs.Segments.{RingSegment, first_of, places_of, states_of}
-use Rattle.ring_core.specs.Needs.{from_left, from_right, to_the_left, to_the_right}
+use Rattle.ring_segments.specs.Messages.{Heading, sent_under}
+use Rattle.ring_segments.specs.Segments.{RingSegment, first_of, places_of, states_of}
+use Rattle.ring_segments.specs.Needs.{from_left, from_right, to_the_left, to_the_right}
 use Rattle.ring_core.specs.Machine.{SegmentState, BorderState, no_messages, segment_at, left_border, right_border, border_before, segment_after, first_state, last_state, sent_right, sent_left, advanced}
 use Rattle.ring_core.specs.Parts.{Progress, Parts, FitTogether, no_part, part_at, round_at, at_round, rightward_headings, leftward_headings, segment_state, values_under, rightward_values, leftward_values, machine_of}
 use Rattle.ring_core.proofs.Fits.{MayAdvance}

@@ -3,7 +3,7 @@ use Rattle.std.proofs.Common.{◌≡◌, ℕ, ◌+◌, ◌-◌, ◌%◌, ◌<◌
 use Rattle.std.proofs.Math.Nat.{add-mod_left, mod-eq_of_lt, mod-lt}
 use Rattle.std.proofs.lemmas.Bool.{cases_lt}
 use Rattle.node_program.specs.GlobalRounds.{left_of, right_of}
-use Rattle.ring_core.specs.SegmentPlaces.{first_place}
+use Rattle.ring_segments.specs.SegmentPlaces.{first_place}
 use Rattle.ring_core.specs.Machine.{border_before, segment_after}
 use Rattle.ring_core.proofs.Places.{first_place-grows, first_place-inside, first_place-all, first_place-none}
 

@@ -1,7 +1,7 @@
 -- Each event leads to at most one machine.
 use Rattle.std.proofs.Common.{◌≡◌, ◌⊎◌, [], ◌∷◌, sym, subst, ◌∙◌, inl, inr}
-use Rattle.ring_core.specs.declared.machine.event.RingEvent.{RingEvent}
-use Rattle.ring_core.specs.declared.machine.event.RingEvent.TheVariants.{SendRight, SendLeft, Advance}
+use Rattle.ring_core.specs.declared.event.RingEvent.{RingEvent}
+use Rattle.ring_core.specs.declared.event.RingEvent.TheVariants.{SendRight, SendLeft, Advance}
 use Rattle.ring_core.specs.Machine.{Machine, CanSendRight, sent_right, CanSendLeft, sent_left, CanAdvance, advanced, Steps, Runs}
 use Rattle.ring_core.specs.Laws.{OneRun}
 

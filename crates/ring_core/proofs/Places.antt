@@ -3,8 +3,7 @@ use Rattle.std.proofs.Common.{◌≡◌, ℕ, ◌+◌, ◌*◌, ◌/◌, ◌<◌
 use Rattle.std.proofs.Math.Nat.{mul-div_cancel_left, div-le_of_le-mul}
 use Rattle.std.proofs.lemmas.Nat.{mul-le, div-add-mod'}
 use Rattle.std.proofs.lemmas.Bool.{cases_lt}
-use Rattle.ring_core.specs.SegmentPlaces.{first_place}
-use Rattle.ring_core.specs.Laws.{SegmentsCoverTheRing}
+use Rattle.ring_segments.specs.SegmentPlaces.{first_place}
 
 -- each segment has a place if there are at most as many segments as places
 pub first_place-grows : (n g s : ℕ) → 0 < g → g ≤ n → first_place n g s < first_place n g (s + 1)
@@ -35,6 +34,3 @@ pub first_place-inside : (n g s : ℕ) → s ≤ g → first_place n g s ≤ n
 unfolding first_place
 first_place-inside n g s le =
     div-le_of_le-mul g (let small : s * n ≤ g * n = mul-le s n g n le (omega arith) in small)
-
-pub segments_cover : SegmentsCoverTheRing
-segments_cover n g some few = (first_place-none n g, first_place-all n g some, λ s. first_place-grows n g s some few)

@@ -6,11 +6,11 @@ use Rattle.border_exchange.specs.declared.Side.{Side}
 use Rattle.border_exchange.specs.declared.Side.TheVariants.{Rightward, Leftward}
 use Rattle.node_program.specs.GlobalRounds.{state}
 use Rattle.round_eval.specs.Rows.{rows}
-use Rattle.ring_core.specs.declared.message.Msg.{Msg}
-use Rattle.ring_core.specs.Messages.{Heading, sent_under}
-use Rattle.ring_core.specs.Headings.{heading_of}
-use Rattle.ring_core.specs.Segments.{RingSegment, first_of, places_of, states_of}
-use Rattle.ring_core.specs.Needs.{from_left, from_right, to_the_left, to_the_right}
+use Rattle.ring_segments.specs.declared.message.Msg.{Msg}
+use Rattle.ring_segments.specs.Messages.{Heading, sent_under}
+use Rattle.ring_segments.specs.Headings.{heading_of}
+use Rattle.ring_segments.specs.Segments.{RingSegment, first_of, places_of, states_of}
+use Rattle.ring_segments.specs.Needs.{from_left, from_right, to_the_left, to_the_right}
 use Rattle.ring_core.specs.Machine.{SegmentState, Machine, segment_at, border_at, left_border, right_border, border_before, segment_after}
 use Rattle.ring_core.specs.MachinePromises.{HasGlobalStates, HasGlobalMessages, AreNear, segment_after_rounds, sent_at, heading_at}
 use Rattle.ring_core.specs.Parts.{Parts, FitTogether, AreInOrder, part_at, round_at, rightward_headings, leftward_headings, values_under, machine_of}

@@ -1,8 +1,8 @@
 -- Runs of the segment machine.
 use Rattle.std.proofs.Common.{◌≡◌, ◌⊎◌, List, [], ◌∷◌, ◌++◌, length, refl, sym, subst, ◌∙◌, inl, inr}
 use Rattle.std.proofs.lemmas.List.{length-set}
-use Rattle.ring_core.specs.declared.machine.event.RingEvent.{RingEvent}
-use Rattle.ring_core.specs.declared.machine.event.RingEvent.TheVariants.{SendRight, SendLeft, Advance}
+use Rattle.ring_core.specs.declared.event.RingEvent.{RingEvent}
+use Rattle.ring_core.specs.declared.event.RingEvent.TheVariants.{SendRight, SendLeft, Advance}
 use Rattle.ring_core.specs.Machine.{Machine, Steps, Runs}
 
 -- a run, and one more event

@@ -5,10 +5,10 @@ use Rattle.std.proofs.lemmas.List.FromFn.{length-map-range_with_len, get_or-map-
 use Rattle.border_exchange.specs.declared.Side.TheVariants.{Rightward, Leftward}
 use Rattle.node_program.specs.Node.{to_left, to_right}
 use Rattle.node_program.specs.GlobalRounds.{left_of, right_of, state}
-use Rattle.ring_core.specs.Messages.{Heading, sent_under}
-use Rattle.ring_core.specs.SegmentPlaces.{first_place}
-use Rattle.ring_core.specs.Segments.{RingSegment, first_of, places_of, states_of}
-use Rattle.ring_core.specs.Needs.{from_left, from_right, to_the_left, to_the_right}
+use Rattle.ring_segments.specs.Messages.{Heading, sent_under}
+use Rattle.ring_segments.specs.SegmentPlaces.{first_place}
+use Rattle.ring_segments.specs.Segments.{RingSegment, first_of, places_of, states_of}
+use Rattle.ring_segments.specs.Needs.{from_left, from_right, to_the_left, to_the_right}
 use Rattle.ring_core.specs.Machine.{SegmentState, BorderState, no_places, no_messages, segment_at, border_at, left_border, right_border, border_before, segment_after, first_state, last_state}
 use Rattle.ring_core.specs.Parts.{Progress, Parts, FitTogether, no_part, part_at, round_at, rightward_headings, leftward_headings, segment_state, values_under, rightward_values, leftward_values, border_state, machine_of}
 use Rattle.ring_core.proofs.Places.{first_place-grows, first_place-inside}

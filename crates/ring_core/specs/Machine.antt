@@ -6,9 +6,9 @@ use Rattle.node_program.specs.Node.{start, to_left, to_right}
 use Rattle.lang_check.specs.Plans.{ProgramForIds}
 use Rattle.win_index.specs.Ring.{OrientedRing}
 use Rattle.round_eval.specs.Rows.{row_after}
-use Rattle.ring_core.specs.SegmentPlaces.{first_place}
-use Rattle.ring_core.specs.declared.machine.event.RingEvent.{RingEvent}
-use Rattle.ring_core.specs.declared.machine.event.RingEvent.TheVariants.{SendRight, SendLeft, Advance}
+use Rattle.ring_segments.specs.SegmentPlaces.{first_place}
+use Rattle.ring_core.specs.declared.event.RingEvent.{RingEvent}
+use Rattle.ring_core.specs.declared.event.RingEvent.TheVariants.{SendRight, SendLeft, Advance}
 
 -- a segment: the number of rounds that it has done, and the registers of its places
 pub record SegmentState : Type 0 where

@@ -5,11 +5,11 @@ use Rattle.std.specs.List.{range_with_len}
 use Rattle.node_program.specs.Term.{Identifier}
 use Rattle.lang_check.specs.Plans.{ProgramForIds}
 use Rattle.win_index.specs.Ring.{OrientedRing}
-use Rattle.ring_core.specs.declared.message.Msg.{Msg}
-use Rattle.ring_core.specs.Messages.{Heading, sent_under}
-use Rattle.ring_core.specs.Headings.{heading_of}
-use Rattle.ring_core.specs.Segments.{RingSegment, states_of}
-use Rattle.ring_core.specs.Needs.{to_the_right, to_the_left}
+use Rattle.ring_segments.specs.declared.message.Msg.{Msg}
+use Rattle.ring_segments.specs.Messages.{Heading, sent_under}
+use Rattle.ring_segments.specs.Headings.{heading_of}
+use Rattle.ring_segments.specs.Segments.{RingSegment, states_of}
+use Rattle.ring_segments.specs.Needs.{to_the_right, to_the_left}
 use Rattle.ring_core.specs.Machine.{SegmentState, BorderState, Machine, border_before, segment_after}
 
 -- a segment, and the numbers of its messages to the right and to the left

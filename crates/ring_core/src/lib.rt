@@ -1,15 +1,14 @@
-//! The parts of a ring that is run by messages: segments of its places, the messages that they
-//! exchange, and the machine of segments and borders without threads.
+//! The segment machine: the state of the segments of a ring and of the borders between them, after a
+//! list of events. No thread runs it: it is a model beside `ring_exec`.
 #![tactic(auto)]
 
+mod event;
 mod laws;
-mod limits;
-mod machine;
-mod message;
-mod segment;
+mod part;
+mod replaying;
+mod world;
 
-pub use laws::{one_run, segments_cover_the_ring};
-pub use limits::MAX_SEGMENTS;
-pub use machine::{RingEvent, World, replay};
-pub use message::Msg;
-pub use segment::{Segment, Strange};
+pub use event::RingEvent;
+pub use laws::one_run;
+pub use replaying::replay;
+pub use world::World;

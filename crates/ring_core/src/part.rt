@@ -1,13 +1,12 @@
 // A segment of the machine, and the messages that it has sent.
 ghost use Rattle.std.specs.Prelude.{◌≡◌, ◌+◌, ◌*◌, ◌<◌, ◌≤◌, ◌↔◌, IfOk, IfSome, IfNone, IsTrue, OnOk, OnErr, length};
 ghost use Rattle.round_eval.specs.Rows.{rows};
-ghost use Rattle.ring_core.specs.Segments.{places_of, states_of};
+ghost use Rattle.ring_segments.specs.Segments.{places_of, states_of};
 ghost use Rattle.ring_core.specs.Parts.{Progress, MaySendRight, MaySendLeft, opening_part, at_round};
 
-use crate::message::Msg;
-use crate::segment::Segment;
 use lang_check::Plan;
 use node_program::OutOfMemory;
+use ring_segments::{Msg, Segment};
 use std::alloc::Global;
 use std::marker::Model;
 use win_index::Ring;
@@ -35,8 +34,8 @@ impl<'a> Model for Part<'a> {
 }
 
 impl<'a> Part<'a> {
-    ghost use Rattle.ring_core.specs.Headings.{heading_of};
-    ghost use Rattle.ring_core.specs.Needs.{from_left, from_right};
+    ghost use Rattle.ring_segments.specs.Headings.{heading_of};
+    ghost use Rattle.ring_segments.specs.Needs.{from_left, from_right};
     ghost use Rattle.ring_core.specs.Parts.{AreInOrder, rightward_headings, leftward_headings};
 
     // Returns the part before its first round, without messages.

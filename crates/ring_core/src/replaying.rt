@@ -2,8 +2,8 @@ ghost use Rattle.std.specs.Prelude.{◌≡◌, ◌≤◌, IfOk, OnOk, length};
 ghost use Rattle.ring_core.specs.Machine.{IsMachineOf, opening, Runs, Steps};
 ghost use Rattle.ring_core.specs.MachinePromises.{HasGlobalStates, HasGlobalMessages, AreNear};
 
-use crate::machine::event::RingEvent;
-use crate::machine::world::World;
+use crate::event::RingEvent;
+use crate::world::World;
 use lang_check::Plan;
 use node_program::OutOfMemory;
 use std::alloc::Global;

@@ -1,17 +1,17 @@
 ghost use Rattle.std.specs.Prelude.{◌≡◌, ◌*◌, ◌^◌, ◌<◌, ◌≤◌, ℕ, Some, IfOk, IfSome, IfNone, OnOk, length, slice_get, map};
 ghost use Rattle.std.specs.List.{range_with_len};
 ghost use Rattle.round_eval.specs.Rows.{rows};
-ghost use Rattle.ring_core.specs.Segments.{states_of};
+ghost use Rattle.ring_segments.specs.Segments.{states_of};
 ghost use Rattle.ring_core.specs.Machine.{Steps, CanAdvance, segment_at, left_border, right_border, border_before, segment_after, opening as opening_of};
 ghost use Rattle.ring_core.specs.MachinePromises.{HasGlobalStates, HasGlobalMessages, AreNear, segment_after_rounds, sent_at, heading_at};
 ghost use Rattle.ring_core.specs.Parts.{opening_part};
 
-use crate::machine::event::RingEvent;
-use crate::machine::part::Part;
-use crate::message::Msg;
+use crate::event::RingEvent;
+use crate::part::Part;
 use border_exchange::Side;
 use lang_check::Plan;
 use node_program::OutOfMemory;
+use ring_segments::Msg;
 use round_eval::stretches_are_rows;
 use std::alloc::Global;
 use std::marker::Model;
@@ -42,9 +42,9 @@ impl<'a> Model for World<'a> {
 }
 
 impl<'a> World<'a> {
-    ghost use Rattle.ring_core.specs.Headings.{heading_of};
-    ghost use Rattle.ring_core.specs.Needs.{from_left, from_right, to_the_left, to_the_right};
-    ghost use Rattle.ring_core.specs.Messages.{sent_under};
+    ghost use Rattle.ring_segments.specs.Headings.{heading_of};
+    ghost use Rattle.ring_segments.specs.Needs.{from_left, from_right, to_the_left, to_the_right};
+    ghost use Rattle.ring_segments.specs.Messages.{sent_under};
 
     // The state before the first event.
     pub(crate) fn opening(

@@ -7,7 +7,7 @@ use crate::end::{Edge, End, new_border};
 use crate::fault::{CourseFault, SegmentFault};
 use crate::joined::Joined;
 use crate::runner::{Outcome, Runner, Shared};
-use ring_core::{Msg, Segment};
+use ring_segments::{Msg, Segment};
 use round_eval::Gate;
 use std::sync::Wait;
 use std::thread::{JoinHandle, Scope, Threads};

@@ -1,12 +1,12 @@
 // The channels of the segments that ended.
 ghost use Rattle.std.specs.Prelude.{◌≡◌, ℕ, ◌+◌, ◌<◌, ◌≤◌, OnOk, length, slice_index};
 ghost use Rattle.node_program.specs.GlobalRounds.{channel_at, channels_of};
-ghost use Rattle.ring_core.specs.Segments.{first_of, places_of};
-ghost use Rattle.ring_core.specs.SegmentCounts.{IsSegmentCount};
+ghost use Rattle.ring_segments.specs.Segments.{first_of, places_of};
+ghost use Rattle.ring_segments.specs.SegmentCounts.{IsSegmentCount};
 
 use crate::fault::SegmentFault;
 use lang_check::Plan;
-use ring_core::{Segment, segments_cover_the_ring};
+use ring_segments::{Segment, segments_cover_the_ring};
 use round_eval::{channel, row_at, width_of};
 use win_index::Ring;
 

@@ -6,7 +6,7 @@ ghost use Rattle.ring_exec.specs.declared.fault.CourseFault.TheVariants.{Segment
 
 use crate::fault::{CourseFault, SegmentFault};
 use crate::runner::Outcome;
-use ring_core::Segment;
+use ring_segments::Segment;
 use std::alloc::Global;
 
 // The segments that ended, from the last to the first, and the fault that takes precedence.

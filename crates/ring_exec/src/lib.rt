@@ -14,4 +14,4 @@ mod runner;
 
 pub use fault::RunFault;
 pub use message_run::run;
-pub use ring_core::{MAX_SEGMENTS, Msg, Segment, Strange};
+pub use ring_segments::{MAX_SEGMENTS, Msg, Segment, Strange};

@@ -1,6 +1,6 @@
 ghost use Rattle.std.specs.Prelude.{◌≡◌, ◌+◌, ◌-◌, ◌<◌, ◌↔◌, ℕ, IfOk, OnOk, IfErr, IfSome, IsErrOf, length, vec_len, slice_get};
 ghost use Rattle.node_program.specs.GlobalRounds.{channels_of};
-ghost use Rattle.ring_core.specs.SegmentCounts.{IsSegmentCount};
+ghost use Rattle.ring_segments.specs.SegmentCounts.{IsSegmentCount};
 
 use crate::border_name::{Blanks, BorderName};
 use crate::course::{Course, ended};
@@ -12,7 +12,7 @@ use crate::relay::run_all;
 use crate::runner::Shared;
 use lang_check::Plan;
 use node_program::OutOfMemory;
-use ring_core::{MAX_SEGMENTS, Msg, Segment};
+use ring_segments::{MAX_SEGMENTS, Msg, Segment};
 use round_eval::Gate;
 use std::alloc::Global;
 use std::marker::Brand;

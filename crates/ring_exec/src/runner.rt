@@ -6,7 +6,7 @@ use crate::border_name::BorderName;
 use crate::end::{End, Stop};
 use crate::fault::SegmentFault;
 use border_exchange::{Dated, Side};
-use ring_core::{Msg, Segment};
+use ring_segments::{Msg, Segment};
 use round_eval::Gate;
 use std::alloc::Global;
 use std::sync::Wait;

@@ -8,7 +8,7 @@ use Rattle.node_program.specs.Node.{start, to_left, to_right}
 use Rattle.node_program.specs.GlobalRounds.{left_of, right_of, state}
 use Rattle.round_eval.specs.Rows.{rows, row_after, stretch}
 use Rattle.round_eval.specs.Laws.{StretchesAreRows}
-use Rattle.ring_core.specs.Segments.{RingSegment, KeepsSegment}
+use Rattle.ring_segments.specs.Segments.{RingSegment, KeepsSegment}
 
 -- the start registers of a range of places are their registers before the first round
 pub start_stretch :

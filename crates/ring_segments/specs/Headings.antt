@@ -1,6 +1,6 @@
 -- The heading of a message.
-use Rattle.ring_core.specs.Messages.{Heading}
-use Rattle.ring_core.specs.declared.message.Msg.{Msg}
+use Rattle.ring_segments.specs.Messages.{Heading}
+use Rattle.ring_segments.specs.declared.message.Msg.{Msg}
 
 -- the plan, the ring, the place, the side and the round that a message names
 abbrev pub heading_of : Msg → Heading

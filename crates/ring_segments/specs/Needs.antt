@@ -2,8 +2,8 @@
 use Rattle.std.specs.Prelude.{◌+◌, ◌-◌}
 use Rattle.node_program.specs.GlobalRounds.{left_of, right_of}
 use Rattle.border_exchange.specs.declared.Side.TheVariants.{Rightward, Leftward}
-use Rattle.ring_core.specs.Messages.{Heading}
-use Rattle.ring_core.specs.Segments.{RingSegment, first_of, places_of}
+use Rattle.ring_segments.specs.Messages.{Heading}
+use Rattle.ring_segments.specs.Segments.{RingSegment, first_of, places_of}
 
 -- from its left it needs the message of the left neighbour of its first place to the right
 abbrev pub from_left : RingSegment → Heading

@@ -3,7 +3,7 @@ use Rattle.std.specs.Prelude.{◌≡◌, ℕ, ◌+◌, ◌-◌, ◌*◌, ◌<◌
 use Rattle.lang_check.specs.Plans.{ProgramForIds}
 use Rattle.win_index.specs.Ring.{OrientedRing}
 use Rattle.round_eval.specs.Rows.{rows, stretch}
-use Rattle.ring_core.specs.SegmentPlaces.{first_place}
+use Rattle.ring_segments.specs.SegmentPlaces.{first_place}
 
 -- a segment of a ring that runs a plan: its index, of how many, and the number of rounds that it has done. The
 -- registers of its places follow from these

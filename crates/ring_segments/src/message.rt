@@ -1,6 +1,6 @@
 // The messages of a run.
 ghost use Rattle.std.specs.Prelude.{◌≡◌, ◌↔◌, IsTrue};
-ghost use Rattle.ring_core.specs.Messages.{message_at};
+ghost use Rattle.ring_segments.specs.Messages.{message_at};
 
 use border_exchange::{Dated, Side};
 use lang_check::Plan;
@@ -34,8 +34,8 @@ impl<'a> Dated for Msg<'a> {
 }
 
 impl<'a> Msg<'a> {
-    ghost use Rattle.ring_core.specs.Headings.{heading_of};
-    ghost use Rattle.ring_core.specs.Messages.{sent_under};
+    ghost use Rattle.ring_segments.specs.Headings.{heading_of};
+    ghost use Rattle.ring_segments.specs.Messages.{sent_under};
 
     // The message with this value, which must be the one that the place sends.
     pub(crate) fn new(

@@ -1,7 +1,7 @@
 // Segments of a ring.
 ghost use Rattle.std.specs.Prelude.{◌≡◌, ◌+◌, ◌-◌, ◌*◌, ◌<◌, ◌≤◌, ◌↔◌, IfOk, IsOk, IsTrue, OnOk, OnErr, length};
 ghost use Rattle.round_eval.specs.Rows.{rows};
-ghost use Rattle.ring_core.specs.Segments.{RingSegment, places_of, states_of};
+ghost use Rattle.ring_segments.specs.Segments.{RingSegment, places_of, states_of};
 
 use crate::message::Msg;
 use border_exchange::Side;
@@ -36,8 +36,8 @@ pub struct Segment<'a> {
 
 impl<'a> Model for Segment<'a> {
     ghost use Rattle.std.specs.Prelude.{vec_len};
-    ghost use Rattle.ring_core.specs.Segments.{RingSegment, KeepsSegment};
-    ghost use Rattle.ring_core.specs.Codes.{segment_code};
+    ghost use Rattle.ring_segments.specs.Segments.{RingSegment, KeepsSegment};
+    ghost use Rattle.ring_segments.specs.Codes.{segment_code};
 
     ghost Value = { RingSegment };
 
@@ -50,8 +50,8 @@ impl<'a> Model for Segment<'a> {
 }
 
 impl<'a> Segment<'a> {
-    ghost use Rattle.ring_core.specs.Headings.{heading_of};
-    ghost use Rattle.ring_core.specs.Needs.{from_left, from_right, to_the_left, to_the_right};
+    ghost use Rattle.ring_segments.specs.Headings.{heading_of};
+    ghost use Rattle.ring_segments.specs.Needs.{from_left, from_right, to_the_left, to_the_right};
 
     /// Returns the segment with this index, of `segments`, before the first round. With `n` places
     /// segment `s` has those from `s*n/segments` to before `(s+1)*n/segments`. The ring must have

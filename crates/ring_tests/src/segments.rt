@@ -5,7 +5,7 @@ ghost use Rattle.std.specs.Prelude.{◌≡◌, IfSome, length};
 mod machine;
 
 use lang_check::Plan;
-use ring_core::Segment;
+use ring_segments::Segment;
 use std::alloc::Global;
 use std::test::Fail;
 use test_programs::{CV1, plan_of};

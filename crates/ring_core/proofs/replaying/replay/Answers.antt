@@ -1,11 +1,11 @@
 use Rattle.std.proofs.Common.{List, get_or, take, subst, sym, ◌∙◌}
 use Rattle.std.proofs.lemmas.List.{take_more}
 use Rattle.std.proofs.lemmas.List.FromFn.{length-map-range_with_len}
-use Rattle.ring_core.specs.declared.machine.event.RingEvent.{RingEvent}
-use Rattle.ring_core.specs.declared.machine.event.RingEvent.TheVariants.{SendRight}
+use Rattle.ring_core.specs.declared.event.RingEvent.{RingEvent}
+use Rattle.ring_core.specs.declared.event.RingEvent.TheVariants.{SendRight}
 use Rattle.ring_core.specs.Machine.{Runs, opening, opening_segment}
 use Rattle.ring_core.proofs.Runs.{run_more, run_same}
-use Rattle.ring_core.proofs.machine.replaying.replay.Goals as goal
+use Rattle.ring_core.proofs.replaying.replay.Goals as goal
 
 pub loop-event-preserved : goal.loop-event-preserved
 loop-event-preserved c =

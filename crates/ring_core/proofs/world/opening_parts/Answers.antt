@@ -2,7 +2,7 @@ use Rattle.std.proofs.Common.{List, ◌∷◌, [], ◌++◌, map, sym, ◌∙◌
 use Rattle.std.specs.List.{range_with_len}
 use Rattle.std.proofs.lemmas.List.FromFn.{map-range_with_len_more}
 use Rattle.ring_core.specs.Parts.{Progress, opening_part}
-use Rattle.ring_core.proofs.machine.world.opening_parts.Goals as goal
+use Rattle.ring_core.proofs.world.opening_parts.Goals as goal
 
 pub loop-index-preserved : goal.loop-index-preserved
 loop-index-preserved c =

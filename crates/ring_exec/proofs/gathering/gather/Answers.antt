@@ -1,8 +1,8 @@
 use Rattle.std.proofs.Common.{◌≡◌, ◌+◌, ◌-◌, ◌*◌, ◌/◌, length, refl, sym, ◌∙◌, ap, arith}
 use Rattle.std.proofs.lemmas.List.FromFn.{fill_by_all}
 use Rattle.node_program.specs.GlobalRounds.{channel_at}
-use Rattle.ring_core.specs.SegmentPlaces.{first_place}
-use Rattle.ring_core.specs.Segments.{RingSegment, places_of}
+use Rattle.ring_segments.specs.SegmentPlaces.{first_place}
+use Rattle.ring_segments.specs.Segments.{RingSegment, places_of}
 use Rattle.ring_exec.proofs.gathering.gather.Goals as goal
 
 pub loop-index-init : goal.loop-index-init

@@ -1,5 +1,5 @@
-use Rattle.ring_core.proofs.Places.{segments_cover}
-use Rattle.ring_core.proofs.laws.segments_cover_the_ring.Goals as goal
+use Rattle.ring_segments.proofs.Places.{segments_cover}
+use Rattle.ring_segments.proofs.laws.segments_cover_the_ring.Goals as goal
 
 pub returns : goal.returns
 returns c = segments_cover

@@ -1,15 +1,15 @@
 use Rattle.std.proofs.Common.{◌≡◌, ◌+◌, ◌<◌, length, subst, sym, ◌∙◌, ap}
 use Rattle.std.proofs.lemmas.List.{get_or_default}
-use Rattle.ring_core.specs.Needs.{from_left, from_right}
+use Rattle.ring_segments.specs.Needs.{from_left, from_right}
 use Rattle.ring_core.specs.Machine.{Machine, CanAdvance, Steps, segment_at}
 use Rattle.ring_core.specs.MachinePromises.{segment_after_rounds}
 use Rattle.ring_core.specs.Parts.{Progress, Parts, no_part, part_at, at_round, machine_of}
-use Rattle.ring_core.specs.declared.machine.event.RingEvent.TheVariants.{Advance}
+use Rattle.ring_core.specs.declared.event.RingEvent.TheVariants.{Advance}
 use Rattle.ring_core.proofs.Fits.{MayAdvance}
 use Rattle.ring_core.proofs.Enabled.{is_part, may_advance, unfinished}
 use Rattle.ring_core.proofs.Readings.{now_is}
 use Rattle.ring_core.proofs.Events.{after, advanced_fits, advance_steps}
-use Rattle.ring_core.proofs.machine.world.World.advance.Goals as goal
+use Rattle.ring_core.proofs.world.World.advance.Goals as goal
 
 pub advance-requires-clause-unfinished : goal.advance-requires-clause-unfinished
 advance-requires-clause-unfinished c =

@@ -1,8 +1,8 @@
 use Rattle.std.proofs.Common.{◌∙◌, ap}
 use Rattle.std.proofs.lemmas.Option.{IfSome_then}
-use Rattle.ring_core.specs.Segments.{RingSegment}
+use Rattle.ring_segments.specs.Segments.{RingSegment}
 use Rattle.ring_core.specs.Parts.{rightward_headings}
-use Rattle.ring_core.proofs.machine.world.World.from_left.Goals as goal
+use Rattle.ring_core.proofs.world.World.from_left.Goals as goal
 
 pub returns-clause-needed : goal.returns-clause-needed
 returns-clause-needed c =

@@ -1,10 +1,10 @@
 use Rattle.std.proofs.Common.{length, ◌∙◌, ap}
 use Rattle.std.proofs.lemmas.Option.{IfSome_then}
-use Rattle.ring_core.specs.Segments.{RingSegment}
+use Rattle.ring_segments.specs.Segments.{RingSegment}
 use Rattle.ring_core.specs.Machine.{BorderState}
 use Rattle.ring_core.specs.Parts.{leftward_headings}
 use Rattle.ring_core.proofs.Readings.{if_none, same_border}
-use Rattle.ring_core.proofs.machine.world.World.from_right.Goals as goal
+use Rattle.ring_core.proofs.world.World.from_right.Goals as goal
 
 pub returns-clause-none : goal.returns-clause-none
 returns-clause-none c =

@@ -1,9 +1,9 @@
 use Rattle.std.proofs.Common.{◌≡◌, ◌<◌, length, subst, sym}
-use Rattle.ring_core.specs.Needs.{from_left, from_right, to_the_left, to_the_right}
+use Rattle.ring_segments.specs.Needs.{from_left, from_right, to_the_left, to_the_right}
 use Rattle.ring_core.specs.Machine.{Machine, border_before, segment_after}
 use Rattle.ring_core.specs.MachinePromises.{segment_after_rounds}
 use Rattle.ring_core.proofs.Readings.{is_part, left_beside, right_beside}
-use Rattle.ring_core.proofs.machine.world.World.neighbours.Goals as goal
+use Rattle.ring_core.proofs.world.World.neighbours.Goals as goal
 
 pub returns-clause-left : goal.returns-clause-left
 returns-clause-left c = λ s r below.

@@ -1,7 +1,7 @@
 use Rattle.std.proofs.Common.{List, subst, sym, ◌∙◌, ap}
 use Rattle.ring_core.specs.Parts.{Progress, FitTogether, machine_of}
 use Rattle.ring_core.proofs.Opening.{opening_fits, opening_machine}
-use Rattle.ring_core.proofs.machine.world.World.opening.Goals as goal
+use Rattle.ring_core.proofs.world.World.opening.Goals as goal
 
 pub invariant_of-result : goal.invariant_of-result
 invariant_of-result c =

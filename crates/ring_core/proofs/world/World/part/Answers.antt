@@ -4,7 +4,7 @@ use Rattle.ring_core.specs.Machine.{Machine, left_border, right_border}
 use Rattle.ring_core.specs.Parts.{Progress, Parts, no_part, part_at}
 use Rattle.ring_core.proofs.Views.{own_right_size, own_left_size}
 use Rattle.ring_core.proofs.Enabled.{is_part}
-use Rattle.ring_core.proofs.machine.world.World.part.Goals as goal
+use Rattle.ring_core.proofs.world.World.part.Goals as goal
 
 pub returns-clause-rightward : goal.returns-clause-rightward
 returns-clause-rightward c =

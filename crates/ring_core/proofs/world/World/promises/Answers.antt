@@ -1,7 +1,7 @@
 use Rattle.std.proofs.Common.{subst}
 use Rattle.ring_core.specs.MachinePromises.{HasGlobalStates, HasGlobalMessages, AreNear}
 use Rattle.ring_core.proofs.Readings.{global_states, global_messages, near}
-use Rattle.ring_core.proofs.machine.world.World.promises.Goals as goal
+use Rattle.ring_core.proofs.world.World.promises.Goals as goal
 
 pub returns-clause-states : goal.returns-clause-states
 returns-clause-states c = subst HasGlobalStates c.self.view_is (global_states _ c.self.invariant)

@@ -2,10 +2,10 @@ use Rattle.std.proofs.Common.{◌≡◌, ◌+◌, ◌<◌, length, subst, sym, �
 use Rattle.std.proofs.lemmas.List.{get_or_default}
 use Rattle.ring_core.specs.Machine.{Machine, Steps}
 use Rattle.ring_core.specs.Parts.{Progress, Parts, MaySendLeft, no_part, part_at, machine_of}
-use Rattle.ring_core.specs.declared.machine.event.RingEvent.TheVariants.{SendLeft}
+use Rattle.ring_core.specs.declared.event.RingEvent.TheVariants.{SendLeft}
 use Rattle.ring_core.proofs.Events.{after, sent_left_fits, sent_left_steps, left_idle}
-use Rattle.ring_core.proofs.machine.world.World.send_left.Goals as goal
-use Rattle.ring_core.proofs.machine.world.World.send_left.Goals.{else-index-len-via-then-index-len+else-may_send_left, else-index-len-via-else-index-len}
+use Rattle.ring_core.proofs.world.World.send_left.Goals as goal
+use Rattle.ring_core.proofs.world.World.send_left.Goals.{else-index-len-via-then-index-len+else-may_send_left, else-index-len-via-else-index-len}
 
 pub invariant_of-self-then-may_send_left : goal.invariant_of-self-then-may_send_left
 invariant_of-self-then-may_send_left c =

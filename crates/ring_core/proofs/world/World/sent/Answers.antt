@@ -1,11 +1,11 @@
 use Rattle.std.proofs.Common.{length, sym, ◌∙◌, ap}
 use Rattle.border_exchange.specs.declared.Side.TheVariants.{Rightward, Leftward}
-use Rattle.ring_core.specs.Segments.{RingSegment}
+use Rattle.ring_segments.specs.Segments.{RingSegment}
 use Rattle.ring_core.specs.Machine.{BorderState}
 use Rattle.ring_core.specs.MachinePromises.{sent_at}
 use Rattle.ring_core.specs.Parts.{rightward_headings, leftward_headings}
 use Rattle.ring_core.proofs.Readings.{same_border, values_are}
-use Rattle.ring_core.proofs.machine.world.World.sent.Goals as goal
+use Rattle.ring_core.proofs.world.World.sent.Goals as goal
 
 pub returns-in-Rightward-clause-value : goal.returns-in-Rightward-clause-value
 returns-in-Rightward-clause-value c =

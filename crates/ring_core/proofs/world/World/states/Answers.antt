@@ -1,7 +1,7 @@
 use Rattle.std.proofs.Common.{◌≡◌, ◌*◌, length, subst, sym, ◌∙◌, ap}
-use Rattle.ring_core.specs.Segments.{RingSegment, places_of}
+use Rattle.ring_segments.specs.Segments.{RingSegment, places_of}
 use Rattle.ring_core.proofs.Readings.{rows_are, places_are}
-use Rattle.ring_core.proofs.machine.world.World.states.Goals as goal
+use Rattle.ring_core.proofs.world.World.states.Goals as goal
 
 pub returns-clause-value : goal.returns-clause-value
 returns-clause-value c =

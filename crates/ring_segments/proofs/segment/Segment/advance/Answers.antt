@@ -2,10 +2,10 @@ use Rattle.std.proofs.Common.{◌≡◌, ◌<◌, ◌+◌, ◌-◌, ◌%◌, len
 use Rattle.std.proofs.lemmas.List.{with_items_is}
 use Rattle.border_exchange.specs.declared.Side.TheVariants.{Rightward, Leftward}
 use Rattle.node_program.specs.GlobalRounds.{left_of, right_of}
-use Rattle.ring_core.specs.Messages.{sent_under}
-use Rattle.ring_core.specs.Segments.{RingSegment}
-use Rattle.ring_core.proofs.Stretches.{advance_keeps}
-use Rattle.ring_core.proofs.segment.Segment.advance.Goals as goal
+use Rattle.ring_segments.specs.Messages.{sent_under}
+use Rattle.ring_segments.specs.Segments.{RingSegment}
+use Rattle.ring_segments.proofs.Stretches.{advance_keeps}
+use Rattle.ring_segments.proofs.segment.Segment.advance.Goals as goal
 
 pub invariant_of-self : goal.invariant_of-self
 invariant_of-self c =

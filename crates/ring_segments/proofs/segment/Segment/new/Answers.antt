@@ -3,10 +3,10 @@ use Rattle.std.specs.List.{slice_range}
 use Rattle.std.proofs.lemmas.List.{with_items_is, length-take, length-drop}
 use Rattle.node_program.specs.Node.{start}
 use Rattle.round_eval.specs.Rows.{rows}
-use Rattle.ring_core.specs.SegmentPlaces.{first_place}
-use Rattle.ring_core.proofs.Places.{first_place-grows, first_place-inside}
-use Rattle.ring_core.proofs.Stretches.{start_stretch}
-use Rattle.ring_core.proofs.segment.Segment.new.Goals as goal
+use Rattle.ring_segments.specs.SegmentPlaces.{first_place}
+use Rattle.ring_segments.proofs.Places.{first_place-grows, first_place-inside}
+use Rattle.ring_segments.proofs.Stretches.{start_stretch}
+use Rattle.ring_segments.proofs.segment.Segment.new.Goals as goal
 
 pub invariant_of-result : goal.invariant_of-result
 unfolding first_place

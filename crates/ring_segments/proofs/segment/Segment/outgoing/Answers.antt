@@ -1,8 +1,8 @@
 use Rattle.std.proofs.Common.{◌-◌, ◌<◌, length, ◌∙◌, ap, arith}
 use Rattle.node_program.specs.Node.{to_right}
 use Rattle.round_eval.specs.Rows.{rows}
-use Rattle.ring_core.proofs.Stretches.{row_of_stretch}
-use Rattle.ring_core.proofs.segment.Segment.outgoing.Goals as goal
+use Rattle.ring_segments.proofs.Stretches.{row_of_stretch}
+use Rattle.ring_segments.proofs.segment.Segment.outgoing.Goals as goal
 
 pub new-requires : goal.new-requires
 new-requires c =

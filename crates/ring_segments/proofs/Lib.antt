@@ -1,0 +1,3 @@
+-- Lemmas that several proofs share.
+mod Places
+mod Stretches

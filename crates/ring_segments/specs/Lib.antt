@@ -1,0 +1,10 @@
+-- The definitions that the contracts cite: the number of segments, the places of a segment, the messages of global
+-- rounds, segments on their own rounds and the messages that they need, and the law.
+pub mod SegmentCounts
+pub mod SegmentPlaces
+pub mod Messages
+pub mod Headings
+pub mod Segments
+pub mod Needs
+pub mod Codes
+pub mod Laws

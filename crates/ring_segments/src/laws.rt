@@ -1,0 +1,6 @@
+ghost use Rattle.ring_segments.specs.Laws as law;
+
+/// The segments of a ring partition its places in order, and each has at least one.
+pub fn segments_cover_the_ring()
+    ensures { law.SegmentsCoverTheRing }
+{}
