@@ -1,15 +1,17 @@
 -- Windows and the windows that they begin with.
-use Rattle.std.proofs.Common.{◌≡◌, ◌≢◌, ℕ, zero, suc, ◌+◌, ◌-◌, ◌*◌, ◌<◌, ◌≤◌, Option, List, [], ◌∷◌, ◌++◌, get_or, take, drop, slice_get, Some, None, IsSome, subst, sym, ap, ◌∙◌, arith, refl, ⊎_elim, length-drop}
+use Rattle.std.proofs.Common.{◌≡◌, ◌≢◌, ℕ, zero, suc, ◌+◌, ◌-◌, ◌*◌, ◌<◌, ◌≤◌, Option, List, [], ◌∷◌, ◌++◌, get_or, take, drop, slice_get, Some, None, IsSome, subst, sym, ap, ◌∙◌, arith, refl, ⊎_elim, length-drop, Bool, true, false, length}
 use Rattle.std.proofs.Math.Nat.{suc-mul, add-mul, mul_assoc, mul-le-mul_right}
-use Rattle.std.proofs.lemmas.Bool.{cases_lt, false≢true}
+use Rattle.std.proofs.lemmas.Bool.{cases_lt, false≢true, OnTrue_at, OnFalse_at}
 use Rattle.std.proofs.lemmas.List.{get_or-take, get_or-drop, length-take-le, length_push, get_or_default, take_all, take-take}
 use Rattle.std.proofs.lemmas.List.Elements.{All-take, All-drop, All-push}
 use Rattle.std.proofs.lemmas.List.Quantifiers.{all_pairs_push}
-use Rattle.std.proofs.lemmas.Option.{same_Some}
+use Rattle.std.proofs.lemmas.Option.{same_Some, slice_get_within}
 use Rattle.win_index.specs.Falling.{falling}
 use Rattle.win_index.specs.Windows.{windows, number_of, IsWindow}
 use Rattle.nbhd_check.specs.Laws.{WindowsAreNumbered}
 use Rattle.nbhd_check.specs.Runs.{place_of_last}
+use Rattle.win_index.specs.Successor.{IsReplaced}
+use Rattle.channel_tables.specs.Tables.{ChannelTable, windows_of}
 
 -- a list with a number
 pub some_number : (o : Option ℕ) → IsSome o → (n : ℕ) × (o ≡ Some n)
@@ -169,3 +171,18 @@ module _ (laws : WindowsAreNumbered) where
         inside = numbers.0;
         number_is = own ∙ ap (λ i. i * (m - k - more) + place) first.number_is ∙ numbers.1;
       }
+
+-- a window of a table has an entry
+pub entry_within :
+    (t : ChannelTable) (rounds ids number : ℕ) (window : List ℕ) → rounds ≡ t.rounds → ids ≡ t.ids → length t.entries ≡ length (windows_of t)
+    → slice_get (windows (2 * rounds + 1) ids) number ≡ Some window → number < length t.entries
+entry_within t rounds ids number window rounds_is ids_is full item =
+    subst (λ n. number < n) ((λ q. length (windows (2 * rounds_is q + 1) (ids_is q))) ∙ sym full)
+    (slice_get_within (windows (2 * rounds + 1) ids) number window item)
+
+-- the window after one that is not the last
+pub next_item :
+    (t : ChannelTable) (number : ℕ) (replaced : Bool) (old new : List ℕ) → IsReplaced (2 * t.rounds + 1) t.ids replaced old new
+    → slice_get (windows_of t) number ≡ Some old → number + 1 < length (windows_of t) → slice_get (windows_of t) (number + 1) ≡ Some new
+next_item t number true old new is item lt = OnTrue_at refl is.next number item
+next_item t number false old new is item lt = absurd (omega (arith, OnFalse_at refl is.last number item))

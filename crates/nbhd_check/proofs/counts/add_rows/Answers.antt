@@ -1,7 +1,7 @@
 use Rattle.std.proofs.Common.{◌≡◌, ◌≢◌, ℕ, ◌+◌, ◌-◌, ◌*◌, true, false, eqb, ltb, cond, length, get_or, sym, ap, ◌∙◌, arith, add-zero, ⊎_elim}
 use Rattle.std.proofs.lemmas.Bool.Decides.{eqb_tells}
 use Rattle.nbhd_check.specs.Counts.{held_count}
-use Rattle.nbhd_check.proofs.Cells.{rows_within}
+use Rattle.nbhd_check.proofs.Cells.{rows_within, row_below}
 use Rattle.nbhd_check.proofs.HeldCounts.{below_step, count_few}
 use Rattle.nbhd_check.proofs.counts.add_rows.Goals as goal
 
@@ -43,3 +43,11 @@ loop-row-preserved c =
           ∙ c.loop-row.invariant.1 v x lt (omega arith) (omega (arith, within)))
           (eqb_tells v row),
     )
+
+pub returns : goal.returns
+returns c = λ v x lt within.
+    let t = c.args.table.now in
+    let ids_is : c.ids.result ≡ t.ids = c.ids.ensures ∙ c.shape.ensures.ids in
+    let below = row_below v c.args.limit t.ids (length c.loop-row.cells) within (c.loop-row.auto.cells ∙ c.requires.room) in
+    ap (λ w. get_or c.loop-row.cells (v * (w + 1) + x) 0) (sym ids_is)
+    ∙ c.loop-row.invariant.0 v x (omega (arith, ids_is, lt)) (omega (arith, below))

@@ -1,8 +1,14 @@
 use Rattle.std.proofs.Common.{◌≡◌, ℕ, ◌+◌, ◌-◌, ◌*◌, ◌<◌, ◌≤◌, nat_lt, min, length, get_or, ap, ◌∙◌, arith, refl}
 use Rattle.nbhd_check.specs.Counts.{held_count}
-use Rattle.nbhd_check.proofs.Cells.{rows_within}
+use Rattle.nbhd_check.proofs.Cells.{rows_within, cell_within}
 use Rattle.nbhd_check.proofs.HeldCounts.{close_of_sums, entries_below}
 use Rattle.nbhd_check.proofs.counts.close_count.Goals as goal
+
+low_le : (channel distance limit low : ℕ) → 1 ≤ distance → channel < limit → low ≡ channel + 1 - distance → low ≤ limit
+low_le channel distance limit low some below low_is = omega arith
+
+high_le : (sum limit high : ℕ) → high ≡ min sum limit → high ≤ limit
+high_le sum limit high high_is = omega arith
 
 pub returns : goal.returns
 returns c = λ first n sums.
@@ -25,3 +31,33 @@ returns c = λ first n sums.
     ∙ (λ q. read high (omega arith) q - read low (omega arith) q)
     ∙ close_of_sums t first n x c.args.channel c.args.distance low high limit c.requires.some
     (entries_below t.entries limit (omega arith) c.requires.fit.limit) low_is high_is
+
+pub offset_bounds-cells-low : goal.offset_bounds-cells-low
+offset_bounds-cells-low c =
+    let limit = c.args.counts.now.limit in
+    let ids_is = c.ids.ensures ∙ c.shape.ensures.ids in
+    let len_is = ap length c.deref-cells.ensures.value ∙ c.requires.fit.room in
+    let within = cell_within c.saturating_sub-low.result limit c.ids.result c.args.table.now.ids c.args.x (length c.deref-cells.result.now) (low_le c.args.channel c.args.distance limit _ c.requires.some c.requires.channel c.saturating_sub-low.ensures) ids_is c.requires.x len_is in
+    omega (arith, within, c.deref-cells.type_inv.1)
+
+pub bounds-cells-low : goal.bounds-cells-low
+bounds-cells-low c =
+    let limit = c.args.counts.now.limit in
+    let ids_is = c.ids.ensures ∙ c.shape.ensures.ids in
+    let len_is = ap length c.deref-cells.ensures.value ∙ c.requires.fit.room in
+    cell_within c.saturating_sub-low.result limit c.ids.result c.args.table.now.ids c.args.x (length c.deref-cells.result.now) (low_le c.args.channel c.args.distance limit _ c.requires.some c.requires.channel c.saturating_sub-low.ensures) ids_is c.requires.x len_is
+
+pub offset_bounds-cells-high : goal.offset_bounds-cells-high
+offset_bounds-cells-high c =
+    let limit = c.args.counts.now.limit in
+    let ids_is = c.ids.ensures ∙ c.shape.ensures.ids in
+    let len_is = ap length c.deref-cells.ensures.value ∙ c.requires.fit.room in
+    let within = cell_within c.min-high.result limit c.ids.result c.args.table.now.ids c.args.x (length c.deref-cells.result.now) (high_le c.saturating_add.result limit _ c.min-high.ensures) ids_is c.requires.x len_is in
+    omega (arith, within, c.deref-cells.type_inv.1)
+
+pub bounds-cells-high : goal.bounds-cells-high
+bounds-cells-high c =
+    let limit = c.args.counts.now.limit in
+    let ids_is = c.ids.ensures ∙ c.shape.ensures.ids in
+    let len_is = ap length c.deref-cells.ensures.value ∙ c.requires.fit.room in
+    cell_within c.min-high.result limit c.ids.result c.args.table.now.ids c.args.x (length c.deref-cells.result.now) (high_le c.saturating_add.result limit _ c.min-high.ensures) ids_is c.requires.x len_is

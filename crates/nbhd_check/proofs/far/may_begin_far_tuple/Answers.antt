@@ -92,3 +92,12 @@ returns-clause-far c =
     (c.close_one-one.ensures.close first.0 (first.1 ∙ ap Some (sym last)))
     (c.close_one-other.ensures.close second.0 (second.1 ∙ ap Some (sym (last_too ∙ ap (λ z. z ++ b ∷ a ∷ []) middle))))
     (omega (arith, few, all_is, first_is, second_is)))
+
+pub returns-clause-same : goal.returns-clause-same
+returns-clause-same c =
+    let t = c.args.table.now in
+    let list = c.args.list.now in
+    let moved = c.set_last.new.list in
+    let a : ℕ = get_or list 0 0 in
+    let b : ℕ = get_or list 1 0 in
+    front_kept t moved c.set_last-2.new.list b a (c.set_last.auto.list ∙ c.requires.long) c.set_last-2.ensures ∙ front_kept t list moved a b c.requires.long c.set_last.ensures

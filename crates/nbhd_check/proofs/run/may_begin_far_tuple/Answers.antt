@@ -1,8 +1,9 @@
-use Rattle.std.proofs.Common.{◌≡◌, get_or, Some, sym, ap, ◌∙◌}
+use Rattle.std.proofs.Common.{◌≡◌, get_or, Some, sym, ap, ◌∙◌, ◌<◌, length, subst}
 use Rattle.std.proofs.lemmas.Bool.{OnFalse_at, OnFalse_from}
-use Rattle.channel_tables.specs.Tables.{channel_of}
+use Rattle.channel_tables.specs.Tables.{channel_of, windows_of}
 use Rattle.nbhd_check.specs.Runs.{BeginsFarTuple}
 use Rattle.nbhd_check.proofs.Runs.{channel_at, none_begins_far}
+use Rattle.std.proofs.lemmas.Option.{slice_get_within}
 use Rattle.nbhd_check.proofs.run.may_begin_far_tuple.Goals as goal
 
 pub returns : goal.returns
@@ -14,3 +15,9 @@ returns c =
     channel_at c.numbers_of_windows.ensures table c.args.number window c.requires.item ∙ ap (λ entries. Some (get_or entries c.args.number 0)) (sym c.entries.ensures.value) in
     OnFalse_from c.may_be_close_at_two.result (¬ BeginsFarTuple table c.args.distance window) (λ no.
     none_begins_far c.numbers_of_windows.ensures table c.args.distance channel window here (OnFalse_at no c.may_be_close_at_two.ensures))
+
+pub bounds-entries-number : goal.bounds-entries-number
+bounds-entries-number c =
+    let table = c.args.table.now in
+    subst (λ n. c.args.number < n) (sym (ap length c.entries.ensures.value ∙ c.entries.ensures.table.size))
+    (slice_get_within (windows_of table) c.args.number c.args.window.now c.requires.item)

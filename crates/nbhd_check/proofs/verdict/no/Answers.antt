@@ -1,5 +1,7 @@
 use Rattle.std.proofs.Common.{◌∙◌}
 use Rattle.nbhd_check.proofs.Tuples.{is_witness}
+use Rattle.std.proofs.lemmas.Option.{slice_get_within}
+use Rattle.nbhd_check.specs.Apart.{tuples}
 use Rattle.nbhd_check.proofs.verdict.no.Goals as goal
 
 pub returns-clause-verdict : goal.returns-clause-verdict
@@ -8,3 +10,16 @@ returns-clause-verdict c =
     (is_witness c.args.table.now c.args.separation c.args.number _ _ _ _ c.write_tuple.new.out c.requires.0 c.tuples_are_rings.ensures c.requires.1
     c.write_tuple.ensures.item c.write_tuple.ensures.tuple (c.rounds-place.ensures ∙ c.shape.ensures.rounds) c.broken_step-step.ensures.step
     c.broken_step-step.ensures.few c.channel_from-first.ensures c.channel_from-second.ensures)
+
+pub write_tuple-requires-clause-below : goal.write_tuple-requires-clause-below
+write_tuple-requires-clause-below c =
+    slice_get_within (tuples c.args.table.now c.args.separation) c.args.number c.requires.0 c.requires.1.item
+
+pub channel_from-second-requires-clause-tuple : goal.channel_from-second-requires-clause-tuple
+channel_from-second-requires-clause-tuple c = c.write_tuple.ensures.tuple
+
+pub channel_from-first-requires-clause-tuple : goal.channel_from-first-requires-clause-tuple
+channel_from-first-requires-clause-tuple c = c.write_tuple.ensures.tuple
+
+pub broken_step-step-requires-clause-tuple : goal.broken_step-step-requires-clause-tuple
+broken_step-step-requires-clause-tuple c = c.write_tuple.ensures.tuple

@@ -1,0 +1,27 @@
+use Rattle.std.proofs.Common.{arith}
+use Rattle.nbhd_check.specs.Counts.{middle_of}
+use Rattle.nbhd_check.proofs.FarFree.{one_more_block, all_of_part}
+use Rattle.nbhd_check.proofs.far_parts.far_free_in_part.Goals as goal
+
+pub returns-clause-free : goal.returns-clause-free
+returns-clause-free c =
+    all_of_part c.args.table.now c.args.distance c.loop-block.least c.args.part c.block_count-blocks.result c.min-low.result c.min-block-end.result c.loop-block.block
+    c.block_count-blocks.ensures c.min-low.ensures c.min-block-end.ensures c.loop-block-test.false c.loop-block.invariant.2
+
+pub loop-block-preserved : goal.loop-block-preserved
+loop-block-preserved c =
+    let less = c.far_free_in_block-least.ensures.less in (
+      c.far_free_in_block-least.ensures.fit,
+      omega (arith, less, c.loop-block.invariant.1),
+      one_more_block c.args.table.now c.args.distance c.loop-block.least c.far_free_in_block-least.result c.min-low.result c.loop-block.block
+          (middle_of c.args.table.now c.set_middle.new.list) less c.set_middle.ensures.item c.loop-block.invariant.2 c.far_free_in_block-least.ensures.free,
+    )
+
+pub far_free_in_block-least-requires-clause-fit : goal.far_free_in_block-least-requires-clause-fit
+far_free_in_block-least-requires-clause-fit c = record { room = c.loop-block.invariant.0.room; limit = c.loop-block.invariant.0.limit }
+
+pub far_free_in_block-least-requires-clause-middle : goal.far_free_in_block-least-requires-clause-middle
+far_free_in_block-least-requires-clause-middle c = c.set_middle.ensures.middle
+
+pub returns-clause-fit : goal.returns-clause-fit
+returns-clause-fit c = c.loop-block.invariant.0
