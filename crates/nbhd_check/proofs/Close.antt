@@ -1,6 +1,6 @@
 -- Channels that are close, and channels that are apart.
-use Rattle.std.proofs.Common.{◌≡◌, ℕ, ◌<◌, Option, Some, None, IsSome, subst, ap, arith, refl}
-use Rattle.std.proofs.lemmas.Bool.{false≢true}
+use Rattle.std.proofs.Common.{◌≡◌, ℕ, ◌<◌, Option, Some, None, IsSome, subst, ap, arith, refl, ltb, sym, IsTrue, ◌↔◌}
+use Rattle.std.proofs.lemmas.Bool.{false≢true, ltb-true, lt-ltb}
 use Rattle.std.specs.Int.{abs_diff}
 use Rattle.nbhd_check.specs.Apart.{AreClose, AreApart}
 
@@ -44,3 +44,10 @@ close_along distance a b c d first second close = subst (AreClose distance c) se
 pub some_of_apart : (distance : ℕ) (a b : Option ℕ) → AreApart distance a b → IsSome a
 some_of_apart distance (Some c) b apart = refl
 some_of_apart distance None b apart = absurd apart
+
+-- a test of the difference of two channels tells whether they are close
+pub close_by_test : (distance c d n : ℕ) (a b : Option ℕ) → n ≡ abs_diff c d → a ≡ Some c → b ≡ Some d → IsTrue (ltb n distance) ↔ AreClose distance a b
+close_by_test distance c d n a b n_is a_is b_is = (
+  λ is. subst (λ o. AreClose distance o b) (sym a_is) (subst (AreClose distance (Some c)) (sym b_is) (subst (λ m. m < distance) n_is (ltb-true n distance is))),
+  λ close. lt-ltb n distance (subst (λ m. m < distance) (sym n_is) (subst (AreClose distance (Some c)) b_is (subst (λ o. AreClose distance o b) a_is close))),
+)

@@ -11,6 +11,7 @@ use Rattle.std.proofs.lemmas.Option.{get_or_from_slice_get}
 use Rattle.channel_tables.specs.Tables.{ChannelTable, windows_of}
 use Rattle.nbhd_check.specs.Counts.{shared_len, is_held, held_count}
 use Rattle.nbhd_check.proofs.Included.{count_sum, count_more}
+use Rattle.win_index.specs.Windows.{IsWindow}
 
 pub count_few : (t : ChannelTable) (first n x : ℕ) (passes : ℕ → Bool) → held_count t first n x passes ≤ n
 count_few t first n x passes =
@@ -140,3 +141,20 @@ pub row_within : (t : ChannelTable) (number row len room : ℕ) → row ≡ get_
 row_within t number row len room row_is len_is within rows =
     let next : get_or t.entries number 0 + 2 ≡ row + 1 = omega arith in
     subst (λ k. (row + 1) * (t.ids + 1) ≤ k) (sym len_is) (subst (λ k. k * (t.ids + 1) ≤ room) next (rows number 0 within))
+
+-- the same at the numbers of the shape
+pub row_of_shape :
+    (t : ChannelTable) (number entry w len room : ℕ) → entry ≡ get_or t.entries number 0 → w ≡ t.ids → len ≡ room → number < length t.entries
+    → All (λ channel. (channel + 2) * (t.ids + 1) ≤ room) t.entries → (entry + 1 + 1) * (w + 1) ≤ len
+row_of_shape t number entry w len room entry_is w_is len_is within rows =
+    subst (λ m. (entry + 1 + 1) * (m + 1) ≤ len) (sym w_is) (row_within t number (entry + 1) len room (ap (λ e. e + 1) entry_is) len_is within rows)
+
+pub in_table : (number end all size : ℕ) → number < end → end ≤ all → size ≡ all → number < size
+in_table number end all size lt le size_is = omega arith
+
+-- the last two identifiers of a window are columns
+pub in_columns : (t : ChannelTable) (rounds w place : ℕ) (window : List ℕ) → IsWindow (2 * t.rounds + 1) t.ids window → 1 ≤ t.rounds → rounds ≡ t.rounds
+    → w ≡ t.ids → place ≤ 2 * (rounds - 1) + 2 → get_or window place 0 < w + 1
+in_columns t rounds w place window is some rounds_is w_is le =
+    let size = is.size in
+    omega (arith, is.below place 0 (omega arith))

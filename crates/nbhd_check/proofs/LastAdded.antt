@@ -1,5 +1,5 @@
 -- A window followed by one more identifier.
-use Rattle.std.proofs.Common.{◌≡◌, ◌≢◌, ℕ, ◌+◌, ◌<◌, List, [], ◌∷◌, ◌++◌, length, set, take, drop, Contains, ap, ◌∙◌, arith, length-append, length-drop, sym}
+use Rattle.std.proofs.Common.{◌≡◌, ◌≢◌, ℕ, ◌+◌, ◌<◌, List, [], ◌∷◌, ◌++◌, length, set, take, drop, Contains, ap, ◌∙◌, arith, length-append, length-drop, sym, ◌≤◌}
 use Rattle.std.proofs.lemmas.List.{take_more_set, take_at, get_or_default, length_push, length-set, length-take-le}
 use Rattle.std.proofs.lemmas.List.Elements.{All-push}
 use Rattle.std.proofs.lemmas.List.Quantifiers.{all_pairs_push}
@@ -17,11 +17,14 @@ written n id window copied rest same size within =
 pub room : (n : ℕ) (copied cells : List ℕ) → length copied ≡ n → n < length cells → n < length (copied ++ drop n cells)
 room n copied cells size within = omega (arith, length-append copied (drop n cells), length-drop n cells)
 
--- and the cells with both are cut from them
+-- and the cells with both are within them
+pub cut_within : (n id : ℕ) (copied cells : List ℕ) → length copied ≡ n → n < length cells → n + 1 ≤ length (set (copied ++ drop n cells) n id)
+cut_within n id copied cells size within =
+    omega (arith, room n copied cells size within, length-set (copied ++ drop n cells) n id)
+
 pub cut_long : (n id : ℕ) (copied cells : List ℕ) → length copied ≡ n → n < length cells → n + 1 ≡ length (take (n + 1) (set (copied ++ drop n cells) n id))
 cut_long n id copied cells size within =
-    let long = room n copied cells size within in
-    sym (length-take-le (n + 1) (set (copied ++ drop n cells) n id) (omega (arith, long, length-set (copied ++ drop n cells) n id)))
+    sym (length-take-le (n + 1) (set (copied ++ drop n cells) n id) (cut_within n id copied cells size within))
 
 pub window_with : (k m id : ℕ) (window : List ℕ) → IsWindow k m window → id < m → ¬ Contains window id → IsWindow (k + 1) m (window ++ id ∷ [])
 window_with k m id window is below other =

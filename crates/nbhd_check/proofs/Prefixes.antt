@@ -186,3 +186,20 @@ pub next_item :
     → slice_get (windows_of t) number ≡ Some old → number + 1 < length (windows_of t) → slice_get (windows_of t) (number + 1) ≡ Some new
 next_item t number true old new is item lt = OnTrue_at refl is.next number item
 next_item t number false old new is item lt = absurd (omega (arith, OnFalse_at refl is.last number item))
+
+-- a window of a table, at the numbers of its shape
+pub window_of_shape : (t : ChannelTable) (rounds ids : ℕ) (window : List ℕ) → rounds ≡ t.rounds → ids ≡ t.ids
+    → IsWindow (2 * t.rounds + 1) t.ids window → IsWindow (2 * rounds + 1) ids window
+window_of_shape t rounds ids window rounds_is ids_is is =
+    subst (λ m. IsWindow (2 * rounds + 1) m window) (sym ids_is) (subst (λ r. IsWindow (2 * r + 1) t.ids window) (sym rounds_is) is)
+
+pub shape_of_window : (t : ChannelTable) (rounds ids : ℕ) (window : List ℕ) → rounds ≡ t.rounds → ids ≡ t.ids
+    → IsWindow (2 * rounds + 1) ids window → IsWindow (2 * t.rounds + 1) t.ids window
+shape_of_window t rounds ids window rounds_is ids_is is =
+    subst (λ m. IsWindow (2 * t.rounds + 1) m window) ids_is (subst (λ r. IsWindow (2 * r + 1) ids window) rounds_is is)
+
+-- the step to the next window, at the numbers of the shape
+pub step_of_shape : (t : ChannelTable) (rounds ids : ℕ) (replaced : Bool) (old new : List ℕ) → rounds ≡ t.rounds → ids ≡ t.ids
+    → IsReplaced (2 * rounds + 1) ids replaced old new → IsReplaced (2 * t.rounds + 1) t.ids replaced old new
+step_of_shape t rounds ids replaced old new rounds_is ids_is is =
+    subst (λ m. IsReplaced (2 * t.rounds + 1) m replaced old new) ids_is (subst (λ r. IsReplaced (2 * r + 1) ids replaced old new) rounds_is is)

@@ -168,3 +168,9 @@ is_witness t s n place step first second ring tuple rings bad item window at' st
       first_channel = ap turned at' ∙ zero_is ∙ here;
       second_channel = ap (λ p. turned (p + step)) at' ∙ ap (channel_of t) (parts.2 step few) ∙ there;
     }
+
+-- a table with a bad tuple is not apart
+pub not_apart : (t : ChannelTable) (s : Separation) (number : ℕ) (tuple : List ℕ) → TuplesSuffice → IsLeastBad t s 0 number tuple → ¬ IsApartEverywhere t s
+not_apart t s number tuple exact is apart =
+    let within = slice_get_within (tuples t s) number tuple is.item in
+    (exact t s).1 apart number tuple within (subst (IsBad t s) (sym (get_or_from_slice_get (tuples t s) number tuple tuple is.item)) is.bad)

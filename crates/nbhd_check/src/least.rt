@@ -50,13 +50,17 @@ fn free_windows<R: Threads + Sync>(
     if !are_worth_counting(table, limit) {
         return None;
     }
-    let mut counts = Counts::new(alloc, table, limit).ok()?;
+    let Ok(mut counts) = Counts::new(alloc, table, limit) else {
+        return None;
+    };
     let more = if threads < 2 {
         0
     } else {
         threads.min(MAX_FAR_PARTS as u64)
     };
-    let mut searchers = searchers(alloc, table, separation.far, limit, more as usize).ok()?;
+    let Ok(mut searchers) = searchers(alloc, table, separation.far, limit, more as usize) else {
+        return None;
+    };
     let near = near_free_windows(rt, table, separation.near, threads);
     Some(far_free_windows(rt, table, separation.far, &mut searchers, &mut counts, near))
 }

@@ -51,3 +51,8 @@ returns c = λ v x lt within.
     let below = row_below v c.args.limit t.ids (length c.loop-row.cells) within (c.loop-row.auto.cells ∙ c.requires.room) in
     ap (λ w. get_or c.loop-row.cells (v * (w + 1) + x) 0) (sym ids_is)
     ∙ c.loop-row.invariant.0 v x (omega (arith, ids_is, lt)) (omega (arith, below))
+
+pub add_row_before-requires-clause-within : goal.add_row_before-requires-clause-within
+add_row_before-requires-clause-within c =
+    rows_within c.loop-row.row c.args.limit c.ids.result c.args.table.now.ids (length c.loop-row.cells) (omega arith) (c.ids.ensures ∙ c.shape.ensures.ids)
+    (c.loop-row.auto.cells ∙ c.requires.room)

@@ -114,3 +114,8 @@ count_windows-requires-clause-window c =
     let t = c.args.table.now in
     subst (λ m. IsWindow (2 * t.rounds + 1) m c.window.new.out) c.shape-shape.ensures.ids
     (subst (λ r. IsWindow (2 * r + 1) c.shape-shape.result.ids c.window.new.out) (c.rounds-2.ensures ∙ c.shape-shape.ensures.rounds) c.window.ensures.window)
+
+pub window_number-requires-clause-window : goal.window_number-requires-clause-window
+window_number-requires-clause-window c =
+    subst (λ m. IsWindow (2 * (c.rounds.result - 1) + 1) m c.args.shared.now) (sym c.shape-shape.ensures.ids)
+    (subst (λ r. IsWindow (2 * (r - 1) + 1) c.args.table.now.ids c.args.shared.now) (sym (c.rounds.ensures ∙ c.shape-shape.ensures.rounds)) c.requires.shared)

@@ -1,10 +1,10 @@
-use Rattle.std.proofs.Common.{◌≡◌, ◌==◌, ◌&&◌, ℕ, ◌+◌, ◌-◌, ◌*◌, ◌<◌, ◌≤◌, eqb, cond, length, get_or, sym, ap, ◌∙◌, arith}
-use Rattle.std.proofs.lemmas.Grind.{common_steps}
+use Rattle.std.proofs.Common.{◌≡◌, ◌==◌, ◌&&◌, ℕ, ◌+◌, ◌-◌, ◌*◌, ◌<◌, ◌≤◌, eqb, cond, length, get_or, sym, ap, ◌∙◌, arith, refl}
 use Rattle.win_index.specs.declared.limits.TheConstants.{MAX_WINDOWS}
 use Rattle.channel_tables.specs.Tables.{windows_of}
 use Rattle.nbhd_check.specs.Counts.{held_count}
 use Rattle.nbhd_check.proofs.Cells.{cond_one}
-use Rattle.nbhd_check.proofs.HeldCounts.{count_few, window_counted, entries_below, row_within}
+use Rattle.nbhd_check.proofs.HeldCounts.{count_few, window_counted, entries_below, row_within, row_of_shape, in_table, in_columns}
+use Rattle.nbhd_check.proofs.Prefixes.{window_of_shape, step_of_shape, next_item}
 use Rattle.nbhd_check.proofs.counts.count_windows.Goals as goal
 
 pub count_in-requires-clause-few : goal.count_in-requires-clause-few
@@ -85,9 +85,12 @@ loop-number-preserved c =
     let ids_is : c.ids.result ≡ t.ids = c.ids.ensures ∙ c.shape-shape.ensures.ids in
     let last : c.ids.result + 1 - 1 ≡ t.ids = omega arith in
     let more : number + 1 - c.args.first ≡ n + 1 = omega arith in
-    let here : c.args.first + n ≡ number = omega arith in (
-      grind (arith, common_steps),
-      grind (arith, common_steps),
+    let here : c.args.first + n ≡ number = omega arith in
+    let step = step_of_shape t c.rounds-in-loop-number.result c.shape-shape.result.ids c.next_window.result window c.next_window.new.window
+    (c.rounds-in-loop-number.ensures ∙ c.shape-shape.ensures.rounds) c.shape-shape.ensures.ids c.next_window.ensures in (
+      λ next. next_item t number c.next_window.result window c.next_window.new.window step (c.loop-number.invariant.0 c.loop-number-test.true)
+          (in_table (number + 1) (c.args.first + c.args.count) (length (windows_of t)) (length (windows_of t)) next c.requires.within refl),
+      step.window,
       λ v x lt within.
           let in_wide : x < c.ids.result + 1 = omega arith in
           let turn : (w : ℕ) → ℕ = λ w. get_or c.count_in-in-loop-number-2.new.cells (v * (w + 1) + x) 0 in
@@ -106,3 +109,43 @@ loop-number-preserved c =
           ∙ counted
           ∙ ap (λ m. held_count t c.args.first m x (λ channel. v == channel + 1)) (sym more),
     )
+
+pub next_window-requires-clause-window : goal.next_window-requires-clause-window
+next_window-requires-clause-window c =
+    window_of_shape c.args.table.now c.rounds-in-loop-number.result c.shape-shape.result.ids c.loop-number.window
+    (c.rounds-in-loop-number.ensures ∙ c.shape-shape.ensures.rounds) c.shape-shape.ensures.ids c.loop-number.invariant.1
+
+pub count_in-requires-clause-within : goal.count_in-requires-clause-within
+count_in-requires-clause-within c =
+    let t = c.args.table.now in
+    row_of_shape t c.loop-number.number c.entry.result c.ids.result (length c.loop-number.cells) (length c.args.cells.now) c.entry.ensures.value (c.ids.ensures ∙ c.shape-shape.ensures.ids) c.loop-number.auto.cells
+    (in_table c.loop-number.number (c.args.first + c.args.count) (length (windows_of t)) (length t.entries) c.loop-number-test.true c.requires.within c.entry.ensures.table.size) c.requires.rows
+
+pub count_in-requires-in-loop-number-clause-within : goal.count_in-requires-in-loop-number-clause-within
+count_in-requires-in-loop-number-clause-within c =
+    let t = c.args.table.now in
+    row_of_shape t c.loop-number.number c.entry.result c.ids.result (length c.count_in.new.cells) (length c.args.cells.now) c.entry.ensures.value (c.ids.ensures ∙ c.shape-shape.ensures.ids) (c.count_in.auto.cells ∙ c.loop-number.auto.cells)
+    (in_table c.loop-number.number (c.args.first + c.args.count) (length (windows_of t)) (length t.entries) c.loop-number-test.true c.requires.within c.entry.ensures.table.size) c.requires.rows
+
+pub count_in-requires-in-loop-number-2-clause-within : goal.count_in-requires-in-loop-number-2-clause-within
+count_in-requires-in-loop-number-2-clause-within c =
+    let t = c.args.table.now in
+    row_of_shape t c.loop-number.number c.entry.result c.ids.result (length c.count_in-in-loop-number.new.cells) (length c.args.cells.now) c.entry.ensures.value (c.ids.ensures ∙ c.shape-shape.ensures.ids) (c.count_in-in-loop-number.auto.cells ∙ c.count_in.auto.cells ∙ c.loop-number.auto.cells)
+    (in_table c.loop-number.number (c.args.first + c.args.count) (length (windows_of t)) (length t.entries) c.loop-number-test.true c.requires.within c.entry.ensures.table.size) c.requires.rows
+
+pub count_in-requires-clause-column : goal.count_in-requires-clause-column
+count_in-requires-clause-column c =
+    let place : ℕ = 2 * (c.rounds.result - 1) + 1 in
+    in_columns c.args.table.now c.rounds.result c.ids.result place c.loop-number.window c.loop-number.invariant.1 c.requires.some
+    (c.rounds.ensures ∙ c.shape-shape.ensures.rounds) (c.ids.ensures ∙ c.shape-shape.ensures.ids) (omega arith)
+
+pub count_in-requires-in-loop-number-clause-column : goal.count_in-requires-in-loop-number-clause-column
+count_in-requires-in-loop-number-clause-column c =
+    let place : ℕ = 2 * (c.rounds.result - 1) + 1 + 1 in
+    in_columns c.args.table.now c.rounds.result c.ids.result place c.loop-number.window c.loop-number.invariant.1 c.requires.some
+    (c.rounds.ensures ∙ c.shape-shape.ensures.rounds) (c.ids.ensures ∙ c.shape-shape.ensures.ids) (omega arith)
+
+pub returns : goal.returns
+returns c = λ v x lt within.
+    let all : c.loop-number.number - c.args.first ≡ c.args.count = omega arith in
+    c.loop-number.invariant.2 v x lt within ∙ ap (λ n. held_count c.args.table.now c.args.first n x (λ channel. v == channel + 1)) all

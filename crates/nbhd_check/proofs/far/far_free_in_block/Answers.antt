@@ -1,8 +1,9 @@
 use Rattle.std.proofs.Common.{◌≡◌, ℕ, ◌<◌, ◌≤◌, List, get_or, subst, sym, ap, ◌∙◌, arith, inl, inr, ⊎_elim}
 use Rattle.std.proofs.lemmas.Bool.{cases_lt}
-use Rattle.nbhd_check.specs.Counts.{middle_of, AreCountsOnceMade}
+use Rattle.nbhd_check.specs.Counts.{middle_of, AreCountsOnceMade, shared_len}
 use Rattle.nbhd_check.proofs.Ends.{middle_after_first}
 use Rattle.nbhd_check.proofs.FarFree.{free_in_two, all_firsts}
+use Rattle.win_index.specs.Windows.{IsWindow}
 use Rattle.nbhd_check.proofs.far.far_free_in_block.Goals as goal
 
 pub returns-then-start_of-from-clause-free : goal.returns-then-start_of-from-clause-free
@@ -47,3 +48,16 @@ returns-clause-free c =
     let t = c.args.table.now in
     all_firsts c.numbers_of_windows.ensures t c.args.distance c.loop-first.least c.loop-first.first (middle_of t c.args.list.now) c.requires.some (omega arith)
     c.loop-first.invariant.4
+
+pub far_free_with_first-least-requires-clause-middle : goal.far_free_with_first-least-requires-clause-middle
+far_free_with_first-least-requires-clause-middle c =
+    let t = c.args.table.now in
+    let middle = ap (middle_of t) c.set_first.ensures ∙ middle_after_first t c.loop-first.first c.loop-first.list c.requires.some ∙ c.loop-first.invariant.0 in
+    subst (IsWindow (shared_len t) t.ids) (sym middle) c.requires.middle
+
+pub far_free_with_first-least-requires-clause-fit : goal.far_free_with_first-least-requires-clause-fit
+far_free_with_first-least-requires-clause-fit c = c.loop-first.invariant.1
+
+pub far_free_with_first-least-requires-clause-first : goal.far_free_with_first-least-requires-clause-first
+far_free_with_first-least-requires-clause-first c =
+    subst (λ n. n < c.args.table.now.ids) (sym (ap (λ l. get_or l 0 0) c.set_first.ensures)) (omega arith)

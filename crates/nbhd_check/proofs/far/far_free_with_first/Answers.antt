@@ -1,4 +1,4 @@
-use Rattle.std.proofs.Common.{◌≡◌, ℕ, ◌+◌, ◌*◌, List, ◌∷◌, get_or, take, drop, subst, sym, ap, ◌∙◌, arith}
+use Rattle.std.proofs.Common.{◌≡◌, ℕ, ◌+◌, ◌*◌, List, ◌∷◌, get_or, take, drop, subst, sym, ap, ◌∙◌, arith, ◌<◌, refl, le_refl}
 use Rattle.std.proofs.lemmas.List.{get_or-take}
 use Rattle.win_index.specs.Windows.{IsWindow}
 use Rattle.nbhd_check.specs.Counts.{shared_len, middle_of, AreCountsOnceMade}
@@ -49,3 +49,24 @@ returns-clause-free c =
     let t = c.args.table.now in
     all_seconds c.numbers_of_windows.ensures t c.args.distance (get_or c.args.list.now 0 0) c.loop-second.least c.loop-second.second (middle_of t c.args.list.now)
     c.requires.some (omega arith) c.loop-second.invariant.5
+
+pub far_free_with_prefix-least-requires-clause-fit : goal.far_free_with_prefix-least-requires-clause-fit
+far_free_with_prefix-least-requires-clause-fit c = c.loop-second.invariant.2
+
+pub far_free_with_prefix-least-requires-clause-first : goal.far_free_with_prefix-least-requires-clause-first
+far_free_with_prefix-least-requires-clause-first c =
+    subst (λ n. n < c.args.table.now.ids) (sym (ap (λ l. get_or l 0 0) c.set_second.ensures ∙ c.loop-second.invariant.0)) c.requires.first
+
+pub far_free_with_prefix-least-requires-clause-second : goal.far_free_with_prefix-least-requires-clause-second
+far_free_with_prefix-least-requires-clause-second c =
+    subst (λ n. n < c.args.table.now.ids) (sym (ap (λ l. get_or l 1 0) c.set_second.ensures)) (omega arith)
+
+pub loop-second-init : goal.loop-second-init
+loop-second-init c = (
+  refl,
+  refl,
+  c.requires.fit,
+  c.requires.counts,
+  le_refl c.args.least,
+  λ number window below item own. absurd (omega (arith, own.1)),
+)

@@ -101,3 +101,12 @@ returns-clause-same c =
     let a : ℕ = get_or list 0 0 in
     let b : ℕ = get_or list 1 0 in
     front_kept t moved c.set_last-2.new.list b a (c.set_last.auto.list ∙ c.requires.long) c.set_last-2.ensures ∙ front_kept t list moved a b c.requires.long c.set_last.ensures
+
+pub close_count-with_second-requires-clause-fit : goal.close_count-with_second-requires-clause-fit
+close_count-with_second-requires-clause-fit c = c.requires.fit
+
+pub close_count-with_first-requires-clause-fit : goal.close_count-with_first-requires-clause-fit
+close_count-with_first-requires-clause-fit c = c.requires.fit
+
+pub close_count-all-requires-clause-fit : goal.close_count-all-requires-clause-fit
+close_count-all-requires-clause-fit c = c.requires.fit

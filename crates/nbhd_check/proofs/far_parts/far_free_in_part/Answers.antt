@@ -1,4 +1,4 @@
-use Rattle.std.proofs.Common.{arith}
+use Rattle.std.proofs.Common.{arith, ◌≡◌, ◌+◌, ◌*◌, length, ◌∙◌, ap, le_refl}
 use Rattle.nbhd_check.specs.Counts.{middle_of}
 use Rattle.nbhd_check.proofs.FarFree.{one_more_block, all_of_part}
 use Rattle.nbhd_check.proofs.far_parts.far_free_in_part.Goals as goal
@@ -25,3 +25,10 @@ far_free_in_block-least-requires-clause-middle c = c.set_middle.ensures.middle
 
 pub returns-clause-fit : goal.returns-clause-fit
 returns-clause-fit c = c.loop-block.invariant.0
+
+pub loop-block-init : goal.loop-block-init
+loop-block-init c = (
+  c.requires.fit,
+  le_refl c.args.least,
+  λ number window below item own. absurd (omega (arith, own.1, own.2)),
+)

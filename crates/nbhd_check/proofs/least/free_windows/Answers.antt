@@ -1,5 +1,6 @@
-use Rattle.std.proofs.Common.{arith}
+use Rattle.std.proofs.Common.{arith, All, subst, sym}
 use Rattle.nbhd_check.proofs.Runs.{free_of_both}
+use Rattle.nbhd_check.specs.FarSearch.{IsSearcherOf}
 use Rattle.nbhd_check.proofs.least.free_windows.Goals as goal
 
 pub returns : goal.returns
@@ -12,3 +13,10 @@ searchers-requires-clause-limit g c = c.channel_limit-limit.ensures.limit
 
 pub new-requires-clause-limit : goal.new-requires-clause-limit
 new-requires-clause-limit g c = c.channel_limit-limit.ensures.limit
+
+pub far_free_windows-requires-clause-fit : goal.far_free_windows-requires-clause-fit
+far_free_windows-requires-clause-fit g c = λ _ _. c.in-Ok.ensures
+
+pub far_free_windows-requires-clause-searchers : goal.far_free_windows-requires-clause-searchers
+far_free_windows-requires-clause-searchers g c = λ _ _.
+    subst (All (IsSearcherOf c.args.table.now c.args.separation.far)) (sym c.deref_mut.ensures.value) c.in-Ok-searchers.ensures

@@ -1,8 +1,7 @@
-use Rattle.std.proofs.Common.{◌≡◌, ℕ, ◌+◌, ◌*◌, ◌/◌, ◌-◌, ◌<◌, max, min, length, subst, sym, ap, ◌∙◌, arith}
+use Rattle.std.proofs.Common.{◌≡◌, ℕ, ◌+◌, ◌*◌, ◌/◌, ◌-◌, ◌<◌, max, min, length, subst, sym, ap, ◌∙◌, arith, ◌≤◌}
 use Rattle.nbhd_check.specs.Runs.{run_len}
-use Rattle.nbhd_check.proofs.LeastFrom.{least_from_before, none_before, none_in_more, last_window}
-use Rattle.nbhd_check.proofs.Prefixes.{next_item}
-use Rattle.win_index.specs.Successor.{IsReplaced}
+use Rattle.nbhd_check.proofs.LeastFrom.{least_from_before, none_before, none_in_more, last_window, scan_begins, scan_ends, scan_covers, some_run}
+use Rattle.nbhd_check.proofs.Prefixes.{next_item, window_of_shape, step_of_shape}
 use Rattle.channel_tables.specs.Tables.{windows_of}
 use Rattle.nbhd_check.proofs.part.scan_runs.Goals as goal
 
@@ -21,12 +20,11 @@ loop-number-preserved c =
     let t = c.args.table.now in
     let number : ℕ = c.loop-number.number in
     let run = run_len t c.args.separation in
-    let window_is : IsReplaced (2 * t.rounds + 1) t.ids c.next_window.result c.loop-number.window c.next_window.new.window =
-    subst (λ r. IsReplaced (2 * r + 1) t.ids c.next_window.result c.loop-number.window c.next_window.new.window) (c.rounds.ensures ∙ c.shape-shape.ensures.rounds)
-    (subst (λ m. IsReplaced (2 * c.rounds.result + 1) m c.next_window.result c.loop-number.window c.next_window.new.window) c.shape-shape.ensures.ids c.next_window.ensures) in (
-      λ lt. next_item t number c.next_window.result c.loop-number.window c.next_window.new.window window_is (c.loop-number.invariant.0 c.loop-number-test.true)
+    let step = step_of_shape t c.rounds.result c.shape-shape.result.ids c.next_window.result c.loop-number.window c.next_window.new.window
+    (c.rounds.ensures ∙ c.shape-shape.ensures.rounds) c.shape-shape.ensures.ids c.next_window.ensures in (
+      λ lt. next_item t number c.next_window.result c.loop-number.window c.next_window.new.window step (c.loop-number.invariant.0 c.loop-number-test.true)
           (last_window c.args.high _ (length (windows_of t)) c.run_len.result (number + 1) (omega arith) c.run_len.ensures.all c.requires.within lt),
-      window_is.window,
+      step.window,
       none_in_more t c.args.separation c.args.low c.args.high number run c.loop-number.invariant.2 c.in_default.ensures,
     )
 
@@ -36,3 +34,36 @@ loop-number-init c = (
   c.requires.window,
   none_before c.args.table.now c.args.separation c.args.low c.args.high c.args.first (run_len c.args.table.now c.args.separation) c.requires.first,
 )
+
+pub next_window-requires-clause-window : goal.next_window-requires-clause-window
+next_window-requires-clause-window c =
+    window_of_shape c.args.table.now c.rounds.result c.shape-shape.result.ids c.loop-number.window
+    (c.rounds.ensures ∙ c.shape-shape.ensures.rounds) c.shape-shape.ensures.ids c.loop-number.invariant.1
+
+pub least_in_run-requires-clause-ends : goal.least_in_run-requires-clause-ends
+least_in_run-requires-clause-ends c =
+    let t = c.args.table.now in
+    let run = run_len t c.args.separation in
+    let some : 0 < c.args.high = omega arith in
+    let positive = some_run (length (windows_of t)) c.run_len.result _ c.args.high c.run_len.ensures.all c.requires.within some in
+    scan_ends c.args.low c.args.first c.loop-number.number run (subst (λ n. 0 < n) c.run_len.ensures.value positive) c.requires.first (omega arith)
+
+pub least_in_run-requires-clause-begins : goal.least_in_run-requires-clause-begins
+least_in_run-requires-clause-begins c =
+    let t = c.args.table.now in
+    let run = run_len t c.args.separation in
+    scan_begins c.args.high c.loop-number.number run ((c.args.high - 1) / c.run_len.result) (omega arith) c.loop-number-test.true
+    (ap (λ n. (c.args.high - 1) / n) c.run_len.ensures.value)
+
+pub least_in_run-requires-clause-window : goal.least_in_run-requires-clause-window
+least_in_run-requires-clause-window c = c.loop-number.invariant.1
+
+pub returns : goal.returns
+returns c = λ n tuple ge lt item.
+    let t = c.args.table.now in
+    let some : 0 < c.args.high = omega arith in
+    let positive = some_run (length (windows_of t)) c.run_len.result _ c.args.high c.run_len.ensures.all c.requires.within some in
+    let covers = scan_covers c.args.high c.loop-number.number c.run_len.result positive c.loop-number-test.false in
+    let all : c.args.high ≤ c.loop-number.number * run_len t c.args.separation =
+    subst (λ m. c.args.high ≤ c.loop-number.number * m) c.run_len.ensures.value covers in
+    c.loop-number.invariant.2 n tuple ge (omega (arith, lt, all)) item

@@ -1,9 +1,10 @@
-use Rattle.std.proofs.Common.{◌≡◌, ◌*◌, [], ◌∷◌, length, get_or, drop, sym, ap, ◌∙◌, arith}
+use Rattle.std.proofs.Common.{◌≡◌, ◌*◌, [], ◌∷◌, length, get_or, drop, sym, ap, ◌∙◌, arith, ◌≢◌, AllPairs, subst, ◌+◌}
 use Rattle.std.proofs.lemmas.Bool.{false≢true, OnFalse_from}
-use Rattle.win_index.specs.Windows.{unused}
+use Rattle.win_index.specs.Windows.{unused, IsWindow}
 use Rattle.nbhd_check.specs.Runs.{NoneCloseAfter}
 use Rattle.nbhd_check.proofs.Runs.{cut_front, gap_inside, none_close_after}
 use Rattle.nbhd_check.proofs.TwoGaps.{one_gap, one_inside}
+use Rattle.nbhd_check.proofs.Prefixes.{window_drop}
 use Rattle.nbhd_check.proofs.run.may_be_close_next.Goals as goal
 
 pub has_close_outside-requires-clause-inside : goal.has_close_outside-requires-clause-inside
@@ -26,3 +27,11 @@ returns c =
     none_close_after c.numbers_of_windows.ensures t window c.channels_after.result.now (gap ∷ []) 1 c.args.distance c.args.channel
     c.requires.window c.channels_after.ensures (one_gap (2 * t.rounds) window gap gap_is)
     (λ has. false≢true (sym no ∙ c.has_close_outside.ensures.1 has)))
+
+pub place_among_unused-gap-requires : goal.place_among_unused-gap-requires
+place_among_unused-gap-requires c =
+    let t = c.args.table.now in
+    let window = c.args.window.now in
+    let size : 2 * t.rounds + 1 ≡ 1 + 2 * t.rounds = omega arith in
+    let rest = window_drop (2 * t.rounds) t.ids 1 window (subst (λ k. IsWindow k t.ids window) size c.requires.window) in
+    subst (AllPairs (λ a b. a ≢ b)) (sym (cut_front 1 window)) rest.distinct

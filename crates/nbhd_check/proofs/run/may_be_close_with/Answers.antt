@@ -2,7 +2,7 @@ use Rattle.std.proofs.Common.{◌≡◌, ℕ, ◌+◌, ◌*◌, [], ◌∷◌, �
 use Rattle.win_index.specs.Windows.{IsWindow}
 use Rattle.nbhd_check.specs.Runs.{NoneCloseAfter}
 use Rattle.std.specs.Bool.{OnFalse}
-use Rattle.nbhd_check.proofs.LastAdded.{written, room, window_with, cut_long}
+use Rattle.nbhd_check.proofs.LastAdded.{written, room, window_with, cut_long, cut_within}
 use Rattle.nbhd_check.proofs.run.may_be_close_with.Goals as goal
 
 pub may_be_close_second-requires : goal.may_be_close_second-requires
@@ -37,3 +37,11 @@ slice_bounds-may_be_close_second-end c =
     let last : ℕ = 2 * c.rounds.result + 1 in
     let copied : length c.copy_from_slice.new.self ≡ last = ap length c.copy_from_slice.ensures.after ∙ (let long : length window ≡ last = omega arith in long) in
     cut_long last c.args.id c.copy_from_slice.new.self (0 ∷ 0 ∷ 0 ∷ 0 ∷ 0 ∷ 0 ∷ 0 ∷ 0 ∷ 0 ∷ 0 ∷ 0 ∷ []) copied (omega arith)
+
+pub slice_bounds-cells-end-2 : goal.slice_bounds-cells-end-2
+slice_bounds-cells-end-2 c =
+    let window = c.args.window.now in
+    let size = c.requires.window.size in
+    let last : ℕ = 2 * c.rounds.result + 1 in
+    let copied : length c.copy_from_slice.new.self ≡ last = ap length c.copy_from_slice.ensures.after ∙ (let long : length window ≡ last = omega arith in long) in
+    cut_within last c.args.id c.copy_from_slice.new.self (0 ∷ 0 ∷ 0 ∷ 0 ∷ 0 ∷ 0 ∷ 0 ∷ 0 ∷ 0 ∷ 0 ∷ 0 ∷ []) copied (omega arith)

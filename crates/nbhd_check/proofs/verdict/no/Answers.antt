@@ -1,5 +1,5 @@
 use Rattle.std.proofs.Common.{◌∙◌}
-use Rattle.nbhd_check.proofs.Tuples.{is_witness}
+use Rattle.nbhd_check.proofs.Tuples.{is_witness, not_apart}
 use Rattle.std.proofs.lemmas.Option.{slice_get_within}
 use Rattle.nbhd_check.specs.Apart.{tuples}
 use Rattle.nbhd_check.proofs.verdict.no.Goals as goal
@@ -23,3 +23,9 @@ channel_from-first-requires-clause-tuple c = c.write_tuple.ensures.tuple
 
 pub broken_step-step-requires-clause-tuple : goal.broken_step-step-requires-clause-tuple
 broken_step-step-requires-clause-tuple c = c.write_tuple.ensures.tuple
+
+pub returns-clause-yes : goal.returns-clause-yes
+returns-clause-yes c = (
+  λ same. absurd (let none : ⊥ = cc in none),
+  λ apart. absurd (not_apart c.args.table.now c.args.separation c.args.number c.requires.0 c.tuples_suffice.ensures.exact c.requires.1 apart),
+)
