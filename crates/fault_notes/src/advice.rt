@@ -2,7 +2,7 @@
 //! mistakes.
 
 use crate::operands::operands_advice;
-use crate::words::advice_in;
+use crate::words::{advice_at_start, advice_in};
 use wanted_tokens::Wanted;
 
 const PRODUCT: &str = "; there is no product: twice x is `shl(x, 1)`";
@@ -27,8 +27,11 @@ const ROUNDS: &str = "; there are as many rounds as `rounds` says";
 
 const PRINTED: &str = "; this is what `nbhd` printed, and no program";
 
-// Names that other languages have for operations, and other words, each with advice.
-const OPERATIONS: [(&[u8], &str); 13] = [
+const UTF_16: &str = "; the file is UTF-16: save it as ASCII";
+
+// Words that are not of the language, each with advice.
+const WORDS: [(&[u8], &str); 59] = [
+    // Names that other languages have for operations, and other words.
     (b"mul", PRODUCT),
     (b"times", PRODUCT),
     (b"mult", PRODUCT),
@@ -42,10 +45,7 @@ const OPERATIONS: [(&[u8], &str); 13] = [
     (b"plus", SUM),
     (b"sum", SUM),
     (b"minus", DIFFERENCE),
-];
-
-// Keywords and names of other languages, each with advice.
-const KEYWORDS: [(&[u8], &str); 16] = [
+    // Keywords and names of other languages.
     (b"then", CHOICE),
     (b"else", CHOICE),
     (b"elif", CHOICE),
@@ -65,10 +65,7 @@ const KEYWORDS: [(&[u8], &str); 16] = [
     (b"me", IDENTIFIER),
     (b"my", IDENTIFIER),
     (b"uid", IDENTIFIER),
-];
-
-// Words that `nbhd` prints, each with advice.
-const OUTPUT: [(&[u8], &str); 8] = [
+    // Words that `nbhd` prints.
     (
         b"nbhd",
         "; the text of a table is for `nbhd audit` and `nbhd migrate`",
@@ -80,10 +77,7 @@ const OUTPUT: [(&[u8], &str); 8] = [
     (b"check", PRINTED),
     (b"ring", PRINTED),
     (b"table", PRINTED),
-];
-
-// Words with a capital, each with advice.
-const CAPITALS: [(&[u8], &str); 22] = [
+    // Words with a capital.
     (b"True", "; write 1"),
     (b"False", "; write 0"),
     (b"ID", "; write `id`"),
@@ -108,6 +102,20 @@ const CAPITALS: [(&[u8], &str); 22] = [
     (b"FINISH", "; write `finish`"),
 ];
 
+// Bytes above 127 at the start of a text, each with advice.
+const BYTES: [(&[u8], &str); 4] = [
+    (
+        &[0xef, 0xbb, 0xbf],
+        "; this is a byte order mark: save the file without one",
+    ),
+    (&[0xff, 0xfe], UTF_16),
+    (&[0xfe, 0xff], UTF_16),
+    (
+        &[0xc2, 0xa0],
+        "; this is a blank that does not break: write a plain one",
+    ),
+];
+
 // Returns advice on a word that is not of the language, at a place where `wanted` can follow.
 pub(crate) fn word_advice(word: &[u8], wanted: Option<Wanted>) -> &'static str {
     let known = known_advice(word);
@@ -123,38 +131,13 @@ pub(crate) fn word_advice(word: &[u8], wanted: Option<Wanted>) -> &'static str {
 
 // Returns advice on words and marks of other languages.
 fn known_advice(word: &[u8]) -> &'static str {
+    if let Some(advice) = advice_in(&WORDS, word) {
+        return advice;
+    }
     match word {
-        [b'A'..=b'Z', ..] => capital_advice(word),
-        [b'a'..=b'z', ..] => operation_advice(word),
         [mark] => mark_advice(*mark),
         _ => "",
     }
-}
-
-// Returns advice on the names that other languages have for operations, and on other words.
-fn operation_advice(word: &[u8]) -> &'static str {
-    match advice_in(&OPERATIONS, word) {
-        Some(advice) => advice,
-        None => keyword_advice(word),
-    }
-}
-
-// Returns advice on the keywords and names of other languages, and on what `nbhd` prints.
-fn keyword_advice(word: &[u8]) -> &'static str {
-    match advice_in(&KEYWORDS, word) {
-        Some(advice) => advice,
-        None => output_advice(word),
-    }
-}
-
-// Returns advice on what `nbhd` prints.
-fn output_advice(word: &[u8]) -> &'static str {
-    advice_in(&OUTPUT, word).unwrap_or("")
-}
-
-// Returns advice on words with a capital.
-fn capital_advice(word: &[u8]) -> &'static str {
-    advice_in(&CAPITALS, word).unwrap_or("")
 }
 
 // Returns advice on the marks of other languages.
@@ -195,12 +178,7 @@ fn spelling_advice(word: &[u8]) -> &'static str {
 
 // Returns advice on a byte above 127 at the start of a text.
 pub(crate) fn byte_advice(text: &[u8]) -> &'static str {
-    match text {
-        [0xef, 0xbb, 0xbf, ..] => "; this is a byte order mark: save the file without one",
-        [0xff, 0xfe, ..] | [0xfe, 0xff, ..] => "; the file is UTF-16: save it as ASCII",
-        [0xc2, 0xa0, ..] => "; this is a blank that does not break: write a plain one",
-        _ => "",
-    }
+    advice_at_start(&BYTES, text).unwrap_or("")
 }
 
 // Returns advice on a word that cannot follow the text before it, after which `wanted` can follow.

@@ -1,17 +1,10 @@
 //! Numbers in decimal after their names.
 
-ghost use Rattle.std.specs.Prelude.{◌≡◌, ◌≢◌, ◌==◌, ◌<◌, ◌&&◌, ◌^◌, ℕ, List, ◌∷◌, ◌++◌, nat_lt, length, slice_index, IfSome, IfNone, MatchOption, not, ◌≤◌};
-ghost use Rattle.std.specs.List.{prefix_len};
+ghost use Rattle.std.specs.Prelude.{◌≡◌, ◌≢◌, ◌==◌, ◌<◌, ◌&&◌, ◌^◌, ℕ, List, ◌∷◌, ◌++◌, nat_lt, length, slice_index, IfSome, IfNone, MatchOption};
 ghost use Rattle.std.specs.Fmt.{decimal};
 ghost use Rattle.fault_notes.specs.Decimals.{Lacks};
 
-// Returns the number of bytes before the first byte of this value, or before the end.
-fn front_len(text: &[u8], end: u8) -> usize
-    ensures value { result ≡ prefix_len (λ b. not (b == end)) text.now }
-    ensures within { result ≤ length text.now }
-{
-    text.iter().take_while(|byte| **byte != end).count()
-}
+use crate::lexemes::front_len;
 
 // Returns the parts of a text before and after the first byte of this value.
 fn cut_at(text: &[u8], end: u8) -> Option<(&[u8], &[u8])>

@@ -22,12 +22,12 @@ fn is_blank(byte: u8) -> bool
     matches!(byte, b'\n' | b'\t' | b'\r' | b' ')
 }
 
-// Returns the number of bytes before the first line feed, or before the end.
-pub(crate) fn line_len(text: &[u8]) -> usize
-    ensures value { result ≡ prefix_len (λ b. not (b == 10)) text.now }
+// Returns the number of bytes before the first byte of this value, or before the end.
+pub(crate) fn front_len(text: &[u8], end: u8) -> usize
+    ensures value { result ≡ prefix_len (λ b. not (b == end)) text.now }
     ensures within { result ≤ length text.now }
 {
-    text.iter().take_while(|byte| **byte != b'\n').count()
+    text.iter().take_while(|byte| **byte != end).count()
 }
 
 // Returns the offset of the first lexeme, after blanks and comments, or the text's length.
@@ -42,7 +42,7 @@ fn lexeme_start(text: &[u8]) -> usize
     'skips: while at < text.len() {
         let byte = text[at];
         if byte == b'#' {
-            at += 1 + line_len(&text[at + 1..]);
+            at += 1 + front_len(&text[at + 1..], b'\n');
         } else if is_blank(byte) {
             at += 1;
         } else {

@@ -43,16 +43,6 @@ fn open_bracket(text: &[u8]) -> Option<usize>
     None
 }
 
-// Returns the number of letters and digits at the end.
-fn last_word_len(text: &[u8]) -> usize
-    ensures { result ≤ length text.now }
-{
-    text.iter()
-        .rev()
-        .take_while(|byte| is_word_byte(**byte))
-        .count()
-}
-
 // Returns the word before the last bracket of a text that is not closed, an empty word if there is
 // none.
 fn open_operation(text: &[u8]) -> &[u8] {
@@ -60,7 +50,11 @@ fn open_operation(text: &[u8]) -> &[u8] {
         Some(at) => &text[..at],
         None => &text[..0],
     };
-    &front[front.len() - last_word_len(front)..]
+    let mut start = front.len();
+    'letters: while start > 0 && is_word_byte(front[start - 1]) {
+        start -= 1;
+    }
+    &front[start..]
 }
 
 // Returns advice on the number of operands of the operation whose bracket is open at the end of a

@@ -1,23 +1,25 @@
 //! Notes with the place of the cause in a text.
 
-ghost use Rattle.std.specs.Prelude.{◌≡◌, ◌<◌, length, IfOk, IfSome, string_bytes};
+ghost use Rattle.std.specs.Prelude.{◌≡◌, IfOk, string_bytes};
+ghost use Rattle.fault_notes.specs.FaultTokens.{place_of_cause};
 ghost use Rattle.fault_notes.specs.Placed.{placed_note};
 
+use crate::scanning::place_of;
 use crate::texts::write_head;
+use lang_check::CheckFault;
 use source_places::write_marked_line;
 use std::alloc::{AllocError, Global};
 
-// Returns the note on a cause at this place, or at no place.
+// Returns the note on the cause of a refusal, with the place of the first lexeme that is the cause.
 pub(crate) fn placed_note(
     alloc: Global,
     text: &[u8],
-    place: Option<usize>,
+    fault: CheckFault,
     cause: &str,
 ) -> Result<String, AllocError>
-    requires { IfSome place (λ offset. offset < length text.now) }
-    ensures { IfOk result (λ note. string_bytes note ≡ placed_note text.now cause.now place) }
+    ensures { IfOk result (λ note. string_bytes note ≡ placed_note text.now cause.now (place_of_cause text.now fault)) }
 {
-    let Some(offset) = place else {
+    let Some(offset) = place_of(text, fault) else {
         return format!(in alloc; "nbhd: {cause}\n");
     };
     let mut note = String::new(alloc);

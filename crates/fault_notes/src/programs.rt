@@ -7,13 +7,12 @@ ghost use Rattle.win_index.specs.ShapeRange.{IsShape};
 ghost use Rattle.fault_notes.specs.Placed.{placed_note};
 ghost use Rattle.fault_notes.specs.FaultTokens.{place_of_cause};
 ghost use Rattle.lang_check.specs.declared.acceptance.CheckFault.TheVariants as check;
-ghost use Rattle.fault_notes.specs.ProgramNotes.{IsMostIds, IsIdsNote, IsCheckNote, register_cause, id_cause, message_cause, rounds_take};
+ghost use Rattle.fault_notes.specs.ProgramNotes.{IsMostIds, IsIdsNote, IsCheckNote, register_cause, rounds_take};
 ghost use Rattle.fault_notes.specs.ProgramNotes as notes;
 ghost use Rattle.fault_notes.specs.BoundNotes.{growth_text};
 
 use crate::bounds::write_growth;
 use crate::placed::placed_note;
-use crate::scanning::place_of;
 use lang_check::CheckFault;
 use node_lang::{MAX_CHANNELS, Program};
 use std::alloc::{AllocError, Global};
@@ -37,8 +36,14 @@ pub fn check_note(
             ids_note(alloc, program.rounds(), ids)
         }
         CheckFault::RegisterOutOfRange(register) => register_note(alloc, text, register),
-        CheckFault::IdOutsideStart => id_note(alloc, text),
-        CheckFault::MessageOutsideStep => message_note(alloc, text),
+        CheckFault::IdOutsideStart => {
+            let cause = "`id` can be read in `start` alone; keep it in a register";
+            placed_note(alloc, text, CheckFault::IdOutsideStart, cause)
+        }
+        CheckFault::MessageOutsideStep => {
+            let cause = "`L` and `R` can be read in the assignments of a round alone";
+            placed_note(alloc, text, CheckFault::MessageOutsideStep, cause)
+        }
         CheckFault::ChannelBound(bound) => bound_note(alloc, program, ids, bound),
     }
 }
@@ -108,29 +113,12 @@ fn register_note(alloc: Global, text: &[u8], register: u32) -> Result<String, Al
     let cause = format!(in alloc;
         "there is no register r{register}; `registers` says how many there are, from r0 on"
     )?;
-    let place = place_of(text, CheckFault::RegisterOutOfRange(register));
-    let note = placed_note(alloc, text, place, &cause)?;
-    Ok(note)
-}
-
-// Returns the note on an `id` outside `start`.
-fn id_note(alloc: Global, text: &[u8]) -> Result<String, AllocError>
-    ensures { IfOk result (λ note. string_bytes note ≡ placed_note text.now id_cause (place_of_cause text.now check.IdOutsideStart)) }
-{
-    let cause = "`id` can be read in `start` alone; keep it in a register";
-    let place = place_of(text, CheckFault::IdOutsideStart);
-    let note = placed_note(alloc, text, place, cause)?;
-    Ok(note)
-}
-
-// Returns the note on an `L` or an `R` outside the assignments of a round.
-fn message_note(alloc: Global, text: &[u8]) -> Result<String, AllocError>
-    ensures { IfOk result (λ note. string_bytes note ≡ placed_note text.now message_cause (place_of_cause text.now check.MessageOutsideStep)) }
-{
-    let cause = "`L` and `R` can be read in the assignments of a round alone";
-    let place = place_of(text, CheckFault::MessageOutsideStep);
-    let note = placed_note(alloc, text, place, cause)?;
-    Ok(note)
+    placed_note(
+        alloc,
+        text,
+        CheckFault::RegisterOutOfRange(register),
+        &cause,
+    )
 }
 
 // Returns the note on channels that could be too large, and on the register that makes them so.

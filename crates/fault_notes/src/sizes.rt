@@ -8,7 +8,7 @@ ghost use Rattle.win_index.specs.ShapeRange.{IsShape};
 ghost use Rattle.fault_notes.specs.TableSizes.{sizes_then, HasShape};
 
 use crate::decimals::field;
-use crate::lexemes::line_len;
+use crate::lexemes::front_len;
 use win_index::{MAX_ROUNDS, Shape};
 
 // Returns the text after the first line.
@@ -16,7 +16,7 @@ use win_index::{MAX_ROUNDS, Shape};
 fn after_line(text: &[u8]) -> &[u8]
     ensures { result.now ≡ after_first is_feed text.entry.now }
 {
-    let start = (line_len(text) + 1).min(text.len());
+    let start = (front_len(text, b'\n') + 1).min(text.len());
     &text[start..]
 }
 

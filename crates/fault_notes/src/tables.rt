@@ -5,9 +5,11 @@ ghost use Rattle.win_index.specs.Windows.{windows};
 ghost use Rattle.fault_notes.specs.TableSizes.{IsDue};
 ghost use Rattle.fault_notes.specs.TableNotes.{long_note, IsFormNote, IsWindowNote, line_note, channel_note};
 
+use crate::lexemes::front_len;
 use crate::numbers::write_joined;
 use crate::sizes::shape_of;
 use crate::texts::write_head;
+use crate::words::advice_at_start;
 use source_places::write_marked_line;
 use std::alloc::{AllocError, Global};
 use std::fmt::Write;
@@ -29,6 +31,16 @@ const BEGINNINGS: [(&[u8], &str); 7] = [
     (b"check ", PRINTED),
     (b"yes:", PRINTED),
     (b"no:", PRINTED),
+];
+
+// Beginnings of lines that do not have their form, each with advice.
+const LINES: [(&[u8], &str); 3] = [
+    (b"\n", "; the line is blank"),
+    (
+        b"rounds",
+        "; the numbers of this line do not fit one another",
+    ),
+    (b"#", "; there are no comments in tables"),
 ];
 
 /// Returns the note on a text that is too long. Fails if memory was refused.
@@ -54,57 +66,52 @@ pub fn form_note(alloc: Global, text: &[u8], offset: usize) -> Result<String, Al
 }
 
 // Returns advice on a text whose line at this offset does not have its form.
-fn form_advice(text: &[u8], offset: usize) -> &'static str {
+fn form_advice(text: &[u8], offset: usize) -> &'static str
+    requires { offset ≤ length text.now }
+{
     if text.is_empty() {
         return "; the text is empty, so no file was given";
     }
-    if text.iter().any(|byte| *byte == b'\r') {
+    if text.contains(&b'\r') {
         return "; lines end with a carriage return, which `tr -d '\\r'` takes out";
     }
     if offset == 0 {
         return first_advice(text);
     }
-    match text.get(offset..) {
-        Some(rest) => line_advice(rest),
-        None => "",
-    }
+    line_advice(&text[offset..])
+}
+
+// Returns advice on a text that does not begin like a table text.
+fn first_advice(text: &[u8]) -> &'static str {
+    advice_at_start(&BEGINNINGS, text).unwrap_or("; its first line is `nbhd-table` and the version")
 }
 
 // Returns advice on a line that does not have its form, from the text from the line on.
 fn line_advice(rest: &[u8]) -> &'static str {
-    let len = rest.iter().take_while(|byte| **byte != b'\n').count();
-    match rest {
-        [] => "; the text stops before its end, which is a line `end`",
-        b"end" => "; the last line has no line end",
-        [b'\n', ..] => "; the line is blank",
-        [b'r', b'o', b'u', b'n', b'd', b's', ..] => {
-            "; the numbers of this line do not fit one another"
-        }
-        [b'#', ..] => "; there are no comments in tables",
-        _ => bytes_advice(rest.get(..len).unwrap_or(rest)),
+    if rest.is_empty() {
+        return "; the text stops before its end, which is a line `end`";
+    }
+    if matches!(rest, b"end") {
+        return "; the last line has no line end";
+    }
+    match advice_at_start(&LINES, rest) {
+        Some(advice) => advice,
+        None => bytes_advice(&rest[..front_len(rest, b'\n')]),
     }
 }
 
 // Returns advice on the bytes of a line that does not have its form.
 fn bytes_advice(line: &[u8]) -> &'static str {
-    match line {
-        [.., b' '] => "; a blank stands at its end",
-        _ if line.iter().any(|byte| matches!(*byte, b',' | b'\t')) => {
-            "; numbers are parted by single blanks"
-        }
-        _ if line.iter().any(|byte| *byte == b'-') => "; a number has digits alone",
-        _ => "",
+    if matches!(line, [.., b' ']) {
+        return "; a blank stands at its end";
     }
-}
-
-// Returns advice on a text that does not begin like a table text.
-fn first_advice(text: &[u8]) -> &'static str {
-    for (beginning, advice) in &BEGINNINGS {
-        if text.starts_with(beginning) {
-            return advice;
-        }
+    if line.contains(&b',') || line.contains(&b'\t') {
+        return "; numbers are parted by single blanks";
     }
-    "; its first line is `nbhd-table` and the version"
+    if line.contains(&b'-') {
+        return "; a number has digits alone";
+    }
+    ""
 }
 
 // Returns the window of this shape with this number.

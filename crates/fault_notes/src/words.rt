@@ -56,6 +56,19 @@ pub(crate) fn advice_in(table: &[(&[u8], &'static str)], word: &[u8]) -> Option<
     None
 }
 
+// Returns the advice on the first beginning of a text that is in a table of beginnings with advice.
+pub(crate) fn advice_at_start(
+    table: &[(&[u8], &'static str)],
+    text: &[u8],
+) -> Option<&'static str> {
+    for (beginning, advice) in table {
+        if text.starts_with(beginning) {
+            return Some(advice);
+        }
+    }
+    None
+}
+
 // Returns the text for what can follow, if it is not the assignment of a register.
 fn fixed_text(wanted: Wanted) -> &'static str
     requires { (register : ℕ) → wanted ≢ Wanted.Register register }

@@ -8,8 +8,8 @@ use Rattle.fault_notes.proofs.lexemes.lexeme_start.Goals as goal
 
 pub skips-preserved-then-byte-eq35 : goal.skips-preserved-then-byte-eq35
 skips-preserved-then-byte-eq35 c =
-    let line = c.line_len.ensures.value ∙ ap (prefix_len in_line) (take_rest c.args.text.now (c.skips.at + 1)) in
+    let line = c.front_len.ensures.value ∙ ap (prefix_len in_line) (take_rest c.args.text.now (c.skips.at + 1)) in
     record {
       within = grind (arith, common_steps);
-      same = after_comment c.args.text.now c.skips.at c.line_len.result c.skips-test.true c.if-byte-eq35.true line ∙ c.skips.invariant.same;
+      same = after_comment c.args.text.now c.skips.at c.front_len.result c.skips-test.true c.if-byte-eq35.true line ∙ c.skips.invariant.same;
     }
