@@ -17,89 +17,57 @@ const SUM: &str = "; write `add(a, b)`";
 
 const DIFFERENCE: &str = "; write `sub(a, b)`, which stops at 0; numbers are 0 to 4294967295";
 
-const CHOICE: &str = "; write `if(c, a, b)`";
-
-const RESULT: &str = "; the last line is `finish` and an expression";
-
-const IDENTIFIER: &str = "; the identifier is `id`";
-
 const ROUNDS: &str = "; there are as many rounds as `rounds` says";
-
-const PRINTED: &str = "; this is what `nbhd` printed, and no program";
 
 const UTF_16: &str = "; the file is UTF-16: save it as ASCII";
 
-// Words that are not of the language, each with advice.
-const WORDS: [(&[u8], &str); 59] = [
+// Words that are not of the language, those with the same advice together.
+const WORDS: [(&[u8], &str); 29] = [
     // Names that other languages have for operations, and other words.
-    (b"mul", PRODUCT),
-    (b"times", PRODUCT),
-    (b"mult", PRODUCT),
-    (b"mod", REMAINDER),
-    (b"rem", REMAINDER),
+    (b"mul times mult", PRODUCT),
+    (b"mod rem", REMAINDER),
     (b"div", "; there is no quotient: half of x is `shr(x, 1)`"),
     (b"gt", GREATER),
     (b"ge", "; write `le(b, a)` for a >= b"),
     (b"neq", UNEQUAL),
     (b"equals", "; write `eq(a, b)`"),
-    (b"plus", SUM),
-    (b"sum", SUM),
+    (b"plus sum", SUM),
     (b"minus", DIFFERENCE),
     // Keywords and names of other languages.
-    (b"then", CHOICE),
-    (b"else", CHOICE),
-    (b"elif", CHOICE),
-    (b"endif", CHOICE),
-    (b"return", RESULT),
-    (b"output", RESULT),
-    (b"result", RESULT),
+    (b"then else elif endif", "; write `if(c, a, b)`"),
+    (
+        b"return output result",
+        "; the last line is `finish` and an expression",
+    ),
     (
         b"both",
         "; write `send left` and `send right`, each with an expression",
     ),
-    (b"true", "; write 1"),
-    (b"false", "; write 0"),
+    (b"true True", "; write 1"),
+    (b"false False", "; write 0"),
     (b"l", "; the message from the left is `L`"),
     (b"r", "; the message from the right is `R`"),
-    (b"self", IDENTIFIER),
-    (b"me", IDENTIFIER),
-    (b"my", IDENTIFIER),
-    (b"uid", IDENTIFIER),
+    (b"self me my uid", "; the identifier is `id`"),
     // Words that `nbhd` prints.
     (
         b"nbhd",
         "; the text of a table is for `nbhd audit` and `nbhd migrate`",
     ),
-    (b"accepted", PRINTED),
-    (b"yes", PRINTED),
-    (b"no", PRINTED),
-    (b"text", PRINTED),
-    (b"check", PRINTED),
-    (b"ring", PRINTED),
-    (b"table", PRINTED),
+    (
+        b"accepted yes no text check ring table",
+        "; this is what `nbhd` printed, and no program",
+    ),
     // Words with a capital.
-    (b"True", "; write 1"),
-    (b"False", "; write 0"),
-    (b"ID", "; write `id`"),
-    (b"Id", "; write `id`"),
-    (b"Rounds", "; write `rounds`"),
-    (b"ROUNDS", "; write `rounds`"),
-    (b"Channels", "; write `channels`"),
-    (b"CHANNELS", "; write `channels`"),
-    (b"Registers", "; write `registers`"),
-    (b"REGISTERS", "; write `registers`"),
-    (b"Start", "; write `start`"),
-    (b"START", "; write `start`"),
-    (b"Round", "; write `round`"),
-    (b"ROUND", "; write `round`"),
-    (b"Send", "; write `send`"),
-    (b"SEND", "; write `send`"),
-    (b"Left", "; write `left`"),
-    (b"LEFT", "; write `left`"),
-    (b"Right", "; write `right`"),
-    (b"RIGHT", "; write `right`"),
-    (b"Finish", "; write `finish`"),
-    (b"FINISH", "; write `finish`"),
+    (b"ID Id", "; write `id`"),
+    (b"Rounds ROUNDS", "; write `rounds`"),
+    (b"Channels CHANNELS", "; write `channels`"),
+    (b"Registers REGISTERS", "; write `registers`"),
+    (b"Start START", "; write `start`"),
+    (b"Round ROUND", "; write `round`"),
+    (b"Send SEND", "; write `send`"),
+    (b"Left LEFT", "; write `left`"),
+    (b"Right RIGHT", "; write `right`"),
+    (b"Finish FINISH", "; write `finish`"),
 ];
 
 // Bytes above 127 at the start of a text, each with advice.

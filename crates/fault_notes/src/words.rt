@@ -5,6 +5,7 @@ ghost use Rattle.std.specs.List.{prefix_len};
 ghost use Rattle.node_lang.specs.Words.{is_word_byte as word_byte};
 ghost use Rattle.fault_notes.specs.Words.{wanted_text, wanted_part, first_word as first};
 
+use crate::lexemes::front_len;
 use std::alloc::AllocError;
 use std::fmt::Write;
 use wanted_tokens::Wanted;
@@ -46,10 +47,23 @@ pub(crate) fn first_word(text: &[u8]) -> &[u8]
     prefix_of(text, len)
 }
 
+// Returns whether this is one of some words, which are parted by blanks.
+fn is_among(word: &[u8], words: &[u8]) -> bool {
+    let mut rest = words;
+    'words: while !rest.is_empty() {
+        let len = front_len(rest, b' ');
+        if &rest[..len] == word {
+            return true;
+        }
+        rest = &rest[len.saturating_add(1).min(rest.len())..];
+    }
+    false
+}
+
 // Returns the advice on a word in a table of words with advice.
 pub(crate) fn advice_in(table: &[(&[u8], &'static str)], word: &[u8]) -> Option<&'static str> {
-    for (known, advice) in table {
-        if *known == word {
+    for (words, advice) in table {
+        if is_among(word, words) {
             return Some(advice);
         }
     }
