@@ -1,5 +1,5 @@
 -- The kind of a word is that of its token.
-use Rattle.std.proofs.Common.{◌≡◌, ◌-◌, ◌^◌, ℕ, ◌==◌, ◌&&◌, Bool, true, false, cond, List, [], ◌∷◌, refl, sym, ap, subst, ◌∙◌, Option, Some, None}
+use Rattle.std.proofs.Common.{◌≡◌, ◌-◌, ◌^◌, ℕ, ◌==◌, ◌&&◌, Bool, true, false, cond, List, [], ◌∷◌, map, refl, sym, ap, subst, ◌∙◌, Option, Some, None}
 use Rattle.std.specs.Prelude.{nat_lt}
 use Rattle.std.specs.List.{list_all, AllByRecursion}
 use Rattle.std.specs.Str.{bytes_eq}
@@ -10,7 +10,7 @@ use Rattle.node_lang.specs.declared.token.Token.TheVariants as token
 use Rattle.node_lang.specs.Words.{is_digit, number_token, word_of, keywords, operations, named, register_named, or_unknown, word_token, mark_token, read_on}
 use Rattle.fault_notes.specs.declared.kinds.Kind.{Kind}
 use Rattle.fault_notes.specs.declared.kinds.Kind.TheVariants as kind
-use Rattle.fault_notes.specs.Kinds.{kind_of, kind_if_some, kind_words}
+use Rattle.fault_notes.specs.Kinds.{kind_of, kind_if_some, kind_words, kind_listed}
 
 by_test : {P : Type 0} (b : Bool) → (b ≡ true → P) → (b ≡ false → P) → P
 by_test true holds fails = holds refl
@@ -123,6 +123,15 @@ word_kinds w = each_word w kind_words (
       ),
     )
     (λ keyword. register_cases w (λ d is register. of_register w d is register unnamed) (λ register. of_none w register unnamed keyword)))
+
+-- a table of words and kinds gives the kind of the token with this spelling
+pub kinds_listed : (w : List ℕ) (ts : List Token) → kind_listed (map (λ t. (word_of t, kind_of t)) ts) w ≡ kind_if_some (named ts w)
+kinds_listed w [] = refl
+kinds_listed w (t ∷ ts) =
+    let others = kind_listed (map (λ t. (word_of t, kind_of t)) ts) w in
+    by_test (bytes_eq w (word_of t))
+    (λ holds. (λ i. cond (holds i) (Some (kind_of t)) others) ∙ sym (λ i. kind_if_some (cond (holds i) (Some t) (named ts w))))
+    (λ fails. (λ i. cond (fails i) (Some (kind_of t)) others) ∙ kinds_listed w ts ∙ sym (λ i. kind_if_some (cond (fails i) (Some t) (named ts w))))
 
 -- the kind of a word by what the code finds first
 pub kind_named : (w : List ℕ) (k : Kind) → Some k ≡ kind_if_some (named kind_words w) → k ≡ kind_of (word_token w)

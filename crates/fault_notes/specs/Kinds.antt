@@ -1,5 +1,6 @@
 -- The tokens that tell which lexeme is the cause of a refusal. No public contract cites this file.
 use Rattle.std.specs.Prelude.{ℕ, ◌-◌, ◌==◌, ◌&&◌, Bool, true, false, not, List, [], ◌∷◌, map, length, drop, Option, Some, None, if◌then◌else◌}
+use Rattle.std.specs.Str.{bytes_eq}
 use Rattle.node_lang.specs.declared.token.Token.{Token}
 use Rattle.node_lang.specs.declared.token.Token.TheVariants as token
 use Rattle.node_lang.specs.Lexemes.{Lexeme, lexemes_of}
@@ -29,6 +30,11 @@ kind_if_some (Some t) = Some (kind_of t)
 -- the words that have a kind of their own
 abbrev pub kind_words : List Token
 kind_words = token.Id ∷ token.FromLeft ∷ token.FromRight ∷ token.Start ∷ token.Round ∷ token.Finish ∷ token.Send ∷ []
+
+-- the kind beside this word in a table of words and kinds
+abbrev pub kind_listed : List (List ℕ × Kind) → List ℕ → Option Kind
+kind_listed [] word = None
+kind_listed (e ∷ es) word = if bytes_eq word e.0 then Some e.1 else kind_listed es word
 
 -- a lexeme with the kind of its token
 pub record Mark : Type 0 where

@@ -1,8 +1,8 @@
 //! The kinds of the tokens that tell which lexeme is the cause of a refusal.
 
-ghost use Rattle.std.specs.Prelude.{◌≡◌};
-ghost use Rattle.node_lang.specs.Words.{is_digit as digit, mark_token, named, register_named, word_token};
-ghost use Rattle.fault_notes.specs.Kinds.{kind_of, kind_if_some, kind_words};
+ghost use Rattle.std.specs.Prelude.{◌≡◌, map};
+ghost use Rattle.node_lang.specs.Words.{is_digit as digit, mark_token, register_named, word_token};
+ghost use Rattle.fault_notes.specs.Kinds.{kind_of, kind_if_some, kind_listed};
 
 // The kind of a token of a program text.
 #[derive(Clone, Copy)]
@@ -35,36 +35,35 @@ fn register_kind(word: &[u8]) -> Option<Kind>
     }
 }
 
-// The kind of a word, one line per word.
-macro_rules! kinds {
-    ($word:expr; $($name:literal => $kind:expr,)*) => {
-        match $word {
-            $(word if word == $name.as_slice() => Some($kind),)*
-            _ => None,
-        }
-    };
-}
+// The words that have a kind of their own and are no registers.
+const KINDS: [(&[u8], Kind); 7] = [
+    (b"id", Kind::Id),
+    (b"L", Kind::Message),
+    (b"R", Kind::Message),
+    (b"start", Kind::Start),
+    (b"round", Kind::Round),
+    (b"finish", Kind::Finish),
+    (b"send", Kind::Send),
+];
 
-// Returns the kind of a word that has a kind of its own and is no register.
-fn named_kind(word: &[u8]) -> Option<Kind>
-    ensures { result ≡ kind_if_some (named kind_words word.now) }
+// Returns the kind beside the first entry with this word.
+fn listed_kind(mut table: &[(&[u8], Kind)], word: &[u8]) -> Option<Kind>
+    ensures { result ≡ kind_listed (map (λ e. (e.0.now, e.1)) table.entry.now) word.now }
 {
-    kinds! { word;
-        b"id" => Kind::Id,
-        b"L" => Kind::Message,
-        b"R" => Kind::Message,
-        b"start" => Kind::Start,
-        b"round" => Kind::Round,
-        b"finish" => Kind::Finish,
-        b"send" => Kind::Send,
+    'table: while let [entry, rest @ ..] = table {
+        if word == entry.0 {
+            return Some(entry.1);
+        }
+        table = rest;
     }
+    None
 }
 
 // Returns the kind of a word.
 pub(crate) fn word_kind(word: &[u8]) -> Kind
     ensures { result ≡ kind_of (word_token word.now) }
 {
-    if let Some(kind) = named_kind(word) {
+    if let Some(kind) = listed_kind(&KINDS, word) {
         return kind;
     }
     if let Some(kind) = register_kind(word) {
