@@ -25,8 +25,7 @@ pub(crate) fn write_growth(
         return Ok(());
     };
     let bounds = bounds_in_time(alloc, program, ids, register)?;
-    write_bounds(out, register, &bounds)?;
-    Ok(())
+    write_bounds(out, register, &bounds)
 }
 
 // Writes the line with these bounds of a register.
@@ -38,8 +37,7 @@ fn write_bounds(out: &mut String, register: u32, bounds: &[u32]) -> Result<(), A
         "nbhd: bounds of r{register} after `start` and each round: "
     )?;
     write_joined(out, bounds, " ")?;
-    out.push_str("\n")?;
-    Ok(())
+    out.push_str("\n")
 }
 
 // Returns the bounds of a register after `start` and after each round.

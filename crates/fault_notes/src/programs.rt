@@ -101,8 +101,7 @@ fn ids_note(alloc: Global, rounds: u32, ids: u32) -> Result<String, AllocError>
     };
     let take = rounds_take(rounds);
     let range = ids_range(alloc, 2 * rounds + 2, most)?;
-    let note = format!(in alloc; "nbhd: {rounds}{take}{range} identifiers, not {ids}\n")?;
-    Ok(note)
+    format!(in alloc; "nbhd: {rounds}{take}{range} identifiers, not {ids}\n")
 }
 
 // Returns the note on a register that the program does not have.

@@ -61,10 +61,7 @@ fn repeated_note(
 {
     let id = places[second as usize];
     let end = note_end(places.len(), first, second);
-    let note = format!(in alloc;
-        "nbhd: places {first} and {second} have the same identifier {id}{end}"
-    )?;
-    Ok(note)
+    format!(in alloc; "nbhd: places {first} and {second} have the same identifier {id}{end}")
 }
 
 // Returns the end of the note: advice if the last place repeats the first one.

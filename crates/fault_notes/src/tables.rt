@@ -149,10 +149,7 @@ pub fn window_note(alloc: Global, text: &[u8], line: u32) -> Result<String, Allo
 {
     let due = due_window(alloc, text, line)?;
     match due {
-        Some(window) => {
-            let note = line_note(alloc, line, &window)?;
-            Ok(note)
-        }
+        Some(window) => line_note(alloc, line, &window),
         None => format!(in alloc;
             "nbhd: line {line} is not the line of the window that follows there\n"
         ),

@@ -49,8 +49,7 @@ fn write_note(
     write_cause(out, fault.kind, word, wanted)?;
     out.push_str(advice_on(text, fault, word, wanted))?;
     out.push_str("\n")?;
-    write_marked_line(out, text, fault.offset)?;
-    Ok(())
+    write_marked_line(out, text, fault.offset)
 }
 
 // Returns the word at an offset, or the byte there.
@@ -129,20 +128,17 @@ fn write_cause(
     ensures { OnOk result (string_bytes out.new ≡ string_bytes out.old ++ cause_of fault word.now wanted) }
 {
     match fault {
-        FaultKind::BadWord => write_bad_word(out, word),
+        FaultKind::BadWord => {
+            write_quoted(out, word)?;
+            out.push_str(" is no word of the language")
+        }
         FaultKind::Unexpected => write_unexpected(out, word, wanted),
-        FaultKind::EndOfText => write_end(out, wanted),
+        FaultKind::EndOfText => {
+            out.push_str("the text ends here")?;
+            write_wanted_part(out, wanted)
+        }
         _ => out.push_str(fixed_cause(fault)),
     }
-}
-
-// Writes that a word is not of the language.
-fn write_bad_word(out: &mut String, word: &[u8]) -> Result<(), AllocError>
-    ensures { OnOk result (string_bytes out.new ≡ string_bytes out.old ++ (quoted word.now ++ codes " is no word of the language")) }
-{
-    write_quoted(out, word)?;
-    out.push_str(" is no word of the language")?;
-    Ok(())
 }
 
 // Writes that a word cannot stand at its place.
@@ -151,17 +147,7 @@ fn write_unexpected(out: &mut String, word: &[u8], wanted: Option<Wanted>) -> Re
 {
     write_quoted(out, word)?;
     out.push_str(" cannot stand here")?;
-    write_wanted_part(out, wanted)?;
-    Ok(())
-}
-
-// Writes that a text ends too soon.
-fn write_end(out: &mut String, wanted: Option<Wanted>) -> Result<(), AllocError>
-    ensures { OnOk result (string_bytes out.new ≡ string_bytes out.old ++ (codes "the text ends here" ++ wanted_part wanted)) }
-{
-    out.push_str("the text ends here")?;
-    write_wanted_part(out, wanted)?;
-    Ok(())
+    write_wanted_part(out, wanted)
 }
 
 // Returns advice, or an empty text.

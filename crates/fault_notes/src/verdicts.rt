@@ -103,8 +103,7 @@ fn write_window(
     ensures { OnOk result (string_bytes out.new ≡ string_bytes out.old ++ joined (codes " ") (window_around ring.now rounds place)) }
 {
     let window = window_of(alloc, rounds, ring, place)?;
-    write_joined(out, &window, " ")?;
-    Ok(())
+    write_joined(out, &window, " ")
 }
 
 // Writes the windows of the two places.
@@ -126,6 +125,5 @@ fn write_windows(
     write_window(alloc, out, rounds, ring, places.0)?;
     out.push_str(" and ")?;
     write_window(alloc, out, rounds, ring, places.1)?;
-    out.push_str("\n")?;
-    Ok(())
+    out.push_str("\n")
 }

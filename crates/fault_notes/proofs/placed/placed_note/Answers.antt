@@ -1,4 +1,4 @@
-use Rattle.std.proofs.Common.{◌≡◌, ◌++◌, IfOk, string_bytes, subst, ap, ◌∙◌}
+use Rattle.std.proofs.Common.{◌≡◌, ◌++◌, IfOk, string_bytes, subst, ap, ◌∙◌, le_of_lt}
 use Rattle.fault_notes.specs.Placed.{placed_note}
 use Rattle.fault_notes.specs.TextNotes.{place_head}
 use Rattle.fault_notes.proofs.Joined.{three_pieces}
@@ -16,3 +16,6 @@ pub returns-in_default : goal.returns-in_default
 returns-in_default c =
     subst (λ place. IfOk c.format.result (λ note. string_bytes note ≡ placed_note c.args.text.now c.args.cause.now place)) c.in_default.ensures.exact
     c.format.ensures.ok
+
+pub write_marked_line-requires : goal.write_marked_line-requires
+write_marked_line-requires c = le_of_lt c.in-Some.ensures.within

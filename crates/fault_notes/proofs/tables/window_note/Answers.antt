@@ -1,7 +1,9 @@
 use Rattle.std.proofs.Common.{◌∙◌, ap}
 use Rattle.fault_notes.specs.TableNotes.{of_window, line_note}
+use Rattle.std.proofs.lemmas.Result.{IfOk-weaker}
 use Rattle.fault_notes.proofs.tables.window_note.Goals as goal
 
-pub returns-in_ok-note-in-Some : goal.returns-in_ok-note-in-Some
-returns-in_ok-note-in-Some c = of_window c.in-Some.window.items (let due = rw c.in-Some.is at c.in_ok-due.ensures.window in due)
-    (c.in_ok-note-in-Some.ensures ∙ ap (line_note c.args.line) c.deref.ensures.value)
+pub returns-in-Some : goal.returns-in-Some
+returns-in-Some c =
+    IfOk-weaker c.line_note.result _ _ (λ note is. of_window c.in-Some.window.items (let due = rw c.in-Some.is at c.in_ok-due.ensures.window in due)
+    (is ∙ ap (line_note c.args.line) c.deref.ensures.value)) c.line_note.ensures

@@ -1,6 +1,7 @@
 use Rattle.std.proofs.Common.{◌++◌, ap, ◌∙◌, append_assoc, string_bytes, codes}
 use Rattle.fault_notes.specs.Words.{wanted_part}
 use Rattle.fault_notes.specs.TextNotes.{quoted}
+use Rattle.std.proofs.lemmas.Result.{IfOk-equal}
 use Rattle.fault_notes.proofs.texts.write_unexpected.Goals as goal
 
 -- The three pieces.
@@ -9,6 +10,6 @@ returns c =
     let start = string_bytes c.args.out.now in
     let word = quoted c.args.word.now in
     let here = codes " cannot stand here" in
-    c.in_ok-write_wanted_part.ensures
-    ∙ ap (λ x. x ++ wanted_part c.args.wanted) (c.in_ok-push_str.ensures.bytes ∙ ap (λ x. x ++ here) c.in_ok-write_quoted.ensures)
-    ∙ append_assoc (start ++ word) here (wanted_part c.args.wanted) ∙ append_assoc start word (here ++ wanted_part c.args.wanted)
+    IfOk-equal c.write_wanted_part.result _ _ _ c.write_wanted_part.ensures
+    (ap (λ x. x ++ wanted_part c.args.wanted) (c.in_ok-push_str.ensures.bytes ∙ ap (λ x. x ++ here) c.in_ok-write_quoted.ensures)
+    ∙ append_assoc (start ++ word) here (wanted_part c.args.wanted) ∙ append_assoc start word (here ++ wanted_part c.args.wanted))
