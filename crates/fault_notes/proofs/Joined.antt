@@ -50,3 +50,13 @@ more_written f xs i start out new within out_is new_is =
     let next : flat_map f (take (i + 1) xs) ≡ flat_map f (take i xs) ++ f (get_or xs i 0) =
     ap (flat_map f) (take_more xs i 0 within) ∙ flat_map-append f (take i xs) (get_or xs i 0 ∷ []) ∙ ap (λ l. flat_map f (take i xs) ++ l) (append-nil (f (get_or xs i 0))) in
     new_is ∙ ap (λ o. o ++ f (get_or xs i 0)) out_is ∙ append_assoc start (flat_map f (take i xs)) (f (get_or xs i 0)) ∙ ap (λ l. start ++ l) (sym next)
+
+-- a heading with one number, a list of numbers and a line end
+regroup_heading : (o h d t j : List ℕ) → ((o ++ (h ++ (d ++ t))) ++ j) ++ 10 ∷ [] ≡ o ++ (h ++ (d ++ (t ++ (j ++ 10 ∷ []))))
+regroup_heading o h d t j = simp append_assoc
+
+pub line_pieces : (o n m k h d t j : List ℕ) → n ≡ o ++ (h ++ (d ++ t)) → m ≡ n ++ j → k ≡ m ++ 10 ∷ [] → k ≡ o ++ (h ++ (d ++ (t ++ (j ++ 10 ∷ []))))
+line_pieces o n m k h d t j p q r = r ∙ ap (λ x. x ++ 10 ∷ []) (q ∙ ap (λ x. x ++ j) p) ∙ regroup_heading o h d t j
+
+pub heading_apart : (o h d t r : List ℕ) → o ++ (h ++ (d ++ (t ++ r))) ≡ o ++ ((h ++ (d ++ t)) ++ r)
+heading_apart o h d t r = simp append_assoc
