@@ -161,6 +161,35 @@ moved_window t list i j some is in_i in_j differ =
     (subst (λ x. IsWindow (shared_len t + 2) t.ids (drop 2 begun ++ get_or list i 0 ∷ x ∷ [])) (read j in_j)
     (subst (λ x. IsWindow (shared_len t + 2) t.ids (drop 2 begun ++ x ∷ get_or begun j 0 ∷ [])) (read i in_i) moved))
 
+pub first_moved : (t : ChannelTable) (list : List ℕ) → 1 ≤ t.rounds → IsWindow (2 * t.rounds + 1) t.ids (take (2 * t.rounds + 1) list)
+    → IsWindow (2 * t.rounds + 1) t.ids (middle_of t list ++ get_or list 0 0 ∷ get_or list 1 0 ∷ [])
+first_moved t list some is = moved_window t list 0 1 some is (omega arith) (omega arith) (λ e. omega (arith, e))
+
+pub second_moved : (t : ChannelTable) (list : List ℕ) → 1 ≤ t.rounds → IsWindow (2 * t.rounds + 1) t.ids (take (2 * t.rounds + 1) list)
+    → IsWindow (2 * t.rounds + 1) t.ids (middle_of t list ++ get_or list 1 0 ∷ get_or list 0 0 ∷ [])
+second_moved t list some is = moved_window t list 1 0 some is (omega arith) (omega arith) (λ e. omega (arith, e))
+
+-- the first two identifiers of the list are those of the window
+pub window_first : (t : ChannelTable) (list : List ℕ) → get_or (take (2 * t.rounds + 1) list) 0 0 ≡ get_or list 0 0
+window_first t list = get_or-take (2 * t.rounds + 1) list 0 0 (omega arith)
+
+pub window_second : (t : ChannelTable) (list : List ℕ) → 1 ≤ t.rounds → get_or (take (2 * t.rounds + 1) list) 1 0 ≡ get_or list 1 0
+window_second t list some = get_or-take (2 * t.rounds + 1) list 1 0 (omega arith)
+
+pub first_below : (t : ChannelTable) (list : List ℕ) → IsWindow (2 * t.rounds + 1) t.ids (take (2 * t.rounds + 1) list) → get_or list 0 0 ≤ t.ids
+first_below t list is =
+    let size = is.size in
+    omega (arith, is.below 0 0 (omega arith), window_first t list)
+
+pub second_below : (t : ChannelTable) (list : List ℕ) → 1 ≤ t.rounds → IsWindow (2 * t.rounds + 1) t.ids (take (2 * t.rounds + 1) list) → get_or list 1 0 ≤ t.ids
+second_below t list some is =
+    let size = is.size in
+    omega (arith, is.below 1 0 (omega arith), window_second t list some)
+
+-- the window at the end of a list begins at its third identifier
+pub last_place : (t : ChannelTable) (len : ℕ) → len ≡ 2 * t.rounds + 3 → len - 2 ≡ 2 * t.rounds + 1
+last_place t len long = omega arith
+
 -- the middle of a list that begins with a window
 pub middle_window : (t : ChannelTable) (list : List ℕ) → 1 ≤ t.rounds → IsWindow (2 * t.rounds + 1) t.ids (take (2 * t.rounds + 1) list)
     → IsWindow (shared_len t) t.ids (middle_of t list)

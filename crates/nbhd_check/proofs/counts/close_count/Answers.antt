@@ -4,6 +4,12 @@ use Rattle.nbhd_check.proofs.Cells.{rows_within, cell_within}
 use Rattle.nbhd_check.proofs.HeldCounts.{close_of_sums, entries_below}
 use Rattle.nbhd_check.proofs.counts.close_count.Goals as goal
 
+x_below : (x ids : ℕ) → x ≤ ids → x < ids + 1
+x_below x ids le = omega arith
+
+some_limit : (channel limit : ℕ) → channel < limit → 1 ≤ limit
+some_limit channel limit lt = omega arith
+
 low_le : (channel distance limit low : ℕ) → 1 ≤ distance → channel < limit → low ≡ channel + 1 - distance → low ≤ limit
 low_le channel distance limit low some below low_is = omega arith
 
@@ -21,16 +27,17 @@ returns c = λ first n sums.
     let limit = c.args.counts.now.limit in
     let ids_is : c.ids.result ≡ t.ids = c.ids.ensures ∙ c.shape.ensures.ids in
     let high_is : high ≡ min (c.args.channel + c.args.distance) limit = omega arith in
-    let low_is : low ≡ c.args.channel + 1 - c.args.distance = omega arith in
-    let in_x : x < t.ids + 1 = omega arith in
+    let low_is = c.saturating_sub-low.ensures in
+    let in_x = x_below x t.ids c.requires.x in
     let read : (v : ℕ) → v ≤ limit → get_or list (v * (c.ids.result + 1) + x) 0 ≡ held_count t first n x (λ channel. nat_lt channel v) = λ v le.
     ap (λ w. get_or list (v * (w + 1) + x) 0) ids_is
     ∙ ap (λ l. get_or l (v * (t.ids + 1) + x) 0) list_is
     ∙ sums v x in_x (rows_within v limit t.ids t.ids (length c.args.counts.now.cells.items) le refl c.requires.fit.room) in
     c.saturating_sub.ensures
-    ∙ (λ q. read high (omega arith) q - read low (omega arith) q)
+    ∙ (λ q. read high (high_le c.saturating_add.result limit high c.min-high.ensures) q
+    - read low (low_le c.args.channel c.args.distance limit low c.requires.some c.requires.channel low_is) q)
     ∙ close_of_sums t first n x c.args.channel c.args.distance low high limit c.requires.some
-    (entries_below t.entries limit (omega arith) c.requires.fit.limit) low_is high_is
+    (entries_below t.entries limit (some_limit c.args.channel limit c.requires.channel) c.requires.fit.limit) low_is high_is
 
 pub offset_bounds-cells-low : goal.offset_bounds-cells-low
 offset_bounds-cells-low c =

@@ -19,10 +19,10 @@ count_in-requires-clause-few c =
     let small : length (windows_of t) ≤ MAX_WINDOWS = c.entry.ensures.table.begun.shape.few_windows in
     let below = entries_below t.entries t.channels c.entry.ensures.table.begun.some_channels c.entry.ensures.table.begun.below c.loop-number.number in
     let value = c.entry.ensures.value in
-    let in_table : c.loop-number.number < length t.entries = omega arith in
+    let inside = in_table c.loop-number.number (c.args.first + c.args.count) (length (windows_of t)) (length t.entries) c.loop-number-test.true c.requires.within c.entry.ensures.table.size in
     let ids_is : c.ids.result ≡ t.ids = c.ids.ensures ∙ c.shape-shape.ensures.ids in
     let in_x : x < t.ids + 1 = omega (arith, is.below (2 * (c.rounds.result - 1) + 1) 0 (omega arith)) in
-    let read = c.loop-number.invariant.2 row x in_x (row_within t c.loop-number.number row (length c.loop-number.cells) (length c.args.cells.now) (omega arith) c.loop-number.auto.cells in_table c.requires.rows) in
+    let read = c.loop-number.invariant.2 row x in_x (row_within t c.loop-number.number row (length c.loop-number.cells) (length c.args.cells.now) (ap (λ e. e + 1) value) c.loop-number.auto.cells inside c.requires.rows) in
     let few = count_few t c.args.first (c.loop-number.number - c.args.first) x (λ channel. row == channel + 1) in
     let same = ap (λ w. get_or c.loop-number.cells (row * (w + 1) + x) 0) ids_is in
     omega (arith, read, few, same)
@@ -39,12 +39,12 @@ count_in-requires-in-loop-number-clause-few c =
     let small : length (windows_of t) ≤ MAX_WINDOWS = c.entry.ensures.table.begun.shape.few_windows in
     let below = entries_below t.entries t.channels c.entry.ensures.table.begun.some_channels c.entry.ensures.table.begun.below c.loop-number.number in
     let value = c.entry.ensures.value in
-    let in_table : c.loop-number.number < length t.entries = omega arith in
+    let inside = in_table c.loop-number.number (c.args.first + c.args.count) (length (windows_of t)) (length t.entries) c.loop-number-test.true c.requires.within c.entry.ensures.table.size in
     let ids_is : c.ids.result ≡ t.ids = c.ids.ensures ∙ c.shape-shape.ensures.ids in
     let below_x = is.below (2 * (c.rounds.result - 1) + 1 + 1) 0 (omega arith) in
     let in_x : x < t.ids + 1 = omega arith in
     let in_wide : x < c.ids.result + 1 = omega arith in
-    let read = c.loop-number.invariant.2 row x in_x (row_within t c.loop-number.number row (length c.loop-number.cells) (length c.args.cells.now) (omega arith) c.loop-number.auto.cells in_table c.requires.rows) in
+    let read = c.loop-number.invariant.2 row x in_x (row_within t c.loop-number.number row (length c.loop-number.cells) (length c.args.cells.now) (ap (λ e. e + 1) value) c.loop-number.auto.cells inside c.requires.rows) in
     let few = count_few t c.args.first (c.loop-number.number - c.args.first) x (λ channel. row == channel + 1) in
     let same = ap (λ w. get_or c.loop-number.cells (row * (w + 1) + x) 0) ids_is in
     let first = c.count_in.ensures row x in_wide in
@@ -59,11 +59,11 @@ count_in-requires-in-loop-number-2-clause-few c =
     let small : length (windows_of t) ≤ MAX_WINDOWS = c.entry.ensures.table.begun.shape.few_windows in
     let below = entries_below t.entries t.channels c.entry.ensures.table.begun.some_channels c.entry.ensures.table.begun.below c.loop-number.number in
     let value = c.entry.ensures.value in
-    let in_table : c.loop-number.number < length t.entries = omega arith in
+    let inside = in_table c.loop-number.number (c.args.first + c.args.count) (length (windows_of t)) (length t.entries) c.loop-number-test.true c.requires.within c.entry.ensures.table.size in
     let ids_is : c.ids.result ≡ t.ids = c.ids.ensures ∙ c.shape-shape.ensures.ids in
     let in_x : x < t.ids + 1 = omega arith in
     let in_wide : x < c.ids.result + 1 = omega arith in
-    let read = c.loop-number.invariant.2 row x in_x (row_within t c.loop-number.number row (length c.loop-number.cells) (length c.args.cells.now) (omega arith) c.loop-number.auto.cells in_table c.requires.rows) in
+    let read = c.loop-number.invariant.2 row x in_x (row_within t c.loop-number.number row (length c.loop-number.cells) (length c.args.cells.now) (ap (λ e. e + 1) value) c.loop-number.auto.cells inside c.requires.rows) in
     let few = count_few t c.args.first (c.loop-number.number - c.args.first) x (λ channel. row == channel + 1) in
     let same = ap (λ w. get_or c.loop-number.cells (row * (w + 1) + x) 0) ids_is in
     let first = c.count_in.ensures row x in_wide in

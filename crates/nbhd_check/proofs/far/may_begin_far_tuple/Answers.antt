@@ -1,11 +1,10 @@
 use Rattle.std.proofs.Common.{◌≡◌, ℕ, ◌+◌, ◌-◌, ◌*◌, [], ◌∷◌, ◌++◌, nat_lt, length, get_or, take, drop, Some, subst, sym, ap, ◌∙◌, arith}
 use Rattle.std.specs.Int.{abs_diff}
 use Rattle.std.proofs.lemmas.Bool.{OnFalse_from, ltb-false}
-use Rattle.std.proofs.lemmas.List.{get_or-take}
 use Rattle.win_index.specs.Windows.{IsWindow}
 use Rattle.nbhd_check.specs.Counts.{held_count, middle_of}
 use Rattle.nbhd_check.specs.Runs.{BeginsFarTuple}
-use Rattle.nbhd_check.proofs.Ends.{last_is, front_kept, moved_window}
+use Rattle.nbhd_check.proofs.Ends.{last_is, front_kept, first_moved, second_moved, window_first, window_second, first_below, second_below, last_place}
 use Rattle.nbhd_check.proofs.FarCounts.{none_far}
 use Rattle.nbhd_check.proofs.Prefixes.{number_of_window}
 use Rattle.nbhd_check.proofs.far.may_begin_far_tuple.Goals as goal
@@ -15,10 +14,11 @@ close_one-one-requires c =
     let t = c.args.table.now in
     let list = c.args.list.now in
     let kept : length c.set_last.new.list ≡ length list = c.set_last.auto.list in
-    let last = last_is t list c.set_last.new.list (get_or list 0 0) (get_or list 1 0) (length c.set_last.new.list - 2) c.requires.some c.requires.long c.set_last.ensures (omega arith) in
+    let last = last_is t list c.set_last.new.list (get_or list 0 0) (get_or list 1 0) (length c.set_last.new.list - 2) c.requires.some c.requires.long c.set_last.ensures
+    (last_place t (length c.set_last.new.list) (kept ∙ c.requires.long)) in
     record {
       window = subst (IsWindow (2 * t.rounds + 1) t.ids) (sym last)
-          (moved_window t list 0 1 c.requires.some c.requires.window (omega arith) (omega arith) (λ e. omega (arith, e)));
+          (first_moved t list c.requires.some c.requires.window);
     }
 
 pub close_one-other-requires : goal.close_one-other-requires
@@ -28,28 +28,19 @@ close_one-other-requires c =
     let moved = c.set_last.new.list in
     let kept : length moved ≡ length list = c.set_last.auto.list in
     let kept_too : length c.set_last-2.new.list ≡ length moved = c.set_last-2.auto.list in
-    let last = last_is t moved c.set_last-2.new.list (get_or list 1 0) (get_or list 0 0) (length c.set_last-2.new.list - 2) c.requires.some (omega arith) c.set_last-2.ensures (omega arith) in
+    let last = last_is t moved c.set_last-2.new.list (get_or list 1 0) (get_or list 0 0) (length c.set_last-2.new.list - 2) c.requires.some (kept ∙ c.requires.long) c.set_last-2.ensures
+    (last_place t (length c.set_last-2.new.list) (kept_too ∙ kept ∙ c.requires.long)) in
     let middle : middle_of t moved ≡ middle_of t list = ap (drop 2) (front_kept t list moved (get_or list 0 0) (get_or list 1 0) c.requires.long c.set_last.ensures) in
     record {
       window = subst (IsWindow (2 * t.rounds + 1) t.ids) (sym (last ∙ ap (λ z. z ++ get_or list 1 0 ∷ get_or list 0 0 ∷ []) middle))
-          (moved_window t list 1 0 c.requires.some c.requires.window (omega arith) (omega arith) (λ e. omega (arith, e)));
+          (second_moved t list c.requires.some c.requires.window);
     }
 
 pub close_count-with_first-requires-clause-x : goal.close_count-with_first-requires-clause-x
-close_count-with_first-requires-clause-x c =
-    let t = c.args.table.now in
-    let list = c.args.list.now in
-    let is = c.requires.window in
-    let size = is.size in
-    omega (arith, is.below 0 0 (omega arith), get_or-take (2 * t.rounds + 1) list 0 0 (omega arith))
+close_count-with_first-requires-clause-x c = first_below c.args.table.now c.args.list.now c.requires.window
 
 pub close_count-with_second-requires-clause-x : goal.close_count-with_second-requires-clause-x
-close_count-with_second-requires-clause-x c =
-    let t = c.args.table.now in
-    let list = c.args.list.now in
-    let is = c.requires.window in
-    let size = is.size in
-    omega (arith, is.below 1 0 (omega arith), get_or-take (2 * t.rounds + 1) list 1 0 (omega arith))
+close_count-with_second-requires-clause-x c = second_below c.args.table.now c.args.list.now c.requires.some c.requires.window
 
 pub returns-clause-far : goal.returns-clause-far
 returns-clause-far c =
@@ -64,15 +55,16 @@ returns-clause-far c =
     let b : ℕ = get_or list 1 0 in
     let kept : length moved ≡ length list = c.set_last.auto.list in
     let kept_too : length again ≡ length moved = c.set_last-2.auto.list in
-    let begin_a : get_or window 0 0 ≡ a = get_or-take len list 0 0 (omega arith) in
-    let begin_b : get_or window 1 0 ≡ b = get_or-take len list 1 0 (omega arith) in
+    let begin_a : get_or window 0 0 ≡ a = window_first t list in
+    let begin_b : get_or window 1 0 ≡ b = window_second t list c.requires.some in
     let middle : middle_of t moved ≡ middle_of t list = ap (drop 2) (front_kept t list moved a b c.requires.long c.set_last.ensures) in
-    let last = last_is t list moved a b (length moved - 2) c.requires.some c.requires.long c.set_last.ensures (omega arith) in
-    let last_too = last_is t moved again b a (length again - 2) c.requires.some (omega arith) c.set_last-2.ensures (omega arith) in
+    let last = last_is t list moved a b (length moved - 2) c.requires.some c.requires.long c.set_last.ensures (last_place t (length moved) (kept ∙ c.requires.long)) in
+    let last_too = last_is t moved again b a (length again - 2) c.requires.some (kept ∙ c.requires.long) c.set_last-2.ensures
+    (last_place t (length again) (kept_too ∙ kept ∙ c.requires.long)) in
     let first = number_of_window laws len t.ids (middle_of t list ++ a ∷ b ∷ [])
-    (moved_window t list 0 1 c.requires.some c.requires.window (omega arith) (omega arith) (λ e. omega (arith, e))) in
+    (first_moved t list c.requires.some c.requires.window) in
     let second = number_of_window laws len t.ids (middle_of t list ++ b ∷ a ∷ [])
-    (moved_window t list 1 0 c.requires.some c.requires.window (omega arith) (omega arith) (λ e. omega (arith, e))) in
+    (second_moved t list c.requires.some c.requires.window) in
     let low = c.requires.counts.0 in
     let n = c.requires.counts.1.0 in
     let block = c.requires.counts.1.1.0 in
@@ -80,7 +72,7 @@ returns-clause-far c =
     let count : ℕ → ℕ = λ x. held_count t low n x (λ other. nat_lt (abs_diff c.args.channel other) c.args.distance) in
     let first_is : c.close_count-with_first.result ≡ count (get_or window 0 0) = c.close_count-with_first.ensures low n sums ∙ ap count (sym begin_a) in
     let second_is : c.close_count-with_second.result ≡ count (get_or window 1 0) = c.close_count-with_second.ensures low n sums ∙ ap count (sym begin_b) in
-    let ids_is : c.ids.result ≡ t.ids = omega arith in
+    let ids_is : c.ids.result ≡ t.ids = c.ids.ensures ∙ c.shape.ensures.ids in
     let all_is : c.close_count-all.result ≡ count t.ids = c.close_count-all.ensures low n sums ∙ ap count ids_is in
     OnFalse_from (nat_lt (c.from.result + c.from-2.result) (c.from-all.result + c.close_one-one.result + c.close_one-other.result)) (¬ BeginsFarTuple t c.args.distance window)
     (λ no.

@@ -1,8 +1,12 @@
-use Rattle.std.proofs.Common.{◌∙◌}
+use Rattle.std.proofs.Common.{◌∙◌, ◌≡◌, ℕ, Vec, Global}
+use Rattle.nbhd_check.specs.declared.verdict.Verdict.TheVariants as verdict
 use Rattle.nbhd_check.proofs.Tuples.{is_witness, not_apart}
 use Rattle.std.proofs.lemmas.Option.{slice_get_within}
 use Rattle.nbhd_check.specs.Apart.{tuples}
 use Rattle.nbhd_check.proofs.verdict.no.Goals as goal
+
+no_is_not_yes : (ring : Vec ℕ Global) (places channels : ℕ × ℕ) → verdict.No ring places channels ≡ verdict.Yes → ⊥
+no_is_not_yes ring places channels same = cc
 
 pub returns-clause-verdict : goal.returns-clause-verdict
 returns-clause-verdict c =
@@ -26,6 +30,6 @@ broken_step-step-requires-clause-tuple c = c.write_tuple.ensures.tuple
 
 pub returns-clause-yes : goal.returns-clause-yes
 returns-clause-yes c = (
-  λ same. absurd (let none : ⊥ = cc in none),
+  λ same. absurd (no_is_not_yes c.in_ok-ring.ring _ _ same),
   λ apart. absurd (not_apart c.args.table.now c.args.separation c.args.number c.requires.0 c.tuples_suffice.ensures.exact c.requires.1 apart),
 )
