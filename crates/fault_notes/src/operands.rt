@@ -1,6 +1,6 @@
 //! The operation whose operands are incomplete at the end of a text.
 
-ghost use Rattle.std.specs.Prelude.{◌<◌, ◌≤◌, length, IfSome};
+ghost use Rattle.std.specs.Prelude.{◌<◌, length, IfSome};
 
 use crate::words::{advice_in, is_word_byte};
 

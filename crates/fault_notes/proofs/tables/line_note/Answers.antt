@@ -1,4 +1,4 @@
-use Rattle.std.proofs.Common.{ℕ, List, [], ◌++◌, ap, ◌∙◌, codes, string_bytes}
+use Rattle.std.proofs.Common.{ℕ, List, [], ◌++◌, ap, ◌∙◌, codes}
 use Rattle.std.specs.Fmt.{decimal}
 use Rattle.fault_notes.specs.VerdictNotes.{joined}
 use Rattle.fault_notes.proofs.Joined.{line_pieces}

@@ -1,4 +1,4 @@
-use Rattle.std.proofs.Common.{◌≡◌, ℕ, ◌+◌, ◌-◌, ◌*◌, List, length, slice_get, Some, sym, ◌∙◌, arith, refl, subst, ap, replicate, slice_index, ◌<◌, ◌≤◌}
+use Rattle.std.proofs.Common.{◌≡◌, ℕ, ◌+◌, ◌-◌, ◌*◌, List, length, slice_get, Some, sym, ◌∙◌, arith, refl, subst, ap, slice_index, ◌<◌, ◌≤◌}
 use Rattle.std.proofs.lemmas.Option.{slice_get_within}
 use Rattle.win_index.specs.Falling.{falling}
 use Rattle.win_index.specs.Windows.{windows, IsWindow}
@@ -119,3 +119,6 @@ pub window_number-requires-clause-window : goal.window_number-requires-clause-wi
 window_number-requires-clause-window c =
     subst (λ m. IsWindow (2 * (c.rounds.result - 1) + 1) m c.args.shared.now) (sym c.shape-shape.ensures.ids)
     (subst (λ r. IsWindow (2 * (r - 1) + 1) c.args.table.now.ids c.args.shared.now) (sym (c.rounds.ensures ∙ c.shape-shape.ensures.rounds)) c.requires.shared)
+
+pub add_rows-requires-clause-room : goal.add_rows-requires-clause-room
+add_rows-requires-clause-room c = c.count_windows.auto.cells ∙ c.fill.ensures.len ∙ c.requires.room

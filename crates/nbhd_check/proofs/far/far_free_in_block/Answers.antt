@@ -1,4 +1,4 @@
-use Rattle.std.proofs.Common.{◌≡◌, ℕ, ◌<◌, ◌≤◌, List, get_or, subst, sym, ap, ◌∙◌, arith, inl, inr, ⊎_elim}
+use Rattle.std.proofs.Common.{◌≡◌, ℕ, ◌<◌, ◌≤◌, List, get_or, subst, sym, ap, ◌∙◌, arith, inl, inr, ⊎_elim, refl, le_refl}
 use Rattle.std.proofs.lemmas.Bool.{cases_lt}
 use Rattle.nbhd_check.specs.Counts.{middle_of, AreCountsOnceMade, shared_len}
 use Rattle.nbhd_check.proofs.Ends.{middle_after_first}
@@ -61,3 +61,12 @@ far_free_with_first-least-requires-clause-fit c = c.loop-first.invariant.1
 pub far_free_with_first-least-requires-clause-first : goal.far_free_with_first-least-requires-clause-first
 far_free_with_first-least-requires-clause-first c =
     subst (λ n. n < c.args.table.now.ids) (sym (ap (λ l. get_or l 0 0) c.set_first.ensures)) (omega arith)
+
+pub loop-first-init : goal.loop-first-init
+loop-first-init c = (
+  refl,
+  c.requires.fit,
+  c.requires.counts,
+  le_refl c.args.least,
+  λ number window below item own. absurd (omega (arith, own.0)),
+)

@@ -1,7 +1,14 @@
-use Rattle.std.proofs.Common.{arith, ◌≡◌, ◌+◌, ◌*◌, length, ◌∙◌, ap, le_refl}
+use Rattle.std.proofs.Common.{arith, ◌≡◌, ◌+◌, ◌*◌, length, ◌∙◌, ap, le_refl, ℕ, ◌≤◌, List, [], ◌∷◌, take, subst, sym}
 use Rattle.nbhd_check.specs.Counts.{middle_of}
 use Rattle.nbhd_check.proofs.FarFree.{one_more_block, all_of_part}
+use Rattle.std.proofs.lemmas.List.{length-take-le}
+use Rattle.win_index.specs.declared.limits.TheConstants.{MAX_ROUNDS}
 use Rattle.nbhd_check.proofs.far_parts.far_free_in_part.Goals as goal
+
+cells_long : (t rounds : ℕ) (list : List ℕ) → rounds ≡ t → rounds ≤ MAX_ROUNDS
+    → length list ≡ length (take {A = ℕ} (2 * rounds + 3) (0 ∷ 0 ∷ 0 ∷ 0 ∷ 0 ∷ 0 ∷ 0 ∷ 0 ∷ 0 ∷ 0 ∷ 0 ∷ [])) → length list ≡ 2 * t + 3
+cells_long t rounds list rounds_is few size =
+    size ∙ length-take-le {A = ℕ} (2 * rounds + 3) (0 ∷ 0 ∷ 0 ∷ 0 ∷ 0 ∷ 0 ∷ 0 ∷ 0 ∷ 0 ∷ 0 ∷ 0 ∷ []) (omega arith) ∙ ap (λ r. 2 * r + 3) rounds_is
 
 pub returns-clause-free : goal.returns-clause-free
 returns-clause-free c =
@@ -32,3 +39,13 @@ loop-block-init c = (
   le_refl c.args.least,
   λ number window below item own. absurd (omega (arith, own.1, own.2)),
 )
+
+pub far_free_in_block-least-requires-clause-long : goal.far_free_in_block-least-requires-clause-long
+far_free_in_block-least-requires-clause-long c =
+    c.set_middle.auto.list ∙ cells_long c.args.table.now.rounds c.rounds.result c.loop-block.list (c.rounds.ensures ∙ c.shape.ensures.rounds)
+    (subst (λ r. r ≤ MAX_ROUNDS) (sym c.rounds.ensures) c.shape.result.few_rounds) c.loop-block.auto.list
+
+pub set_middle-requires-clause-long : goal.set_middle-requires-clause-long
+set_middle-requires-clause-long c =
+    cells_long c.args.table.now.rounds c.rounds.result c.loop-block.list (c.rounds.ensures ∙ c.shape.ensures.rounds)
+    (subst (λ r. r ≤ MAX_ROUNDS) (sym c.rounds.ensures) c.shape.result.few_rounds) c.loop-block.auto.list

@@ -1,4 +1,4 @@
-use Rattle.std.proofs.Common.{◌≡◌, ℕ, ◌+◌, ◌*◌, ◌/◌, ◌-◌, ◌<◌, max, min, length, subst, sym, ap, ◌∙◌, arith, ◌≤◌}
+use Rattle.std.proofs.Common.{ℕ, ◌+◌, ◌*◌, ◌/◌, ◌-◌, ◌<◌, max, min, length, subst, ap, ◌∙◌, arith, ◌≤◌}
 use Rattle.nbhd_check.specs.Runs.{run_len}
 use Rattle.nbhd_check.proofs.LeastFrom.{least_from_before, none_before, none_in_more, last_window, scan_begins, scan_ends, scan_covers, some_run}
 use Rattle.nbhd_check.proofs.Prefixes.{next_item, window_of_shape, step_of_shape}

@@ -1,4 +1,4 @@
-use Rattle.std.proofs.Common.{◌*◌, ◌<◌, ◌≤◌, subst, sym, arith}
+use Rattle.std.proofs.Common.{◌*◌, ◌<◌, ◌≤◌, subst, sym}
 use Rattle.nbhd_check.specs.declared.parts.TheConstants.{MAX_PARTS}
 use Rattle.nbhd_check.proofs.EnoughParts.{part_begins, few_parts}
 use Rattle.std.proofs.lemmas.Grind.{div_ceil_times}

@@ -1,4 +1,4 @@
-use Rattle.std.proofs.Common.{◌≡◌, ◌+◌, ◌-◌, ◌*◌, take, drop, subst, sym, ap, ◌∙◌, arith}
+use Rattle.std.proofs.Common.{◌≡◌, ◌+◌, ◌-◌, ◌*◌, take, drop, subst, sym, arith}
 use Rattle.win_index.specs.Windows.{IsWindow}
 use Rattle.nbhd_check.specs.Apart.{extra}
 use Rattle.nbhd_check.proofs.Prefixes.{window_take, window_drop}
