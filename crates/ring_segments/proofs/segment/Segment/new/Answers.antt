@@ -42,3 +42,6 @@ invariant_of-result c =
       spare_size = rw written (search rules);
       rows_are = rw written (started ∙ start_stretch p x first end (omega arith) inside);
     }
+
+pub returns : goal.returns
+returns c = search rules
