@@ -8,7 +8,7 @@ use Rattle.node_lang.specs.declared.token.Token.{Token}
 use Rattle.node_lang.specs.declared.token.Token.TheVariants as token
 use Rattle.node_lang.specs.Lexemes.{Lexeme}
 use Rattle.node_lang.specs.Reading.{Read, Reader, Got, Fault, ◌>>=◌, ◌>>◌, after, assigns, done, each, exactly, expression, go_on, header, next, node, number, one_of, operand, round, same_token, three_of, two_of}
-use Rattle.node_lang.specs.Parsing.{Gives, after_if, after_one, after_two, field, lexemes_left, marked, message}
+use Rattle.node_lang.specs.Parsing.{Gives, after_if, after_one, after_two, expression_after, field, lexemes_left}
 use Rattle.node_program.specs.declared.limits.TheConstants.{MAX_CHANNELS, MAX_DEPTH, MAX_REGISTERS, MAX_ROUNDS}
 use Rattle.node_program.specs.declared.tree.UnOp.{UnOp}
 use Rattle.node_program.specs.declared.tree.BinOp.{BinOp}
@@ -64,11 +64,11 @@ regrouped : {A B C : Type 0} (first : Read A) (second : A → ℕ → List Lexem
 regrouped (Got a n l) second third other same = same a n l
 regrouped (Fault k from) second third other same = refl
 
-both_regrouped : {A B C D : Type 0} (first : Read A) (second : A → ℕ → List Lexeme → Read B) (third : B → ℕ → List Lexeme → Read D)
-    (second' : A → ℕ → List Lexeme → Read C) (third' : C → ℕ → List Lexeme → Read D) →
-    ((a : A) (n : ℕ) (l : List Lexeme) → go_on (second a n l) third ≡ go_on (second' a n l) third') → go_on (go_on first second) third ≡ go_on (go_on first second') third'
-both_regrouped (Got a n l) second third second' third' same = same a n l
-both_regrouped (Fault k from) second third second' third' same = refl
+-- going on and going on again
+pub go_on_assoc : {A B C : Type 0} (r : Read A) (f : A → ℕ → List Lexeme → Read B) (g : B → ℕ → List Lexeme → Read C) →
+    go_on (go_on r f) g ≡ go_on r (λ a n ls. go_on (f a n ls) g)
+go_on_assoc (Got a n ls) f g = refl
+go_on_assoc (Fault k from) f g = refl
 
 -- the header, field by field
 pub header_is : (nodes : ℕ) (left : List Lexeme) → header nodes left ≡ (do
@@ -83,14 +83,14 @@ header_is nodes left =
     regrouped (exactly token.Channels n l) _ _ _ (λ _ n l. same_after (number 1 MAX_CHANNELS n l) _ _ (λ channels n l.
     regrouped (exactly token.Registers n l) _ _ _ (λ _ n l. refl))))))
 
--- a round, message by message
+-- a round, part by part
 pub round_is : (registers nodes : ℕ) (left : List Lexeme) → round registers nodes left ≡ (do
   exactly token.Round
-  left ← message token.Left
-  right ← message token.Right
+  left ← expression_after token.Send token.Left
+  right ← expression_after token.Send token.Right
   next ← assigns registers
   done (record { left = left; right = right; next = next })) nodes left
-unfolding round message
+unfolding round expression_after
 round_is registers nodes left =
     sym (same_after (exactly token.Round nodes left) _ _ (λ _ n l.
     regrouped (exactly token.Send n l) _ _ _ (λ _ n l. regrouped (exactly token.Left n l) _ _ _ (λ _ n l. same_after (expression MAX_DEPTH n l) _ _ (λ left n l.
@@ -107,18 +107,13 @@ pub two_is : (op : BinOp) (levels from nodes : ℕ) (left : List Lexeme) →
     (node levels from >> (two_of (operand levels) >>= λ p. done (Two op p.0 p.1))) nodes left ≡ after_two op levels from nodes left
 unfolding two_of
 two_is op levels from nodes left =
-    sym (regrouped (node levels from nodes left) _ _ _ (λ _ n l. sym (regrouped (exactly token.Open n l) _ _ _ (λ _ n l.
-    both_regrouped (operand levels n l) _ _ _ _ (λ a n l. both_regrouped (exactly token.Comma n l) _ _ _ _ (λ _ n l.
-    both_regrouped (operand levels n l) _ _ _ _ (λ b n l. both_regrouped (exactly token.Close n l) _ _ _ _ (λ _ n l. refl))))))))
+    sym (regrouped (node levels from nodes left) _ _ _ (λ _ n l. sym (regrouped (exactly token.Open n l) _ _ _ (λ _ n l. simp go_on_assoc))))
 
 pub if_is : (levels from nodes : ℕ) (left : List Lexeme) →
     (node levels from >> (three_of (operand levels) >>= λ p. done (Choose p.0 p.1 p.2))) nodes left ≡ after_if levels from nodes left
 unfolding three_of
 if_is levels from nodes left =
-    sym (regrouped (node levels from nodes left) _ _ _ (λ _ n l. sym (regrouped (exactly token.Open n l) _ _ _ (λ _ n l.
-    both_regrouped (operand levels n l) _ _ _ _ (λ c n l. both_regrouped (exactly token.Comma n l) _ _ _ _ (λ _ n l.
-    both_regrouped (operand levels n l) _ _ _ _ (λ a n l. both_regrouped (exactly token.Comma n l) _ _ _ _ (λ _ n l.
-    both_regrouped (operand levels n l) _ _ _ _ (λ b n l. both_regrouped (exactly token.Close n l) _ _ _ _ (λ _ n l. refl))))))))))
+    sym (regrouped (node levels from nodes left) _ _ _ (λ _ n l. sym (regrouped (exactly token.Open n l) _ _ _ (λ _ n l. simp go_on_assoc))))
 
 -- a method whose last step behaves as the rest of its reader
 pub gives_rest : {T A : Type 0} (tree : T → A) (old now new : Parser) (r : Result T TextFault) (whole rest : ℕ → List Lexeme → Read A) → now.text.now ≡ old.text.now →
@@ -137,6 +132,21 @@ pub gives_next : {T U A B : Type 0} (tree : T → A) (tree' : U → B) (old now 
 gives_next tree tree' old now new v r first second given more =
     gives_rest tree' old now new r (λ n l. go_on (first n l) second) (second (tree v)) given.0
     (ap (λ x. go_on x second) given.1 ∙ ap (λ t. second (tree v) now.nodes (lexemes_left t now.at)) (sym given.0)) more
+
+-- a method that stops with the fault of its first part
+pub gives_stops : {T U A B : Type 0} (tree : T → A) (tree' : U → B) (old now new : Parser) (f : TextFault) (first : ℕ → List Lexeme → Read A)
+    (second : A → ℕ → List Lexeme → Read B) → Gives tree old now (Err f) first → Gives tree' old new (Err f) (λ n l. go_on (first n l) second)
+gives_stops tree tree' old now new f first second given = (
+  given.0,
+  λ m.
+      let at = given.1 m in
+      (at.0, ap (λ x. go_on x second) at.1),
+)
+
+-- a method that reads one part and stops with the fault of the next
+pub gives_next_stops : {T U A B : Type 0} (tree : T → A) (tree' : U → B) (old now new : Parser) (v : T) (f : TextFault) (first : ℕ → List Lexeme → Read A)
+    (second : A → ℕ → List Lexeme → Read B) → Gives tree old now (Ok v) first → Gives tree' now new (Err f) (second (tree v)) → Gives tree' old new (Err f) (λ n l. go_on (first n l) second)
+gives_next_stops tree tree' old now new v f first second given stopped = gives_next tree tree' old now new v (Err f) first second given stopped
 
 -- an expression from its first token on
 pub expression_begins : (old now : Parser) (levels offset : ℕ) (t : Token) (more : Reader Term) → now.text.now ≡ old.text.now →

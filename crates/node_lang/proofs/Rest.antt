@@ -11,7 +11,7 @@ use Rattle.node_lang.specs.declared.token.Token.TheVariants as token
 use Rattle.node_program.specs.Term.{Term, Literal, Identifier, LeftMessage, RightMessage, RegisterValue, One, Two, Choose, Round, ProgramTree}
 use Rattle.node_lang.specs.Reading.{same_token, fault_of, Read, Reader, Got, Fault, go_on, done, refuse, ◌>>=◌, ◌>>◌, exactly, node, one_of, two_of, three_of, operand, expression, number, end, each, assign, assigns, round, rounds, header, program}
 use Rattle.node_lang.specs.Lexemes.{Lexeme}
-use Rattle.node_lang.proofs.Parsing.{operand_is}
+use Rattle.node_lang.proofs.Parsing.{go_on_assoc, operand_is}
 
 -- Nothing, with the program that was read; or a token, an expression under this many others, or a number of the header,
 -- and then the rest.
@@ -116,12 +116,7 @@ abbrev pub went : ℕ → ℕ → List Lexeme → Met → Read ProgramTree
 went nodes from ls (Stops k) = Fault k from
 went nodes from ls (Goes v) = read v nodes ls
 
--- going on and going on again
-go_on_assoc : {A B C : Type 0} (r : Read A) (f : A → ℕ → List Lexeme → Read B) (g : B → ℕ → List Lexeme → Read C) →
-    go_on (go_on r f) g ≡ go_on r (λ a n ls. go_on (f a n ls) g)
-go_on_assoc (Got a n ls) f g = refl
-go_on_assoc (Fault k from) f g = refl
-
+-- readers that go on alike
 go_on_same : {A B : Type 0} (r : Read A) (f g : A → ℕ → List Lexeme → Read B) → ((a : A) (n : ℕ) (ls : List Lexeme) → f a n ls ≡ g a n ls) → go_on r f ≡ go_on r g
 go_on_same (Got a n ls) f g h = h a n ls
 go_on_same (Fault k from) f g h = refl

@@ -1,5 +1,6 @@
 -- The private contracts of the parser: what is left of its text, and what its methods return.
-use Rattle.std.specs.Prelude.{◌≡◌, ◌≢◌, ◌-◌, ◌≤◌, ℕ, List, Result, Ok, Err, length, drop}
+use Rattle.std.specs.Prelude.{◌≡◌, ◌≢◌, ◌-◌, ◌≤◌, ℕ, List, Result, Ok, Err, Box, box_value, length, drop}
+use Rattle.std.specs.Global.{Global}
 use Rattle.node_lang.specs.declared.fault.FaultKind.TheVariants as kind
 use Rattle.node_lang.specs.declared.fault.TextFault.{TextFault}
 use Rattle.node_lang.specs.declared.parser.Parser.{Parser}
@@ -10,7 +11,8 @@ use Rattle.node_lang.specs.declared.token.Token.TheVariants as token
 use Rattle.node_program.specs.declared.limits.TheConstants.{MAX_DEPTH}
 use Rattle.node_program.specs.declared.tree.UnOp.{UnOp}
 use Rattle.node_program.specs.declared.tree.BinOp.{BinOp}
-use Rattle.node_program.specs.Term.{Term, One, Two, Choose}
+use Rattle.node_program.specs.declared.tree.Expr.{Expr}
+use Rattle.node_program.specs.Term.{Term, One, Two, Choose, term_of}
 
 -- the lexemes of a text from the byte `at` on
 abbrev pub lexemes_left : List ℕ → ℕ → List Lexeme
@@ -29,12 +31,16 @@ Gives tree old new (Err f) read =
 abbrev pub field : Token → ℕ → ℕ → Reader ℕ
 field word low high = exactly word >> number low high
 
--- the message of a round to this side
-unfoldable pub message : Token → Reader Term
-message side = do
-  exactly token.Send
-  exactly side
+-- two tokens, and the expression after them
+unfoldable pub expression_after : Token → Token → Reader Term
+expression_after first second = do
+  exactly first
+  exactly second
   expression MAX_DEPTH
+
+-- the tree of an expression in a box
+abbrev pub boxed : Box Expr Global → Term
+boxed b = term_of (box_value b)
 
 -- an operand and the mark after it
 abbrev pub marked : Reader Term → Token → Reader Term
@@ -42,6 +48,13 @@ marked operand mark = do
   a ← operand
   exactly mark
   done a
+
+-- the last two operands and the parenthesis that closes them
+abbrev pub pair_of : Reader Term → Reader (Term × Term)
+pair_of operand = do
+  a ← marked operand token.Comma
+  b ← marked operand token.Close
+  done (a, b)
 
 -- the count of an operation's node, and the parenthesis that opens its operands
 abbrev pub opened : ℕ → ℕ → Reader (Unit {0})
@@ -57,14 +70,12 @@ after_one op levels from = do
 abbrev pub after_two : BinOp → ℕ → ℕ → Reader Term
 after_two op levels from = do
   opened levels from
-  a ← marked (operand levels) token.Comma
-  b ← marked (operand levels) token.Close
-  done (Two op a b)
+  p ← pair_of (operand levels)
+  done (Two op p.0 p.1)
 
 abbrev pub after_if : ℕ → ℕ → Reader Term
 after_if levels from = do
   opened levels from
   c ← marked (operand levels) token.Comma
-  a ← marked (operand levels) token.Comma
-  b ← marked (operand levels) token.Close
-  done (Choose c a b)
+  p ← pair_of (operand levels)
+  done (Choose c p.0 p.1)

@@ -1,6 +1,5 @@
-ghost use Rattle.std.specs.Prelude.{◌≡◌, ◌≤◌, length, IfOk};
+ghost use Rattle.std.specs.Prelude.{◌≤◌, length};
 ghost use Rattle.node_program.specs.declared.limits.TheConstants.{MAX_NODES};
-ghost use Rattle.node_program.specs.Term.{term_of, Two, Choose};
 
 use crate::fault::{FaultKind, TextFault};
 use crate::lexer::token_from;
@@ -9,7 +8,7 @@ use node_program::{
     BinOp, Expr, MAX_CHANNELS, MAX_DEPTH, MAX_NODES, MAX_REGISTERS, MAX_ROUNDS, Program, Round,
     UnOp,
 };
-use std::alloc::{AllocError, AllocFailed, Global};
+use std::alloc::{AllocFailed, Global};
 
 // The numbers of a program's header.
 #[derive(Clone, Copy)]
@@ -30,29 +29,11 @@ pub(crate) struct Parser<'a> {
     ghost few: { nodes ≤ MAX_NODES },
 }
 
-// Returns the operation on two operands.
-fn binary(alloc: Global, op: BinOp, a: Expr, b: Expr) -> Result<Expr, AllocError>
-    ensures { IfOk result (λ e. term_of e ≡ Two op (term_of a) (term_of b)) }
-{
-    Ok(Expr::Two(op, Box::new(alloc, a)?, Box::new(alloc, b)?))
-}
-
-// Returns the choice between `a` and `b` by `c`.
-fn choice(alloc: Global, c: Expr, a: Expr, b: Expr) -> Result<Expr, AllocError>
-    ensures { IfOk result (λ e. term_of e ≡ Choose (term_of c) (term_of a) (term_of b)) }
-{
-    Ok(Expr::Choose(
-        Box::new(alloc, c)?,
-        Box::new(alloc, a)?,
-        Box::new(alloc, b)?,
-    ))
-}
-
 impl<'a> Parser<'a> {
     ghost use Rattle.std.specs.Prelude.{◌≡◌, ◌-◌, ◌<◌, map, true, IfOk};
     ghost use Rattle.node_program.specs.Term.{step_of, term_of};
-    ghost use Rattle.node_lang.specs.Reading.{Counts, assign, assigns, end, exactly, expression, header, next, node, number, operand, program, round, rounds, same_token};
-    ghost use Rattle.node_lang.specs.Parsing.{Gives, after_if, after_one, after_two, field, marked, message, opened};
+    ghost use Rattle.node_lang.specs.Reading.{Counts, assigns, end, exactly, expression, header, next, node, operand, program, round, rounds, same_token};
+    ghost use Rattle.node_lang.specs.Parsing.{Gives, after_if, after_one, after_two, boxed, expression_after, field, marked, opened, pair_of};
 
     // Returns the next token and its offset.
     fn next(&mut self) -> Result<(Token, usize), TextFault>
@@ -142,13 +123,23 @@ impl<'a> Parser<'a> {
 
     // Parses an operand and the mark after it.
     #[cycle(expr)]
-    fn operand(&mut self, levels: u32, mark: Token) -> Result<Expr, TextFault>
+    fn operand(&mut self, levels: u32, mark: Token) -> Result<Box<Expr>, TextFault>
         requires { same_token mark mark ≡ true }
-        ensures { Gives term_of self.old self.new result (marked (expression levels) mark) }
+        ensures { Gives boxed self.old self.new result (marked (expression levels) mark) }
     {
         let operand = self.expr(levels)?;
         self.expect(mark)?;
-        Ok(operand)
+        Ok(Box::new(self.alloc, operand)?)
+    }
+
+    // Parses the last two operands of an operation, and the parenthesis that closes them.
+    #[cycle(expr)]
+    fn pair(&mut self, levels: u32) -> Result<(Box<Expr>, Box<Expr>), TextFault>
+        ensures { Gives (λ p. (boxed p.0, boxed p.1)) self.old self.new result (pair_of (expression levels)) }
+    {
+        let a = self.operand(levels, Token::Comma)?;
+        let b = self.operand(levels, Token::Close)?;
+        Ok((a, b))
     }
 
     // Parses the operand of an operation whose name is at `offset`.
@@ -159,7 +150,7 @@ impl<'a> Parser<'a> {
     {
         let below = self.open(levels, offset)?;
         let a = self.operand(below, Token::Close)?;
-        Ok(Expr::One(op, Box::new(self.alloc, a)?))
+        Ok(Expr::One(op, a))
     }
 
     // Parses the two operands of an operation whose name is at `offset`.
@@ -169,9 +160,8 @@ impl<'a> Parser<'a> {
         ensures { Gives term_of self.old self.new result (after_two op levels (length self.old.text.now - offset)) }
     {
         let below = self.open(levels, offset)?;
-        let a = self.operand(below, Token::Comma)?;
-        let b = self.operand(below, Token::Close)?;
-        Ok(binary(self.alloc, op, a, b)?)
+        let (a, b) = self.pair(below)?;
+        Ok(Expr::Two(op, a, b))
     }
 
     // Parses the three operands of an `if` at `offset`.
@@ -182,23 +172,8 @@ impl<'a> Parser<'a> {
     {
         let below = self.open(levels, offset)?;
         let c = self.operand(below, Token::Comma)?;
-        let a = self.operand(below, Token::Comma)?;
-        let b = self.operand(below, Token::Close)?;
-        Ok(choice(self.alloc, c, a, b)?)
-    }
-
-    // Parses a number of the header, from `low` to `high`.
-    fn number(&mut self, low: u32, high: u32) -> Result<u32, TextFault>
-        ensures { Gives (λ n. n) self.old self.new result (number low high) }
-    {
-        let (token, offset) = self.next()?;
-        let Token::Number(number) = token else {
-            return Err(TextFault::at(FaultKind::Unexpected, offset));
-        };
-        if number < low || number > high {
-            return Err(TextFault::at(FaultKind::HeaderRange, offset));
-        }
-        Ok(number)
+        let (a, b) = self.pair(below)?;
+        Ok(Expr::Choose(c, a, b))
     }
 
     // Parses this word of the header and its number, from `low` to `high`.
@@ -207,7 +182,14 @@ impl<'a> Parser<'a> {
         ensures { Gives (λ n. n) self.old self.new result (field word low high) }
     {
         self.expect(word)?;
-        Ok(self.number(low, high)?)
+        let (token, offset) = self.next()?;
+        let Token::Number(number) = token else {
+            return Err(TextFault::at(FaultKind::Unexpected, offset));
+        };
+        if number < low || number > high {
+            return Err(TextFault::at(FaultKind::HeaderRange, offset));
+        }
+        Ok(number)
     }
 
     // Parses the header, up to and including `start`.
@@ -240,13 +222,14 @@ impl<'a> Parser<'a> {
         Err(TextFault::at(kind, extra.start))
     }
 
-    // Parses the assignment to a register.
-    #[tactic(auto, unfolding(crate::specs::Reading::assign))]
-    fn assign(&mut self, register: u32) -> Result<Expr, TextFault>
-        ensures { Gives term_of self.old self.new result (assign register) }
+    // Consumes two tokens, which must be these, and parses the expression after them.
+    fn expr_after(&mut self, first: Token, second: Token) -> Result<Expr, TextFault>
+        requires first { same_token first first ≡ true }
+        requires second { same_token second second ≡ true }
+        ensures { Gives term_of self.old self.new result (expression_after first second) }
     {
-        self.expect(Token::Register(register))?;
-        self.expect(Token::Equals)?;
+        self.expect(first)?;
+        self.expect(second)?;
         self.expr(MAX_DEPTH)
     }
 
@@ -257,29 +240,18 @@ impl<'a> Parser<'a> {
     {
         let mut expressions = Vec::new(self.alloc);
         'registers: for register in 0..registers {
-            let expression = self.assign(register)?;
+            let expression = self.expr_after(Token::Register(register), Token::Equals)?;
             expressions.push(expression)?;
         }
         Ok(expressions)
-    }
-
-    // Parses the message of a round to this side.
-    #[tactic(auto, unfolding(crate::specs::Parsing::message))]
-    fn message(&mut self, side: Token) -> Result<Expr, TextFault>
-        requires { same_token side side ≡ true }
-        ensures { Gives term_of self.old self.new result (message side) }
-    {
-        self.expect(Token::Send)?;
-        self.expect(side)?;
-        self.expr(MAX_DEPTH)
     }
 
     fn round(&mut self, registers: u32) -> Result<Round, TextFault>
         ensures { Gives step_of self.old self.new result (round registers) }
     {
         self.expect(Token::Round)?;
-        let left = self.message(Token::Left)?;
-        let right = self.message(Token::Right)?;
+        let left = self.expr_after(Token::Send, Token::Left)?;
+        let right = self.expr_after(Token::Send, Token::Right)?;
         let next = self.assigns(registers)?;
         Ok(Round { left, right, next })
     }

@@ -3,16 +3,19 @@ use Rattle.std.proofs.Common.{◌+◌, ◌*◌}
 use Rattle.node_lang.proofs.parser.Parser.+expr.Given as goal
 
 abbrev pub decreases-expr : goal.decreases-expr
-decreases-expr l = 3 * l.levels + 1
+decreases-expr l = 4 * l.levels + 1
 
 abbrev pub decreases-operand : goal.decreases-operand
-decreases-operand l = 3 * l.levels + 2
+decreases-operand l = 4 * l.levels + 2
 
 abbrev pub decreases-one : goal.decreases-one
-decreases-one l = 3 * l.levels
+decreases-one l = 4 * l.levels
 
 abbrev pub decreases-two : goal.decreases-two
-decreases-two l = 3 * l.levels
+decreases-two l = 4 * l.levels
 
 abbrev pub decreases-choose : goal.decreases-choose
-decreases-choose l = 3 * l.levels
+decreases-choose l = 4 * l.levels
+
+abbrev pub decreases-pair : goal.decreases-pair
+decreases-pair l = 4 * l.levels + 3
