@@ -1,8 +1,8 @@
-ghost use Rattle.std.specs.Prelude.{◌≡◌, ◌++◌, length, map, IfOk, IfErr, OnOk, string_bytes};
+ghost use Rattle.std.specs.Prelude.{◌≡◌, ◌++◌, length, map, IfOk, IfErr, OnOk, codes, string_bytes};
 ghost use Rattle.std.specs.List.{flat_map};
 ghost use Rattle.node_lang.specs.declared.fault.FaultKind.TheVariants as kind;
 ghost use Rattle.node_program.specs.Term.{step_of, term_of};
-ghost use Rattle.node_lang.specs.Printed.{printed_expression, assignment_line, assignment_lines, header_lines, send_line, round_lines, printed};
+ghost use Rattle.node_lang.specs.Printed.{operation_name as name_of, printed_expression, assignment_lines, header_lines, round_lines, printed};
 
 use crate::fault::TextFault;
 use crate::words::operation_name;
@@ -10,6 +10,14 @@ use node_program::{Expr, Program, Round};
 use std::alloc::{AllocError, Global};
 use std::fmt::Write;
 
+// Appends the name of an operation and the parenthesis that opens its operands.
+fn write_opening(text: &mut String, operation: &Expr) -> Result<(), AllocError>
+    ensures { OnOk result (string_bytes text.new ≡ string_bytes text.old ++ (name_of (term_of operation.now) ++ codes "(")) }
+{
+    write!(text, "{}(", operation_name(operation))
+}
+
+#[cycle(expression)]
 fn write_expression(text: &mut String, expression: &Expr) -> Result<(), AllocError>
     ensures { OnOk result (string_bytes text.new ≡ string_bytes text.old ++ printed_expression (term_of expression.now)) }
 {
@@ -20,33 +28,37 @@ fn write_expression(text: &mut String, expression: &Expr) -> Result<(), AllocErr
         Expr::FromRight => text.push_str("R"),
         Expr::Register(register) => write!(text, "r{register}"),
         Expr::One(_, a) => {
-            write!(text, "{}(", operation_name(expression))?;
-            write_expression(text, a)?;
-            text.push_str(")")
+            write_opening(text, expression)?;
+            write_operand(text, a, ")")
         }
         Expr::Two(_, a, b) => {
-            write!(text, "{}(", operation_name(expression))?;
-            write_expression(text, a)?;
-            text.push_str(", ")?;
-            write_expression(text, b)?;
-            text.push_str(")")
+            write_opening(text, expression)?;
+            write_operand(text, a, ", ")?;
+            write_operand(text, b, ")")
         }
         Expr::Choose(c, a, b) => {
-            write!(text, "{}(", operation_name(expression))?;
-            write_expression(text, c)?;
-            text.push_str(", ")?;
-            write_expression(text, a)?;
-            text.push_str(", ")?;
-            write_expression(text, b)?;
-            text.push_str(")")
+            write_opening(text, expression)?;
+            write_operand(text, c, ", ")?;
+            write_operand(text, a, ", ")?;
+            write_operand(text, b, ")")
         }
     }
 }
 
-fn write_assignment(text: &mut String, register: usize, expression: &Expr) -> Result<(), AllocError>
-    ensures { OnOk result (string_bytes text.new ≡ string_bytes text.old ++ assignment_line register (term_of expression.now)) }
+// Appends an operand and the mark after it.
+#[cycle(expression)]
+fn write_operand(text: &mut String, operand: &Expr, mark: &str) -> Result<(), AllocError>
+    ensures { OnOk result (string_bytes text.new ≡ string_bytes text.old ++ (printed_expression (term_of operand.now) ++ mark.now)) }
 {
-    write!(text, "r{register} = ")?;
+    write_expression(text, operand)?;
+    text.push_str(mark)
+}
+
+// Appends an expression after these words, and ends its line.
+fn write_line(text: &mut String, words: &str, expression: &Expr) -> Result<(), AllocError>
+    ensures { OnOk result (string_bytes text.new ≡ string_bytes text.old ++ (words.now ++ (printed_expression (term_of expression.now) ++ codes "\n"))) }
+{
+    text.push_str(words)?;
     write_expression(text, expression)?;
     text.push_str("\n")
 }
@@ -56,28 +68,18 @@ fn write_assignments(text: &mut String, expressions: &[Expr]) -> Result<(), Allo
     ensures { OnOk result (string_bytes text.new ≡ string_bytes text.old ++ assignment_lines 0 (map term_of expressions.now)) }
 {
     'registers: for (register, expression) in expressions.iter().enumerate() {
-        write_assignment(text, register, expression)?;
+        write!(text, "r{register}")?;
+        write_line(text, " = ", expression)?;
     }
     Ok(())
-}
-
-// Appends the message of a round to one side, `left` or `right`.
-fn write_send(text: &mut String, side: &str, expression: &Expr) -> Result<(), AllocError>
-    ensures { OnOk result (string_bytes text.new ≡ string_bytes text.old ++ send_line side.now (term_of expression.now)) }
-{
-    write!(text, "send {side} ")?;
-    write_expression(text, expression)?;
-    text.push_str("\n")
 }
 
 fn write_round(text: &mut String, round: &Round) -> Result<(), AllocError>
     ensures { OnOk result (string_bytes text.new ≡ string_bytes text.old ++ round_lines (step_of round.now)) }
 {
-    text.push_str("round\n")?;
-    write_send(text, "left", &round.left)?;
-    write_send(text, "right", &round.right)?;
-    write_assignments(text, &round.next)?;
-    Ok(())
+    write_line(text, "round\nsend left ", &round.left)?;
+    write_line(text, "send right ", &round.right)?;
+    write_assignments(text, &round.next)
 }
 
 fn write_rounds(text: &mut String, rounds: &[Round]) -> Result<(), AllocError>
@@ -108,9 +110,7 @@ fn write_program(text: &mut String, program: &Program) -> Result<(), AllocError>
     write_header(text, program)?;
     write_assignments(text, program.start())?;
     write_rounds(text, program.steps())?;
-    text.push_str("finish ")?;
-    write_expression(text, program.finish())?;
-    text.push_str("\n")
+    write_line(text, "finish ", program.finish())
 }
 
 /// Prints a program in its canonical form, in lines that end with a line feed: `rounds T`,
