@@ -1,5 +1,5 @@
 -- The definitions that the contracts cite: numbers and ring texts, numbers of workers and segments, tasks, the command
--- line, the tasks of words, and faults of words.
+-- line, the tasks of words, faults of words, and the rows of the tables.
 pub mod Decimal
 pub mod RingText
 pub mod Counts
@@ -8,3 +8,4 @@ pub mod CommandLine
 pub mod Words
 pub mod Options
 pub mod WordsFault
+pub mod Rows

@@ -8,5 +8,6 @@ pub mod limits;
 mod options;
 mod parsing;
 pub mod ring_text;
+mod rows;
 pub mod task;
 pub mod words;

@@ -1,0 +1,39 @@
+-- The commands and options of the tables. No public contract cites this file.
+use Rattle.std.specs.Prelude.{List, [], ◌∷◌, Option, Some, None, true, map, pos}
+use Rattle.std.specs.Borrow.{Bor}
+use Rattle.clap.specs.Words.{App, Rule, Shape, Text, with_rule, with_subcommand}
+use Rattle.clap.specs.declared.builder.value_parser.ValueParser.{ValueParser}
+use Rattle.clap.specs.declared.builder.value_parser.ValueParser.TheVariants.{String, Signed}
+use Rattle.task_words.specs.CommandLine.{command_of, option_rule}
+use Rattle.task_words.specs.declared.rows.CommandRow.{CommandRow}
+use Rattle.task_words.specs.declared.rows.OptionRow.{OptionRow}
+use Rattle.task_words.specs.declared.rows.Values.{Values}
+use Rattle.task_words.specs.declared.rows.Values.TheVariants as values
+
+-- the parser of these values
+abbrev pub parser_in : Values → ValueParser
+parser_in values.Text = String
+parser_in (values.Numbers low high) = Signed (pos low) (pos high)
+
+-- this option with a default value, or as a required one
+abbrev pub with_default : Rule → Option (Bor Text) → Rule
+with_default rule (Some value) = record rule { defaults = value.now ∷ [] }
+with_default rule None = record rule { required = true }
+
+-- the option of a row
+abbrev pub rule_in : OptionRow → Rule
+rule_in row = with_default (option_rule row.name.now (parser_in row.values)) row.default
+
+-- the command of a row
+abbrev pub command_in : CommandRow → Shape
+command_in row = command_of row.name.now (map rule_in row.options.now)
+
+-- a command line with more commands
+abbrev pub with_commands : App → List Shape → App
+with_commands line [] = line
+with_commands line (shape ∷ shapes) = with_commands (with_subcommand line shape) shapes
+
+-- a command with more options
+abbrev pub with_options : App → List Rule → App
+with_options command [] = command
+with_options command (rule ∷ rules) = with_options (with_rule command rule) rules

@@ -1,0 +1,150 @@
+//! The commands and their options, in tables.
+
+use crate::help;
+use crate::limits::{MAX_COUNT, MAX_DISTANCE};
+
+// The values that an option takes.
+#[derive(Clone, Copy)]
+pub(crate) enum Values {
+    Text,
+    // The numbers from the first to the second.
+    Numbers(u32, u32),
+}
+
+// An option `--NAME`.
+#[derive(Clone, Copy)]
+pub(crate) struct OptionRow {
+    pub(crate) name: &'static str,
+    pub(crate) value_name: &'static str,
+    pub(crate) help: &'static str,
+    pub(crate) values: Values,
+    // The value by default. The option is required if it has none.
+    pub(crate) default: Option<&'static str>,
+}
+
+// A command. `about` is its line in the help of the program, and `details` ends its own help.
+#[derive(Clone, Copy)]
+pub(crate) struct CommandRow {
+    pub(crate) name: &'static str,
+    pub(crate) about: &'static str,
+    pub(crate) details: &'static str,
+    pub(crate) options: &'static [OptionRow],
+}
+
+// The numbers of workers and of segments.
+const COUNTS: Values = Values::Numbers(1, MAX_COUNT);
+
+const IDS: OptionRow = OptionRow {
+    name: "ids",
+    value_name: "M",
+    help: help::IDS,
+    values: Values::Numbers(0, u32::MAX),
+    default: None,
+};
+
+const RING: OptionRow = OptionRow {
+    name: "ring",
+    value_name: "A,B,..",
+    help: help::RING,
+    values: Values::Text,
+    default: None,
+};
+
+const WORKERS: OptionRow = OptionRow {
+    name: "workers",
+    value_name: "W",
+    help: help::WORKERS,
+    values: COUNTS,
+    default: Some("1"),
+};
+
+const SEGMENTS: OptionRow = OptionRow {
+    name: "segments",
+    value_name: "S",
+    help: help::SEGMENTS,
+    values: COUNTS,
+    default: Some("1"),
+};
+
+const NEAR: OptionRow = OptionRow {
+    name: "near",
+    value_name: "P",
+    help: help::NEAR,
+    values: Values::Numbers(1, MAX_DISTANCE),
+    default: Some("1"),
+};
+
+const FAR: OptionRow = OptionRow {
+    name: "far",
+    value_name: "Q",
+    help: help::FAR,
+    values: Values::Numbers(0, MAX_DISTANCE),
+    default: Some("0"),
+};
+
+// The commands, in the order of the help of the program.
+pub(crate) const COMMANDS: [CommandRow; 9] = [
+    // `check --ids M`
+    CommandRow {
+        name: "check",
+        about: help::CHECK,
+        details: help::CHECK_DETAILS,
+        options: &[IDS],
+    },
+    // `print`
+    CommandRow {
+        name: "print",
+        about: help::PRINT,
+        details: help::PRINT_DETAILS,
+        options: &[],
+    },
+    // `table --ids M [--workers W] [--near P] [--far Q]`
+    CommandRow {
+        name: "table",
+        about: help::TABLE,
+        details: help::TABLE_DETAILS,
+        options: &[IDS, WORKERS, NEAR, FAR],
+    },
+    // `judge --ids M [--workers W] [--near P] [--far Q]`
+    CommandRow {
+        name: "judge",
+        about: help::JUDGE,
+        details: help::JUDGE_DETAILS,
+        options: &[IDS, WORKERS, NEAR, FAR],
+    },
+    // `run --ids M --ring A,B,.. [--segments S]`
+    CommandRow {
+        name: "run",
+        about: help::RUN,
+        details: help::RUN_DETAILS,
+        options: &[IDS, RING, SEGMENTS],
+    },
+    // `trace --ids M --ring A,B,..`
+    CommandRow {
+        name: "trace",
+        about: help::TRACE,
+        details: help::TRACE_DETAILS,
+        options: &[IDS, RING],
+    },
+    // `plan --ids M --ring A,B,.. [--workers W]`
+    CommandRow {
+        name: "plan",
+        about: help::PLAN,
+        details: help::PLAN_DETAILS,
+        options: &[IDS, RING, WORKERS],
+    },
+    // `audit`
+    CommandRow {
+        name: "audit",
+        about: help::AUDIT,
+        details: help::AUDIT_DETAILS,
+        options: &[],
+    },
+    // `migrate`
+    CommandRow {
+        name: "migrate",
+        about: help::MIGRATE,
+        details: help::MIGRATE_DETAILS,
+        options: &[],
+    },
+];
