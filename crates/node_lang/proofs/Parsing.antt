@@ -133,20 +133,24 @@ gives_next tree tree' old now new v r first second given more =
     gives_rest tree' old now new r (λ n l. go_on (first n l) second) (second (tree v)) given.0
     (ap (λ x. go_on x second) given.1 ∙ ap (λ t. second (tree v) now.nodes (lexemes_left t now.at)) (sym given.0)) more
 
--- a method that stops with the fault of its first part
-pub gives_stops : {T U A B : Type 0} (tree : T → A) (tree' : U → B) (old now new : Parser) (f : TextFault) (first : ℕ → List Lexeme → Read A)
-    (second : A → ℕ → List Lexeme → Read B) → Gives tree old now (Err f) first → Gives tree' old new (Err f) (λ n l. go_on (first n l) second)
-gives_stops tree tree' old now new f first second given = (
-  given.0,
+-- a method that stops with a fault of this reader
+abbrev pub Stops : {A : Type 0} → Parser → TextFault → (ℕ → List Lexeme → Read A) → Type 0
+Stops {A} old f read = Gives {T = A} (λ a. a) old old (Err f) read
+
+-- a method that stops in its first part
+pub stops_first : {A B : Type 0} (old : Parser) (f : TextFault) (first : ℕ → List Lexeme → Read A) (second : A → ℕ → List Lexeme → Read B) → Stops old f first
+    → Stops old f (λ n l. go_on (first n l) second)
+stops_first old f first second stopped = (
+  stopped.0,
   λ m.
-      let at = given.1 m in
+      let at = stopped.1 m in
       (at.0, ap (λ x. go_on x second) at.1),
 )
 
--- a method that reads one part and stops with the fault of the next
-pub gives_next_stops : {T U A B : Type 0} (tree : T → A) (tree' : U → B) (old now new : Parser) (v : T) (f : TextFault) (first : ℕ → List Lexeme → Read A)
-    (second : A → ℕ → List Lexeme → Read B) → Gives tree old now (Ok v) first → Gives tree' now new (Err f) (second (tree v)) → Gives tree' old new (Err f) (λ n l. go_on (first n l) second)
-gives_next_stops tree tree' old now new v f first second given stopped = gives_next tree tree' old now new v (Err f) first second given stopped
+-- a method that reads one part and stops after it
+pub stops_next : {T A B : Type 0} (tree : T → A) (old now : Parser) (v : T) (f : TextFault) (first : ℕ → List Lexeme → Read A) (second : A → ℕ → List Lexeme → Read B)
+    → Gives tree old now (Ok v) first → Stops now f (second (tree v)) → Stops old f (λ n l. go_on (first n l) second)
+stops_next tree old now v f first second given stopped = gives_next tree (λ b. b) old now now v (Err f) first second given stopped
 
 -- an expression from its first token on
 pub expression_begins : (old now : Parser) (levels offset : ℕ) (t : Token) (more : Reader Term) → now.text.now ≡ old.text.now →

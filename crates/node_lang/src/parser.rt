@@ -128,8 +128,9 @@ impl<'a> Parser<'a> {
         ensures { Gives boxed self.old self.new result (marked (expression levels) mark) }
     {
         let operand = self.expr(levels)?;
+        let boxed = Box::new(self.alloc, operand)?;
         self.expect(mark)?;
-        Ok(Box::new(self.alloc, operand)?)
+        Ok(boxed)
     }
 
     // Parses the last two operands of an operation, and the parenthesis that closes them.
