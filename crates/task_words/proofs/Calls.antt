@@ -1,14 +1,15 @@
 -- The command that was parsed, and the result of its task.
 use Rattle.std.proofs.Common.{◌≡◌, ◌⊎◌, List, Option, Some, None, Result, Ok, Err, Bor, inl, inr, refl, sym, ◌∙◌, ap, ap₂, subst, true, false, Global}
-use Rattle.std.specs.Prelude.{◌↔◌, Box, IfOk, IfErr, IsOk, option_map}
+use Rattle.std.specs.Prelude.{◌↔◌, Box, IfOk, IfErr, IsErrOf, IsOk, option_map}
 use Rattle.clap.specs.Words.{Row, Text, found_of, rows_of, subcommand_name_of, subcommand_of, subcommand_rows, subcommand_rows_of}
 use Rattle.clap.specs.declared.parser.matches.ArgMatches.{ArgMatches}
 use Rattle.clap.specs.declared.parser.matches.ArgMatches.TheViews.{out-ArgMatches, out-SubCommand}
 use Rattle.clap.specs.declared.parser.matches.SubCommand.{SubCommand}
 use Rattle.std.specs.Box.{box_value}
 use Rattle.task_words.specs.CommandLine.{command_line}
-use Rattle.task_words.specs.Words.{HasBadRing, IsCallOf, IsCommand, IsRingBad, IsRingName}
-use Rattle.task_words.specs.WordsFault.{MemoryAside}
+use Rattle.task_words.specs.Words.{HasBadRing, IsCallOf, IsCommand, IsRingBad, IsRingName, IsTaskFor, IsTaskOf}
+use Rattle.task_words.specs.WordsFault.{IsHelp, IsUsage, MemoryAside}
+use Rattle.task_words.specs.declared.task.Task.{Task}
 use Rattle.task_words.specs.declared.words.WordsFault.{WordsFault}
 use Rattle.task_words.specs.declared.words.WordsFault.TheVariants.{BadRing, OutOfMemory}
 
@@ -65,3 +66,30 @@ is_ok (Ok task) words name values clean call good refused aside =
 is_ok (Err fault) words name values clean call good (inl memory) aside = absurd (aside (ap Err memory))
 is_ok (Err fault) words name values clean call good (inr bad) aside =
     ((λ ok. absurd (not_ok ok)), λ fine. absurd (fine.1 (clean, name, values, call, bad.1, bad.2)))
+
+pub task_is : (r : Result Task WordsFault) (words : List Text) (name : Text) (values : List Row) → IsCommand words → IsCallOf words name values
+    → IfOk r (IsTaskFor name values) → IfOk r (λ task. IsCommand words × IsTaskOf words task)
+task_is (Ok task) words name values clean call is = (clean, (name, values, call, is))
+task_is (Err fault) words name values clean call is = tt
+
+pub is_bad_ring : {T : Type 0} (r : Result T WordsFault) (words : List Text) (name : Text) (values : List Row) → IsCommand words → IsCallOf words name values
+    → IfOk r (λ _. IsRingName name → ¬ IsRingBad values)
+    → IfErr r (λ fault. (fault ≡ OutOfMemory) ⊎ ((fault ≡ BadRing) × IsRingName name × IsRingBad values))
+    → MemoryAside r (IsErrOf r BadRing ↔ HasBadRing words)
+is_bad_ring (Ok task) words name values clean call good refused aside =
+    ((λ is. absurd (not_err is)), λ bad. let met = bad_met words name values call bad in absurd (good met.0 met.1))
+  where
+    not_err : Ok task ≡ Err BadRing → ⊥
+    not_err is = cc
+is_bad_ring (Err fault) words name values clean call good (inl memory) aside = absurd (aside (ap Err memory))
+is_bad_ring (Err fault) words name values clean call good (inr bad) aside = ((λ _. (clean, name, values, call, bad.1, bad.2)), λ _. ap Err bad.0)
+
+-- a fault of a task is no text of `clap`
+pub no_text : {T X : Type 0} (r : Result T WordsFault) (name : Text) (values : List Row)
+    → IfErr r (λ fault. (fault ≡ OutOfMemory) ⊎ ((fault ≡ BadRing) × IsRingName name × IsRingBad values)) → IsUsage r ⊎ IsHelp r → X
+no_text (Ok task) name values refused (inl is) = let same = is.1 in cc
+no_text (Ok task) name values refused (inr is) = let same = is.1 in cc
+no_text (Err fault) name values (inl memory) (inl is) = let same = is.1 in cc
+no_text (Err fault) name values (inl memory) (inr is) = let same = is.1 in cc
+no_text (Err fault) name values (inr bad) (inl is) = let same = is.1 in let ring = bad.0 in cc
+no_text (Err fault) name values (inr bad) (inr is) = let same = is.1 in let ring = bad.0 in cc
