@@ -1,5 +1,5 @@
 -- The commands of the tables, one after another.
-use Rattle.std.proofs.Common.{ap, ap₂, ℕ, ◌+◌, ◌<◌, ◌≡◌, ◌∙◌, ◌||◌, Bool, false, List, [], ◌∷◌, map, length, get_or, drop, sym, add-one, append_assoc, append-nil, arith, refl, ◌++◌}
+use Rattle.std.proofs.Common.{ap, ap₂, ℕ, ◌+◌, ◌<◌, ◌≡◌, ◌∙◌, ◌||◌, false, List, [], ◌∷◌, map, length, get_or, drop, sym, add-one, append_assoc, append-nil, arith, refl, ◌++◌}
 use Rattle.std.proofs.Math.Seq.{drop-cons}
 use Rattle.std.proofs.lemmas.List.{get_or-map, length-map}
 use Rattle.clap.specs.Words.{AddsArg, AddsSubcommand, App, Rule, Shape, Text, app_of, new_app, rule_of, with_rule, with_subcommand}

@@ -1,6 +1,5 @@
 use Rattle.std.proofs.Common.{drop, map}
 use Rattle.std.specs.Prelude.{[]}
-use Rattle.task_words.specs.CommandLine.{command_of}
 use Rattle.task_words.specs.Rows.{command_in, rule_in}
 use Rattle.task_words.proofs.Commands.{IsCompletedBy}
 use Rattle.task_words.proofs.command_line.command.Given as goal
