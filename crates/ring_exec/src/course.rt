@@ -13,14 +13,20 @@ use std::sync::Wait;
 use std::thread::{JoinHandle, Scope, Threads};
 
 // A run that has reached one of its segments: the end of the border before it, unless the run can't
-// go on; the end of the last segment's border; the segments that are not started, the next one
-// last; and the threads of the others.
+// go on; the end of the last segment's border; and its segments and threads.
 #[derive(Drop)]
 pub(crate) struct Course<'a, R, G, B: BorderName, L: BorderName> {
     pub(crate) shared: Shared<'a, R, G>,
-    pub(crate) index: u32,
     pub(crate) before: Option<Edge<Msg<'a>, B>>,
     pub(crate) last: End<Msg<'a>, L>,
+    pub(crate) progress: Progress<'a>,
+}
+
+// How far a run is: the index of the next segment, the segments that are not started, the next one
+// last; the threads of those that are; and the outcomes.
+#[derive(Drop)]
+pub(crate) struct Progress<'a> {
+    pub(crate) index: u32,
     pub(crate) waiting: Vec<Segment<'a>>,
     pub(crate) threads: Vec<JoinHandle<Outcome<'a>>>,
     pub(crate) joined: Joined<'a>,
@@ -47,40 +53,30 @@ pub(crate) fn started<
 {
     let Course {
         shared,
-        index,
         before,
         last,
-        mut waiting,
-        mut threads,
-        mut joined,
+        mut progress,
     } = course;
-    let mut next = None;
-    if let Some(Edge { end, closer }) = before {
-        match start_next::<R, G, B, N>(
-            scope,
-            shared,
-            index,
-            &mut waiting,
-            end,
-            &mut threads,
-            blanks,
-        ) {
-            Ok(edge) => next = Some(edge),
-            Err(fault) => {
-                closer.close(shared.rt);
-                last.close(shared.rt);
-                joined.blame(fault);
+    let next = match before {
+        Some(Edge { end, closer }) => {
+            match start_next::<R, G, B, N>(scope, shared, &mut progress, end, blanks) {
+                Ok(edge) => Some(edge),
+                Err(fault) => {
+                    closer.close(shared.rt);
+                    last.close(shared.rt);
+                    progress.joined.blame(fault);
+                    None
+                }
             }
         }
-    }
+        None => None,
+    };
+    progress.index = progress.index.wrapping_add(1);
     Course {
         shared,
-        index: index.wrapping_add(1),
         before: next,
         last,
-        waiting,
-        threads,
-        joined,
+        progress,
     }
 }
 
@@ -97,22 +93,20 @@ fn start_next<
 >(
     scope: &Scope<'s, &'e ()>,
     shared: Shared<'a, R, G>,
-    index: u32,
-    waiting: &mut Vec<Segment<'a>>,
+    progress: &mut Progress<'a>,
     left: End<Msg<'a>, B>,
-    threads: &mut Vec<JoinHandle<Outcome<'a>>>,
     blanks: Blanks,
 ) -> Result<Edge<Msg<'a>, N>, CourseFault>
     requires right { (blanks.right.name ≡ N.rightward) × (blanks.right.parts ≡ 1) }
     requires left { (blanks.left.name ≡ N.leftward) × (blanks.left.parts ≡ 1) }
 {
-    let Some(segment) = waiting.pop() else {
+    let Some(segment) = progress.waiting.pop() else {
         return Err(CourseFault::Segment(SegmentFault::Stranger));
     };
     let (right, next) = new_border::<Msg<'a>, N>(shared.alloc, blanks)?;
     let runner = Runner {
         shared,
-        index,
+        index: progress.index,
         segment,
         left,
         right,
@@ -120,7 +114,7 @@ fn start_next<
     let Some(thread) = start_one(scope, runner) else {
         return Err(CourseFault::NoThread);
     };
-    if threads.push(thread).is_err() {
+    if progress.threads.push(thread).is_err() {
         next.closer.close(shared.rt);
         return Err(CourseFault::Segment(SegmentFault::OutOfMemory));
     }
@@ -147,28 +141,25 @@ fn start_one<
 pub(crate) fn ended<'a, R: Threads + Wait, G: Gate, B: BorderName, L: BorderName>(
     course: Course<'a, R, G, B, L>,
 ) -> Joined<'a>
-    ensures { result.fault ≡ Some NoThread → course.entry.joined.fault ≡ Some NoThread }
+    ensures { result.fault ≡ Some NoThread → course.entry.progress.joined.fault ≡ Some NoThread }
 {
     let Course {
         shared,
-        index,
         before,
         last: right,
-        mut waiting,
-        mut threads,
-        mut joined,
+        mut progress,
     } = course;
     if let Some(Edge { end: left, closer }) = before {
-        match waiting.pop() {
+        match progress.waiting.pop() {
             Some(segment) => {
                 let runner = Runner {
                     shared,
-                    index,
+                    index: progress.index,
                     segment,
                     left,
                     right,
                 };
-                joined = joined.add(runner.run());
+                progress.joined.add(runner.run());
             }
             None => {
                 closer.close(shared.rt);
@@ -176,8 +167,15 @@ pub(crate) fn ended<'a, R: Threads + Wait, G: Gate, B: BorderName, L: BorderName
             }
         }
     }
-    while let Some(thread) = threads.pop() {
-        joined = joined.add(thread.join(shared.rt));
+    joined(shared.rt, progress)
+}
+
+// Joins the threads that were started.
+fn joined<'a, R: Threads + Wait>(rt: &R, mut progress: Progress<'a>) -> Joined<'a>
+    ensures { result.fault ≡ Some NoThread → progress.entry.joined.fault ≡ Some NoThread }
+{
+    while let Some(thread) = progress.threads.pop() {
+        progress.joined.add(thread.join(rt));
     }
-    joined
+    progress.joined
 }

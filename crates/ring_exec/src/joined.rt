@@ -30,11 +30,11 @@ impl<'a> Joined<'a> {
 
     // Adds the outcome of a segment. All that were added before come after it on the ring, so that
     // its fault takes precedence over theirs. Without memory to keep it, it has a fault too.
-    pub(crate) fn add(mut self, outcome: Outcome<'a>) -> Joined<'a>
-        ensures at_fault { IfErr outcome.entry (λ fault. result.fault ≡ Some (blamed self.entry.fault (OfSegment fault))) }
-        ensures at_segment { OnOk outcome.entry ((result.fault ≡ self.entry.fault)
-            ⊎ (result.fault ≡ Some (blamed self.entry.fault (OfSegment NoMemory)))) }
-        ensures no_thread { result.fault ≡ Some NoThread → self.entry.fault ≡ Some NoThread }
+    pub(crate) fn add(&mut self, outcome: Outcome<'a>)
+        ensures at_fault { IfErr outcome.entry (λ fault. self.new.fault ≡ Some (blamed self.old.fault (OfSegment fault))) }
+        ensures at_segment { OnOk outcome.entry ((self.new.fault ≡ self.old.fault)
+            ⊎ (self.new.fault ≡ Some (blamed self.old.fault (OfSegment NoMemory)))) }
+        ensures no_thread { self.new.fault ≡ Some NoThread → self.old.fault ≡ Some NoThread }
     {
         match outcome {
             Ok(segment) => {
@@ -44,7 +44,6 @@ impl<'a> Joined<'a> {
             }
             Err(fault) => self.blame(CourseFault::Segment(fault)),
         }
-        self
     }
 
     // Returns the segments, or the fault that takes precedence.

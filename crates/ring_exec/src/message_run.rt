@@ -3,7 +3,7 @@ ghost use Rattle.node_program.specs.GlobalRounds.{channels_of};
 ghost use Rattle.ring_segments.specs.SegmentCounts.{IsSegmentCount};
 
 use crate::border_name::{Blanks, BorderName};
-use crate::course::{Course, ended};
+use crate::course::{Course, Progress, ended};
 use crate::end::new_border;
 use crate::fault::{CourseFault, RunFault, run_fault};
 use crate::gathering::gather;
@@ -98,12 +98,14 @@ fn run_segments<'a, R: Threads + Wait + Sync, G: Gate + Sync, L: BorderName + Se
     let (last, before) = new_border::<Msg<'a>, L>(alloc, blanks)?;
     let course = Course {
         shared,
-        index: 0,
         before: Some(before),
         last,
-        waiting,
-        threads,
-        joined,
+        progress: Progress {
+            index: 0,
+            waiting,
+            threads,
+            joined,
+        },
     };
     let joined = if segments == 1 {
         ended(course)

@@ -257,8 +257,8 @@ module _ {M : Type 1} (𝓤 : Ura M) (𝓛 : Logic 𝓤) (𝓜 : Model 𝓤 𝓛
       abbrev before_laws : Laws Before
       before_laws = stage_laws.the_row_laws (named_lft 9 0 tt κs) (named_lft 9 1 tt κs) (named_lft 9 2 tt κs) (named_lft 9 3 tt κs) (param 0 R) (param 1 G) (param 2 o.B) (param 3 o.L) o.B-ghosts o.L-ghosts (param_laws 0 R RL) (param_laws 1 G GL) (param_laws 2 o.B o.B-laws) (param_laws 3 o.L o.L-laws)
 
-      -- nothing is said of it: field by field of a stage (scope, course) and of a course (shared, index, before, last,
-      -- waiting, threads, joined)
+      -- nothing is said of it: field by field of a stage (scope, course) and of a course (shared, before, last,
+      -- progress)
       quiet_before : Mute (Before.exit no)
       quiet_before =
           struct-Mute (stage.the_type (named_lft 9 0 tt κs) (named_lft 9 1 tt κs) (named_lft 9 2 tt κs) (named_lft 9 3 tt κs) (param 0 R) (param 1 G) (param 2 o.B) (param 3 o.L) o.B-ghosts o.L-ghosts) no (
@@ -267,11 +267,8 @@ module _ {M : Type 1} (𝓤 : Ura M) (𝓛 : Logic 𝓤) (𝓜 : Model 𝓤 𝓛
               Mute-fields no (struct.fields (course.the_type (named_lft 9 3 tt κs) (param 0 R) (param 1 G) (param 2 o.B) (param 3 o.L) o.B-ghosts o.L-ghosts)) (
                 Mute-still,
                 (
-                  Mute-still,
-                  (
-                    Mute-variants no (enum.variants (option.the_type (edge.the_row (message.the_row (named_lft 9 3 tt κs)) (param 2 o.B) dated.ghosts o.B-ghosts))) (tt, ((Mute-flat (λ x w. refl) (λ x. tt), tt), tt)),
-                    (Mute-flat (λ x w. refl) (λ x. tt), (Mute-flat (λ x w. refl) (λ x. tt), (Mute-flat (λ x w. refl) (λ x. tt), (Mute-flat (λ x w. refl) (λ x. tt), tt)))),
-                  ),
+                  Mute-variants no (enum.variants (option.the_type (edge.the_row (message.the_row (named_lft 9 3 tt κs)) (param 2 o.B) dated.ghosts o.B-ghosts))) (tt, ((Mute-flat (λ x w. refl) (λ x. tt), tt), tt)),
+                  (Mute-flat (λ x w. refl) (λ x. tt), (Mute-flat (λ x w. refl) (λ x. tt), tt)),
                 ),
               ),
               tt,
