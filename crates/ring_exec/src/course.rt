@@ -32,6 +32,20 @@ pub(crate) struct Progress<'a> {
     pub(crate) joined: Joined<'a>,
 }
 
+impl<'a> Progress<'a> {
+    // Keeps the thread of the segment that was started, if the start was not refused.
+    fn keep(&mut self, thread: Option<JoinHandle<Outcome<'a>>>) -> Result<(), CourseFault> {
+        self.index = self.index.wrapping_add(1);
+        let Some(thread) = thread else {
+            return Err(CourseFault::NoThread);
+        };
+        match self.threads.push(thread) {
+            Ok(()) => Ok(()),
+            Err(_) => Err(CourseFault::Segment(SegmentFault::OutOfMemory)),
+        }
+    }
+}
+
 // Makes the next segment's right border and starts the segment. If one of the two is refused, the
 // run can't go on: the borders before the segment and after the last one are closed.
 pub(crate) fn started<
@@ -57,21 +71,22 @@ pub(crate) fn started<
         last,
         mut progress,
     } = course;
-    let next = match before {
-        Some(Edge { end, closer }) => {
-            match start_next::<R, G, B, N>(scope, shared, &mut progress, end, blanks) {
-                Ok(edge) => Some(edge),
-                Err(fault) => {
-                    closer.close(shared.rt);
-                    last.close(shared.rt);
-                    progress.joined.blame(fault);
-                    None
-                }
-            }
-        }
-        None => None,
+    let Some(edge) = before else {
+        return Course {
+            shared,
+            before: None,
+            last,
+            progress,
+        };
     };
-    progress.index = progress.index.wrapping_add(1);
+    let next = match start_next::<R, G, B, N>(scope, shared, &mut progress, edge, blanks) {
+        Ok(next) => Some(next),
+        Err(fault) => {
+            last.close(shared.rt);
+            progress.joined.blame(fault);
+            None
+        }
+    };
     Course {
         shared,
         before: next,
@@ -81,7 +96,7 @@ pub(crate) fn started<
 }
 
 // Starts the next segment between the border before it and a new one, and returns the other end of
-// the new one.
+// the new one, or closes the border before.
 fn start_next<
     's,
     'e,
@@ -94,16 +109,21 @@ fn start_next<
     scope: &Scope<'s, &'e ()>,
     shared: Shared<'a, R, G>,
     progress: &mut Progress<'a>,
-    left: End<Msg<'a>, B>,
+    edge: Edge<Msg<'a>, B>,
     blanks: Blanks,
 ) -> Result<Edge<Msg<'a>, N>, CourseFault>
     requires right { (blanks.right.name ≡ N.rightward) × (blanks.right.parts ≡ 1) }
     requires left { (blanks.left.name ≡ N.leftward) × (blanks.left.parts ≡ 1) }
 {
     let Some(segment) = progress.waiting.pop() else {
+        edge.close(shared.rt);
         return Err(CourseFault::Segment(SegmentFault::Stranger));
     };
-    let (right, next) = new_border::<Msg<'a>, N>(shared.alloc, blanks)?;
+    let Ok((right, next)) = new_border::<Msg<'a>, N>(shared.alloc, blanks) else {
+        edge.close(shared.rt);
+        return Err(CourseFault::Segment(SegmentFault::OutOfMemory));
+    };
+    let Edge { end: left, closer } = edge;
     let runner = Runner {
         shared,
         index: progress.index,
@@ -111,12 +131,11 @@ fn start_next<
         left,
         right,
     };
-    let Some(thread) = start_one(scope, runner) else {
-        return Err(CourseFault::NoThread);
-    };
-    if progress.threads.push(thread).is_err() {
-        next.closer.close(shared.rt);
-        return Err(CourseFault::Segment(SegmentFault::OutOfMemory));
+    let thread = start_one(scope, runner);
+    if let Err(fault) = progress.keep(thread) {
+        closer.close(shared.rt);
+        next.close(shared.rt);
+        return Err(fault);
     }
     Ok(next)
 }
@@ -149,23 +168,25 @@ pub(crate) fn ended<'a, R: Threads + Wait, G: Gate, B: BorderName, L: BorderName
         last: right,
         mut progress,
     } = course;
-    if let Some(Edge { end: left, closer }) = before {
-        match progress.waiting.pop() {
+    match before {
+        Some(edge) => match progress.waiting.pop() {
             Some(segment) => {
                 let runner = Runner {
                     shared,
                     index: progress.index,
                     segment,
-                    left,
+                    left: edge.end,
                     right,
                 };
                 progress.joined.add(runner.run());
             }
             None => {
-                closer.close(shared.rt);
+                edge.close(shared.rt);
                 right.close(shared.rt);
+                drop(right);
             }
-        }
+        },
+        None => drop(right),
     }
     joined(shared.rt, progress)
 }

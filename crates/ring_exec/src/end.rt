@@ -67,6 +67,13 @@ pub(crate) struct Edge<M: Dated, N: BorderName> {
     pub(crate) closer: Arc<Border<M, RightLedger<N>, LeftLedger<N>>>,
 }
 
+impl<M: Dated + Copy, N: BorderName> Edge<M, N> {
+    // Closes the border and gives up the end.
+    pub(crate) fn close<R: Wait>(self, rt: &R) {
+        self.closer.close(rt);
+    }
+}
+
 // Returns a new border's two ends: that of its left neighbour, which puts rightward, and that of
 // its right one.
 pub(crate) fn new_border<M: Dated + Copy, N: BorderName>(
