@@ -2,7 +2,7 @@
 ghost use Rattle.std.specs.Prelude.{◌≡◌, ◌≤◌, ◌⊎◌, IfErr};
 ghost use Rattle.border_exchange.specs.SeatState.{IsNext};
 ghost use Rattle.node_program.specs.declared.limits.TheConstants.{MAX_ROUNDS};
-ghost use Rattle.ring_exec.specs.declared.end.Stop.TheVariants.{BorderClosed, Fault};
+ghost use Rattle.ring_exec.specs.declared.end.Stop.TheVariants.{Fault};
 ghost use Rattle.ring_exec.specs.declared.fault.SegmentFault.TheVariants.{Stranger};
 
 use crate::border_name::{Blanks, BorderName, LeftLedger, RightLedger};
@@ -44,14 +44,10 @@ impl<M: Dated + Copy, N: BorderName> End<M, N> {
         }
     }
 
-    // Takes the message of this side and round, and waits for it.
-    pub(crate) fn take<R: Wait>(&self, rt: &R, side: Side, round: u32) -> Result<M, Stop>
-        ensures { IfErr result (λ stop. stop ≡ BorderClosed) }
-    {
-        match self.border.take(rt, side, round) {
-            Some(message) => Ok(message),
-            None => Err(Stop::BorderClosed),
-        }
+    // Takes the message of this side and round, and waits for it. Returns `None` if the border is
+    // closed.
+    pub(crate) fn take<R: Wait>(&self, rt: &R, side: Side, round: u32) -> Option<M> {
+        self.border.take(rt, side, round)
     }
 
     // Closes the border for both neighbours.

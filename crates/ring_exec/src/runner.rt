@@ -53,16 +53,33 @@ impl<'s, 'a, R: Wait, G: Gate, A: BorderName, B: BorderName> Runner<
             mut left,
             mut right,
         } = self;
-        while segment.round() < segment.rounds() {
-            shared.gate.entered(index, segment.round());
-            if let Err(stop) = next_round(shared.rt, &mut segment, &mut left, &mut right) {
-                left.close(shared.rt);
-                right.close(shared.rt);
-                return outcome_of(segment, stop);
-            }
+        let stopped = run_rounds(shared, index, &mut segment, &mut left, &mut right);
+        drop(left);
+        drop(right);
+        match stopped {
+            Ok(()) => Ok(segment),
+            Err(stop) => outcome_of(segment, stop),
         }
-        Ok(segment)
     }
+}
+
+// Runs a segment to its last round. If it stops before, closes both borders.
+fn run_rounds<'a, R: Wait, G: Gate, A: BorderName, B: BorderName>(
+    shared: Shared<'_, R, G>,
+    index: u32,
+    segment: &mut Segment<'a>,
+    left: &mut End<Msg<'a>, A>,
+    right: &mut End<Msg<'a>, B>,
+) -> Result<(), Stop> {
+    while segment.round() < segment.rounds() {
+        shared.gate.entered(index, segment.round());
+        if let Err(stop) = next_round(shared.rt, segment, left, right) {
+            left.close(shared.rt);
+            right.close(shared.rt);
+            return Err(stop);
+        }
+    }
+    Ok(())
 }
 
 // Returns the outcome of a segment that stops. A closed border is no fault of the segment.
@@ -90,8 +107,12 @@ fn next_round<'a, R: Wait, A: BorderName, B: BorderName>(
     let (rightward, leftward) = segment.outgoing();
     right.put(rt, rightward)?;
     left.put(rt, leftward)?;
-    let from_left = left.take(rt, Side::Rightward, round)?;
-    let from_right = right.take(rt, Side::Leftward, round)?;
+    let Some(from_left) = left.take(rt, Side::Rightward, round) else {
+        return Err(Stop::BorderClosed);
+    };
+    let Some(from_right) = right.take(rt, Side::Leftward, round) else {
+        return Err(Stop::BorderClosed);
+    };
     match segment.advance(from_left, from_right) {
         Ok(()) => Ok(()),
         Err(_) => Err(Stop::Fault(SegmentFault::Stranger)),
