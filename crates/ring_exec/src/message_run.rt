@@ -1,11 +1,11 @@
-ghost use Rattle.std.specs.Prelude.{◌≡◌, ◌+◌, ◌-◌, ◌<◌, ◌↔◌, ℕ, IfOk, OnOk, IfErr, IfSome, IsErrOf, length, vec_len, slice_get};
+ghost use Rattle.std.specs.Prelude.{◌≡◌, ◌+◌, ◌-◌, ◌<◌, ◌↔◌, ℕ, None, IfOk, OnOk, IfErr, IfSome, IsErrOf, length, vec_len, slice_get};
 ghost use Rattle.node_program.specs.GlobalRounds.{channels_of};
 ghost use Rattle.ring_segments.specs.SegmentCounts.{IsSegmentCount};
 
 use crate::border_name::{Blanks, BorderName};
 use crate::course::{Course, Progress, ended};
 use crate::end::new_border;
-use crate::fault::{CourseFault, RunFault, run_fault};
+use crate::fault::{CourseFault, RunFault, SegmentFault, run_fault};
 use crate::gathering::gather;
 use crate::joined::Joined;
 use crate::relay::run_all;
@@ -70,51 +70,66 @@ fn run_named<'a, R: Threads + Wait + Sync, G: Gate + Sync, L: BorderName + Send 
     ensures channels { IfOk result (λ channels. channels.items ≡ channels_of plan.now.program ring.now.places) }
     ensures alone { IfErr result (λ fault. fault ≡ CourseFault.NoThread → 1 < segments) }
 {
-    let waiting = waiting_segments(shared.alloc, plan, ring, segments)?;
-    run_segments::<R, G, L>(shared, plan, ring, segments, waiting, blanks)
+    let mut channels = vec![in shared.alloc; 0; ring.len() as usize]?;
+    let found = run_segments::<R, G, L>(shared, plan, ring, segments, blanks)?;
+    gather(plan, ring, segments, found, &mut channels)?;
+    Ok(channels)
 }
 
-// Runs these segments, with the first one last. That they are those of the plan and the ring is
-// checked once they have ended. All memory is allocated before the first thread starts. A single
-// segment runs on this thread, and none is started.
+// Runs the segments, and returns those that ended, with the first one last. That they are those of
+// the plan and the ring is checked later. All memory is allocated before the first thread starts. A
+// single segment runs on this thread, and none is started.
 fn run_segments<'a, R: Threads + Wait + Sync, G: Gate + Sync, L: BorderName + Send + Sync + 'a>(
     shared: Shared<'a, R, G>,
-    plan: &Plan,
-    ring: &Ring,
+    plan: &'a Plan,
+    ring: &'a Ring,
     segments: u32,
-    waiting: Vec<Segment<'a>>,
     blanks: Blanks,
-) -> Result<Vec<u32>, CourseFault>
+) -> Result<Vec<Segment<'a>>, CourseFault>
+    requires ids { ring.now.ids ≡ plan.now.ids }
+    requires rounds { ring.now.rounds ≡ length plan.now.program.steps }
     requires range { IsSegmentCount segments (length ring.now.places) }
     requires right { (blanks.right.name ≡ L.rightward) × (blanks.right.parts ≡ 1) }
     requires left { (blanks.left.name ≡ L.leftward) × (blanks.left.parts ≡ 1) }
-    ensures channels { IfOk result (λ channels. channels.items ≡ channels_of plan.now.program ring.now.places) }
     ensures alone { IfErr result (λ fault. fault ≡ CourseFault.NoThread → 1 < segments) }
 {
-    let alloc = shared.alloc;
-    let mut channels = vec![in alloc; 0; ring.len() as usize]?;
-    let joined = Joined::new(alloc, segments)?;
-    let threads = Vec::with_capacity(alloc, segments as usize)?;
-    let (last, before) = new_border::<Msg<'a>, L>(alloc, blanks)?;
+    let progress = no_progress(shared.alloc, plan, ring, segments)?;
+    let (last, before) = new_border::<Msg<'a>, L>(shared.alloc, blanks)?;
     let course = Course {
         shared,
         before: Some(before),
         last,
-        progress: Progress {
-            index: 0,
-            waiting,
-            threads,
-            joined,
-        },
+        progress,
     };
     let joined = if segments == 1 {
         ended(course)
     } else {
         run_all(course, segments)
     };
-    let found = joined.into_segments()?;
-    gather(plan, ring, segments, found, &mut channels)?;
-    Ok(channels)
+    joined.into_segments()
+}
+
+// A run before its first segment has started, with room for its threads and their outcomes.
+fn no_progress<'a>(
+    alloc: Global,
+    plan: &'a Plan,
+    ring: &'a Ring,
+    segments: u32,
+) -> Result<Progress<'a>, SegmentFault>
+    requires ids { ring.now.ids ≡ plan.now.ids }
+    requires rounds { ring.now.rounds ≡ length plan.now.program.steps }
+    requires range { IsSegmentCount segments (length ring.now.places) }
+    ensures { IfOk result (λ progress. progress.joined.fault ≡ None) }
+{
+    let waiting = waiting_segments(alloc, plan, ring, segments)?;
+    let threads = Vec::with_capacity(alloc, segments as usize)?;
+    let joined = Joined::new(alloc, segments)?;
+    Ok(Progress {
+        index: 0,
+        waiting,
+        threads,
+        joined,
+    })
 }
 
 // The segments of a run before their first round, with the first one last.
