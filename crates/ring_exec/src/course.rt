@@ -16,7 +16,7 @@ use std::thread::{JoinHandle, Scope, Threads};
 // go on; the end of the last segment's border; and its segments and threads.
 #[derive(Drop)]
 pub(crate) struct Course<'a, R, G, B: BorderName, L: BorderName> {
-    pub(crate) shared: Shared<'a, R, G>,
+    pub(crate) shared: &'a Shared<'a, R, G>,
     pub(crate) before: Option<Edge<Msg<'a>, B>>,
     pub(crate) last: End<Msg<'a>, L>,
     pub(crate) progress: Progress<'a>,
@@ -107,7 +107,7 @@ fn start_next<
     N: BorderName + Send + Sync + 'a,
 >(
     scope: &Scope<'s, &'e ()>,
-    shared: Shared<'a, R, G>,
+    shared: &'a Shared<'a, R, G>,
     progress: &mut Progress<'a>,
     edge: Edge<Msg<'a>, B>,
     blanks: Blanks,

@@ -48,7 +48,7 @@ pub fn run<'a, R: Threads + Wait + Sync, G: Gate + Sync>(
         return Err(RunFault::SegmentsOutOfRange);
     }
     let shared = Shared { rt, alloc, gate };
-    match run_named::<R, G, Brand>(shared, plan, ring, segments, Blanks::new()) {
+    match run_named::<R, G, Brand>(&shared, plan, ring, segments, Blanks::new()) {
         Ok(channels) => Ok(channels),
         Err(fault) => Err(run_fault(fault)),
     }
@@ -56,7 +56,7 @@ pub fn run<'a, R: Threads + Wait + Sync, G: Gate + Sync>(
 
 // Runs with the name L for the last border.
 fn run_named<'a, R: Threads + Wait + Sync, G: Gate + Sync, L: BorderName + Send + Sync + 'a>(
-    shared: Shared<'a, R, G>,
+    shared: &'a Shared<'a, R, G>,
     plan: &'a Plan,
     ring: &'a Ring,
     segments: u32,
@@ -80,7 +80,7 @@ fn run_named<'a, R: Threads + Wait + Sync, G: Gate + Sync, L: BorderName + Send 
 // the plan and the ring is checked later. All memory is allocated before the first thread starts. A
 // single segment runs on this thread, and none is started.
 fn run_segments<'a, R: Threads + Wait + Sync, G: Gate + Sync, L: BorderName + Send + Sync + 'a>(
-    shared: Shared<'a, R, G>,
+    shared: &'a Shared<'a, R, G>,
     plan: &'a Plan,
     ring: &'a Ring,
     segments: u32,
@@ -94,7 +94,9 @@ fn run_segments<'a, R: Threads + Wait + Sync, G: Gate + Sync, L: BorderName + Se
     ensures alone { IfErr result (λ fault. fault ≡ CourseFault.NoThread → 1 < segments) }
 {
     let progress = no_progress(shared.alloc, plan, ring, segments)?;
-    let (last, before) = new_border::<Msg<'a>, L>(shared.alloc, blanks)?;
+    let Ok((last, before)) = new_border::<Msg<'a>, L>(shared.alloc, blanks) else {
+        return Err(CourseFault::Segment(SegmentFault::OutOfMemory));
+    };
     let course = Course {
         shared,
         before: Some(before),

@@ -16,7 +16,7 @@ use std::sync::Wait;
 pub(crate) type Outcome<'a> = Result<Segment<'a>, SegmentFault>;
 
 // What all segments of a run share.
-#[derive_where(Clone, Copy)]
+#[derive(Drop)]
 pub(crate) struct Shared<'s, R, G> {
     pub(crate) rt: &'s R,
     pub(crate) alloc: Global,
@@ -28,7 +28,7 @@ pub(crate) struct Shared<'s, R, G> {
 // thread.
 #[derive(Drop)]
 pub(crate) struct Runner<'s, S, M: Dated, R, G, A: BorderName, B: BorderName> {
-    pub(crate) shared: Shared<'s, R, G>,
+    pub(crate) shared: &'s Shared<'s, R, G>,
     pub(crate) index: u32,
     pub(crate) segment: S,
     pub(crate) left: End<M, A>,
@@ -65,7 +65,7 @@ impl<'s, 'a, R: Wait, G: Gate, A: BorderName, B: BorderName> Runner<
 
 // Runs a segment to its last round. If it stops before, closes both borders.
 fn run_rounds<'a, R: Wait, G: Gate, A: BorderName, B: BorderName>(
-    shared: Shared<'_, R, G>,
+    shared: &Shared<'_, R, G>,
     index: u32,
     segment: &mut Segment<'a>,
     left: &mut End<Msg<'a>, A>,
