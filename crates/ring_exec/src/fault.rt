@@ -21,7 +21,7 @@ pub enum RunFault {
 }
 
 // Why a segment did not reach its last round, or could not be kept.
-#[derive(Clone, Copy, PartialEq, Eq, Drop)]
+#[derive(Clone, Copy, Drop)]
 pub(crate) enum SegmentFault {
     // Memory for it, for one of its messages or for the border to its right was refused.
     OutOfMemory,
@@ -30,7 +30,7 @@ pub(crate) enum SegmentFault {
 }
 
 // Why a course gave no channels. The number of segments is in its range by then.
-#[derive(Clone, Copy, PartialEq, Eq, Drop)]
+#[derive(Clone, Copy, Drop)]
 pub(crate) enum CourseFault {
     Segment(SegmentFault),
     // The start of a segment's thread was refused.

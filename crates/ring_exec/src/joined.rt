@@ -62,7 +62,7 @@ impl<'a> Joined<'a> {
         ensures fault { self.new.fault ≡ Some (blamed self.old.fault fault) }
         ensures segments { self.new.segments ≡ self.old.segments }
     {
-        if self.fault != Some(CourseFault::NoThread) {
+        if !matches!(self.fault, Some(CourseFault::NoThread)) {
             self.fault = Some(fault);
         }
     }
