@@ -7,7 +7,6 @@ ghost use Rattle.ring_exec.specs.declared.fault.CourseFault.TheVariants.{Segment
 use crate::fault::{CourseFault, SegmentFault};
 use crate::runner::Outcome;
 use ring_segments::Segment;
-use std::alloc::Global;
 
 // The segments that ended, from the last to the first, and the fault that takes precedence.
 #[derive(Drop)]
@@ -17,15 +16,14 @@ pub(crate) struct Joined<'a> {
 }
 
 impl<'a> Joined<'a> {
-    // No outcomes yet, with room for this many segments.
-    pub(crate) fn new(alloc: Global, segments: u32) -> Result<Joined<'a>, SegmentFault>
-        ensures { IfOk result (λ joined. joined.fault ≡ None) }
+    // No outcomes yet, with this empty list for the segments.
+    pub(crate) fn new(segments: Vec<Segment<'a>>) -> Joined<'a>
+        ensures { result.fault ≡ None }
     {
-        let segments = Vec::with_capacity(alloc, segments as usize)?;
-        Ok(Joined {
+        Joined {
             segments,
             fault: None,
-        })
+        }
     }
 
     // Adds the outcome of a segment. All that were added before come after it on the ring, so that

@@ -125,12 +125,12 @@ fn no_progress<'a>(
 {
     let waiting = waiting_segments(alloc, plan, ring, segments)?;
     let threads = Vec::with_capacity(alloc, segments as usize)?;
-    let joined = Joined::new(alloc, segments)?;
+    let ended = Vec::with_capacity(alloc, segments as usize)?;
     Ok(Progress {
         index: 0,
         waiting,
         threads,
-        joined,
+        joined: Joined::new(ended),
     })
 }
 
