@@ -288,3 +288,9 @@ loop-block-preserved g c =
           (ap (λ columns. columns.states) put.own) before.own;
       gathered = gathered g d;
     }
+
+pub returns-then-place-len-clause-wide : goal.returns-then-place-len-clause-wide
+returns-then-place-len-clause-wide g c = wide g (goal.at.returns-then-place-len-clause-wide g c).After-put_lasts
+
+pub returns-in_default-clause-wide : goal.returns-in_default-clause-wide
+returns-in_default-clause-wide g c = wide g (goal.at.returns-in_default-clause-wide g c).After-put_lasts
