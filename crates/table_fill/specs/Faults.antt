@@ -1,9 +1,9 @@
 -- The fault of a filling. No public contract cites this file.
 use Rattle.table_fill.specs.declared.fault.FillFault.{FillFault}
 use Rattle.table_fill.specs.declared.fault.FillFault.TheVariants as fill
-use Rattle.job_crew.specs.declared.fault.WorkFault.TheVariants as work
-use Rattle.job_crew.specs.declared.fault.CrewFault.{CrewFault}
-use Rattle.job_crew.specs.declared.fault.CrewFault.TheVariants.{Work, NoThread}
+use Rattle.shared_memo.specs.declared.fault.WorkFault.TheVariants as work
+use Rattle.shared_memo.specs.declared.fault.CrewFault.{CrewFault}
+use Rattle.shared_memo.specs.declared.fault.CrewFault.TheVariants.{Work, NoThread}
 
 -- the fault that the caller gets for one of the crew
 abbrev pub fill_fault_of : CrewFault → FillFault

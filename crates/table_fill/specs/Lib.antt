@@ -1,5 +1,5 @@
 -- The definitions that the contracts cite: what a pass knows when a table is filled; and what private contracts say of
--- faults, of a missing block and of memory to read a table. The number of workers is in job_crew, the table of a program in table_entries.
+-- faults, of a missing block and of memory to read a table. The number of workers is in shared_memo, the table of a program in table_entries.
 pub mod Faults
 pub mod Filled
 pub mod MissingBlocks

@@ -8,8 +8,7 @@ ghost use Rattle.table_fill.specs.declared.cell.Made.TheVariants.{Fresh};
 ghost use Rattle.window_states.specs.Entries.{Asked, Entries};
 
 use crate::cell_maker::CellMaker;
-use job_crew::WorkFault;
-use shared_memo::Installed;
+use shared_memo::{Installed, WorkFault};
 use std::alloc::Global;
 use unroll::MakeFault;
 use win_index::{MAX_BLOCKS, window_of_number};

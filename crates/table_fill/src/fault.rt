@@ -1,7 +1,7 @@
 ghost use Rattle.std.specs.Prelude.{◌≡◌, ◌≢◌};
 ghost use Rattle.table_fill.specs.Faults.{fill_fault_of};
 
-use job_crew::{CrewFault, WorkFault};
+use shared_memo::{CrewFault, WorkFault};
 
 /// Why a table was not compiled.
 #[derive(Clone, Copy, Debug, PartialEq, Eq)]

@@ -1,12 +1,11 @@
 // What workers share that fill a memo.
 ghost use Rattle.std.specs.Prelude.{◌≡◌, ◌<◌, IfOk, IfErr, IfSome};
-ghost use Rattle.job_crew.specs.Workers.{IsWorkerCount};
+ghost use Rattle.shared_memo.specs.Workers.{IsWorkerCount};
 ghost use Rattle.shared_memo.specs.Passes.{IsPassOf};
 
-use job_crew::{CrewFault, fill_by_workers};
 use round_columns::Code;
 use round_eval::Gate;
-use shared_memo::{Memo, Pass};
+use shared_memo::{CrewFault, Memo, Pass, fill_by_workers};
 use std::alloc::Global;
 use std::sync::Wait;
 use std::thread::Threads;

@@ -1,8 +1,8 @@
 use Rattle.std.proofs.Common.{rules, ◌≡◌, suc, true, All, List, ◌∷◌, subst, arith}
 use Rattle.std.specs.Result.{is_ok}
 use Rattle.shared_memo.specs.Tickets.{IsFreshTicketOf}
-use Rattle.job_crew.proofs.Numbered.{numbered_snoc}
-use Rattle.job_crew.proofs.crew.crew_of.Goals as goal
+use Rattle.shared_memo.proofs.Numbered.{numbered_snoc}
+use Rattle.shared_memo.proofs.crew.crew_of.Goals as goal
 
 all_first : {X : Type 0} (P : X → Type 0) (x : X) (xs : List X) → All P (x ∷ xs) → P x × All P xs
 all_first P x xs h = (h 0 x (omega arith), λ k d below. h (suc k) d (omega arith))

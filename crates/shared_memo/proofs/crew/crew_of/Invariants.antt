@@ -1,8 +1,8 @@
 use Rattle.std.proofs.Common.{◌≡◌, ◌+◌, All, vec_len}
 use Rattle.std.specs.Vec.Iter.{into_iter_items, into_iter_len}
 use Rattle.shared_memo.specs.Tickets.{IsFreshTicketOf}
-use Rattle.job_crew.specs.Workers.{AreNumbered}
-use Rattle.job_crew.proofs.crew.crew_of.Given as goal
+use Rattle.shared_memo.specs.Workers.{AreNumbered}
+use Rattle.shared_memo.proofs.crew.crew_of.Given as goal
 
 abbrev pub invariant-loop-ticket : goal.invariant-loop-ticket
 invariant-loop-ticket g l = record {

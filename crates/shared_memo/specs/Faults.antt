@@ -1,8 +1,8 @@
 -- The fault that takes precedence. No public contract cites this file.
 use Rattle.std.specs.Prelude.{Bool, true, false, Result, Ok, Err}
-use Rattle.job_crew.specs.declared.fault.WorkFault.{WorkFault}
-use Rattle.job_crew.specs.declared.fault.CrewFault.{CrewFault}
-use Rattle.job_crew.specs.declared.fault.CrewFault.TheVariants.{Work, NoThread}
+use Rattle.shared_memo.specs.declared.fault.WorkFault.{WorkFault}
+use Rattle.shared_memo.specs.declared.fault.CrewFault.{CrewFault}
+use Rattle.shared_memo.specs.declared.fault.CrewFault.TheVariants.{Work, NoThread}
 
 -- the first result if it is a fault, else the second
 abbrev pub first_fault : {T : Type 0} → Result T WorkFault → Result T WorkFault → Result T WorkFault

@@ -1,13 +1,13 @@
 ghost use Rattle.std.specs.Prelude.{◌≡◌, ◌+◌, ◌<◌, ◌≤◌, IfOk, IfErr, IfSome, IsTrue, vec_len, vec_capacity, All};
 ghost use Rattle.node_program.specs.declared.limits.TheConstants.{MAX_THREADS};
 ghost use Rattle.shared_memo.specs.Tickets.{numbers_of, IsFreshTicketOf};
-ghost use Rattle.job_crew.specs.Workers.{AreNumbered, IsWorkerCount};
-ghost use Rattle.job_crew.specs.Faults.{first_fault, crew_answer};
+ghost use Rattle.shared_memo.specs.Workers.{AreNumbered, IsWorkerCount};
+ghost use Rattle.shared_memo.specs.Faults.{first_fault, crew_answer};
 
+use crate::desk::{Desk, Ticket};
 use crate::fault::{CrewFault, WorkFault};
 use crate::worker::{Fills, Leaves, Worker};
 use round_eval::Gate;
-use shared_memo::{Desk, Ticket};
 use std::alloc::Global;
 use std::sync::Wait;
 use std::thread;

@@ -1,5 +1,5 @@
 ghost use Rattle.std.specs.Prelude.{◌≡◌};
-ghost use Rattle.job_crew.specs.declared.fault.CrewFault.TheVariants.{Work};
+ghost use Rattle.shared_memo.specs.declared.fault.CrewFault.TheVariants.{Work};
 
 /// Why a worker did not fill its jobs.
 #[derive(Clone, Copy)]

@@ -1,2 +1,0 @@
--- A lemma of a crew.
-mod Numbered
