@@ -12,3 +12,6 @@ returns-in_err-fill_cell-in-Err-Missing-clause-asked g t c = asked_both g.C.Cell
 
 pub returns-in-Err-OutOfMemory-clause-asked : goal.returns-in-Err-OutOfMemory-clause-asked
 returns-in-Err-OutOfMemory-clause-asked g t c = asked_both g.C.Cells.plan g.C.Cells.fixed g.C.Cells.entries _ _ _ c.loop-attempt.invariant c.make.ensures.asked
+
+pub loop-attempt-preserved : goal.loop-attempt-preserved
+loop-attempt-preserved g t c = asked_both g.C.Cells.plan g.C.Cells.fixed g.C.Cells.entries _ _ _ (asked_both g.C.Cells.plan g.C.Cells.fixed g.C.Cells.entries _ _ _ c.loop-attempt.invariant c.make.ensures.asked) c.fill_cell.ensures.asked
