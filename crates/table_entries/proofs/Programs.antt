@@ -1,7 +1,7 @@
 -- The table of a program, window by window.
-use Rattle.std.proofs.Common.{◌≡◌, ℕ, ◌+◌, ◌*◌, ◌<◌, List, [], map, length, slice_get, slice_index, Option, option_map, Some, None, IsSome, subst, sym, ap, ◌∙◌, arith, refl}
+use Rattle.std.proofs.Common.{◌≡◌, ℕ, ◌≤◌, All, ◌+◌, ◌*◌, ◌<◌, List, [], map, length, slice_get, slice_index, Option, option_map, Some, None, IsSome, subst, sym, ap, ◌∙◌, arith, refl}
 use Rattle.std.proofs.lemmas.Bool.{false≢true}
-use Rattle.std.proofs.lemmas.List.{get_or-map}
+use Rattle.std.proofs.lemmas.List.{get_or-map, get_or_default}
 use Rattle.std.proofs.lemmas.Option.{get_or_from_slice_get, slice_get_within, slice_get-get_or}
 use Rattle.node_program.specs.Node.{channel}
 use Rattle.node_program.specs.GlobalRounds.{channel_at}
@@ -13,7 +13,10 @@ use Rattle.win_index.specs.Laws.{RingsHaveWindows, NumberOfWindow, WindowsHaveNu
 use Rattle.win_index.specs.Windows.{windows, number_of, IsWindow}
 use Rattle.table_entries.specs.Laws.{TableHasTheChannelsOfRounds}
 use Rattle.table_entries.specs.ProgramTables.{table_of, window_channel}
-use Rattle.channel_tables.specs.Tables.{ChannelTable, channel_of}
+use Rattle.channel_tables.specs.Tables.{ChannelTable, IsTable, channel_of, windows_of}
+use Rattle.node_program.specs.declared.limits.TheConstants.{MAX_CHANNELS}
+use Rattle.win_index.specs.ShapeRange.{IsShape}
+use Rattle.win_index.specs.declared.limits.TheConstants.{MAX_ROUNDS}
 
 -- a table with these parts
 pub table_with :
@@ -21,6 +24,29 @@ pub table_with :
     → t.entries ≡ map (window_channel p) (windows (2 * length p.steps + 1) m) → t ≡ table_of p m
 unfolding table_of
 table_with p m t ids rounds channels entries = λ i. record { ids = ids i; rounds = rounds i; channels = channels i; entries = entries i }
+
+-- its entries are those of a table
+pub is_table :
+    (p : ProgramTree) (m : ℕ) (t : ChannelTable) (entries : List ℕ) → t.ids ≡ m → t.rounds ≡ length p.steps → t.channels ≡ p.channels
+    → t.entries ≡ entries → t.rounds ≤ MAX_ROUNDS → IsShape t.ids t.rounds → 1 ≤ t.channels → t.channels ≤ MAX_CHANNELS
+    → length entries ≡ length (windows (2 * length p.steps + 1) m) → ((i : ℕ) → i < length entries → slice_index entries i < p.channels)
+    → IsTable t
+is_table p m t entries ids rounds channels entries_are few_rounds shape some few full below =
+    let size : length t.entries ≡ length (windows_of t) =
+    ap length entries_are ∙ full ∙ sym ((λ i. length (windows (2 * rounds i + 1) (ids i)))) in
+    let each : All (λ c. c < p.channels) entries =
+    λ k d lt. subst (λ v. v < p.channels) (get_or_default entries k 0 d lt) (below k lt) in
+    record {
+      begun = record {
+        few_rounds = few_rounds;
+        shape = shape;
+        some_channels = some;
+        few_channels = few;
+        size = omega (arith, size);
+        below = subst (All (λ c. c < t.channels)) (sym entries_are) (subst (λ n. All (λ c. c < n) entries) (sym channels) each);
+      };
+      size = size;
+    }
 
 -- the window at a number is a window
 pub numbered_is_window :

@@ -1,50 +1,54 @@
-use Rattle.std.proofs.Common.{rules, ◌≡◌, ◌-◌, ◌*◌, ◌<◌, ◌≤◌, length, get_or, take, drop, ◌+◌, ◌++◌, ◌∙◌, sym, ap, arith, Some}
-use mathlib.Core.Logic.{dite}
-use Rattle.std.proofs.Math.Decide.{dec_lt}
-use borrow.Rule.Slice.PartMut.{put_mid}
-use Rattle.std.proofs.lemmas.Slice.{take-put_mid_below, between-put_mid}
-use Rattle.std.proofs.lemmas.List.{get_or-take, get_or-drop, length-append, length-take, length-drop}
-use Rattle.std.proofs.lemmas.Option.{slice_get-get_or}
-use Rattle.table_entries.proofs.shares.write_share.Goals as goal
+use Rattle.std.proofs.Common.{◌≡◌, ℕ, ◌+◌, ◌*◌, ◌≤◌, length, ◌∙◌, refl}
 use Rattle.win_index.specs.declared.limits.TheConstants.{BLOCK_WINDOWS}
+use Rattle.table_entries.specs.EntryShares.{AreEntries}
+use Rattle.table_entries.proofs.BlockParts.{block_in_share, keyed_block, keyed_len, part_in_share, part_len, length-written, one_more_block}
+use Rattle.table_entries.proofs.shares.write_share.Goals as goal
+
+pub write_block-requires-clause-block : goal.write_block-requires-clause-block
+write_block-requires-clause-block c =
+    let place = block_in_share c.args.code.now c.args.blocks.now c.args.first (length c.args.share.now) c.loop-i.i c.div_ceil-i-end.result c.requires.blocks c.requires.share c.div_ceil-i-end.ensures c.loop-i-test.true in
+    let keyed = keyed_block c.args.code.now c.args.blocks.now (c.args.first + c.loop-i.i) c.index-blocks-first.result c.requires.blocks place c.index-blocks-first.is in
+    (keyed.0, keyed.1, refl)
+
+pub write_block-requires-clause-size : goal.write_block-requires-clause-size
+write_block-requires-clause-size c =
+    let plan = c.args.code.now in
+    let held = c.index-blocks-first.result in
+    let place = block_in_share plan c.args.blocks.now c.args.first (length c.args.share.now) c.loop-i.i c.div_ceil-i-end.result c.requires.blocks c.requires.share c.div_ceil-i-end.ensures c.loop-i-test.true in
+    let keyed = keyed_block plan c.args.blocks.now (c.args.first + c.loop-i.i) held c.requires.blocks place c.index-blocks-first.is in
+    let len = keyed_len plan (length plan.program.steps) (c.args.first + c.loop-i.i) c.len.result held.now keyed c.len.ensures in
+    let within = part_in_share plan c.args.first (length c.args.share.now) c.loop-i.i c.div_ceil-i-end.result c.len.result c.requires.share c.div_ceil-i-end.ensures c.loop-i-test.true len in
+    part_len (c.loop-i.i * BLOCK_WINDOWS) c.len.result c.loop-i.share (rw c.loop-i.invariant.size within)
+    ∙ keyed_len plan (length plan.program.steps) held.now.number c.len.result held.now (keyed.0, keyed.1, refl) c.len.ensures
 
 pub loop-i-preserved : goal.loop-i-preserved
 loop-i-preserved c =
     let plan = c.args.code.now in
-    let blocks = c.args.blocks.now in
     let held = c.index-blocks-first.result in
-    let place : c.args.first + c.loop-i.i < length blocks = omega (arith, c.requires.blocks.count, c.requires.share.within, c.loop-i-test.true) in
-    let keyed = c.requires.blocks.each (c.args.first + c.loop-i.i) held (slice_get-get_or blocks (c.args.first + c.loop-i.i) held place ∙ ap Some (sym c.index-blocks-first.is)) in
-    let number : held.now.number ≡ c.args.first + c.loop-i.i = keyed.2 in
-    let wrote = c.write_block.ensures in
+    let number : ℕ = c.args.first + c.loop-i.i in
+    let place = block_in_share plan c.args.blocks.now c.args.first (length c.args.share.now) c.loop-i.i c.div_ceil-i-end.result c.requires.blocks c.requires.share c.div_ceil-i-end.ensures c.loop-i-test.true in
+    let keyed = keyed_block plan c.args.blocks.now number held c.requires.blocks place c.index-blocks-first.is in
+    let len = keyed_len plan (length plan.program.steps) number c.len.result held.now keyed c.len.ensures in
+    let within = part_in_share plan c.args.first (length c.args.share.now) c.loop-i.i c.div_ceil-i-end.result c.len.result c.requires.share c.div_ceil-i-end.ensures c.loop-i-test.true len in
     let xs = c.loop-i.share in
     let ys = c.write_block.new.entries in
-    let from = c.loop-i.i * BLOCK_WINDOWS in
-    let len = rw (keyed.0, keyed.1, keyed.2) at c.len.ensures in
-    let within : from + c.len.result ≤ length xs = search rules in
-    let size : length ys ≡ c.len.result = wrote.size ∙ simp (length-take, length-drop) (omega (arith, within)) in
-    let written = put_mid from (from + c.len.result - from) xs ys in
-    let whole : length (take from xs ++ (ys ++ drop (from + c.len.result - from) (drop from xs))) ≡ length xs =
-    simp (length-append, length-take, length-drop) (omega (arith, size, within)) in
-    let part : take (from + c.len.result - from) (drop from written) ≡ ys =
-    between-put_mid from (from + c.len.result - from) xs ys (from + c.len.result) (omega (arith, within)) (omega (arith, size)) in
+    let from : ℕ = c.loop-i.i * BLOCK_WINDOWS in
+    let inside : from + c.len.result ≤ length xs = rw c.loop-i.invariant.size within in
+    let size : length ys ≡ c.len.result = c.write_block.ensures.size ∙ part_len from c.len.result xs inside in
+    let wrote : AreEntries plan (BLOCK_WINDOWS * number) ys = rw keyed.2 at c.write_block.ensures.entries in
     record {
-      room = wrote.room;
-      size = whole ∙ c.loop-i.invariant.size;
-      written = λ k lt inside. dite (dec_lt k from)
-          (λ below.
-          let same : get_or written k 0 ≡ get_or xs k 0 =
-          sym (get_or-take from written k 0 below)
-          ∙ ap (λ l. get_or l k 0) (take-put_mid_below from (from + c.len.result - from) xs ys from (omega arith) (omega (arith, within)))
-          ∙ get_or-take from xs k 0 below in
-          rw same (c.loop-i.invariant.written k (omega (arith, below)) inside))
-          (λ above.
-          let short : k - from < c.len.result = omega (arith, len, lt, inside, above, c.requires.share.within) in
-          let place : from + (k - from) ≡ k = omega (arith, above) in
-          let same : get_or written k 0 ≡ get_or ys (k - from) 0 =
-          ap (λ n. get_or written n 0) (sym place) ∙ sym (get_or-drop from written (k - from) 0)
-          ∙ sym (get_or-take (from + c.len.result - from) (drop from written) (k - from) 0 (omega (arith, short)))
-          ∙ ap (λ l. get_or l (k - from) 0) part in
-          let step : BLOCK_WINDOWS * held.now.number + (k - from) ≡ BLOCK_WINDOWS * c.args.first + k = omega (arith, number, above) in
-          rw (same, ← step) (wrote.entries (k - from) (omega (arith, size, short))));
+      room = c.write_block.ensures.room;
+      size = length-written from c.len.result xs ys inside size ∙ c.loop-i.invariant.size;
+      written = one_more_block plan c.args.first (length c.args.share.now) c.loop-i.i c.len.result xs ys c.requires.share len inside size c.loop-i.invariant.written wrote;
     }
+
+pub slice_bounds-write_block-end : goal.slice_bounds-write_block-end
+slice_bounds-write_block-end c =
+    let plan = c.args.code.now in
+    let held = c.index-blocks-first.result in
+    let place = block_in_share plan c.args.blocks.now c.args.first (length c.args.share.now) c.loop-i.i c.div_ceil-i-end.result c.requires.blocks c.requires.share c.div_ceil-i-end.ensures c.loop-i-test.true in
+    let keyed = keyed_block plan c.args.blocks.now (c.args.first + c.loop-i.i) held c.requires.blocks place c.index-blocks-first.is in
+    let len = keyed_len plan (length plan.program.steps) (c.args.first + c.loop-i.i) c.len.result held.now keyed c.len.ensures in
+    let within = part_in_share plan c.args.first (length c.args.share.now) c.loop-i.i c.div_ceil-i-end.result c.len.result c.requires.share c.div_ceil-i-end.ensures c.loop-i-test.true len in
+    let inside : c.loop-i.i * BLOCK_WINDOWS + c.len.result ≤ length c.loop-i.share = rw c.loop-i.invariant.size within in
+    inside

@@ -1,0 +1,144 @@
+-- The part of a share that a block fills.
+use Rattle.std.proofs.Common.{◌≡◌, ℕ, ◌+◌, ◌-◌, ◌*◌, ◌/◌, ◌%◌, ◌<◌, ◌≤◌, ◌⊎◌, min, List, All, length, get_or, slice_index, take, drop, Some, inl, inr, ⊎_elim, subst, sym, ap, ◌∙◌, arith}
+use mathlib.Core.Logic.{dite}
+use denote.Ref.{Bor}
+use borrow.Rule.Slice.PartMut.{put_mid}
+use Rattle.std.proofs.Math.Decide.{dec_lt}
+use Rattle.std.specs.Int.{div_ceil}
+use Rattle.std.proofs.lemmas.List.{get_or-take, get_or-drop, get_or_default, length-append, length-take, length-drop, length-take-le}
+use Rattle.std.proofs.lemmas.Slice.{take-put_mid_below, between-put_mid}
+use Rattle.std.proofs.lemmas.Option.{slice_get-get_or}
+use Rattle.lang_check.specs.Plans.{ProgramForIds}
+use Rattle.win_index.specs.Blocks.{window_count}
+use Rattle.win_index.specs.declared.limits.TheConstants.{BLOCK_WINDOWS}
+use Rattle.window_states.specs.BlockStates.{IsKeyedBlock, MadeBlock, block_len, window_numbered}
+use Rattle.table_entries.specs.EntryShares.{AreEntries, AreLastBlocks, IsShare}
+use Rattle.table_entries.specs.ProgramTables.{window_channel}
+
+-- the first entries of a share, from the window with this number on
+abbrev pub AreWritten : ProgramForIds → ℕ → ℕ → ℕ → List ℕ → Type 0
+AreWritten plan first upto count xs = (k : ℕ) → k < upto → k < count
+    → (slice_index xs k ≡ window_channel plan.program (window_numbered plan.ids (length plan.program.steps) (first + k)))
+    × (slice_index xs k < plan.program.channels)
+
+-- a block of the last level is the block of its place
+pub keyed_block :
+    (plan : ProgramForIds) (blocks : List (Bor MadeBlock)) (n : ℕ) (held : Bor MadeBlock) → AreLastBlocks plan blocks → n < length blocks
+    → held ≡ get_or blocks n held → IsKeyedBlock plan (length plan.program.steps) n held.now
+keyed_block plan blocks n held are lt is = are.each n held (slice_get-get_or blocks n held lt ∙ ap Some (sym is))
+
+-- its length
+pub keyed_len :
+    (plan : ProgramForIds) (level n len : ℕ) (b : MadeBlock) → IsKeyedBlock plan level n b → len ≡ block_len b.plan.ids b.level b.number
+    → len ≡ block_len plan.ids level n
+keyed_len plan level n len b keyed is = is ∙ (λ i. block_len (keyed.0 i).ids (keyed.1 i) (keyed.2 i))
+
+-- the blocks of a share are blocks of the level
+block_within :
+    (windows first len i end : ℕ) → BLOCK_WINDOWS * first + len ≤ windows → end ≡ div_ceil len BLOCK_WINDOWS → i < end
+    → first + i < windows / BLOCK_WINDOWS + min 1 (windows % BLOCK_WINDOWS)
+block_within windows first len i end within end_is lt = omega arith
+
+pub block_in_share :
+    (plan : ProgramForIds) (blocks : List (Bor MadeBlock)) (first len i end : ℕ) → AreLastBlocks plan blocks → IsShare plan first len
+    → end ≡ div_ceil len BLOCK_WINDOWS → i < end → first + i < length blocks
+block_in_share plan blocks first len i end are share end_is lt =
+    rw are.count (block_within (window_count plan.ids (length plan.program.steps)) first len i end share.within end_is lt)
+
+-- and their windows are those of the share
+part_within :
+    (windows first len i end part : ℕ) → BLOCK_WINDOWS * first + len ≤ windows
+    → (len % BLOCK_WINDOWS ≡ 0) ⊎ (BLOCK_WINDOWS * first + len ≡ windows) → end ≡ div_ceil len BLOCK_WINDOWS → i < end
+    → part ≡ min BLOCK_WINDOWS (windows - BLOCK_WINDOWS * (first + i)) → i * BLOCK_WINDOWS + part ≤ len
+part_within windows first len i end part within ends end_is lt part_is =
+    ⊎_elim (λ (whole : len % BLOCK_WINDOWS ≡ 0). omega arith) (λ (all : BLOCK_WINDOWS * first + len ≡ windows). omega arith) ends
+
+pub part_in_share :
+    (plan : ProgramForIds) (first len i end part : ℕ) → IsShare plan first len → end ≡ div_ceil len BLOCK_WINDOWS → i < end
+    → part ≡ block_len plan.ids (length plan.program.steps) (first + i) → i * BLOCK_WINDOWS + part ≤ len
+part_in_share plan first len i end part share end_is lt part_is =
+    part_within (window_count plan.ids (length plan.program.steps)) first len i end part share.within share.ends_a_block end_is lt part_is
+
+-- a part of a list, by its bounds
+pub part_len : (from part : ℕ) (xs : List ℕ) → from + part ≤ length xs → length (take (from + part - from) (drop from xs)) ≡ part
+part_len from part xs within = simp (length-take, length-drop) (omega (arith, within))
+
+pub length-written :
+    (from part : ℕ) (xs ys : List ℕ) → from + part ≤ length xs → length ys ≡ part
+    → length (put_mid from (from + part - from) xs ys) ≡ length xs
+length-written from part xs ys within size = simp (length-append, length-take, length-drop) (omega (arith, size, within))
+
+-- the entries with those of one more block
+pub one_more_block :
+    (plan : ProgramForIds) (first len i part : ℕ) (xs ys : List ℕ) → IsShare plan first len
+    → part ≡ block_len plan.ids (length plan.program.steps) (first + i) → i * BLOCK_WINDOWS + part ≤ length xs → length ys ≡ part
+    → AreWritten plan (BLOCK_WINDOWS * first) (BLOCK_WINDOWS * i) len xs → AreEntries plan (BLOCK_WINDOWS * (first + i)) ys
+    → AreWritten plan (BLOCK_WINDOWS * first) (BLOCK_WINDOWS * (i + 1)) len
+    (put_mid (i * BLOCK_WINDOWS) (i * BLOCK_WINDOWS + part - i * BLOCK_WINDOWS) xs ys)
+one_more_block plan first len i part xs ys share part_is within size before more = λ k lt inside.
+    let from : ℕ = i * BLOCK_WINDOWS in
+    let written = put_mid from (from + part - from) xs ys in
+    let start : from ≤ length xs = omega (arith, within) in
+    dite (dec_lt k from)
+    (λ below.
+    let same : get_or written k 0 ≡ get_or xs k 0 =
+    sym (get_or-take from written k 0 below)
+    ∙ ap (λ l. get_or l k 0) (take-put_mid_below from (from + part - from) xs ys from (omega arith) start)
+    ∙ get_or-take from xs k 0 below in
+    let is = before k (omega (arith, below)) inside in
+    (same ∙ is.0, subst (λ v. v < plan.program.channels) (sym same) is.1))
+    (λ above.
+    let short : k - from < part = omega (arith, part_is, lt, inside, above, share.within) in
+    let place : from + (k - from) ≡ k = omega (arith, above) in
+    let part_of : take (from + part - from) (drop from written) ≡ ys =
+    between-put_mid from (from + part - from) xs ys (from + part) start (omega (arith, size)) in
+    let same : get_or written k 0 ≡ get_or ys (k - from) 0 =
+    ap (λ n. get_or written n 0) (sym place) ∙ sym (get_or-drop from written (k - from) 0)
+    ∙ sym (get_or-take (from + part - from) (drop from written) (k - from) 0 (omega (arith, short)))
+    ∙ ap (λ l. get_or l (k - from) 0) part_of in
+    let is = more (k - from) (omega (arith, size, short)) in
+    let step : BLOCK_WINDOWS * (first + i) + (k - from) ≡ BLOCK_WINDOWS * first + k = omega (arith, above) in (
+      same ∙ is.0 ∙ ap (λ n. window_channel plan.program (window_numbered plan.ids (length plan.program.steps) n)) step,
+      subst (λ v. v < plan.program.channels) (sym same) is.1,
+    ))
+
+-- the first windows of a share, and the others, if the first ones end a block or are all
+pub front_share :
+    (plan : ProgramForIds) (first len all front : ℕ) → IsShare plan first all → len ≤ all → (len % BLOCK_WINDOWS ≡ 0) ⊎ (len ≡ all)
+    → front ≡ len → IsShare plan first front
+front_share plan first len all front share le ends front_is =
+    record {
+      within = omega (arith, share.within);
+      ends_a_block = ⊎_elim (λ (whole : len % BLOCK_WINDOWS ≡ 0). inl (omega arith))
+          (λ (is : len ≡ all). subst (λ n. (n % BLOCK_WINDOWS ≡ 0) ⊎ (BLOCK_WINDOWS * first + n ≡ window_count plan.ids (length plan.program.steps))) (sym (front_is ∙ is)) share.ends_a_block) ends;
+    }
+
+pub back_share :
+    (plan : ProgramForIds) (first len all back : ℕ) → IsShare plan first all → (len % BLOCK_WINDOWS ≡ 0) ⊎ (len ≡ all)
+    → back + len ≡ all → IsShare plan (first + len / BLOCK_WINDOWS) back
+back_share plan first len all back share ends back_is =
+    let windows = window_count plan.ids (length plan.program.steps) in
+    record {
+      within = omega (arith, share.within);
+      ends_a_block = ⊎_elim
+          (λ (whole : len % BLOCK_WINDOWS ≡ 0).
+          ⊎_elim (λ (is : all % BLOCK_WINDOWS ≡ 0). inl (omega arith)) (λ (is : BLOCK_WINDOWS * first + all ≡ windows). inr (omega arith)) share.ends_a_block)
+          (λ (is : len ≡ all). inl (omega arith)) ends;
+    }
+
+-- the channels of a block's windows are below the limit
+pub below_front :
+    (n limit : ℕ) (xs : List ℕ) → n ≤ length xs → ((i : ℕ) → i < n → slice_index xs i < limit) → All (λ x. x < limit) (take n xs)
+below_front n limit xs le below = λ k d lt.
+    let inside : k < n = subst (λ len. k < len) (length-take-le n xs le) lt in
+    let same : get_or (take n xs) k d ≡ get_or xs k 0 = get_or-take n xs k d inside ∙ get_or_default xs k d 0 (omega (arith, inside, le)) in
+    subst (λ v. v < limit) (sym same) (below k inside)
+
+-- the entries that are copied from them
+pub entries_of_front :
+    (plan : ProgramForIds) (first n : ℕ) (xs ys : List ℕ) → length ys ≡ n → ys ≡ take n xs → AreWritten plan first n n xs → AreEntries plan first ys
+entries_of_front plan first n xs ys size is written = λ i lt.
+    let inside : i < n = omega (arith, lt, size) in
+    let same : get_or ys i 0 ≡ get_or xs i 0 = ap (λ l. get_or l i 0) is ∙ get_or-take n xs i 0 inside in
+    let own = written i inside inside in
+    (same ∙ own.0, subst (λ v. v < plan.program.channels) (sym same) own.1)
