@@ -1,12 +1,23 @@
 -- Numbers that are separated by single bytes.
-use Rattle.std.proofs.Common.{◌≡◌, ℕ, ◌-◌, ◌≤◌, List, [], ◌∷◌, ◌++◌, length, map, get_or, take, drop, ap, ◌∙◌, arith, append-nil, append_assoc}
+use Rattle.std.proofs.Common.{◌≡◌, ℕ, ◌+◌, ◌-◌, ◌<◌, ◌≤◌, List, [], ◌∷◌, ◌++◌, length, map, get_or, take, drop, sym, ap, ◌∙◌, arith, append-nil, append_assoc}
 use Rattle.std.specs.List.{flat_map, join_with_byte}
-use Rattle.std.proofs.lemmas.List.{take_all, take_rest}
+use Rattle.std.proofs.lemmas.List.{take_all, take_more, take_rest}
+use Rattle.std.proofs.lemmas.List.Concat.{flat_map-append}
 
 -- the first piece, followed by a byte and each other piece
 pub joined_after : (f : ℕ → List ℕ) (c n : ℕ) (ns : List ℕ) → f n ++ flat_map (λ k. c ∷ f k) ns ≡ join_with_byte c (map f (n ∷ ns))
 joined_after f c n [] = append-nil (f n)
 joined_after f c n (k ∷ ns) = ap (λ l. f n ++ (c ∷ l)) (joined_after f c k ns)
+
+-- one more piece
+pub pieces_more :
+    (f : ℕ → List ℕ) (ns before text now : List ℕ) (i : ℕ) → i < length ns → text ≡ before ++ flat_map f (take i ns)
+    → now ≡ text ++ f (get_or ns i 0) → now ≡ before ++ flat_map f (take (i + 1) ns)
+pieces_more f ns before text now i lt told is =
+    let x = get_or ns i 0 in
+    let grown : flat_map f (take (i + 1) ns) ≡ flat_map f (take i ns) ++ f x =
+    ap (flat_map f) (take_more ns i 0 lt) ∙ flat_map-append f (take i ns) (x ∷ []) ∙ ap (λ l. flat_map f (take i ns) ++ l) (append-nil (f x)) in
+    is ∙ ap (λ l. l ++ f x) told ∙ append_assoc before (flat_map f (take i ns)) (f x) ∙ ap (λ l. before ++ l) (sym grown)
 
 -- the same for a list that is not empty
 joined_parts : (f : ℕ → List ℕ) (c : ℕ) (ns : List ℕ) → 1 ≤ length ns

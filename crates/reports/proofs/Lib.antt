@@ -1,3 +1,4 @@
 mod Joined
 mod TraceLines
 pub mod Aligned
+mod SentMemo

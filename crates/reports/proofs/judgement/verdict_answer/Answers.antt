@@ -1,9 +1,15 @@
-use Rattle.std.proofs.Common.{rules}
-use Rattle.nbhd_check.specs.Verdicts.{IsWitness}
-use Rattle.reports.specs.Report.{bad}
+use Rattle.std.proofs.Common.{ap, ◌∙◌, refl}
+use Rattle.reports.specs.Report.{bad, no_line}
 use Rattle.reports.proofs.judgement.verdict_answer.Goals as goal
 
 pub returns-in_ok-line-in-No-clause-answer : goal.returns-in_ok-line-in-No-clause-answer
 returns-in_ok-line-in-No-clause-answer c =
-    let witness : IsWitness c.args.table.now c.args.separation c.in-No.ring.items c.in-No.places c.in-No.channels = search rules in
-    bad _ _ _ witness (search rules)
+    let witness = rw c.in-No.is at c.requires in
+    let said =
+    c.in_ok-line-in-No.ensures ∙ ap (λ ring. no_line c.args.separation ring c.in-No.places c.in-No.channels) c.deref.ensures.value in
+    bad c.in-No.ring.items c.in-No.places c.in-No.channels witness (said, refl)
+
+pub returns-in_ok-line-in-No-clause-cause : goal.returns-in_ok-line-in-No-clause-cause
+returns-in_ok-line-in-No-clause-cause c = λ _.
+    let witness = rw c.in-No.is at c.requires in
+    (c.args.table.now, c.args.separation, c.rounds.ensures ∙ c.shape.ensures.rounds, witness)

@@ -1,6 +1,4 @@
-use Rattle.std.proofs.Common.{rules}
-use Rattle.node_lang.specs.Grammar.{Reads}
-use Rattle.lang_check.specs.Refusals.{IsFirstRefusal}
+use Rattle.std.proofs.Common.{refl}
 use Rattle.reports.specs.Report.{check_fault}
 use Rattle.reports.proofs.texts.plan_in.Goals as goal
 
@@ -8,6 +6,11 @@ use Rattle.reports.proofs.texts.plan_in.Goals as goal
 pub returns-in_ok-line-in-Err-accept-clause-refusal :
     goal.returns-in_ok-line-in-Err-accept-clause-refusal
 returns-in_ok-line-in-Err-accept-clause-refusal c =
-    let first : IsFirstRefusal c.args.ids c.in-Ok.program c.in-Err-accept.fault = search rules in
-    let reads : Reads c.args.input.now c.in-Ok.program = search rules in
-    check_fault c.in-Ok.program c.in-Err-accept.fault reads first (search rules)
+    let reads = rw c.in-Ok.is at c.in_ok-program.ensures.program in
+    check_fault c.in-Ok.program c.in-Err-accept.fault reads c.in-Err-accept.ensures.err.1 (c.in_ok-line-in-Err-accept.ensures, refl)
+
+pub returns-in_ok-line-in-Err-accept-clause-cause : goal.returns-in_ok-line-in-Err-accept-clause-cause
+returns-in_ok-line-in-Err-accept-clause-cause c =
+    let refused = c.in-Err-accept.ensures.err in
+    let reads = rw c.in-Ok.is at c.in_ok-program.ensures.program in
+    (rw refused.0 reads, rw refused.0 refused.1)
