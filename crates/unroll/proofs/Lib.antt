@@ -2,4 +2,5 @@
 pub mod Known
 pub mod SameRun
 pub mod ColumnStates
+pub mod SomeWritten
 pub mod SeriesStates
