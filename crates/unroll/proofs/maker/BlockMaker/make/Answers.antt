@@ -1,4 +1,4 @@
-use Rattle.std.proofs.Common.{rules, ◌≡◌, ℕ, ◌*◌, ◌++◌, length, take, drop, refl, ap, ◌∙◌}
+use Rattle.std.proofs.Common.{◌≡◌, ◌*◌, ◌++◌, length, take, drop, refl, ◌∙◌}
 use Rattle.std.proofs.lemmas.List.{take_at}
 use Rattle.window_states.specs.BlockStates.{block_len}
 use Rattle.unroll.proofs.maker.BlockMaker.make.Goals as goal
