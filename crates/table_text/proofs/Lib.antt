@@ -10,3 +10,4 @@ pub mod WrittenChunks
 pub mod PieceTexts
 pub mod FaultsOnce
 pub mod TextLimit
+pub mod FirstByte

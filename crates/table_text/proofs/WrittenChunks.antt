@@ -38,6 +38,10 @@ tells_front a b c waiting text whole rest told failed longer =
     ∙ ap (λ t. told.0 ++ t) (take-append-le k waiting rest short ∙ front_is count waiting) in
     (length told.0 + k, subst (Appends a c) (sym front) (Appends-trans a b c told.0 (take count waiting) told.1 failed.1))
 
+-- a text of at most `most` bytes fits where there is room for these
+pub fits_in : (len most filled size : ℕ) → len ≤ most → filled + most ≤ size → filled + len ≤ size
+fits_in len most filled size short room = omega arith
+
 -- a piece was written over the items from an index on
 pub put_front :
     (start n : ℕ) (xs piece rest : List ℕ) → start ≤ length xs → n ≤ length piece

@@ -1,6 +1,10 @@
 -- The lines of a table, written one after another.
-use Rattle.std.proofs.Common.{◌≡◌, ℕ, zero, suc, ◌+◌, ◌<◌, ◌≤◌, drop, List, [], ◌∷◌, ◌++◌, Some, length, take, get_or, slice_get, refl, sym, ap, ◌∙◌, arith, append_assoc}
+use Rattle.std.proofs.Common.{◌≡◌, ℕ, zero, suc, ◌+◌, ◌*◌, ◌<◌, ◌≤◌, Bool, true, false, drop, List, [], ◌∷◌, ◌++◌, Some, length, take, get_or, slice_get, refl, sym, ap, ◌∙◌, arith, append_assoc}
 use Rattle.std.specs.Fmt.{decimal}
+use Rattle.std.proofs.lemmas.Bool.{OnTrue_at, OnFalse_at}
+use Rattle.win_index.specs.Successor.{IsReplaced}
+use Rattle.win_index.specs.Windows.{windows}
+use Rattle.win_index.specs.declared.limits.TheConstants.{MAX_ROUNDS, MAX_WINDOW_LEN}
 use Rattle.std.proofs.lemmas.List.{take_more, take_all, length-take-le}
 use Rattle.channel_tables.specs.Tables.{ChannelTable, windows_of}
 use Rattle.channel_tables.specs.declared.separation.Separation.{Separation}
@@ -14,6 +18,23 @@ use Rattle.table_text.proofs.TextsApart.{ids_append, lines_append}
 pub ids_more : (ids : List ℕ) (id : ℕ) (rest : List ℕ) → ids_then (ids ++ id ∷ []) rest ≡ ids_then ids [] ++ (decimal id ++ 32 ∷ rest)
 ids_more [] id rest = refl
 ids_more (x ∷ ids) id rest = ap (λ l. decimal x ++ 32 ∷ l) (ids_more ids id rest) ∙ sym (append_assoc (decimal x) (32 ∷ ids_then ids []) (decimal id ++ 32 ∷ rest))
+
+-- the identifiers of a window but the last
+pub prefix_size : (rounds : ℕ) (window : List ℕ) → length window ≡ 2 * rounds + 1 → length (take (2 * rounds) window) ≡ 2 * rounds
+prefix_size rounds window size = length-take-le (2 * rounds) window (omega arith)
+
+pub prefix_short : (level rounds : ℕ) → level ≡ rounds → rounds ≤ MAX_ROUNDS → 2 * level < MAX_WINDOW_LEN
+prefix_short level rounds same few = omega arith
+
+pub last_within : (level rounds len : ℕ) → level ≡ rounds → len ≡ 2 * rounds + 1 → 2 * level < len
+last_within level rounds len same size = omega arith
+
+-- a window that is not the last one is replaced by the next one
+pub next_window :
+    (k m n : ℕ) (replaced : Bool) (old new : List ℕ) → IsReplaced k m replaced old new → slice_get (windows k m) n ≡ Some old
+    → n + 1 < length (windows k m) → slice_get (windows k m) (n + 1) ≡ Some new
+next_window k m n true old new is item lt = OnTrue_at refl is.next n item
+next_window k m n false old new is item lt = absurd (omega (arith, OnFalse_at refl is.last n item))
 
 -- the line of a window, from its prefix, its last identifier and its channel
 pub line_of_run :

@@ -1,17 +1,33 @@
-use Rattle.std.proofs.Common.{◌≡◌, ℕ, ◌+◌, ◌*◌, ◌<◌, [], ◌∷◌, Some, length, slice_get, length-append, sym, ap, subst, ◌∙◌, arith, rules}
+use Rattle.std.proofs.Common.{◌≡◌, ℕ, ◌+◌, ◌*◌, ◌<◌, ◌≤◌, Some, length, slice_get, sym, ap, subst, ◌∙◌, arith}
 use Rattle.std.proofs.lemmas.List.Elements.{All-nil}
-use Rattle.channel_tables.specs.Tables.{IsBegun, windows_of}
+use Rattle.std.proofs.lemmas.List.{length_push}
+use Rattle.channel_tables.specs.Tables.{IsBegun, IsTable, windows_of}
 use Rattle.table_text.specs.TableText.{written, lines_then}
 use Rattle.table_text.specs.LineForms.{HasEntry}
 use Rattle.table_text.specs.Faults.{IsWithin, no_entry}
 use Rattle.table_text.proofs.TableLines.{begun_more, lines_more}
+use Rattle.table_text.proofs.WrittenLines.{next_window}
 use Rattle.table_text.proofs.reading.entries.Goals as goal
+
+none_le : (n : ℕ) → 0 ≤ n
+none_le n = omega arith
+
+le_same : {a b : ℕ} → a ≡ b → a ≤ b
+le_same same = omega arith
+
+room_for : (entries n count windows : ℕ) → entries ≡ n → n < count → count ≡ windows → entries < windows
+room_for entries n count windows is lt count_is = omega arith
+
+all_read : (entries n count windows : ℕ) → entries ≡ n → count ≤ n → n ≤ count → count ≡ windows → entries ≡ windows
+all_read entries n count windows is ge le count_is = omega arith
 
 pub lines-init : goal.lines-init
 unfolding lines_then
 lines-init c =
     let made = c.in-Ok.ensures in
     let sizes = c.requires.sizes in
+    let first = rw c.rounds-level.ensures at c.window.ensures.item in
+    let window = rw c.rounds-level.ensures at c.window.ensures.window in
     record {
       ids = ap (λ t. t.ids) made;
       rounds = ap (λ t. t.rounds) made;
@@ -22,12 +38,12 @@ lines-init c =
             shape = sizes.shape;
             some_channels = sizes.some_channels;
             few_channels = sizes.few_channels;
-            size = omega arith;
+            size = none_le _;
             below = All-nil (λ (x : ℕ). x < c.args.header.channels);
           });
       count = ap (λ t. length t.entries) made;
-      next = search rules;
-      window = search rules;
+      next = λ _. first;
+      window = window;
       read = c.requires.header ∙ ap (λ t. lines_then (written c.args.version t c.args.header.separation) c.args.start.now) (sym made);
     }
 
@@ -40,7 +56,7 @@ syntax-requires-clause-malformed c =
     record {
       begun = record { begun = inv.begun; told = c.requires.told };
       before = inv.read;
-      more = rw (inv.rounds, inv.ids) (omega (arith, inv.count, c.lines-test.true, rw c.rounds-level.ensures at count));
+      more = rw (inv.rounds, inv.ids) (room_for _ _ _ _ inv.count c.lines-test.true (rw c.rounds-level.ensures at count));
     } in
     let width : length c.lines.window ≡ 2 * c.lines.maker.rounds + 1 = rw inv.rounds inv.window.size in
     no_entry w within (subst (λ k. HasEntry k c.lines.rest.now → ⊥) width c.in-Malformed.ensures)
@@ -51,18 +67,74 @@ lines-preserved c =
     let t = c.lines.maker in
     let channel = c.in-Entry.channel in
     let pushed = c.push.ensures in
-    let count = rw c.rounds-level.ensures at c.count-count.ensures.value in
-    let room : length t.entries < length (windows_of t) = rw (inv.rounds, inv.ids) (omega (arith, inv.count, c.lines-test.true, count)) in
-    let next : slice_get (windows_of t) (length t.entries) ≡ Some c.lines.window =
-    rw (inv.rounds, inv.ids, inv.count) (inv.next (omega (arith, c.lines-test.true, count))) in
+    let level = c.rounds-level.ensures in
+    let count = rw level at c.count-count.ensures.value in
+    let room : length t.entries < length (windows_of t) = rw (inv.rounds, inv.ids) (room_for _ _ _ _ inv.count c.lines-test.true count) in
+    let within = rw count at c.lines-test.true in
+    let next : slice_get (windows_of t) (length t.entries) ≡ Some c.lines.window = rw (inv.rounds, inv.ids, inv.count) (inv.next within) in
+    let replaced = rw level at c.next_window.ensures in
     record {
       ids = ap (λ m. m.ids) pushed ∙ inv.ids;
       rounds = ap (λ m. m.rounds) pushed ∙ inv.rounds;
       channels = ap (λ m. m.channels) pushed ∙ inv.channels;
-      begun = subst IsBegun (sym pushed) (begun_more t channel inv.begun room (omega (arith, inv.channels, c.is_too_large.ensures.no c.if-is_too_large.false)));
-      count = omega (arith, ap (λ m. length m.entries) pushed, length-append t.entries (channel ∷ []), inv.count);
-      next = search rules;
-      window = search rules;
+      begun = subst IsBegun (sym pushed) (begun_more t channel inv.begun room (rw inv.channels (c.is_too_large.ensures.no c.if-is_too_large.false)));
+      count = ap (λ m. length m.entries) pushed ∙ length_push t.entries channel ∙ ap (λ n. n + 1) inv.count;
+      next = next_window _ _ c.lines.number c.next_window.result c.lines.window _ replaced (inv.next within);
+      window = replaced.window;
       read = lines_more c.args.version t c.args.header.separation c.args.text.now c.lines.rest.now c.lines.window channel c.in-Entry.after.now inv.read next c.in-Entry.ensures.spelled
           ∙ ap (λ m. lines_then (written c.args.version m c.args.header.separation) c.in-Entry.after.now) (sym pushed);
     }
+
+pub next_window-requires-clause-level : goal.next_window-requires-clause-level
+next_window-requires-clause-level c = le_same c.rounds-level.ensures
+
+pub next_window-requires-clause-window : goal.next_window-requires-clause-window
+next_window-requires-clause-window c = rw c.rounds-level.ensures c.lines.invariant.window
+
+pub push-requires-clause-room : goal.push-requires-clause-room
+push-requires-clause-room c =
+    let inv = c.lines.invariant in
+    let count = rw c.rounds-level.ensures at c.count-count.ensures.value in
+    rw (inv.rounds, inv.ids) (room_for _ _ _ _ inv.count c.lines-test.true count)
+
+pub push-requires-clause-below : goal.push-requires-clause-below
+push-requires-clause-below c = rw c.lines.invariant.channels (c.is_too_large.ensures.no c.if-is_too_large.false)
+
+pub done-requires : goal.done-requires
+done-requires c =
+    let inv = c.lines.invariant in
+    let count = rw c.rounds-level.ensures at c.count-count.ensures.value in
+    rw (inv.rounds, inv.ids) (all_read _ _ _ _ inv.count c.lines-test.false c.lines.auto.number-end count)
+
+pub returns-clause-table : goal.returns-clause-table
+returns-clause-table c =
+    let inv = c.lines.invariant in
+    let count = rw c.rounds-level.ensures at c.count-count.ensures.value in
+    let size : length c.lines.maker.entries ≡ length (windows_of c.lines.maker) =
+    rw (inv.rounds, inv.ids) (all_read _ _ _ _ inv.count c.lines-test.false c.lines.auto.number-end count) in
+    subst IsTable (sym c.done.ensures) (record { begun = inv.begun; size = size })
+
+pub returns-then-is_too_large-clause-fault : goal.returns-then-is_too_large-clause-fault
+returns-then-is_too_large-clause-fault c =
+    let inv = c.lines.invariant in
+    let count = rw c.rounds-level.ensures at c.count-count.ensures.value in
+    let w = written c.args.version c.lines.maker c.args.header.separation in
+    let within : IsWithin c.args.text.now w c.lines.rest.now =
+    record {
+      begun = record { begun = inv.begun; told = c.requires.told };
+      before = inv.read;
+      more = rw (inv.rounds, inv.ids) (room_for _ _ _ _ inv.count c.lines-test.true count);
+    } in
+    let width : length c.lines.window ≡ 2 * c.lines.maker.rounds + 1 = rw inv.rounds inv.window.size in
+    let own = rw width at c.in-Entry.ensures in
+    let below = rw count at c.lines-test.true in
+    let next : slice_get (windows_of c.lines.maker) (length c.lines.maker.entries) ≡ Some c.lines.window = rw (inv.rounds, inv.ids, inv.count) (inv.next below) in (
+      c.requires.short,
+      w,
+      c.lines.window,
+      c.in-Entry.channel,
+      (c.lines.rest.now, c.in-Entry.after.now, within, own),
+      next,
+      rw inv.channels (c.is_too_large.ensures.yes c.if-is_too_large.true),
+      ap (λ n. n + 3) (sym inv.count),
+    )

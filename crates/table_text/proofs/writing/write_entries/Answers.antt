@@ -1,58 +1,155 @@
-use Rattle.std.proofs.Common.{◌≡◌, ◌*◌, ◌<◌, [], ◌++◌, length, get_or, refl, ap, ◌∙◌, subst, arith, rules}
-use Rattle.std.proofs.lemmas.Result.{on_err_weaker}
+use Rattle.std.proofs.Common.{◌≡◌, ℕ, ◌+◌, ◌*◌, ◌<◌, ◌≤◌, List, [], ◌++◌, length, get_or, refl, sym, ap, ◌∙◌, subst, arith, rules}
+use Rattle.std.proofs.lemmas.Result.{on_err_weaker, on_ok_weaker}
+use Rattle.std.proofs.lemmas.List.{take_all}
+use Rattle.std.proofs.lemmas.List.Elements.{All-take}
 use Rattle.std.proofs.KnownBytes.{Appends-nil}
+use Rattle.devices.specs.Watched.{device_of}
+use Rattle.win_index.specs.Windows.{windows}
 use Rattle.channel_tables.specs.Tables.{windows_of}
-use Rattle.table_text.specs.TableText.{lines_then, entry_then}
+use Rattle.table_text.specs.declared.limits.TheConstants.{CHUNK_LEN}
+use Rattle.table_text.specs.declared.version.Version.TheVariants.{Two}
+use Rattle.table_text.specs.declared.writing.TheConstants.{LINE_LEN}
+use Rattle.table_text.specs.TableText.{written, lines_then, entry_then}
 use Rattle.table_text.specs.Pieces.{held, id_text, channel_text, IsWrittenSoFar}
-use Rattle.table_text.proofs.WrittenLines.{front_more, lines_front, line_of_run}
+use Rattle.table_text.proofs.WrittenLines.{front_more, lines_front, line_of_run, last_within, prefix_short, prefix_size}
 use Rattle.table_text.proofs.WrittenChunks.{tells_more, tells_front, on_err}
 use Rattle.table_text.proofs.writing.write_entries.Goals as goal
+
+le_same : {a b : ℕ} → a ≡ b → a ≤ b
+le_same same = omega arith
+
+below_count : (n count windows entries : ℕ) → n < count → count ≡ windows → entries ≡ windows → n < entries
+below_count n count windows entries lt count_is full = omega arith
+
+all_lines : (n count windows entries : ℕ) → count ≤ n → count ≡ windows → entries ≡ windows → entries ≤ n
+all_lines n count windows entries le count_is full = omega arith
+
+room_left : (filled : ℕ) → filled + LINE_LEN ≤ CHUNK_LEN → filled + 8 ≤ CHUNK_LEN
+room_left filled fits = omega arith
+
+pub slice_bounds-line_prefix_of-end-2 : goal.slice_bounds-line_prefix_of-end-2
+slice_bounds-line_prefix_of-end-2 g c = sym (prefix_size c.rounds-level.result c.window.new.out c.window.ensures.window.size)
+
+pub line_prefix_of-prefix-requires-clause-short : goal.line_prefix_of-prefix-requires-clause-short
+line_prefix_of-prefix-requires-clause-short g c =
+    rw (prefix_size c.rounds-level.result c.window.new.out c.window.ensures.window.size)
+    (prefix_short c.rounds-level.result c.shape-shape.result.rounds c.rounds-level.ensures c.shape-shape.result.few_rounds)
+
+pub line_prefix_of-prefix-requires-clause-ids : goal.line_prefix_of-prefix-requires-clause-ids
+line_prefix_of-prefix-requires-clause-ids g c =
+    let all = ap length c.deref-ids.ensures.value ∙ c.requires.pieces.all_ids ∙ sym c.shape-shape.ensures.ids in (
+      rw c.deref-ids.ensures.value c.requires.pieces.ids,
+      rw all (All-take (λ (id : ℕ). id < c.shape-shape.result.ids) (2 * c.rounds-level.result) c.window.new.out c.window.ensures.window.below),
+    )
 
 pub loop-number-init : goal.loop-number-init
 unfolding lines_then
 loop-number-init g c =
+    let shape = c.shape-shape.ensures in
+    let level_is : c.rounds-level.result ≡ c.args.table.now.rounds = c.rounds-level.ensures ∙ shape.rounds in
+    let first = rw (level_is, shape.ids) at c.window.ensures.item in
+    let window = rw (level_is, shape.ids) at c.window.ensures.window in
+    let prefix = rw level_is at c.line_prefix_of-prefix.ensures in
     record {
-      next = search rules;
-      window = search rules;
-      prefix = search rules;
+      next = λ _. first;
+      window = window;
+      prefix = prefix;
       working = c.requires.working;
       told = ([], Appends-nil _, c.requires.first);
     }
+
+pub entry-requires : goal.entry-requires
+entry-requires g c =
+    let t = c.args.table.now in
+    let shape = c.shape-shape.ensures in
+    let level_is : c.rounds-level.result ≡ t.rounds = c.rounds-level.ensures ∙ shape.rounds in
+    below_count c.loop-number.number c.count-count.result (length (windows_of t)) (length t.entries) c.loop-number-test.true
+    (c.count-count.ensures.value ∙ (λ i. length (windows (2 * level_is i + 1) (shape.ids i)))) shape.table.size
+
+pub store_entry-requires-clause-last : goal.store_entry-requires-clause-last
+store_entry-requires-clause-last g c =
+    let own = c.loop-number.invariant.window in
+    let level_is : c.rounds-level.result ≡ c.args.table.now.rounds = c.rounds-level.ensures ∙ c.shape-shape.ensures.rounds in
+    rw c.requires.pieces.all_ids
+    (own.below (2 * c.rounds-level.result) 0 (last_within c.rounds-level.result c.args.table.now.rounds (length c.loop-number.window) level_is own.size))
+
+pub store_entry-requires-clause-channel : goal.store_entry-requires-clause-channel
+store_entry-requires-clause-channel g c =
+    let t = c.args.table.now in
+    let shape = c.shape-shape.ensures in
+    let level_is : c.rounds-level.result ≡ t.rounds = c.rounds-level.ensures ∙ shape.rounds in
+    let within = below_count c.loop-number.number c.count-count.result (length (windows_of t)) (length t.entries) c.loop-number-test.true
+    (c.count-count.ensures.value ∙ (λ i. length (windows (2 * level_is i + 1) (shape.ids i)))) shape.table.size in
+    rw (c.requires.pieces.all_channels, c.entry.ensures.value) (shape.table.begun.below c.loop-number.number 0 within)
+
+pub advance-requires-clause-window : goal.advance-requires-clause-window
+advance-requires-clause-window g c = rw (c.shape-shape.ensures.rounds, c.shape-shape.ensures.ids) c.loop-number.invariant.window
+
+pub advance-requires-clause-ids : goal.advance-requires-clause-ids
+advance-requires-clause-ids g c = (
+  rw c.deref-ids.ensures.value c.requires.pieces.ids,
+  ap length c.deref-ids.ensures.value ∙ c.requires.pieces.all_ids ∙ sym c.shape-shape.ensures.ids,
+)
+
+pub advance-requires-clause-prefix : goal.advance-requires-clause-prefix
+advance-requires-clause-prefix g c = rw c.shape-shape.ensures.rounds c.loop-number.invariant.prefix
 
 -- One more line is in the chunk.
 pub loop-number-preserved : goal.loop-number-preserved
 loop-number-preserved g c =
     let t = c.args.table.now in
     let n = c.loop-number.number in
-    let size = c.entry.ensures.table.size in
-    let within : n < length (windows_of t) = search rules in
+    let shape = c.shape-shape.ensures in
+    let inv = c.loop-number.invariant in
+    let level : c.rounds-level.result ≡ t.rounds = c.rounds-level.ensures ∙ shape.rounds in
+    let count : c.count-count.result ≡ length (windows_of t) = c.count-count.ensures.value ∙ (λ i. length (windows (2 * level i + 1) (shape.ids i))) in
+    let within : n < length (windows_of t) = rw (← count) c.loop-number-test.true in
     let window = c.loop-number.window in
     let channel = c.entry.result in
-    let level : c.rounds-level.result ≡ t.rounds = search rules in
     let line = entry_then window channel [] in
-    let own = c.loop-number.invariant.window in
     let stored : held c.store_entry.new.chunk ≡ held c.flush_if_full.new.chunk ++ line =
     c.store_entry.ensures ∙ ap (λ text. held c.flush_if_full.new.chunk ++ text)
-    ((λ i. c.loop-number.invariant.prefix i ++ (id_text (get_or window (2 * level i) 0) ++ channel_text channel)) ∙ line_of_run (2 * t.rounds) window channel own.size) in
-    let before = c.in_ok-flush_if_full.ensures.ok _ _ c.loop-number.invariant.told in
+    ((λ i. inv.prefix i ++ (id_text (get_or window (2 * level i) 0) ++ channel_text channel)) ∙ line_of_run (2 * t.rounds) window channel inv.window.size) in
+    let before = c.in_ok-flush_if_full.ensures.ok _ _ inv.told in
     let more = tells_more _ _ _ (held c.store_entry.new.chunk) line _ before stored in
-    let lines = front_more t c.args.separation n c.entry.result window _ line (omega (arith, size, within)) (c.loop-number.invariant.next within) refl c.entry.ensures.value refl in
+    let own : n < length t.entries = rw shape.table.size within in
+    let lines = front_more t c.args.separation n c.entry.result window _ line own (inv.next within) refl c.entry.ensures.value refl in
+    let next = rw (shape.rounds, shape.ids) at c.advance.ensures.next in
+    let advanced = rw (shape.rounds, shape.ids) at c.advance.ensures.window in
+    let prefix = rw shape.rounds at c.advance.ensures.prefix in
     record {
-      next = search rules;
-      window = search rules;
-      prefix = search rules;
+      next = next n (inv.next within);
+      window = advanced;
+      prefix = prefix;
       working = search rules;
       told = subst (IsWrittenSoFar _ _ (held c.store_entry.new.chunk)) lines more;
     }
 
+pub returns-clause-room : goal.returns-clause-room
+returns-clause-room g c = on_ok_weaker c.flush_if_full-2.result (room_left c.flush_if_full-2.new.chunk.filled) c.flush_if_full-2.ensures.room
+
+pub returns-clause-ok : goal.returns-clause-ok
+returns-clause-ok g c =
+    let t = c.args.table.now in
+    let shape = c.shape-shape.ensures in
+    let level_is : c.rounds-level.result ≡ t.rounds = c.rounds-level.ensures ∙ shape.rounds in
+    let all = all_lines c.loop-number.number c.count-count.result (length (windows_of t)) (length t.entries) c.loop-number-test.false
+    (c.count-count.ensures.value ∙ (λ i. length (windows (2 * level_is i + 1) (shape.ids i)))) shape.table.size in
+    let told = subst
+    (λ (entries : List ℕ).
+    IsWrittenSoFar (g.W.Write.contents (device_of c.args.writer.now)) (g.W.Write.contents (device_of c.loop-number.writer)) (held c.loop-number.chunk)
+    (lines_then (written Two (record t { entries = entries }) c.args.separation) []))
+    (take_all c.loop-number.number t.entries all) c.loop-number.invariant.told in
+    on_ok_weaker c.flush_if_full-2.result (λ more. more _ _ told) c.flush_if_full-2.ensures.ok
+
 pub returns-in_err-flush_if_full-clause-err : goal.returns-in_err-flush_if_full-clause-err
 returns-in_err-flush_if_full-clause-err g c =
     let t = c.args.table.now in
-    let front = lines_front t c.args.separation c.loop-number.number (search rules) in
+    let front = lines_front t c.args.separation c.loop-number.number (le_same c.shape-shape.ensures.table.size) in
     on_err c.from_residual.result (tells_front _ _ _ _ _ _ front.0 c.loop-number.invariant.told c.in_err-flush_if_full.ensures.err front.1)
 
 pub returns-clause-err : goal.returns-clause-err
 returns-clause-err g c =
     let t = c.args.table.now in
-    let front = lines_front t c.args.separation c.loop-number.number (search rules) in
+    let front = lines_front t c.args.separation c.loop-number.number (le_same c.shape-shape.ensures.table.size) in
     on_err_weaker c.flush_if_full-2.result (λ failed. tells_front _ _ _ _ _ _ front.0 c.loop-number.invariant.told failed front.1) c.flush_if_full-2.ensures.err
