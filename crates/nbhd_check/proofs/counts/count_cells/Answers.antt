@@ -8,6 +8,7 @@ use Rattle.nbhd_check.proofs.FarFree.{block_is, block_within, some_product}
 use Rattle.nbhd_check.proofs.RunLengths.{two_more}
 use Rattle.nbhd_check.proofs.Cells.{row_for, zeros}
 use Rattle.win_index.specs.declared.limits.TheConstants.{MAX_WINDOWS}
+use Rattle.nbhd_check.proofs.counts.count_cells.Goals.{After-window_number}
 use Rattle.nbhd_check.proofs.counts.count_cells.Goals as goal
 
 numbered : (t : ChannelTable) (rounds ids number : ℕ) (list : List ℕ) → rounds ≡ t.rounds → ids ≡ t.ids
@@ -17,69 +18,56 @@ numbered t rounds ids number list rounds_is ids_is item = rw (rounds_is, ids_is)
 few_of_block : (number count all : ℕ) → number * count + count ≤ all → all ≤ MAX_WINDOWS → count < 2147483648
 few_of_block number count all within few = omega arith
 
+-- the block of the windows with these shared identifiers, once their number is known
+module _ (c : After-window_number) where
+  abbrev count : ℕ
+  count = (c.ids.result - length c.args.shared.now) * (c.ids.result - length c.args.shared.now - 1)
+
+  item : slice_get (shared_lists c.args.table.now) c.window_number.result ≡ Some c.args.shared.now
+  item =
+      numbered c.args.table.now c.rounds.result c.shape-shape.result.ids c.window_number.result c.args.shared.now (c.rounds.ensures ∙ c.shape-shape.ensures.rounds)
+      c.shape-shape.ensures.ids c.window_number.ensures.item
+
+  count_is : count ≡ falling (c.args.table.now.ids - shared_len c.args.table.now) 2
+  count_is =
+      let size = c.requires.shared.size in
+      let ids_is = c.shape-shape.ensures.ids in
+      sym (two_more (c.args.table.now.ids - shared_len c.args.table.now) 2 (c.ids.result - length c.args.shared.now) refl (omega arith))
+
+  within : c.window_number.result * count + count ≤ length (windows_of c.args.table.now)
+  within =
+      block_within c.args.table.now c.window_number.result count c.count_of_windows.ensures c.requires.some count_is
+      (slice_get_within (shared_lists c.args.table.now) c.window_number.result c.args.shared.now item)
+
 pub overflow_mul-first : goal.overflow_mul-first
-overflow_mul-first c =
-    let t = c.args.table.now in
-    let others : ℕ = c.ids.result - length c.args.shared.now in
-    let number = c.window_number.result in
-    let ids_is : c.shape-shape.result.ids ≡ t.ids = c.shape-shape.ensures.ids in
-    let rounds_is : c.rounds.result ≡ t.rounds = c.rounds.ensures ∙ c.shape-shape.ensures.rounds in
-    let item = numbered t c.rounds.result c.shape-shape.result.ids number c.args.shared.now rounds_is ids_is c.window_number.ensures.item in
-    let below = slice_get_within (shared_lists t) number c.args.shared.now item in
-    let size = c.requires.shared.size in
-    let count_is : others * (others - 1) ≡ falling (t.ids - shared_len t) 2 = sym (two_more (t.ids - shared_len t) 2 others refl (omega arith)) in
-    let within = block_within t number (others * (others - 1)) c.count_of_windows.ensures c.requires.some count_is below in
-    let few = c.shape-shape.ensures.table.begun.shape.few_windows in
-    omega (arith, within, few)
+overflow_mul-first c = omega (arith, within c, c.shape-shape.ensures.table.begun.shape.few_windows)
 
 pub window-requires-clause-below : goal.window-requires-clause-below
 window-requires-clause-below c =
+    let d = (goal.at.window-requires-clause-below c).After-window_number in
     let t = c.args.table.now in
     let others : ℕ = c.ids.result - length c.args.shared.now in
-    let number = c.window_number.result in
     let ids_is : c.shape-shape.result.ids ≡ t.ids = c.shape-shape.ensures.ids in
-    let rounds_is : c.rounds.result ≡ t.rounds = c.rounds.ensures ∙ c.shape-shape.ensures.rounds in
-    let item = numbered t c.rounds.result c.shape-shape.result.ids number c.args.shared.now rounds_is ids_is c.window_number.ensures.item in
-    let below = slice_get_within (shared_lists t) number c.args.shared.now item in
     let size = c.requires.shared.size in
-    let count_is : others * (others - 1) ≡ falling (t.ids - shared_len t) 2 = sym (two_more (t.ids - shared_len t) 2 others refl (omega arith)) in
-    let within = block_within t number (others * (others - 1)) c.count_of_windows.ensures c.requires.some count_is below in
     let again : c.rounds-2.result ≡ t.rounds = c.rounds-2.ensures ∙ c.shape-shape.ensures.rounds in
     let enough = c.shape-shape.result.in_range.enough in
     let some = some_product others (others - 1) (omega arith) (omega arith) in
     let same : length (windows (2 * c.rounds-2.result + 1) c.shape-shape.result.ids) ≡ length (windows_of t) = λ q. length (windows (2 * again q + 1) (ids_is q)) in
-    omega (arith, same, within, some)
+    omega (arith, same, within d, some)
 
 pub count_windows-requires-clause-within : goal.count_windows-requires-clause-within
-count_windows-requires-clause-within c =
-    let t = c.args.table.now in
-    let others : ℕ = c.ids.result - length c.args.shared.now in
-    let number = c.window_number.result in
-    let ids_is : c.shape-shape.result.ids ≡ t.ids = c.shape-shape.ensures.ids in
-    let rounds_is : c.rounds.result ≡ t.rounds = c.rounds.ensures ∙ c.shape-shape.ensures.rounds in
-    let item = numbered t c.rounds.result c.shape-shape.result.ids number c.args.shared.now rounds_is ids_is c.window_number.ensures.item in
-    let below = slice_get_within (shared_lists t) number c.args.shared.now item in
-    let size = c.requires.shared.size in
-    let count_is : others * (others - 1) ≡ falling (t.ids - shared_len t) 2 = sym (two_more (t.ids - shared_len t) 2 others refl (omega arith)) in
-    let within = block_within t number (others * (others - 1)) c.count_of_windows.ensures c.requires.some count_is below in
-    within
+count_windows-requires-clause-within c = within (goal.at.count_windows-requires-clause-within c).After-window_number
 
 pub returns : goal.returns
 returns c =
-    let t = c.args.table.now in
-    let others : ℕ = c.ids.result - length c.args.shared.now in
-    let number = c.window_number.result in
-    let ids_is : c.shape-shape.result.ids ≡ t.ids = c.shape-shape.ensures.ids in
-    let rounds_is : c.rounds.result ≡ t.rounds = c.rounds.ensures ∙ c.shape-shape.ensures.rounds in
-    let item = numbered t c.rounds.result c.shape-shape.result.ids number c.args.shared.now rounds_is ids_is c.window_number.ensures.item in
-    let below = slice_get_within (shared_lists t) number c.args.shared.now item in
-    let size = c.requires.shared.size in
-    let count_is : others * (others - 1) ≡ falling (t.ids - shared_len t) 2 = sym (two_more (t.ids - shared_len t) 2 others refl (omega arith)) in
-    let within = block_within t number (others * (others - 1)) c.count_of_windows.ensures c.requires.some count_is below in (
-      number * (others * (others - 1)),
+    let d = (goal.at.returns c).After-window_number in (
+      c.window_number.result * count d,
       (
-        others * (others - 1),
-        (block_is c.numbers_of_windows.ensures t c.args.shared.now number (others * (others - 1)) c.requires.some item count_is within, c.add_rows.ensures),
+        count d,
+        (
+          block_is c.numbers_of_windows.ensures c.args.table.now c.args.shared.now c.window_number.result (count d) c.requires.some (item d) (count_is d) (within d),
+          c.add_rows.ensures,
+        ),
       ),
     )
 
@@ -89,17 +77,8 @@ count_windows-requires-clause-rows c = λ k d lt.
 
 pub add_rows-requires-clause-few : goal.add_rows-requires-clause-few
 add_rows-requires-clause-few c =
-    let t = c.args.table.now in
-    let others : ℕ = c.ids.result - length c.args.shared.now in
-    let number = c.window_number.result in
-    let ids_is : c.shape-shape.result.ids ≡ t.ids = c.shape-shape.ensures.ids in
-    let rounds_is : c.rounds.result ≡ t.rounds = c.rounds.ensures ∙ c.shape-shape.ensures.rounds in
-    let item = numbered t c.rounds.result c.shape-shape.result.ids number c.args.shared.now rounds_is ids_is c.window_number.ensures.item in
-    let below = slice_get_within (shared_lists t) number c.args.shared.now item in
-    let size = c.requires.shared.size in
-    let count_is : others * (others - 1) ≡ falling (t.ids - shared_len t) 2 = sym (two_more (t.ids - shared_len t) 2 others refl (omega arith)) in
-    let within = block_within t number (others * (others - 1)) c.count_of_windows.ensures c.requires.some count_is below in
-    few_of_block number (others * (others - 1)) _ within c.shape-shape.ensures.table.begun.shape.few_windows
+    let d = (goal.at.add_rows-requires-clause-few c).After-window_number in
+    few_of_block c.window_number.result (count d) _ (within d) c.shape-shape.ensures.table.begun.shape.few_windows
 
 pub count_windows-requires-clause-empty : goal.count_windows-requires-clause-empty
 count_windows-requires-clause-empty c = λ v x lt within.
