@@ -9,71 +9,55 @@ use Rattle.ring_core.proofs.Fits.{MayAdvance}
 use Rattle.ring_core.proofs.Enabled.{is_part, may_advance, unfinished}
 use Rattle.ring_core.proofs.Readings.{now_is}
 use Rattle.ring_core.proofs.Events.{after, advanced_fits, advance_steps}
+use Rattle.ring_core.proofs.world.World.advance.Goals.{After-index_mut}
 use Rattle.ring_core.proofs.world.World.advance.Goals as goal
+
+-- the part that advances
+module _ (c : After-index_mut) where
+  abbrev before : Parts
+  before = record { plan = c.self.inside.plan.now; ring = c.self.inside.ring.now; items = c.self.inside.parts.items }
+
+  can : CanAdvance (machine_of before) c.args.segment
+  can = subst (λ (m : Machine). CanAdvance m c.args.segment) (sym c.self.view_is) c.in-Some.ensures.some
+
+  inside : c.args.segment < length before.items
+  inside = is_part before c.self.invariant c.args.segment can.is_segment
+
+  part_is : c.index_mut.result.now ≡ part_at before c.args.segment
+  part_is = c.index_mut.ensures.value ∙ get_or_default before.items c.args.segment c.index_mut.result.now no_part inside
+
+  may : MayAdvance before c.args.segment
+  may = may_advance before c.self.invariant c.args.segment can
+
+  segment_is : (λ (m : Machine). segment_after_rounds m c.args.segment (segment_at m c.args.segment).round) c.args.self.now ≡ c.index_mut.result.now.segment
+  segment_is =
+      ap (λ (m : Machine). segment_after_rounds m c.args.segment (segment_at m c.args.segment).round) (sym c.self.view_is)
+      ∙ now_is before c.self.invariant c.args.segment inside ∙ sym (c.self.invariant.segments_are c.args.segment inside)
+      ∙ ap (λ (p : Progress). p.segment) (sym part_is)
 
 pub advance-requires-clause-unfinished : goal.advance-requires-clause-unfinished
 advance-requires-clause-unfinished c =
-    let was = c.self.inside in
-    let v : Parts = record { plan = was.plan.now; ring = was.ring.now; items = was.parts.items } in
-    let kept = c.self.invariant in
-    let s = c.args.segment in
-    let can : CanAdvance (machine_of v) s = subst (λ (m : Machine). CanAdvance m s) (sym c.self.view_is) c.in-Some.ensures.some in
-    let lt : s < length v.items = is_part v kept s can.is_segment in
-    let old : c.index_mut.result.now ≡ part_at v s = c.index_mut.ensures.value ∙ get_or_default v.items s c.index_mut.result.now no_part lt in
-    let may : MayAdvance v s = may_advance v kept s can in
-    subst (λ (p : Progress). p.segment.round < length p.segment.plan.program.steps) (sym old) (unfinished v kept s lt may)
+    let d = (goal.at.advance-requires-clause-unfinished c).After-index_mut in
+    subst (λ (p : Progress). p.segment.round < length p.segment.plan.program.steps) (sym (part_is d))
+    (unfinished (before d) c.self.invariant c.args.segment (inside d) (may d))
 
 pub advance-requires-clause-left : goal.advance-requires-clause-left
 advance-requires-clause-left c =
-    let was = c.self.inside in
-    let v : Parts = record { plan = was.plan.now; ring = was.ring.now; items = was.parts.items } in
-    let kept = c.self.invariant in
-    let s = c.args.segment in
-    let can : CanAdvance (machine_of v) s = subst (λ (m : Machine). CanAdvance m s) (sym c.self.view_is) c.in-Some.ensures.some in
-    let lt : s < length v.items = is_part v kept s can.is_segment in
-    let old : c.index_mut.result.now ≡ part_at v s = c.index_mut.ensures.value ∙ get_or_default v.items s c.index_mut.result.now no_part lt in
-    let here : (λ (m : Machine). segment_after_rounds m s (segment_at m s).round) c.args.self.now ≡ c.index_mut.result.now.segment =
-    ap (λ (m : Machine). segment_after_rounds m s (segment_at m s).round) (sym c.self.view_is)
-    ∙ now_is v kept s lt ∙ sym (kept.segments_are s lt) ∙ ap (λ (p : Progress). p.segment) (sym old) in
-    c.in-Some.ensures.left ∙ ap from_left here
+    c.in-Some.ensures.left ∙ ap from_left (segment_is (goal.at.advance-requires-clause-left c).After-index_mut)
 
 pub advance-requires-clause-right : goal.advance-requires-clause-right
 advance-requires-clause-right c =
-    let was = c.self.inside in
-    let v : Parts = record { plan = was.plan.now; ring = was.ring.now; items = was.parts.items } in
-    let kept = c.self.invariant in
-    let s = c.args.segment in
-    let can : CanAdvance (machine_of v) s = subst (λ (m : Machine). CanAdvance m s) (sym c.self.view_is) c.in-Some.ensures.some in
-    let lt : s < length v.items = is_part v kept s can.is_segment in
-    let old : c.index_mut.result.now ≡ part_at v s = c.index_mut.ensures.value ∙ get_or_default v.items s c.index_mut.result.now no_part lt in
-    let here : (λ (m : Machine). segment_after_rounds m s (segment_at m s).round) c.args.self.now ≡ c.index_mut.result.now.segment =
-    ap (λ (m : Machine). segment_after_rounds m s (segment_at m s).round) (sym c.self.view_is)
-    ∙ now_is v kept s lt ∙ sym (kept.segments_are s lt) ∙ ap (λ (p : Progress). p.segment) (sym old) in
-    c.in-Some.ensures.right ∙ ap from_right here
+    c.in-Some.ensures.right ∙ ap from_right (segment_is (goal.at.advance-requires-clause-right c).After-index_mut)
 
 pub invariant_of-self : goal.invariant_of-self
 invariant_of-self c =
-    let was = c.self.inside in
-    let v : Parts = record { plan = was.plan.now; ring = was.ring.now; items = was.parts.items } in
-    let kept = c.self.invariant in
-    let s = c.args.segment in
-    let can : CanAdvance (machine_of v) s = subst (λ (m : Machine). CanAdvance m s) (sym c.self.view_is) c.in-Some.ensures.some in
-    let lt : s < length v.items = is_part v kept s can.is_segment in
-    let old : c.index_mut.result.now ≡ part_at v s = c.index_mut.ensures.value ∙ get_or_default v.items s c.index_mut.result.now no_part lt in
-    let may : MayAdvance v s = may_advance v kept s can in
-    let new = c.advance.ensures ∙ ap (λ (p : Progress). record p { segment = at_round p.segment (p.segment.round + 1) }) old in
-    advanced_fits v kept s c.advance.new.self lt may new
+    let d = (goal.at.invariant_of-self c).After-index_mut in
+    let new = c.advance.ensures ∙ ap (λ (p : Progress). record p { segment = at_round p.segment (p.segment.round + 1) }) (part_is d) in
+    advanced_fits (before d) c.self.invariant c.args.segment c.advance.new.self (inside d) (may d) new
 
 pub returns-in-Some : goal.returns-in-Some
 returns-in-Some c =
-    let was = c.self.inside in
-    let v : Parts = record { plan = was.plan.now; ring = was.ring.now; items = was.parts.items } in
-    let kept = c.self.invariant in
-    let s = c.args.segment in
-    let can : CanAdvance (machine_of v) s = subst (λ (m : Machine). CanAdvance m s) (sym c.self.view_is) c.in-Some.ensures.some in
-    let lt : s < length v.items = is_part v kept s can.is_segment in
-    let old : c.index_mut.result.now ≡ part_at v s = c.index_mut.ensures.value ∙ get_or_default v.items s c.index_mut.result.now no_part lt in
-    let may : MayAdvance v s = may_advance v kept s can in
-    let new = c.advance.ensures ∙ ap (λ (p : Progress). record p { segment = at_round p.segment (p.segment.round + 1) }) old in
-    subst (λ (m : Machine). Steps m (Advance s) (machine_of (after v kept s c.advance.new.self))) c.self.view_is
-    (advance_steps v kept s c.advance.new.self c.stretches_are_rows.ensures lt may new)
+    let d = (goal.at.returns-in-Some c).After-index_mut in
+    let new = c.advance.ensures ∙ ap (λ (p : Progress). record p { segment = at_round p.segment (p.segment.round + 1) }) (part_is d) in
+    subst (λ (m : Machine). Steps m (Advance c.args.segment) (machine_of (after (before d) c.self.invariant c.args.segment c.advance.new.self))) c.self.view_is
+    (advance_steps (before d) c.self.invariant c.args.segment c.advance.new.self c.stretches_are_rows.ensures (inside d) (may d) new)

@@ -4,33 +4,39 @@ use Rattle.ring_core.specs.Machine.{Machine, Steps}
 use Rattle.ring_core.specs.Parts.{Progress, Parts, MaySendRight, no_part, part_at, machine_of}
 use Rattle.ring_core.specs.declared.event.RingEvent.TheVariants.{SendRight}
 use Rattle.ring_core.proofs.Events.{after, sent_right_fits, sent_right_steps, right_idle}
+use Rattle.ring_core.proofs.world.World.send_right.Goals.{In_ok-send_right}
 use Rattle.ring_core.proofs.world.World.send_right.Goals as goal
 use Rattle.ring_core.proofs.world.World.send_right.Goals.{else-index-len-via-then-index-len+else-may_send_right, else-index-len-via-else-index-len}
 
+-- the part that has sent
+module _ (c : In_ok-send_right) where
+  abbrev before : Parts
+  before = record { plan = c.self.inside.plan.now; ring = c.self.inside.ring.now; items = c.self.inside.parts.items }
+
+  inside : c.args.segment < length before.items
+  inside = search rules
+
+  may : MaySendRight (part_at before c.args.segment)
+  may =
+      subst MaySendRight (c.index.ensures ∙ get_or_default before.items c.args.segment c.index.result.now no_part inside)
+      (c.may_send_right.ensures.0 c.if-may_send_right.true)
+
+  sent : c.send_right.new.self ≡ record (part_at before c.args.segment) { rightward = (part_at before c.args.segment).rightward + 1 }
+  sent =
+      c.in_ok-send_right.ensures.sent
+      ∙ ap (λ (p : Progress). record p { rightward = p.rightward + 1 })
+      (c.index_mut.ensures.value ∙ get_or_default before.items c.args.segment c.index_mut.result.now no_part inside)
+
 pub invariant_of-self-then-may_send_right : goal.invariant_of-self-then-may_send_right
 invariant_of-self-then-may_send_right c =
-    let was = c.self.inside in
-    let v : Parts = record { plan = was.plan.now; ring = was.ring.now; items = was.parts.items } in
-    let s = c.args.segment in
-    let lt : s < length v.items = search rules in
-    let read : c.index.result.now ≡ part_at v s = c.index.ensures ∙ get_or_default v.items s c.index.result.now no_part lt in
-    let old : c.index_mut.result.now ≡ part_at v s = c.index_mut.ensures.value ∙ get_or_default v.items s c.index_mut.result.now no_part lt in
-    let may : MaySendRight (part_at v s) = subst MaySendRight read (c.may_send_right.ensures.0 c.if-may_send_right.true) in
-    let new = c.in_ok-send_right.ensures.sent ∙ ap (λ (p : Progress). record p { rightward = p.rightward + 1 }) old in
-    sent_right_fits v c.self.invariant s c.send_right.new.self lt may new
+    let d = (goal.at.invariant_of-self-then-may_send_right c).In_ok-send_right in
+    sent_right_fits (before d) c.self.invariant c.args.segment c.send_right.new.self (inside d) (may d) (sent d)
 
 pub returns-in_ok-send_right : goal.returns-in_ok-send_right
 returns-in_ok-send_right c =
-    let was = c.self.inside in
-    let v : Parts = record { plan = was.plan.now; ring = was.ring.now; items = was.parts.items } in
-    let s = c.args.segment in
-    let lt : s < length v.items = search rules in
-    let read : c.index.result.now ≡ part_at v s = c.index.ensures ∙ get_or_default v.items s c.index.result.now no_part lt in
-    let old : c.index_mut.result.now ≡ part_at v s = c.index_mut.ensures.value ∙ get_or_default v.items s c.index_mut.result.now no_part lt in
-    let may : MaySendRight (part_at v s) = subst MaySendRight read (c.may_send_right.ensures.0 c.if-may_send_right.true) in
-    let new = c.in_ok-send_right.ensures.sent ∙ ap (λ (p : Progress). record p { rightward = p.rightward + 1 }) old in
-    subst (λ (m : Machine). Steps m (SendRight s) (machine_of (after v c.self.invariant s c.send_right.new.self))) c.self.view_is
-    (sent_right_steps v c.self.invariant s c.send_right.new.self lt may new)
+    let d = (goal.at.returns-in_ok-send_right c).In_ok-send_right in
+    subst (λ (m : Machine). Steps m (SendRight c.args.segment) (machine_of (after (before d) c.self.invariant c.args.segment c.send_right.new.self))) c.self.view_is
+    (sent_right_steps (before d) c.self.invariant c.args.segment c.send_right.new.self (inside d) (may d) (sent d))
 
 pub returns-else-index-len : goal.returns-else-index-len
 returns-else-index-len c =
