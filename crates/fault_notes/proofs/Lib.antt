@@ -4,3 +4,8 @@ pub mod WordKinds
 pub mod Causes
 pub mod NumberTexts
 pub mod Shapes
+pub mod Appended
+pub mod Reached
+pub mod Following
+pub mod Prefix
+pub mod Clean

@@ -11,3 +11,6 @@ pub mod VerdictNotes
 pub mod TableSizes
 pub mod Decimals
 pub mod TableNotes
+pub mod Wanted
+pub mod Probes
+pub mod Laws

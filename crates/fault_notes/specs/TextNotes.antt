@@ -6,8 +6,8 @@ use Rattle.node_lang.specs.declared.fault.FaultKind.TheVariants as kind
 use Rattle.node_lang.specs.Lexemes.{tokens_of}
 use Rattle.source_places.specs.Places.{line_number, column}
 use Rattle.source_places.specs.Shown.{shown, marked_line}
-use Rattle.wanted_tokens.specs.declared.wanted.Wanted.{Wanted}
-use Rattle.wanted_tokens.specs.Wanted.{IsWanted, SaysNothing}
+use Rattle.fault_notes.specs.declared.wanted.Wanted.{Wanted}
+use Rattle.fault_notes.specs.Wanted.{IsWanted, SaysNothing}
 use Rattle.fault_notes.specs.Words.{wanted_part, first_word}
 
 -- the start of a note on a place of a text

@@ -3,8 +3,8 @@ use Rattle.std.specs.Prelude.{ℕ, ◌==◌, ◌++◌, List, [], take, codes, Op
 use Rattle.std.specs.List.{prefix_len}
 use Rattle.std.specs.Fmt.{decimal}
 use Rattle.node_lang.specs.Words.{is_word_byte}
-use Rattle.wanted_tokens.specs.declared.wanted.Wanted.{Wanted}
-use Rattle.wanted_tokens.specs.declared.wanted.Wanted.TheVariants as wanted
+use Rattle.fault_notes.specs.declared.wanted.Wanted.{Wanted}
+use Rattle.fault_notes.specs.declared.wanted.Wanted.TheVariants as wanted
 
 -- the text for what can follow
 abbrev pub wanted_text : Wanted → List ℕ

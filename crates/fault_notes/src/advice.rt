@@ -2,8 +2,8 @@
 //! mistakes.
 
 use crate::operands::operands_advice;
+use crate::wanted::Wanted;
 use crate::words::{advice_at_start, advice_in};
-use wanted_tokens::Wanted;
 
 const PRODUCT: &str = "; there is no product: twice x is `shl(x, 1)`";
 

@@ -1,14 +1,16 @@
-//! Notes on refusals: the cause and its place.
+//! Notes on refusals: the cause and its place, and what can stand there.
 #![tactic(auto)]
 
 mod advice;
 mod bounds;
 mod decimals;
 mod kinds;
+mod laws;
 mod lexemes;
 mod numbers;
 mod operands;
 mod placed;
+mod probe;
 mod programs;
 mod rings;
 mod scanning;
@@ -16,10 +18,14 @@ mod sizes;
 mod tables;
 mod texts;
 mod verdicts;
+mod wanted;
 mod words;
 
+pub use laws::faults_have_wanted;
+pub use probe::wanted_after;
 pub use programs::check_note;
 pub use rings::{ring_note, segments_note};
 pub use tables::{channel_note, form_note, long_note, window_note};
 pub use texts::text_note;
 pub use verdicts::verdict_note;
+pub use wanted::Wanted;

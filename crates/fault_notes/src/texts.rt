@@ -4,17 +4,18 @@ ghost use Rattle.fault_notes.specs.Words.{wanted_part, first_word as word};
 ghost use Rattle.std.specs.Prelude.{◌≡◌, ◌≢◌, ◌≤◌, ◌++◌, codes, ℕ, List, ◌∷◌, Option, length, take, drop, IfOk, IfSome, IfNone, OnOk, string_bytes};
 ghost use Rattle.node_lang.specs.Lexemes.{tokens_of};
 ghost use Rattle.node_lang.specs.declared.fault.FaultKind.TheVariants as kind;
-ghost use Rattle.wanted_tokens.specs.Wanted.{IsWanted, SaysNothing};
+ghost use Rattle.fault_notes.specs.Wanted.{IsWanted, SaysNothing};
 ghost use Rattle.source_places.specs.Shown.{marked_line};
 ghost use Rattle.fault_notes.specs.TextNotes.{place_head, quoted, cause_of, IsTextNote, too_long_note};
 
 use crate::advice::{byte_advice, place_advice, word_advice};
+use crate::probe::wanted_after;
+use crate::wanted::Wanted;
 use crate::words::{first_word, write_wanted_part};
 use node_lang::{FaultKind, TextFault};
 use source_places::{column_of, line_of, write_marked_line, write_shown};
 use std::alloc::{AllocError, Global};
 use std::fmt::Write;
-use wanted_tokens::{Wanted, wanted_after};
 
 /// Returns the note on a fault of a program text: its line and its column, the cause and what can
 /// follow there, advice, and the line with a mark below the place. The note on a text that is too

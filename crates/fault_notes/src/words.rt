@@ -6,9 +6,9 @@ ghost use Rattle.node_lang.specs.Words.{is_word_byte as word_byte};
 ghost use Rattle.fault_notes.specs.Words.{wanted_text, wanted_part, first_word as first};
 
 use crate::lexemes::front_len;
+use crate::wanted::Wanted;
 use std::alloc::AllocError;
 use std::fmt::Write;
-use wanted_tokens::Wanted;
 
 // Returns whether this is an ASCII letter or digit.
 pub(crate) fn is_word_byte(byte: u8) -> bool

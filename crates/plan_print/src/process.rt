@@ -20,7 +20,7 @@ use std::sync::Wait;
 use std::thread::Threads;
 use task_words::task::Task;
 use task_words::words::WordsFault;
-use word_tips::{parse_task, print_words_fault};
+use task_words::{parse_task, print_words_fault};
 
 /// Does what the words after the program's name request, and returns the exit status. Writes the
 /// report or the help text to standard output, and prints faults and the note on a report to

@@ -1,13 +1,13 @@
 //! The trace of a ring: the registers and the messages of its places, round by round.
 
 ghost use Rattle.std.specs.Prelude.{◌≡◌, ◌+◌, ◌++◌, ◌<◌, [], ◌∷◌, codes, length, IfOk, IfErr, OnOk, string_bytes};
-ghost use Rattle.ring_trace.specs.Configuration.{told, CanTell};
+ghost use Rattle.round_eval.specs.Configuration.{told, CanTell};
 ghost use Rattle.reports.specs.Lines.{line, numbers_text};
 ghost use Rattle.reports.specs.Trace.{of_places, after_rounds, register_lines, message_lines, trace_lines};
 
 use devices::fault::EngineFault;
 use lang_check::Plan;
-use ring_trace::{Configuration, Told};
+use round_eval::{Configuration, Told};
 use std::alloc::{AllocError, Global};
 use std::fmt::Write;
 use win_index::Ring;

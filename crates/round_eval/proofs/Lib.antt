@@ -1,3 +1,4 @@
 -- Lemmas that several proofs share.
 mod RowLemmas
 mod GlobalRounds
+mod Configurations

@@ -1,6 +1,8 @@
-//! What a program means: the value of an expression, one round at a node, and global rounds on a ring.
+//! What a program means: the value of an expression, one round at a node, and global rounds on a ring, whose state can be read
+//! before and after each.
 #![tactic(auto)]
 
+mod configuration;
 mod gate;
 mod laws;
 mod node;
@@ -8,6 +10,7 @@ mod rounds;
 mod row;
 mod value;
 
+pub use configuration::{Configuration, Told};
 pub use gate::{Gate, OpenGate};
 pub use laws::{rows_are_taken, rows_are_written, stretches_are_rows};
 pub use node::{channel, messages, sent_to_left, sent_to_right, start_state, step};

@@ -1,5 +1,5 @@
 -- The definitions that the contracts cite: numbers and ring texts, numbers of workers and segments, tasks, the command
--- line, the tasks of words, faults of words, and the rows of the tables.
+-- line, the tasks of words, faults of words, the rows of the tables, and tips on words.
 pub mod Decimal
 pub mod RingText
 pub mod Counts
@@ -9,3 +9,5 @@ pub mod Words
 pub mod Options
 pub mod WordsFault
 pub mod Rows
+pub mod RingTips
+pub mod Tips

@@ -1,4 +1,4 @@
-//! The words of the command line, and the tasks that they request.
+//! The words of the command line, the tasks that they request, and tips on refused ones.
 #![tactic(auto)]
 
 mod command_line;
@@ -7,7 +7,14 @@ mod help;
 pub mod limits;
 mod options;
 mod parsing;
+mod process;
 pub mod ring_text;
+mod ring_tips;
 mod rows;
 pub mod task;
+mod tips;
 pub mod words;
+
+pub use process::{parse_task, print_words_fault};
+pub use ring_tips::{ring_tip, ring_word};
+pub use tips::{Tip, usage_tip};

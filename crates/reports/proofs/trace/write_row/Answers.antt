@@ -1,7 +1,7 @@
 use Rattle.std.proofs.Common.{◌≡◌, ◌≤◌, ℕ, List, ◌∷◌, ◌++◌, [], length, string_bytes, ap, ◌∙◌, append_assoc, arith}
 use Rattle.std.specs.List.{flat_map, range_with_len}
 use Rattle.std.specs.Fmt.{decimal}
-use Rattle.ring_trace.specs.Configuration.{told}
+use Rattle.round_eval.specs.Configuration.{told}
 use Rattle.reports.proofs.TraceLines.{lines_more, after_blanks}
 use Rattle.reports.proofs.trace.write_row.Goals as goal
 

@@ -1,7 +1,7 @@
 use Rattle.std.proofs.Common.{◌≡◌, ◌∷◌, ◌++◌, string_bytes}
 use Rattle.std.specs.List.{flat_map, range_with_len}
 use Rattle.std.specs.Fmt.{decimal}
-use Rattle.ring_trace.specs.Configuration.{told}
+use Rattle.round_eval.specs.Configuration.{told}
 use Rattle.reports.proofs.trace.write_row.Given as goal
 
 -- the numbers of the places so far are in the text

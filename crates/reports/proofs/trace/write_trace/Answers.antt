@@ -1,6 +1,6 @@
 use Rattle.std.proofs.Common.{◌≡◌, ◌+◌, ◌++◌, [], ◌∷◌, length, codes, string_bytes, append-nil, sym, ap, ◌∙◌, arith}
-use Rattle.ring_trace.specs.Configuration.{RingConfiguration, told}
-use Rattle.ring_trace.specs.declared.configuration.Told.TheVariants.{Channel}
+use Rattle.round_eval.specs.Configuration.{RingConfiguration, told}
+use Rattle.round_eval.specs.declared.configuration.Told.TheVariants.{Channel}
 use Rattle.reports.specs.Lines.{line, numbers_text}
 use Rattle.reports.specs.Trace.{of_places, register_lines, message_lines}
 use Rattle.reports.proofs.TraceLines.{round_more, finished}

@@ -1,2 +1,0 @@
--- Lemmas that several proofs share.
-mod Rounds

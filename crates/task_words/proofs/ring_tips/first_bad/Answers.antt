@@ -1,0 +1,31 @@
+use Rattle.std.proofs.Common.{◌≡◌, ℕ, ◌<◌, List, Some, length, map, get_or, sym, ap, ◌∙◌, subst, inl, inr, arith, Bor}
+use Rattle.std.specs.Prelude.{slice_get}
+use Rattle.std.proofs.lemmas.Bool.{cases_order}
+use Rattle.std.proofs.lemmas.List.{length-map}
+use Rattle.std.proofs.lemmas.Option.{slice_get-get_or, slice_get-map}
+use Rattle.std.specs.Option.{option_map}
+use Rattle.task_words.specs.Decimal.{IsNumber}
+use Rattle.task_words.proofs.ring_tips.first_bad.Goals as goal
+
+abbrev text_of : Bor (List ℕ) → List ℕ
+text_of part = part.now
+
+-- a part of the texts is the text of a part
+part_is : (parts : List (Bor (List ℕ))) (k i : ℕ) (d : Bor (List ℕ)) (other : List ℕ) → k ≡ i → i < length parts → slice_get (map text_of parts) k ≡ Some other →
+    text_of (get_or parts i d) ≡ other
+part_is parts k i d other same h e =
+    let found : Some (text_of (get_or parts i d)) ≡ Some other =
+    sym (ap (option_map text_of) (slice_get-get_or parts i d h)) ∙ sym (slice_get-map text_of parts i) ∙ ap (slice_get (map text_of parts)) (sym same) ∙ e in cc
+
+pub parts-preserved : goal.parts-preserved
+parts-preserved c = λ k other h e. elim (cases_order k c.parts.index) [
+  | inl same ↦ subst IsNumber (part_is c.args.parts.now k c.parts.index _ other same c.parts-test.true e) (c.is_number.ensures.0 c.if-not-is_number.false)
+  | inr (inl less) ↦ c.parts.invariant k other less e
+  | inr (inr more) ↦ absurd (omega (arith, h, more))
+]
+
+-- All parts were numbers.
+pub returns-clause-none : goal.returns-clause-none
+returns-clause-none c = λ k d h.
+    let short = rw (length-map c.args.parts.now text_of) at h in
+    c.parts.invariant k _ (omega (arith, short, c.parts-test.false, c.parts.auto)) (slice_get-get_or (map text_of c.args.parts.now) k d h)

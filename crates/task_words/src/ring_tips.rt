@@ -1,0 +1,82 @@
+//! The tip on a text that is no ring text.
+
+ghost use Rattle.std.specs.Prelude.{◌≡◌, ◌↔◌, map, All, IsTrue, IfOk, IfSome, IfNone, option_map, string_bytes};
+ghost use Rattle.task_words.specs.Decimal.{IsNumber};
+ghost use Rattle.task_words.specs.RingText.{parts_of, IsRingText};
+ghost use Rattle.task_words.specs.RingTips as texts;
+ghost use Rattle.task_words.specs.RingTips.{IsFirstBad, IsRingTip};
+
+use std::alloc::{AllocError, Global};
+
+/// Returns a line that names the first part of a text that is no number, or `None` if it is a ring
+/// text. Fails if memory was refused.
+pub fn ring_tip(alloc: Global, text: &str) -> Result<Option<String>, AllocError>
+    ensures tip { IfOk result (λ found. IfSome found (λ tip. IsRingTip text.now (string_bytes tip))) }
+    ensures none { IfOk result (λ found. IfNone found (IsRingText text.now)) }
+{
+    let parts = parts(alloc, text)?;
+    let Some((index, part)) = first_bad(&parts) else {
+        return Ok(None);
+    };
+    let number = index + 1;
+    let tip = format!(in alloc;
+        "nbhd: part {number} of the ring text, `{part}`, is no number from 0 to 4294967295; a ring is numbers with single commas, as 5,1,3,7"
+    )?;
+    Ok(Some(tip))
+}
+
+// Returns the parts of a text before, between and after its commas.
+fn parts(alloc: Global, text: &str) -> Result<Vec<&str>, AllocError>
+    ensures { IfOk result (λ parts. map (λ part. part.now) parts.items ≡ parts_of text.now) }
+{
+    text.split(',').collect(alloc)
+}
+
+// Returns whether a text is a number.
+fn is_number(text: &str) -> bool
+    ensures { IsTrue result ↔ IsNumber text.now }
+{
+    match text.as_bytes() {
+        [b'+', ..] => false,
+        _ => text.parse::<u32>().is_ok(),
+    }
+}
+
+// Returns the first part that is no number, with its index.
+fn first_bad<'a>(parts: &[&'a str]) -> Option<(usize, &'a str)>
+    ensures some { IfSome result (λ found. IsFirstBad (map (λ part. part.now) parts.now) found.0 found.1.now) }
+    ensures none { IfNone result (All IsNumber (map (λ part. part.now) parts.now)) }
+{
+    'parts: for (index, part) in parts.iter().enumerate() {
+        if !is_number(part) {
+            return Some((index, *part));
+        }
+    }
+    None
+}
+
+/// Returns the first value of `--ring` among words: the word after it, or the rest of a word that
+/// begins with `--ring=`.
+pub fn ring_word(words: &[String]) -> Option<&str>
+    ensures { option_map (λ word. word.now) result ≡ texts.ring_word (map string_bytes words.now) }
+{
+    let mut last = "";
+    for word in words {
+        let word = word.as_str();
+        if let Some(text) = ring_value(last, word) {
+            return Some(text);
+        }
+        last = word;
+    }
+    None
+}
+
+// Returns the value of `--ring` that a word is or has, by the word before it.
+fn ring_value<'a>(last: &str, word: &'a str) -> Option<&'a str>
+    ensures { option_map (λ text. text.now) result ≡ texts.ring_value last.now word.now }
+{
+    if last == "--ring" {
+        return Some(word);
+    }
+    word.strip_prefix("--ring=")
+}
