@@ -1,5 +1,6 @@
 -- The entries of a table, read in shares from the blocks of the last level.
-use Rattle.std.specs.Prelude.{◌≡◌, ℕ, ◌+◌, ◌*◌, ◌%◌, ◌<◌, ◌≤◌, ◌⊎◌, List, Some, length, slice_index, slice_get}
+use Rattle.std.specs.Prelude.{◌≡◌, ℕ, ◌+◌, ◌*◌, ◌%◌, ◌<◌, ◌≤◌, ◌⊎◌, List, Some, length, min, slice_index, slice_get}
+use Rattle.std.specs.Int.{div_ceil}
 use denote.Ref.{Bor}
 use Rattle.lang_check.specs.Plans.{ProgramForIds}
 use Rattle.window_states.specs.BlockStates.{IsKeyedBlock}
@@ -7,6 +8,10 @@ use Rattle.window_states.specs.BlockStates.{MadeBlock, window_numbered}
 use Rattle.win_index.specs.Blocks.{block_count, window_count}
 use Rattle.table_entries.specs.ProgramTables.{window_channel}
 use Rattle.win_index.specs.declared.limits.TheConstants.{BLOCK_WINDOWS}
+
+-- the number of shares for this many windows: one for each 64 blocks that are begun, but at most `most`
+abbrev pub share_count : ℕ → ℕ → ℕ
+share_count most windows = min most (div_ceil windows (64 * BLOCK_WINDOWS))
 
 -- the blocks of the last level, in order
 pub record AreLastBlocks (plan : ProgramForIds) (blocks : List (Bor MadeBlock)) : Type 0 where

@@ -36,11 +36,11 @@ impl<'c, 'p> Model for EntryReader<'c, 'p> {
 impl<'c, 'p> EntryReader<'c, 'p> {
     ghost use Rattle.std.specs.Prelude.{◌≡◌, ◌<◌, ◌≤◌, length, vec_len, IfOk};
     ghost use Rattle.win_index.specs.Blocks.{window_count};
-    ghost use Rattle.table_entries.specs.EntryShares.{AreLastBlocks};
+    ghost use Rattle.table_entries.specs.EntryShares.{AreLastBlocks, share_count};
     ghost use Rattle.table_entries.specs.ProgramTables.{table_of};
 
-    /// Allocates scratch to read the table of a plan in at most `shares` shares, and in fewer if the
-    /// table is small, or returns the error that memory was refused.
+    /// Allocates scratch to read the table of a plan in one share for each 64 blocks that are begun,
+    /// but in at most `shares` shares. Fails with `OutOfMemory` if memory was refused.
     pub fn new(
         alloc: Global,
         code: &'c Code<'p>,
@@ -48,6 +48,8 @@ impl<'c, 'p> EntryReader<'c, 'p> {
     ) -> Result<EntryReader<'c, 'p>, OutOfMemory>
         requires { 0 < shares }
         ensures plan { IfOk result (λ reader. reader.plan ≡ code.entry.now) }
+        ensures shares { IfOk result (λ reader. reader.shares
+            ≡ share_count shares (window_count code.entry.now.ids (length code.entry.now.program.steps))) }
         ensures few { IfOk result (λ reader. reader.shares ≤ shares) }
     {
         let shape = code.plan().shape();
