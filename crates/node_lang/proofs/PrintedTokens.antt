@@ -86,13 +86,13 @@ register_is_word j small = rw (decimal_digit j small) (register_word (48 + j) j 
 known : (word : List ℕ) (t : Token) → list_all is_word_byte word ≡ true → nat_lt 0 (length word) ≡ true → word_token word ≡ t → IsWord word t
 known word t letters some is = record { letters = letters; some = ltb-true 0 (length word) some; token = is }
 
--- names of operations are short
-binary_word : (o : BinOp) → IsWord (binary_name o) (token.Two o) × (length (binary_name o) ≤ 3)
+-- names of operations have at most six letters, so that with marks and a blank they have ten bytes
+binary_word : (o : BinOp) → IsWord (binary_name o) (token.Two o) × (length (binary_name o) ≤ 6)
 unfolding word_token
 binary_word op.And = (known (binary_name op.And) (token.Two op.And) refl refl refl, omega arith)
 binary_word o = (known (binary_name o) (token.Two o) refl refl refl, omega arith)
 
-unary_word : (o : UnOp) → IsWord (unary_name o) (token.One o) × (length (unary_name o) ≤ 3)
+unary_word : (o : UnOp) → IsWord (unary_name o) (token.One o) × (length (unary_name o) ≤ 6)
 unfolding word_token
 unary_word Not = (known (unary_name Not) (token.One Not) refl refl refl, omega arith)
 
@@ -181,12 +181,12 @@ an_expression RightMessage number register = a_word 10 (keyword token.FromRight 
 an_expression (RegisterValue j) number register = roomy (a_register j register) (omega arith)
 an_expression (One o a) number register =
     let word = unary_word o in
-    ended (glue (a_word 3 word.0 word.1) (glue opened (glue (an_expression a number register) closed (λ _ _. refl)) (λ _ _. tt)) (λ _ _. refl)) (omega arith)
+    ended (glue (a_word 6 word.0 word.1) (glue opened (glue (an_expression a number register) closed (λ _ _. refl)) (λ _ _. tt)) (λ _ _. refl)) (omega arith)
 an_expression (Two o a b) number register =
     let word = binary_word o in
     let first = an_expression a (omega (arith, number)) (omega (arith, register)) in
     let second = an_expression b (omega (arith, number)) (omega (arith, register)) in
-    ended (glue (a_word 3 word.0 word.1) (glue opened (glue first (glue comma (glue second closed (λ _ _. refl)) (λ _ _. tt)) (λ _ _. refl)) (λ _ _. tt)) (λ _ _. refl)) (omega arith)
+    ended (glue (a_word 6 word.0 word.1) (glue opened (glue first (glue comma (glue second closed (λ _ _. refl)) (λ _ _. tt)) (λ _ _. refl)) (λ _ _. tt)) (λ _ _. refl)) (omega arith)
 an_expression (Choose c a b) number register =
     let first = an_expression c (omega (arith, number)) (omega (arith, register)) in
     let second = an_expression a (omega (arith, number)) (omega (arith, register)) in
