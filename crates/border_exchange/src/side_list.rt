@@ -41,7 +41,7 @@ impl<M: Dated + Copy, L: Ledger> SideList<M, L> {
     {
         Ok(SideList {
             side,
-            messages: Vec::with_capacity(alloc, 1).map_err(|_| OutOfMemory)?,
+            messages: Vec::with_capacity(alloc, 1)?,
             book,
         })
     }

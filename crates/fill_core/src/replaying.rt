@@ -77,7 +77,7 @@ fn idle_workers(alloc: Global, count: u32, jobs: usize) -> Result<Vec<Hand>, Out
 {
     let mut hands = Vec::new(alloc);
     for _worker in 0..count {
-        let knows = vec![in alloc; false; jobs].map_err(|_| OutOfMemory)?;
+        let knows = vec![in alloc; false; jobs]?;
         let hand = Hand {
             job: None,
             stopped: false,

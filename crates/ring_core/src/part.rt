@@ -139,7 +139,7 @@ impl<'a> Part<'a> {
         ensures same { OnErr result (self.new ≡ self.old) }
     {
         let (message, _) = self.segment.outgoing();
-        self.rightward.push(message).map_err(|_| OutOfMemory)
+        Ok(self.rightward.push(message)?)
     }
 
     // Sends the message of the current round to the left.
@@ -150,7 +150,7 @@ impl<'a> Part<'a> {
         ensures same { OnErr result (self.new ≡ self.old) }
     {
         let (_, message) = self.segment.outgoing();
-        self.leftward.push(message).map_err(|_| OutOfMemory)
+        Ok(self.leftward.push(message)?)
     }
 
     // Does one more round, with the messages of the neighbours.

@@ -181,5 +181,5 @@ impl<'a> Segment<'a> {
 fn zeros(alloc: Global, len: usize) -> Result<Vec<u32>, OutOfMemory>
     ensures { IfOk result (λ cells. length cells.items ≡ len) }
 {
-    vec![in alloc; 0; len].map_err(|_| OutOfMemory)
+    Ok(vec![in alloc; 0; len]?)
 }

@@ -4,6 +4,7 @@ ghost use Rattle.std.specs.Prelude.{◌≡◌, IfOk, length};
 
 use crate::laws::stretches_are_rows;
 use crate::node::{channel, sent_to_left, sent_to_right};
+use crate::rounds::zeros;
 use crate::row::{round_of_row, row_at, start_of_row, width_of};
 use lang_check::Plan;
 use node_program::OutOfMemory;
@@ -154,11 +155,4 @@ impl<'a> Configuration<'a> {
     {
         row_at(&self.states, width_of(self.plan), place as usize)
     }
-}
-
-// Returns a list of `len` zeros.
-fn zeros(alloc: Global, len: usize) -> Result<Vec<u32>, OutOfMemory>
-    ensures { IfOk result (λ cells. length cells.items ≡ len) }
-{
-    vec![in alloc; 0; len].map_err(|_| OutOfMemory)
 }

@@ -26,10 +26,11 @@ pub fn plain_run(alloc: Global, plan: &Plan, ring: &Ring) -> Result<Vec<u32>, Ou
     Ok(channels)
 }
 
-fn zeros(alloc: Global, len: usize) -> Result<Vec<u32>, OutOfMemory>
+// Returns a list of `len` zeros.
+pub(crate) fn zeros(alloc: Global, len: usize) -> Result<Vec<u32>, OutOfMemory>
     ensures { IfOk result (λ cells. length cells.items ≡ len) }
 {
-    vec![in alloc; 0; len].map_err(|_| OutOfMemory)
+    Ok(vec![in alloc; 0; len]?)
 }
 
 // Writes the channels of a ring after all rounds. `states` and `next` are scratch, with a row of

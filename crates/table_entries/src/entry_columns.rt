@@ -28,7 +28,7 @@ impl EntryColumns {
         let width = BLOCK_WINDOWS as usize;
         let work = Work::new(alloc, code, width)?;
         let states = Columns::new(alloc, width_of(code.plan()), width)?;
-        let channels = vec![in alloc; 0; width].map_err(|_| OutOfMemory)?;
+        let channels = vec![in alloc; 0; width]?;
         Ok(EntryColumns {
             work,
             states,

@@ -93,7 +93,7 @@ fn columns_of_shares(
     ensures count { IfOk result (λ columns. vec_len columns ≡ shares) }
     ensures of_plan { IfOk result (λ columns. All (IsChannelRoom code.now) columns.items) }
 {
-    let mut columns = Vec::with_capacity(alloc, shares as usize).map_err(|_| OutOfMemory)?;
+    let mut columns = Vec::with_capacity(alloc, shares as usize)?;
     for _share in 0..shares {
         columns.push_reserved(EntryColumns::new(alloc, code)?);
     }

@@ -1,3 +1,8 @@
+ghost use Rattle.std.specs.Prelude.{◌≡◌};
+ghost use Rattle.unroll.specs.declared.fault.MakeFault.TheVariants.{OutOfMemory};
+
+use node_program::OutOfMemory;
+
 /// Why a block was not made.
 #[derive(Clone, Copy, Debug, PartialEq, Eq)]
 pub enum MakeFault {
@@ -6,4 +11,12 @@ pub enum MakeFault {
     Missing(u32, u32),
     /// Memory could not be allocated.
     OutOfMemory,
+}
+
+impl From<OutOfMemory> for MakeFault {
+    ghost from_gives = { λ _ fault. fault ≡ OutOfMemory };
+
+    fn from(_refused: OutOfMemory) -> MakeFault {
+        MakeFault::OutOfMemory
+    }
 }

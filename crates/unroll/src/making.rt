@@ -30,7 +30,7 @@ pub fn make_block<'a, 's, S: Source<'s>>(
     ensures asked { AskedFor level S.plan S.fixed S.entries source.old source.new }
     ensures made { IsMade S.entries source.old source.new plan.now level number maker result }
 {
-    let code = Code::new(alloc, plan).map_err(|_| MakeFault::OutOfMemory)?;
-    let mut blocks = BlockMaker::new(alloc, &code).map_err(|_| MakeFault::OutOfMemory)?;
+    let code = Code::new(alloc, plan)?;
+    let mut blocks = BlockMaker::new(alloc, &code)?;
     blocks.make(source, level, number, maker)
 }

@@ -117,7 +117,7 @@ fn copy_some(cells: &mut [u32], place: usize, count: usize, numbers: &[u32], ind
 pub(crate) fn zeros(alloc: Global, len: usize) -> Result<Vec<u32>, OutOfMemory>
     ensures { IfOk result (λ list. list.items ≡ replicate len 0) }
 {
-    vec![in alloc; 0; len].map_err(|_| OutOfMemory)
+    Ok(vec![in alloc; 0; len]?)
 }
 
 // Columns for the states of `BLOCK_WINDOWS` windows.
