@@ -33,7 +33,9 @@ impl Counts {
         ensures { IfOk result (CountsFit table.now) }
     {
         let len = (limit as usize + 1) * (table.shape().ids() as usize + 1);
-        let cells = vec![in alloc; 0u32; len].map_err(|_| OutOfMemory)?;
+        let Ok(cells) = vec![in alloc; 0u32; len] else {
+            return Err(OutOfMemory);
+        };
         Ok(Counts {
             cells,
             limit,

@@ -91,39 +91,11 @@ fn far_free_with_first(
     let mut least = least;
     for second in 0..table.shape().ids() {
         set_second(list, second);
-        least = far_free_with_prefix(table, counts, list, distance, least);
+        if begins_with_window(table, list) {
+            least = far_free_at_window(table, counts, list, distance, least);
+        }
     }
     least
-}
-
-// Like `far_free_in_block`, for the window at the start of `list`. Returns `least` if its
-// identifiers are not distinct.
-fn far_free_with_prefix(
-    table: &Table,
-    counts: &mut Counts,
-    list: &mut [u32],
-    distance: u32,
-    least: u32,
-) -> u32
-    requires some { 1 ≤ table.now.rounds }
-    requires distance { 1 ≤ distance }
-    requires long { length list.old ≡ 2 * table.now.rounds + 3 }
-    requires first { slice_index list.old 0 < table.now.ids }
-    requires second { slice_index list.old 1 < table.now.ids }
-    requires middle { IsWindow (shared_len table.now) table.now.ids (middle_of table.now list.old) }
-    requires fit { CountsFit table.now counts.old }
-    requires counts { AreCountsOnceMade table.now (middle_of table.now list.old) counts.old }
-    ensures same { take (2 * table.now.rounds + 1) list.new ≡ take (2 * table.now.rounds + 1) list.old }
-    ensures fit { CountsFit table.now counts.new }
-    ensures counts { AreCountsOnceMade table.now (middle_of table.now list.old) counts.new }
-    ensures less { result ≤ least }
-    ensures free { AreFarFreeIn table.now distance result (λ window. window ≡ take (2 * table.now.rounds + 1) list.old) }
-{
-    numbers_of_windows();
-    if !begins_with_window(table, list) {
-        return least;
-    }
-    far_free_at_window(table, counts, list, distance, least)
 }
 
 // Returns whether the list begins with a window.
@@ -216,7 +188,8 @@ fn may_begin_far_tuple(
     ensures far { OnFalse result (¬ BeginsFarTuple table.now distance (take (2 * table.now.rounds + 1) list.old)) }
 {
     numbers_of_windows();
-    let (first, second) = (list[0], list[1]);
+    let first = list[0];
+    let second = list[1];
     let all = close_count(table, counts, table.shape().ids(), channel, distance);
     let with_first = close_count(table, counts, first, channel, distance);
     let with_second = close_count(table, counts, second, channel, distance);

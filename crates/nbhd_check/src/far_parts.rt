@@ -42,7 +42,9 @@ pub(crate) fn searchers(
     let mut searchers = Vec::new(alloc);
     for _thread in 0..threads {
         let searcher = fresh_searcher(alloc, table, distance, limit)?;
-        searchers.push(searcher).map_err(|_| OutOfMemory)?;
+        let Ok(()) = searchers.push(searcher) else {
+            return Err(OutOfMemory);
+        };
     }
     Ok(searchers)
 }
@@ -105,7 +107,8 @@ fn search<R: Threads + Sync>(
     requires searchers { All (IsSearcherOf table.now distance) searchers.old }
     ensures { All (IsSearcherOf table.now distance) searchers.new }
 {
-    let (next, best) = (AtomicUsize::new(0), AtomicU32::new(least));
+    let next = AtomicUsize::new(0);
+    let best = AtomicU32::new(least);
     let threads = searchers.len().max(1);
     for_each_mut(
         rt,

@@ -50,13 +50,13 @@ fn free_windows<R: Threads + Sync>(
     if !are_worth_counting(table, limit) {
         return None;
     }
-    let Ok(mut counts) = Counts::new(alloc, table, limit) else {
-        return None;
-    };
     let more = if threads < 2 {
         0
     } else {
         threads.min(MAX_FAR_PARTS as u64)
+    };
+    let Ok(mut counts) = Counts::new(alloc, table, limit) else {
+        return None;
     };
     let Ok(mut searchers) = searchers(alloc, table, separation.far, limit, more as usize) else {
         return None;

@@ -96,7 +96,9 @@ fn no(
     let step = broken_step(table, separation, tuple);
     let first = channel_from(table, separation, tuple, 0);
     let second = channel_from(table, separation, tuple, step as usize);
-    let ring = to_vec(alloc, tuple)?;
+    let Ok(ring) = tuple.to_vec(alloc) else {
+        return Err(OutOfMemory);
+    };
     let place = table.shape().rounds();
     Ok(Verdict::No {
         ring,
@@ -120,10 +122,4 @@ fn broken_step(table: &Table, separation: Separation, tuple: &[u32]) -> u32
     } else {
         2
     }
-}
-
-fn to_vec(alloc: Global, list: &[u32]) -> Result<Vec<u32>, OutOfMemory>
-    ensures { IfOk result (λ copy. copy.items ≡ list.now) }
-{
-    list.to_vec(alloc).map_err(|_| OutOfMemory)
 }

@@ -68,13 +68,13 @@ pub(crate) fn check_fault_line(alloc: Global, fault: CheckFault) -> Result<Strin
     ensures { IfOk result (λ text. string_bytes text ≡ report.check_fault_line fault) }
 {
     match fault {
-        CheckFault::IdsOutOfRange => format!(in alloc; "check fault X1\n"),
-        CheckFault::TooManyWindows => format!(in alloc; "check fault X2\n"),
+        CheckFault::IdsOutOfRange => String::from_str(alloc, "check fault X1\n"),
+        CheckFault::TooManyWindows => String::from_str(alloc, "check fault X2\n"),
         CheckFault::RegisterOutOfRange(register) => {
             format!(in alloc; "check fault C1 register {register}\n")
         }
-        CheckFault::IdOutsideStart => format!(in alloc; "check fault C2\n"),
-        CheckFault::MessageOutsideStep => format!(in alloc; "check fault C3\n"),
+        CheckFault::IdOutsideStart => String::from_str(alloc, "check fault C2\n"),
+        CheckFault::MessageOutsideStep => String::from_str(alloc, "check fault C3\n"),
         CheckFault::ChannelBound(bound) => format!(in alloc; "check fault C4 bound {bound}\n"),
     }
 }
@@ -84,8 +84,8 @@ pub(crate) fn ring_fault_line(alloc: Global, fault: RingFault) -> Result<String,
     ensures { IfOk result (λ text. string_bytes text ≡ report.ring_fault_line fault) }
 {
     match fault {
-        RingFault::TooShort => format!(in alloc; "ring fault G1\n"),
-        RingFault::TooLong => format!(in alloc; "ring fault G2\n"),
+        RingFault::TooShort => String::from_str(alloc, "ring fault G1\n"),
+        RingFault::TooLong => String::from_str(alloc, "ring fault G2\n"),
         RingFault::IdTooLarge(place) => format!(in alloc; "ring fault G3 place {place}\n"),
         RingFault::Repeated(first, second) => {
             format!(in alloc; "ring fault G4 places {first} {second}\n")
@@ -97,7 +97,7 @@ pub(crate) fn ring_fault_line(alloc: Global, fault: RingFault) -> Result<String,
 pub(crate) fn segments_fault_line(alloc: Global) -> Result<String, AllocError>
     ensures { IfOk result (λ text. string_bytes text ≡ report.segments_fault_line) }
 {
-    format!(in alloc; "segments fault E1\n")
+    String::from_str(alloc, "segments fault E1\n")
 }
 
 // Returns the line of a text that is not a table text, or an empty text for `OutOfMemory`.
@@ -134,40 +134,7 @@ pub(crate) fn good_line(alloc: Global, tuples: u64) -> Result<String, AllocError
     format!(in alloc; "yes: {tuples} tuples\n")
 }
 
-// Returns the line of a ring on which a place and its right neighbour have the same channel.
-fn bad_line(alloc: Global, ring: &[u32], place: u32, channel: u32) -> Result<String, AllocError>
-    ensures { IfOk result (λ text. string_bytes text ≡ report.bad_line ring.now place channel) }
-{
-    let mut text = String::new(alloc);
-    text.push_str("no: ring ")?;
-    write_numbers(&mut text, ring)?;
-    write!(text, " place {place} channel {channel}\n")?;
-    Ok(text)
-}
-
-// Returns the line of a ring on which the channels of two places are too close.
-fn close_line(
-    alloc: Global,
-    ring: &[u32],
-    places: (u32, u32),
-    channels: (u32, u32),
-) -> Result<String, AllocError>
-    ensures { IfOk result (λ text. string_bytes text ≡ report.close_line ring.now places channels) }
-{
-    let mut text = String::new(alloc);
-    text.push_str("no: ring ")?;
-    write_numbers(&mut text, ring)?;
-    let (place, other_place) = places;
-    let (channel, other_channel) = channels;
-    write!(
-        text,
-        " places {place} {other_place} channels {channel} {other_channel}\n"
-    )?;
-    Ok(text)
-}
-
-// Returns the line of a no. If neighbours' channels only have to differ, it has the one channel of
-// both places.
+// Returns the line of a no.
 pub(crate) fn no_line(
     alloc: Global,
     separation: Separation,
@@ -177,10 +144,33 @@ pub(crate) fn no_line(
 ) -> Result<String, AllocError>
     ensures { IfOk result (λ text. string_bytes text ≡ report.no_line separation ring.now places channels) }
 {
+    let mut text = String::new(alloc);
+    write_no(&mut text, separation, ring, places, channels)?;
+    Ok(text)
+}
+
+// Writes the line of a no. If neighbours' channels only have to differ, it has the one channel of
+// both places.
+fn write_no(
+    text: &mut String,
+    separation: Separation,
+    ring: &[u32],
+    places: (u32, u32),
+    channels: (u32, u32),
+) -> Result<(), AllocError>
+    ensures { OnOk result (string_bytes text.new ≡ string_bytes text.old ++ report.no_line separation ring.now places channels) }
+{
+    text.push_str("no: ring ")?;
+    write_numbers(text, ring)?;
+    let (place, other_place) = places;
+    let (channel, other_channel) = channels;
     if separation.near == 1 && separation.far == 0 {
-        bad_line(alloc, ring, places.0, channels.0)
+        write!(text, " place {place} channel {channel}\n")
     } else {
-        close_line(alloc, ring, places, channels)
+        write!(
+            text,
+            " places {place} {other_place} channels {channel} {other_channel}\n"
+        )
     }
 }
 

@@ -139,7 +139,7 @@ fn table_in(alloc: Global, input: &[u8]) -> Result<Result<(Table, Separation), A
     ensures fault { IfErr result (λ fault. fault ≡ EngineFault.Memory) }
 {
     match read_table(alloc, input) {
-        Ok((table, separation)) => Ok(Ok((table, separation))),
+        Ok(read) => Ok(Ok(read)),
         Err(TableFault::OutOfMemory) => Err(EngineFault::Memory),
         Err(fault) => {
             let line = table_fault_line(alloc, fault)?;

@@ -42,8 +42,7 @@ fn write_trace(
         write_registers(text, places)?;
     }
     text.push_str("finish")?;
-    write_row(text, places, Told::Channel)?;
-    Ok(())
+    write_row(text, places, Told::Channel)
 }
 
 // Writes a line for each register, with its value at each place.
@@ -97,6 +96,5 @@ fn write_row(text: &mut String, places: &Configuration<'_>, what: Told) -> Resul
         let number = places.told(what, place);
         write!(text, " {number}")?;
     }
-    text.push_str("\n")?;
-    Ok(())
+    text.push_str("\n")
 }

@@ -37,45 +37,19 @@ pub fn write_answer<W: Write>(
     ensures own { IfErr result (MayHave 0) }
     ensures failed { IsErrOf result EngineFault.Write ↔ IsTrue (has_failed writer.new) }
 {
-    write_report(alloc, &answer, writer)?;
-    Ok(status_and_cause(answer))
-}
-
-// Returns the status of a report, and its cause if it is a refusal or a no.
-fn status_and_cause(answer: Answer) -> (Status, Option<Cause>)
-    ensures status { result.0 ≡ (report_in answer).status }
-    ensures cause { result.1 ≡ cause_in answer }
-{
     match answer {
-        Answer::Text(_, status) => (status, None),
-        Answer::Told(_, status, cause) => (status, Some(cause)),
-        Answer::Table(_, _) => (Status::Done, None),
-    }
-}
-
-// Writes the bytes of a report.
-fn write_report<W: Write>(
-    alloc: Global,
-    answer: &Answer,
-    writer: &mut Watched<W>,
-) -> Result<(), EngineFault>
-    requires { has_failed writer.old ≡ false }
-    ensures report { OnOk result (Appends (W.contents (device_of writer.old)) (W.contents (device_of writer.new)) (report_in answer.now).bytes) }
-    ensures left { IfErr result (LeavesFront (report_in answer.now).bytes (W.contents (device_of writer.old)) (W.contents (device_of writer.new))) }
-    ensures fault { IfErr result (λ fault. fault ≢ EngineFault.Read) }
-    ensures own { IfErr result (MayHave 0) }
-    ensures failed { IsErrOf result EngineFault.Write ↔ IsTrue (has_failed writer.new) }
-{
-    match answer {
-        Answer::Text(text, _) => {
+        Answer::Text(text, status) => {
             send(writer, text.as_bytes())?;
-            Ok(())
+            Ok((status, None))
         }
-        Answer::Told(text, _, _) => {
+        Answer::Told(text, status, cause) => {
             send(writer, text.as_bytes())?;
-            Ok(())
+            Ok((status, Some(cause)))
         }
-        Answer::Table(table, separation) => write_table_text(alloc, table, *separation, writer),
+        Answer::Table(table, separation) => {
+            write_table_text(alloc, &table, separation, writer)?;
+            Ok((Status::Done, None))
+        }
     }
 }
 

@@ -1,4 +1,5 @@
 use Rattle.std.proofs.Common.{◌≡◌, ◌+◌, ◌++◌, [], ◌∷◌, length, codes, string_bytes, append-nil, sym, ap, ◌∙◌, arith}
+use Rattle.std.proofs.lemmas.Result.{on_ok_weaker}
 use Rattle.round_eval.specs.Configuration.{RingConfiguration, told}
 use Rattle.round_eval.specs.declared.configuration.Told.TheVariants.{Channel}
 use Rattle.reports.specs.Lines.{line, numbers_text}
@@ -33,7 +34,6 @@ pub returns : goal.returns
 returns c =
     let all : c.loop-round.round ≡ length c.args.places.now.program.steps = omega arith in
     let named = string_bytes c.push_str.new.self in
-    let channels =
-    c.in_ok-write_row.ensures
-    ∙ ap (λ (s : RingConfiguration). named ++ line (codes " " ∷ numbers_text (of_places s.places (told s Channel)) ∷ [])) c.loop-round.invariant.done in
-    finished c.args.places.now.program c.args.places.now.places c.loop-round.round _ _ _ all c.loop-round.invariant.text c.in_ok-push_str.ensures.bytes channels
+    let channels = ap (λ (s : RingConfiguration). named ++ line (codes " " ∷ numbers_text (of_places s.places (told s Channel)) ∷ [])) c.loop-round.invariant.done in
+    on_ok_weaker c.write_row.result (λ row. finished c.args.places.now.program c.args.places.now.places c.loop-round.round _ _ _ all c.loop-round.invariant.text c.in_ok-push_str.ensures.bytes (row ∙ channels))
+    c.write_row.ensures
