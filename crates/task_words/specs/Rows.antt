@@ -1,7 +1,10 @@
 -- The commands and options of the tables. No public contract cites this file.
-use Rattle.std.specs.Prelude.{List, [], ◌∷◌, Option, Some, None, true, map, pos}
+use Rattle.std.specs.Prelude.{◌≡◌, Bool, List, [], ◌∷◌, Option, Some, None, true, false, map, pos}
 use Rattle.std.specs.Borrow.{Bor}
-use Rattle.clap.specs.Words.{App, Rule, Shape, Text, with_rule, with_subcommand}
+use Rattle.clap.specs.Words.{App, Rule, Shape, Text, rule_of, shape_of, with_rule, with_subcommand}
+use Rattle.clap.specs.declared.builder.arg.Arg.{Arg}
+use Rattle.clap.specs.declared.builder.command.Command.{Command}
+use Rattle.clap.specs.declared.builder.command.Command.TheViews.{out-Command}
 use Rattle.clap.specs.declared.builder.value_parser.ValueParser.{ValueParser}
 use Rattle.clap.specs.declared.builder.value_parser.ValueParser.TheVariants.{String, Signed}
 use Rattle.task_words.specs.CommandLine.{command_of, option_rule}
@@ -27,6 +30,22 @@ rule_in row = with_default (option_rule row.name.now (parser_in row.values)) row
 -- the command of a row
 abbrev pub command_in : CommandRow → Shape
 command_in row = command_of row.name.now (map rule_in row.options.now)
+
+-- the rule of an option, and whether subcommands share it
+abbrev pub facts_of_option : Arg → Rule × Bool
+facts_of_option option = (rule_of option, option.global)
+
+-- the shape of a command, and whether it has options that its subcommands share
+abbrev pub facts_of_command : Command → Shape × Bool
+facts_of_command command = (shape_of command, (out-Command command).has_globals)
+
+-- `clap`'s options are those of these rows, and subcommands share none of them
+abbrev pub AreOptionsOf : List OptionRow → List Arg → Type 0
+AreOptionsOf rows options = map facts_of_option options ≡ map (λ row. (rule_in row, false)) rows
+
+-- `clap`'s commands are those of these rows, and have no option that subcommands share
+pub record AreCommandsOf (rows : List CommandRow) (commands : List Command) : Type 0 where
+  pub facts : map facts_of_command commands ≡ map (λ row. (command_in row, false)) rows
 
 -- a command line with more commands
 abbrev pub with_commands : App → List Shape → App

@@ -1,9 +1,10 @@
 //! The command line of the program: its commands and their options, with the help texts.
 
-ghost use Rattle.std.specs.Prelude.{◌≡◌, IfOk, false, map};
-ghost use Rattle.clap.specs.Words.{app_of, rule_of};
+ghost use Rattle.std.specs.Prelude.{◌≡◌, IfOk, false};
+ghost use Rattle.clap.specs.Words.{app_of, new_app, rule_of};
+ghost use Rattle.clap.specs.declared.builder.command.Command.TheViews.{out-Command};
 ghost use Rattle.task_words.specs.CommandLine.{IsCommandOf, command_line, program};
-ghost use Rattle.task_words.specs.Rows.{command_in, parser_in, rule_in, with_commands};
+ghost use Rattle.task_words.specs.Rows.{AreCommandsOf, AreOptionsOf, command_in, parser_in, rule_in};
 
 use crate::help;
 use crate::rows::{COMMANDS, CommandRow, OptionRow, Values};
@@ -16,46 +17,56 @@ use std::alloc::{AllocError, Global};
 pub(crate) fn command_line<'a>(alloc: Global) -> Result<Command<'a>, AllocError>
     ensures { IfOk result (λ line. app_of line ≡ command_line) }
 {
-    with_commands(alloc, program(alloc)?, &COMMANDS)
-}
-
-// Returns the program with the commands of these rows.
-fn with_commands<'a>(
-    alloc: Global,
-    mut line: Command<'a>,
-    rows: &[CommandRow],
-) -> Result<Command<'a>, AllocError>
-    ensures { IfOk result (λ longer. app_of longer ≡ with_commands (app_of line.entry) (map command_in rows.now)) }
-{
-    'commands: for row in rows {
-        line = line.subcommand(command(alloc, row)?)?;
-    }
-    Ok(line)
+    let commands = commands(alloc, &COMMANDS)?;
+    program(alloc)?.subcommands(commands)
 }
 
 // Returns the program without its commands.
 fn program<'a>(alloc: Global) -> Result<Command<'a>, AllocError>
     ensures { IfOk result (λ line. app_of line ≡ program) }
 {
-    Command::new(alloc, "nbhd")
+    described(alloc, "nbhd", help::PROGRAM, help::EXAMPLE)
         .no_binary_name(true)
         .subcommand_required(true)
-        .about(help::PROGRAM)
-        .after_help(help::EXAMPLE)
         .bin_name("nbhd")
+}
+
+// Returns the commands of these rows.
+fn commands<'a>(alloc: Global, rows: &[CommandRow]) -> Result<Vec<Command<'a>>, AllocError>
+    ensures { IfOk result (λ commands. AreCommandsOf rows.now commands.items) }
+{
+    let mut commands = Vec::new(alloc);
+    'commands: for row in rows {
+        commands.push(command(alloc, row)?)?;
+    }
+    Ok(commands)
 }
 
 // Returns the command of this row.
 fn command<'a>(alloc: Global, row: &CommandRow) -> Result<Command<'a>, AllocError>
     ensures { IfOk result (IsCommandOf (command_in row.now)) }
 {
-    let mut command = Command::new(alloc, row.name)
-        .about(row.about)
-        .after_help(row.details);
-    'options: for option_row in row.options {
-        command = command.arg(option(alloc, option_row))?;
+    let options = options(alloc, row.options)?;
+    described(alloc, row.name, row.about, row.details).args(options)
+}
+
+// Returns a command with the texts of its help.
+fn described<'a>(alloc: Global, name: &'a str, about: &'a str, details: &'a str) -> Command<'a>
+    ensures app { app_of result ≡ new_app name.entry.now }
+    ensures local { (out-Command result).has_globals ≡ false }
+{
+    Command::new(alloc, name).about(about).after_help(details)
+}
+
+// Returns the options of these rows.
+fn options<'a>(alloc: Global, rows: &[OptionRow]) -> Result<Vec<Arg<'a>>, AllocError>
+    ensures { IfOk result (λ options. AreOptionsOf rows.now options.items) }
+{
+    let mut options = Vec::new(alloc);
+    'options: for row in rows {
+        options.push(option(alloc, row))?;
     }
-    Ok(command)
+    Ok(options)
 }
 
 // Returns the option of this row, which has one value.

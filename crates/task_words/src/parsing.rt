@@ -10,7 +10,7 @@ use crate::command_line::command_line;
 use crate::words::WordsFault;
 use clap::error::ErrorKind;
 use clap::{ArgMatches, Error};
-use std::alloc::{AllocError, Global};
+use std::alloc::Global;
 
 // Returns the matches of the words. Fails if `clap` refuses them, if they ask for help or if memory
 // was refused.
@@ -22,18 +22,20 @@ pub(crate) fn parsed<'a>(alloc: Global, words: &'a [String]) -> Result<ArgMatche
 {
     match command_line(alloc)?.try_get_matches_from(words) {
         Ok(matches) => Ok(matches),
-        Err(error) => Err(refusal(alloc, &error)?),
+        Err(error) => Err(refusal(alloc, &error)),
     }
 }
 
-// Returns the fault of the words for an error of `clap`.
-fn refusal(alloc: Global, error: &Error) -> Result<WordsFault, AllocError>
-    ensures { IfOk result (IsRefusalOf (kind_of error.now)) }
+// Returns the fault of the words for an error of `clap`, or `OutOfMemory` if memory was refused.
+fn refusal(alloc: Global, error: &Error) -> WordsFault
+    ensures { IsRefusalOf (kind_of error.now) result }
 {
-    let text = error.to_string(alloc)?;
-    Ok(match error.kind() {
+    let Ok(text) = error.to_string(alloc) else {
+        return WordsFault::OutOfMemory;
+    };
+    match error.kind() {
         ErrorKind::OutOfMemory => WordsFault::OutOfMemory,
         ErrorKind::DisplayHelp => WordsFault::Help(text),
         _ => WordsFault::Usage(text),
-    })
+    }
 }

@@ -25,14 +25,14 @@ pub fn ring_of(alloc: Global, text: &str) -> Result<Vec<u32>, WordsFault>
     numbers(alloc, &parts)
 }
 
-/// Splits a text at its commas.
-fn parts(alloc: Global, text: &str) -> Result<Vec<&str>, AllocError>
+// Splits a text at its commas.
+pub(crate) fn parts(alloc: Global, text: &str) -> Result<Vec<&str>, AllocError>
     ensures { IfOk result (λ parts. map (λ part. part.now) parts.items ≡ parts_of text.now) }
 {
     text.split(',').collect(alloc)
 }
 
-/// Returns the values of the parts, in order. Fails with `BadRing` if a part is not a number.
+// Returns the values of the parts, in order. Fails with `BadRing` if a part is not a number.
 fn numbers(alloc: Global, parts: &[&str]) -> Result<Vec<u32>, WordsFault>
     ensures numbers { IfOk result (λ numbers. All (λ part. IsNumber part.now) parts.now
         × (numbers.items ≡ map (λ part. number_in part.now) parts.now)) }

@@ -1,11 +1,13 @@
 //! The tip on a text that is no ring text.
 
-ghost use Rattle.std.specs.Prelude.{◌≡◌, ◌↔◌, map, All, IsTrue, IfOk, IfSome, IfNone, option_map, string_bytes};
+ghost use Rattle.std.specs.Prelude.{◌≡◌, map, All, IfOk, IfSome, IfNone, option_map, string_bytes};
 ghost use Rattle.task_words.specs.Decimal.{IsNumber};
-ghost use Rattle.task_words.specs.RingText.{parts_of, IsRingText};
+ghost use Rattle.task_words.specs.RingText.{IsRingText};
 ghost use Rattle.task_words.specs.RingTips as texts;
 ghost use Rattle.task_words.specs.RingTips.{IsFirstBad, IsRingTip};
 
+use crate::decimal::number_of;
+use crate::ring_text::parts;
 use std::alloc::{AllocError, Global};
 
 /// Returns a line that names the first part of a text that is no number, or `None` if it is a ring
@@ -25,30 +27,13 @@ pub fn ring_tip(alloc: Global, text: &str) -> Result<Option<String>, AllocError>
     Ok(Some(tip))
 }
 
-// Returns the parts of a text before, between and after its commas.
-fn parts(alloc: Global, text: &str) -> Result<Vec<&str>, AllocError>
-    ensures { IfOk result (λ parts. map (λ part. part.now) parts.items ≡ parts_of text.now) }
-{
-    text.split(',').collect(alloc)
-}
-
-// Returns whether a text is a number.
-fn is_number(text: &str) -> bool
-    ensures { IsTrue result ↔ IsNumber text.now }
-{
-    match text.as_bytes() {
-        [b'+', ..] => false,
-        _ => text.parse::<u32>().is_ok(),
-    }
-}
-
 // Returns the first part that is no number, with its index.
 fn first_bad<'a>(parts: &[&'a str]) -> Option<(usize, &'a str)>
     ensures some { IfSome result (λ found. IsFirstBad (map (λ part. part.now) parts.now) found.0 found.1.now) }
     ensures none { IfNone result (All IsNumber (map (λ part. part.now) parts.now)) }
 {
     'parts: for (index, part) in parts.iter().enumerate() {
-        if !is_number(part) {
+        if number_of(part).is_none() {
             return Some((index, *part));
         }
     }

@@ -6,7 +6,7 @@ ghost use Rattle.task_words.specs.Counts.{IsCount, IsNear};
 use crate::limits::{MAX_COUNT, MAX_DISTANCE};
 
 /// A task that the words of a command request.
-#[derive(Debug, PartialEq, Eq, Drop)]
+#[derive(Drop)]
 pub enum Task {
     /// Checks the program text of the input for identifiers below `ids`.
     Check {

@@ -20,7 +20,7 @@ use thiserror::Error;
 const NOT_UTF8: &str = "nbhd: words are not UTF-8\n";
 
 /// Why words give no task.
-#[derive(Debug, PartialEq, Eq, Drop, Error)]
+#[derive(Debug, Drop, Error)]
 pub enum WordsFault {
     /// The words are not a command. The text describes their fault, and ends with a line feed.
     #[error("{0}")]
