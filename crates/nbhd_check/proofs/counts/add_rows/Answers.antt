@@ -1,6 +1,7 @@
-use Rattle.std.proofs.Common.{◌≡◌, ◌≢◌, ℕ, ◌+◌, ◌-◌, ◌*◌, true, false, eqb, ltb, cond, length, get_or, sym, ap, ◌∙◌, arith, add-zero, ⊎_elim}
+use Rattle.std.proofs.Common.{◌≡◌, ◌≢◌, ℕ, ◌+◌, ◌-◌, ◌*◌, true, false, eqb, ltb, cond, length, get_or, sym, ap, ◌∙◌, arith, add-zero, ⊎_elim, ◌==◌, subst}
+use Rattle.std.proofs.lemmas.Bool.{le-ltb, ne_eqb}
 use Rattle.std.proofs.lemmas.Bool.Decides.{eqb_tells}
-use Rattle.nbhd_check.specs.Counts.{held_count}
+use Rattle.nbhd_check.specs.Counts.{held_count, AreCells}
 use Rattle.nbhd_check.proofs.Cells.{rows_within, row_below}
 use Rattle.nbhd_check.proofs.HeldCounts.{below_step, count_few}
 use Rattle.nbhd_check.proofs.counts.add_rows.Goals as goal
@@ -56,3 +57,18 @@ pub add_row_before-requires-clause-within : goal.add_row_before-requires-clause-
 add_row_before-requires-clause-within c =
     rows_within c.loop-row.row c.args.limit c.ids.result c.args.table.now.ids (length c.loop-row.cells) (omega arith) (c.ids.ensures ∙ c.shape.ensures.ids)
     (c.loop-row.auto.cells ∙ c.requires.room)
+
+pub loop-row-init : goal.loop-row-init
+loop-row-init c =
+    let t = c.args.table.now in
+    let cells = c.args.cells.now in
+    let ids_is : c.ids.result ≡ t.ids = c.ids.ensures ∙ c.shape.ensures.ids in
+    let counted : AreCells (λ v x. held_count t c.args.first c.args.count x (λ channel. v == channel + 1)) (c.ids.result + 1) cells =
+    subst (λ n. AreCells (λ v x. held_count t c.args.first c.args.count x (λ channel. v == channel + 1)) (n + 1) cells) (sym ids_is) c.requires.counted in
+    let first = rows_within 0 c.args.limit c.ids.result t.ids (length cells) (omega arith) ids_is c.requires.room in (
+      λ v x lt below.
+          let v_is : v ≡ 0 = omega (arith, below) in
+          subst (λ v. get_or cells (v * (c.ids.result + 1) + x) 0 ≡ held_count t c.args.first c.args.count x (λ channel. ltb channel v)) (sym v_is)
+          (counted 0 x lt first ∙ (λ q. held_count t c.args.first c.args.count x (λ channel. (ne_eqb 0 (channel + 1) (λ e. omega (arith, e)) ∙ sym (le-ltb channel 0 (omega arith))) q))),
+      λ v x lt from within. counted v x lt within,
+    )

@@ -8,6 +8,7 @@ use Rattle.nbhd_check.proofs.FarFree.{block_is, block_within, some_product}
 use Rattle.nbhd_check.proofs.RunLengths.{two_more}
 use Rattle.nbhd_check.proofs.Cells.{row_for, zeros}
 use Rattle.win_index.specs.declared.limits.TheConstants.{MAX_WINDOWS}
+use Rattle.std.proofs.lemmas.List.{length-take-le}
 use Rattle.nbhd_check.proofs.counts.count_cells.Goals.{After-window_number}
 use Rattle.nbhd_check.proofs.counts.count_cells.Goals as goal
 
@@ -101,3 +102,12 @@ window_number-requires-clause-window c =
 
 pub add_rows-requires-clause-room : goal.add_rows-requires-clause-room
 add_rows-requires-clause-room c = c.count_windows.auto.cells ∙ c.fill.ensures.len ∙ c.requires.room
+
+pub slice_bounds-window-end : goal.slice_bounds-window-end
+slice_bounds-window-end c =
+    sym (length-take-le {A = ℕ} (length c.args.shared.now + 2) _ (omega (arith, c.requires.shared.size, c.shape-shape.ensures.rounds, c.shape-shape.result.few_rounds)))
+
+pub window-requires-clause-room : goal.window-requires-clause-room
+window-requires-clause-room c =
+    length-take-le {A = ℕ} (length c.args.shared.now + 2) _ (omega (arith, c.requires.shared.size, c.shape-shape.ensures.rounds, c.shape-shape.result.few_rounds))
+    ∙ omega (arith, c.requires.some, c.requires.shared.size, c.shape-shape.ensures.rounds, c.rounds-2.ensures)

@@ -3,6 +3,7 @@ use Rattle.nbhd_check.specs.Counts.{middle_of}
 use Rattle.nbhd_check.proofs.FarFree.{one_more_block, all_of_part}
 use Rattle.std.proofs.lemmas.List.{length-take-le}
 use Rattle.win_index.specs.declared.limits.TheConstants.{MAX_ROUNDS}
+use Rattle.std.proofs.lemmas.Bool.{false≢true}
 use Rattle.nbhd_check.proofs.far_parts.far_free_in_part.Goals as goal
 
 cells_long : (t rounds : ℕ) (list : List ℕ) → rounds ≡ t → rounds ≤ MAX_ROUNDS
@@ -49,3 +50,9 @@ pub set_middle-requires-clause-long : goal.set_middle-requires-clause-long
 set_middle-requires-clause-long c =
     cells_long c.args.table.now.rounds c.rounds.result c.loop-block.list (c.rounds.ensures ∙ c.shape.ensures.rounds)
     (subst (λ r. r ≤ MAX_ROUNDS) (sym c.rounds.ensures) c.shape.result.few_rounds) c.loop-block.auto.list
+
+pub far_free_in_block-least-requires-clause-counts : goal.far_free_in_block-least-requires-clause-counts
+far_free_in_block-least-requires-clause-counts c = λ made. absurd (false≢true made)
+
+pub slice_bounds-list-end : goal.slice_bounds-list-end
+slice_bounds-list-end c = sym (length-take-le {A = ℕ} (2 * c.rounds.result + 3) _ (omega (arith, c.rounds.ensures, c.shape.result.few_rounds)))

@@ -3,6 +3,7 @@ use Rattle.nbhd_check.specs.Runs.{run_len}
 use Rattle.nbhd_check.proofs.LeastFrom.{least_from_before, none_before, none_in_more, last_window, scan_begins, scan_ends, scan_covers, some_run}
 use Rattle.nbhd_check.proofs.Prefixes.{next_item, window_of_shape, step_of_shape}
 use Rattle.channel_tables.specs.Tables.{windows_of}
+use Rattle.nbhd_check.proofs.part.scan_runs.Goals.{After-run_len}
 use Rattle.nbhd_check.proofs.part.scan_runs.Goals as goal
 
 pub returns-in-Some : goal.returns-in-Some
@@ -67,3 +68,16 @@ returns c = λ n tuple ge lt item.
     let all : c.args.high ≤ c.loop-number.number * run_len t c.args.separation =
     subst (λ m. c.args.high ≤ c.loop-number.number * m) c.run_len.ensures.value covers in
     c.loop-number.invariant.2 n tuple ge (omega (arith, lt, all)) item
+
+-- the last window is one of the table
+module _ (c : After-run_len) where
+  last_in : (c.args.high - 1) / c.run_len.result < length (windows_of c.args.table.now)
+  last_in =
+      last_window c.args.high _ (length (windows_of c.args.table.now)) c.run_len.result ((c.args.high - 1) / c.run_len.result) (omega arith) c.run_len.ensures.all
+      c.requires.within (omega arith)
+
+pub overflow_cast-last : goal.overflow_cast-last
+overflow_cast-last c = omega (arith, last_in c, c.shape-shape.ensures.table.begun.shape.few_windows)
+
+pub overflow_add-number-end : goal.overflow_add-number-end
+overflow_add-number-end c = omega (arith, last_in c, c.shape-shape.ensures.table.begun.shape.few_windows)

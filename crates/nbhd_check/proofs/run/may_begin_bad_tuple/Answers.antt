@@ -22,3 +22,6 @@ bounds-entries-number c =
     let table = c.args.table.now in
     subst (λ n. c.args.number < n) (sym (ap length c.entries.ensures.value ∙ c.entries.ensures.table.size))
     (slice_get_within (windows_of table) c.args.number c.args.window.now c.requires.item)
+
+pub may_begin_far_tuple-requires-clause-window : goal.may_begin_far_tuple-requires-clause-window
+may_begin_far_tuple-requires-clause-window c = c.requires.window

@@ -33,3 +33,6 @@ returns-clause-yes c = (
   λ same. absurd (no_is_not_yes c.in-Ok.ring _ _ same),
   λ apart. absurd (not_apart c.args.table.now c.args.separation c.args.number c.requires.0 c.tuples_suffice.ensures.exact c.requires.1 apart),
 )
+
+pub returns-in_default-clause-memory : goal.returns-in_default-clause-memory
+returns-in_default-clause-memory c = not_apart c.args.table.now c.args.separation c.args.number c.requires.0 c.tuples_suffice.ensures.exact c.requires.1

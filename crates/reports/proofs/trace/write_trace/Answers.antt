@@ -37,3 +37,6 @@ returns c =
     let channels = ap (λ (s : RingConfiguration). named ++ line (codes " " ∷ numbers_text (of_places s.places (told s Channel)) ∷ [])) c.loop-round.invariant.done in
     on_ok_weaker c.write_row.result (λ row. finished c.args.places.now.program c.args.places.now.places c.loop-round.round _ _ _ all c.loop-round.invariant.text c.in_ok-push_str.ensures.bytes (row ∙ channels))
     c.write_row.ensures
+
+pub advance-requires : goal.advance-requires
+advance-requires c = rw c.loop-round.invariant.done (omega (arith, c.loop-round-test.true, c.requires.rounds))
