@@ -1,74 +1,78 @@
-use Rattle.std.proofs.Common.{◌≡◌, ◌==◌, ◌&&◌, ℕ, ◌+◌, ◌-◌, ◌*◌, ◌<◌, ◌≤◌, eqb, cond, length, get_or, sym, ap, ◌∙◌, arith, refl}
+use Rattle.std.proofs.Common.{◌≡◌, ◌==◌, ◌&&◌, ℕ, ◌+◌, ◌-◌, ◌*◌, ◌<◌, ◌≤◌, eqb, cond, length, get_or, subst, sym, ap, ◌∙◌, arith, refl}
 use Rattle.win_index.specs.declared.limits.TheConstants.{MAX_WINDOWS}
-use Rattle.channel_tables.specs.Tables.{windows_of}
+use Rattle.channel_tables.specs.Tables.{ChannelTable, windows_of}
 use Rattle.nbhd_check.specs.Counts.{held_count}
 use Rattle.nbhd_check.proofs.Cells.{cond_one}
-use Rattle.nbhd_check.proofs.HeldCounts.{count_few, window_counted, entries_below, row_within, row_of_shape, in_table, in_columns}
+use Rattle.nbhd_check.proofs.HeldCounts.{count_few, window_counted, row_of_shape, in_table, in_columns}
 use Rattle.nbhd_check.proofs.Prefixes.{window_of_shape, step_of_shape, next_item}
+use Rattle.nbhd_check.proofs.counts.count_windows.Goals.{After-entry}
 use Rattle.nbhd_check.proofs.counts.count_windows.Goals as goal
 
-pub count_in-requires-clause-few : goal.count_in-requires-clause-few
-count_in-requires-clause-few c =
-    let t = c.args.table.now in
-    let row : ℕ = c.entry.result + 1 in
-    let x : ℕ = get_or c.loop-number.window (2 * (c.rounds.result - 1) + 1) 0 in
-    let is = c.loop-number.invariant.1 in
-    let size = is.size in
-    let one = c.requires.some in
-    let rounds_is : c.rounds.result ≡ t.rounds = c.rounds.ensures ∙ c.shape-shape.ensures.rounds in
-    let small : length (windows_of t) ≤ MAX_WINDOWS = c.entry.ensures.table.begun.shape.few_windows in
-    let below = entries_below t.entries t.channels c.entry.ensures.table.begun.some_channels c.entry.ensures.table.begun.below c.loop-number.number in
-    let value = c.entry.ensures.value in
-    let inside = in_table c.loop-number.number (c.args.first + c.args.count) (length (windows_of t)) (length t.entries) c.loop-number-test.true c.requires.within c.entry.ensures.table.size in
-    let ids_is : c.ids.result ≡ t.ids = c.ids.ensures ∙ c.shape-shape.ensures.ids in
-    let in_x : x < t.ids + 1 = omega (arith, is.below (2 * (c.rounds.result - 1) + 1) 0 (omega arith)) in
-    let read = c.loop-number.invariant.2 row x in_x (row_within t c.loop-number.number row (length c.loop-number.cells) (length c.args.cells.now) (ap (λ e. e + 1) value) c.loop-number.auto.cells inside c.requires.rows) in
-    let few = count_few t c.args.first (c.loop-number.number - c.args.first) x (λ channel. row == channel + 1) in
-    let same = ap (λ w. get_or c.loop-number.cells (row * (w + 1) + x) 0) ids_is in
-    omega (arith, read, few, same)
+-- the row in which the window of this number is counted, and the columns of its identifiers
+module _ (c : After-entry) where
+  abbrev table : ChannelTable
+  table = c.args.table.now
 
-pub count_in-requires-in-loop-number-clause-few : goal.count_in-requires-in-loop-number-clause-few
-count_in-requires-in-loop-number-clause-few c =
-    let t = c.args.table.now in
-    let row : ℕ = c.entry.result + 1 in
-    let x : ℕ = get_or c.loop-number.window (2 * (c.rounds.result - 1) + 1 + 1) 0 in
-    let is = c.loop-number.invariant.1 in
-    let size = is.size in
-    let one = c.requires.some in
-    let rounds_is : c.rounds.result ≡ t.rounds = c.rounds.ensures ∙ c.shape-shape.ensures.rounds in
-    let small : length (windows_of t) ≤ MAX_WINDOWS = c.entry.ensures.table.begun.shape.few_windows in
-    let below = entries_below t.entries t.channels c.entry.ensures.table.begun.some_channels c.entry.ensures.table.begun.below c.loop-number.number in
-    let value = c.entry.ensures.value in
-    let inside = in_table c.loop-number.number (c.args.first + c.args.count) (length (windows_of t)) (length t.entries) c.loop-number-test.true c.requires.within c.entry.ensures.table.size in
-    let ids_is : c.ids.result ≡ t.ids = c.ids.ensures ∙ c.shape-shape.ensures.ids in
-    let below_x = is.below (2 * (c.rounds.result - 1) + 1 + 1) 0 (omega arith) in
-    let in_x : x < t.ids + 1 = omega arith in
-    let in_wide : x < c.ids.result + 1 = omega arith in
-    let read = c.loop-number.invariant.2 row x in_x (row_within t c.loop-number.number row (length c.loop-number.cells) (length c.args.cells.now) (ap (λ e. e + 1) value) c.loop-number.auto.cells inside c.requires.rows) in
-    let few = count_few t c.args.first (c.loop-number.number - c.args.first) x (λ channel. row == channel + 1) in
-    let same = ap (λ w. get_or c.loop-number.cells (row * (w + 1) + x) 0) ids_is in
-    let first = c.count_in.ensures row x in_wide in
-    omega (arith, read, few, same, first, cond_one (eqb row row && eqb x (get_or c.loop-number.window (2 * (c.rounds.result - 1) + 1) 0)))
+  abbrev row : ℕ
+  row = c.entry.result + 1
 
-pub count_in-requires-in-loop-number-2-clause-few : goal.count_in-requires-in-loop-number-2-clause-few
-count_in-requires-in-loop-number-2-clause-few c =
-    let t = c.args.table.now in
-    let row : ℕ = c.entry.result + 1 in
+  abbrev place : ℕ
+  place = 2 * (c.rounds.result - 1) + 1
+
+  inside : c.loop-number.number < length table.entries
+  inside =
+      in_table c.loop-number.number (c.args.first + c.args.count) (length (windows_of table)) (length table.entries) c.loop-number-test.true c.requires.within
+      c.entry.ensures.table.size
+
+  within : (row + 1) * (c.ids.result + 1) ≤ length c.loop-number.cells
+  within =
+      row_of_shape table c.loop-number.number c.entry.result c.ids.result (length c.loop-number.cells) (length c.args.cells.now) c.entry.ensures.value
+      (c.ids.ensures ∙ c.shape-shape.ensures.ids) c.loop-number.auto.cells inside c.requires.rows
+
+  column : (at : ℕ) → at ≤ 2 * (c.rounds.result - 1) + 2 → get_or c.loop-number.window at 0 < c.ids.result + 1
+  column at le =
+      in_columns table c.rounds.result c.ids.result at c.loop-number.window c.loop-number.invariant.1 c.requires.some
+      (c.rounds.ensures ∙ c.shape-shape.ensures.rounds) (c.ids.ensures ∙ c.shape-shape.ensures.ids) le
+
+  few : (x : ℕ) → x < c.ids.result + 1 → get_or c.loop-number.cells (row * (c.ids.result + 1) + x) 0 < 4294967290
+  few x lt =
+      let ids_is : c.ids.result ≡ table.ids = c.ids.ensures ∙ c.shape-shape.ensures.ids in
+      let read = c.loop-number.invariant.2 row x (omega (arith, lt, ids_is)) (subst (λ n. (row + 1) * (n + 1) ≤ length c.loop-number.cells) ids_is within) in
+      let same = ap (λ w. get_or c.loop-number.cells (row * (w + 1) + x) 0) ids_is in
+      let counted = count_few table c.args.first (c.loop-number.number - c.args.first) x (λ channel. row == channel + 1) in
+      let small : length (windows_of table) ≤ MAX_WINDOWS = c.entry.ensures.table.begun.shape.few_windows in
+      omega (arith, read, same, counted, inside, c.entry.ensures.table.size, small)
+
+pub count_in-requires : goal.count_in-requires
+count_in-requires c =
+    let d = (goal.at.count_in-requires c).After-entry in record {
+      column = column d (place d) (omega arith);
+      within = within d;
+      few = omega (arith, few d (get_or c.loop-number.window (place d) 0) (column d (place d) (omega arith)));
+    }
+
+pub count_in-requires-in-loop-number : goal.count_in-requires-in-loop-number
+count_in-requires-in-loop-number c =
+    let d = (goal.at.count_in-requires-in-loop-number c).After-entry in
+    let x : ℕ = get_or c.loop-number.window (place d + 1) 0 in
+    let in_x : x < c.ids.result + 1 = column d (place d + 1) (omega arith) in
+    let first = c.count_in.ensures (row d) x in_x in record {
+      column = in_x;
+      within = omega (arith, c.count_in.auto.cells, within d);
+      few = omega (arith, few d x in_x, first, cond_one (eqb (row d) (row d) && eqb x (get_or c.loop-number.window (place d) 0)));
+    }
+
+pub count_in-requires-in-loop-number-2 : goal.count_in-requires-in-loop-number-2
+count_in-requires-in-loop-number-2 c =
+    let d = (goal.at.count_in-requires-in-loop-number-2 c).After-entry in
     let x : ℕ = c.ids.result + 1 - 1 in
-    let one = c.requires.some in
-    let small : length (windows_of t) ≤ MAX_WINDOWS = c.entry.ensures.table.begun.shape.few_windows in
-    let below = entries_below t.entries t.channels c.entry.ensures.table.begun.some_channels c.entry.ensures.table.begun.below c.loop-number.number in
-    let value = c.entry.ensures.value in
-    let inside = in_table c.loop-number.number (c.args.first + c.args.count) (length (windows_of t)) (length t.entries) c.loop-number-test.true c.requires.within c.entry.ensures.table.size in
-    let ids_is : c.ids.result ≡ t.ids = c.ids.ensures ∙ c.shape-shape.ensures.ids in
-    let in_x : x < t.ids + 1 = omega arith in
-    let in_wide : x < c.ids.result + 1 = omega arith in
-    let read = c.loop-number.invariant.2 row x in_x (row_within t c.loop-number.number row (length c.loop-number.cells) (length c.args.cells.now) (ap (λ e. e + 1) value) c.loop-number.auto.cells inside c.requires.rows) in
-    let few = count_few t c.args.first (c.loop-number.number - c.args.first) x (λ channel. row == channel + 1) in
-    let same = ap (λ w. get_or c.loop-number.cells (row * (w + 1) + x) 0) ids_is in
-    let first = c.count_in.ensures row x in_wide in
-    let second = c.count_in-in-loop-number.ensures row x in_wide in
-    omega (arith, read, few, same, first, second, cond_one (eqb row row && eqb x (get_or c.loop-number.window (2 * (c.rounds.result - 1) + 1) 0)), cond_one (eqb row row && eqb x (get_or c.loop-number.window (2 * (c.rounds.result - 1) + 1 + 1) 0)))
+    let in_x : x < c.ids.result + 1 = omega arith in
+    let first = c.count_in.ensures (row d) x in_x in
+    let second = c.count_in-in-loop-number.ensures (row d) x in_x in record {
+      column = in_x;
+      within = omega (arith, c.count_in.auto.cells, c.count_in-in-loop-number.auto.cells, within d);
+      few = omega (arith, few d x in_x, first, second, cond_one (eqb (row d) (row d) && eqb x (get_or c.loop-number.window (place d) 0)), cond_one (eqb (row d) (row d) && eqb x (get_or c.loop-number.window (place d + 1) 0)));
+    }
 
 pub loop-number-preserved : goal.loop-number-preserved
 loop-number-preserved c =
@@ -114,36 +118,6 @@ pub next_window-requires-clause-window : goal.next_window-requires-clause-window
 next_window-requires-clause-window c =
     window_of_shape c.args.table.now c.rounds-in-loop-number.result c.shape-shape.result.ids c.loop-number.window
     (c.rounds-in-loop-number.ensures ∙ c.shape-shape.ensures.rounds) c.shape-shape.ensures.ids c.loop-number.invariant.1
-
-pub count_in-requires-clause-within : goal.count_in-requires-clause-within
-count_in-requires-clause-within c =
-    let t = c.args.table.now in
-    row_of_shape t c.loop-number.number c.entry.result c.ids.result (length c.loop-number.cells) (length c.args.cells.now) c.entry.ensures.value (c.ids.ensures ∙ c.shape-shape.ensures.ids) c.loop-number.auto.cells
-    (in_table c.loop-number.number (c.args.first + c.args.count) (length (windows_of t)) (length t.entries) c.loop-number-test.true c.requires.within c.entry.ensures.table.size) c.requires.rows
-
-pub count_in-requires-in-loop-number-clause-within : goal.count_in-requires-in-loop-number-clause-within
-count_in-requires-in-loop-number-clause-within c =
-    let t = c.args.table.now in
-    row_of_shape t c.loop-number.number c.entry.result c.ids.result (length c.count_in.new.cells) (length c.args.cells.now) c.entry.ensures.value (c.ids.ensures ∙ c.shape-shape.ensures.ids) (c.count_in.auto.cells ∙ c.loop-number.auto.cells)
-    (in_table c.loop-number.number (c.args.first + c.args.count) (length (windows_of t)) (length t.entries) c.loop-number-test.true c.requires.within c.entry.ensures.table.size) c.requires.rows
-
-pub count_in-requires-in-loop-number-2-clause-within : goal.count_in-requires-in-loop-number-2-clause-within
-count_in-requires-in-loop-number-2-clause-within c =
-    let t = c.args.table.now in
-    row_of_shape t c.loop-number.number c.entry.result c.ids.result (length c.count_in-in-loop-number.new.cells) (length c.args.cells.now) c.entry.ensures.value (c.ids.ensures ∙ c.shape-shape.ensures.ids) (c.count_in-in-loop-number.auto.cells ∙ c.count_in.auto.cells ∙ c.loop-number.auto.cells)
-    (in_table c.loop-number.number (c.args.first + c.args.count) (length (windows_of t)) (length t.entries) c.loop-number-test.true c.requires.within c.entry.ensures.table.size) c.requires.rows
-
-pub count_in-requires-clause-column : goal.count_in-requires-clause-column
-count_in-requires-clause-column c =
-    let place : ℕ = 2 * (c.rounds.result - 1) + 1 in
-    in_columns c.args.table.now c.rounds.result c.ids.result place c.loop-number.window c.loop-number.invariant.1 c.requires.some
-    (c.rounds.ensures ∙ c.shape-shape.ensures.rounds) (c.ids.ensures ∙ c.shape-shape.ensures.ids) (omega arith)
-
-pub count_in-requires-in-loop-number-clause-column : goal.count_in-requires-in-loop-number-clause-column
-count_in-requires-in-loop-number-clause-column c =
-    let place : ℕ = 2 * (c.rounds.result - 1) + 1 + 1 in
-    in_columns c.args.table.now c.rounds.result c.ids.result place c.loop-number.window c.loop-number.invariant.1 c.requires.some
-    (c.rounds.ensures ∙ c.shape-shape.ensures.rounds) (c.ids.ensures ∙ c.shape-shape.ensures.ids) (omega arith)
 
 pub returns : goal.returns
 returns c = λ v x lt within.
