@@ -1,10 +1,10 @@
 //! The command line of the program: its commands and their options, with the help texts.
 
-ghost use Rattle.std.specs.Prelude.{◌≡◌, IfOk, false};
+ghost use Rattle.std.specs.Prelude.{◌≡◌, IfOk, false, map};
 ghost use Rattle.clap.specs.Words.{app_of, new_app, rule_of};
 ghost use Rattle.clap.specs.declared.builder.command.Command.TheViews.{out-Command};
 ghost use Rattle.task_words.specs.CommandLine.{IsCommandOf, command_line, program};
-ghost use Rattle.task_words.specs.Rows.{AreCommandsOf, AreOptionsOf, command_in, parser_in, rule_in};
+ghost use Rattle.task_words.specs.Rows.{AreCommandsOf, AreOptionsOf, command_in, parser_in, rule_in, with_commands};
 
 use crate::help;
 use crate::rows::{COMMANDS, CommandRow, OptionRow, Values};
@@ -17,7 +17,14 @@ use std::alloc::{AllocError, Global};
 pub(crate) fn command_line<'a>(alloc: Global) -> Result<Command<'a>, AllocError>
     ensures { IfOk result (λ line. app_of line ≡ command_line) }
 {
-    let commands = commands(alloc, &COMMANDS)?;
+    with_commands(alloc, &COMMANDS)
+}
+
+// Returns the program with the commands of these rows.
+fn with_commands<'a>(alloc: Global, rows: &[CommandRow]) -> Result<Command<'a>, AllocError>
+    ensures { IfOk result (λ line. app_of line ≡ with_commands program (map command_in rows.now)) }
+{
+    let commands = commands(alloc, rows)?;
     program(alloc)?.subcommands(commands)
 }
 

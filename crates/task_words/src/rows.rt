@@ -83,7 +83,7 @@ const FAR: OptionRow = OptionRow {
 };
 
 // The commands, in the order of the help of the program.
-pub(crate) static COMMANDS: [CommandRow; 9] = [
+pub(crate) const COMMANDS: [CommandRow; 9] = [
     // `check --ids M`
     CommandRow {
         name: "check",

@@ -1,9 +1,0 @@
-use Rattle.std.proofs.lemmas.Result.{IfOk-weaker}
-use Rattle.task_words.proofs.Commands.{commands_added}
-use Rattle.task_words.proofs.command_line.command_line.Goals as goal
-
-pub returns : goal.returns
-returns c =
-    IfOk-weaker c.subcommands.result _ _
-    (λ line added. commands_added _ c.in_ok-program.field-0 line _ c.in_ok-commands.commands.items c.in_ok-commands.ensures c.in_ok-program.ensures added)
-    c.subcommands.ensures
