@@ -4,30 +4,46 @@ use Rattle.nbhd_check.specs.Counts.{middle_of, AreCountsOnceMade, shared_len}
 use Rattle.nbhd_check.proofs.Ends.{middle_after_first}
 use Rattle.nbhd_check.proofs.FarFree.{free_in_two, all_firsts}
 use Rattle.win_index.specs.Windows.{IsWindow}
+use Rattle.nbhd_check.proofs.far.far_free_in_block.Goals.{After-set_first}
 use Rattle.nbhd_check.proofs.far.far_free_in_block.Goals as goal
 
-pub returns-then-start_of-from-clause-free : goal.returns-then-start_of-from-clause-free
-returns-then-start_of-from-clause-free c = λ number window below item own.
-    ⊎_elim
-    (λ (lt : get_or window 0 0 < c.loop-first.first). c.loop-first.invariant.4 number window below item (lt, own))
-    (λ (ge : c.loop-first.first ≤ get_or window 0 0). absurd (omega (arith, c.start_of.ensures number window item ge)))
-    (cases_lt (get_or window 0 0) c.loop-first.first)
+-- the list with its first identifier set
+module _ (c : After-set_first) where
+  same_middle : middle_of c.args.table.now c.set_first.new.list ≡ middle_of c.args.table.now c.args.list.now
+  same_middle =
+      ap (middle_of c.args.table.now) c.set_first.ensures ∙ middle_after_first c.args.table.now c.loop-first.first c.loop-first.list c.requires.some
+      ∙ c.loop-first.invariant.0
 
-pub far_free_with_first-least-requires-clause-counts : goal.far_free_with_first-least-requires-clause-counts
-far_free_with_first-least-requires-clause-counts c =
+pub returns-then-start_of-from : goal.returns-then-start_of-from
+returns-then-start_of-from c = record {
+  fit = c.loop-first.invariant.1;
+  less = c.loop-first.invariant.3;
+  free = λ number window below item own.
+      ⊎_elim
+      (λ (lt : get_or window 0 0 < c.loop-first.first). c.loop-first.invariant.4 number window below item (lt, own))
+      (λ (ge : c.loop-first.first ≤ get_or window 0 0). absurd (omega (arith, c.start_of.ensures number window item ge)))
+      (cases_lt (get_or window 0 0) c.loop-first.first);
+}
+
+pub far_free_with_first-least-requires : goal.far_free_with_first-least-requires
+far_free_with_first-least-requires c =
     let t = c.args.table.now in
-    let old = c.loop-first.list in
-    let middle = ap (middle_of t) c.set_first.ensures ∙ middle_after_first t c.loop-first.first old c.requires.some ∙ c.loop-first.invariant.0 in
-    subst (λ z. AreCountsOnceMade t z c.loop-first.counts) (sym middle) c.loop-first.invariant.2
+    let middle = same_middle (goal.at.far_free_with_first-least-requires c).After-set_first in record {
+      some = c.requires.some;
+      distance = c.requires.distance;
+      long = c.set_first.auto.list ∙ c.loop-first.auto.list ∙ c.requires.long;
+      first = subst (λ n. n < t.ids) (sym (ap (λ l. get_or l 0 0) c.set_first.ensures)) (omega arith);
+      middle = subst (IsWindow (shared_len t) t.ids) (sym middle) c.requires.middle;
+      fit = c.loop-first.invariant.1;
+      counts = subst (λ z. AreCountsOnceMade t z c.loop-first.counts) (sym middle) c.loop-first.invariant.2;
+    }
 
 pub loop-first-preserved : goal.loop-first-preserved
 loop-first-preserved c =
     let t = c.args.table.now in
-    let old = c.loop-first.list in
     let set = c.set_first.new.list in
     let first : ℕ = c.loop-first.first in
-    let z : List ℕ = middle_of t c.args.list.now in
-    let middle : middle_of t set ≡ z = ap (middle_of t) c.set_first.ensures ∙ middle_after_first t first old c.requires.some ∙ c.loop-first.invariant.0 in
+    let middle = same_middle (goal.at.loop-first-preserved c).After-set_first in
     let begun : get_or set 0 0 ≡ first = ap (λ l. get_or l 0 0) c.set_first.ensures in (
       c.far_free_with_first-least.ensures.same ∙ middle,
       c.far_free_with_first-least.ensures.fit,
@@ -43,30 +59,13 @@ loop-first-preserved c =
           (cases_lt (get_or window 0 0) first)) c.loop-first.invariant.4 c.far_free_with_first-least.ensures.free,
     )
 
-pub returns-clause-free : goal.returns-clause-free
-returns-clause-free c =
-    let t = c.args.table.now in
-    all_firsts c.numbers_of_windows.ensures t c.args.distance c.loop-first.least c.loop-first.first (middle_of t c.args.list.now) c.requires.some (omega arith)
-    c.loop-first.invariant.4
-
-pub far_free_with_first-least-requires-clause-middle : goal.far_free_with_first-least-requires-clause-middle
-far_free_with_first-least-requires-clause-middle c =
-    let t = c.args.table.now in
-    let middle = ap (middle_of t) c.set_first.ensures ∙ middle_after_first t c.loop-first.first c.loop-first.list c.requires.some ∙ c.loop-first.invariant.0 in
-    subst (IsWindow (shared_len t) t.ids) (sym middle) c.requires.middle
-
-pub far_free_with_first-least-requires-clause-fit : goal.far_free_with_first-least-requires-clause-fit
-far_free_with_first-least-requires-clause-fit c = c.loop-first.invariant.1
-
-pub far_free_with_first-least-requires-clause-first : goal.far_free_with_first-least-requires-clause-first
-far_free_with_first-least-requires-clause-first c =
-    subst (λ n. n < c.args.table.now.ids) (sym (ap (λ l. get_or l 0 0) c.set_first.ensures)) (omega arith)
+pub returns : goal.returns
+returns c = record {
+  fit = c.loop-first.invariant.1;
+  less = c.loop-first.invariant.3;
+  free = all_firsts c.numbers_of_windows.ensures c.args.table.now c.args.distance c.loop-first.least c.loop-first.first
+      (middle_of c.args.table.now c.args.list.now) c.requires.some (omega arith) c.loop-first.invariant.4;
+}
 
 pub loop-first-init : goal.loop-first-init
-loop-first-init c = (
-  refl,
-  c.requires.fit,
-  c.requires.counts,
-  le_refl c.args.least,
-  λ number window below item own. absurd (omega (arith, own.0)),
-)
+loop-first-init c = (refl, c.requires.fit, c.requires.counts, le_refl c.args.least, λ number window below item own. absurd (omega (arith, own.0)))

@@ -89,11 +89,4 @@ returns-clause-free c =
     c.requires.some (omega arith) c.loop-second.invariant.5
 
 pub loop-second-init : goal.loop-second-init
-loop-second-init c = (
-  refl,
-  refl,
-  c.requires.fit,
-  c.requires.counts,
-  le_refl c.args.least,
-  λ number window below item own. absurd (omega (arith, own.1)),
-)
+loop-second-init c = (refl, refl, c.requires.fit, c.requires.counts, le_refl c.args.least, λ number window below item own. absurd (omega (arith, own.1)))

@@ -36,11 +36,20 @@ close_one-other-requires c =
           (second_moved t list c.requires.some c.requires.window);
     }
 
-pub close_count-with_first-requires-clause-x : goal.close_count-with_first-requires-clause-x
-close_count-with_first-requires-clause-x c = first_below c.args.table.now c.args.list.now c.requires.window
+pub close_count-all-requires : goal.close_count-all-requires
+close_count-all-requires c = record { some = c.requires.distance; channel = c.requires.limit; x = omega (arith, c.ids.ensures, c.shape.ensures.ids); fit = c.requires.fit }
 
-pub close_count-with_second-requires-clause-x : goal.close_count-with_second-requires-clause-x
-close_count-with_second-requires-clause-x c = second_below c.args.table.now c.args.list.now c.requires.some c.requires.window
+pub close_count-with_first-requires : goal.close_count-with_first-requires
+close_count-with_first-requires c =
+    record { some = c.requires.distance; channel = c.requires.limit; x = first_below c.args.table.now c.args.list.now c.requires.window; fit = c.requires.fit }
+
+pub close_count-with_second-requires : goal.close_count-with_second-requires
+close_count-with_second-requires c = record {
+  some = c.requires.distance;
+  channel = c.requires.limit;
+  x = second_below c.args.table.now c.args.list.now c.requires.some c.requires.window;
+  fit = c.requires.fit;
+}
 
 pub returns-clause-far : goal.returns-clause-far
 returns-clause-far c =
@@ -93,12 +102,3 @@ returns-clause-same c =
     let a : ℕ = get_or list 0 0 in
     let b : ℕ = get_or list 1 0 in
     front_kept t moved c.set_last-2.new.list b a (c.set_last.auto.list ∙ c.requires.long) c.set_last-2.ensures ∙ front_kept t list moved a b c.requires.long c.set_last.ensures
-
-pub close_count-with_second-requires-clause-fit : goal.close_count-with_second-requires-clause-fit
-close_count-with_second-requires-clause-fit c = c.requires.fit
-
-pub close_count-with_first-requires-clause-fit : goal.close_count-with_first-requires-clause-fit
-close_count-with_first-requires-clause-fit c = c.requires.fit
-
-pub close_count-all-requires-clause-fit : goal.close_count-all-requires-clause-fit
-close_count-all-requires-clause-fit c = c.requires.fit

@@ -1,4 +1,4 @@
-use Rattle.std.proofs.Common.{◌∙◌, ℕ, ◌+◌, ◌*◌, ◌/◌, ◌<◌, length, sym, ap, arith}
+use Rattle.std.proofs.Common.{◌∙◌, ℕ, ◌+◌, ◌*◌, ◌/◌, ◌<◌, length, ap, arith}
 use Rattle.nbhd_check.proofs.Prefixes.{shape_of_window}
 use Rattle.std.proofs.lemmas.List.{length-take-le}
 use Rattle.channel_tables.specs.Tables.{windows_of}
@@ -24,10 +24,6 @@ overflow_cast-first c = omega (arith, first_in c, c.shape-shape.ensures.table.be
 pub window-requires-clause-below : goal.window-requires-clause-below
 window-requires-clause-below c =
     rw (c.rounds-level.ensures, c.shape-shape.ensures.rounds, c.shape-shape.ensures.ids) (first_in (goal.at.window-requires-clause-below c).After-run_len)
-
-pub slice_bounds-window-end : goal.slice_bounds-window-end
-slice_bounds-window-end c =
-    sym (length-take-le {A = ℕ} (2 * c.rounds-level.result + 1) _ (omega (arith, c.rounds-level.ensures, c.shape-shape.result.few_rounds)))
 
 pub window-requires-clause-room : goal.window-requires-clause-room
 window-requires-clause-room c =

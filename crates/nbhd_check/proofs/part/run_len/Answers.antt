@@ -1,9 +1,7 @@
-use Rattle.std.proofs.Common.{◌+◌, ◌-◌, ◌*◌, length, sym, ap, ◌∙◌, arith, ℕ}
+use Rattle.std.proofs.Common.{◌+◌, ◌-◌, ◌*◌, length, sym, ap, ◌∙◌, arith}
 use Rattle.channel_tables.specs.Tables.{windows_of}
 use Rattle.nbhd_check.specs.Apart.{extra}
 use Rattle.nbhd_check.proofs.RunLengths.{all_runs, one_more, two_more}
-use Rattle.std.proofs.lemmas.Nat.{mul-le}
-use Rattle.win_index.specs.declared.limits.TheConstants.{MAX_IDS}
 use Rattle.nbhd_check.proofs.part.run_len.Goals as goal
 
 pub returns-then-separation-eq0-clause-value : goal.returns-then-separation-eq0-clause-value
@@ -27,8 +25,3 @@ pub returns-else-separation-eq0-clause-all : goal.returns-else-separation-eq0-cl
 returns-else-separation-eq0-clause-all c =
     all_runs c.args.table.now c.args.separation c.count_of_windows.ensures
     ∙ ap (λ n. length (windows_of c.args.table.now) * n) (sym (returns-else-separation-eq0-clause-value c))
-
-pub returns-else-separation-eq0-clause-few : goal.returns-else-separation-eq0-clause-few
-returns-else-separation-eq0-clause-few c =
-    let free : ℕ = c.from.result - (2 * c.from-2.result + 1) in
-    mul-le free (free - 1) MAX_IDS MAX_IDS (omega (arith, c.from.ensures, c.ids.ensures, c.shape-shape.result.in_range)) (omega (arith, c.from.ensures, c.ids.ensures, c.shape-shape.result.in_range))
