@@ -1,4 +1,4 @@
-use Rattle.std.proofs.Common.{◌≡◌, ◌+◌, ◌++◌, [], ◌∷◌, length, codes, string_bytes, append-nil, sym, ap, ◌∙◌, arith}
+use Rattle.std.proofs.Common.{◌≡◌, ◌+◌, ◌++◌, [], ◌∷◌, length, codes, string_bytes, append-nil, sym, ap, ◌∙◌, arith, refl}
 use Rattle.std.proofs.lemmas.Result.{on_ok_weaker}
 use Rattle.round_eval.specs.Configuration.{RingConfiguration, told}
 use Rattle.round_eval.specs.declared.configuration.Told.TheVariants.{Channel}
@@ -40,3 +40,7 @@ returns c =
 
 pub advance-requires : goal.advance-requires
 advance-requires c = rw c.loop-round.invariant.done (omega (arith, c.loop-round-test.true, c.requires.rounds))
+
+pub write_messages-requires : goal.write_messages-requires
+write_messages-requires c =
+    record { more = rw c.loop-round.invariant.done (omega (arith, c.loop-round-test.true, c.requires.rounds)); number = rw c.loop-round.invariant.done refl }
