@@ -1,11 +1,11 @@
 -- The commands of the tables, one after another.
 use Rattle.std.proofs.Common.{ap, ap₂, ℕ, ◌+◌, ◌<◌, ◌≡◌, ◌∙◌, ◌||◌, false, List, [], ◌∷◌, map, length, get_or, take, sym, append_assoc, append-nil, refl, ◌++◌}
 use Rattle.std.proofs.lemmas.List.{map_more, map_push}
-use Rattle.clap.specs.Words.{AddsArg, AddsInTurn, AddsSubcommand, App, Rule, Shape, Text, app_of, new_app, rule_of, shape_of, with_rule, with_subcommand}
+use Rattle.clap.specs.Words.{AddsArg, AddsInTurn, AddsSubcommand, App, Rule, Shape, app_of, new_app, rule_of, shape_of, with_rule, with_subcommand}
 use Rattle.clap.specs.declared.builder.arg.Arg.{Arg}
 use Rattle.clap.specs.declared.builder.command.Command.{Command}
 use Rattle.clap.specs.declared.builder.command.Command.TheViews.{out-Command}
-use Rattle.task_words.specs.CommandLine.{IsCommandOf, command_line, command_of, program}
+use Rattle.task_words.specs.CommandLine.{IsCommandOf}
 use Rattle.task_words.specs.Rows.{AreCommandsOf, AreOptionsOf, command_in, rule_in, with_commands, with_options}
 use Rattle.task_words.specs.declared.rows.CommandRow.{CommandRow}
 use Rattle.task_words.specs.declared.rows.OptionRow.{OptionRow}
