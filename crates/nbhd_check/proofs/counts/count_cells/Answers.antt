@@ -56,9 +56,6 @@ window-requires-clause-below c =
     let same : length (windows (2 * c.rounds-2.result + 1) c.shape-shape.result.ids) ≡ length (windows_of t) = λ q. length (windows (2 * again q + 1) (ids_is q)) in
     omega (arith, same, within d, some)
 
-pub count_windows-requires-clause-within : goal.count_windows-requires-clause-within
-count_windows-requires-clause-within c = within (goal.at.count_windows-requires-clause-within c).After-window_number
-
 pub returns : goal.returns
 returns c =
     let d = (goal.at.returns c).After-window_number in (
@@ -72,28 +69,13 @@ returns c =
       ),
     )
 
-pub count_windows-requires-clause-rows : goal.count_windows-requires-clause-rows
-count_windows-requires-clause-rows c = λ k d lt.
-    row_for _ c.args.limit c.args.table.now.ids (length c.fill.new.self) (c.requires.limit k d lt) (c.fill.ensures.len ∙ c.requires.room)
-
 pub add_rows-requires-clause-few : goal.add_rows-requires-clause-few
 add_rows-requires-clause-few c =
     let d = (goal.at.add_rows-requires-clause-few c).After-window_number in
     few_of_block c.window_number.result (count d) _ (within d) c.shape-shape.ensures.table.begun.shape.few_windows
 
-pub count_windows-requires-clause-empty : goal.count_windows-requires-clause-empty
-count_windows-requires-clause-empty c = λ v x lt within.
-    ap (λ cells. slice_index cells (v * (c.args.table.now.ids + 1) + x)) (c.fill.ensures.after (λ y same. same))
-    ∙ zeros (length c.args.cells.now) (v * (c.args.table.now.ids + 1) + x)
-
 pub add_rows-requires-clause-counted : goal.add_rows-requires-clause-counted
 add_rows-requires-clause-counted c = c.count_windows.ensures
-
-pub count_windows-requires-clause-window : goal.count_windows-requires-clause-window
-count_windows-requires-clause-window c =
-    let t = c.args.table.now in
-    subst (λ m. IsWindow (2 * t.rounds + 1) m c.window.new.out) c.shape-shape.ensures.ids
-    (subst (λ r. IsWindow (2 * r + 1) c.shape-shape.result.ids c.window.new.out) (c.rounds-2.ensures ∙ c.shape-shape.ensures.rounds) c.window.ensures.window)
 
 pub window_number-requires-clause-window : goal.window_number-requires-clause-window
 window_number-requires-clause-window c =
@@ -111,3 +93,19 @@ pub window-requires-clause-room : goal.window-requires-clause-room
 window-requires-clause-room c =
     length-take-le {A = ℕ} (length c.args.shared.now + 2) _ (omega (arith, c.requires.shared.size, c.shape-shape.ensures.rounds, c.shape-shape.result.few_rounds))
     ∙ omega (arith, c.requires.some, c.requires.shared.size, c.shape-shape.ensures.rounds, c.rounds-2.ensures)
+
+pub count_windows-requires : goal.count_windows-requires
+count_windows-requires c =
+    let t = c.args.table.now in
+    let d = (goal.at.count_windows-requires c).After-window_number in
+    let ids_is : c.shape-shape.result.ids ≡ t.ids = c.shape-shape.ensures.ids in
+    let rounds_is : c.rounds-2.result ≡ t.rounds = c.rounds-2.ensures ∙ c.shape-shape.ensures.rounds in record {
+      some = c.requires.some;
+      rows = λ k e lt. row_for _ c.args.limit t.ids (length c.fill.new.self) (c.requires.limit k e lt) (c.fill.ensures.len ∙ c.requires.room);
+      empty = λ v x lt in_row.
+          ap (λ cells. slice_index cells (v * (t.ids + 1) + x)) (c.fill.ensures.after (λ y same. same)) ∙ zeros (length c.args.cells.now) (v * (t.ids + 1) + x);
+      within = within d;
+      item = sym (λ q. slice_get (windows (2 * rounds_is q + 1) (ids_is q)) (c.window_number.result * count d)) ∙ c.window.ensures.item;
+      window = subst (λ m. IsWindow (2 * t.rounds + 1) m c.window.new.out) ids_is
+          (subst (λ r. IsWindow (2 * r + 1) c.shape-shape.result.ids c.window.new.out) rounds_is c.window.ensures.window);
+    }
