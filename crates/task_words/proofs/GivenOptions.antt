@@ -12,6 +12,7 @@ use Rattle.clap.proofs.WalkLemmas.{one_text-rows}
 use Rattle.option_values.specs.OptionLines.{HasValue, IsOneOf, is_option_line}
 use Rattle.option_values.specs.Laws.{OptionsHaveValues}
 use Rattle.task_words.specs.CommandLine.{command_line, ids_rule, ring_rule, workers_rule, segments_rule, near_rule, far_rule}
+use Rattle.task_words.specs.Counts.{IsCount, IsNear, IsFar}
 use Rattle.task_words.specs.Options.{IsNumberGiven, IsTextGiven}
 use Rattle.task_words.specs.declared.limits.TheConstants.{MAX_COUNT, MAX_DISTANCE}
 use Rattle.task_words.specs.Words.{HasNumber, IsRingName}
@@ -158,6 +159,19 @@ number_read f option r low high fits reads given =
         let same : n ≡ m = grind arith in
         (without_minus given.0, given.1, read.0.0, same ∙ read.0.1)
     go None n is read = absurd (grind arith)
+
+-- a number is in each range of 32 bits in which the value of the option is
+abbrev IsRanged : List Row → Text → ℕ → Type 0
+IsRanged values option n = (low high : ℕ) → high < 2 ^ 32 → IsNumberGiven values option low high → (low ≤ n) × (n ≤ high)
+
+pub count_is : (values : List Row) (option : Text) (n : ℕ) → IsRanged values option n → IsNumberGiven values option 1 MAX_COUNT → IsCount n
+count_is values option n ranged given = let range = ranged 1 MAX_COUNT (omega arith) given in record { some = range.0; few = range.1 }
+
+pub near_is : (values : List Row) (n : ℕ) → IsRanged values (codes "near") n → IsNumberGiven values (codes "near") 1 MAX_DISTANCE → IsNear n
+near_is values n ranged given = let range = ranged 1 MAX_DISTANCE (omega arith) given in record { some = range.0; small = range.1 }
+
+pub far_is : (values : List Row) (n : ℕ) → IsRanged values (codes "far") n → IsNumberGiven values (codes "far") 0 MAX_DISTANCE → IsFar n
+far_is values n ranged given = (ranged 0 MAX_DISTANCE (omega arith) given).1
 
 -- ---- the law at this command line
 

@@ -1,5 +1,5 @@
 -- The results of a parse that `clap` accepts or refuses. No public contract cites this file.
-use Rattle.std.specs.Prelude.{◌≡◌, ◌≢◌, ℕ, List, Some, ⊤, pos}
+use Rattle.std.specs.Prelude.{◌≡◌, ◌≢◌, ◌<◌, ◌^◌, ℕ, List, Some, ⊤, pos}
 use Rattle.clap.specs.Words.{IsSignedIn, Row, Text, first_of, one_of, without_minus}
 use Rattle.clap.specs.declared.error.kind.ErrorKind.{ErrorKind}
 use Rattle.clap.specs.declared.error.kind.ErrorKind.TheVariants as kind
@@ -10,6 +10,10 @@ use Rattle.task_words.specs.declared.words.WordsFault.TheVariants.{Usage, BadRin
 -- the option has a value, which is a number in this range
 abbrev pub IsNumberGiven : List Row → Text → ℕ → ℕ → Type 0
 IsNumberGiven values option low high = (text : Text) × (one_of option values ≡ Some (without_minus text)) × IsSignedIn (pos low) (pos high) text
+
+-- the option has a value, which is a number of 32 bits
+abbrev pub IsSomeNumberGiven : List Row → Text → Type 0
+IsSomeNumberGiven values option = (low : ℕ) × (high : ℕ) × (high < 2 ^ 32) × IsNumberGiven values option low high
 
 -- the option has a value
 abbrev pub IsTextGiven : List Row → Text → Type 0

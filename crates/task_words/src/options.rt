@@ -1,14 +1,13 @@
 //! The task of a command, from the values of its options.
 
-ghost use Rattle.std.specs.Prelude.{◌≡◌, ◌⊎◌, ◌↔◌, codes, IfOk, IfErr, IsTrue};
+ghost use Rattle.std.specs.Prelude.{◌≡◌, ◌⊎◌, ◌↔◌, ◌<◌, ◌≤◌, ◌^◌, ℕ, codes, IfOk, IfErr, IsTrue};
 ghost use Rattle.clap.specs.Words.{found_of, rows_of};
 ghost use Rattle.option_values.specs.OptionLines.{IsOneOf};
 ghost use Rattle.task_words.specs.CommandLine.{command_line};
-ghost use Rattle.task_words.specs.Counts.{IsCount, IsNear, IsFar};
-ghost use Rattle.task_words.specs.Options.{IsNumberGiven, IsTextGiven};
+ghost use Rattle.task_words.specs.Counts.{IsCount};
+ghost use Rattle.task_words.specs.Options.{IsNumberGiven, IsSomeNumberGiven, IsTextGiven};
 ghost use Rattle.task_words.specs.Task.{IsInRange, IsRunnable, segments_of};
 ghost use Rattle.task_words.specs.Words.{HasNumber, HasRing, IsRingBad, IsRingName, IsTaskFor};
-ghost use Rattle.task_words.specs.declared.limits.TheConstants.{MAX_COUNT, MAX_DISTANCE};
 ghost use Rattle.task_words.specs.declared.words.WordsFault.TheVariants.{BadRing, OutOfMemory};
 
 use crate::ring_text::ring_of;
@@ -53,19 +52,19 @@ fn ring_task(alloc: Global, name: &str, options: &ArgMatches<'_>) -> Result<Task
     ensures refused { IfErr result (λ fault. (fault ≡ OutOfMemory)
         ⊎ ((fault ≡ BadRing) × IsRingBad (rows_of (found_of options.now)))) }
 {
-    let ids = ids_of(options);
+    let ids = number_in(options, "ids");
     let ring = ring_in(alloc, options)?;
     match name {
         "run" => Ok(Task::Run {
             ids,
             ring,
-            segments: count_of(options, "segments"),
+            segments: number_in(options, "segments"),
         }),
         "trace" => Ok(Task::Trace { ids, ring }),
         "plan" => Ok(Task::Plan {
             ids,
             ring,
-            workers: count_of(options, "workers"),
+            workers: number_in(options, "workers"),
         }),
         _ => unreachable!(),
     }
@@ -81,20 +80,20 @@ fn ringless_task(name: &str, options: &ArgMatches<'_>) -> Task
 {
     match name {
         "check" => Task::Check {
-            ids: ids_of(options),
+            ids: number_in(options, "ids"),
         },
         "print" => Task::Print,
         "table" => Task::Table {
-            ids: ids_of(options),
-            workers: count_of(options, "workers"),
-            near: near_of(options),
-            far: far_of(options),
+            ids: number_in(options, "ids"),
+            workers: number_in(options, "workers"),
+            near: number_in(options, "near"),
+            far: number_in(options, "far"),
         },
         "judge" => Task::Judge {
-            ids: ids_of(options),
-            workers: count_of(options, "workers"),
-            near: near_of(options),
-            far: far_of(options),
+            ids: number_in(options, "ids"),
+            workers: number_in(options, "workers"),
+            near: number_in(options, "near"),
+            far: number_in(options, "far"),
         },
         "audit" => Task::Audit,
         "migrate" => Task::Migrate,
@@ -102,51 +101,17 @@ fn ringless_task(name: &str, options: &ArgMatches<'_>) -> Task
     }
 }
 
-// Returns the number of identifiers.
-fn ids_of(options: &ArgMatches<'_>) -> u32
-    requires { IsNumberGiven (rows_of (found_of options.now)) (codes "ids") 0 4294967295 }
-    ensures { HasNumber (rows_of (found_of options.now)) (codes "ids") result }
-{
-    let Some(ids) = options.get_one::<u32>("ids") else {
-        unreachable!()
-    };
-    ids
-}
-
-// Returns the number of workers or of segments, the value of this option.
-fn count_of(options: &ArgMatches<'_>, option: &str) -> u32
-    requires { IsNumberGiven (rows_of (found_of options.now)) option.now 1 MAX_COUNT }
+// Returns the number that is the value of this option.
+fn number_in(options: &ArgMatches<'_>, option: &str) -> u32
+    requires { IsSomeNumberGiven (rows_of (found_of options.now)) option.now }
     ensures number { HasNumber (rows_of (found_of options.now)) option.now result }
-    ensures range { IsCount result }
+    ensures range { (low high : ℕ) → high < 2 ^ 32 → IsNumberGiven (rows_of (found_of options.now)) option.now low high
+        → (low ≤ result) × (result ≤ high) }
 {
-    let Some(count) = options.get_one::<u32>(option) else {
+    let Some(number) = options.get_one::<u32>(option) else {
         unreachable!()
     };
-    count
-}
-
-// Returns the minimum difference of neighbours' channels.
-fn near_of(options: &ArgMatches<'_>) -> u32
-    requires { IsNumberGiven (rows_of (found_of options.now)) (codes "near") 1 MAX_DISTANCE }
-    ensures number { HasNumber (rows_of (found_of options.now)) (codes "near") result }
-    ensures range { IsNear result }
-{
-    let Some(near) = options.get_one::<u32>("near") else {
-        unreachable!()
-    };
-    near
-}
-
-// Returns the minimum difference of the channels of places at distance two.
-fn far_of(options: &ArgMatches<'_>) -> u32
-    requires { IsNumberGiven (rows_of (found_of options.now)) (codes "far") 0 MAX_DISTANCE }
-    ensures number { HasNumber (rows_of (found_of options.now)) (codes "far") result }
-    ensures range { IsFar result }
-{
-    let Some(far) = options.get_one::<u32>("far") else {
-        unreachable!()
-    };
-    far
+    number
 }
 
 // Returns the identifiers of the ring's places. Fails with `BadRing` if the text is not a ring
