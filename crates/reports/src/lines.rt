@@ -16,12 +16,10 @@ use win_index::RingFault;
 pub(crate) fn write_numbers(text: &mut String, numbers: &[u32]) -> Result<(), AllocError>
     ensures { OnOk result (string_bytes text.new ≡ string_bytes text.old ++ numbers_text numbers.now) }
 {
-    let [first, others @ ..] = numbers else {
-        return Ok(());
-    };
-    write!(text, "{first}")?;
-    for number in others {
-        write!(text, " {number}")?;
+    let mut separator = "";
+    for number in numbers {
+        write!(text, "{separator}{number}")?;
+        separator = " ";
     }
     Ok(())
 }
