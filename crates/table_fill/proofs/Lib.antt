@@ -2,4 +2,5 @@
 mod AskedTwice
 pub mod BelowBlocks
 pub mod KnownJobs
+mod Learned
 pub mod SharedFill

@@ -1,5 +1,5 @@
--- A memo and the code of its plan can be used by several threads. The lists are those that a check tries at such a goal;
--- here no value is in scope, through whose fields its search would go.
+-- A memo and the code of its plan can be used by several threads. The lists are what is used of those that a check tries
+-- at such a goal; here no value is in scope, through whose fields its search would go.
 use Rattle.node_program.proofs.tree.BinOp.TheSendSync as bin_op
 use Rattle.node_program.proofs.tree.UnOp.TheSendSync as un_op
 use Rattle.node_program.proofs.tree.Expr.TheLaws.TheKnot
@@ -8,9 +8,7 @@ use Rattle.column_machine.proofs.postfix.Postfix.TheSendSync as postfix
 use Rattle.shared_memo.below.once_cell.proofs.race.once_box.OnceBox.TheSendSync as once_box
 use Rattle.win_index.proofs.shape.Shape.TheSendSync as shape
 use Rattle.std.proofs.Crossing
-use Rattle.std.proofs.alloc.Global.TheSendSync as global
 use Rattle.std.proofs.boxed.Box.TheSendSync as boxed
-use Rattle.std.proofs.rt.Memory.TheSendSync as memory
 use Rattle.std.proofs.vec.Vec.TheSendSync as vec
 use denote.Param.Send.{IsSync, sendable}
 use denote.Ref.{NamedLft}
@@ -19,37 +17,7 @@ use Rattle.shared_memo.specs.contracts.memo.Memo as memo
 use Rattle.round_columns.specs.contracts.code.Code as code
 
 pub memo_sync : (a : NamedLft) → IsSync (memo.the_row a)
-memo_sync a = search (
-  memory.the_field_send,
-  memory.the_send,
-  memory.the_field_sync,
-  memory.the_sync,
-  bin_op.the_field_send,
-  bin_op.the_send,
-  bin_op.the_field_sync,
-  bin_op.the_sync,
-  un_op.the_field_send,
-  un_op.the_send,
-  un_op.the_field_sync,
-  un_op.the_sync,
-  once_box.the_send,
-  once_box.the_sync,
-  boxed.the_send,
-  boxed.the_sync,
-  vec.the_send,
-  vec.the_sync,
-  global.the_field_send,
-  global.the_send,
-  global.the_field_sync,
-  global.the_sync,
-  shape.the_field_send,
-  shape.the_send,
-  shape.the_field_sync,
-  shape.the_sync,
-  Crossing.crosses,
-  TheKnot.crosses,
-  sendable,
-) depth 60 fits 20000
+memo_sync a = search (bin_op.the_field_sync, un_op.the_field_sync, once_box.the_sync, boxed.the_sync, vec.the_sync, shape.the_field_sync, Crossing.crosses, TheKnot.crosses, sendable) depth 60 fits 20000
 
 pub code_sync : (a : NamedLft) → IsSync (code.the_row a)
 code_sync a = search (postfix.the_sync, round_code.the_sync, shape.the_field_sync, Crossing.crosses, TheKnot.crosses, sendable) depth 60 fits 20000

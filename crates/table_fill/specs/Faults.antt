@@ -1,4 +1,5 @@
 -- The fault of a filling. No public contract cites this file.
+use Rattle.std.specs.Prelude.{ℕ, ◌<◌}
 use Rattle.table_fill.specs.declared.fault.FillFault.{FillFault}
 use Rattle.table_fill.specs.declared.fault.FillFault.TheVariants as fill
 use Rattle.shared_memo.specs.declared.fault.WorkFault.TheVariants as work
@@ -10,3 +11,10 @@ abbrev pub fill_fault_of : CrewFault → FillFault
 fill_fault_of (Work work.OutOfMemory) = fill.OutOfMemory
 fill_fault_of (Work work.Stranger) = fill.Stranger
 fill_fault_of NoThread = fill.NoThread
+
+-- what a filling by this many workers can fail with: only for several of them a start can be refused
+abbrev pub IsFaultOf : ℕ → FillFault → Type 0
+IsFaultOf workers fill.WorkersOutOfRange = ⊥
+IsFaultOf workers fill.NoThread = 1 < workers
+IsFaultOf workers fill.OutOfMemory = Unit {0}
+IsFaultOf workers fill.Stranger = Unit {0}

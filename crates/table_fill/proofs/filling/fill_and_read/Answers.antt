@@ -1,0 +1,13 @@
+use Rattle.table_fill.proofs.Learned.{fault_of_crew, grows_both}
+use Rattle.table_fill.proofs.filling.fill_and_read.Goals as goal
+
+pub returns-in-Err-clause-fault : goal.returns-in-Err-clause-fault
+returns-in-Err-clause-fault g c = rw c.fill_fault.ensures.same (fault_of_crew c.args.workers c.in-Err.fault c.in-Err.ensures.alone)
+
+pub returns-then-look_and_put_zeros-clause-learned : goal.returns-then-look_and_put_zeros-clause-learned
+returns-then-look_and_put_zeros-clause-learned g c =
+    (c.read.ensures.learned.0, grows_both c.learn_left.ensures.learned.1 (grows_both c.look_and_put_zeros.ensures.learned.1 c.read.ensures.learned.1))
+
+pub returns-else-look_and_put_zeros-clause-learned : goal.returns-else-look_and_put_zeros-clause-learned
+returns-else-look_and_put_zeros-clause-learned g c =
+    (c.look_and_put_zeros.ensures.learned.0, grows_both c.learn_left.ensures.learned.1 c.look_and_put_zeros.ensures.learned.1)
