@@ -33,9 +33,7 @@ impl Counts {
         ensures { IfOk result (CountsFit table.now) }
     {
         let len = (limit as usize + 1) * (table.shape().ids() as usize + 1);
-        let Ok(cells) = vec![in alloc; 0u32; len] else {
-            return Err(OutOfMemory);
-        };
+        let cells = vec![in alloc; 0u32; len]?;
         Ok(Counts {
             cells,
             limit,

@@ -42,9 +42,7 @@ pub(crate) fn searchers(
     let mut searchers = Vec::new(alloc);
     for _thread in 0..threads {
         let searcher = fresh_searcher(alloc, table, distance, limit)?;
-        let Ok(()) = searchers.push(searcher) else {
-            return Err(OutOfMemory);
-        };
+        searchers.push(searcher)?;
     }
     Ok(searchers)
 }

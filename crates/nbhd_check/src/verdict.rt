@@ -96,9 +96,7 @@ fn no(
     let step = broken_step(table, separation, tuple);
     let first = channel_from(table, separation, tuple, 0);
     let second = channel_from(table, separation, tuple, step as usize);
-    let Ok(ring) = tuple.to_vec(alloc) else {
-        return Err(OutOfMemory);
-    };
+    let ring = tuple.to_vec(alloc)?;
     let place = table.shape().rounds();
     Ok(Verdict::No {
         ring,

@@ -24,7 +24,7 @@ pub(crate) fn entry_count(plan: &Plan) -> usize
 pub(crate) fn no_entries(alloc: Global, plan: &Plan) -> Result<Vec<u16>, OutOfMemory>
     ensures { IfOk result (λ entries. window_count plan.now.ids (length plan.now.program.steps) ≤ vec_capacity entries) }
 {
-    Vec::with_capacity(alloc, entry_count(plan)).map_err(|_| OutOfMemory)
+    Ok(Vec::with_capacity(alloc, entry_count(plan))?)
 }
 
 // Fills a list with `count` zeros, for which it has capacity.
@@ -66,7 +66,7 @@ pub(crate) fn no_blocks<'s, 'a>(
     ensures room { IfOk result (λ blocks. block_count (memo_plan memo.now).ids (length (memo_plan memo.now).program.steps) ≤ vec_capacity blocks) }
 {
     let shape = memo.plan().shape();
-    Vec::with_capacity(alloc, shape.blocks(shape.rounds()) as usize).map_err(|_| OutOfMemory)
+    Ok(Vec::with_capacity(alloc, shape.blocks(shape.rounds()) as usize)?)
 }
 
 // The blocks of the last level in order, in a list with capacity for them.

@@ -1,8 +1,8 @@
-use Rattle.std.proofs.Common.{◌≡◌, ◌+◌, ◌-◌, ◌*◌, ◌<◌, ℕ, List, length, subst, sym, ◌∙◌, arith, Some, ap, take, drop, slice_get, le_refl}
+use Rattle.std.proofs.Common.{◌≡◌, ◌+◌, ◌-◌, ◌*◌, ◌<◌, ℕ, List, length, subst, sym, ◌∙◌, arith, Some, ap, take, slice_get, le_refl}
 use Rattle.std.proofs.lemmas.Option.{slice_get_within}
 use Rattle.std.proofs.lemmas.Bool.{OnFalse_at}
 use Rattle.win_index.specs.Windows.{windows, IsWindow}
-use Rattle.channel_tables.specs.Tables.{ChannelTable, windows_of}
+use Rattle.channel_tables.specs.Tables.{windows_of}
 use Rattle.nbhd_check.specs.Counts.{shared_len, middle_of, AreCountsOf}
 use Rattle.nbhd_check.specs.Runs.{BeginsFarTuple}
 use Rattle.nbhd_check.proofs.Ends.{middle_cut, middle_window}

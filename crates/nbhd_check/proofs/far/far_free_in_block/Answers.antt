@@ -1,4 +1,4 @@
-use Rattle.std.proofs.Common.{◌≡◌, ℕ, ◌<◌, ◌≤◌, List, get_or, subst, sym, ap, ◌∙◌, arith, inl, inr, ⊎_elim, refl, le_refl}
+use Rattle.std.proofs.Common.{◌≡◌, ℕ, ◌<◌, ◌≤◌, get_or, subst, sym, ap, ◌∙◌, arith, inl, inr, ⊎_elim, refl, le_refl}
 use Rattle.std.proofs.lemmas.Bool.{cases_lt}
 use Rattle.nbhd_check.specs.Counts.{middle_of, AreCountsOnceMade, shared_len}
 use Rattle.nbhd_check.proofs.Ends.{middle_after_first}

@@ -6,7 +6,7 @@ use Rattle.nbhd_check.proofs.far_parts.searchers.Goals as goal
 pub loop-thread-preserved : goal.loop-thread-preserved
 loop-thread-preserved c =
     let P = IsSearcherOf c.args.table.now c.args.distance in
-    let ok : is_ok c.push.result ≡ true = ap is_ok c.in-Ok.is in
+    let ok : is_ok c.push.result ≡ true = ap is_ok c.in_ok-push.was in
     let pushed = rw ok at c.push.ensures.items in
     subst (All P) (sym pushed)
     (All-push P c.loop-thread.searchers.items c.in_ok-searcher.searcher c.loop-thread.invariant c.in_ok-searcher.ensures)

@@ -10,7 +10,7 @@ no_is_not_yes ring places channels same = cc
 
 pub returns-clause-verdict : goal.returns-clause-verdict
 returns-clause-verdict c =
-    rw (c.in-Ok.ensures.items_if_clones_equal (λ x y same. same))
+    rw (c.in_ok-ring.ensures.items_if_clones_equal (λ x y same. same))
     (is_witness c.args.table.now c.args.separation c.args.number _ _ _ _ c.write_tuple.new.out c.requires.0 c.tuples_are_rings.ensures c.requires.1
     c.write_tuple.ensures.item c.write_tuple.ensures.tuple (c.rounds-place.ensures ∙ c.shape.ensures.rounds) c.broken_step-step.ensures.step
     c.broken_step-step.ensures.few c.channel_from-first.ensures c.channel_from-second.ensures)
@@ -30,9 +30,6 @@ broken_step-step-requires-clause-tuple c = c.write_tuple.ensures.tuple
 
 pub returns-clause-yes : goal.returns-clause-yes
 returns-clause-yes c = (
-  λ same. absurd (no_is_not_yes c.in-Ok.ring _ _ same),
+  λ same. absurd (no_is_not_yes c.in_ok-ring.ring _ _ same),
   λ apart. absurd (not_apart c.args.table.now c.args.separation c.args.number c.requires.0 c.tuples_suffice.ensures.exact c.requires.1 apart),
 )
-
-pub returns-in_default-clause-memory : goal.returns-in_default-clause-memory
-returns-in_default-clause-memory c = not_apart c.args.table.now c.args.separation c.args.number c.requires.0 c.tuples_suffice.ensures.exact c.requires.1
