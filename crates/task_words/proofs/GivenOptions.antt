@@ -173,6 +173,17 @@ near_is values n ranged given = let range = ranged 1 MAX_DISTANCE (omega arith) 
 pub far_is : (values : List Row) (n : ℕ) → IsRanged values (codes "far") n → IsNumberGiven values (codes "far") 0 MAX_DISTANCE → IsFar n
 far_is values n ranged given = (ranged 0 MAX_DISTANCE (omega arith) given).1
 
+-- the numbers of a command that has workers and a separation are in their ranges
+pub all_in_range : (name : Text) (values : List Row) (workers near far : ℕ) → IsOneOf command_line.subs name values
+    → takes_workers name ≡ true → takes_near name ≡ true
+    → IsRanged values (codes "workers") workers → IsRanged values (codes "near") near → IsRanged values (codes "far") far
+    → IsCount workers × IsNear near × IsFar far
+all_in_range name values workers near far one is_filled is_judged w n f = (
+  count_is values (codes "workers") workers w (workers_given name values one is_filled),
+  near_is values near n (near_given name values one is_judged),
+  far_is values far f (far_given name values one is_judged),
+)
+
 -- ---- the law at this command line
 
 is_line : is_option_line command_line ≡ true

@@ -1,7 +1,7 @@
 use Rattle.std.proofs.Common.{ap, arith}
 use Rattle.clap.specs.Words.{found_of, rows_of}
 use Rattle.task_words.specs.declared.limits.TheConstants.{MAX_COUNT, MAX_DISTANCE}
-use Rattle.task_words.proofs.GivenOptions.{takes_ids, takes_workers, takes_near, ids_given, workers_given, near_given, far_given, count_is, near_is, far_is}
+use Rattle.task_words.proofs.GivenOptions.{takes_ids, takes_workers, takes_near, ids_given, workers_given, near_given, far_given, all_in_range}
 use Rattle.task_words.proofs.options.ringless_task.Goals as goal
 
 pub number_in-requires : goal.number_in-requires
@@ -33,16 +33,10 @@ number_in-requires-in-judge-4 c = (0, MAX_DISTANCE, omega arith, far_given _ (ro
 
 pub returns-in-table-clause-runnable : goal.returns-in-table-clause-runnable
 returns-in-table-clause-runnable c =
-    let values = rows_of (found_of c.args.options.now) in (
-      count_is values _ _ c.number_in-in-table-2.ensures.range (workers_given _ values c.requires.one (ap takes_workers c.in-table.is)),
-      near_is values _ c.number_in-in-table-3.ensures.range (near_given _ values c.requires.one (ap takes_near c.in-table.is)),
-      far_is values _ c.number_in-in-table-4.ensures.range (far_given _ values c.requires.one (ap takes_near c.in-table.is)),
-    )
+    all_in_range _ (rows_of (found_of c.args.options.now)) _ _ _ c.requires.one (ap takes_workers c.in-table.is) (ap takes_near c.in-table.is)
+    c.number_in-in-table-2.ensures.range c.number_in-in-table-3.ensures.range c.number_in-in-table-4.ensures.range
 
 pub returns-in-judge-clause-runnable : goal.returns-in-judge-clause-runnable
 returns-in-judge-clause-runnable c =
-    let values = rows_of (found_of c.args.options.now) in (
-      count_is values _ _ c.number_in-in-judge-2.ensures.range (workers_given _ values c.requires.one (ap takes_workers c.in-judge.is)),
-      near_is values _ c.number_in-in-judge-3.ensures.range (near_given _ values c.requires.one (ap takes_near c.in-judge.is)),
-      far_is values _ c.number_in-in-judge-4.ensures.range (far_given _ values c.requires.one (ap takes_near c.in-judge.is)),
-    )
+    all_in_range _ (rows_of (found_of c.args.options.now)) _ _ _ c.requires.one (ap takes_workers c.in-judge.is) (ap takes_near c.in-judge.is)
+    c.number_in-in-judge-2.ensures.range c.number_in-in-judge-3.ensures.range c.number_in-in-judge-4.ensures.range
