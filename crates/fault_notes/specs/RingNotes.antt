@@ -1,6 +1,7 @@
 -- The notes on a list that is not a ring, and on a number of segments.
-use Rattle.std.specs.Prelude.{ℕ, ◌+◌, ◌-◌, ◌*◌, ◌==◌, ◌&&◌, ◌++◌, List, length, slice_index, codes, if◌then◌else◌}
+use Rattle.std.specs.Prelude.{ℕ, ◌+◌, ◌-◌, ◌*◌, ◌==◌, ◌&&◌, nat_lt, ◌++◌, List, length, slice_index, codes, if◌then◌else◌}
 use Rattle.std.specs.Fmt.{decimal}
+use Rattle.node_program.specs.declared.limits.TheConstants.{MAX_THREADS}
 use Rattle.win_index.specs.declared.ring.RingFault.{RingFault}
 use Rattle.win_index.specs.declared.ring.RingFault.TheVariants as ring
 
@@ -19,6 +20,9 @@ ring_note m t x (ring.IdTooLarge place) =
 ring_note m t x (ring.Repeated first second) =
     codes "nbhd: places " ++ (decimal first ++ (codes " and " ++ (decimal second ++ (codes " have the same identifier " ++ (decimal (slice_index x second) ++ note_end (length x) first second)))))
 
--- more segments than places
+-- the note on a number of segments in which a ring of so many places can't be run: more than the places, or else none or
+-- too many for any ring
 abbrev pub segments_note : ℕ → ℕ → List ℕ
-segments_note segments places = codes "nbhd: " ++ (decimal segments ++ (codes " segments are more than the " ++ (decimal places ++ codes " places of the ring\n")))
+segments_note segments places = if nat_lt places segments
+    then codes "nbhd: " ++ (decimal segments ++ (codes " segments are more than the " ++ (decimal places ++ codes " places of the ring\n")))
+    else codes "nbhd: a ring is run in 1 to " ++ (decimal MAX_THREADS ++ (codes " segments, not " ++ (decimal segments ++ codes "\n")))

@@ -5,6 +5,7 @@ ghost use Rattle.win_index.specs.declared.limits.TheConstants.{MAX_ROUNDS};
 ghost use Rattle.win_index.specs.RingFaults.{IsFirstFault};
 ghost use Rattle.fault_notes.specs.RingNotes.{ring_note, segments_note, note_end};
 
+use node_program::MAX_THREADS;
 use std::alloc::{AllocError, Global};
 use win_index::RingFault;
 
@@ -74,10 +75,16 @@ fn note_end(count: usize, first: u32, second: u32) -> &'static str
     "\n"
 }
 
-/// Returns the note on a ring of `places` places that cannot be run in `segments` segments. Fails
-/// if memory was refused.
+/// Returns the note on a ring of `places` places that cannot be run in `segments` segments: these
+/// are more than the places, or else none or too many for any ring. Fails if memory was refused.
 pub fn segments_note(alloc: Global, segments: u32, places: usize) -> Result<String, AllocError>
     ensures { IfOk result (λ note. string_bytes note ≡ segments_note segments places) }
 {
-    format!(in alloc; "nbhd: {segments} segments are more than the {places} places of the ring\n")
+    if places < segments as usize {
+        return format!(in alloc;
+            "nbhd: {segments} segments are more than the {places} places of the ring\n"
+        );
+    }
+    let most = MAX_THREADS;
+    format!(in alloc; "nbhd: a ring is run in 1 to {most} segments, not {segments}\n")
 }
