@@ -37,10 +37,10 @@ pub record WritesReport (task : Task) (unread left before after : Option (List �
   pub written : Appends before after report.bytes
   pub status_is : status ≡ report.status
 
--- The report was written, and its note, if there is one, is on a cause that is found in the input.
+-- The report was written. The note, if there is one, is on its cause.
 pub record TellsReport (task : Task) (unread left before after : Option (List ℕ)) (told : Told) : Type 0 where
   pub report : WritesReport task unread left before after told.status
-  pub note : IfSome told.note (λ note. IsNoteOn report.input (string_bytes note))
+  pub note : IfSome told.note (λ note. IsNoteOn report.input report.report.cause (string_bytes note))
 
 -- The input was read, and a prefix of the report of the task on it was written.
 pub record WritesFront (task : Task) (unread left before after : Option (List ℕ)) : Type 0 where

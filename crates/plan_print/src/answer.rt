@@ -6,7 +6,7 @@ ghost use Rattle.task_words.specs.Counts.{IsCount};
 ghost use Rattle.shared_memo.specs.Passes.{memo_plan};
 ghost use Rattle.plan_print.specs.Engine.{IsTaskFault};
 ghost use Rattle.plan_print.specs.ReportedFaults.{fill_fault_told, run_fault_told};
-ghost use Rattle.reports.specs.Answers.{report_in, HasOwnCause};
+ghost use Rattle.reports.specs.Answers.{report_in};
 ghost use Rattle.reports.specs.Report as report;
 ghost use Rattle.reports.specs.Report.{Says, IsAnswerOnRing, IsJudgement, IsRunAnswer, IsTableText};
 
@@ -41,7 +41,6 @@ pub(crate) fn table_answer<T: Threads + Wait + Sync>(
 ) -> Result<Answer, EngineFault>
     requires { IsCount workers }
     ensures answer { IfOk result (λ r. IsTableText (table_of plan.now.program plan.now.ids) separation (report_in r)) }
-    ensures cause { IfOk result HasOwnCause }
     ensures fault { IfErr result (IsTaskFault workers) }
 {
     Ok(Answer::Table(compile_table(rt, alloc, plan, workers)?, separation))
@@ -57,7 +56,6 @@ pub(crate) fn run_answer<T: Threads + Wait + Sync>(
 ) -> Result<Answer, EngineFault>
     ensures answer { IfOk result (λ r. IsAnswerOnRing plan.now.ids (length plan.now.program.steps) ids.items
         (IsRunAnswer plan.now.program ids.items segments) (report_in r)) }
-    ensures cause { IfOk result HasOwnCause }
     ensures fault { IfErr result (IsTaskFault segments) }
 {
     match Ring::new(plan.shape(), ids) {
@@ -77,7 +75,6 @@ fn channels_answer<T: Threads + Wait + Sync>(
     requires ids { ring.now.ids ≡ plan.now.ids }
     requires rounds { ring.now.rounds ≡ length plan.now.program.steps }
     ensures answer { IfOk result (λ r. IsRunAnswer plan.now.program ring.now.places segments (report_in r)) }
-    ensures cause { IfOk result HasOwnCause }
     ensures fault { IfErr result (IsTaskFault segments) }
 {
     match run(rt, alloc, plan, ring, segments, &OpenGate) {
@@ -112,7 +109,6 @@ pub(crate) fn plan_answer<T: Threads + Wait + Sync>(
     requires { IsCount workers }
     ensures answer { IfOk result (λ r. IsAnswerOnRing plan.now.ids (length plan.now.program.steps) ids.items
         (Says (report.place_lines plan.now.program ids.items) Status.Done) (report_in r)) }
-    ensures cause { IfOk result HasOwnCause }
     ensures fault { IfErr result (IsTaskFault workers) }
 {
     match Ring::new(plan.shape(), ids) {
@@ -135,7 +131,6 @@ pub(crate) fn judge_report<T: Threads + Wait + Sync>(
 ) -> Result<Answer, EngineFault>
     requires { IsCount workers }
     ensures answer { IfOk result (λ r. IsJudgement (table_of plan.now.program plan.now.ids) separation (report_in r)) }
-    ensures cause { IfOk result HasOwnCause }
     ensures fault { IfErr result (IsTaskFault workers) }
 {
     let memo = Memo::new(alloc, plan)?;

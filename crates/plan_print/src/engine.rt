@@ -4,8 +4,8 @@ ghost use Rattle.std.specs.Prelude.{◌≡◌, ◌+◌, ◌≤◌, false, IfOk, 
 ghost use Rattle.task_words.specs.Task.{IsRunnable};
 ghost use Rattle.devices.specs.Input.{TakesFront};
 ghost use Rattle.devices.specs.Watched.{device_of, has_failed, calls_of};
-ghost use Rattle.reports.specs.Notes.{IsNoteOn};
-ghost use Rattle.reports.specs.Causes.{Explains};
+ghost use Rattle.reports.specs.Notes.{IsNoteOn, IsFound};
+ghost use Rattle.reports.specs.Causes.{reason_in};
 ghost use Rattle.reports.specs.Written.{MayHave};
 ghost use Rattle.plan_print.specs.Engine.{limit_of, WritesReport, TellsReport, LeavesOutput, TellsFailures, thread_count_of};
 
@@ -103,8 +103,8 @@ pub fn engine_with_note<T: Threads + Wait + Sync, R: Read, W: Write>(
 
 // Returns the note on this cause, if there is one.
 fn note_of(alloc: Global, input: &[u8], cause: Option<Cause>) -> Option<String>
-    requires { IfSome cause (Explains input.now) }
-    ensures { IfSome result (λ note. IsNoteOn input.now (string_bytes note)) }
+    requires { IfSome (reason_in cause) (IsFound input.now) }
+    ensures { IfSome result (λ note. IsNoteOn input.now (reason_in cause) (string_bytes note)) }
 {
     let Some(cause) = cause else {
         return None;

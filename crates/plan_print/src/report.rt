@@ -5,7 +5,7 @@ ghost use Rattle.std.specs.Prelude.{◌≡◌, ◌≢◌, IfOk, IfErr};
 ghost use Rattle.plan_print.specs.Answers.{ids_of, IsAnswerTo};
 ghost use Rattle.plan_print.specs.Engine.{thread_count_of, IsTaskFault};
 ghost use Rattle.plan_print.specs.TaskReport.{IsReport};
-ghost use Rattle.reports.specs.Answers.{report_in, IsExplained, HasOwnCause};
+ghost use Rattle.reports.specs.Answers.{report_in};
 ghost use Rattle.task_words.specs.Task.{IsRunnable};
 
 use crate::answer::{judge_report, plan_answer, run_answer, table_answer};
@@ -29,7 +29,6 @@ pub(crate) fn report_of<T: Threads + Wait + Sync>(
 ) -> Result<Answer, EngineFault>
     requires { IsRunnable task }
     ensures report { IfOk result (λ r. IsReport task input.now (report_in r)) }
-    ensures cause { IfOk result (IsExplained input.now) }
     ensures fault { IfErr result (IsTaskFault (thread_count_of task)) }
 {
     match task {
@@ -52,7 +51,6 @@ fn program_report<T: Threads + Wait + Sync>(
     requires no_audit { task ≢ Task.Audit }
     requires no_migrate { task ≢ Task.Migrate }
     ensures report { IfOk result (λ r. IsReport task input.now (report_in r)) }
-    ensures cause { IfOk result (IsExplained input.now) }
     ensures fault { IfErr result (IsTaskFault (thread_count_of task)) }
 {
     match plan_in(alloc, input, ids_of(&task))? {
@@ -106,7 +104,6 @@ fn program_answer<T: Threads + Wait + Sync>(
     requires no_audit { task ≢ Task.Audit }
     requires no_migrate { task ≢ Task.Migrate }
     ensures answer { IfOk result (λ r. IsAnswerTo task plan.now.ids plan.now.program (report_in r)) }
-    ensures cause { IfOk result HasOwnCause }
     ensures fault { IfErr result (IsTaskFault (thread_count_of task)) }
 {
     match task {

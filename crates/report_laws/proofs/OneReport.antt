@@ -1,5 +1,5 @@
 -- A task has at most one report on an input.
-use Rattle.std.proofs.Common.{◌≡◌, ℕ, List, [], ap, subst, sym, ◌∙◌, refl, append-nil}
+use Rattle.std.proofs.Common.{◌≡◌, ℕ, List, [], Option, Some, ap, subst, sym, ◌∙◌, refl, append-nil}
 use Rattle.node_program.specs.Term.{ProgramTree}
 use Rattle.node_lang.specs.Laws.{OneReading, OneTextFault}
 use Rattle.win_index.specs.Laws.{OneRingFault, RingsHaveNoFault}
@@ -18,14 +18,24 @@ use Rattle.nbhd_check.specs.Laws.{OneWitness, ApartTablesHaveNoWitness}
 use Rattle.task_words.specs.declared.task.Task.{Task}
 use Rattle.task_words.specs.declared.task.Task.TheVariants.{Check, Print, Table, Judge, Run, Trace, Plan, Audit, Migrate}
 use Rattle.reports.specs.declared.status.Status.{Status}
+use Rattle.reports.specs.Causes.{Reason, of_text, of_program, of_ring, of_table_text, of_no}
 use Rattle.reports.specs.Report as report
-use Rattle.reports.specs.Report.{Report, Says, IsJudgement, good, bad, IsAnswerOnRing, ring_fault, on_ring, IsRunAnswer, out_of_range, ran, IsTableText, IsTextRefusal, IsPrintReport, text_refused, in_print, IsProgramRefusal, text_fault, check_fault, IsProgramReport, program_refused, answered, IsTableRefusal, IsTableReport, table_refused, of_table}
+use Rattle.reports.specs.Report.{Report, Says, Refuses, IsJudgement, good, bad, IsAnswerOnRing, ring_fault, on_ring, IsRunAnswer, out_of_range, ran, IsTableText, IsTextRefusal, IsPrintReport, text_refused, in_print, IsProgramRefusal, text_fault, check_fault, IsProgramReport, program_refused, answered, IsTableRefusal, IsTableReport, table_refused, of_table}
 use Rattle.plan_print.specs.TaskReport.{IsReport}
 use Rattle.report_laws.specs.Laws.{OneReport}
 
--- two reports with the same bytes and the same status are equal
+-- two reports with the same bytes, the same status and the same cause are equal
+told_once : (bytes other : List ℕ) (status : Status) (cause why : Option Reason) (r s : Report) → bytes ≡ other → cause ≡ why
+    → (r.bytes ≡ bytes) × (r.status ≡ status) × (r.cause ≡ cause) → (s.bytes ≡ other) × (s.status ≡ status) × (s.cause ≡ why) → r ≡ s
+told_once bytes other status cause why r s same alike says says' =
+    λ i. record { bytes = (says.0 ∙ same ∙ sym says'.0) i; status = (says.1 ∙ sym says'.1) i; cause = (says.2 ∙ alike ∙ sym says'.2) i }
+
 said_once : (bytes other : List ℕ) (status : Status) (r s : Report) → bytes ≡ other → Says bytes status r → Says other status s → r ≡ s
-said_once bytes other status r s same says says' = λ i. record { bytes = (says.0 ∙ same ∙ sym says'.0) i; status = (says.1 ∙ sym says'.1) i }
+said_once bytes other status r s same says says' = told_once bytes other status _ _ r s same refl says says'
+
+refused_once : (bytes other : List ℕ) (status : Status) (cause why : Reason) (r s : Report) → bytes ≡ other → cause ≡ why
+    → Refuses bytes status cause r → Refuses other status why s → r ≡ s
+refused_once bytes other status cause why r s same alike says says' = told_once bytes other status _ _ r s same (ap (λ c. Some c) alike) says says'
 
 one_judgement : OneWitness → ApartTablesHaveNoWitness → (t : ChannelTable) (d : Separation) (r s : Report)
     → IsJudgement t d r → IsJudgement t d s → r ≡ s
@@ -34,19 +44,20 @@ one_judgement one no_witness t d r s (good is says) (bad ring i c witness says')
 one_judgement one no_witness t d r s (bad ring i c witness says) (good is says') = absurd (no_witness t d ring i c is witness)
 one_judgement one no_witness t d r s (bad ring i c witness says) (bad other j e witness' says') =
     let same = one t d ring other i j c e witness witness' in
-    said_once _ _ _ r s (λ k. report.no_line d (same.0 k) (same.1 k) (same.2 k)) says says'
+    refused_once _ _ _ _ _ r s (λ k. report.no_line d (same.0 k) (same.1 k) (same.2 k)) (λ k. of_no t.rounds (same.0 k) (same.1 k) (same.2 k)) says says'
 
 -- there is one report on a list of identifiers, if there is one on a ring
 one_on_ring : OneRingFault → RingsHaveNoFault → (m t : ℕ) (x : List ℕ) (said : Report → Type 0) → ((r s : Report) → said r → said s → r ≡ s)
     → (r s : Report) → IsAnswerOnRing m t x said r → IsAnswerOnRing m t x said s → r ≡ s
 one_on_ring one no_fault m t x said once r s (ring_fault f first says) (ring_fault g first' says') =
-    said_once _ _ _ r s (ap report.ring_fault_line (one m t x f g first first')) says says'
+    let same = one m t x f g first first' in
+    refused_once _ _ _ _ _ r s (ap report.ring_fault_line same) (ap (of_ring m t x) same) says says'
 one_on_ring one no_fault m t x said once r s (ring_fault f first says) (on_ring ring says') = absurd (no_fault m t x f ring first)
 one_on_ring one no_fault m t x said once r s (on_ring ring says) (ring_fault f first says') = absurd (no_fault m t x f ring first)
 one_on_ring one no_fault m t x said once r s (on_ring ring says) (on_ring ring' says') = once r s says says'
 
 one_run : (p : ProgramTree) (x : List ℕ) (segments : ℕ) (r s : Report) → IsRunAnswer p x segments r → IsRunAnswer p x segments s → r ≡ s
-one_run p x segments r s (out_of_range out says) (out_of_range out' says') = said_once _ _ _ r s refl says says'
+one_run p x segments r s (out_of_range out says) (out_of_range out' says') = refused_once _ _ _ _ _ r s refl refl says says'
 one_run p x segments r s (out_of_range out says) (ran within says') = absurd (out within)
 one_run p x segments r s (ran within says) (out_of_range out says') = absurd (out within)
 one_run p x segments r s (ran within says) (ran within' says') = said_once _ _ _ r s refl says says'
@@ -57,7 +68,7 @@ one_table_text t d r s says says' = said_once _ _ _ r s refl says says'
 one_text_refusal : OneTextFault → (input : List ℕ) (r s : Report) → IsTextRefusal input r → IsTextRefusal input s → r ≡ s
 one_text_refusal one_text_fault input r s first second =
     let same = one_text_fault input first.kind second.kind first.offset second.offset first.fault second.fault in
-    said_once _ _ _ r s (λ n. report.text_fault_line (same.0 n) (same.1 n)) first.says second.says
+    refused_once _ _ _ _ _ r s (λ n. report.text_fault_line (same.0 n) (same.1 n)) (λ n. of_text (same.0 n) (same.1 n)) first.says second.says
 
 one_print : OneReading → OneTextFault → (input : List ℕ) (r s : Report) → IsPrintReport input r → IsPrintReport input s → r ≡ s
 one_print one_reading one_text_fault input r s (text_refused first) (text_refused second) = one_text_refusal one_text_fault input r s first second
@@ -75,8 +86,10 @@ one_program_refusal one_text_fault one_reading one_refusal m input r s (text_fau
 one_program_refusal one_text_fault one_reading one_refusal m input r s (check_fault p f reads refused says) (text_fault second) =
     absurd (second.none p reads)
 one_program_refusal one_text_fault one_reading one_refusal m input r s (check_fault p f reads refused says) (check_fault q g reads' refused' says') =
-    let refused'' = subst (λ h. IsFirstRefusal m h g) (one_reading input q p reads' reads) refused' in
-    said_once _ _ _ r s (ap report.check_fault_line (one_refusal m p f g refused refused'')) says says'
+    let program = one_reading input p q reads reads' in
+    let refused'' = subst (λ h. IsFirstRefusal m h g) (sym program) refused' in
+    let same = one_refusal m p f g refused refused'' in
+    refused_once _ _ _ _ _ r s (ap report.check_fault_line same) (λ n. of_program (program n) m (same n)) says says'
 
 -- an accepted program is not refused
 pub accepted_or_refused : OneReading → AcceptedProgramsHaveNoRefusal → (m : ℕ) (input : List ℕ) (r : Report) (p : ProgramTree)
@@ -100,7 +113,8 @@ one_program_report one_reading one_text_fault one_refusal no_refusal m answer on
 
 one_table_refusal : OneTableFault → (input : List ℕ) (r s : Report) → IsTableRefusal input r → IsTableRefusal input s → r ≡ s
 one_table_refusal one_fault input r s first second =
-    said_once _ _ _ r s (ap report.table_fault_line (one_fault input first.what second.what first.known second.known first.fault second.fault)) first.says second.says
+    let same = one_fault input first.what second.what first.known second.known first.fault second.fault in
+    refused_once _ _ _ _ _ r s (ap report.table_fault_line same) (ap of_table_text same) first.says second.says
 
 -- a table text is not refused
 told_or_refused : TableTextsAreRead → (input : List ℕ) (r : Report) (t : ChannelTable) (d : Separation) → IsTextOf input t d → IsTableRefusal input r → ⊥

@@ -90,7 +90,7 @@ print_tells one_reading read input p r reads (text_refused refused) = absurd (re
 print_tells one_reading read input p r reads (in_print q reads' says) =
     let is : r.bytes ≡ printed p = says.0 ∙ ap printed (one_reading input q p reads' reads) in
     let again : Reads r.bytes p = subst (λ l. Reads l p) (sym is) (read p reads.limits) in
-    (says.1, again, in_print p again (is, says.1))
+    (says.1, again, in_print p again (is, says.1, says.2))
 
 pub plan_tells : OneReading → AcceptedProgramsHaveNoRefusal → RingsHaveNoFault → PlanTellsRounds
 plan_tells one_reading no_refusal no_fault m workers ring input p r text is_ring is =

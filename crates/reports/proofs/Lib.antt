@@ -2,3 +2,4 @@ mod Joined
 mod TraceLines
 pub mod Aligned
 mod SentMemo
+pub mod NotRing

@@ -1,26 +1,32 @@
 -- The cause of a report that is a refusal or a no.
-use Rattle.std.specs.Prelude.{◌≡◌, ◌≢◌, ℕ, ◌≤◌, List}
-use Rattle.node_program.specs.declared.limits.TheConstants.{MAX_ROUNDS}
-use Rattle.node_lang.specs.Grammar.{Reads}
-use Rattle.node_lang.specs.Faults.{FaultsAt}
-use Rattle.lang_check.specs.Refusals.{IsFirstRefusal}
-use Rattle.win_index.specs.RingFaults.{IsFirstFault}
-use Rattle.channel_tables.specs.Tables.{ChannelTable}
-use Rattle.channel_tables.specs.declared.separation.Separation.{Separation}
-use Rattle.nbhd_check.specs.Verdicts.{IsWitness}
-use Rattle.ring_segments.specs.SegmentCounts.{IsSegmentCount}
-use Rattle.table_text.specs.declared.fault.TableFault.TheVariants as table
-use Rattle.table_text.specs.Faults.{IsFault}
+use Rattle.std.specs.Prelude.{ℕ, List, Option, Some, None}
+use Rattle.node_program.specs.Term.{ProgramTree}
+use Rattle.node_lang.specs.declared.fault.FaultKind.{FaultKind}
+use Rattle.lang_check.specs.declared.acceptance.CheckFault.{CheckFault}
+use Rattle.win_index.specs.declared.ring.RingFault.{RingFault}
+use Rattle.table_text.specs.declared.fault.TableFault.{TableFault}
 use Rattle.reports.specs.declared.cause.Cause.{Cause}
 use Rattle.reports.specs.declared.cause.Cause.TheVariants as cause
 
--- The cause is found in this input: the fault of the text; the first refusal of the program of the text; the first
--- fault of a list of identifiers or of a table text; a number of segments in which the ring can't be run; or places at
--- which a table breaks a separation.
-abbrev pub Explains : List ℕ → Cause → Type 0
-Explains input (cause.Text f) = FaultsAt input f.kind f.offset
-Explains input (cause.Program p ids f) = Reads input p × IsFirstRefusal ids p f
-Explains input (cause.Ring rounds ids places f) = (rounds ≤ MAX_ROUNDS) × IsFirstFault ids rounds places.items f
-Explains input (cause.Segments segments places) = ¬ IsSegmentCount segments places
-Explains input (cause.TableText f) = (f ≢ table.OutOfMemory) × IsFault input f
-Explains input (cause.No rounds ring places channels) = (t : ChannelTable) × (s : Separation) × (rounds ≡ t.rounds) × IsWitness t s ring.items places channels
+-- The cause of a report: the fault of a program text and its place; the refusal of a program for a number of
+-- identifiers; the fault of a list of identifiers, for m identifiers and t rounds; a number of segments for a number of
+-- places; the fault of a table text; or, on a ring, two places and their channels, for t rounds.
+pub data Reason : Type 0 where
+  of_text : (kind : FaultKind) (offset : ℕ) → Reason
+  of_program : (p : ProgramTree) (ids : ℕ) (f : CheckFault) → Reason
+  of_ring : (m t : ℕ) (places : List ℕ) (f : RingFault) → Reason
+  of_segments : (segments places : ℕ) → Reason
+  of_table_text : (f : TableFault) → Reason
+  of_no : (t : ℕ) (ring : List ℕ) (places channels : ℕ × ℕ) → Reason
+
+abbrev pub reason_of : Cause → Reason
+reason_of (cause.Text f) = of_text f.kind f.offset
+reason_of (cause.Program p ids f) = of_program p ids f
+reason_of (cause.Ring rounds ids places f) = of_ring ids rounds places.items f
+reason_of (cause.Segments segments places) = of_segments segments places
+reason_of (cause.TableText f) = of_table_text f
+reason_of (cause.No rounds ring places channels) = of_no rounds ring.items places channels
+
+abbrev pub reason_in : Option Cause → Option Reason
+reason_in (Some cause) = Some (reason_of cause)
+reason_in None = None

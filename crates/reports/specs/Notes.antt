@@ -1,5 +1,9 @@
 -- The note on the cause of a report that is a refusal or a no.
-use Rattle.std.specs.Prelude.{◌≡◌, ◌≢◌, ℕ, ◌<◌, ◌≤◌, List, length}
+use Rattle.std.specs.Prelude.{◌≡◌, ◌≢◌, ℕ, ◌<◌, ◌≤◌, List, Option, Some, None, ⊤, length}
+use Rattle.node_program.specs.declared.limits.TheConstants.{MAX_ROUNDS}
+use Rattle.node_lang.specs.Faults.{FaultsAt}
+use Rattle.win_index.specs.RingFaults.{IsFirstFault}
+use Rattle.table_text.specs.Faults.{IsFault}
 use Rattle.node_lang.specs.declared.fault.FaultKind.TheVariants as kind
 use Rattle.table_text.specs.declared.fault.TableFault.{TableFault}
 use Rattle.table_text.specs.declared.fault.TableFault.TheVariants as table
@@ -9,9 +13,7 @@ use Rattle.fault_notes.specs.ProgramNotes.{IsCheckNote}
 use Rattle.fault_notes.specs.RingNotes.{ring_note, segments_note}
 use Rattle.fault_notes.specs.TableNotes.{long_note, IsFormNote, IsWindowNote, channel_note}
 use Rattle.fault_notes.specs.VerdictNotes.{verdict_note}
-use Rattle.reports.specs.Causes.{Explains}
-use Rattle.reports.specs.declared.cause.Cause.{Cause}
-use Rattle.reports.specs.declared.cause.Cause.TheVariants as cause
+use Rattle.reports.specs.Causes.{Reason, of_text, of_program, of_ring, of_segments, of_table_text, of_no}
 
 -- the note on a fault of a table text; OutOfMemory has none
 abbrev pub IsTableNote : List ℕ → TableFault → List ℕ → Type 0
@@ -22,17 +24,23 @@ IsTableNote input (table.ChannelTooLarge line) note = note ≡ channel_note line
 IsTableNote input table.OutOfMemory note = ⊥
 
 -- the note on a cause
-abbrev pub IsNote : List ℕ → Cause → List ℕ → Type 0
-IsNote input (cause.Text f) note =
-    (f.kind ≡ kind.TooLong → note ≡ too_long_note) × (f.kind ≢ kind.TooLong → IsTextNote input f.kind f.offset note)
-IsNote input (cause.Program p ids f) note = IsCheckNote input p ids f note
-IsNote input (cause.Ring rounds ids places f) note = note ≡ ring_note ids rounds places.items f
-IsNote input (cause.Segments segments places) note = note ≡ segments_note segments places
-IsNote input (cause.TableText f) note = IsTableNote input f note
-IsNote input (cause.No rounds ring places channels) note = note ≡ verdict_note rounds ring.items places channels
+abbrev pub IsNote : List ℕ → Reason → List ℕ → Type 0
+IsNote input (of_text k offset) note =
+    (k ≡ kind.TooLong → note ≡ too_long_note) × (k ≢ kind.TooLong → IsTextNote input k offset note)
+IsNote input (of_program p ids f) note = IsCheckNote input p ids f note
+IsNote input (of_ring m t places f) note = note ≡ ring_note m t places f
+IsNote input (of_segments segments places) note = note ≡ segments_note segments places
+IsNote input (of_table_text f) note = IsTableNote input f note
+IsNote input (of_no t ring places channels) note = note ≡ verdict_note t ring places channels
 
--- the note is on a cause that is found in this input
-pub record IsNoteOn (input note : List ℕ) : Type 0 where
-  pub cause : Cause
-  pub explains : Explains input cause
-  pub tells : IsNote input cause note
+-- the note on a cause, if there is one
+abbrev pub IsNoteOn : List ℕ → Option Reason → List ℕ → Type 0
+IsNoteOn input (Some cause) note = IsNote input cause note
+IsNoteOn input None note = ⊥
+
+-- The fault of a text is one of this input, and that of a list of identifiers is its own.
+abbrev pub IsFound : List ℕ → Reason → Type 0
+IsFound input (of_text k offset) = FaultsAt input k offset
+IsFound input (of_ring m t places f) = (t ≤ MAX_ROUNDS) × IsFirstFault m t places f
+IsFound input (of_table_text f) = IsFault input f
+IsFound input _ = ⊤

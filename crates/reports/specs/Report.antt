@@ -1,5 +1,5 @@
--- Reports: their bytes and their status, on a text, on a program, on a table or on a ring.
-use Rattle.std.specs.Prelude.{◌≡◌, ◌≢◌, ◌==◌, ◌&&◌, if◌then◌else◌, ℕ, ◌+◌, ◌*◌, List, [], ◌∷◌, length, slice_index, codes}
+-- Reports: their bytes, their status and their cause, on a text, on a program, on a table or on a ring.
+use Rattle.std.specs.Prelude.{◌≡◌, ◌≢◌, ◌==◌, ◌&&◌, if◌then◌else◌, ℕ, ◌+◌, ◌*◌, List, [], ◌∷◌, Option, Some, None, length, slice_index, codes}
 use Rattle.std.specs.List.{flat_map, range_with_len}
 use Rattle.std.specs.Fmt.{decimal}
 use Rattle.node_lang.specs.declared.fault.FaultKind.{FaultKind}
@@ -26,6 +26,7 @@ use Rattle.nbhd_check.specs.Verdicts.{IsWitness}
 use Rattle.ring_segments.specs.SegmentCounts.{IsSegmentCount}
 use Rattle.reports.specs.declared.status.Status.{Status}
 use Rattle.reports.specs.declared.status.Status.TheVariants.{Done, No, Words, Refused, RingRefused}
+use Rattle.reports.specs.Causes.{Reason, of_text, of_program, of_ring, of_segments, of_table_text, of_no}
 use Rattle.reports.specs.Lines.{line, numbers_text, right_aligned}
 use Rattle.table_text.specs.declared.fault.TableFault.{TableFault}
 use Rattle.table_text.specs.declared.fault.TableFault.TheVariants as table
@@ -36,10 +37,16 @@ use Rattle.table_text.specs.Faults.{IsFault}
 pub record Report : Type 0 where
   pub bytes : List ℕ
   pub status : Status
+  -- that of a refusal or a no
+  pub cause : Option Reason
 
--- the report has these bytes and this status
+-- the report has these bytes and this status, and no cause
 abbrev pub Says : List ℕ → Status → Report → Type 0
-Says bytes status r = (r.bytes ≡ bytes) × (r.status ≡ status)
+Says bytes status r = (r.bytes ≡ bytes) × (r.status ≡ status) × (r.cause ≡ None)
+
+-- the report is a refusal or a no: it has these bytes, this status and this cause
+abbrev pub Refuses : List ℕ → Status → Reason → Report → Type 0
+Refuses bytes status cause r = (r.bytes ≡ bytes) × (r.status ≡ status) × (r.cause ≡ Some cause)
 
 -- the number of a kind of text fault
 abbrev pub kind_number : FaultKind → ℕ
@@ -123,17 +130,17 @@ place_lines p places =
 -- The report of the judge: the channels are apart everywhere as the separation requires, or not on this ring.
 pub data IsJudgement (t : ChannelTable) (s : Separation) (r : Report) : Type 0 where
   good : IsApartEverywhere t s → Says (good_line (length (tuples t s))) Done r → IsJudgement t s r
-  bad : (ring : List ℕ) (places channels : ℕ × ℕ) → IsWitness t s ring places channels → Says (no_line s ring places channels) No r → IsJudgement t s r
+  bad : (ring : List ℕ) (places channels : ℕ × ℕ) → IsWitness t s ring places channels → Refuses (no_line s ring places channels) No (of_no t.rounds ring places channels) r → IsJudgement t s r
 
 -- The report on a list of identifiers, for m identifiers and t rounds: the first fault of a list that is not a ring, or
 -- the report on the ring.
 pub data IsAnswerOnRing (m t : ℕ) (places : List ℕ) (said : Report → Type 0) (r : Report) : Type 0 where
-  ring_fault : (f : RingFault) → IsFirstFault m t places f → Says (ring_fault_line f) RingRefused r → IsAnswerOnRing m t places said r
+  ring_fault : (f : RingFault) → IsFirstFault m t places f → Refuses (ring_fault_line f) RingRefused (of_ring m t places f) r → IsAnswerOnRing m t places said r
   on_ring : IsRing m t places → said r → IsAnswerOnRing m t places said r
 
 -- The report of a run on a ring: the ring can't be run in this number of segments, or its channels in global rounds.
 pub data IsRunAnswer (p : ProgramTree) (places : List ℕ) (segments : ℕ) (r : Report) : Type 0 where
-  out_of_range : (¬ IsSegmentCount segments (length places)) → Says segments_fault_line Words r → IsRunAnswer p places segments r
+  out_of_range : (¬ IsSegmentCount segments (length places)) → Refuses segments_fault_line Words (of_segments segments (length places)) r → IsRunAnswer p places segments r
   ran : IsSegmentCount segments (length places) → Says (line (numbers_text (channels_of p places) ∷ [])) Done r → IsRunAnswer p places segments r
 
 -- the report with the text of a table and a separation
@@ -146,7 +153,7 @@ pub record IsTextRefusal (input : List ℕ) (r : Report) : Type 0 where
   pub offset : ℕ
   pub none : (p : ProgramTree) → ¬ Reads input p
   pub fault : FaultsAt input kind offset
-  pub says : Says (text_fault_line kind offset) Refused r
+  pub says : Refuses (text_fault_line kind offset) Refused (of_text kind offset) r
 
 -- The report of a print: the fault of the text, or the printed form of its program.
 pub data IsPrintReport (input : List ℕ) (r : Report) : Type 0 where
@@ -158,7 +165,7 @@ pub data IsPrintReport (input : List ℕ) (r : Report) : Type 0 where
 pub data IsProgramRefusal (m : ℕ) (input : List ℕ) (r : Report) : Type 0 where
   text_fault : IsTextRefusal input r → IsProgramRefusal m input r
   check_fault : (p : ProgramTree) (f : CheckFault) → Reads input p → IsFirstRefusal m p f →
-      Says (check_fault_line f) Refused r → IsProgramRefusal m input r
+      Refuses (check_fault_line f) Refused (of_program p m f) r → IsProgramRefusal m input r
 
 -- The report of a task on a program text for m identifiers: its refusal, or the report on the accepted program.
 pub data IsProgramReport (m : ℕ) (answer : ProgramTree → Report → Type 0) (input : List ℕ) (r : Report) : Type 0 where
@@ -170,7 +177,7 @@ pub record IsTableRefusal (input : List ℕ) (r : Report) : Type 0 where
   pub what : TableFault
   pub known : what ≢ table.OutOfMemory
   pub fault : IsFault input what
-  pub says : Says (table_fault_line what) Refused r
+  pub says : Refuses (table_fault_line what) Refused (of_table_text what) r
 
 -- The report of a task on a table text: its refusal, or the report on its table and its separation.
 pub data IsTableReport (answer : ChannelTable → Separation → Report → Type 0) (input : List ℕ) (r : Report) : Type 0 where

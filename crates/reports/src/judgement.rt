@@ -2,7 +2,7 @@
 
 ghost use Rattle.std.specs.Prelude.{◌≡◌, IfOk, IfErr};
 ghost use Rattle.nbhd_check.specs.Verdicts.{IsVerdict};
-ghost use Rattle.reports.specs.Answers.{report_in, HasOwnCause};
+ghost use Rattle.reports.specs.Answers.{report_in};
 ghost use Rattle.reports.specs.Report.{IsJudgement};
 
 use crate::answer::Answer;
@@ -24,7 +24,6 @@ pub fn verdict_answer(
 ) -> Result<Answer, EngineFault>
     requires { IsVerdict table.now separation verdict }
     ensures answer { IfOk result (λ r. IsJudgement table.now separation (report_in r)) }
-    ensures cause { IfOk result HasOwnCause }
     ensures fault { IfErr result (λ fault. fault ≡ EngineFault.Memory) }
 {
     match verdict {
@@ -57,7 +56,6 @@ pub(crate) fn audit_report<T: Threads + Sync>(
     separation: Separation,
 ) -> Result<Answer, EngineFault>
     ensures answer { IfOk result (λ r. IsJudgement table.now separation (report_in r)) }
-    ensures cause { IfOk result HasOwnCause }
     ensures fault { IfErr result (λ fault. fault ≡ EngineFault.Memory) }
 {
     let verdict = judge(rt, alloc, table, separation)?;

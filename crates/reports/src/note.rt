@@ -1,8 +1,8 @@
 //! The note on the cause of a report that is a refusal or a no.
 
 ghost use Rattle.std.specs.Prelude.{◌≡◌, IfOk, IfSome, string_bytes};
-ghost use Rattle.reports.specs.Causes.{Explains};
-ghost use Rattle.reports.specs.Notes.{IsNote, IsTableNote};
+ghost use Rattle.reports.specs.Causes.{reason_of};
+ghost use Rattle.reports.specs.Notes.{IsNote, IsTableNote, IsFound};
 ghost use Rattle.table_text.specs.Faults.{IsFault};
 ghost use Rattle.fault_notes.specs.VerdictNotes.{verdict_note};
 
@@ -15,10 +15,10 @@ use std::alloc::{AllocError, Global};
 use table_text::{LONGEST_TABLE_TEXT, TableFault};
 use win_index::{MAX_IDS, MAX_ROUNDS};
 
-/// Returns the note on a cause that is found in this input, or `None` if memory was refused.
+/// Returns the note on a cause in this input, or `None` if memory was refused.
 pub fn note_on(alloc: Global, input: &[u8], cause: &Cause) -> Option<String>
-    requires { Explains input.now cause.now }
-    ensures { IfSome result (λ note. IsNote input.now cause.now (string_bytes note)) }
+    requires { IsFound input.now (reason_of cause.now) }
+    ensures { IfSome result (λ note. IsNote input.now (reason_of cause.now) (string_bytes note)) }
 {
     match cause {
         Cause::Text(fault) => text_note(alloc, input, *fault).ok(),

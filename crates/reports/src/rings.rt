@@ -2,10 +2,11 @@
 //! `Memory`, if memory was refused.
 
 ghost use Rattle.std.specs.Prelude.{◌≡◌, length, IfOk, IfErr};
-ghost use Rattle.reports.specs.Answers.{report_in, HasOwnCause};
+ghost use Rattle.reports.specs.Answers.{report_in};
+ghost use Rattle.reports.specs.Causes.{of_ring, of_segments};
 ghost use Rattle.reports.specs.Trace.{trace_lines};
 ghost use Rattle.reports.specs.Report as report;
-ghost use Rattle.reports.specs.Report.{Says, IsAnswerOnRing};
+ghost use Rattle.reports.specs.Report.{Says, Refuses, IsAnswerOnRing};
 ghost use Rattle.ring_segments.specs.SegmentCounts.{IsSegmentCount};
 ghost use Rattle.win_index.specs.RingFaults.{IsFirstFault};
 
@@ -27,8 +28,8 @@ pub fn ring_refusal(
     fault: RingFault,
 ) -> Result<Answer, EngineFault>
     requires { IsFirstFault shape.ids shape.rounds places.items fault }
-    ensures answer { IfOk result (λ r. Says (report.ring_fault_line fault) Status.RingRefused (report_in r)) }
-    ensures cause { IfOk result HasOwnCause }
+    ensures answer { IfOk result (λ r. Refuses (report.ring_fault_line fault) Status.RingRefused
+        (of_ring shape.ids shape.rounds places.items fault) (report_in r)) }
     ensures fault { IfErr result (λ fault. fault ≡ EngineFault.Memory) }
 {
     let line = ring_fault_line(alloc, fault)?;
@@ -44,8 +45,8 @@ pub fn ring_refusal(
 /// Returns the report on a number of segments in which the ring can't be run.
 pub fn segments_refusal(alloc: Global, segments: u32, ring: &Ring) -> Result<Answer, EngineFault>
     requires { ¬ IsSegmentCount segments (length ring.now.places) }
-    ensures answer { IfOk result (λ r. Says report.segments_fault_line Status.Words (report_in r)) }
-    ensures cause { IfOk result HasOwnCause }
+    ensures answer { IfOk result (λ r. Refuses report.segments_fault_line Status.Words
+        (of_segments segments (length ring.now.places)) (report_in r)) }
     ensures fault { IfErr result (λ fault. fault ≡ EngineFault.Memory) }
 {
     let line = segments_fault_line(alloc)?;
@@ -60,7 +61,6 @@ pub fn segments_refusal(alloc: Global, segments: u32, ring: &Ring) -> Result<Ans
 pub fn trace_answer(alloc: Global, plan: &Plan, ids: Vec<u32>) -> Result<Answer, EngineFault>
     ensures answer { IfOk result (λ r. IsAnswerOnRing plan.now.ids (length plan.now.program.steps) ids.items
         (Says (trace_lines plan.now.program ids.items) Status.Done) (report_in r)) }
-    ensures cause { IfOk result HasOwnCause }
     ensures fault { IfErr result (λ fault. fault ≡ EngineFault.Memory) }
 {
     match Ring::new(plan.shape(), ids) {

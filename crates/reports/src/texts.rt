@@ -6,7 +6,7 @@ ghost use Rattle.node_lang.specs.Grammar.{Reads};
 ghost use Rattle.node_lang.specs.Printed.{printed};
 ghost use Rattle.lang_check.specs.Acceptance.{IsAccepted};
 ghost use Rattle.table_text.specs.Texts.{IsTextOf};
-ghost use Rattle.reports.specs.Answers.{report_in, IsExplained, HasOwnCause};
+ghost use Rattle.reports.specs.Answers.{report_in};
 ghost use Rattle.reports.specs.Report as report;
 ghost use Rattle.reports.specs.Report.{Says, IsJudgement, IsPrintReport, IsProgramRefusal, IsTableRefusal, IsTableReport, IsTableText, IsTextRefusal};
 
@@ -27,7 +27,6 @@ use table_text::{TableFault, read_table};
 /// Returns the report of a check.
 pub fn check_answer(alloc: Global, plan: &Plan) -> Result<Answer, EngineFault>
     ensures answer { IfOk result (λ r. Says (report.accepted_line plan.now.ids plan.now.program) Status.Done (report_in r)) }
-    ensures cause { IfOk result HasOwnCause }
     ensures fault { IfErr result (λ fault. fault ≡ EngineFault.Memory) }
 {
     Ok(Answer::Text(accepted_line(alloc, plan)?, Status::Done))
@@ -36,7 +35,6 @@ pub fn check_answer(alloc: Global, plan: &Plan) -> Result<Answer, EngineFault>
 /// Returns the report with the printed form of the program of a program text.
 pub fn print_report(alloc: Global, input: &[u8]) -> Result<Answer, EngineFault>
     ensures report { IfOk result (λ r. IsPrintReport input.now (report_in r)) }
-    ensures cause { IfOk result (IsExplained input.now) }
     ensures fault { IfErr result (λ fault. fault ≡ EngineFault.Memory) }
 {
     match program_in(alloc, input)? {
@@ -48,7 +46,6 @@ pub fn print_report(alloc: Global, input: &[u8]) -> Result<Answer, EngineFault>
 // Returns the report with the printed form of a program.
 fn print_answer(alloc: Global, program: &Program) -> Result<Answer, EngineFault>
     ensures answer { IfOk result (λ r. Says (printed program.now) Status.Done (report_in r)) }
-    ensures cause { IfOk result HasOwnCause }
     ensures fault { IfErr result (λ fault. fault ≡ EngineFault.Memory) }
 {
     match print(alloc, program) {
@@ -64,7 +61,6 @@ pub fn audit_text_report<T: Threads + Sync>(
     input: &[u8],
 ) -> Result<Answer, EngineFault>
     ensures report { IfOk result (λ r. IsTableReport IsJudgement input.now (report_in r)) }
-    ensures cause { IfOk result (IsExplained input.now) }
     ensures fault { IfErr result (λ fault. fault ≡ EngineFault.Memory) }
 {
     match table_in(alloc, input)? {
@@ -76,7 +72,6 @@ pub fn audit_text_report<T: Threads + Sync>(
 /// Returns the report with the table and the separation of a table text.
 pub fn migrate_report(alloc: Global, input: &[u8]) -> Result<Answer, EngineFault>
     ensures report { IfOk result (λ r. IsTableReport IsTableText input.now (report_in r)) }
-    ensures cause { IfOk result (IsExplained input.now) }
     ensures fault { IfErr result (λ fault. fault ≡ EngineFault.Memory) }
 {
     match table_in(alloc, input)? {
@@ -89,7 +84,6 @@ pub fn migrate_report(alloc: Global, input: &[u8]) -> Result<Answer, EngineFault
 pub fn plan_in(alloc: Global, input: &[u8], ids: u32) -> Result<Result<Plan, Answer>, EngineFault>
     ensures plan { IfOk result (λ told. IfOk told (λ plan. (plan.ids ≡ ids) × Reads input.now plan.program × IsAccepted ids plan.program)) }
     ensures refusal { IfOk result (λ told. IfErr told (λ r. IsProgramRefusal ids input.now (report_in r))) }
-    ensures cause { IfOk result (λ told. IfErr told (IsExplained input.now)) }
     ensures fault { IfErr result (λ fault. fault ≡ EngineFault.Memory) }
 {
     match program_in(alloc, input)? {
@@ -113,7 +107,6 @@ pub fn plan_in(alloc: Global, input: &[u8], ids: u32) -> Result<Result<Plan, Ans
 fn program_in(alloc: Global, input: &[u8]) -> Result<Result<Program, Answer>, EngineFault>
     ensures program { IfOk result (λ told. IfOk told (λ program. Reads input.now program)) }
     ensures refusal { IfOk result (λ told. IfErr told (λ r. IsTextRefusal input.now (report_in r))) }
-    ensures cause { IfOk result (λ told. IfErr told (IsExplained input.now)) }
     ensures fault { IfErr result (λ fault. fault ≡ EngineFault.Memory) }
 {
     match parse(alloc, input) {
@@ -135,7 +128,6 @@ fn program_in(alloc: Global, input: &[u8]) -> Result<Result<Program, Answer>, En
 fn table_in(alloc: Global, input: &[u8]) -> Result<Result<(Table, Separation), Answer>, EngineFault>
     ensures table { IfOk result (λ told. IfOk told (λ read. IsTextOf input.now read.0 read.1)) }
     ensures refusal { IfOk result (λ told. IfErr told (λ r. IsTableRefusal input.now (report_in r))) }
-    ensures cause { IfOk result (λ told. IfErr told (IsExplained input.now)) }
     ensures fault { IfErr result (λ fault. fault ≡ EngineFault.Memory) }
 {
     match read_table(alloc, input) {

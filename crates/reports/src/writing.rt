@@ -4,7 +4,8 @@ ghost use Rattle.std.specs.Prelude.{◌≡◌, ◌≢◌, ◌↔◌, false, IsTr
 ghost use Rattle.std.specs.Io.KnownBytes.{Appends};
 ghost use Rattle.devices.specs.Watched.{device_of, has_failed};
 ghost use Rattle.table_text.specs.TableText.{table_text};
-ghost use Rattle.reports.specs.Answers.{report_in, cause_in};
+ghost use Rattle.reports.specs.Answers.{report_in};
+ghost use Rattle.reports.specs.Causes.{reason_in};
 ghost use Rattle.reports.specs.Written.{LeavesFront, MayHave};
 
 use crate::answer::Answer;
@@ -30,8 +31,7 @@ pub fn write_answer<W: Write>(
 ) -> Result<(Status, Option<Cause>), EngineFault>
     requires { has_failed writer.old ≡ false }
     ensures report { IfOk result (λ told. Appends (W.contents (device_of writer.old)) (W.contents (device_of writer.new)) (report_in answer).bytes
-        × (told.0 ≡ (report_in answer).status)) }
-    ensures cause { IfOk result (λ told. told.1 ≡ cause_in answer) }
+        × (told.0 ≡ (report_in answer).status) × (reason_in told.1 ≡ (report_in answer).cause)) }
     ensures left { IfErr result (LeavesFront (report_in answer).bytes (W.contents (device_of writer.old)) (W.contents (device_of writer.new))) }
     ensures fault { IfErr result (λ fault. fault ≢ EngineFault.Read) }
     ensures own { IfErr result (MayHave 0) }

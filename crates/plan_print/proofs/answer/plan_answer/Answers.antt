@@ -1,15 +1,14 @@
-use Rattle.std.proofs.Common.{◌≡◌, length, rules}
+use Rattle.std.proofs.Common.{◌≡◌, length}
 use Rattle.std.proofs.lemmas.Result.{IfOk-weaker}
 use Rattle.win_index.specs.RingFaults.{IsFirstFault}
-use Rattle.reports.specs.Report.{ring_fault}
+use Rattle.reports.proofs.NotRing.{not_ring}
 use Rattle.plan_print.proofs.answer.plan_answer.Goals as goal
 
 -- The list is not a ring.
 pub returns-in-Err-clause-answer : goal.returns-in-Err-clause-answer
 returns-in-Err-clause-answer g c =
-    let p = c.args.plan.now in
-    let shape = c.shape.result in
-    let ids : shape.ids ≡ p.ids = search rules in
-    let rounds : shape.rounds ≡ length p.program.steps = search rules in
-    let first : IsFirstFault shape.ids shape.rounds c.args.ids.items c.in-Err.fault = search rules in
-    IfOk-weaker c.ring_refusal.result _ _ (λ r told. ring_fault c.in-Err.fault (rw (ids, rounds) at first) told) c.ring_refusal.ensures.answer
+    let shape = c.shape-in-Err.ensures in
+    let list : c.in-Err.ids.items ≡ c.args.ids.items = λ i. (c.in-Err.ensures.err.0 i).items in
+    let first : IsFirstFault c.args.plan.now.ids (length c.args.plan.now.program.steps) c.args.ids.items c.in-Err.fault =
+    rw (c.shape.ensures.ids, c.shape.ensures.rounds) at c.in-Err.ensures.err.1 in
+    IfOk-weaker c.ring_refusal.result _ _ (λ r told. not_ring _ _ _ _ _ _ _ _ _ shape.ids shape.rounds list first told) c.ring_refusal.ensures.answer

@@ -1,25 +1,38 @@
-use Rattle.std.proofs.Common.{ℕ, List, subst, string_bytes, rules}
+use Rattle.std.proofs.Common.{ℕ, List, Option, subst, sym, ◌∙◌, string_bytes, rules}
 use Rattle.std.specs.Prelude.{IfSome}
 use Rattle.devices.specs.Input.{GivesInput}
 use Rattle.devices.specs.Watched.{device_of}
 use Rattle.reports.specs.Answers.{report_in}
-use Rattle.reports.specs.Notes.{IsNoteOn}
+use Rattle.reports.specs.Causes.{Reason, reason_in}
+use Rattle.reports.specs.Notes.{IsNoteOn, IsFound}
 use Rattle.plan_print.specs.Engine.{limit_of}
 use Rattle.plan_print.specs.TaskReport.{IsReport}
+use Rattle.plan_print.proofs.Found.{found}
 use Rattle.plan_print.proofs.engine.engine_with_note.Goals as goal
 
 -- The report and the note are on the input that was read.
 pub returns-clause-report : goal.returns-clause-report
 returns-clause-report g c =
-    let read : GivesInput (g.R.Read.remaining (device_of c.args.reader.now)) (g.R.Read.remaining (device_of c.read_input.new.reader)) (limit_of c.args.task) c.in_ok-input.input.items = search rules in
+    let input : List ℕ = c.in_ok-input.input.items in
+    let report = report_in c.in_ok-answer.answer in
+    let read : GivesInput (g.R.Read.remaining (device_of c.args.reader.now)) (g.R.Read.remaining (device_of c.read_input.new.reader)) (limit_of c.args.task) input = search rules in
+    let note = subst (λ (input : List ℕ). IfSome c.note_of-note.result (λ note. IsNoteOn input (reason_in c.in_ok-status.cause) (string_bytes note))) c.deref-2.ensures.value c.note_of-note.ensures in
     record {
       report = record {
-        input = c.in_ok-input.input.items;
+        input = input;
         read = read;
-        report = report_in c.in_ok-answer.answer;
-        is_report = subst (λ (input : List ℕ). IsReport c.args.task input (report_in c.in_ok-answer.answer)) c.deref.ensures.value c.in_ok-answer.ensures.report;
+        report = report;
+        is_report = subst (λ (input : List ℕ). IsReport c.args.task input report) c.deref.ensures.value c.in_ok-answer.ensures.report;
         written = c.in_ok-status.ensures.report.0;
         status_is = c.in_ok-status.ensures.report.1;
       };
-      note = subst (λ (input : List ℕ). IfSome c.note_of-note.result (λ note. IsNoteOn input (string_bytes note))) c.deref-2.ensures.value c.note_of-note.ensures;
+      note = subst (λ (cause : Option Reason). IfSome c.note_of-note.result (λ note. IsNoteOn input cause (string_bytes note))) c.in_ok-status.ensures.report.2 note;
     }
+
+-- The cause of the report is found in the input.
+pub note_of-note-requires : goal.note_of-note-requires
+note_of-note-requires g c =
+    let report = report_in c.in_ok-answer.answer in
+    let is = found c.args.task c.deref.result.now report c.in_ok-answer.ensures.report in
+    subst (λ (cause : Option Reason). IfSome cause (IsFound c.deref-2.result.now)) (sym c.in_ok-status.ensures.report.2)
+    (subst (λ (input : List ℕ). IfSome report.cause (IsFound input)) (c.deref.ensures.value ∙ sym c.deref-2.ensures.value) is)

@@ -17,9 +17,6 @@ returns-in-Ok-clause-report g c =
     (λ r said. as_report c.args.task c.ids_of.result c.args.input.now (report_in r) c.requires.no_print c.requires.no_audit c.requires.no_migrate c.ids_of.ensures
     (answered p reads accepted (rw ids at said))) c.program_answer.ensures.answer
 
-pub returns-in-Ok-clause-cause : goal.returns-in-Ok-clause-cause
-returns-in-Ok-clause-cause g c = IfOk-weaker c.program_answer.result _ _ (λ r own. own c.args.input.now) c.program_answer.ensures.cause
-
 pub returns-in-Err-clause-report : goal.returns-in-Err-clause-report
 returns-in-Err-clause-report g c =
     let refused : IsProgramRefusal c.ids_of.result c.args.input.now (report_in c.in-Err.refusal) = rw c.in-Err.is at c.in_ok-plan.ensures.refusal in

@@ -1,4 +1,7 @@
+use Rattle.std.proofs.Common.{refl, Some}
+use Rattle.reports.specs.Causes.{of_ring}
 use Rattle.reports.proofs.rings.ring_refusal.Goals as goal
 
-pub returns-clause-cause : goal.returns-clause-cause
-returns-clause-cause c = λ _. (rw c.rounds.ensures c.args.shape.few_rounds, rw (c.ids.ensures, c.rounds.ensures) c.requires)
+pub returns-clause-answer : goal.returns-clause-answer
+returns-clause-answer c =
+    (c.in_ok-line.ensures, refl, λ i. Some (of_ring (c.ids.ensures i) (c.rounds.ensures i) c.args.places.items c.args.fault))

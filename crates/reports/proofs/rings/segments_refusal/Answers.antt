@@ -1,6 +1,6 @@
-use Rattle.std.proofs.Common.{subst}
-use Rattle.ring_segments.specs.SegmentCounts.{IsSegmentCount}
+use Rattle.std.proofs.Common.{refl, ap, Some}
+use Rattle.reports.specs.Causes.{of_segments}
 use Rattle.reports.proofs.rings.segments_refusal.Goals as goal
 
-pub returns-clause-cause : goal.returns-clause-cause
-returns-clause-cause c = λ _ is. c.requires (subst (IsSegmentCount c.args.segments) c.len.ensures.value is)
+pub returns-clause-answer : goal.returns-clause-answer
+returns-clause-answer c = (c.in_ok-line.ensures, refl, ap (λ n. Some (of_segments c.args.segments n)) c.len.ensures.value)

@@ -8,6 +8,3 @@ pub returns-in-Ok-clause-report : goal.returns-in-Ok-clause-report
 returns-in-Ok-clause-report g c =
     let told : IsTextOf c.args.input.now c.in-Ok.table c.in-Ok.separation = search rules in
     IfOk-weaker c.audit_report.result _ _ (λ r said. of_table c.in-Ok.table c.in-Ok.separation told said) c.audit_report.ensures.answer
-
-pub returns-in-Ok-clause-cause : goal.returns-in-Ok-clause-cause
-returns-in-Ok-clause-cause g c = IfOk-weaker c.audit_report.result _ _ (λ r own. own c.args.input.now) c.audit_report.ensures.cause

@@ -6,4 +6,4 @@ use Rattle.reports.proofs.texts.migrate_report.Goals as goal
 pub returns-in-Ok-clause-report : goal.returns-in-Ok-clause-report
 returns-in-Ok-clause-report c =
     let told : IsTextOf c.args.input.now c.in-Ok.table c.in-Ok.separation = search rules in
-    of_table c.in-Ok.table c.in-Ok.separation told (refl, refl)
+    of_table c.in-Ok.table c.in-Ok.separation told (refl, refl, refl)

@@ -8,6 +8,3 @@ pub returns-in-Ok-clause-report : goal.returns-in-Ok-clause-report
 returns-in-Ok-clause-report c =
     let reads : Reads c.args.input.now c.in-Ok.program = search rules in
     IfOk-weaker c.print_answer.result _ _ (λ r said. in_print c.in-Ok.program reads said) c.print_answer.ensures.answer
-
-pub returns-in-Ok-clause-cause : goal.returns-in-Ok-clause-cause
-returns-in-Ok-clause-cause c = IfOk-weaker c.print_answer.result _ _ (λ r own. own c.args.input.now) c.print_answer.ensures.cause

@@ -15,6 +15,5 @@ returns-in_ok-line-in-Err c =
         fault = c.in-Err.ensures.fault known;
         says = search rules;
       };
-      cause = c.in-Err.ensures.fault known;
       fault = tt;
     }

@@ -7,7 +7,6 @@ returns-in_ok-line-in-Err c =
     let known : c.in-Err.fault ≢ OutOfMemory = search rules in
     record {
       table = tt;
-      refusal = record { what = c.in-Err.fault; known = known; fault = c.in-Err.ensures.fault; says = (c.in_ok-line-in-Err.ensures, refl) };
-      cause = (known, c.in-Err.ensures.fault);
+      refusal = record { what = c.in-Err.fault; known = known; fault = c.in-Err.ensures.fault; says = (c.in_ok-line-in-Err.ensures, refl, refl) };
       fault = tt;
     }

@@ -1,21 +1,11 @@
-use Rattle.std.proofs.Common.{sym, ap, refl}
-use Rattle.reports.specs.Answers.{cause_in}
+use Rattle.std.proofs.Common.{refl}
 use Rattle.reports.proofs.writing.write_answer.Goals as goal
 
 pub returns-in_ok-send-in-Text-clause-report : goal.returns-in_ok-send-in-Text-clause-report
-returns-in_ok-send-in-Text-clause-report g c = rw c.in-Text.is (rw c.as_bytes.ensures.value at c.in_ok-send-in-Text.ensures.ok, refl)
-
-pub returns-in_ok-send-in-Text-clause-cause : goal.returns-in_ok-send-in-Text-clause-cause
-returns-in_ok-send-in-Text-clause-cause g c = ap cause_in (sym c.in-Text.is)
+returns-in_ok-send-in-Text-clause-report g c = rw c.in-Text.is (rw c.as_bytes.ensures.value at c.in_ok-send-in-Text.ensures.ok, refl, refl)
 
 pub returns-in_ok-send-in-Told-clause-report : goal.returns-in_ok-send-in-Told-clause-report
-returns-in_ok-send-in-Told-clause-report g c = rw c.in-Told.is (rw c.as_bytes-in-Told.ensures.value at c.in_ok-send-in-Told.ensures.ok, refl)
-
-pub returns-in_ok-send-in-Told-clause-cause : goal.returns-in_ok-send-in-Told-clause-cause
-returns-in_ok-send-in-Told-clause-cause g c = ap cause_in (sym c.in-Told.is)
+returns-in_ok-send-in-Told-clause-report g c = rw c.in-Told.is (rw c.as_bytes-in-Told.ensures.value at c.in_ok-send-in-Told.ensures.ok, refl, refl)
 
 pub returns-in_ok-write_table_text-in-Table-clause-report : goal.returns-in_ok-write_table_text-in-Table-clause-report
-returns-in_ok-write_table_text-in-Table-clause-report g c = rw c.in-Table.is (c.in_ok-write_table_text-in-Table.ensures.report, refl)
-
-pub returns-in_ok-write_table_text-in-Table-clause-cause : goal.returns-in_ok-write_table_text-in-Table-clause-cause
-returns-in_ok-write_table_text-in-Table-clause-cause g c = ap cause_in (sym c.in-Table.is)
+returns-in_ok-write_table_text-in-Table-clause-report g c = rw c.in-Table.is (c.in_ok-write_table_text-in-Table.ensures.report, refl, refl)

@@ -1,0 +1,65 @@
+-- The cause of a report is found in its input.
+use Rattle.std.proofs.Common.{◌≡◌, ℕ, ◌≤◌, List, length, Option, Some, None, sym, subst}
+use Rattle.std.specs.Prelude.{IfSome}
+use Rattle.node_program.specs.declared.limits.TheConstants.{MAX_ROUNDS}
+use Rattle.node_program.specs.Term.{ProgramTree}
+use Rattle.channel_tables.specs.Tables.{ChannelTable}
+use Rattle.channel_tables.specs.declared.separation.Separation.{Separation}
+use Rattle.task_words.specs.declared.task.Task.{Task}
+use Rattle.task_words.specs.declared.task.Task.TheVariants.{Check, Print, Table, Judge, Run, Trace, Plan, Audit, Migrate}
+use Rattle.reports.specs.Causes.{Reason}
+use Rattle.reports.specs.Notes.{IsFound}
+use Rattle.reports.specs.Report.{Report, IsJudgement, good, bad, IsAnswerOnRing, ring_fault, on_ring, IsRunAnswer, out_of_range, ran, IsTextRefusal, IsPrintReport, text_refused, in_print, text_fault, check_fault, IsProgramReport, program_refused, answered, IsTableReport, table_refused, of_table}
+use Rattle.plan_print.specs.TaskReport.{IsReport}
+
+-- the cause of the report, if there is one, is found in the input
+abbrev IsOfInput : List ℕ → Report → Type 0
+IsOfInput input r = IfSome r.cause (IsFound input)
+
+no_cause : (input : List ℕ) (r : Report) → r.cause ≡ None → IsOfInput input r
+no_cause input r none = subst (λ (o : Option Reason). IfSome o (IsFound input)) (sym none) tt
+
+its_cause : (input : List ℕ) (r : Report) (cause : Reason) → r.cause ≡ Some cause → IsFound input cause → IsOfInput input r
+its_cause input r cause is found = subst (λ (o : Option Reason). IfSome o (IsFound input)) (sym is) found
+
+in_judgement : (input : List ℕ) (t : ChannelTable) (s : Separation) (r : Report) → IsJudgement t s r → IsOfInput input r
+in_judgement input t s r (good apart says) = no_cause input r says.2
+in_judgement input t s r (bad ring places channels witness says) = its_cause input r _ says.2 tt
+
+in_list : (input : List ℕ) (m t : ℕ) (places : List ℕ) (said : Report → Type 0) (r : Report) → t ≤ MAX_ROUNDS → (said r → IsOfInput input r)
+    → IsAnswerOnRing m t places said r → IsOfInput input r
+in_list input m t places said r few on (ring_fault f first says) = its_cause input r _ says.2 (few, first)
+in_list input m t places said r few on (on_ring is says) = on says
+
+in_run : (input : List ℕ) (p : ProgramTree) (places : List ℕ) (segments : ℕ) (r : Report) → IsRunAnswer p places segments r → IsOfInput input r
+in_run input p places segments r (out_of_range out says) = its_cause input r _ says.2 tt
+in_run input p places segments r (ran within says) = no_cause input r says.2
+
+in_text : (input : List ℕ) (r : Report) → IsTextRefusal input r → IsOfInput input r
+in_text input r refused = its_cause input r _ refused.says.2 refused.fault
+
+in_program : (m : ℕ) (answer : ProgramTree → Report → Type 0) (input : List ℕ) (r : Report)
+    → ((p : ProgramTree) → length p.steps ≤ MAX_ROUNDS → answer p r → IsOfInput input r) → IsProgramReport m answer input r → IsOfInput input r
+in_program m answer input r on (program_refused (text_fault refused)) = in_text input r refused
+in_program m answer input r on (program_refused (check_fault p f reads first says)) = its_cause input r _ says.2 tt
+in_program m answer input r on (answered p reads accepted said) = on p reads.limits.rounds said
+
+in_table : (answer : ChannelTable → Separation → Report → Type 0) (input : List ℕ) (r : Report)
+    → ((t : ChannelTable) (s : Separation) → answer t s r → IsOfInput input r) → IsTableReport answer input r → IsOfInput input r
+in_table answer input r on (table_refused refused) = its_cause input r _ refused.says.2 refused.fault
+in_table answer input r on (of_table t s told said) = on t s said
+
+pub found : (task : Task) (input : List ℕ) (r : Report) → IsReport task input r → IfSome r.cause (IsFound input)
+found (Check ids) input r is = in_program ids _ input r (λ p few said. no_cause input r said.2) is
+found Print input r (text_refused refused) = in_text input r refused
+found Print input r (in_print p reads says) = no_cause input r says.2
+found (Table ids workers near far) input r is = in_program ids _ input r (λ p few said. no_cause input r said.2) is
+found (Judge ids workers near far) input r is = in_program ids _ input r (λ p few said. in_judgement input _ _ r said) is
+found (Run ids ring segments) input r is =
+    in_program ids _ input r (λ p few said. in_list input _ _ _ _ r few (in_run input p ring.items segments r) said) is
+found (Trace ids ring) input r is =
+    in_program ids _ input r (λ p few said. in_list input _ _ _ _ r few (λ says. no_cause input r says.2) said) is
+found (Plan ids ring workers) input r is =
+    in_program ids _ input r (λ p few said. in_list input _ _ _ _ r few (λ says. no_cause input r says.2) said) is
+found Audit input r is = in_table _ input r (λ t s said. in_judgement input t s r said) is
+found Migrate input r is = in_table _ input r (λ t s said. no_cause input r said.2) is
