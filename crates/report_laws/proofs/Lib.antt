@@ -1,2 +1,8 @@
 mod OneReport
 mod ToldRounds
+mod TextAnswers
+mod ProgramAnswers
+mod JudgeAnswers
+mod Fronts
+mod TableAnswers
+mod EachReport

@@ -25,6 +25,14 @@ use Rattle.plan_print.specs.TaskReport.{IsReport}
 abbrev pub OneReport : Type 0
 OneReport = (task : Task) (input : List ℕ) (r s : Report) → IsReport task input r → IsReport task input s → r ≡ s
 
+-- the task has a report on the input
+abbrev pub HasReport : Task → List ℕ → Type 0
+HasReport task input = (r : Report) × IsReport task input r
+
+-- each task has a report on each input
+abbrev pub EachTaskHasAReport : Type 0
+EachTaskHasAReport = (task : Task) (input : List ℕ) → HasReport task input
+
 -- the text reads as the program, which is accepted for m identifiers
 abbrev pub IsAcceptedText : List ℕ → ℕ → ProgramTree → Type 0
 IsAcceptedText input m p = Reads input p × IsAccepted m p

@@ -4,11 +4,11 @@ ghost use Rattle.report_laws.specs.Laws as law;
 
 use headline::program_tables_are_apart;
 use lang_check::one_refusal;
-use nbhd_check::one_witness;
-use node_lang::{one_reading, one_text_fault, printed_is_read_back};
+use nbhd_check::{one_witness, tuples_suffice};
+use node_lang::{first_fault, one_reading, one_text_fault, printed_is_read_back, reading_is_exact};
 use table_entries::table_has_the_channels_of_rounds;
 use table_text::{one_table_fault, table_texts_are_apart, table_texts_are_read};
-use win_index::one_ring_fault;
+use win_index::{number_of_window, one_ring_fault, windows_have_numbers};
 
 /// A task has at most one report on an input. The report is the same for every number of workers,
 /// and for every number of segments in its range.
@@ -25,6 +25,18 @@ pub fn one_report()
     one_table_fault();
     table_texts_are_apart();
     table_texts_are_read();
+}
+
+/// Each task has a report on each input.
+pub fn each_task_has_a_report()
+    ensures { law.EachTaskHasAReport }
+{
+    reading_is_exact();
+    first_fault();
+    one_text_fault();
+    tuples_suffice();
+    number_of_window();
+    windows_have_numbers();
 }
 
 /// The reports on an accepted program agree with synchronous rounds on rings (Linial 1992). The

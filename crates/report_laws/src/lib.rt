@@ -4,4 +4,4 @@
 
 mod laws;
 
-pub use laws::{one_report, prints_are_read_back, reports_tell_rounds};
+pub use laws::{each_task_has_a_report, one_report, prints_are_read_back, reports_tell_rounds};

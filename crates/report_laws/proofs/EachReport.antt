@@ -1,0 +1,112 @@
+-- Each task has a report on each input.
+use Rattle.std.proofs.Common.{ℕ, List, ◌∷◌, [], length, Some, None, inl, inr, refl}
+use Rattle.std.specs.Prelude.{◌⊎◌}
+use Rattle.node_program.specs.Term.{ProgramTree}
+use Rattle.node_program.specs.GlobalRounds.{channels_of}
+use Rattle.node_lang.specs.Printed.{printed}
+use Rattle.node_lang.specs.Laws.{ReadTextsAreReadable, ReadingStopsAtFirstFault, ReadableTextsHaveNoFault}
+use Rattle.ring_segments.specs.SegmentCounts.{IsSegmentCount}
+use Rattle.channel_tables.specs.Tables.{ChannelTable}
+use Rattle.channel_tables.specs.declared.separation.Separation.{Separation}
+use Rattle.nbhd_check.specs.Apart.{tuples}
+use Rattle.table_entries.specs.ProgramTables.{table_of}
+use Rattle.table_text.specs.TableText.{table_text}
+use Rattle.task_words.specs.declared.task.Task.{Task}
+use Rattle.task_words.specs.declared.task.Task.TheVariants.{Check, Print, Table, Judge, Run, Trace, Plan, Audit, Migrate}
+use Rattle.reports.specs.declared.status.Status.{Status}
+use Rattle.reports.specs.declared.status.Status.TheVariants.{Done, No, Words, Refused, RingRefused}
+use Rattle.reports.specs.Causes.{Reason, of_text, of_program, of_ring, of_segments, of_table_text, of_no}
+use Rattle.reports.specs.Lines.{line, numbers_text}
+use Rattle.reports.specs.Trace.{trace_lines}
+use Rattle.reports.specs.Report as report
+use Rattle.reports.specs.Report.{Report, Says, IsJudgement, good, bad, IsAnswerOnRing, ring_fault, on_ring, IsRunAnswer, out_of_range, ran, text_refused, in_print, text_fault, check_fault, IsProgramReport, program_refused, answered, IsTableText, IsTableReport, table_refused, of_table}
+use Rattle.report_laws.specs.Laws.{HasReport, EachTaskHasAReport}
+use Rattle.report_laws.proofs.TextAnswers.{TextAnswer, text_answer}
+use Rattle.report_laws.proofs.JudgeAnswers.{JudgeAnswer, apart, not_apart}
+use Rattle.report_laws.proofs.TableAnswers.{TableAnswer, is_text, has_fault, table_answer}
+use Rattle.report_laws.proofs.ProgramAnswers.{ProgramAnswer, program_answer, RingAnswer, ring_answer, segments_answer}
+
+-- some report is so
+abbrev Some-report : (Report → Type 0) → Type 0
+Some-report is = (r : Report) × is r
+
+say : (bytes : List ℕ) (status : Status) → Some-report (Says bytes status)
+say bytes status = (record { bytes = bytes; status = status; cause = None }, (refl, refl, refl))
+
+abbrev refuse : List ℕ → Status → Reason → Report
+refuse bytes status cause = record { bytes = bytes; status = status; cause = Some cause }
+
+module _ (readable : ReadTextsAreReadable) (stops : ReadingStopsAtFirstFault) (no_fault : ReadableTextsHaveNoFault)
+    (judged : (t : ChannelTable) (s : Separation) → JudgeAnswer t s) where
+  on_print : (input : List ℕ) → TextAnswer input → Some-report (report.IsPrintReport input)
+  on_print input (inl read) = let said = say (printed read.0) Done in (said.0, in_print read.0 read.1 said.1)
+  on_print input (inr met) =
+      let k = met.0 in
+      let offset = met.1 in (
+        refuse (report.text_fault_line k offset) Refused (of_text k offset),
+        text_refused (record { kind = k; offset = offset; none = λ p reads. no_fault input p k offset reads met.2; fault = met.2; says = (refl, refl, refl) }),
+      )
+
+  on_program : (m : ℕ) (answer : ProgramTree → Report → Type 0) → ((p : ProgramTree) → Some-report (answer p)) → (input : List ℕ) → TextAnswer input
+      → Some-report (IsProgramReport m answer input)
+  on_program m answer each input (inr met) =
+      let k = met.0 in
+      let offset = met.1 in (
+        refuse (report.text_fault_line k offset) Refused (of_text k offset),
+        program_refused (text_fault (record { kind = k; offset = offset; none = λ p reads. no_fault input p k offset reads met.2; fault = met.2; says = (refl, refl, refl) })),
+      )
+  on_program m answer each input (inl read) = go (program_answer m read.0)
+    where
+      go : ProgramAnswer m read.0 → Some-report (IsProgramReport m answer input)
+      go (inl accepted) = let said = each read.0 in (said.0, answered read.0 read.1 accepted said.1)
+      go (inr met) = (
+        refuse (report.check_fault_line met.0) Refused (of_program read.0 m met.0),
+        program_refused (check_fault read.0 met.0 read.1 met.1 (refl, refl, refl)),
+      )
+
+  on_list : (m t : ℕ) (x : List ℕ) (said : Report → Type 0) → Some-report said → RingAnswer m t x → Some-report (IsAnswerOnRing m t x said)
+  on_list m t x said some (inl ring) = (some.0, on_ring ring some.1)
+  on_list m t x said some (inr met) =
+      (refuse (report.ring_fault_line met.0) RingRefused (of_ring m t x met.0), ring_fault met.0 met.1 (refl, refl, refl))
+
+  on_run : (p : ProgramTree) (x : List ℕ) (segments : ℕ) → IsSegmentCount segments (length x) ⊎ (¬ IsSegmentCount segments (length x))
+      → Some-report (IsRunAnswer p x segments)
+  on_run p x segments (inl within) = let said = say (line (numbers_text (channels_of p x) ∷ [])) Done in (said.0, ran within said.1)
+  on_run p x segments (inr out) =
+      (refuse report.segments_fault_line Words (of_segments segments (length x)), out_of_range out (refl, refl, refl))
+
+  on_judgement : (t : ChannelTable) (s : Separation) → JudgeAnswer t s → Some-report (IsJudgement t s)
+  on_judgement t s (apart is) = let said = say (report.good_line (length (tuples t s))) Done in (said.0, good is said.1)
+  on_judgement t s (not_apart ring places channels is) =
+      (refuse (report.no_line s ring places channels) No (of_no t.rounds ring places channels), bad ring places channels is (refl, refl, refl))
+
+  on_table : (answer : ChannelTable → Separation → Report → Type 0) → ((t : ChannelTable) (s : Separation) → Some-report (answer t s)) → (input : List ℕ)
+      → TableAnswer input → Some-report (IsTableReport answer input)
+  on_table answer each input (is_text t s told) = let said = each t s in (said.0, of_table t s told said.1)
+  on_table answer each input (has_fault f known is) =
+      (refuse (report.table_fault_line f) Refused (of_table_text f), table_refused (record { what = f; known = known; fault = is; says = (refl, refl, refl) }))
+
+  pub each_task_has_a_report : EachTaskHasAReport
+  each_task_has_a_report task input = go task
+    where
+      text : TextAnswer input
+      text = text_answer readable stops input
+
+      go : (task : Task) → HasReport task input
+      go (Check m) = on_program m _ (λ p. say (report.accepted_line m p) Done) input text
+      go Print = on_print input text
+      go (Table m workers near far) = on_program m _ (λ p. say (table_text (table_of p m) (record { near = near; far = far })) Done) input text
+      go (Judge m workers near far) =
+          let s : Separation = record { near = near; far = far } in
+          on_program m _ (λ p. on_judgement (table_of p m) s (judged (table_of p m) s)) input text
+      go (Run m ring segments) =
+          let x = ring.items in
+          on_program m _ (λ p. on_list m (length p.steps) x _ (on_run p x segments (segments_answer segments (length x))) (ring_answer m (length p.steps) x)) input text
+      go (Trace m ring) =
+          let x = ring.items in
+          on_program m _ (λ p. on_list m (length p.steps) x _ (say (trace_lines p x) Done) (ring_answer m (length p.steps) x)) input text
+      go (Plan m ring workers) =
+          let x = ring.items in
+          on_program m _ (λ p. on_list m (length p.steps) x _ (say (report.place_lines p x) Done) (ring_answer m (length p.steps) x)) input text
+      go Audit = on_table IsJudgement (λ t s. on_judgement t s (judged t s)) input (table_answer input)
+      go Migrate = on_table IsTableText (λ t s. say (table_text t s) Done) input (table_answer input)
