@@ -75,11 +75,6 @@ operations = token.One Not ∷ token.Two op.And ∷ token.Two op.Or ∷ token.Tw
 abbrev pub named : List Token → List ℕ → Option Token
 named tokens word = find (λ t. bytes_eq word (word_of t)) tokens
 
--- the token beside this word in a table of words and tokens
-abbrev pub listed : List (List ℕ × Token) → List ℕ → Option Token
-listed [] word = None
-listed (e ∷ es) word = if bytes_eq word e.0 then Some e.1 else listed es word
-
 -- the number of decimal digits that follow those of n
 abbrev pub read_on : ℕ → List ℕ → ℕ
 read_on n [] = n

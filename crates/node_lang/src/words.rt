@@ -1,9 +1,9 @@
-ghost use Rattle.std.specs.Prelude.{◌≡◌, ◌^◌, ◌<◌, length, map};
+ghost use Rattle.std.specs.Prelude.{◌≡◌, ◌^◌, ◌<◌, length};
 ghost use Rattle.std.specs.List.{list_all};
 ghost use Rattle.std.specs.Option.{SomeIff};
 ghost use Rattle.node_program.specs.Term.{term_of};
 ghost use Rattle.node_lang.specs.Printed.{operation_name as name_of};
-ghost use Rattle.node_lang.specs.Words.{is_blank as blank, is_digit as digit, is_word_byte as word_byte, mark_token as mark, register_named, named, keywords, listed, operations, read_on, word_token};
+ghost use Rattle.node_lang.specs.Words.{is_blank as blank, is_digit as digit, is_word_byte as word_byte, mark_token as mark, register_named, named, keywords, operations, read_on, word_token};
 
 use crate::token::Token;
 use node_program::{BinOp, Expr, UnOp};
@@ -32,61 +32,39 @@ fn is_number(word: &[u8]) -> bool
     word.iter().all(|byte| is_digit(*byte))
 }
 
-// The operations, each with its name.
-const OPERATIONS: [(&[u8], Token); 17] = [
-    (b"not", Token::One(UnOp::Not)),
-    (b"and", Token::Two(BinOp::And)),
-    (b"or", Token::Two(BinOp::Or)),
-    (b"xor", Token::Two(BinOp::Xor)),
-    (b"shl", Token::Two(BinOp::Shl)),
-    (b"shr", Token::Two(BinOp::Shr)),
-    (b"add", Token::Two(BinOp::Add)),
-    (b"sub", Token::Two(BinOp::Sub)),
-    (b"min", Token::Two(BinOp::Min)),
-    (b"max", Token::Two(BinOp::Max)),
-    (b"ldb", Token::Two(BinOp::Ldb)),
-    (b"bit", Token::Two(BinOp::Bit)),
-    (b"eq", Token::Two(BinOp::Eq)),
-    (b"ne", Token::Two(BinOp::Ne)),
-    (b"lt", Token::Two(BinOp::Lt)),
-    (b"le", Token::Two(BinOp::Le)),
-    (b"if", Token::If),
-];
-
-// The words that are not names of operations, each with its token.
-const KEYWORDS: [(&[u8], Token); 12] = [
-    (b"rounds", Token::Rounds),
-    (b"channels", Token::Channels),
-    (b"registers", Token::Registers),
-    (b"start", Token::Start),
-    (b"round", Token::Round),
-    (b"send", Token::Send),
-    (b"left", Token::Left),
-    (b"right", Token::Right),
-    (b"finish", Token::Finish),
-    (b"id", Token::Id),
-    (b"L", Token::FromLeft),
-    (b"R", Token::FromRight),
-];
-
-// The token of the first entry with this word.
-fn lookup(mut table: &[(&[u8], Token)], word: &[u8]) -> Option<Token>
-    ensures { result ≡ listed (map (λ e. (e.0.now, e.1)) table.entry.now) word.now }
-{
-    while let [entry, rest @ ..] = table {
-        if word == entry.0 {
-            return Some(entry.1);
+// The token of a word, one line per word.
+macro_rules! words {
+    ($word:expr; $($name:literal => $token:expr,)*) => {
+        match $word {
+            $(word if word == $name.as_slice() => Some($token),)*
+            _ => None,
         }
-        table = rest;
-    }
-    None
+    };
 }
 
-// The operation with this name.
+// The operation with this name, one line per operation of the language.
 fn operation(word: &[u8]) -> Option<Token>
     ensures { result ≡ named operations word.now }
 {
-    lookup(&OPERATIONS, word)
+    words! { word;
+        b"not" => Token::One(UnOp::Not),
+        b"and" => Token::Two(BinOp::And),
+        b"or" => Token::Two(BinOp::Or),
+        b"xor" => Token::Two(BinOp::Xor),
+        b"shl" => Token::Two(BinOp::Shl),
+        b"shr" => Token::Two(BinOp::Shr),
+        b"add" => Token::Two(BinOp::Add),
+        b"sub" => Token::Two(BinOp::Sub),
+        b"min" => Token::Two(BinOp::Min),
+        b"max" => Token::Two(BinOp::Max),
+        b"ldb" => Token::Two(BinOp::Ldb),
+        b"bit" => Token::Two(BinOp::Bit),
+        b"eq" => Token::Two(BinOp::Eq),
+        b"ne" => Token::Two(BinOp::Ne),
+        b"lt" => Token::Two(BinOp::Lt),
+        b"le" => Token::Two(BinOp::Le),
+        b"if" => Token::If,
+    }
 }
 
 // The name of each operation, one line each.
@@ -142,7 +120,20 @@ pub(crate) fn operation_name(expression: &Expr) -> &'static str
 fn keyword(word: &[u8]) -> Option<Token>
     ensures { result ≡ named keywords word.now }
 {
-    lookup(&KEYWORDS, word)
+    words! { word;
+        b"rounds" => Token::Rounds,
+        b"channels" => Token::Channels,
+        b"registers" => Token::Registers,
+        b"start" => Token::Start,
+        b"round" => Token::Round,
+        b"send" => Token::Send,
+        b"left" => Token::Left,
+        b"right" => Token::Right,
+        b"finish" => Token::Finish,
+        b"id" => Token::Id,
+        b"L" => Token::FromLeft,
+        b"R" => Token::FromRight,
+    }
 }
 
 // A register: `r` and one digit.
