@@ -16,3 +16,4 @@ pub mod Runs
 pub mod OneApart
 pub mod TwoGaps
 pub mod Tuples
+pub mod Less

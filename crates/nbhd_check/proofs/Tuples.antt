@@ -7,7 +7,7 @@ use Rattle.win_index.specs.Windows.{number_of, IsWindow}
 use Rattle.channel_tables.specs.Tables.{ChannelTable, channel_of}
 use Rattle.channel_tables.specs.declared.separation.Separation.{Separation}
 use Rattle.nbhd_check.specs.Apart.{extra, tuples, AreClose, IsBad, IsApart, IsApartEverywhere, NoneIsBad, IsLeastBad}
-use Rattle.nbhd_check.specs.Laws.{TuplesSuffice, BadTuplesAreRings, OneWitness, ApartTablesHaveNoWitness}
+use Rattle.nbhd_check.specs.Laws.{TuplesSuffice, BadTuplesAreRings, OneWitness, ApartTablesHaveNoWitness, WitnessesAreOnRings}
 use Rattle.nbhd_check.specs.Verdicts.{IsStep, IsWitness}
 use Rattle.nbhd_check.proofs.Close.{apart_not_close, apart_of_not_close, some_distance, close_along}
 use Rattle.nbhd_check.proofs.Prefixes.{some_number}
@@ -141,6 +141,26 @@ one_witness t s ring other i j c d a b =
     let there : c.1 ≡ d.1 =
     same_Some c.1 d.1 (sym a.second_channel ∙ (λ k. channel_of t (window_around (same k) t.rounds (second k))) ∙ b.second_channel) in
     (same, (λ k. (first k, second k)), (λ k. (here k, there k)))
+
+-- the witness as a ring, and its places
+pub witness_on_ring : NumberOfWindow → WindowsHaveNumbers → BadTuplesAreRings → WitnessesAreOnRings
+witness_on_ring number_at has_number bad_ring t s ring places channels w =
+    let numbered = number_at (2 * t.rounds + 1 + extra s) t.ids w.number ring w.least.item in
+    let window = (has_number (2 * t.rounds + 1 + extra s) t.ids ring).0 (subst IsSome (sym numbered) refl) in
+    let broken = bad_ring t s ring window w.least.bad in
+    let long = broken.0.long in
+    let at' : ℕ → Option ℕ = λ place. channel_of t (window_around ring t.rounds place) in
+    let second : t.rounds + w.step < length ring =
+    ⊎_elim
+    (λ (one : AreClose s.near (at' t.rounds) (at' (t.rounds + 1)) × (w.step ≡ 1)). omega (arith, one.1, long))
+    (λ (two : (¬ AreClose s.near (at' t.rounds) (at' (t.rounds + 1))) × (w.step ≡ 2)).
+    ⊎_elim
+    (λ (near : AreClose s.near (at' t.rounds) (at' (t.rounds + 1))). absurd (two.0 near))
+    (λ (far : AreClose s.far (at' t.rounds) (at' (t.rounds + 2))).
+    omega (arith, two.1, window.size, two_of_far s (at' t.rounds) (at' (t.rounds + 2)) far))
+    broken.1)
+    w.step_is in
+    (broken.0, omega (arith, w.first_place, long), omega (arith, w.second_place, second))
 
 -- the least bad tuple as a ring
 pub is_witness :

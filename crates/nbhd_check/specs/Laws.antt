@@ -1,5 +1,5 @@
 -- The statements of the laws of this crate, one definition each.
-use Rattle.std.specs.Prelude.{◌≡◌, ◌↔◌, ℕ, ◌+◌, ◌*◌, ◌⊎◌, Option, List}
+use Rattle.std.specs.Prelude.{◌≡◌, ◌↔◌, ℕ, ◌+◌, ◌*◌, ◌<◌, ◌≤◌, ◌⊎◌, Option, List, length}
 use Rattle.win_index.specs.Laws.{NumberOfWindow, WindowOfNumber, WindowsHaveNumbers, LongerWindowsHaveNumbers}
 use Rattle.win_index.specs.Ring.{IsRing}
 use Rattle.win_index.specs.Arcs.{window_around}
@@ -41,6 +41,19 @@ OneWitness =
 abbrev pub ApartTablesHaveNoWitness : Type 0
 ApartTablesHaveNoWitness =
     (t : ChannelTable) (s : Separation) (ring : List ℕ) (places channels : ℕ × ℕ) → IsApartEverywhere t s → IsWitness t s ring places channels → ⊥
+
+-- the ring of a witness is a ring, and has both places
+abbrev pub WitnessesAreOnRings : Type 0
+WitnessesAreOnRings =
+    (t : ChannelTable) (s : Separation) (ring : List ℕ) (places channels : ℕ × ℕ) → IsWitness t s ring places channels
+    → IsRing t.ids t.rounds ring × (places.0 < length ring) × (places.1 < length ring)
+
+-- channels that are apart everywhere by a separation are so by each smaller one. If far becomes 0, shorter rings count
+-- too, so there must be identifiers for one node more
+abbrev pub LessIsApart : Type 0
+LessIsApart =
+    (t : ChannelTable) (s less : Separation) → less.near ≤ s.near → less.far ≤ s.far
+    → (extra less ≡ extra s) ⊎ (2 * t.rounds + 3 ≤ t.ids) → IsApartEverywhere t s → IsApartEverywhere t less
 
 -- windows and their numbers determine each other, and the windows that begin with one window have consecutive numbers
 pub record WindowsAreNumbered : Type 0 where

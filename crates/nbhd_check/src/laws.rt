@@ -33,12 +33,26 @@ pub fn one_apart_differs()
 }
 
 /// A table has at most one witness: the ring, the places and the channels of the judge's no. A
-/// table whose channels are apart everywhere has none.
+/// table whose channels are apart everywhere has none. Both places are places of the ring.
 pub fn one_witness()
     ensures one { law.OneWitness }
     ensures none { law.ApartTablesHaveNoWitness }
+    ensures places { law.WitnessesAreOnRings }
 {
     tuples_suffice();
+    number_of_window();
+    windows_have_numbers();
+}
+
+/// Channels that are apart everywhere by a separation are so by each smaller one. If far becomes 0,
+/// there must be at least `2t+3` identifiers for `t` rounds.
+pub fn less_is_apart()
+    ensures { law.LessIsApart }
+{
+    tuples_suffice();
+    number_of_window();
+    window_of_number();
+    windows_have_numbers();
 }
 
 /// Inclusion and exclusion: the number of pairs of a class that hold neither of two elements is

@@ -15,7 +15,9 @@ mod tuple;
 mod verdict;
 
 pub use channel_tables::Separation;
-pub use laws::{one_apart_differs, one_witness, pairs_that_avoid_two, tuples_suffice};
+pub use laws::{
+    less_is_apart, one_apart_differs, one_witness, pairs_that_avoid_two, tuples_suffice,
+};
 pub use part::judge_part;
 pub use tuple::{tuple_count, tuple_len, write_tuple};
 pub use verdict::{Verdict, judge, judge_with_workers};
