@@ -1,5 +1,5 @@
 -- The definitions that the contracts cite: numbers and ring texts, numbers of workers and segments, tasks, the command
--- line, the tasks of words, faults of words, the rows of the tables, and tips on words.
+-- line, the tasks of words, faults of words, the rows of the tables, tips on words, and what the process gets.
 pub mod Decimal
 pub mod RingText
 pub mod Counts
@@ -11,3 +11,4 @@ pub mod WordsFault
 pub mod Rows
 pub mod RingTips
 pub mod Tips
+pub mod Answers

@@ -1,5 +1,6 @@
 // The words of the process.
-ghost use Rattle.std.specs.Prelude.{◌≡◌, IfOk};
+ghost use Rattle.std.specs.Prelude.{◌≡◌, map, drop, IfOk, IfErr, string_bytes};
+ghost use Rattle.task_words.specs.Answers.{IsAnswer, IsParsed, IsTipFor, IsUnread};
 ghost use Rattle.task_words.specs.Task.{IsRunnable};
 ghost use Rattle.task_words.specs.WordsFault.{words_fault_code};
 
@@ -7,28 +8,46 @@ use crate::ring_tips::{ring_tip, ring_word};
 use crate::task::Task;
 use crate::tips::usage_tip;
 use crate::words::{WordsFault, task_of, words_fault};
-use std::alloc::Global;
+use std::alloc::{AllocError, Global};
 use std::env;
 use std::rt::Env;
 
 /// Returns the task that the words after the program's name request, as `task_of` does, or the fault
 /// of the words.
 pub fn parse_task<T: AllocGlobal + Env>(rt: &T) -> Result<Task, WordsFault>
-    ensures { IfOk result IsRunnable }
+    ensures parsed { IsParsed result }
+    ensures runnable { IfOk result IsRunnable }
 {
     let words = words(rt)?;
-    task_of(rt.alloc(), &words)
+    task_after_name(rt.alloc(), &words)
 }
 
-// Returns the words after the program's name.
-fn words<T: AllocGlobal + Env>(rt: &T) -> Result<Vec<String>, WordsFault> {
+// Returns the words of the process, from the program's name on.
+fn words<T: AllocGlobal + Env>(rt: &T) -> Result<Vec<String>, WordsFault>
+    ensures { IfErr result IsUnread }
+{
     let alloc = rt.alloc();
-    let mut args = match env::args(rt) {
-        Ok(args) => args,
-        Err(error) => return Err(words_fault(alloc, error)),
-    };
-    let _name = args.next();
-    Ok(args.collect::<Vec<_>>(alloc)?)
+    match env::args(rt) {
+        Ok(args) => Ok(args.collect::<Vec<_>>(alloc)?),
+        Err(error) => Err(words_fault(alloc, error)?),
+    }
+}
+
+// Returns the task that the words after the first one request.
+fn task_after_name(alloc: Global, words: &[String]) -> Result<Task, WordsFault>
+    ensures { IsAnswer (drop 1 (map string_bytes words.now)) result }
+{
+    task_of(alloc, after_name(words))
+}
+
+// Returns the words after the first one, which is the program's name.
+fn after_name(words: &[String]) -> &[String]
+    ensures { map string_bytes result.now ≡ drop 1 (map string_bytes words.now) }
+{
+    match words {
+        [_name, rest @ ..] => rest,
+        [] => words,
+    }
 }
 
 /// Prints the fault of the words to standard error, and a tip if there is one. Returns the exit
@@ -49,17 +68,26 @@ pub fn print_words_fault<T: AllocGlobal + Env + Eprint>(rt: &T, fault: &WordsFau
 // Returns a tip on refused words, or `None` if there is none, or if memory was refused.
 fn tip_on<T: AllocGlobal + Env>(rt: &T, fault: &WordsFault) -> Option<String> {
     let words = words(rt).ok()?;
-    tip_for(rt.alloc(), &words, fault)
+    tip_for(rt.alloc(), after_name(&words), fault).ok()?
 }
 
-// Returns the tip on words with this fault.
-fn tip_for(alloc: Global, words: &[String], fault: &WordsFault) -> Option<String> {
+// Returns the tip on words with this fault, if there is one. Fails if memory was refused.
+fn tip_for(
+    alloc: Global,
+    words: &[String],
+    fault: &WordsFault,
+) -> Result<Option<String>, AllocError>
+    ensures { IfOk result (IsTipFor (map string_bytes words.now) fault.now) }
+{
     match fault {
-        WordsFault::BadRing => ring_tip(alloc, ring_word(words)?).ok()?,
-        WordsFault::Usage(_) => {
-            let tip = usage_tip(words)?;
-            format!(in alloc; "{tip}").ok()
-        }
-        WordsFault::Help(_) | WordsFault::OutOfMemory => None,
+        WordsFault::BadRing => match ring_word(words) {
+            Some(text) => ring_tip(alloc, text),
+            None => Ok(None),
+        },
+        WordsFault::Usage(_) => match usage_tip(words) {
+            Some(tip) => Ok(Some(format!(in alloc; "{tip}")?)),
+            None => Ok(None),
+        },
+        WordsFault::Help(_) | WordsFault::OutOfMemory => Ok(None),
     }
 }

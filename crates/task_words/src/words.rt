@@ -1,6 +1,7 @@
 //! The words of the command line.
 
 ghost use Rattle.std.specs.Prelude.{◌≡◌, ◌≢◌, ◌↔◌, map, IsOk, IsErrOf, IfOk, string_bytes};
+ghost use Rattle.task_words.specs.Answers.{IsUnread};
 ghost use Rattle.task_words.specs.Task.{IsInRange};
 ghost use Rattle.task_words.specs.Words.{IsCommand, AsksForHelp, IsRefused, HasBadRing, IsTaskOf};
 ghost use Rattle.task_words.specs.WordsFault.{MemoryAside, IsUsage, IsHelp, IsNotUtf8};
@@ -70,16 +71,18 @@ impl<T: Drop> From<AllocFailed<T>> for WordsFault {
 
 /// Returns the fault for an error in reading the words from the environment: `OutOfMemory` if
 /// memory was refused, else `Usage` with a text of one line, which says that a word is not UTF-8.
-pub fn words_fault(alloc: Global, error: io::Error) -> WordsFault
-    ensures memory { error_kind error ≡ ErrorKind.OutOfMemory → result ≡ WordsFault.OutOfMemory }
-    ensures not_utf8 { result ≢ WordsFault.OutOfMemory → IsNotUtf8 result }
+/// Fails if memory for the text was refused.
+pub fn words_fault(alloc: Global, error: io::Error) -> Result<WordsFault, AllocError>
+    ensures memory { error_kind error ≡ ErrorKind.OutOfMemory → result ≡ Ok WordsFault.OutOfMemory }
+    ensures not_utf8 { error_kind error ≢ ErrorKind.OutOfMemory → IfOk result IsNotUtf8 }
+    ensures unread { IfOk result IsUnread }
 {
     match error.kind() {
-        ErrorKind::OutOfMemory => WordsFault::OutOfMemory,
-        _ => match String::from_str(alloc, NOT_UTF8) {
-            Ok(text) => WordsFault::Usage(text),
-            Err(_) => WordsFault::OutOfMemory,
-        },
+        ErrorKind::OutOfMemory => Ok(WordsFault::OutOfMemory),
+        _ => {
+            let text = String::from_str(alloc, NOT_UTF8)?;
+            Ok(WordsFault::Usage(text))
+        }
     }
 }
 

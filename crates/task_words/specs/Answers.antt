@@ -1,0 +1,40 @@
+-- The answers to the words of the process, and the tips on them.
+use Rattle.std.specs.Prelude.{◌≡◌, ◌↔◌, ◌⊎◌, Option, None, List, Result, Err, String, IfOk, IfSome, IfNone, IsSome, IsOk, IsErrOf, MatchOption, string_bytes}
+use Rattle.std.specs.declared.alloc.Global.{Global}
+use Rattle.clap.specs.Words.{Text}
+use Rattle.task_words.specs.RingText.{IsRingText}
+use Rattle.task_words.specs.RingTips.{IsRingTip, ring_word}
+use Rattle.task_words.specs.Task.{IsInRange}
+use Rattle.task_words.specs.Tips.{usage_tip}
+use Rattle.task_words.specs.Words.{IsCommand, AsksForHelp, IsRefused, HasBadRing, IsTaskOf}
+use Rattle.task_words.specs.WordsFault.{MemoryAside, IsUsage, IsHelp, IsNotUtf8}
+use Rattle.task_words.specs.declared.task.Task.{Task}
+use Rattle.task_words.specs.declared.words.WordsFault.{WordsFault}
+use Rattle.task_words.specs.declared.words.WordsFault.TheVariants.{Usage, BadRing, OutOfMemory, Help}
+
+-- What `task_of` returns for these words: memory aside, a task exactly if they are a command whose ring text, if it has
+-- one, is one.
+pub record IsAnswer (words : List Text) (result : Result Task WordsFault) : Type 0 where
+  pub task : IfOk result (λ task. IsCommand words × IsTaskOf words task)
+  pub range : IfOk result IsInRange
+  pub ok : MemoryAside result (IsOk result ↔ (IsCommand words × ¬ HasBadRing words))
+  pub bad_ring : MemoryAside result (IsErrOf result BadRing ↔ HasBadRing words)
+  pub usage : IsUsage result → IsRefused words
+  pub help : IsHelp result → AsksForHelp words
+
+-- the words of the process were not read: one is not UTF-8, or memory was refused
+abbrev pub IsUnread : WordsFault → Type 0
+IsUnread fault = IsNotUtf8 fault ⊎ (fault ≡ OutOfMemory)
+
+-- the result is that of `task_of` for some words, or the words of the process were not read
+abbrev pub IsParsed : Result Task WordsFault → Type 0
+IsParsed result = ((words : List Text) × IsAnswer words result) ⊎ ((fault : WordsFault) × (result ≡ Err fault) × IsUnread fault)
+
+-- The tip on words with this fault: on a bad ring text that of the text; on words that `clap` refuses there is one
+-- exactly if `usage_tip` has one; on others none.
+abbrev pub IsTipFor : List Text → WordsFault → Option (String Global) → Type 0
+IsTipFor words BadRing tip =
+    MatchOption (ring_word words) (tip ≡ None) (λ text. IfSome tip (λ line. IsRingTip text (string_bytes line)) × IfNone tip (IsRingText text))
+IsTipFor words (Usage text) tip = IsSome tip ↔ IsSome (usage_tip words)
+IsTipFor words (Help text) tip = tip ≡ None
+IsTipFor words OutOfMemory tip = tip ≡ None
