@@ -1,17 +1,20 @@
 -- The table of a program, window by window.
-use Rattle.std.proofs.Common.{◌≡◌, ℕ, ◌≤◌, All, ◌+◌, ◌*◌, ◌<◌, List, [], map, length, slice_get, slice_index, Option, option_map, Some, None, IsSome, subst, sym, ap, ◌∙◌, arith, refl}
+use Rattle.std.proofs.Common.{◌≡◌, ℕ, ◌≤◌, All, ◌+◌, ◌*◌, ◌<◌, List, [], map, length, get_or, slice_get, slice_index, Option, option_map, Some, None, IsSome, subst, sym, ap, ◌∙◌, arith, refl}
 use Rattle.std.proofs.lemmas.Bool.{false≢true}
-use Rattle.std.proofs.lemmas.List.{get_or-map, get_or_default}
+use Rattle.std.proofs.lemmas.List.{get_or-map, get_or_default, length-map}
 use Rattle.std.proofs.lemmas.Option.{get_or_from_slice_get, slice_get_within, slice_get-get_or}
 use Rattle.node_program.specs.Node.{channel}
 use Rattle.node_program.specs.GlobalRounds.{channel_at}
 use Rattle.node_program.specs.Term.{ProgramTree}
 use Rattle.window_states.specs.BlockStates.{window_numbered}
-use Rattle.window_states.specs.Laws.{Locality}
+use Rattle.window_states.specs.Laws.{Locality, WindowsAreWithin}
 use Rattle.win_index.specs.Arcs.{window_around}
 use Rattle.win_index.specs.Laws.{RingsHaveWindows, NumberOfWindow, WindowsHaveNumbers, WindowOfNumber}
 use Rattle.win_index.specs.Windows.{windows, number_of, IsWindow}
-use Rattle.table_entries.specs.Laws.{TableHasTheChannelsOfRounds}
+use Rattle.lang_check.specs.Acceptance.{IsAccepted}
+use Rattle.lang_check.specs.Laws.{AcceptedChannelsAreBelow}
+use Rattle.node_program.specs.Limits.{IsWithinLimits}
+use Rattle.table_entries.specs.Laws.{TableHasTheChannelsOfRounds, ProgramTablesAreTables}
 use Rattle.table_entries.specs.ProgramTables.{table_of, window_channel}
 use Rattle.channel_tables.specs.Tables.{ChannelTable, IsTable, channel_of, windows_of}
 use Rattle.node_program.specs.declared.limits.TheConstants.{MAX_CHANNELS}
@@ -86,3 +89,22 @@ channels_of_rounds local is_window has_number item_of p m ring place is lt =
     let same = local p m t t place ring is (omega arith) lt in
     channel_at_window p m numbered.0 window numbered.1 (item_of (2 * t + 1) m numbered.0 window numbered.1)
     ∙ ap (λ s. Some (channel p s)) (sym same)
+
+-- the channel of an accepted program at a window is below the number of channels
+channel_below :
+    WindowsAreWithin → AcceptedChannelsAreBelow → (p : ProgramTree) (m : ℕ) (window : List ℕ) → IsAccepted m p → IsWindow (2 * length p.steps + 1) m window
+    → window_channel p window < p.channels
+channel_below within below p m window accepted is = below p m _ accepted (within p m (length p.steps) window is)
+
+pub program_tables_are_tables : WindowsAreWithin → AcceptedChannelsAreBelow → NumberOfWindow → WindowsHaveNumbers → ProgramTablesAreTables
+unfolding table_of
+program_tables_are_tables within below number is_window p m limits accepted =
+    let t = length p.steps in
+    let ws = windows (2 * t + 1) m in
+    let entries = map (window_channel p) ws in
+    let full : length entries ≡ length ws = length-map ws (window_channel p) in
+    is_table p m (table_of p m) entries refl refl refl refl limits.rounds accepted.shape limits.some_channels limits.few_channels full (λ i lt.
+    let inside : i < length ws = omega (arith, lt, full) in
+    let own : slice_index entries i ≡ window_channel p (get_or ws i []) = get_or-map (window_channel p) ws i [] 0 inside in
+    subst (λ c. c < p.channels) (sym own)
+    (channel_below within below p m (get_or ws i []) accepted (numbered_is_window number is_window m t i inside)))

@@ -8,5 +8,5 @@ mod laws;
 mod reading;
 mod shares;
 
-pub use laws::table_has_the_channels_of_rounds;
+pub use laws::{program_tables_are_tables, table_has_the_channels_of_rounds};
 pub use reading::EntryReader;

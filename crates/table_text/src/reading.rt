@@ -4,7 +4,7 @@ ghost use Rattle.std.specs.Prelude.{◌≡◌, ◌<◌, ◌≤◌, true, false, 
 ghost use Rattle.channel_tables.specs.declared.separation.Separation.{Separation};
 ghost use Rattle.channel_tables.specs.Tables.{ChannelTable, IsTable};
 ghost use Rattle.table_text.specs.TableText.{written, title_then, sizes_then, lines_then, text_of};
-ghost use Rattle.table_text.specs.LineForms.{AreSizes, IsSeparationOf};
+ghost use Rattle.table_text.specs.LineForms.{AreSizes, IsSeparation, IsSeparationOf};
 ghost use Rattle.table_text.specs.Texts.{IsTextOf, IsWritten};
 ghost use Rattle.table_text.specs.Faults.{IsMalformed, IsFault};
 
@@ -23,7 +23,8 @@ use win_index::MAX_WINDOW_LEN;
 /// the line `nbhd-table 2`, the line `rounds t ids m channels C near P far Q`, then a line for each
 /// window of `2t+1` identifiers in the windows' order, which has the identifiers, a colon and the
 /// window's channel, and the line `end`. A text of version 1 begins with the lines `nbhd-table 1`
-/// and `rounds t ids m channels C`; its separation is near 1 and far 0. A line ends with a line
+/// and `rounds t ids m channels C`; its separation is near 1 and far 0. Near is 1 to `MAX_CHANNELS`,
+/// and far at most `MAX_CHANNELS`. A line ends with a line
 /// feed, single blanks separate its words, and numbers have no leading zeros.
 ///
 /// Fails with `Syntax` if the text is longer than `LONGEST_TABLE_TEXT` bytes. Otherwise the lines
@@ -32,6 +33,7 @@ use win_index::MAX_WINDOW_LEN;
 /// replace any fault except that of the length.
 pub fn read_table(alloc: Global, text: &[u8]) -> Result<(Table, Separation), TableFault>
     ensures table { IfOk result (λ read. IsTextOf text.now read.0 read.1) }
+    ensures separation { IfOk result (λ read. IsSeparation read.1) }
     ensures fault { IfErr result (IsFault text.now) }
     ensures read { (t : ChannelTable) (s : Separation) → IsTextOf text.now t s
         → MatchResult result (λ read. (read.0 ≡ t) × (read.1 ≡ s)) (λ fault. fault ≡ TableFault.OutOfMemory) }

@@ -7,6 +7,7 @@ ghost use Rattle.devices.specs.Watched.{device_of, has_failed};
 ghost use Rattle.win_index.specs.Windows.{windows, IsWindow};
 ghost use Rattle.channel_tables.specs.declared.separation.Separation.{Separation};
 ghost use Rattle.table_text.specs.declared.version.Version.TheVariants.{Two};
+ghost use Rattle.table_text.specs.LineForms.{IsSeparation};
 ghost use Rattle.table_text.specs.TableText.{written, head_then, ids_then, lines_then, table_text};
 ghost use Rattle.table_text.specs.Pieces.{held, prefix_text, piece_text, id_text, channel_text, AreTexts, ArePieces, IsWrittenSoFar};
 
@@ -28,7 +29,8 @@ const LINE_LEN: usize = PREFIX_LEN + 16;
 
 /// Writes the text of a table and a separation in version 2: a line with the version; a line with
 /// the numbers of rounds, identifiers and channels, near and far; a line with each window and its
-/// channel, in the windows' order; and the line `end`.
+/// channel, in the windows' order; and the line `end`. Near must be 1 to `MAX_CHANNELS` and far at
+/// most `MAX_CHANNELS`, as in every text that `read_table` accepts.
 ///
 /// Fails with `Write` exactly if a write failed or took no byte; a prefix of the text was then
 /// written. Fails with `Memory` if memory was refused; nothing was then written.
@@ -38,7 +40,8 @@ pub fn write_table<W: Write>(
     separation: Separation,
     writer: &mut Watched<W>,
 ) -> Result<(), OutFault>
-    requires { has_failed writer.old ≡ false }
+    requires separation { IsSeparation separation }
+    requires writes { has_failed writer.old ≡ false }
     ensures ok { OnOk result (Appends (W.contents (device_of writer.old))
         (W.contents (device_of writer.new)) (table_text table.now separation)) }
     ensures front { IsErrOf result OutFault.Write → AppendsFront (W.contents (device_of writer.old))
