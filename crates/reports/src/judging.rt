@@ -1,6 +1,7 @@
 //! Judging a table while the memo that it was filled from is dropped.
 
-ghost use Rattle.std.specs.Prelude.{IfOk};
+ghost use Rattle.std.specs.Prelude.{IfOk, OnErr};
+ghost use Rattle.nbhd_check.specs.Apart.{IsApartEverywhere};
 ghost use Rattle.nbhd_check.specs.Verdicts.{IsVerdict};
 ghost use Rattle.std.specs.Thread.{IsSync};
 
@@ -12,8 +13,8 @@ use std::alloc::Global;
 use std::marker::Send;
 use std::thread::{Threads, join};
 
-/// Returns the judge's verdict on a table, by this many workers, or the error that memory was
-/// refused. More than one worker judge while the memo is dropped.
+/// Returns the judge's verdict on a table, by this many workers. More than one worker judge while
+/// the memo is dropped. Fails if memory was refused, which happens only if the verdict is no.
 pub fn verdict_and_drop<T: Threads + Sync>(
     rt: &T,
     alloc: Global,
@@ -22,7 +23,8 @@ pub fn verdict_and_drop<T: Threads + Sync>(
     workers: u32,
     memo: Memo<'_>,
 ) -> Result<Verdict, OutOfMemory>
-    ensures { IfOk result (IsVerdict table.now separation) }
+    ensures verdict { IfOk result (IsVerdict table.now separation) }
+    ensures memory { OnErr result (¬ IsApartEverywhere table.now separation) }
 {
     if workers == 1 {
         drop(memo);
@@ -41,7 +43,8 @@ fn judge_and_drop_memo<T: Threads + Sync>(
     workers: u32,
     memo: Memo<'_>,
 ) -> Result<Verdict, OutOfMemory>
-    ensures { IfOk result (IsVerdict table.now separation) }
+    ensures verdict { IfOk result (IsVerdict table.now separation) }
+    ensures memory { OnErr result (¬ IsApartEverywhere table.now separation) }
 {
     judge_and_drop(rt, alloc, table, separation, workers, memo)
 }
@@ -56,14 +59,16 @@ fn judge_and_drop<T: Threads + Sync, D: Send + Drop>(
     workers: u32,
     dropped: D,
 ) -> Result<Verdict, OutOfMemory>
-    ensures { IfOk result (IsVerdict table.now separation) }
+    ensures verdict { IfOk result (IsVerdict table.now separation) }
+    ensures memory { OnErr result (¬ IsApartEverywhere table.now separation) }
 {
     let (_, verdict) = join(
         rt,
         move || drop(dropped),
         || -> Result<Verdict, OutOfMemory>
             requires { IsSync T.row }
-            ensures { IfOk result (IsVerdict table.entry.now separation) }
+            ensures verdict { IfOk result (IsVerdict table.entry.now separation) }
+            ensures memory { OnErr result (¬ IsApartEverywhere table.entry.now separation) }
         { judge_with_workers(rt, alloc, table, separation, workers) },
     );
     verdict
