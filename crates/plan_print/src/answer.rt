@@ -6,6 +6,7 @@ ghost use Rattle.task_words.specs.Counts.{IsCount};
 ghost use Rattle.shared_memo.specs.Passes.{memo_plan};
 ghost use Rattle.plan_print.specs.Engine.{IsTaskFault};
 ghost use Rattle.plan_print.specs.ReportedFaults.{fill_fault_told, run_fault_told};
+ghost use Rattle.table_text.specs.LineForms.{IsSeparation};
 ghost use Rattle.reports.specs.Answers.{report_in};
 ghost use Rattle.reports.specs.Report as report;
 ghost use Rattle.reports.specs.Report.{Says, IsAnswerOnRing, IsJudgement, IsRunAnswer, IsTableText};
@@ -15,7 +16,7 @@ use channel_tables::Table;
 use devices::fault::EngineFault;
 use lang_check::Plan;
 use nbhd_check::Separation;
-use reports::answer::Answer;
+use reports::answer::{Answer, TableReport};
 use reports::judgement::verdict_answer;
 use reports::judging::verdict_and_drop;
 use reports::lines::numbers_line;
@@ -39,11 +40,13 @@ pub(crate) fn table_answer<T: Threads + Wait + Sync>(
     separation: Separation,
     workers: u32,
 ) -> Result<Answer, EngineFault>
-    requires { IsCount workers }
+    requires workers { IsCount workers }
+    requires separation { IsSeparation separation }
     ensures answer { IfOk result (λ r. IsTableText (table_of plan.now.program plan.now.ids) separation (report_in r)) }
     ensures fault { IfErr result (IsTaskFault workers) }
 {
-    Ok(Answer::Table(compile_table(rt, alloc, plan, workers)?, separation))
+    let table = compile_table(rt, alloc, plan, workers)?;
+    Ok(Answer::Table(TableReport { table, separation }))
 }
 
 // Returns the report of a run on a list of identifiers in this many segments.

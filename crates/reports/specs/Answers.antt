@@ -11,4 +11,4 @@ use Rattle.reports.specs.declared.status.Status.TheVariants.{Done}
 abbrev pub report_in : Answer → Report
 report_in (Text text status) = record { bytes = string_bytes text; status = status; cause = None }
 report_in (Told text status cause) = record { bytes = string_bytes text; status = status; cause = Some (reason_of cause) }
-report_in (Table table separation) = record { bytes = table_text table separation; status = Done; cause = None }
+report_in (Table t) = record { bytes = table_text t.table t.separation; status = Done; cause = None }

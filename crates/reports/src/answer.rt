@@ -1,9 +1,19 @@
 //! Reports before they are written.
 
+ghost use Rattle.table_text.specs.LineForms.{IsSeparation};
+
 use crate::cause::Cause;
 use crate::status::Status;
 use channel_tables::Table;
 use nbhd_check::Separation;
+
+/// A table and a separation that a table text can have.
+#[derive(Drop)]
+pub struct TableReport {
+    pub table: Table,
+    pub separation: Separation,
+    pub ghost in_range: { IsSeparation separation },
+}
 
 /// A report before it is written.
 #[derive(Drop)]
@@ -13,5 +23,5 @@ pub enum Answer {
     /// Its text and its status, with its cause: it is a refusal or a no.
     Told(String, Status, Cause),
     /// The table and the separation whose text it is.
-    Table(Table, Separation),
+    Table(TableReport),
 }

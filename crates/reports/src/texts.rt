@@ -5,12 +5,13 @@ ghost use Rattle.std.specs.Prelude.{◌≡◌, IfOk, IfErr};
 ghost use Rattle.node_lang.specs.Grammar.{Reads};
 ghost use Rattle.node_lang.specs.Printed.{printed};
 ghost use Rattle.lang_check.specs.Acceptance.{IsAccepted};
+ghost use Rattle.table_text.specs.LineForms.{IsSeparation};
 ghost use Rattle.table_text.specs.Texts.{IsTextOf};
 ghost use Rattle.reports.specs.Answers.{report_in};
 ghost use Rattle.reports.specs.Report as report;
 ghost use Rattle.reports.specs.Report.{Says, IsJudgement, IsPrintReport, IsProgramRefusal, IsTableRefusal, IsTableReport, IsTableText, IsTextRefusal};
 
-use crate::answer::Answer;
+use crate::answer::{Answer, TableReport};
 use crate::cause::Cause;
 use crate::judgement::audit_report;
 use crate::lines::{accepted_line, check_fault_line, table_fault_line, text_fault_line};
@@ -75,7 +76,7 @@ pub fn migrate_report(alloc: Global, input: &[u8]) -> Result<Answer, EngineFault
     ensures fault { IfErr result (λ fault. fault ≡ EngineFault.Memory) }
 {
     match table_in(alloc, input)? {
-        Ok((table, separation)) => Ok(Answer::Table(table, separation)),
+        Ok((table, separation)) => Ok(Answer::Table(TableReport { table, separation })),
         Err(refusal) => Ok(refusal),
     }
 }
@@ -127,6 +128,7 @@ fn program_in(alloc: Global, input: &[u8]) -> Result<Result<Program, Answer>, En
 // Returns the table and the separation of the table text, or the report of its refusal.
 fn table_in(alloc: Global, input: &[u8]) -> Result<Result<(Table, Separation), Answer>, EngineFault>
     ensures table { IfOk result (λ told. IfOk told (λ read. IsTextOf input.now read.0 read.1)) }
+    ensures range { IfOk result (λ told. IfOk told (λ read. IsSeparation read.1)) }
     ensures refusal { IfOk result (λ told. IfErr told (λ r. IsTableRefusal input.now (report_in r))) }
     ensures fault { IfErr result (λ fault. fault ≡ EngineFault.Memory) }
 {

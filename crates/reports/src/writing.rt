@@ -3,19 +3,19 @@
 ghost use Rattle.std.specs.Prelude.{◌≡◌, ◌≢◌, ◌↔◌, false, IsTrue, IfOk, IfErr, OnOk, IsErrOf};
 ghost use Rattle.std.specs.Io.KnownBytes.{Appends};
 ghost use Rattle.devices.specs.Watched.{device_of, has_failed};
+ghost use Rattle.table_text.specs.LineForms.{IsSeparation};
 ghost use Rattle.table_text.specs.TableText.{table_text};
 ghost use Rattle.reports.specs.Answers.{report_in};
 ghost use Rattle.reports.specs.Causes.{reason_in};
 ghost use Rattle.reports.specs.Written.{LeavesFront, MayHave};
 
-use crate::answer::Answer;
+use crate::answer::{Answer, TableReport};
 use crate::cause::Cause;
 use crate::status::Status;
-use channel_tables::Table;
+use channel_tables::{Separation, Table};
 use devices::fault::{EngineFault, OutFault};
 use devices::output::send;
 use devices::watched::Watched;
-use nbhd_check::Separation;
 use std::alloc::Global;
 use std::io::Write;
 use table_text::write_table;
@@ -46,7 +46,7 @@ pub fn write_answer<W: Write>(
             send(writer, text.as_bytes())?;
             Ok((status, Some(cause)))
         }
-        Answer::Table(table, separation) => {
+        Answer::Table(TableReport { table, separation }) => {
             write_table_text(alloc, &table, separation, writer)?;
             Ok((Status::Done, None))
         }
@@ -60,7 +60,8 @@ fn write_table_text<W: Write>(
     separation: Separation,
     writer: &mut Watched<W>,
 ) -> Result<(), EngineFault>
-    requires { has_failed writer.old ≡ false }
+    requires separation { IsSeparation separation }
+    requires writes { has_failed writer.old ≡ false }
     ensures report { OnOk result (Appends (W.contents (device_of writer.old)) (W.contents (device_of writer.new)) (table_text table.now separation)) }
     ensures left { IfErr result (LeavesFront (table_text table.now separation) (W.contents (device_of writer.old)) (W.contents (device_of writer.new))) }
     ensures fault { IfErr result (λ fault. fault ≢ EngineFault.Read) }

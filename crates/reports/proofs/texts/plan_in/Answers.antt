@@ -1,4 +1,4 @@
-use Rattle.std.proofs.Common.{◌≡◌, ap, refl, Some}
+use Rattle.std.proofs.Common.{ap, refl, Some}
 use Rattle.node_program.specs.Term.{ProgramTree}
 use Rattle.reports.specs.Causes.{of_program}
 use Rattle.reports.specs.Report.{check_fault}

@@ -7,6 +7,7 @@ returns-in_ok-line-in-Err c =
     let known : c.in-Err.fault ≢ OutOfMemory = search rules in
     record {
       table = tt;
+      range = tt;
       refusal = record { what = c.in-Err.fault; known = known; fault = c.in-Err.ensures.fault; says = (c.in_ok-line-in-Err.ensures, refl, refl) };
       fault = tt;
     }
