@@ -1,15 +1,18 @@
 -- The cause of a report is found in its input.
-use Rattle.std.proofs.Common.{◌≡◌, ℕ, ◌≤◌, List, length, Option, Some, None, sym, subst}
+use Rattle.std.proofs.Common.{◌≡◌, ℕ, ◌≤◌, List, length, Option, Some, None, sym, subst, arith}
 use Rattle.std.specs.Prelude.{IfSome}
 use Rattle.node_program.specs.declared.limits.TheConstants.{MAX_ROUNDS}
 use Rattle.node_program.specs.Term.{ProgramTree}
+use Rattle.win_index.specs.declared.limits.TheConstants.{MAX_IDS}
+use Rattle.table_entries.specs.ProgramTables.{table_of}
+use Rattle.nbhd_check.specs.Laws.{WitnessesAreOnRings}
 use Rattle.channel_tables.specs.Tables.{ChannelTable}
 use Rattle.channel_tables.specs.declared.separation.Separation.{Separation}
 use Rattle.task_words.specs.declared.task.Task.{Task}
 use Rattle.task_words.specs.declared.task.Task.TheVariants.{Check, Print, Table, Judge, Run, Trace, Plan, Audit, Migrate}
 use Rattle.reports.specs.Causes.{Reason}
 use Rattle.reports.specs.Notes.{IsFound}
-use Rattle.reports.specs.Report.{Report, IsJudgement, good, bad, IsAnswerOnRing, ring_fault, on_ring, IsRunAnswer, out_of_range, ran, IsTextRefusal, IsPrintReport, text_refused, in_print, text_fault, check_fault, IsProgramReport, program_refused, answered, IsTableReport, table_refused, of_table}
+use Rattle.reports.specs.Report.{Report, IsJudgement, good, bad, IsAnswerOnRing, ring_fault, on_ring, IsRunAnswer, out_of_range, ran, IsTextRefusal, text_refused, in_print, text_fault, check_fault, IsProgramReport, program_refused, answered, IsTableReport, table_refused, of_table}
 use Rattle.plan_print.specs.TaskReport.{IsReport}
 
 -- the cause of the report, if there is one, is found in the input
@@ -22,9 +25,15 @@ no_cause input r none = subst (λ (o : Option Reason). IfSome o (IsFound input))
 its_cause : (input : List ℕ) (r : Report) (cause : Reason) → r.cause ≡ Some cause → IsFound input cause → IsOfInput input r
 its_cause input r cause is found = subst (λ (o : Option Reason). IfSome o (IsFound input)) (sym is) found
 
-in_judgement : (input : List ℕ) (t : ChannelTable) (s : Separation) (r : Report) → IsJudgement t s r → IsOfInput input r
-in_judgement input t s r (good apart says) = no_cause input r says.2
-in_judgement input t s r (bad ring places channels witness says) = its_cause input r _ says.2 tt
+-- the places of a witness are places of its ring, which is short
+in_judgement : WitnessesAreOnRings → (input : List ℕ) (t : ChannelTable) (s : Separation) (r : Report) → t.rounds ≤ MAX_ROUNDS → t.ids ≤ MAX_IDS
+    → IsJudgement t s r → IsOfInput input r
+in_judgement placed input t s r few ids (good apart says) = no_cause input r says.2
+in_judgement placed input t s r few ids (bad ring places channels witness says) =
+    let is = placed t s ring places channels witness in
+    let long = is.0.long in
+    let short = is.0.short in
+    its_cause input r _ says.2 (few, omega (arith, long), omega (arith, short, ids), is.1, is.2)
 
 in_list : (input : List ℕ) (m t : ℕ) (places : List ℕ) (said : Report → Type 0) (r : Report) → t ≤ MAX_ROUNDS → (said r → IsOfInput input r)
     → IsAnswerOnRing m t places said r → IsOfInput input r
@@ -39,27 +48,37 @@ in_text : (input : List ℕ) (r : Report) → IsTextRefusal input r → IsOfInpu
 in_text input r refused = its_cause input r _ refused.says.2 refused.fault
 
 in_program : (m : ℕ) (answer : ProgramTree → Report → Type 0) (input : List ℕ) (r : Report)
-    → ((p : ProgramTree) → length p.steps ≤ MAX_ROUNDS → answer p r → IsOfInput input r) → IsProgramReport m answer input r → IsOfInput input r
+    → ((p : ProgramTree) → length p.steps ≤ MAX_ROUNDS → m ≤ MAX_IDS → answer p r → IsOfInput input r) → IsProgramReport m answer input r → IsOfInput input r
 in_program m answer input r on (program_refused (text_fault refused)) = in_text input r refused
 in_program m answer input r on (program_refused (check_fault p f reads first says)) = its_cause input r _ says.2 tt
-in_program m answer input r on (answered p reads accepted said) = on p reads.limits.rounds said
+in_program m answer input r on (answered p reads accepted said) = on p reads.limits.rounds accepted.shape.ids.few said
 
 in_table : (answer : ChannelTable → Separation → Report → Type 0) (input : List ℕ) (r : Report)
-    → ((t : ChannelTable) (s : Separation) → answer t s r → IsOfInput input r) → IsTableReport answer input r → IsOfInput input r
-in_table answer input r on (table_refused refused) = its_cause input r _ refused.says.2 refused.fault
-in_table answer input r on (of_table t s told said) = on t s said
+    → ((t : ChannelTable) (s : Separation) → t.rounds ≤ MAX_ROUNDS → t.ids ≤ MAX_IDS → answer t s r → IsOfInput input r) → IsTableReport answer input r
+    → IsOfInput input r
+in_table answer input r on (table_refused refused) = its_cause input r _ refused.says.2 (refused.known, refused.fault)
+in_table answer input r on (of_table t s told said) =
+    let begun = told.1.table.begun in
+    on t s begun.few_rounds begun.shape.ids.few said
 
-pub found : (task : Task) (input : List ℕ) (r : Report) → IsReport task input r → IfSome r.cause (IsFound input)
-found (Check ids) input r is = in_program ids _ input r (λ p few said. no_cause input r said.2) is
-found Print input r (text_refused refused) = in_text input r refused
-found Print input r (in_print p reads says) = no_cause input r says.2
-found (Table ids workers near far) input r is = in_program ids _ input r (λ p few said. no_cause input r said.2) is
-found (Judge ids workers near far) input r is = in_program ids _ input r (λ p few said. in_judgement input _ _ r said) is
-found (Run ids ring segments) input r is =
-    in_program ids _ input r (λ p few said. in_list input _ _ _ _ r few (in_run input p ring.items segments r) said) is
-found (Trace ids ring) input r is =
-    in_program ids _ input r (λ p few said. in_list input _ _ _ _ r few (λ says. no_cause input r says.2) said) is
-found (Plan ids ring workers) input r is =
-    in_program ids _ input r (λ p few said. in_list input _ _ _ _ r few (λ says. no_cause input r says.2) said) is
-found Audit input r is = in_table _ input r (λ t s said. in_judgement input t s r said) is
-found Migrate input r is = in_table _ input r (λ t s said. no_cause input r said.2) is
+-- the table of a program has its rounds, and the identifiers that it was made for
+in_table_of : WitnessesAreOnRings → (input : List ℕ) (p : ProgramTree) (m : ℕ) (s : Separation) (r : Report) → length p.steps ≤ MAX_ROUNDS → m ≤ MAX_IDS
+    → IsJudgement (table_of p m) s r → IsOfInput input r
+unfolding table_of
+in_table_of placed input p m s r few ids said = in_judgement placed input (table_of p m) s r few ids said
+
+pub found : WitnessesAreOnRings → (task : Task) (input : List ℕ) (r : Report) → IsReport task input r → IfSome r.cause (IsFound input)
+found placed (Check ids) input r is = in_program ids _ input r (λ p few small said. no_cause input r said.2) is
+found placed Print input r (text_refused refused) = in_text input r refused
+found placed Print input r (in_print p reads says) = no_cause input r says.2
+found placed (Table ids workers near far) input r is = in_program ids _ input r (λ p few small said. no_cause input r said.2) is
+found placed (Judge ids workers near far) input r is =
+    in_program ids _ input r (λ p few small said. in_table_of placed input p ids _ r few small said) is
+found placed (Run ids ring segments) input r is =
+    in_program ids _ input r (λ p few small said. in_list input _ _ _ _ r few (in_run input p ring.items segments r) said) is
+found placed (Trace ids ring) input r is =
+    in_program ids _ input r (λ p few small said. in_list input _ _ _ _ r few (λ says. no_cause input r says.2) said) is
+found placed (Plan ids ring workers) input r is =
+    in_program ids _ input r (λ p few small said. in_list input _ _ _ _ r few (λ says. no_cause input r says.2) said) is
+found placed Audit input r is = in_table _ input r (λ t s few small said. in_judgement placed input t s r few small said) is
+found placed Migrate input r is = in_table _ input r (λ t s few small said. no_cause input r said.2) is

@@ -1,5 +1,5 @@
 -- The effect of the engine on its reader and its writer.
-use Rattle.std.specs.Prelude.{◌≡◌, ◌≢◌, ◌↔◌, ℕ, Bool, List, Option, Result, IfSome, IsErrOf, IsTrue, string_bytes}
+use Rattle.std.specs.Prelude.{◌≡◌, ◌≢◌, ◌↔◌, ℕ, Bool, List, Option, Result, IsErrOf, IsTrue}
 use Rattle.std.specs.Io.KnownBytes.{Appends, Keeps}
 use Rattle.devices.specs.declared.fault.EngineFault.{EngineFault}
 use Rattle.devices.specs.declared.fault.EngineFault.TheVariants.{Read, Write}
@@ -37,10 +37,10 @@ pub record WritesReport (task : Task) (unread left before after : Option (List �
   pub written : Appends before after report.bytes
   pub status_is : status ≡ report.status
 
--- The report was written. The note, if there is one, is on its cause.
+-- The report was written, and the note is on its cause.
 pub record TellsReport (task : Task) (unread left before after : Option (List ℕ)) (told : Told) : Type 0 where
   pub report : WritesReport task unread left before after told.status
-  pub note : IfSome told.note (λ note. IsNoteOn report.input report.report.cause (string_bytes note))
+  pub note : IsNoteOn report.input report.report.cause told.note
 
 -- The input was read, and a prefix of the report of the task on it was written.
 pub record WritesFront (task : Task) (unread left before after : Option (List ℕ)) : Type 0 where

@@ -1,20 +1,51 @@
 -- The exit status of the process.
-use Rattle.std.specs.Prelude.{◌≡◌, ◌⊎◌, ℕ, Result}
-use Rattle.reports.specs.StatusCodes.{answer_code}
-use Rattle.reports.specs.declared.status.Status.{Status}
+use Rattle.std.specs.Prelude.{◌≡◌, ◌⊎◌, ℕ, List, Result, Ok, Err, IfOk, MatchResult}
+use Rattle.reports.specs.StatusCodes.{exit_code}
+use Rattle.reports.specs.Notes.{IsNoteOn}
+use Rattle.reports.specs.Report.{Report}
+use Rattle.reports.specs.Written.{MayHave}
+use Rattle.reports.specs.declared.status.Status.TheVariants.{Done}
+use Rattle.devices.specs.FaultCodes.{engine_fault_code}
 use Rattle.devices.specs.declared.fault.EngineFault.{EngineFault}
+use Rattle.devices.specs.declared.fault.EngineFault.TheVariants.{Write}
+use Rattle.task_words.specs.Task.{IsRunnable}
+use Rattle.task_words.specs.WordsFault.{words_fault_code}
+use Rattle.task_words.specs.declared.task.Task.{Task}
 use Rattle.task_words.specs.declared.words.WordsFault.{WordsFault}
 use Rattle.task_words.specs.declared.words.WordsFault.TheVariants.{Usage, BadRing, OutOfMemory, Help}
-use Rattle.task_words.specs.WordsFault.{words_fault_code}
+use Rattle.plan_print.specs.Engine.{thread_count_of}
+use Rattle.plan_print.specs.TaskReport.{IsReport}
+use Rattle.plan_print.specs.declared.engine.Told.{Told}
+
+-- the status after a result of the engine: that of the report, or that of the fault
+abbrev pub told_code : Result Told EngineFault → ℕ
+told_code (Ok told) = exit_code told.status
+told_code (Err fault) = engine_fault_code fault
+
+-- The status and the note are those of the report of the task on some input.
+pub record IsToldOf (task : Task) (told : Told) : Type 0 where
+  pub input : List ℕ
+  pub report : Report
+  pub is_report : IsReport task input report
+  pub status_is : told.status ≡ report.status
+  pub note : IsNoteOn input report.cause told.note
+
+-- a result of the engine for the task
+abbrev pub IsAnswerFor : Task → Result Told EngineFault → Type 0
+IsAnswerFor task answer = MatchResult answer (IsToldOf task) (MayHave (thread_count_of task))
+
+-- the status after a task is that of a result of the engine for it
+abbrev pub IsStatusOf : Task → ℕ → Type 0
+IsStatusOf task status = (answer : Result Told EngineFault) × IsAnswerFor task answer × (status ≡ told_code answer)
 
 -- the status after words that give no task: that of their fault, and after help that of writing it
 abbrev pub IsStatusAfter : WordsFault → ℕ → Type 0
-IsStatusAfter (Help text) status = (answer : Result Status EngineFault) × (status ≡ answer_code answer)
+IsStatusAfter (Help text) status = (status ≡ exit_code Done) ⊎ (status ≡ engine_fault_code Write)
 IsStatusAfter (Usage text) status = status ≡ words_fault_code (Usage text)
 IsStatusAfter BadRing status = status ≡ words_fault_code BadRing
 IsStatusAfter OutOfMemory status = status ≡ words_fault_code OutOfMemory
 
--- the status is one after a result of the engine, or after a fault of the words
+-- the status is one after a task that can be done, or after words that give none
 abbrev pub IsExitStatus : ℕ → Type 0
 IsExitStatus status =
-    ((answer : Result Status EngineFault) × (status ≡ answer_code answer)) ⊎ ((fault : WordsFault) × (status ≡ words_fault_code fault))
+    (parsed : Result Task WordsFault) × IfOk parsed IsRunnable × MatchResult parsed (λ task. IsStatusOf task status) (λ fault. IsStatusAfter fault status)

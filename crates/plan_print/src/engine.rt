@@ -1,6 +1,6 @@
 //! Doing a task: reading the whole input, then writing its report.
 
-ghost use Rattle.std.specs.Prelude.{◌≡◌, ◌+◌, ◌≤◌, false, IfOk, IfErr, IfSome, OnErr, string_bytes};
+ghost use Rattle.std.specs.Prelude.{◌≡◌, ◌+◌, ◌≤◌, false, IfOk, IfErr, IfSome, OnErr};
 ghost use Rattle.task_words.specs.Task.{IsRunnable};
 ghost use Rattle.devices.specs.Input.{TakesFront};
 ghost use Rattle.devices.specs.Watched.{device_of, has_failed, calls_of};
@@ -13,7 +13,9 @@ use crate::report::report_of;
 use devices::fault::EngineFault;
 use devices::input::read_input;
 use devices::watched::Watched;
+use nbhd_check::one_witness;
 use node_lang::LONGEST_TEXT;
+use node_program::OutOfMemory;
 use reports::cause::Cause;
 use reports::note::note_on;
 use reports::status::Status;
@@ -63,16 +65,17 @@ pub fn engine<T: Threads + Wait + Sync, R: Read, W: Write>(
     }
 }
 
-/// The status of a report that was written, and a note on its cause if it is a refusal or a no.
+/// The status of a report that was written, and the note on its cause.
 #[derive(Drop)]
 pub struct Told {
     pub status: Status,
-    /// `None` if there is no cause, or if memory for the note was refused.
-    pub note: Option<String>,
+    /// `None` if the report has no cause, since it is neither a refusal nor a no. Without memory for
+    /// the note it is an error.
+    pub note: Option<Result<String, OutOfMemory>>,
 }
 
-/// Does the same as `engine`, and returns a note on a report that is a refusal or a no. The note is
-/// not written.
+/// Does the same as `engine`, and returns the note on a report that is a refusal or a no. The note
+/// is not written.
 pub fn engine_with_note<T: Threads + Wait + Sync, R: Read, W: Write>(
     rt: &T,
     alloc: Global,
@@ -94,6 +97,7 @@ pub fn engine_with_note<T: Threads + Wait + Sync, R: Read, W: Write>(
     ensures threads { IfErr result (MayHave (thread_count_of task)) }
     ensures failed { TellsFailures result (has_failed reader.new) (has_failed writer.new) }
 {
+    one_witness();
     let input = read_input(alloc, reader, limit(&task))?;
     let answer = report_of(rt, alloc, task, &input)?;
     let (status, cause) = write_answer(alloc, answer, writer)?;
@@ -101,15 +105,18 @@ pub fn engine_with_note<T: Threads + Wait + Sync, R: Read, W: Write>(
     Ok(Told { status, note })
 }
 
-// Returns the note on this cause, if there is one.
-fn note_of(alloc: Global, input: &[u8], cause: Option<Cause>) -> Option<String>
+// Returns the note on a cause in this input, if there is one.
+fn note_of(alloc: Global, input: &[u8], cause: Option<Cause>) -> Option<Result<String, OutOfMemory>>
     requires { IfSome (reason_in cause) (IsFound input.now) }
-    ensures { IfSome result (λ note. IsNoteOn input.now (reason_in cause) (string_bytes note)) }
+    ensures { IsNoteOn input.now (reason_in cause) result }
 {
     let Some(cause) = cause else {
         return None;
     };
-    note_on(alloc, input, &cause)
+    match note_on(alloc, input, &cause) {
+        Ok(note) => Some(Ok(note)),
+        Err(_) => Some(Err(OutOfMemory)),
+    }
 }
 
 // Returns the maximum length in bytes of the input of a task.

@@ -1,10 +1,10 @@
 //! The program `nbhd` as a process: it passes its words, its standard input and its standard output
 //! to the engine.
 
-ghost use Rattle.std.specs.Prelude.{◌≡◌, ◌↔◌, false, IsTrue, IfOk, IfErr, OnOk, IsErrOf};
+ghost use Rattle.std.specs.Prelude.{◌≡◌, ◌↔◌, false, IsTrue, IfOk, IfErr, IsErrOf, MatchResult};
 ghost use Rattle.std.specs.Io.KnownBytes.{Appends};
 ghost use Rattle.devices.specs.Watched.{device_of, has_failed};
-ghost use Rattle.plan_print.specs.ExitCodes.{IsExitStatus, IsStatusAfter};
+ghost use Rattle.plan_print.specs.ExitCodes.{told_code, IsAnswerFor, IsStatusOf, IsStatusAfter, IsExitStatus};
 ghost use Rattle.reports.specs.StatusCodes.{answer_code, exit_code};
 ghost use Rattle.task_words.specs.Task.{IsRunnable};
 
@@ -39,8 +39,7 @@ fn status_after<T: AllocGlobal + Env + Input + Print + Eprint + Threads + Wait +
     parsed: Result<Task, WordsFault>,
 ) -> u8
     requires { IfOk parsed IsRunnable }
-    ensures status { IsExitStatus result }
-    ensures refused { IfErr parsed (λ fault. IsStatusAfter fault result) }
+    ensures { MatchResult parsed (λ task. IsStatusOf task result) (λ fault. IsStatusAfter fault result) }
 {
     match parsed {
         Ok(task) => print_result(rt, run_engine(rt, task)),
@@ -64,7 +63,7 @@ fn print_fault<T: Eprint>(rt: &T, answer: Result<Status, EngineFault>) -> u8
 
 // Prints the note on a report, or a fault, to standard error. Returns the exit status.
 fn print_result<T: Eprint>(rt: &T, answer: Result<Told, EngineFault>) -> u8
-    ensures { IsExitStatus result }
+    ensures { result ≡ told_code answer }
 {
     match answer {
         Ok(told) => print_note(rt, &told),
@@ -76,16 +75,18 @@ fn print_result<T: Eprint>(rt: &T, answer: Result<Told, EngineFault>) -> u8
 fn print_note<T: Eprint>(rt: &T, told: &Told) -> u8
     ensures { result ≡ exit_code told.now.status }
 {
-    if let Some(note) = &told.note {
+    if let Some(Ok(note)) = &told.note {
         let _ = eprint!(rt; "{note}");
     }
     told.status.code()
 }
 
-// Writes a text.
+// Writes a text. The status is then `Done`.
 fn write_text<W: Write>(writer: &mut Watched<W>, text: &str) -> Result<Status, EngineFault>
     requires { has_failed writer.old ≡ false }
-    ensures done { OnOk result (Appends (W.contents (device_of writer.old)) (W.contents (device_of writer.new)) text.now) }
+    ensures done { IfOk result (λ status. (status ≡ Status.Done)
+        × Appends (W.contents (device_of writer.old)) (W.contents (device_of writer.new)) text.now) }
+    ensures fault { IfErr result (λ fault. fault ≡ EngineFault.Write) }
     ensures failed { IsErrOf result EngineFault.Write ↔ IsTrue (has_failed writer.new) }
 {
     send(writer, text.as_bytes())?;
@@ -98,6 +99,7 @@ fn run_engine<T: AllocGlobal + Input + Print + Threads + Wait + Sync>(
     task: Task,
 ) -> Result<Told, EngineFault>
     requires { IsRunnable task }
+    ensures { IsAnswerFor task result }
 {
     let mut reader = Watched::new(rt.reader());
     let mut writer = Watched::new(io::writer(rt));

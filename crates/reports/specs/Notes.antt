@@ -1,6 +1,9 @@
 -- The note on the cause of a report that is a refusal or a no.
-use Rattle.std.specs.Prelude.{◌≡◌, ◌≢◌, ℕ, ◌<◌, ◌≤◌, List, Option, Some, None, ⊤, length}
+use Rattle.std.specs.Prelude.{◌≡◌, ◌≢◌, ℕ, ◌<◌, ◌≤◌, List, Option, Some, None, Result, Ok, Err, String, ⊤, length, string_bytes}
+use Rattle.std.specs.declared.alloc.Global.{Global}
 use Rattle.node_program.specs.declared.limits.TheConstants.{MAX_ROUNDS}
+use Rattle.win_index.specs.declared.limits.TheConstants.{MAX_IDS}
+use Rattle.node_program.specs.declared.memory.OutOfMemory.{OutOfMemory}
 use Rattle.node_lang.specs.Faults.{FaultsAt}
 use Rattle.win_index.specs.RingFaults.{IsFirstFault}
 use Rattle.table_text.specs.Faults.{IsFault}
@@ -15,7 +18,7 @@ use Rattle.fault_notes.specs.TableNotes.{long_note, IsFormNote, IsWindowNote, ch
 use Rattle.fault_notes.specs.VerdictNotes.{verdict_note}
 use Rattle.reports.specs.Causes.{Reason, of_text, of_program, of_ring, of_segments, of_table_text, of_no}
 
--- the note on a fault of a table text; OutOfMemory has none
+-- the note on a fault of a table text; OutOfMemory is no fault of one
 abbrev pub IsTableNote : List ℕ → TableFault → List ℕ → Type 0
 IsTableNote input (table.Syntax offset) note =
     (LONGEST_TABLE_TEXT < length input → note ≡ long_note) × (length input ≤ LONGEST_TABLE_TEXT → IsFormNote input offset note)
@@ -33,14 +36,19 @@ IsNote input (of_segments segments places) note = note ≡ segments_note segment
 IsNote input (of_table_text f) note = IsTableNote input f note
 IsNote input (of_no t ring places channels) note = note ≡ verdict_note t ring places channels
 
--- the note on a cause, if there is one
-abbrev pub IsNoteOn : List ℕ → Option Reason → List ℕ → Type 0
-IsNoteOn input (Some cause) note = IsNote input cause note
-IsNoteOn input None note = ⊥
+-- the note of a report: without a cause there is none, else it is on the cause, unless memory for it was refused
+abbrev pub IsNoteOn : List ℕ → Option Reason → Option (Result (String Global) OutOfMemory) → Type 0
+IsNoteOn input None note = note ≡ None
+IsNoteOn input (Some cause) (Some (Ok note)) = IsNote input cause (string_bytes note)
+IsNoteOn input (Some cause) (Some (Err refused)) = ⊤
+IsNoteOn input (Some cause) None = ⊥
 
--- The fault of a text is one of this input, and that of a list of identifiers is its own.
+-- The cause is found in this input: the fault of a text is one of it. That of a list of identifiers is its own, and the
+-- places of a no are places of its ring.
 abbrev pub IsFound : List ℕ → Reason → Type 0
 IsFound input (of_text k offset) = FaultsAt input k offset
 IsFound input (of_ring m t places f) = (t ≤ MAX_ROUNDS) × IsFirstFault m t places f
-IsFound input (of_table_text f) = IsFault input f
+IsFound input (of_table_text f) = (f ≢ table.OutOfMemory) × IsFault input f
+IsFound input (of_no t ring places channels) =
+    (t ≤ MAX_ROUNDS) × (t ≤ length ring) × (length ring ≤ MAX_IDS) × (places.0 < length ring) × (places.1 < length ring)
 IsFound input _ = ⊤

@@ -1,4 +1,4 @@
-use Rattle.std.proofs.Common.{ℕ, List, Option, subst, sym, ◌∙◌, string_bytes, rules}
+use Rattle.std.proofs.Common.{ℕ, List, Option, subst, sym, ◌∙◌, rules}
 use Rattle.std.specs.Prelude.{IfSome}
 use Rattle.devices.specs.Input.{GivesInput}
 use Rattle.devices.specs.Watched.{device_of}
@@ -16,7 +16,7 @@ returns-clause-report g c =
     let input : List ℕ = c.in_ok-input.input.items in
     let report = report_in c.in_ok-answer.answer in
     let read : GivesInput (g.R.Read.remaining (device_of c.args.reader.now)) (g.R.Read.remaining (device_of c.read_input.new.reader)) (limit_of c.args.task) input = search rules in
-    let note = subst (λ (input : List ℕ). IfSome c.note_of-note.result (λ note. IsNoteOn input (reason_in c.in_ok-status.cause) (string_bytes note))) c.deref-2.ensures.value c.note_of-note.ensures in
+    let note = subst (λ (input : List ℕ). IsNoteOn input (reason_in c.in_ok-status.cause) c.note_of-note.result) c.deref-2.ensures.value c.note_of-note.ensures in
     record {
       report = record {
         input = input;
@@ -26,13 +26,13 @@ returns-clause-report g c =
         written = c.in_ok-status.ensures.report.0;
         status_is = c.in_ok-status.ensures.report.1;
       };
-      note = subst (λ (cause : Option Reason). IfSome c.note_of-note.result (λ note. IsNoteOn input cause (string_bytes note))) c.in_ok-status.ensures.report.2 note;
+      note = subst (λ (cause : Option Reason). IsNoteOn input cause c.note_of-note.result) c.in_ok-status.ensures.report.2 note;
     }
 
 -- The cause of the report is found in the input.
 pub note_of-note-requires : goal.note_of-note-requires
 note_of-note-requires g c =
     let report = report_in c.in_ok-answer.answer in
-    let is = found c.args.task c.deref.result.now report c.in_ok-answer.ensures.report in
+    let is = found c.one_witness.ensures.places c.args.task c.deref.result.now report c.in_ok-answer.ensures.report in
     subst (λ (cause : Option Reason). IfSome cause (IsFound c.deref-2.result.now)) (sym c.in_ok-status.ensures.report.2)
     (subst (λ (input : List ℕ). IfSome report.cause (IsFound input)) (c.deref.ensures.value ∙ sym c.deref-2.ensures.value) is)
