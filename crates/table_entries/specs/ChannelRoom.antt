@@ -1,4 +1,4 @@
--- Scratch for reading the channels of a block's windows. No public contract cites this file.
+-- Scratch for reading the channels of a block's windows.
 use Rattle.std.specs.Prelude.{◌≡◌, ℕ, ◌+◌, ◌*◌, ◌<◌, ◌≤◌, List, length, slice_index}
 use Rattle.node_program.specs.Term.{terms}
 use Rattle.win_index.specs.declared.limits.TheConstants.{BLOCK_WINDOWS}
