@@ -9,3 +9,4 @@ pub mod Reached
 pub mod Following
 pub mod Prefix
 pub mod Clean
+pub mod MostIds

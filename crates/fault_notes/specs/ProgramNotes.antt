@@ -1,5 +1,5 @@
 -- The note on a program that is not accepted.
-use Rattle.std.specs.Prelude.{◌≡◌, ℕ, ◌+◌, ◌*◌, ◌<◌, ◌==◌, nat_lt, ◌++◌, List, length, codes, if◌then◌else◌}
+use Rattle.std.specs.Prelude.{◌≡◌, ℕ, ◌+◌, ◌*◌, ◌<◌, ◌≤◌, ◌==◌, nat_lt, ◌++◌, List, length, codes, if◌then◌else◌}
 use Rattle.std.specs.Fmt.{decimal}
 use Rattle.node_program.specs.declared.limits.TheConstants.{MAX_CHANNELS}
 use Rattle.win_index.specs.ShapeRange.{IsShape}
@@ -10,10 +10,11 @@ use Rattle.fault_notes.specs.Placed.{placed_note}
 use Rattle.fault_notes.specs.FaultTokens.{place_of_cause}
 use Rattle.fault_notes.specs.BoundNotes.{growth_text}
 
--- the greatest number of identifiers that makes a shape with t rounds
+-- the greatest number of identifiers that makes a shape with t rounds; all from 2t+2 to it do
 pub record IsMostIds (t most : ℕ) : Type 0 where
   pub makes : IsShape most t
   pub greatest : (m : ℕ) → most < m → ¬ IsShape m t
+  pub between : (m : ℕ) → 2 * t + 2 ≤ m → m ≤ most → IsShape m t
 
 abbrev pub rounds_take : ℕ → List ℕ
 rounds_take t = if t == 1 then codes " round takes " else codes " rounds take "

@@ -16,7 +16,7 @@ use crate::placed::placed_note;
 use lang_check::CheckFault;
 use node_lang::{MAX_CHANNELS, Program};
 use std::alloc::{AllocError, Global};
-use win_index::{MAX_IDS, MAX_ROUNDS, Shape};
+use win_index::{MAX_IDS, MAX_ROUNDS, Shape, count_of_windows};
 
 /// Returns the note on the refusal of the program of a text for `ids` identifiers: the possible
 /// numbers of identifiers, or the cause and the place of the first token that is the cause, or the
@@ -62,6 +62,7 @@ fn most_ids(rounds: u32) -> Option<u32>
     ensures most { IfSome result (IsMostIds rounds) }
     ensures none { IfNone result ((m : ℕ) → ¬ IsShape m rounds) }
 {
+    count_of_windows();
     'fewer: for fewer in 0..MAX_IDS + 1 {
         let ids = MAX_IDS - fewer;
         if makes_shape(ids, rounds) {

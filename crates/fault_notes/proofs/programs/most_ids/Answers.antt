@@ -2,6 +2,7 @@ use Rattle.std.proofs.Common.{◌≡◌, ◌+◌, ◌-◌, Bool, true, false, sy
 use Rattle.std.proofs.lemmas.Bool.{cases_order}
 use Rattle.win_index.specs.declared.limits.TheConstants.{MAX_IDS}
 use Rattle.win_index.specs.ShapeRange.{IsShape}
+use Rattle.fault_notes.proofs.MostIds.{shapes_between}
 use Rattle.fault_notes.proofs.programs.most_ids.Goals as goal
 
 pub fewer-init : goal.fewer-init
@@ -9,7 +10,12 @@ fewer-init c = λ m h s. omega (arith, s.ids.few)
 
 pub returns-then-makes_shape-clause-most : goal.returns-then-makes_shape-clause-most
 returns-then-makes_shape-clause-most c =
-    record { makes = c.makes_shape.ensures.0 c.if-makes_shape.true; greatest = λ m h s. c.fewer.invariant m (omega (arith, h)) s }
+    let makes = c.makes_shape.ensures.0 c.if-makes_shape.true in
+    record {
+      makes = makes;
+      greatest = λ m h s. c.fewer.invariant m (omega (arith, h)) s;
+      between = λ m enough le. shapes_between c.count_of_windows.ensures c.args.rounds (MAX_IDS - c.fewer.fewer) m makes enough le;
+    }
 
 -- a test that failed
 fails : {P : Type 0} (b : Bool) → (P → b ≡ true) → b ≡ false → P → ⊥
