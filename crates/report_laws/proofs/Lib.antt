@@ -6,3 +6,5 @@ mod JudgeAnswers
 mod Fronts
 mod TableAnswers
 mod EachReport
+mod ReadBack
+pub mod OneNote

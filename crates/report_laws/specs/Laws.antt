@@ -1,6 +1,6 @@
--- The laws: a task has one report on an input, reports agree with global rounds, and a print is read
+-- The laws: a task has one report on an input, reports agree with global rounds, and prints and table texts are read
 -- back.
-use Rattle.std.specs.Prelude.{◌≡◌, ◌↔◌, ℕ, ◌<◌, List, [], ◌∷◌, ◌++◌, Vec, Some, length, codes}
+use Rattle.std.specs.Prelude.{◌≡◌, ◌↔◌, ℕ, ◌<◌, List, [], ◌∷◌, ◌++◌, Vec, Some, ⊤, length, codes}
 use Rattle.std.specs.declared.alloc.Global.{Global}
 use Rattle.node_program.specs.Term.{ProgramTree}
 use Rattle.node_lang.specs.Grammar.{Reads}
@@ -8,16 +8,21 @@ use Rattle.node_program.specs.GlobalRounds.{channel_at, channels_of}
 use Rattle.win_index.specs.Ring.{IsRing}
 use Rattle.win_index.specs.Arcs.{window_around}
 use Rattle.lang_check.specs.Acceptance.{IsAccepted}
-use Rattle.channel_tables.specs.Tables.{channel_of}
+use Rattle.table_text.specs.LineForms.{IsSeparation}
+use Rattle.task_words.specs.Counts.{IsNear, IsFar}
+use Rattle.channel_tables.specs.Tables.{IsTable, ChannelTable, channel_of}
+use Rattle.channel_tables.specs.declared.separation.Separation.{Separation}
 use Rattle.table_entries.specs.ProgramTables.{table_of}
 use Rattle.ring_segments.specs.SegmentCounts.{IsSegmentCount}
 use Rattle.headline.specs.Headline.{ChannelsAreApart}
 use Rattle.table_text.specs.TableText.{table_text}
 use Rattle.task_words.specs.declared.task.Task.{Task}
-use Rattle.task_words.specs.declared.task.Task.TheVariants.{Print, Table, Judge, Run, Trace, Plan}
+use Rattle.task_words.specs.declared.task.Task.TheVariants.{Print, Table, Judge, Run, Trace, Plan, Audit, Migrate}
 use Rattle.reports.specs.declared.status.Status.TheVariants.{Done, No}
 use Rattle.reports.specs.Lines.{line, numbers_text}
 use Rattle.reports.specs.Trace.{trace_lines}
+use Rattle.reports.specs.Causes.{Reason, of_ring, of_segments, of_no}
+use Rattle.reports.specs.Notes.{IsNote}
 use Rattle.reports.specs.Report.{Report, Says, place_lines}
 use Rattle.plan_print.specs.TaskReport.{IsReport}
 
@@ -100,3 +105,30 @@ abbrev pub SameForSegments : Type 0
 SameForSegments =
     (m g h : ℕ) (ring : Vec ℕ Global) (input : List ℕ) (r : Report) → IsSegmentCount g (length ring.items) → IsSegmentCount h (length ring.items)
     → IsReport (Run m ring g) input r → IsReport (Run m ring h) input r
+
+-- the report of migrate on a text of version 2 is that text
+abbrev pub MigrateKeepsNewTexts : Type 0
+MigrateKeepsNewTexts =
+    (t : ChannelTable) (s : Separation) (r : Report) → IsTable t → IsSeparation s → IsReport Migrate (table_text t s) r → Says (table_text t s) Done r
+
+-- a second migrate changes nothing
+abbrev pub MigrateTwiceIsOnce : Type 0
+MigrateTwiceIsOnce =
+    (input : List ℕ) (r s : Report) → IsReport Migrate input r → r.status ≡ Done → IsReport Migrate r.bytes s → s ≡ r
+
+-- the report of audit on the report of table is that of judge, with the same near and far
+abbrev pub AuditOfTableIsJudge : Type 0
+AuditOfTableIsJudge =
+    (m v w near far : ℕ) (input : List ℕ) (r s : Report) → IsNear near → IsFar far → IsReport (Table m v near far) input r → r.status ≡ Done
+    → IsReport Audit r.bytes s → IsReport (Judge m w near far) input s
+
+-- the cause is a list that is no ring, a number of segments, or a no: its note has no advice
+abbrev pub HasNoAdvice : Reason → Type 0
+HasNoAdvice (of_ring m t places f) = ⊤
+HasNoAdvice (of_segments segments places) = ⊤
+HasNoAdvice (of_no t ring places channels) = ⊤
+HasNoAdvice _ = ⊥
+
+-- such a cause has one note
+abbrev pub OneNote : Type 0
+OneNote = (input : List ℕ) (cause : Reason) (note other : List ℕ) → HasNoAdvice cause → IsNote input cause note → IsNote input cause other → note ≡ other

@@ -6,7 +6,7 @@ use headline::program_tables_are_apart;
 use lang_check::one_refusal;
 use nbhd_check::{one_witness, tuples_suffice};
 use node_lang::{first_fault, one_reading, one_text_fault, printed_is_read_back, reading_is_exact};
-use table_entries::table_has_the_channels_of_rounds;
+use table_entries::{program_tables_are_tables, table_has_the_channels_of_rounds};
 use table_text::{one_table_fault, table_texts_are_apart, table_texts_are_read};
 use win_index::{number_of_window, one_ring_fault, windows_have_numbers};
 
@@ -68,3 +68,22 @@ pub fn prints_are_read_back()
     one_reading();
     printed_is_read_back();
 }
+
+/// The report of `migrate` on a text of version 2 is that text, so a second `migrate` changes
+/// nothing. The report of `audit` on the report of `table` is that of `judge` with the same near
+/// and far.
+pub fn table_reports_are_read_back()
+    ensures keeps { law.MigrateKeepsNewTexts }
+    ensures twice { law.MigrateTwiceIsOnce }
+    ensures audit { law.AuditOfTableIsJudge }
+{
+    table_texts_are_apart();
+    table_texts_are_read();
+    program_tables_are_tables();
+}
+
+/// The note on a list that is no ring, on a number of segments or on a no is one text.
+#[tactic(auto, using(crate::proofs::OneNote::one_note))]
+pub fn one_note()
+    ensures { law.OneNote }
+{}
