@@ -1,6 +1,6 @@
 """Common mistakes of newcomers, each with the note on its cause, which is on the standard error."""
 
-from programs import CV1, ID0_OF_4, LDB
+from programs import CV1, ID0_OF_4, LDB, SHIFT4
 
 # Parts of `CV1`, their replacements, and the starts of the notes on the text.
 MARKS_AND_ORDER = [
@@ -65,6 +65,7 @@ OPERANDS = [
     ),
     ("finish r0", "finish if(r0, 1)", "nbhd: line 10, column 16: `)` cannot stand here; wanted `,`; `if` takes 3 operands"),
     ("finish r0", "finish not(r0, 1)", "nbhd: line 10, column 14: `,` cannot stand here; wanted `)`; `not` takes 1 operand"),
+    (", bit(r0, ldb(r0, L)))", ")", "nbhd: line 9, column 28: `)` cannot stand here; wanted `,`; `add` takes 2 operands"),
     ("finish r0", "finish min(r0, 1, 2)", "nbhd: line 10, column 17: `,` cannot stand here; wanted `)`; `min` takes 2 operands"),
     (
         "finish r0",
@@ -226,6 +227,12 @@ OTHERS = [
         "judge --ids 4 --far 2",
         ID0_OF_4,
         "nbhd: on the ring 0,2,1 the nodes at distance two 0 and 1 (places 0 and 2) have channels 0 and 1; their windows are 0 and 1\n",
+    ),
+    (
+        "judge --ids 10",
+        SHIFT4.replace(b"finish r0", b"finish 0"),
+        "nbhd: on the ring 0,1,2,3,4,5,6,7,8,9 the neighbours 4 and 5 (places 4 and 5) have channel 0; "
+        "their windows are 0 1 2 3 4 5 6 7 8 and 1 2 3 4 5 6 7 8 9\n",
     ),
 ]
 

@@ -7,7 +7,7 @@ use shared_memo::Memo;
 use std::alloc::Global;
 use std::sync::Wait;
 use std::thread::Threads;
-use table_fill::compile;
+use table_fill::{FillFault, compile};
 use test_programs::{CV1, plan_of};
 
 /// Returns the table of a memo's plan by this many workers, from a pass of its own.
@@ -32,31 +32,73 @@ pub(crate) fn table_by<R: Threads + Wait + Sync>(
     table_from(rt, alloc, &memo, workers)
 }
 
-/// Returns what a table by one worker has: the number of its entries, the one with the number 256,
-/// and the channel at the window of that number.
-fn row_of<R: Threads + Wait + Sync>(
-    rt: &R,
-    alloc: Global,
-    plan: &Plan,
-) -> Option<(usize, Option<u16>, Option<u32>)> {
+/// What a table has: the number of its entries, the one with the number 256, and the channels at
+/// three lists.
+type Channels = (usize, Option<u16>, [Option<u32>; 3]);
+
+/// Returns what a table by one worker has. The second window has the number 325, and the third list
+/// is no window.
+fn row_of<R: Threads + Wait + Sync>(rt: &R, alloc: Global, plan: &Plan) -> Option<Channels> {
     let table = table_by(rt, alloc, plan, 1)?;
     let entries = table.entries();
     let entry = entries.get(256).copied();
-    Some((entries.len(), entry, table.channel_at(&[6, 0, 5])))
+    let channels = [
+        table.channel_at(&[6, 0, 5]),
+        table.channel_at(&[7, 5, 1]),
+        table.channel_at(&[7, 5]),
+    ];
+    Some((entries.len(), entry, channels))
 }
 
 /// Returns what the table of `CV1` by one worker has.
-fn row_of_cv1<R: Threads + Wait + Sync>(
-    rt: &R,
-    alloc: Global,
-) -> Option<(usize, Option<u16>, Option<u32>)> {
+fn row_of_cv1<R: Threads + Wait + Sync>(rt: &R, alloc: Global) -> Option<Channels> {
     let plan = plan_of(alloc, CV1, 8).ok()?;
     row_of(rt, alloc, &plan)
 }
 
 #[test]
 fn cv1_has_a_channel_at_each_window(rt: HostRuntime) {
-    assert!(rt; row_of_cv1(&rt, rt.alloc()) == Some((336, Some(2), Some(2))));
+    let channels = [Some(2), Some(2), None];
+    assert!(rt; row_of_cv1(&rt, rt.alloc()) == Some((336, Some(2), channels)));
+}
+
+/// Returns the fault of a table by this many workers.
+fn fault_from<R: Threads + Wait + Sync>(
+    rt: &R,
+    alloc: Global,
+    memo: &Memo<'_>,
+    workers: u32,
+) -> Option<FillFault> {
+    let mut pass = memo.pass(alloc).ok()?;
+    compile(rt, alloc, memo.plan(), memo, &mut pass, workers, &OpenGate).err()
+}
+
+/// Returns the faults of a table by no worker and by 65.
+fn faults_of<R: Threads + Wait + Sync>(
+    rt: &R,
+    alloc: Global,
+    plan: &Plan,
+) -> Option<[Option<FillFault>; 2]> {
+    let memo = Memo::new(alloc, plan).ok()?;
+    Some([
+        fault_from(rt, alloc, &memo, 0),
+        fault_from(rt, alloc, &memo, 65),
+    ])
+}
+
+/// Returns those faults for `CV1`.
+fn faults_of_cv1<R: Threads + Wait + Sync>(
+    rt: &R,
+    alloc: Global,
+) -> Option<[Option<FillFault>; 2]> {
+    let plan = plan_of(alloc, CV1, 8).ok()?;
+    faults_of(rt, alloc, &plan)
+}
+
+#[test]
+fn a_table_takes_1_to_64_workers(rt: HostRuntime) {
+    let faults = [Some(FillFault::WorkersOutOfRange); 2];
+    assert!(rt; faults_of_cv1(&rt, rt.alloc()) == Some(faults));
 }
 
 /// Returns whether a table by four workers is this one.

@@ -15,7 +15,7 @@ use std::thread::Threads;
 use table_fill::compile;
 use test_programs::{CV1, plan_of};
 
-/// The maximum number of looks at the counter of a job.
+/// The maximum number of looks at a counter.
 const TURNS: u64 = 1_000_000_000;
 
 /// Compiles a table with this many workers and this gate, and returns the makers of the blocks of
@@ -43,33 +43,55 @@ fn three_makers<'a>(memo: &Memo<'a>, pass: &mut Pass<'a>) -> Option<[u32; 3]>
     ])
 }
 
-/// Holds who enters with job 0 until job 2 has been entered. Records for each of three jobs how
-/// often it was entered, and by whom.
+/// Which calls are held, and until when.
+#[derive(Clone, Copy)]
+enum Held {
+    /// That for job 0, until job 2 has been entered.
+    FirstJob,
+    /// The first of each of two workers, until both have entered.
+    FirstCalls,
+}
+
+/// Holds some calls. Records for each of three jobs how often it was entered, and by whom, and how
+/// often each of two workers entered.
 #[derive(Drop)]
 struct Hold {
+    held: Held,
     times: [AtomicU64; 3],
     workers: [AtomicU64; 3],
+    calls: [AtomicU64; 2],
     late: AtomicU64,
 }
 
 impl Hold {
-    fn new() -> Hold {
+    fn new(held: Held) -> Hold {
         Hold {
+            held,
             times: [AtomicU64::new(0), AtomicU64::new(0), AtomicU64::new(0)],
             workers: [AtomicU64::new(0), AtomicU64::new(0), AtomicU64::new(0)],
+            calls: [AtomicU64::new(0), AtomicU64::new(0)],
             late: AtomicU64::new(0),
         }
     }
 
-    /// Waits until job 2 has been entered. Records if that was in vain.
-    fn wait(&self) {
-        let [_, _, last] = &self.times;
-        for _turn in 0..TURNS {
-            if last.load(SeqCst) > 0 {
-                return;
+    /// Waits until a counter is above 0. Records if that was in vain.
+    fn wait(&self, counter: Option<&AtomicU64>) {
+        if let Some(counter) = counter {
+            for _turn in 0..TURNS {
+                if counter.load(SeqCst) > 0 {
+                    return;
+                }
             }
         }
         self.late.store(1, SeqCst);
+    }
+
+    /// Records a call of a worker, and returns whether it is its first.
+    fn is_first_call(&self, who: u32) -> bool {
+        match self.calls.get(who as usize) {
+            Some(calls) => calls.fetch_add(1, SeqCst) == 0,
+            None => true,
+        }
     }
 }
 
@@ -81,8 +103,11 @@ impl Gate for Hold {
         if let Some(times) = self.times.get(what as usize) {
             times.fetch_add(1, SeqCst);
         }
-        if what == 0 {
-            self.wait();
+        let is_first = self.is_first_call(who);
+        match self.held {
+            Held::FirstJob if what == 0 => self.wait(self.times.get(2)),
+            Held::FirstCalls if is_first => self.wait(self.calls.get((who ^ 1) as usize)),
+            _ => (),
         }
     }
 }
@@ -91,7 +116,7 @@ impl Gate for Hold {
 /// it is the other.
 #[derive(Clone, Copy, Debug, PartialEq, Eq)]
 struct Seen {
-    /// Whether the worker with job 0 waited in vain for job 2.
+    /// Whether a call was held in vain.
     late: bool,
     /// How often the gate was called for each job.
     times: [u64; 3],
@@ -121,18 +146,23 @@ impl Hold {
     }
 }
 
-/// Compiles with two workers, one of which is held.
-fn seen_by_two<R: Threads + Wait + Sync>(rt: &R, alloc: Global, plan: &Plan) -> Option<Seen> {
+/// Compiles with two workers, whose calls are held.
+fn seen_by_two<R: Threads + Wait + Sync>(
+    rt: &R,
+    alloc: Global,
+    plan: &Plan,
+    held: Held,
+) -> Option<Seen> {
     let memo = Memo::new(alloc, plan).ok()?;
-    let gate = Hold::new();
+    let gate = Hold::new(held);
     let makers = makers_by(rt, alloc, &memo, 2, &gate)?;
     Some(gate.seen(makers))
 }
 
-/// Compiles the table of `CV1` with two workers, one of which is held.
-fn seen_by_two_of_cv1<R: Threads + Wait + Sync>(rt: &R, alloc: Global) -> Option<Seen> {
+/// Compiles the table of `CV1` with two workers, whose calls are held.
+fn seen_by_two_of_cv1<R: Threads + Wait + Sync>(rt: &R, alloc: Global, held: Held) -> Option<Seen> {
     let plan = plan_of(alloc, CV1, 8).ok()?;
-    seen_by_two(rt, alloc, &plan)
+    seen_by_two(rt, alloc, &plan, held)
 }
 
 // While a worker is held with the block below, the other makes that block itself.
@@ -144,7 +174,20 @@ fn a_worker_makes_a_missing_block_and_tries_again(rt: HostRuntime) {
         entered: [1; 2],
         makers: [1; 3],
     };
-    assert!(rt; seen_by_two_of_cv1(&rt, rt.alloc()) == Some(seen));
+    assert!(rt; seen_by_two_of_cv1(&rt, rt.alloc(), Held::FirstJob) == Some(seen));
+}
+
+/// Returns whether two workers have met, each job was entered once, and who entered with a block of
+/// level 1 made it.
+fn have_met(seen: Seen) -> bool {
+    let [_, one, two] = seen.makers;
+    !seen.late && seen.times == [1; 3] && seen.entered == [one, two]
+}
+
+#[test]
+fn two_workers_are_at_work_at_once(rt: HostRuntime) {
+    let seen = seen_by_two_of_cv1(&rt, rt.alloc(), Held::FirstCalls);
+    assert!(rt; seen.is_some_and(have_met));
 }
 
 /// Counts its calls, and those at which the cell of the job is still empty, and adds up the numbers

@@ -18,6 +18,10 @@ mod gates;
 #[cfg(test)]
 mod memo;
 #[cfg(test)]
+mod operations;
+#[cfg(test)]
+mod parts;
+#[cfg(test)]
 mod plain_runs;
 #[cfg(test)]
 mod slow_devices;

@@ -99,8 +99,8 @@ fn made_by<'p, R: Print>(
     }
 }
 
-// Prints the number of states of a block, and the first state.
-fn tell_states<R: Print>(rt: &R, block: &Block<'_>) -> Result<(), Miss> {
+/// Prints the number of states of a block, and the first state.
+pub(crate) fn tell_states<R: Print>(rt: &R, block: &Block<'_>) -> Result<(), Miss> {
     let count = block.len();
     if count == 0 {
         return Err(Miss::Wrong);

@@ -9,10 +9,12 @@
 
 mod blocks;
 mod borders;
+mod columns;
 mod desks;
 mod events;
 mod findings;
 mod language;
+mod memos;
 mod messages;
 mod miss;
 mod plans;

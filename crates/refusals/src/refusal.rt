@@ -1,3 +1,4 @@
+use devices::fault::OutFault;
 use headline::FindingsFault;
 use node_lang::{FaultKind, OutOfMemory, TextFault};
 use ring_exec::RunFault;
@@ -50,6 +51,15 @@ impl Refusal for RunFault {
             RunFault::OutOfMemory => Some("OutOfMemory"),
             RunFault::NoThread => Some("NoThread"),
             RunFault::SegmentsOutOfRange | RunFault::Stranger => None,
+        }
+    }
+}
+
+impl Refusal for OutFault {
+    fn name(&self) -> Option<&'static str> {
+        match self {
+            OutFault::Memory => Some("OutOfMemory"),
+            OutFault::Write => None,
         }
     }
 }

@@ -1,15 +1,17 @@
 use crate::blocks::do_block_maker;
 use crate::borders::{do_border, do_put};
+use crate::columns::do_columns;
 use crate::desks::do_desk;
 use crate::events::do_fill_replay;
 use crate::findings::do_findings;
 use crate::language::do_parse;
+use crate::memos::do_memo;
 use crate::messages::do_run;
 use crate::miss::Miss;
 use crate::rounds::do_plain_run;
 use crate::segments::do_ring_replay;
 use crate::tables::do_compile;
-use crate::texts::do_read_table;
+use crate::texts::{do_read_table, do_write_table};
 use crate::words::{do_ring_of, do_task_of, do_words_fault};
 use std::sync::Wait;
 use std::thread::Threads;
@@ -26,10 +28,13 @@ const FOUR: [u32; 4] = [5, 1, 3, 7];
 enum Row {
     Parse,
     PlainRun,
+    Columns,
+    Memo,
     BlockMaker,
     Desk,
     FillReplay,
     RingReplay,
+    WriteTable,
     ReadTable,
     RingOf,
     TaskOf,
@@ -43,13 +48,16 @@ enum Row {
 }
 
 /// The names of the rows.
-const ROWS: [(&str, Row); 23] = [
+const ROWS: [(&str, Row); 26] = [
     ("parse", Row::Parse),
     ("plain_run", Row::PlainRun),
+    ("columns", Row::Columns),
+    ("memo", Row::Memo),
     ("block_maker", Row::BlockMaker),
     ("desk", Row::Desk),
     ("fill_replay", Row::FillReplay),
     ("ring_replay", Row::RingReplay),
+    ("write_table", Row::WriteTable),
     ("read_table", Row::ReadTable),
     ("ring_of", Row::RingOf),
     ("task_of", Row::TaskOf),
@@ -95,10 +103,13 @@ fn do_call<R: AllocGlobal + Print + Threads + Wait + Sync>(rt: &R, row: Row) -> 
     match row {
         Row::Parse => do_parse(rt),
         Row::PlainRun => do_plain_run(rt),
+        Row::Columns => do_columns(rt),
+        Row::Memo => do_memo(rt),
         Row::BlockMaker => do_block_maker(rt),
         Row::Desk => do_desk(rt),
         Row::FillReplay => do_fill_replay(rt),
         Row::RingReplay => do_ring_replay(rt),
+        Row::WriteTable => do_write_table(rt),
         Row::ReadTable => do_read_table(rt),
         Row::RingOf => do_ring_of(rt),
         Row::TaskOf => do_task_of(rt),

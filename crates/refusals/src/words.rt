@@ -7,9 +7,9 @@ use task_words::ring_text::ring_of;
 use task_words::task::Task;
 use task_words::words::{WordsFault, task_of, words_fault};
 
-/// `ring_of`: prints the identifiers of a ring text, and the faults of three other texts.
+/// `ring_of`: prints the identifiers of two ring texts, and the faults of three other texts.
 pub(crate) fn do_ring_of<R: AllocGlobal + Print>(rt: &R) -> Result<(), Miss> {
-    for text in ["5,1,3,7", "5,,1", "", "4294967296"] {
+    for text in ["5,1,3,7", "007,1", "5,,1", "", "4294967296"] {
         tell_ring(rt, text)?;
     }
     Ok(())

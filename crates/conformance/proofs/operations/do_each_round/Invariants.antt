@@ -1,0 +1,9 @@
+use Rattle.round_columns.specs.Room.{HasRoomFor}
+use Rattle.round_columns.specs.States.{SameSize}
+use Rattle.conformance.proofs.operations.do_each_round.Given as goal
+
+abbrev pub invariant-loop-round : goal.invariant-loop-round
+invariant-loop-round l = record {
+  room : HasRoomFor l.work l.code l.nodes;
+  size : SameSize l.nodes l.out;
+}

@@ -1,0 +1,5 @@
+use Rattle.round_columns.specs.States.{SameSize}
+use Rattle.conformance.proofs.operations.write_states.Given as goal
+
+abbrev pub invariant-loop-i : goal.invariant-loop-i
+invariant-loop-i l = SameSize l.fn.nodes l.nodes

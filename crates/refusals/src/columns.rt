@@ -1,0 +1,138 @@
+ghost use Rattle.std.specs.Prelude.{◌≡◌, length, IfOk};
+ghost use Rattle.round_columns.specs.Room.{HasRoomFor};
+ghost use Rattle.round_columns.specs.States.{HasSize};
+
+use crate::miss::Miss;
+use crate::plans::plan_of;
+use crate::tell::{retried, tell_numbers, value_or_refusal};
+use lang_check::Plan;
+use round_columns::{Code, Columns, Work, channel_columns, step_columns};
+use test_programs::{CV1, LDB};
+
+/// `Code::new`, `Columns::new` and `Work::new`: prints the numbers of columns that the expressions
+/// of two programs need, then the registers of three nodes after a round of the second program, and
+/// their channels.
+pub(crate) fn do_columns<R: AllocGlobal + Print>(rt: &R) -> Result<(), Miss> {
+    let plan = plan_of(rt.alloc(), LDB, 8)?;
+    tell_stack(rt, &plan)?;
+    do_three_nodes(rt)
+}
+
+// Prints the number of columns that the expressions of a plan need.
+fn tell_stack<R: AllocGlobal + Print>(rt: &R, plan: &Plan) -> Result<(), Miss> {
+    let code = code_of(rt, plan)?;
+    tell_numbers(rt, &[code.stack()])
+}
+
+// Prints that number for `CV1`, and three nodes after its round.
+fn do_three_nodes<R: AllocGlobal + Print>(rt: &R) -> Result<(), Miss> {
+    let plan = plan_of(rt.alloc(), CV1, 8)?;
+    if plan.shape().rounds() != 1 || plan.program().registers() != 1 {
+        return Err(Miss::Wrong);
+    }
+    tell_three_nodes(rt, &plan)
+}
+
+// Prints that number and three nodes after the round of a plan of one register.
+fn tell_three_nodes<R: AllocGlobal + Print>(rt: &R, plan: &Plan) -> Result<(), Miss>
+    requires rounds { length plan.now.program.steps ≡ 1 }
+    requires registers { length plan.now.program.start ≡ 1 }
+{
+    let code = code_of(rt, plan)?;
+    tell_numbers(rt, &[code.stack()])?;
+    tell_between(rt, &code)
+}
+
+// Returns the code of a plan.
+fn code_of<'p, R: AllocGlobal + Print>(rt: &R, plan: &'p Plan) -> Result<Code<'p>, Miss>
+    ensures { IfOk result (λ code. code ≡ plan.entry.now) }
+{
+    match value_or_refusal(rt, Code::new(rt.alloc(), plan))? {
+        Some(code) => Ok(code),
+        None => retried(Code::new(rt.alloc(), plan)),
+    }
+}
+
+// Prints the nodes 5, 1 and 3 between 7, 5 and 1 and 1, 3 and 7 after a round.
+fn tell_between<R: AllocGlobal + Print>(rt: &R, code: &Code<'_>) -> Result<(), Miss>
+    requires rounds { length code.now.program.steps ≡ 1 }
+    requires registers { length code.now.program.start ≡ 1 }
+{
+    let left = column_of(rt, [7, 5, 1])?;
+    let right = column_of(rt, [1, 3, 7])?;
+    tell_round(rt, code, &left, &right)
+}
+
+// Prints the nodes 5, 1 and 3 after a round between others.
+fn tell_round<R: AllocGlobal + Print>(
+    rt: &R,
+    code: &Code<'_>,
+    left: &Columns,
+    right: &Columns,
+) -> Result<(), Miss>
+    requires rounds { length code.now.program.steps ≡ 1 }
+    requires registers { length code.now.program.start ≡ 1 }
+    requires left { HasSize 3 1 left.now }
+    requires right { HasSize 3 1 right.now }
+{
+    let own = column_of(rt, [5, 1, 3])?;
+    let mut work = work_of(rt, code, &own)?;
+    tell_after(rt, code, left, &own, right, &mut work)
+}
+
+// Prints nodes after a round between others, and their channels.
+fn tell_after<R: AllocGlobal + Print>(
+    rt: &R,
+    code: &Code<'_>,
+    left: &Columns,
+    own: &Columns,
+    right: &Columns,
+    work: &mut Work,
+) -> Result<(), Miss>
+    requires rounds { length code.now.program.steps ≡ 1 }
+    requires registers { length code.now.program.start ≡ 1 }
+    requires left { HasSize 3 1 left.now }
+    requires own { HasSize 3 1 own.now }
+    requires right { HasSize 3 1 right.now }
+    requires room { HasRoomFor work.old code.now own.now }
+{
+    let mut out = three_nodes(rt)?;
+    step_columns(code, 0, left, own, right, work, &mut out);
+    tell_numbers(rt, &[out.get(0, 0), out.get(0, 1), out.get(0, 2)])?;
+    let mut channels = [0; 3];
+    channel_columns(code, &out, work, &mut channels);
+    tell_numbers(rt, &channels)
+}
+
+// Returns room for a code at three nodes.
+fn work_of<R: AllocGlobal + Print>(rt: &R, code: &Code<'_>, nodes: &Columns) -> Result<Work, Miss>
+    requires { HasSize 3 (length code.now.program.start) nodes.now }
+    ensures { IfOk result (λ work. HasRoomFor work code.now nodes.now) }
+{
+    match value_or_refusal(rt, Work::new(rt.alloc(), code, 3))? {
+        Some(work) => Ok(work),
+        None => retried(Work::new(rt.alloc(), code, 3)),
+    }
+}
+
+// Returns three nodes of one register, which holds these values.
+fn column_of<R: AllocGlobal + Print>(rt: &R, values: [u32; 3]) -> Result<Columns, Miss>
+    ensures { IfOk result (HasSize 3 1) }
+{
+    let mut nodes = three_nodes(rt)?;
+    let [first, second, third] = values;
+    nodes.set(0, 0, first);
+    nodes.set(0, 1, second);
+    nodes.set(0, 2, third);
+    Ok(nodes)
+}
+
+// Returns three nodes of one register.
+fn three_nodes<R: AllocGlobal + Print>(rt: &R) -> Result<Columns, Miss>
+    ensures { IfOk result (HasSize 3 1) }
+{
+    match value_or_refusal(rt, Columns::new(rt.alloc(), 1, 3))? {
+        Some(nodes) => Ok(nodes),
+        None => retried(Columns::new(rt.alloc(), 1, 3)),
+    }
+}
