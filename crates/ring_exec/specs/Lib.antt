@@ -1,2 +1,6 @@
 -- The definitions that the contracts cite.
 pub mod Faults
+pub mod Outcomes
+pub mod Seats
+pub mod Sides
+pub mod Stops

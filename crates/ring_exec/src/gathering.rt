@@ -1,8 +1,9 @@
 // The channels of the segments that ended.
-ghost use Rattle.std.specs.Prelude.{◌≡◌, ℕ, ◌+◌, ◌<◌, ◌≤◌, OnOk, length, slice_index};
+ghost use Rattle.std.specs.Prelude.{◌≡◌, ℕ, ◌+◌, ◌<◌, ◌≤◌, OnOk, IfErr, length, slice_index};
 ghost use Rattle.node_program.specs.GlobalRounds.{channel_at, channels_of};
 ghost use Rattle.ring_segments.specs.Segments.{first_of, places_of};
 ghost use Rattle.ring_segments.specs.SegmentCounts.{IsSegmentCount};
+ghost use Rattle.ring_exec.specs.declared.fault.SegmentFault.TheVariants.{Stranger};
 
 use crate::fault::SegmentFault;
 use lang_check::Plan;
@@ -21,7 +22,8 @@ pub(crate) fn gather(
 ) -> Result<(), SegmentFault>
     requires range { IsSegmentCount segments (length ring.now.places) }
     requires room { length channels.old ≡ length ring.now.places }
-    ensures { OnOk result (channels.new ≡ channels_of plan.now.program ring.now.places) }
+    ensures channels { OnOk result (channels.new ≡ channels_of plan.now.program ring.now.places) }
+    ensures stranger { IfErr result (λ fault. fault ≡ Stranger) }
 {
     segments_cover_the_ring();
     let places = ring.len();

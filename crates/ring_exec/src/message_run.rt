@@ -94,9 +94,7 @@ fn run_segments<'a, R: Threads + Wait + Sync, G: Gate + Sync, L: BorderName + Se
     ensures alone { IfErr result (λ fault. fault ≡ CourseFault.NoThread → 1 < segments) }
 {
     let progress = no_progress(shared.alloc, plan, ring, segments)?;
-    let Ok((last, before)) = new_border::<Msg<'a>, L>(shared.alloc, blanks) else {
-        return Err(CourseFault::Segment(SegmentFault::OutOfMemory));
-    };
+    let (last, before) = new_border::<Msg<'a>, L>(shared.alloc, blanks)?;
     let course = Course {
         shared,
         before: Some(before),
@@ -121,7 +119,9 @@ fn no_progress<'a>(
     requires ids { ring.now.ids ≡ plan.now.ids }
     requires rounds { ring.now.rounds ≡ length plan.now.program.steps }
     requires range { IsSegmentCount segments (length ring.now.places) }
-    ensures { IfOk result (λ progress. progress.joined.fault ≡ None) }
+    ensures no_fault { IfOk result (λ progress. progress.joined.fault ≡ None) }
+    ensures first { IfOk result (λ progress. (progress.index ≡ 0) × (vec_len progress.threads ≡ 0) × (vec_len progress.joined.segments ≡ 0)) }
+    ensures waiting { IfOk result (λ progress. vec_len progress.waiting ≡ segments) }
 {
     let waiting = waiting_segments(alloc, plan, ring, segments)?;
     let threads = Vec::with_capacity(alloc, segments as usize)?;

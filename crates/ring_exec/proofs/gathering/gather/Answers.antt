@@ -51,7 +51,7 @@ write_part-requires-clause-plan c = ap (λ (s : RingSegment). s.plan) (c.is_of.e
 pub write_part-requires-clause-done : goal.write_part-requires-clause-done
 write_part-requires-clause-done c =
     let same = c.is_of.ensures.0 c.if-not-is_of.false in
-    sym c.round.ensures.value ∙ c.if-round-rounds.false ∙ c.rounds.ensures ∙ ap (λ (s : RingSegment). length s.plan.program.steps) same
+    sym c.round.ensures.value ∙ c.if-round-rounds.false ∙ c.rounds.ensures.value ∙ ap (λ (s : RingSegment). length s.plan.program.steps) same
 
 pub write_part-requires-clause-first : goal.write_part-requires-clause-first
 write_part-requires-clause-first c = c.loop-index.invariant.first ∙ sym (ap first_of (c.is_of.ensures.0 c.if-not-is_of.false))
@@ -95,8 +95,8 @@ loop-index-preserved c =
       each = λ i lt. c.write_part.ensures i lt ∙ ap (λ (s : RingSegment). channel_at p s.ring.places i) same;
     }
 
-pub returns : goal.returns
-returns c =
+pub returns-clause-channels : goal.returns-clause-channels
+returns-clause-channels c =
     let n = length c.args.ring.now.places in
     let held = c.loop-index.invariant in
     let all : c.loop-index.index ≡ c.args.segments = omega arith in
