@@ -1,4 +1,5 @@
 -- The definitions that the contracts cite.
+pub mod Courses
 pub mod Faults
 pub mod Outcomes
 pub mod Seats

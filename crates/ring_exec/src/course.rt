@@ -1,16 +1,17 @@
 // The course of a run: the segments that run, and those that are still to start.
-ghost use Rattle.std.specs.Prelude.{◌≡◌, ◌≢◌, ℕ, ◌+◌, ◌<◌, ◌≤◌, ◌↔◌, All, None, Some, Ok, Err, IsOk, IsNone, IsSome, IfErr, OnOk, OnErr, OnSome, MatchOption, vec_len, vec_capacity};
-ghost use Rattle.ring_segments.specs.declared.limits.TheConstants.{MAX_SEGMENTS};
+ghost use Rattle.std.specs.Prelude.{◌≡◌, ◌≢◌, ℕ, ◌+◌, ◌<◌, ◌≤◌, ◌↔◌, None, Some, IsNone, IsSome, IfErr, OnOk, vec_len, vec_capacity};
+ghost use Rattle.ring_exec.specs.Courses.{HasEnded, HasStarted, IsOnCourse};
 ghost use Rattle.ring_exec.specs.Outcomes.{HasMore};
 ghost use Rattle.ring_exec.specs.Seats.{AreSeatsOf};
 ghost use Rattle.border_exchange.specs.declared.Side.TheVariants.{Leftward};
-ghost use Rattle.ring_exec.specs.declared.fault.SegmentFault.TheVariants.{Stranger};
+ghost use Rattle.ring_exec.specs.declared.fault.SegmentFault.TheVariants.{OutOfMemory as NoMemory};
 ghost use Rattle.ring_exec.specs.declared.fault.CourseFault.TheVariants.{Segment as OfSegment, NoThread};
 
 use crate::border_name::{Blanks, BorderName};
 use crate::end::{Edge, End, RightEnd, new_border};
-use crate::fault::{CourseFault, SegmentFault};
+use crate::fault::CourseFault;
 use crate::joined::Joined;
+use crate::progress::Progress;
 use crate::runner::{Outcome, Runner, Shared};
 use ring_segments::{Msg, Segment};
 use round_eval::Gate;
@@ -27,39 +28,6 @@ pub(crate) struct Course<'a, R, G, B: BorderName, L: BorderName> {
     pub(crate) progress: Progress<'a>,
 }
 
-// How far a run is: the index of the next segment, the segments that are not started, the next one
-// last; the threads of those that are, with room for more; and the outcomes, with room for all.
-#[derive(Drop)]
-pub(crate) struct Progress<'a> {
-    pub(crate) index: u32,
-    pub(crate) waiting: Vec<Segment<'a>>,
-    pub(crate) threads: Vec<JoinHandle<Outcome<'a>>>,
-    pub(crate) joined: Joined<'a>,
-    ghost few: { index + vec_len waiting ≤ MAX_SEGMENTS },
-    ghost unstarted: { All (λ s. s.round ≡ 0) waiting.items },
-    ghost thread_room: { vec_len threads + vec_len waiting ≤ vec_capacity threads },
-    ghost room: { vec_len joined.segments + vec_len threads + vec_len waiting ≤ vec_capacity joined.segments },
-}
-
-impl<'a> Progress<'a> {
-    // Counts the segment whose start was tried, and keeps its thread if the start was not refused.
-    fn keep(&mut self, thread: Option<JoinHandle<Outcome<'a>>>) -> Result<(), CourseFault>
-        requires few { self.old.index + vec_len self.old.waiting < MAX_SEGMENTS }
-        requires thread_room { vec_len self.old.threads + vec_len self.old.waiting < vec_capacity self.old.threads }
-        requires room { vec_len self.old.joined.segments + vec_len self.old.threads + vec_len self.old.waiting < vec_capacity self.old.joined.segments }
-        ensures index { self.new.index ≡ self.old.index + 1 }
-        ensures kept { MatchOption thread.entry ((result ≡ Err NoThread) × (vec_len self.new.threads ≡ vec_len self.old.threads))
-            (λ _. (result ≡ Ok tt) × (vec_len self.new.threads ≡ vec_len self.old.threads + 1)) }
-        ensures waiting { self.new.waiting ≡ self.old.waiting }
-        ensures joined { self.new.joined ≡ self.old.joined }
-    {
-        self.index += 1;
-        self.threads
-            .push_reserved(thread.ok_or(CourseFault::NoThread)?);
-        Ok(())
-    }
-}
-
 // Makes the next segment's right border and starts the segment. If one of the two is refused, the
 // run can't go on: the borders before the segment and after the last one are closed.
 pub(crate) fn started<
@@ -74,13 +42,14 @@ pub(crate) fn started<
 >(
     scope: &Scope<'s, &'e ()>,
     course: Course<'a, R, G, B, L>,
+    _count: u32,
     blanks: Blanks,
 ) -> Course<'a, R, G, N, L>
     requires right { (blanks.right.name ≡ N.rightward) × (blanks.right.parts ≡ 1) }
     requires left { (blanks.left.name ≡ N.leftward) × (blanks.left.parts ≡ 1) }
-    ensures going_on { OnSome result.before ((result.progress.joined ≡ course.entry.progress.joined)
-        × (vec_len result.progress.threads ≡ vec_len course.entry.progress.threads + 1)) }
-    ensures stopped { IsSome course.entry.before → IsNone result.before → result.progress.joined.fault ≢ None }
+    requires on_course { IsOnCourse course.before course.progress (_count + 1) }
+    ensures on_course { IsOnCourse result.before result.progress _count }
+    ensures started { HasStarted course.entry.progress result.progress }
 {
     let Course {
         shared,
@@ -114,8 +83,8 @@ pub(crate) fn started<
 }
 
 // Starts the next segment between the border before it and a new one, and returns the other end of
-// the new one. Fails with `NoThread` exactly if it tried to start the segment, and with `Stranger`
-// exactly if there is none.
+// the new one. Fails with `NoThread` exactly if it tried to start the segment, and else for want of
+// memory.
 fn start_next<
     's,
     'e,
@@ -134,15 +103,16 @@ fn start_next<
     requires right { (blanks.right.name ≡ N.rightward) × (blanks.right.parts ≡ 1) }
     requires left { (blanks.left.name ≡ N.leftward) × (blanks.left.parts ≡ 1) }
     requires seat { left.seat ≡ record { side = Leftward; puts = 0 } }
+    requires waiting { 0 < vec_len progress.old.waiting }
+    ensures waiting { vec_len progress.new.waiting + 1 ≡ vec_len progress.old.waiting }
     ensures started { OnOk result ((progress.new.index ≡ progress.old.index + 1)
         × (vec_len progress.new.threads ≡ vec_len progress.old.threads + 1)) }
     ensures no_thread { IfErr result (λ fault. (fault ≡ NoThread) ↔ (progress.new.index ≡ progress.old.index + 1)) }
-    ensures stranger { IfErr result (λ fault. (fault ≡ OfSegment Stranger) ↔ (vec_len progress.old.waiting ≡ 0)) }
-    ensures refused { OnErr result (vec_len progress.new.threads ≡ vec_len progress.old.threads) }
+    ensures no_memory { IfErr result (λ fault. (fault ≡ OfSegment NoMemory) ↔ (progress.new.index ≡ progress.old.index)) }
     ensures joined { progress.new.joined ≡ progress.old.joined }
 {
     let Some(segment) = progress.waiting.pop() else {
-        return Err(CourseFault::Segment(SegmentFault::Stranger));
+        unreachable!()
     };
     let (right, next) = new_border::<Msg<'a>, N>(shared.alloc, blanks)?;
     let runner = Runner {
@@ -179,8 +149,9 @@ fn start_one<
 pub(crate) fn ended<'a, R: Threads + Wait, G: Gate, B: BorderName, L: BorderName>(
     course: Course<'a, R, G, B, L>,
 ) -> Joined<'a>
-    ensures all { IsSome course.entry.before → HasMore course.entry.progress.joined (vec_len course.entry.progress.threads + 1) result }
-    ensures others { IsNone course.entry.before → HasMore course.entry.progress.joined (vec_len course.entry.progress.threads) result }
+    requires waiting { IsSome course.before → 0 < vec_len course.progress.waiting }
+    requires stopped { IsNone course.before → course.progress.joined.fault ≢ None }
+    ensures all { HasEnded course.entry.progress 1 result }
     ensures no_thread { result.fault ≡ Some NoThread → course.entry.progress.joined.fault ≡ Some NoThread }
 {
     let Course {
@@ -199,10 +170,7 @@ pub(crate) fn ended<'a, R: Threads + Wait, G: Gate, B: BorderName, L: BorderName
         return join_all(shared.rt, threads, joined);
     };
     let Some(segment) = waiting.pop() else {
-        edge.closer.close(shared.rt);
-        last.end.close(shared.rt);
-        joined.blame(CourseFault::Segment(SegmentFault::Stranger));
-        return join_all(shared.rt, threads, joined);
+        unreachable!()
     };
     let runner = Runner {
         shared,

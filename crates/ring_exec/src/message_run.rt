@@ -3,11 +3,12 @@ ghost use Rattle.node_program.specs.GlobalRounds.{channels_of};
 ghost use Rattle.ring_segments.specs.SegmentCounts.{IsSegmentCount};
 
 use crate::border_name::{Blanks, BorderName};
-use crate::course::{Course, Progress, ended};
+use crate::course::{Course, ended};
 use crate::end::new_border;
 use crate::fault::{CourseFault, RunFault, SegmentFault, run_fault};
 use crate::gathering::gather;
 use crate::joined::Joined;
+use crate::progress::Progress;
 use crate::relay::run_all;
 use crate::runner::Shared;
 use lang_check::Plan;
@@ -91,6 +92,7 @@ fn run_segments<'a, R: Threads + Wait + Sync, G: Gate + Sync, L: BorderName + Se
     requires range { IsSegmentCount segments (length ring.now.places) }
     requires right { (blanks.right.name ≡ L.rightward) × (blanks.right.parts ≡ 1) }
     requires left { (blanks.left.name ≡ L.leftward) × (blanks.left.parts ≡ 1) }
+    ensures all { IfOk result (λ found. vec_len found ≡ segments) }
     ensures alone { IfErr result (λ fault. fault ≡ CourseFault.NoThread → 1 < segments) }
 {
     let progress = no_progress(shared.alloc, plan, ring, segments)?;

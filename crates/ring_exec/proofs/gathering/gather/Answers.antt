@@ -13,6 +13,7 @@ pub loop-index-init : goal.loop-index-init
 loop-index-init c =
     let cover = c.segments_cover_the_ring.ensures (length c.args.ring.now.places) c.args.segments c.requires.range.some c.requires.range.enough in
     record {
+      left = omega (arith, c.requires.all);
       first = sym cover.0;
       size = c.requires.room;
       each = λ i lt. absurd (omega arith);
@@ -90,6 +91,7 @@ loop-index-preserved c =
     let p = c.args.plan.now.program in
     let same = c.is_of.ensures.0 c.if-not-is_of.false in
     record {
+      left = omega (arith, c.in-Some.ensures.cases);
       first = ap (λ n. (c.loop-index.index + 1) * n / c.args.segments) c.len-places.ensures.value;
       size = c.write_part.auto.channels ∙ c.loop-index.invariant.size;
       each = λ i lt. c.write_part.ensures i lt ∙ ap (λ (s : RingSegment). channel_at p s.ring.places i) same;
