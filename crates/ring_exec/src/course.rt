@@ -1,6 +1,7 @@
 // The course of a run: the segments that run, and those that are still to start.
 ghost use Rattle.std.specs.Prelude.{◌≡◌, ◌≢◌, ℕ, ◌+◌, ◌<◌, ◌≤◌, ◌↔◌, None, Some, IsNone, IsSome, IfErr, OnOk, vec_len, vec_capacity};
 ghost use Rattle.ring_exec.specs.Courses.{HasEnded, HasStarted, IsOnCourse};
+ghost use Rattle.ring_exec.specs.Faults.{blamed};
 ghost use Rattle.ring_exec.specs.Outcomes.{HasMore};
 ghost use Rattle.ring_exec.specs.Seats.{AreSeatsOf};
 ghost use Rattle.border_exchange.specs.declared.Side.TheVariants.{Leftward};
@@ -50,6 +51,12 @@ pub(crate) fn started<
     requires on_course { IsOnCourse course.before course.progress (_count + 1) }
     ensures on_course { IsOnCourse result.before result.progress _count }
     ensures started { HasStarted course.entry.progress result.progress }
+    // A start that was tried raises the index.
+    ensures no_thread { IsSome course.entry.before → IsNone result.before → result.progress.index ≡ course.entry.progress.index + 1
+        → result.progress.joined.fault ≡ Some (blamed course.entry.progress.joined.fault NoThread) }
+    ensures no_memory { IsSome course.entry.before → IsNone result.before → result.progress.index ≡ course.entry.progress.index
+        → result.progress.joined.fault ≡ Some (blamed course.entry.progress.joined.fault (OfSegment NoMemory)) }
+    ensures index { (course.entry.progress.index ≤ result.progress.index) × (result.progress.index ≤ course.entry.progress.index + 1) }
 {
     let Course {
         shared,
@@ -107,6 +114,7 @@ fn start_next<
     ensures waiting { vec_len progress.new.waiting + 1 ≡ vec_len progress.old.waiting }
     ensures started { OnOk result ((progress.new.index ≡ progress.old.index + 1)
         × (vec_len progress.new.threads ≡ vec_len progress.old.threads + 1)) }
+    ensures index { (progress.old.index ≤ progress.new.index) × (progress.new.index ≤ progress.old.index + 1) }
     ensures no_thread { IfErr result (λ fault. (fault ≡ NoThread) ↔ (progress.new.index ≡ progress.old.index + 1)) }
     ensures no_memory { IfErr result (λ fault. (fault ≡ OfSegment NoMemory) ↔ (progress.new.index ≡ progress.old.index)) }
     ensures joined { progress.new.joined ≡ progress.old.joined }

@@ -5,7 +5,7 @@ ghost use Rattle.ring_segments.specs.SegmentCounts.{IsSegmentCount};
 use crate::border_name::{Blanks, BorderName};
 use crate::course::{Course, ended};
 use crate::end::new_border;
-use crate::fault::{CourseFault, RunFault, SegmentFault, run_fault};
+use crate::fault::{CourseFault, RunFault, SegmentFault};
 use crate::gathering::gather;
 use crate::joined::Joined;
 use crate::progress::Progress;
@@ -49,10 +49,8 @@ pub fn run<'a, R: Threads + Wait + Sync, G: Gate + Sync>(
         return Err(RunFault::SegmentsOutOfRange);
     }
     let shared = Shared { rt, alloc, gate };
-    match run_named::<R, G, Brand>(&shared, plan, ring, segments, Blanks::new()) {
-        Ok(channels) => Ok(channels),
-        Err(fault) => Err(run_fault(fault)),
-    }
+    let channels = run_named::<R, G, Brand>(&shared, plan, ring, segments, Blanks::new())?;
+    Ok(channels)
 }
 
 // Runs with the name L for the last border.
