@@ -1,11 +1,18 @@
 // The course of a run: the segments that run, and those that are still to start.
-ghost use Rattle.std.specs.Prelude.{◌≡◌, ℕ, Some};
-ghost use Rattle.ring_exec.specs.declared.fault.CourseFault.TheVariants.{NoThread};
+ghost use Rattle.std.specs.Prelude.{◌≡◌, ◌≢◌, ℕ, ◌+◌, ◌<◌, ◌≤◌, ◌↔◌, None, Some, IsNone, IsSome, IfErr, OnOk, vec_len, vec_capacity};
+ghost use Rattle.ring_exec.specs.Courses.{HasEnded, HasStarted, IsOnCourse};
+ghost use Rattle.ring_exec.specs.Faults.{blamed};
+ghost use Rattle.ring_exec.specs.Outcomes.{HasMore};
+ghost use Rattle.ring_exec.specs.Seats.{AreSeatsOf};
+ghost use Rattle.border_exchange.specs.declared.Side.TheVariants.{Leftward};
+ghost use Rattle.ring_exec.specs.declared.fault.SegmentFault.TheVariants.{OutOfMemory as NoMemory};
+ghost use Rattle.ring_exec.specs.declared.fault.CourseFault.TheVariants.{Segment as OfSegment, NoThread};
 
 use crate::border_name::{Blanks, BorderName};
-use crate::end::{Edge, End, new_border};
-use crate::fault::{CourseFault, SegmentFault};
+use crate::end::{Edge, End, RightEnd, new_border};
+use crate::fault::CourseFault;
 use crate::joined::Joined;
+use crate::progress::Progress;
 use crate::runner::{Outcome, Runner, Shared};
 use ring_segments::{Msg, Segment};
 use round_eval::Gate;
@@ -18,32 +25,8 @@ use std::thread::{JoinHandle, Scope, Threads};
 pub(crate) struct Course<'a, R, G, B: BorderName, L: BorderName> {
     pub(crate) shared: &'a Shared<'a, R, G>,
     pub(crate) before: Option<Edge<Msg<'a>, B>>,
-    pub(crate) last: End<Msg<'a>, L>,
+    pub(crate) last: RightEnd<Msg<'a>, L>,
     pub(crate) progress: Progress<'a>,
-}
-
-// How far a run is: the index of the next segment, the segments that are not started, the next one
-// last; the threads of those that are; and the outcomes.
-#[derive(Drop)]
-pub(crate) struct Progress<'a> {
-    pub(crate) index: u32,
-    pub(crate) waiting: Vec<Segment<'a>>,
-    pub(crate) threads: Vec<JoinHandle<Outcome<'a>>>,
-    pub(crate) joined: Joined<'a>,
-}
-
-impl<'a> Progress<'a> {
-    // Keeps the thread of the segment that was started, if the start was not refused.
-    fn keep(&mut self, thread: Option<JoinHandle<Outcome<'a>>>) -> Result<(), CourseFault> {
-        self.index = self.index.wrapping_add(1);
-        let Some(thread) = thread else {
-            return Err(CourseFault::NoThread);
-        };
-        match self.threads.push(thread) {
-            Ok(()) => Ok(()),
-            Err(_) => Err(CourseFault::Segment(SegmentFault::OutOfMemory)),
-        }
-    }
 }
 
 // Makes the next segment's right border and starts the segment. If one of the two is refused, the
@@ -60,10 +43,20 @@ pub(crate) fn started<
 >(
     scope: &Scope<'s, &'e ()>,
     course: Course<'a, R, G, B, L>,
+    _count: u32,
     blanks: Blanks,
 ) -> Course<'a, R, G, N, L>
     requires right { (blanks.right.name ≡ N.rightward) × (blanks.right.parts ≡ 1) }
     requires left { (blanks.left.name ≡ N.leftward) × (blanks.left.parts ≡ 1) }
+    requires on_course { IsOnCourse course.before course.progress (_count + 1) }
+    ensures on_course { IsOnCourse result.before result.progress _count }
+    ensures started { HasStarted course.entry.progress result.progress }
+    // A start that was tried raises the index.
+    ensures no_thread { IsSome course.entry.before → IsNone result.before → result.progress.index ≡ course.entry.progress.index + 1
+        → result.progress.joined.fault ≡ Some (blamed course.entry.progress.joined.fault NoThread) }
+    ensures no_memory { IsSome course.entry.before → IsNone result.before → result.progress.index ≡ course.entry.progress.index
+        → result.progress.joined.fault ≡ Some (blamed course.entry.progress.joined.fault (OfSegment NoMemory)) }
+    ensures index { (course.entry.progress.index ≤ result.progress.index) × (result.progress.index ≤ course.entry.progress.index + 1) }
 {
     let Course {
         shared,
@@ -71,7 +64,7 @@ pub(crate) fn started<
         last,
         mut progress,
     } = course;
-    let Some(edge) = before else {
+    let Some(Edge { end: left, closer }) = before else {
         return Course {
             shared,
             before: None,
@@ -79,10 +72,11 @@ pub(crate) fn started<
             progress,
         };
     };
-    let next = match start_next::<R, G, B, N>(scope, shared, &mut progress, edge, blanks) {
+    let next = match start_next::<R, G, B, N>(scope, shared, &mut progress, left, blanks) {
         Ok(next) => Some(next),
         Err(fault) => {
-            last.close(shared.rt);
+            closer.close(shared.rt);
+            last.end.close(shared.rt);
             progress.joined.blame(fault);
             None
         }
@@ -96,7 +90,8 @@ pub(crate) fn started<
 }
 
 // Starts the next segment between the border before it and a new one, and returns the other end of
-// the new one, or closes the border before.
+// the new one. Fails with `NoThread` exactly if it tried to start the segment, and else for want of
+// memory.
 fn start_next<
     's,
     'e,
@@ -109,34 +104,33 @@ fn start_next<
     scope: &Scope<'s, &'e ()>,
     shared: &'a Shared<'a, R, G>,
     progress: &mut Progress<'a>,
-    edge: Edge<Msg<'a>, B>,
+    left: End<Msg<'a>, B>,
     blanks: Blanks,
 ) -> Result<Edge<Msg<'a>, N>, CourseFault>
     requires right { (blanks.right.name ≡ N.rightward) × (blanks.right.parts ≡ 1) }
     requires left { (blanks.left.name ≡ N.leftward) × (blanks.left.parts ≡ 1) }
+    requires seat { left.seat ≡ record { side = Leftward; puts = 0 } }
+    requires waiting { 0 < vec_len progress.old.waiting }
+    ensures waiting { vec_len progress.new.waiting + 1 ≡ vec_len progress.old.waiting }
+    ensures started { OnOk result ((progress.new.index ≡ progress.old.index + 1)
+        × (vec_len progress.new.threads ≡ vec_len progress.old.threads + 1)) }
+    ensures index { (progress.old.index ≤ progress.new.index) × (progress.new.index ≤ progress.old.index + 1) }
+    ensures no_thread { IfErr result (λ fault. (fault ≡ NoThread) ↔ (progress.new.index ≡ progress.old.index + 1)) }
+    ensures no_memory { IfErr result (λ fault. (fault ≡ OfSegment NoMemory) ↔ (progress.new.index ≡ progress.old.index)) }
+    ensures joined { progress.new.joined ≡ progress.old.joined }
 {
     let Some(segment) = progress.waiting.pop() else {
-        edge.close(shared.rt);
-        return Err(CourseFault::Segment(SegmentFault::Stranger));
+        unreachable!()
     };
-    let Ok((right, next)) = new_border::<Msg<'a>, N>(shared.alloc, blanks) else {
-        edge.close(shared.rt);
-        return Err(CourseFault::Segment(SegmentFault::OutOfMemory));
-    };
-    let Edge { end: left, closer } = edge;
+    let (right, next) = new_border::<Msg<'a>, N>(shared.alloc, blanks)?;
     let runner = Runner {
         shared,
         index: progress.index,
         segment,
         left,
-        right,
+        right: right.end,
     };
-    let thread = start_one(scope, runner);
-    if let Err(fault) = progress.keep(thread) {
-        closer.close(shared.rt);
-        next.close(shared.rt);
-        return Err(fault);
-    }
+    progress.keep(start_one(scope, runner))?;
     Ok(next)
 }
 
@@ -152,51 +146,63 @@ fn start_one<
 >(
     scope: &Scope<'s, &'e ()>,
     runner: Runner<'a, Segment<'a>, Msg<'a>, R, G, A, B>,
-) -> Option<JoinHandle<Outcome<'a>>> {
+) -> Option<JoinHandle<Outcome<'a>>>
+    requires { AreSeatsOf runner.segment runner.left.seat runner.right.seat }
+{
     scope.spawn(move || runner.run()).ok()
 }
 
-// Runs the last segment on this thread, and joins the threads of the others.
+// Runs the last segment on this thread, if the run went on so far, and joins the threads of the
+// others.
 pub(crate) fn ended<'a, R: Threads + Wait, G: Gate, B: BorderName, L: BorderName>(
     course: Course<'a, R, G, B, L>,
 ) -> Joined<'a>
-    ensures { result.fault ≡ Some NoThread → course.entry.progress.joined.fault ≡ Some NoThread }
+    requires waiting { IsSome course.before → 0 < vec_len course.progress.waiting }
+    requires stopped { IsNone course.before → course.progress.joined.fault ≢ None }
+    ensures all { HasEnded course.entry.progress 1 result }
+    ensures no_thread { result.fault ≡ Some NoThread → course.entry.progress.joined.fault ≡ Some NoThread }
 {
     let Course {
         shared,
         before,
-        last: right,
-        mut progress,
+        last,
+        progress,
     } = course;
-    match before {
-        Some(edge) => match progress.waiting.pop() {
-            Some(segment) => {
-                let runner = Runner {
-                    shared,
-                    index: progress.index,
-                    segment,
-                    left: edge.end,
-                    right,
-                };
-                progress.joined.add(runner.run());
-            }
-            None => {
-                edge.close(shared.rt);
-                right.close(shared.rt);
-                drop(right);
-            }
-        },
-        None => drop(right),
-    }
-    joined(shared.rt, progress)
+    let Progress {
+        index,
+        mut waiting,
+        threads,
+        mut joined,
+    } = progress;
+    let Some(edge) = before else {
+        return join_all(shared.rt, threads, joined);
+    };
+    let Some(segment) = waiting.pop() else {
+        unreachable!()
+    };
+    let runner = Runner {
+        shared,
+        index,
+        segment,
+        left: edge.end,
+        right: last.end,
+    };
+    joined.add(runner.run());
+    join_all(shared.rt, threads, joined)
 }
 
-// Joins the threads that were started.
-fn joined<'a, R: Threads + Wait>(rt: &R, mut progress: Progress<'a>) -> Joined<'a>
-    ensures { result.fault ≡ Some NoThread → progress.entry.joined.fault ≡ Some NoThread }
+// Joins the threads that were started, and adds their outcomes.
+fn join_all<'a, R: Threads + Wait>(
+    rt: &R,
+    mut threads: Vec<JoinHandle<Outcome<'a>>>,
+    mut joined: Joined<'a>,
+) -> Joined<'a>
+    requires { vec_len joined.segments + vec_len threads ≤ vec_capacity joined.segments }
+    ensures all { HasMore joined.entry (vec_len threads.entry) result }
+    ensures no_thread { result.fault ≡ Some NoThread → joined.entry.fault ≡ Some NoThread }
 {
-    while let Some(thread) = progress.threads.pop() {
-        progress.joined.add(thread.join(rt));
+    while let Some(thread) = threads.pop() {
+        joined.add(thread.join(rt));
     }
-    progress.joined
+    joined
 }

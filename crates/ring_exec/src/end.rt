@@ -1,23 +1,51 @@
 // The ends of the borders between neighbouring segments.
-ghost use Rattle.std.specs.Prelude.{◌≡◌, ◌≤◌, ◌⊎◌, IfErr};
+ghost use Rattle.std.specs.Prelude.{◌≡◌, ◌≢◌, ◌+◌, ◌<◌, IfOk, IfErr, OnOk};
 ghost use Rattle.border_exchange.specs.SeatState.{IsNext};
+ghost use Rattle.border_exchange.specs.declared.Side.TheVariants.{Rightward, Leftward};
 ghost use Rattle.node_program.specs.declared.limits.TheConstants.{MAX_ROUNDS};
-ghost use Rattle.ring_exec.specs.declared.end.Stop.TheVariants.{Fault};
+ghost use Rattle.ring_exec.specs.Sides.{opposite};
 ghost use Rattle.ring_exec.specs.declared.fault.SegmentFault.TheVariants.{Stranger};
 
 use crate::border_name::{Blanks, BorderName, LeftLedger, RightLedger};
 use crate::fault::SegmentFault;
 use border_exchange::{Border, Dated, PutFault, Seat, Side};
-use node_program::{MAX_ROUNDS, OutOfMemory};
+use node_program::OutOfMemory;
+use ring_segments::Strange;
 use std::alloc::Global;
 use std::sync::{Arc, Wait};
 
 // Why a segment stops before its last round.
+#[derive(Drop)]
 pub(crate) enum Stop {
     // One of its borders is closed.
     BorderClosed,
     // The segment's own fault.
     Fault(SegmentFault),
+}
+
+// The stop of a segment whose message was not put.
+impl<M: Drop> From<(M, PutFault)> for Stop {
+    ghost use Rattle.ring_exec.specs.Stops.{stop_of};
+
+    ghost from_gives = { λ refused stop. stop ≡ stop_of refused.1 };
+
+    fn from(refused: (M, PutFault)) -> Stop {
+        match refused.1 {
+            PutFault::Closed => Stop::BorderClosed,
+            PutFault::Misplaced => Stop::Fault(SegmentFault::Stranger),
+            PutFault::OutOfMemory => Stop::Fault(SegmentFault::OutOfMemory),
+        }
+    }
+}
+
+impl From<Strange> for Stop {
+    ghost use Rattle.ring_exec.specs.declared.end.Stop.TheVariants.{Fault};
+
+    ghost from_gives = { λ _ stop. stop ≡ Fault Stranger };
+
+    fn from(_strange: Strange) -> Stop {
+        Stop::Fault(SegmentFault::Stranger)
+    }
 }
 
 // One end of a border, for one of the two neighbours that put on it.
@@ -28,26 +56,27 @@ pub(crate) struct End<M: Dated, N: BorderName> {
 }
 
 impl<M: Dated + Copy, N: BorderName> End<M, N> {
-    // Puts a message. A seat that has put in as many rounds as a plan may have is not of this run.
+    ghost use Rattle.ring_exec.specs.declared.end.Stop.TheVariants.{BorderClosed, Fault};
+
+    // Puts the next message of its seat.
     pub(crate) fn put<R: Wait>(&mut self, rt: &R, message: M) -> Result<(), Stop>
-        ensures { IfErr result (λ stop. stop ≡ Fault Stranger
-            → (MAX_ROUNDS ≤ self.old.seat.puts) ⊎ (¬ IsNext M.side_of M.round_of self.old.seat message)) }
+        requires next { IsNext M.side_of M.round_of self.old.seat message }
+        requires few { self.old.seat.puts < MAX_ROUNDS }
+        ensures put { OnOk result (self.new.seat ≡ record self.old.seat { puts = self.old.seat.puts + 1 }) }
+        ensures expected { IfErr result (λ stop. stop ≢ Fault Stranger) }
     {
-        if self.seat.puts() >= MAX_ROUNDS {
-            return Err(Stop::Fault(SegmentFault::Stranger));
-        }
-        match self.border.put(rt, &mut self.seat, message) {
-            Ok(()) => Ok(()),
-            Err((_, PutFault::Closed)) => Err(Stop::BorderClosed),
-            Err((_, PutFault::Misplaced)) => Err(Stop::Fault(SegmentFault::Stranger)),
-            Err((_, PutFault::OutOfMemory)) => Err(Stop::Fault(SegmentFault::OutOfMemory)),
-        }
+        self.border.put(rt, &mut self.seat, message)?;
+        Ok(())
     }
 
-    // Takes the message of this side and round, and waits for it. Returns `None` if the border is
-    // closed.
-    pub(crate) fn take<R: Wait>(&self, rt: &R, side: Side, round: u32) -> Option<M> {
-        self.border.take(rt, side, round)
+    // Takes the neighbour's message of this round, and waits for it.
+    pub(crate) fn take<R: Wait>(&self, rt: &R, round: u32) -> Result<M, Stop>
+        ensures message { IfOk result (λ m. (M.side_of m ≡ opposite self.now.seat.side) × (M.round_of m ≡ round)) }
+        ensures closed { IfErr result (λ stop. stop ≡ BorderClosed) }
+    {
+        self.border
+            .take(rt, opposite(self.seat.side()), round)
+            .ok_or(Stop::BorderClosed)
     }
 
     // Closes the border for both neighbours.
@@ -56,26 +85,36 @@ impl<M: Dated + Copy, N: BorderName> End<M, N> {
     }
 }
 
-// One end of a border, with a way to close the border once the end is given away.
+fn opposite(side: Side) -> Side
+    ensures { result ≡ opposite side }
+{
+    match side {
+        Side::Rightward => Side::Leftward,
+        Side::Leftward => Side::Rightward,
+    }
+}
+
+// The right end of a segment that has not put: that of a new border for its left neighbour.
+#[derive(Drop)]
+pub(crate) struct RightEnd<M: Dated, N: BorderName> {
+    pub(crate) end: End<M, N>,
+    ghost seat: { end.seat ≡ record { side = Rightward; puts = 0 } },
+}
+
+// The left end of a segment that has not put: that of a new border for its right neighbour, with a
+// way to close the border once the end is given away.
 #[derive(Drop)]
 pub(crate) struct Edge<M: Dated, N: BorderName> {
     pub(crate) end: End<M, N>,
     pub(crate) closer: Arc<Border<M, RightLedger<N>, LeftLedger<N>>>,
+    ghost seat: { end.seat ≡ record { side = Leftward; puts = 0 } },
 }
 
-impl<M: Dated + Copy, N: BorderName> Edge<M, N> {
-    // Closes the border and gives up the end.
-    pub(crate) fn close<R: Wait>(self, rt: &R) {
-        self.closer.close(rt);
-    }
-}
-
-// Returns a new border's two ends: that of its left neighbour, which puts rightward, and that of
-// its right one.
+// Returns a new border's two ends.
 pub(crate) fn new_border<M: Dated + Copy, N: BorderName>(
     alloc: Global,
     blanks: Blanks,
-) -> Result<(End<M, N>, Edge<M, N>), OutOfMemory>
+) -> Result<(RightEnd<M, N>, Edge<M, N>), OutOfMemory>
     requires right { (blanks.right.name ≡ N.rightward) × (blanks.right.parts ≡ 1) }
     requires left { (blanks.left.name ≡ N.leftward) × (blanks.left.parts ≡ 1) }
 {
@@ -94,9 +133,9 @@ pub(crate) fn new_border<M: Dated + Copy, N: BorderName>(
         border: here,
         seat: right_seat,
     };
-    let end = End {
+    let there = End {
         border: there,
         seat: left_seat,
     };
-    Ok((here, Edge { end, closer }))
+    Ok((RightEnd { end: here }, Edge { end: there, closer }))
 }

@@ -77,14 +77,16 @@ impl From<AllocError> for CourseFault {
     }
 }
 
-// Converts a fault of a course to `run`'s.
-pub(crate) fn run_fault(fault: CourseFault) -> RunFault
-    ensures same { result ≡ run_fault_of fault }
-    ensures range { result ≢ RunFault.SegmentsOutOfRange }
-{
-    match fault {
-        CourseFault::Segment(SegmentFault::OutOfMemory) => RunFault::OutOfMemory,
-        CourseFault::Segment(SegmentFault::Stranger) => RunFault::Stranger,
-        CourseFault::NoThread => RunFault::NoThread,
+impl From<CourseFault> for RunFault {
+    ghost use Rattle.ring_exec.specs.declared.fault.RunFault.TheVariants.{SegmentsOutOfRange};
+
+    ghost from_gives = { λ course fault. (fault ≡ run_fault_of course) × (fault ≢ SegmentsOutOfRange) };
+
+    fn from(fault: CourseFault) -> RunFault {
+        match fault {
+            CourseFault::Segment(SegmentFault::OutOfMemory) => RunFault::OutOfMemory,
+            CourseFault::Segment(SegmentFault::Stranger) => RunFault::Stranger,
+            CourseFault::NoThread => RunFault::NoThread,
+        }
     }
 }

@@ -1,8 +1,9 @@
 // The channels of the segments that ended.
-ghost use Rattle.std.specs.Prelude.{◌≡◌, ℕ, ◌+◌, ◌<◌, ◌≤◌, OnOk, length, slice_index};
+ghost use Rattle.std.specs.Prelude.{◌≡◌, ℕ, ◌+◌, ◌<◌, ◌≤◌, OnOk, IfErr, length, vec_len, slice_index};
 ghost use Rattle.node_program.specs.GlobalRounds.{channel_at, channels_of};
 ghost use Rattle.ring_segments.specs.Segments.{first_of, places_of};
 ghost use Rattle.ring_segments.specs.SegmentCounts.{IsSegmentCount};
+ghost use Rattle.ring_exec.specs.declared.fault.SegmentFault.TheVariants.{Stranger};
 
 use crate::fault::SegmentFault;
 use lang_check::Plan;
@@ -20,15 +21,17 @@ pub(crate) fn gather(
     channels: &mut [u32],
 ) -> Result<(), SegmentFault>
     requires range { IsSegmentCount segments (length ring.now.places) }
+    requires all { vec_len found ≡ segments }
     requires room { length channels.old ≡ length ring.now.places }
-    ensures { OnOk result (channels.new ≡ channels_of plan.now.program ring.now.places) }
+    ensures channels { OnOk result (channels.new ≡ channels_of plan.now.program ring.now.places) }
+    ensures stranger { IfErr result (λ fault. fault ≡ Stranger) }
 {
     segments_cover_the_ring();
     let places = ring.len();
     let mut first = 0;
     for index in 0..segments {
         let Some(segment) = found.pop() else {
-            return Err(SegmentFault::Stranger);
+            unreachable!()
         };
         if !segment.is_of(plan, ring, segments, index) || segment.round() != segment.rounds() {
             return Err(SegmentFault::Stranger);

@@ -1,10 +1,9 @@
 // The outcomes of the segments of a run.
-ghost use Rattle.std.specs.Prelude.{◌≡◌, ◌⊎◌, None, Some, IfOk, IfErr, OnOk};
+ghost use Rattle.std.specs.Prelude.{◌≡◌, ◌+◌, ◌<◌, ◌≤◌, ◌++◌, [], ◌∷◌, None, Some, IfOk, IfErr, vec_len, vec_capacity};
 ghost use Rattle.ring_exec.specs.Faults.{blamed};
-ghost use Rattle.ring_exec.specs.declared.fault.SegmentFault.TheVariants.{OutOfMemory as NoMemory};
 ghost use Rattle.ring_exec.specs.declared.fault.CourseFault.TheVariants.{Segment as OfSegment, NoThread};
 
-use crate::fault::{CourseFault, SegmentFault};
+use crate::fault::CourseFault;
 use crate::runner::Outcome;
 use ring_segments::Segment;
 
@@ -16,9 +15,12 @@ pub(crate) struct Joined<'a> {
 }
 
 impl<'a> Joined<'a> {
+    ghost use Rattle.ring_exec.specs.Outcomes.{HasMore};
+
     // No outcomes yet, with this empty list for the segments.
     pub(crate) fn new(segments: Vec<Segment<'a>>) -> Joined<'a>
-        ensures { result.fault ≡ None }
+        ensures fault { result.fault ≡ None }
+        ensures segments { result.segments ≡ segments.entry }
     {
         Joined {
             segments,
@@ -27,19 +29,19 @@ impl<'a> Joined<'a> {
     }
 
     // Adds the outcome of a segment. All that were added before come after it on the ring, so that
-    // its fault takes precedence over theirs. Without memory to keep it, it has a fault too.
+    // its fault takes precedence over theirs.
     pub(crate) fn add(&mut self, outcome: Outcome<'a>)
-        ensures at_fault { IfErr outcome.entry (λ fault. self.new.fault ≡ Some (blamed self.old.fault (OfSegment fault))) }
-        ensures at_segment { OnOk outcome.entry ((self.new.fault ≡ self.old.fault)
-            ⊎ (self.new.fault ≡ Some (blamed self.old.fault (OfSegment NoMemory)))) }
+        requires { vec_len self.old.segments < vec_capacity self.old.segments }
+        ensures at_fault { IfErr outcome.entry (λ fault. (self.new.fault ≡ Some (blamed self.old.fault (OfSegment fault)))
+            × (self.new.segments ≡ self.old.segments)) }
+        ensures at_segment { IfOk outcome.entry (λ segment. (self.new.fault ≡ self.old.fault)
+            × (self.new.segments.items ≡ self.old.segments.items ++ segment ∷ [])) }
+        ensures more { HasMore self.old 1 self.new }
+        ensures room { (vec_len self.new.segments ≤ vec_len self.old.segments + 1) × (vec_capacity self.new.segments ≡ vec_capacity self.old.segments) }
         ensures no_thread { self.new.fault ≡ Some NoThread → self.old.fault ≡ Some NoThread }
     {
         match outcome {
-            Ok(segment) => {
-                if self.segments.push(segment).is_err() {
-                    self.blame(CourseFault::Segment(SegmentFault::OutOfMemory));
-                }
-            }
+            Ok(segment) => self.segments.push_reserved(segment),
             Err(fault) => self.blame(CourseFault::Segment(fault)),
         }
     }

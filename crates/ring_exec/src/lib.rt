@@ -9,6 +9,7 @@ mod fault;
 mod gathering;
 mod joined;
 mod message_run;
+mod progress;
 mod relay;
 mod runner;
 

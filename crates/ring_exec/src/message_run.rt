@@ -3,11 +3,12 @@ ghost use Rattle.node_program.specs.GlobalRounds.{channels_of};
 ghost use Rattle.ring_segments.specs.SegmentCounts.{IsSegmentCount};
 
 use crate::border_name::{Blanks, BorderName};
-use crate::course::{Course, Progress, ended};
+use crate::course::{Course, ended};
 use crate::end::new_border;
-use crate::fault::{CourseFault, RunFault, SegmentFault, run_fault};
+use crate::fault::{CourseFault, RunFault, SegmentFault};
 use crate::gathering::gather;
 use crate::joined::Joined;
+use crate::progress::Progress;
 use crate::relay::run_all;
 use crate::runner::Shared;
 use lang_check::Plan;
@@ -48,10 +49,8 @@ pub fn run<'a, R: Threads + Wait + Sync, G: Gate + Sync>(
         return Err(RunFault::SegmentsOutOfRange);
     }
     let shared = Shared { rt, alloc, gate };
-    match run_named::<R, G, Brand>(&shared, plan, ring, segments, Blanks::new()) {
-        Ok(channels) => Ok(channels),
-        Err(fault) => Err(run_fault(fault)),
-    }
+    let channels = run_named::<R, G, Brand>(&shared, plan, ring, segments, Blanks::new())?;
+    Ok(channels)
 }
 
 // Runs with the name L for the last border.
@@ -91,12 +90,11 @@ fn run_segments<'a, R: Threads + Wait + Sync, G: Gate + Sync, L: BorderName + Se
     requires range { IsSegmentCount segments (length ring.now.places) }
     requires right { (blanks.right.name ≡ L.rightward) × (blanks.right.parts ≡ 1) }
     requires left { (blanks.left.name ≡ L.leftward) × (blanks.left.parts ≡ 1) }
+    ensures all { IfOk result (λ found. vec_len found ≡ segments) }
     ensures alone { IfErr result (λ fault. fault ≡ CourseFault.NoThread → 1 < segments) }
 {
     let progress = no_progress(shared.alloc, plan, ring, segments)?;
-    let Ok((last, before)) = new_border::<Msg<'a>, L>(shared.alloc, blanks) else {
-        return Err(CourseFault::Segment(SegmentFault::OutOfMemory));
-    };
+    let (last, before) = new_border::<Msg<'a>, L>(shared.alloc, blanks)?;
     let course = Course {
         shared,
         before: Some(before),
@@ -121,7 +119,9 @@ fn no_progress<'a>(
     requires ids { ring.now.ids ≡ plan.now.ids }
     requires rounds { ring.now.rounds ≡ length plan.now.program.steps }
     requires range { IsSegmentCount segments (length ring.now.places) }
-    ensures { IfOk result (λ progress. progress.joined.fault ≡ None) }
+    ensures no_fault { IfOk result (λ progress. progress.joined.fault ≡ None) }
+    ensures first { IfOk result (λ progress. (progress.index ≡ 0) × (vec_len progress.threads ≡ 0) × (vec_len progress.joined.segments ≡ 0)) }
+    ensures waiting { IfOk result (λ progress. vec_len progress.waiting ≡ segments) }
 {
     let waiting = waiting_segments(alloc, plan, ring, segments)?;
     let threads = Vec::with_capacity(alloc, segments as usize)?;

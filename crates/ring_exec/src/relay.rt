@@ -1,5 +1,6 @@
 // The recursion of a run over its segments: each segment beside the segments after it.
-ghost use Rattle.std.specs.Prelude.{◌≡◌, ℕ};
+ghost use Rattle.std.specs.Prelude.{◌≡◌, ℕ, ◌+◌, ◌<◌};
+ghost use Rattle.ring_exec.specs.Courses.{HasEnded, HasStarted, IsOnCourse};
 
 use crate::border_name::{Blanks, BorderName};
 use crate::course::{Course, ended, started};
@@ -16,11 +17,19 @@ pub(crate) fn run_all<
     R: Threads + Wait + Sync,
     G: Gate + Sync,
     L: BorderName + Send + Sync + 'a,
->(course: Course<'a, R, G, L, L>, segments: u32) -> Joined<'a> {
+>(course: Course<'a, R, G, L, L>, segments: u32) -> Joined<'a>
+    requires some { 0 < segments }
+    requires on_course { IsOnCourse course.before course.progress segments }
+    ensures { HasEnded course.entry.progress segments result }
+{
     thread::scope(
         thread::scope_env(),
         course.shared.rt,
-        |scope| run_from(scope, course, segments),
+        |scope| -> Joined
+            requires some { 0 < segments }
+            requires on_course { IsOnCourse course.before course.progress segments }
+            ensures { HasEnded course.entry.progress segments result }
+        { run_from(scope, course, segments) },
     )
 }
 
@@ -33,9 +42,13 @@ fn run_from<
     R: Threads + Wait + Sync,
     G: Gate + Sync,
     L: BorderName + Send + Sync + 'a,
->(scope: &'c Scope<'s, &'e ()>, course: Course<'a, R, G, L, L>, segments: u32) -> Joined<'a> {
+>(scope: &'c Scope<'s, &'e ()>, course: Course<'a, R, G, L, L>, segments: u32) -> Joined<'a>
+    requires some { 0 < segments }
+    requires on_course { IsOnCourse course.before course.progress segments }
+    ensures { HasEnded course.entry.progress segments result }
+{
     let stage = Stage { scope, course };
-    after::<R, G, L, L, Brand>(stage, segments.saturating_sub(1), Blanks::new())
+    after::<R, G, L, L, Brand>(stage, segments - 1, Blanks::new())
 }
 
 // The course of a run within the scope of its threads.
@@ -62,6 +75,8 @@ fn after<
 >(stage: Stage<'c, 's, 'e, 'a, R, G, B, L>, count: u32, blanks: Blanks) -> Joined<'a>
     requires right { (blanks.right.name ≡ N.rightward) × (blanks.right.parts ≡ 1) }
     requires left { (blanks.left.name ≡ N.leftward) × (blanks.left.parts ≡ 1) }
+    requires on_course { IsOnCourse stage.course.before stage.course.progress (count + 1) }
+    ensures { HasEnded stage.entry.course.progress (count + 1) result }
 {
     if count == 0 {
         return finish::<R, G, B, L, N>(stage, count, blanks);
@@ -83,14 +98,17 @@ fn begin<
     N: BorderName + Send + Sync + 'a,
 >(
     stage: Stage<'c, 's, 'e, 'a, R, G, B, L>,
-    _count: u32,
+    count: u32,
     blanks: Blanks,
 ) -> Stage<'c, 's, 'e, 'a, R, G, N, L>
     requires right { (blanks.right.name ≡ N.rightward) × (blanks.right.parts ≡ 1) }
     requires left { (blanks.left.name ≡ N.leftward) × (blanks.left.parts ≡ 1) }
+    requires on_course { IsOnCourse stage.course.before stage.course.progress (count + 1) }
+    ensures on_course { IsOnCourse result.course.before result.course.progress count }
+    ensures started { HasStarted stage.entry.course.progress result.course.progress }
 {
     let Stage { scope, course } = stage;
-    let course = started::<R, G, B, L, N>(scope, course, blanks);
+    let course = started::<R, G, B, L, N>(scope, course, count, blanks);
     Stage { scope, course }
 }
 
@@ -108,6 +126,8 @@ fn finish<
 >(stage: Stage<'c, 's, 'e, 'a, R, G, B, L>, _count: u32, _blanks: Blanks) -> Joined<'a>
     requires right { (_blanks.right.name ≡ N.rightward) × (_blanks.right.parts ≡ 1) }
     requires left { (_blanks.left.name ≡ N.leftward) × (_blanks.left.parts ≡ 1) }
+    requires on_course { IsOnCourse stage.course.before stage.course.progress (_count + 1) }
+    ensures { HasEnded stage.entry.course.progress 1 result }
 {
     let Stage { scope: _, course } = stage;
     ended(course)

@@ -1,11 +1,17 @@
 // A segment that runs between its two borders.
-ghost use Rattle.std.specs.Prelude.{◌≡◌, ◌+◌, ◌<◌, IfErr, IfOk, OnOk, length};
+ghost use Rattle.std.specs.Prelude.{◌≡◌, ◌≢◌, ◌+◌, ◌<◌, ◌↔◌, IfErr, IfOk, IsOk, OnOk, length};
+ghost use Rattle.border_exchange.specs.declared.Side.TheVariants.{Rightward, Leftward};
+ghost use Rattle.node_program.specs.declared.limits.TheConstants.{MAX_ROUNDS};
+ghost use Rattle.ring_segments.specs.Headings.{heading_of};
+ghost use Rattle.ring_segments.specs.Needs as needs;
+ghost use Rattle.ring_exec.specs.Seats.{AreSeatsOf};
 ghost use Rattle.ring_exec.specs.declared.end.Stop.TheVariants.{BorderClosed, Fault};
+ghost use Rattle.ring_exec.specs.declared.fault.SegmentFault.TheVariants.{Stranger};
 
 use crate::border_name::BorderName;
 use crate::end::{End, Stop};
 use crate::fault::SegmentFault;
-use border_exchange::{Dated, Side};
+use border_exchange::Dated;
 use ring_segments::{Msg, Segment};
 use round_eval::Gate;
 use std::alloc::Global;
@@ -45,7 +51,9 @@ impl<'s, 'a, R: Wait, G: Gate, A: BorderName, B: BorderName> Runner<
     B,
 > {
     // Runs the segment to its last round, or until it stops; then closes both borders.
-    pub(crate) fn run(self) -> Outcome<'a> {
+    pub(crate) fn run(self) -> Outcome<'a>
+        requires { AreSeatsOf self.segment self.left.seat self.right.seat }
+    {
         let Runner {
             shared,
             index,
@@ -70,7 +78,9 @@ fn run_rounds<'a, R: Wait, G: Gate, A: BorderName, B: BorderName>(
     segment: &mut Segment<'a>,
     left: &mut End<Msg<'a>, A>,
     right: &mut End<Msg<'a>, B>,
-) -> Result<(), Stop> {
+) -> Result<(), Stop>
+    requires { AreSeatsOf segment.old left.old.seat right.old.seat }
+{
     while segment.round() < segment.rounds() {
         shared.gate.entered(index, segment.round());
         if let Err(stop) = next_round(shared.rt, segment, left, right) {
@@ -100,21 +110,65 @@ fn next_round<'a, R: Wait, A: BorderName, B: BorderName>(
     left: &mut End<Msg<'a>, A>,
     right: &mut End<Msg<'a>, B>,
 ) -> Result<(), Stop>
-    requires { segment.old.round < length segment.old.plan.program.steps }
-    ensures { OnOk result (segment.new ≡ record segment.old { round = segment.old.round + 1 }) }
+    requires more { segment.old.round < length segment.old.plan.program.steps }
+    requires few { segment.old.round < MAX_ROUNDS }
+    requires seats { AreSeatsOf segment.old left.old.seat right.old.seat }
+    ensures advanced { OnOk result (segment.new ≡ record segment.old { round = segment.old.round + 1 }) }
+    ensures seats { OnOk result (AreSeatsOf segment.new left.new.seat right.new.seat) }
 {
-    let round = segment.round();
+    send(rt, segment, left, right)?;
+    let (from_left, from_right) = receive(rt, segment.round(), left, right)?;
+    advance(segment, from_left, from_right)
+}
+
+// Puts the messages of a segment's round on both borders.
+fn send<'a, R: Wait, A: BorderName, B: BorderName>(
+    rt: &R,
+    segment: &Segment<'a>,
+    left: &mut End<Msg<'a>, A>,
+    right: &mut End<Msg<'a>, B>,
+) -> Result<(), Stop>
+    requires more { segment.now.round < length segment.now.plan.program.steps }
+    requires few { segment.now.round < MAX_ROUNDS }
+    requires seats { AreSeatsOf segment.now left.old.seat right.old.seat }
+    ensures seats { OnOk result (AreSeatsOf (record segment.now { round = segment.now.round + 1 }) left.new.seat right.new.seat) }
+    ensures expected { IfErr result (λ stop. stop ≢ Fault Stranger) }
+{
     let (rightward, leftward) = segment.outgoing();
     right.put(rt, rightward)?;
-    left.put(rt, leftward)?;
-    let Some(from_left) = left.take(rt, Side::Rightward, round) else {
-        return Err(Stop::BorderClosed);
-    };
-    let Some(from_right) = right.take(rt, Side::Leftward, round) else {
-        return Err(Stop::BorderClosed);
-    };
-    match segment.advance(from_left, from_right) {
-        Ok(()) => Ok(()),
-        Err(_) => Err(Stop::Fault(SegmentFault::Stranger)),
-    }
+    left.put(rt, leftward)
+}
+
+// Takes the messages of a round from both neighbours, the left one's first.
+fn receive<'a, R: Wait, A: BorderName, B: BorderName>(
+    rt: &R,
+    round: u32,
+    left: &End<Msg<'a>, A>,
+    right: &End<Msg<'a>, B>,
+) -> Result<(Msg<'a>, Msg<'a>), Stop>
+    requires sides { (left.now.seat.side ≡ Leftward) × (right.now.seat.side ≡ Rightward) }
+    ensures sides { IfOk result (λ m. ((heading_of m.0).side ≡ Rightward) × ((heading_of m.1).side ≡ Leftward)) }
+    ensures round { IfOk result (λ m. ((heading_of m.0).round ≡ round) × ((heading_of m.1).round ≡ round)) }
+    ensures closed { IfErr result (λ stop. stop ≡ BorderClosed) }
+{
+    let from_left = left.take(rt, round)?;
+    let from_right = right.take(rt, round)?;
+    Ok((from_left, from_right))
+}
+
+// Advances a segment with the messages of its two neighbours.
+fn advance<'a>(
+    segment: &mut Segment<'a>,
+    from_left: Msg<'a>,
+    from_right: Msg<'a>,
+) -> Result<(), Stop>
+    requires more { segment.old.round < length segment.old.plan.program.steps }
+    requires sides { ((heading_of from_left).side ≡ Rightward) × ((heading_of from_right).side ≡ Leftward) }
+    requires rounds { ((heading_of from_left).round ≡ segment.old.round) × ((heading_of from_right).round ≡ segment.old.round) }
+    ensures exactly { IsOk result ↔ ((heading_of from_left.entry ≡ needs.from_left segment.old) × (heading_of from_right.entry ≡ needs.from_right segment.old)) }
+    ensures advanced { OnOk result (segment.new ≡ record segment.old { round = segment.old.round + 1 }) }
+    ensures stranger { IfErr result (λ stop. stop ≡ Fault Stranger) }
+{
+    segment.advance(from_left, from_right)?;
+    Ok(())
 }

@@ -1,5 +1,6 @@
 // Segments of a ring.
 ghost use Rattle.std.specs.Prelude.{◌≡◌, ◌+◌, ◌-◌, ◌*◌, ◌<◌, ◌≤◌, ◌↔◌, IfOk, IsOk, IsTrue, OnOk, OnErr, length};
+ghost use Rattle.node_program.specs.declared.limits.TheConstants.{MAX_ROUNDS};
 ghost use Rattle.round_eval.specs.Rows.{rows};
 ghost use Rattle.ring_segments.specs.Segments.{RingSegment, places_of, states_of};
 
@@ -100,7 +101,8 @@ impl<'a> Segment<'a> {
 
     /// Returns the number of rounds of its program.
     pub fn rounds(&self) -> u32
-        ensures { result ≡ length self.now.plan.program.steps }
+        ensures value { result ≡ length self.now.plan.program.steps }
+        ensures few { result ≤ MAX_ROUNDS }
     {
         self.plan.shape().rounds()
     }

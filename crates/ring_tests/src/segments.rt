@@ -1,6 +1,6 @@
 //! What a segment holds and sends, and the segment machine.
 
-ghost use Rattle.std.specs.Prelude.{◌≡◌, IfSome, length};
+ghost use Rattle.std.specs.Prelude.{◌≡◌, ◌<◌, ◌≤◌, IfSome, length};
 
 mod machine;
 
@@ -8,7 +8,7 @@ use lang_check::Plan;
 use ring_segments::Segment;
 use std::alloc::Global;
 use std::test::Fail;
-use test_programs::{CV1, plan_of};
+use test_programs::{CV1, RED, plan_of};
 use win_index::Ring;
 
 // Returns the ring of these identifiers for a plan.
@@ -35,5 +35,37 @@ fn sent_by_first(alloc: Global, plan: &Plan) -> Option<(bool, [u32; 4])> {
 fn a_segment_sends_what_its_ends_send(rt: HostRuntime) -> Result<(), Fail> {
     let plan = plan_of(rt.alloc(), CV1, 8)?;
     assert!(rt; sent_by_first(rt.alloc(), &plan) == Some((true, [1, 0, 1, 0])));
+    Ok(())
+}
+
+// Returns whether one of three segments begins at the place and holds the identifiers of `part`. RED
+// starts on its identifier.
+fn holds(alloc: Global, plan: &Plan, ring: &Ring, index: u32, part: (u32, &[u32])) -> Option<bool>
+    requires ids { ring.now.ids ≡ plan.now.ids }
+    requires rounds { ring.now.rounds ≡ length plan.now.program.steps }
+    requires places { 3 ≤ length ring.now.places }
+    requires index { index < 3 }
+{
+    let segment = Segment::new(alloc, plan, ring, 3, index).ok()?;
+    if segment.round() == segment.rounds() {
+        return None;
+    }
+    let (_, left) = segment.outgoing();
+    Some((left.place(), segment.states()) == part)
+}
+
+// Returns whether three segments of a ring of eight places hold places 0 to 1, 2 to 4 and 5 to 7.
+fn eight_places_in_three_segments(alloc: Global, plan: &Plan) -> Option<bool> {
+    let ring = ring_of(alloc, plan, &[5, 1, 3, 7, 0, 2, 4, 6])?;
+    let first = holds(alloc, plan, &ring, 0, (0, &[5, 1]))?;
+    let second = holds(alloc, plan, &ring, 1, (2, &[3, 7, 0]))?;
+    let third = holds(alloc, plan, &ring, 2, (5, &[2, 4, 6]))?;
+    Some(first && second && third)
+}
+
+#[test]
+fn three_segments_of_eight_places_have_two_three_and_three(rt: HostRuntime) -> Result<(), Fail> {
+    let plan = plan_of(rt.alloc(), RED, 8)?;
+    assert!(rt; eight_places_in_three_segments(rt.alloc(), &plan) == Some(true));
     Ok(())
 }

@@ -13,6 +13,7 @@ pub loop-index-init : goal.loop-index-init
 loop-index-init c =
     let cover = c.segments_cover_the_ring.ensures (length c.args.ring.now.places) c.args.segments c.requires.range.some c.requires.range.enough in
     record {
+      left = omega (arith, c.requires.all);
       first = sym cover.0;
       size = c.requires.room;
       each = λ i lt. absurd (omega arith);
@@ -51,7 +52,7 @@ write_part-requires-clause-plan c = ap (λ (s : RingSegment). s.plan) (c.is_of.e
 pub write_part-requires-clause-done : goal.write_part-requires-clause-done
 write_part-requires-clause-done c =
     let same = c.is_of.ensures.0 c.if-not-is_of.false in
-    sym c.round.ensures.value ∙ c.if-round-rounds.false ∙ c.rounds.ensures ∙ ap (λ (s : RingSegment). length s.plan.program.steps) same
+    sym c.round.ensures.value ∙ c.if-round-rounds.false ∙ c.rounds.ensures.value ∙ ap (λ (s : RingSegment). length s.plan.program.steps) same
 
 pub write_part-requires-clause-first : goal.write_part-requires-clause-first
 write_part-requires-clause-first c = c.loop-index.invariant.first ∙ sym (ap first_of (c.is_of.ensures.0 c.if-not-is_of.false))
@@ -90,13 +91,14 @@ loop-index-preserved c =
     let p = c.args.plan.now.program in
     let same = c.is_of.ensures.0 c.if-not-is_of.false in
     record {
+      left = omega (arith, c.in-Some.ensures.cases);
       first = ap (λ n. (c.loop-index.index + 1) * n / c.args.segments) c.len-places.ensures.value;
       size = c.write_part.auto.channels ∙ c.loop-index.invariant.size;
       each = λ i lt. c.write_part.ensures i lt ∙ ap (λ (s : RingSegment). channel_at p s.ring.places i) same;
     }
 
-pub returns : goal.returns
-returns c =
+pub returns-clause-channels : goal.returns-clause-channels
+returns-clause-channels c =
     let n = length c.args.ring.now.places in
     let held = c.loop-index.invariant in
     let all : c.loop-index.index ≡ c.args.segments = omega arith in

@@ -1,8 +1,11 @@
 -- The recursion over the segments of a run: a call at its own border names does what its contract says, since the
 -- inner call, at other border names, has a lesser count. The borrow checker covers no call of a function by itself at
 -- other types, so the body is walked here, statement by statement.
-use Rattle.ring_exec.proofs.Steps.{◌≡◌, ℕ, List, [], ◌∷◌, refl, w32, arith, vint, tables, ‵, raw, ◌⊛◌, some, later, prop, at_ret, Sq, ◌$◌, ◌∵◌, !, qed, done, move, drop, use1, split, join, fsplit, feq_l, pick, await, suffices, group, enter, of_opd, lit, bin, first, branches, skips, exec, returns, returns_within, no_more, and_then, alloc_all, pass_all, free_all, look_at, get, sets, lands_as, env, yes, no, u32, uint_Makes, shows, plain, nothing, owned, peeks, heard, lasts, Stays, walk_of, stay_dropped, Goes-dropped, ends_at, triple_of, id⊢, ftrue, framed, calls_at, calls_from, ◌-◌, ◌<◌, ◌^◌, T, T_not, not, eqb, subst, subst⁻¹}
+use Rattle.ring_exec.proofs.Steps.{◌≡◌, ℕ, eqb→eq, List, [], ◌∷◌, refl, w32, arith, vint, tables, ‵, raw, ◌⊛◌, some, later, prop, at_ret, Sq, ◌$◌, ◌∵◌, !, qed, done, move, drop, use1, split, join, fsplit, feq_l, pick, await, suffices, group, enter, of_opd, lit, bin, first, branches, skips, exec, returns, returns_within, no_more, and_then, alloc_all, pass_all, free_all, look_at, get, sets, lands_as, env, yes, no, u32, uint_Makes, shows, plain, nothing, owned, peeks, heard, lasts, Stays, walk_of, stay_dropped, Goes-dropped, ends_at, says, triple_of, id⊢, ftrue, framed, calls_at, calls_from, ◌+◌, ◌-◌, ◌<◌, ◌^◌, T, T_not, not, eqb, subst, subst⁻¹}
 use Rattle.ring_exec.proofs.FactRows.{tuple, facts, gather, shown, beside}
+use Rattle.ring_exec.specs.Courses.{IsOnCourse, HasStarted, HasEnded}
+use Rattle.ring_exec.specs.declared.joined.Joined.{Joined as Outcomes}
+use Rattle.ring_exec.specs.declared.progress.Progress.{Progress}
 use Rattle.ring_exec.proofs.relay.+after.{statement}
 use Rattle.ring_exec.proofs.relay.+after.Code as code
 use Rattle.ring_exec.specs.contracts.relay.after as after
@@ -74,6 +77,13 @@ use lib.WfN.{lt-wf_rel}
 apart : (a b : ℕ) → T (not (eqb a b)) → a ≡ b → ⊥
 apart a b t e = T_not (eqb a b) t (subst (λ (k : ℕ). T (eqb a k)) e (eqb_refl a))
 
+-- a run with one more thread has ended as the run without it, in which one segment more was not started
+ended_before : (before after : Progress) (n : ℕ) (r : Outcomes) → 0 < n → HasStarted before after → HasEnded after (n - 1 + 1) r → HasEnded before (n + 1) r
+ended_before before after n r pos started ended none =
+    let inside = ended none in
+    let outside = started inside.0 in
+    (outside.0, omega (arith, inside.1, outside.1, outside.2))
+
 -- the rest after the first statement
 abbrev rest : Body → Body
 rest (seq a b) = b
@@ -143,21 +153,23 @@ turned κs = (κs.0, (κs.1.0, (κs.1.1.0, (κs.1.1.1.0, (κs.1.1.1.1.0, (κs.1.
 abbrev turned_shares : Shares 9 → Shares 9
 turned_shares qs = (qs.0, (qs.1.0, (qs.1.1.0, (qs.1.1.1.0, (qs.1.1.1.1.0, (qs.1.1.1.1.1.0, (qs.1.1.1.1.1.1.1.1.0, (qs.1.1.1.1.1.1.1.0, (qs.1.1.1.1.1.1.0, tt)))))))))
 
--- what a call asks: of its lifetimes, of its types, and of the blanks
-abbrev asked : RattleType → RattleType → Over → Lfts 9 → blanks.the_row.Denot → List (Type 0)
-asked R G o κs bs =
+-- what a call asks: of its lifetimes, of its types, of the blanks, and that the run is on its course
+abbrev asked : RattleType → RattleType → Over → Lfts 9 → blanks.the_row.Denot → Type 0 → List (Type 0)
+asked R G o κs bs on_course =
     (κs.1.1.1.1.0 ⊑ R.lives) ∷ (κs.1.1.1.1.1.0 ⊑ G.lives)
     ∷ (κs.1.1.1.1.1.1.0 ⊑ o.B.lives) ∷ (κs.1.1.1.1.1.1.1.0 ⊑ o.L.lives) ∷ (κs.1.1.1.1.1.1.1.1.0 ⊑ o.N.lives)
     ∷ IsSend (param 2 o.B) ∷ IsSend (param 3 o.L) ∷ IsSend (param 4 o.N)
     ∷ IsSync (param 0 R) ∷ IsSync (param 1 G) ∷ IsSync (param 2 o.B) ∷ IsSync (param 3 o.L) ∷ IsSync (param 4 o.N)
     ∷ (bs.right.name ≡ o.N-ghosts.rightward × bs.right.parts ≡ 1)
     ∷ (bs.left.name ≡ o.N-ghosts.leftward × bs.left.parts ≡ 1)
+    ∷ on_course
     ∷ []
 
--- the requirements of the inner call follow from those of the outer call, and from the parts of the new blanks
-asked_inside : (R G : RattleType) (o : Over) (κs : Lfts 9) (bs new : blanks.the_row.Denot) → (new.right.parts ≡ 1 × new.left.parts ≡ 1)
-    → tuple (asked R G o κs bs) → tuple (asked R G (inner o new) (turned κs) new)
-asked_inside R G o κs bs new ones (r, (g, (b, (l, (n, (send_b, (send_l, (send_n, (sync_r, (sync_g, (sync_b, (sync_l, (sync_n, named))))))))))))) = (
+-- the requirements of the inner call follow from those of the outer call, from the parts of the new blanks, and from
+-- what `begin` says of the run
+asked_inside : (R G : RattleType) (o : Over) (κs : Lfts 9) (bs new : blanks.the_row.Denot) (before after : Type 0) → (new.right.parts ≡ 1 × new.left.parts ≡ 1)
+    → after → tuple (asked R G o κs bs before) → tuple (asked R G (inner o new) (turned κs) new after)
+asked_inside R G o κs bs new before after ones on_course (r, (g, (b, (l, (n, (send_b, (send_l, (send_n, (sync_r, (sync_g, (sync_b, (sync_l, (sync_n, named))))))))))))) = (
   r,
   (
     g,
@@ -177,7 +189,7 @@ asked_inside R G o κs bs new ones (r, (g, (b, (l, (n, (send_b, (send_l, (send_n
                   sync_r,
                   (
                     sync_g,
-                    (sync_as 4 2 o.N sync_n, (sync_l, (fresh_sync 4, ((refl, ones.0), ((refl, ones.1), tt))))),
+                    (sync_as 4 2 o.N sync_n, (sync_l, (fresh_sync 4, ((refl, ones.0), ((refl, ones.1), (on_course, tt)))))),
                   ),
                 ),
               ),
@@ -282,6 +294,10 @@ module _ {M : Type 1} (𝓤 : Ura M) (𝓛 : Logic 𝓤) (𝓜 : Model 𝓤 𝓛
       abbrev next_laws : Laws Next
       next_laws = stage_laws.the_row_laws (named_lft 9 0 tt κs) (named_lft 9 1 tt κs) (named_lft 9 2 tt κs) (named_lft 9 3 tt κs) (param 0 R) (param 1 G) (param 4 o.N) (param 3 o.L) o.N-ghosts o.L-ghosts (param_laws 0 R RL) (param_laws 1 G GL) (param_laws 4 o.N o.N-laws) (param_laws 3 o.L o.L-laws)
 
+      -- what is asked of a stage and a count
+      abbrev on_course : Before.Denot → ℕ → Type 0
+      on_course s n = IsOnCourse s.course.before s.course.progress (n + 1)
+
       abbrev Joined : RattleType
       Joined = joined.the_row (named_lft 9 3 tt κs)
 
@@ -297,14 +313,14 @@ module _ {M : Type 1} (𝓤 : Ura M) (𝓛 : Logic 𝓤) (𝓜 : Model 𝓤 𝓛
           (prop (WpFn 𝓤 𝓛.H (tables 𝓤 𝓛.H 𝓜 𝓡 𝓡.env).C (tables 𝓤 𝓛.H 𝓜 𝓡 𝓡.env).Λ function (W.args (bound ss ns cs)) (W.post (bound ss ns cs))))
 
       -- the exit, with the result d
-      out : (v b d : Val) (r : (Joined κs).Denot)
+      out : (v b d : Val) (r : (Joined κs).Denot) → HasEnded s.course.progress (n + 1) r
           → Sq 𝓛 (‵ ((Joined κs).own_val r (d ∷ [])) ∷ tokens κs qs ∷ []) (prop (W.post (bound (v ∷ []) (vint w32 n ∷ []) (b ∷ [])) d))
-      out v b d r =
-          suffices ! _ (ends_at 𝓛 (ended o) stayed clauses (bound (v ∷ []) (vint w32 n ∷ []) (b ∷ [])) d r (at_rest ((Before κs).exit no) s, (tt, (at_rest (blanks.the_row.exit yes) bs, tt))) (tt, (tt, (tt, tt)))) $
-          nothing ! $ nothing ! $ join ! $ nothing ! $ join ! $ nothing ! $ join ! $ move ! (2 ∷ []) $ group ! 3 $ nothing ! $ move ! (1 ∷ 0 ∷ []) $ done !
+      out v b d r made =
+          suffices ! _ (ends_at 𝓛 (ended o) stayed clauses (bound (v ∷ []) (vint w32 n ∷ []) (b ∷ [])) d r (at_rest ((Before κs).exit no) s, (tt, (at_rest (blanks.the_row.exit yes) bs, tt))) (tt, (tt, (tt, tt)))) $ says ! made $
+          nothing ! $ nothing ! $ join ! $ nothing ! $ join ! $ nothing ! $ join ! $ move ! (2 ∷ []) $ group ! 3 $ done !
 
       walk : (v b : Val) → T (has_ty (layout (Before κs)) v) × WT v → T (has_ty (layout blanks.the_row) b) × WT b → n < 2 ^ 32
-          → tuple (asked R G o κs bs) → Below 𝓛 grade (λ s. s < n) → Sequent (v ∷ []) (vint w32 n ∷ []) (b ∷ [])
+          → tuple (asked R G o κs bs (on_course κs s n)) → Below 𝓛 grade (λ s. s < n) → Sequent (v ∷ []) (vint w32 n ∷ []) (b ∷ [])
       walk v b v_ok b_ok low met below =
           let 𝓣 = tables 𝓤 𝓛.H 𝓜 𝓡 𝓡.env in
           let y = bound (v ∷ []) (vint w32 n ∷ []) (b ∷ []) in
@@ -320,13 +336,13 @@ module _ {M : Type 1} (𝓤 : Ura M) (𝓛 : Logic 𝓤) (𝓜 : Model 𝓤 𝓛
           -- return finish(stage, count, blanks)
           sets ! (of_opd ! (get ! refl)) refl v_ok $ sets ! (of_opd ! (get ! refl)) refl b_ok $
           nothing ! $ move ! (2 ∷ 0 ∷ []) $ join ! $ owned ! u32 _ (uint_Makes 𝓛 w32) n (vint w32 n ∷ []) (refl, low) $ join ! $ move ! (1 ∷ 0 ∷ []) $ join ! $ move ! (1 ∷ 0 ∷ []) $ join ! $
-          use1 𝓛 (raw (F.pre y)) (beside 𝓤 _ _ (shown 𝓤 (asked R G o κs bs) met)) $
+          use1 𝓛 (raw (F.pre y)) (beside 𝓤 _ _ (shown 𝓤 (asked R G o κs bs (on_course κs s n)) met)) $
           calls_at ! (framed 𝓤 𝓛.H 𝓜 𝓣) F (finish_met.met 𝓤 𝓛 𝓜 𝓡 (code.calls-ring_exec::relay::finish 𝓡.env wired) R G o.B o.L o.N RL GL o.B-laws o.L-laws o.N-laws RT RTd RW RWd GG GGd o.B-ghosts o.B-dict o.L-ghosts o.L-dict o.N-ghosts o.N-dict mT mW mG (λ 𝓛' 𝓜' 𝓡' l. record {}) (λ 𝓛' 𝓜' 𝓡' l. record {}) (λ 𝓛' 𝓜' 𝓡' l. record {})) y
           (and_then ! (get ! refl) (and_then ! (get ! refl) (and_then ! (get ! refl) (no_more !)))) (λ d.
-          use1 𝓛 (later (some (λ (r : (Joined κs).Denot). (tokens κs qs ⊛ ‵ ((Joined κs).own_val r (d ∷ []))) ⊛ some (λ (ws : Lasts finish_ended y.0.0 y.0.3). ‵ (lasts finish_ended y.0.0 y.0.3 ws) ⊛ raw (emp 𝓤))))) (id⊢ 𝓤 _) $
-          await ! tt $ pick ! (λ r. split ! $ move ! (1 ∷ []) $ drop ! $ split ! $ move ! (1 ∷ []) $ peeks ! (Joined κs) (Is (Joined κs)) (shows 𝓛 (Joined κs)) r (d ∷ []) (λ is_r.
+          use1 𝓛 (later (some (λ (r : (Joined κs).Denot). (tokens κs qs ⊛ ‵ ((Joined κs).own_val r (d ∷ []))) ⊛ some (λ (ws : Lasts finish_ended y.0.0 y.0.3). ‵ (lasts finish_ended y.0.0 y.0.3 ws) ⊛ raw (fact 𝓤 (HasEnded s.course.progress 1 r)))))) (id⊢ 𝓤 _) $
+          await ! tt $ pick ! (λ r. split ! $ move ! (1 ∷ []) $ pick ! (λ ws. split ! $ drop ! $ heard ! _ (λ all. split ! $ move ! (1 ∷ []) $ peeks ! (Joined κs) (Is (Joined κs)) (shows 𝓛 (Joined κs)) r (d ∷ []) (λ is_r.
           lands_as ! refl refl (((joined_laws.the_row_laws (named_lft 9 3 tt κs)).lawful 𝓛).typed r (d ∷ []) is_r).0 $
-          returns_within ! (W.post y) refl (look_at ! 0 refl) $ free_all ! refl $ out v b d r))))
+          returns_within ! (W.post y) refl (look_at ! 0 refl) $ free_all ! refl $ out v b d r (let none : n ≡ 0 = eqb→eq n 0 is_zero in rw none all)))))))
           (λ not_zero. skips ! $ exec ! 𝓣.C 𝓣.Λ (env function.locals l) (rest (rest function.body)) (at_ret _ (W.post y)) $
           let pos : 0 < n = let h : n ≡ 0 → ⊥ = apart n 0 not_zero in omega arith in
           let less : n - 1 < n = omega arith in
@@ -334,11 +350,11 @@ module _ {M : Type 1} (𝓤 : Ura M) (𝓛 : Logic 𝓤) (𝓜 : Model 𝓤 𝓛
           -- let next = begin(stage, count, blanks)
           sets ! (of_opd ! (get ! refl)) refl v_ok $ sets ! (of_opd ! (get ! refl)) refl b_ok $
           nothing ! $ move ! (2 ∷ 0 ∷ []) $ join ! $ owned ! u32 _ (uint_Makes 𝓛 w32) n (vint w32 n ∷ []) (refl, low) $ join ! $ move ! (1 ∷ 0 ∷ []) $ join ! $ move ! (1 ∷ 0 ∷ []) $ join ! $
-          use1 𝓛 (raw (B.pre y)) (beside 𝓤 _ _ (shown 𝓤 (asked R G o κs bs) met)) $
+          use1 𝓛 (raw (B.pre y)) (beside 𝓤 _ _ (shown 𝓤 (asked R G o κs bs (on_course κs s n)) met)) $
           calls_at ! (framed 𝓤 𝓛.H 𝓜 𝓣) B (begin_met.met 𝓤 𝓛 𝓜 𝓡 (code.calls-ring_exec::relay::begin 𝓡.env wired) R G o.B o.L o.N RL GL o.B-laws o.L-laws o.N-laws RT RTd RW RWd GG GGd o.B-ghosts o.B-dict o.L-ghosts o.L-dict o.N-ghosts o.N-dict mT mW mG (λ 𝓛' 𝓜' 𝓡' l. record {}) (λ 𝓛' 𝓜' 𝓡' l. record {}) (λ 𝓛' 𝓜' 𝓡' l. record {})) y
           (and_then ! (get ! refl) (and_then ! (get ! refl) (and_then ! (get ! refl) (no_more !)))) (λ w.
-          use1 𝓛 (later (some (λ (x : (Next κs).Denot). (tokens κs qs ⊛ ‵ ((Next κs).own_val x (w ∷ []))) ⊛ some (λ (ws : Lasts begin_ended y.0.0 y.0.3). ‵ (lasts begin_ended y.0.0 y.0.3 ws) ⊛ raw (emp 𝓤))))) (id⊢ 𝓤 _) $
-          await ! tt $ pick ! (λ x. split ! $ move ! (1 ∷ []) $ drop ! $ split ! $ move ! (1 ∷ []) $ peeks ! (Next κs) (Is (Next κs)) (shows 𝓛 (Next κs)) x (w ∷ []) (λ is_x.
+          use1 𝓛 (later (some (λ (x : (Next κs).Denot). (tokens κs qs ⊛ ‵ ((Next κs).own_val x (w ∷ []))) ⊛ some (λ (ws : Lasts begin_ended y.0.0 y.0.3). ‵ (lasts begin_ended y.0.0 y.0.3 ws) ⊛ raw (fact 𝓤 (IsOnCourse x.course.before x.course.progress n)) ⊛ raw (fact 𝓤 (HasStarted s.course.progress x.course.progress)))))) (id⊢ 𝓤 _) $
+          await ! tt $ pick ! (λ x. split ! $ move ! (1 ∷ []) $ pick ! (λ ws. split ! $ drop ! $ split ! $ heard ! _ (λ goes_on. heard ! _ (λ started. split ! $ move ! (1 ∷ []) $ peeks ! (Next κs) (Is (Next κs)) (shows 𝓛 (Next κs)) x (w ∷ []) (λ is_x.
           let w_ok = (((next_laws κs).lawful 𝓛).typed x (w ∷ []) is_x).0 in
           lands_as ! refl refl w_ok $ sets ! (of_opd ! (get ! refl)) refl w_ok $
           -- count - 1
@@ -356,20 +372,20 @@ module _ {M : Type 1} (𝓤 : Ura M) (𝓛 : Logic 𝓤) (𝓜 : Model 𝓤 𝓛
           let z : G'.Ghost = ((turned κs, turned_shares qs, (bounds.0, (bounds.1.0, (bounds.1.1.0, (bounds.1.1.1.0, (bounds.1.1.1.1.1.1.0, (bounds.1.1.1.1.1.0, (bounds.1.1.1.1.0, (bounds.1.1.1.1.1.1.1.0, (bounds.1.1.1.1.1.1.1.1.0, tt))))))))), (x, (n - 1, (bs', tt))), (w ∷ [], (vint w32 (n - 1) ∷ [], (u ∷ [], tt)))), tt) in
           nothing ! $ move ! (1 ∷ 0 ∷ []) $ join ! $ owned ! u32 _ (uint_Makes 𝓛 w32) (n - 1) (vint w32 (n - 1) ∷ []) (refl, low') $ join ! $ move ! (1 ∷ 0 ∷ []) $ join ! $
           move ! (1 ∷ []) $ use1 𝓛 (tokens (turned κs) (turned_shares qs)) (turns κs qs) $ join ! $
-          use1 𝓛 (raw (G'.pre z)) (beside 𝓤 _ _ (shown 𝓤 (asked R G i (turned κs) bs') (asked_inside R G o κs bs bs' ones met))) $
+          use1 𝓛 (raw (G'.pre z)) (beside 𝓤 _ _ (shown 𝓤 (asked R G i (turned κs) bs' (IsOnCourse x.course.before x.course.progress (n - 1 + 1))) (asked_inside R G o κs bs bs' (on_course κs s n) _ ones (let same : n - 1 + 1 ≡ n = omega arith in rw same goes_on) met))) $
           calls_from ! (framed 𝓤 𝓛.H 𝓜 𝓣) (raw (G'.pre z)) (G'.args z) (G'.post z) (below (n - 1) less i z refl) (and_then ! (get ! refl) (and_then ! (get ! refl) (and_then ! (get ! refl) (no_more !)))) (λ d.
-          use1 𝓛 (later (some (λ (r : (Joined κs).Denot). (tokens (turned κs) (turned_shares qs) ⊛ ‵ ((Joined κs).own_val r (d ∷ []))) ⊛ some (λ (ws : Lasts (ended i) z.0.0 z.0.3). ‵ (lasts (ended i) z.0.0 z.0.3 ws) ⊛ raw (emp 𝓤))))) (id⊢ 𝓤 _) $
-          await ! tt $ pick ! (λ r. split ! $ move ! (1 ∷ []) $ drop ! $ split ! $ use1 𝓛 (tokens κs qs) (turns (turned κs) (turned_shares qs)) $ move ! (1 ∷ []) $
+          use1 𝓛 (later (some (λ (r : (Joined κs).Denot). (tokens (turned κs) (turned_shares qs) ⊛ ‵ ((Joined κs).own_val r (d ∷ []))) ⊛ some (λ (ws : Lasts (ended i) z.0.0 z.0.3). ‵ (lasts (ended i) z.0.0 z.0.3 ws) ⊛ raw (fact 𝓤 (HasEnded x.course.progress (n - 1 + 1) r)))))) (id⊢ 𝓤 _) $
+          await ! tt $ pick ! (λ r. split ! $ move ! (1 ∷ []) $ pick ! (λ ws. split ! $ drop ! $ heard ! _ (λ all. split ! $ use1 𝓛 (tokens κs qs) (turns (turned κs) (turned_shares qs)) $ move ! (1 ∷ []) $
           peeks ! (Joined κs) (Is (Joined κs)) (shows 𝓛 (Joined κs)) r (d ∷ []) (λ is_r.
           lands_as ! refl refl (((joined_laws.the_row_laws (named_lft 9 3 tt κs)).lawful 𝓛).typed r (d ∷ []) is_r).0 $
-          returns ! (look_at ! 0 refl) $ free_all ! refl $ out v b d r)))))))))))))
+          returns ! (look_at ! 0 refl) $ free_all ! refl $ out v b d r (ended_before s.course.progress x.course.progress n r pos started all)))))))))))))))))))
 
       -- from the call's own statement: its facts, and one machine value for each parameter
       walks : (ss ns cs : List Val) → Below 𝓛 grade (λ s. s < n) → ent 𝓤 (W.pre (bound ss ns cs))
           (WpFn 𝓤 𝓛.H (tables 𝓤 𝓛.H 𝓜 𝓡 𝓡.env).C (tables 𝓤 𝓛.H 𝓜 𝓡 𝓡.env).Λ function (W.args (bound ss ns cs)) (W.post (bound ss ns cs)))
       walks ss ns cs below =
-          qed 𝓛 ((tokens κs qs ⊛ ‵ ((Before κs).own_val s ss) ⊛ ‵ (u32.own_val n ns) ⊛ ‵ (blanks.the_row.own_val bs cs) ⊛ ‵ ftrue) ∷ raw (facts 𝓤 (asked R G o κs bs)) ∷ []) ∵
-          move ! (1 ∷ []) $ use1 𝓛 (raw (fact 𝓤 (tuple (asked R G o κs bs)))) (gather 𝓤 (asked R G o κs bs)) $ heard ! _ (λ met.
+          qed 𝓛 ((tokens κs qs ⊛ ‵ ((Before κs).own_val s ss) ⊛ ‵ (u32.own_val n ns) ⊛ ‵ (blanks.the_row.own_val bs cs) ⊛ ‵ ftrue) ∷ raw (facts 𝓤 (asked R G o κs bs (on_course κs s n))) ∷ []) ∵
+          move ! (1 ∷ []) $ use1 𝓛 (raw (fact 𝓤 (tuple (asked R G o κs bs (on_course κs s n))))) (gather 𝓤 (asked R G o κs bs (on_course κs s n))) $ heard ! _ (λ met.
           split ! $ move ! (1 ∷ []) $ split ! $ move ! (1 ∷ []) $ split ! $ fsplit ! $ feq_l ! (λ is_n. flt_l ! (λ low. split ! $ move ! (1 ∷ []) $ drop ! $ move ! (1 ∷ 0 ∷ 2 ∷ []) $
           subst⁻¹ (λ (ws : List Val). Sequent ss ws cs) is_n
           (peeks ! (Before κs) (Is (Before κs)) (shows 𝓛 (Before κs)) s ss (λ is_s.

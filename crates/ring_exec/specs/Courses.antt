@@ -1,0 +1,23 @@
+-- Runs on their way. No public contract cites this file.
+use Rattle.std.specs.Prelude.{◌≡◌, ◌≢◌, ℕ, ◌+◌, Option, None, IsSome, IsNone, vec_len}
+use Rattle.ring_exec.specs.Outcomes.{HasMore}
+use Rattle.ring_exec.specs.declared.joined.Joined.{Joined}
+use Rattle.ring_exec.specs.declared.progress.Progress.{Progress}
+
+-- a run that goes on has the border before its next segment, and so many segments that are not started; a run that has
+-- stopped has a fault
+pub record IsOnCourse {X : Type 0} (before : Option X) (progress : Progress) (count : ℕ) : Type 0 where
+  pub waiting : IsSome before → vec_len progress.waiting ≡ count
+  pub stopped : IsNone before → progress.joined.fault ≢ None
+
+-- after the start of a segment: without a fault, there is one thread more, and no outcome
+abbrev pub HasStarted : Progress → Progress → Type 0
+HasStarted before after =
+    after.joined.fault ≡ None
+    → (before.joined.fault ≡ None) × (vec_len after.joined.segments ≡ vec_len before.joined.segments)
+    × (vec_len after.threads ≡ vec_len before.threads + 1)
+
+-- after the end of a run in which so many segments were not started yet: without a fault, the outcomes of its threads
+-- and of these segments were added
+abbrev pub HasEnded : Progress → ℕ → Joined → Type 0
+HasEnded progress count joined = HasMore progress.joined (vec_len progress.threads + count) joined

@@ -1,0 +1,12 @@
+-- Why a segment stops before its last round. No public contract cites this file.
+use Rattle.border_exchange.specs.declared.fault.PutFault.{PutFault}
+use Rattle.border_exchange.specs.declared.fault.PutFault.TheVariants as put
+use Rattle.ring_exec.specs.declared.end.Stop.{Stop}
+use Rattle.ring_exec.specs.declared.end.Stop.TheVariants.{BorderClosed, Fault}
+use Rattle.ring_exec.specs.declared.fault.SegmentFault.TheVariants as segment
+
+-- why a segment stops whose message was not put
+abbrev pub stop_of : PutFault → Stop
+stop_of put.Closed = BorderClosed
+stop_of put.Misplaced = Fault segment.Stranger
+stop_of put.OutOfMemory = Fault segment.OutOfMemory

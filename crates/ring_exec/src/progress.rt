@@ -1,0 +1,46 @@
+// How far a run is.
+ghost use Rattle.std.specs.Prelude.{◌≡◌, ◌+◌, ◌<◌, ◌≤◌, All, Ok, Err, MatchOption, vec_len, vec_capacity};
+ghost use Rattle.ring_segments.specs.declared.limits.TheConstants.{MAX_SEGMENTS};
+ghost use Rattle.ring_exec.specs.declared.fault.CourseFault.TheVariants.{NoThread};
+
+use crate::fault::CourseFault;
+use crate::joined::Joined;
+use crate::runner::Outcome;
+use ring_segments::Segment;
+use std::thread::JoinHandle;
+
+// How far a run is: the index of the next segment, the segments that are not started, the next one
+// last; the threads of those that are, with room for more; and the outcomes, with room for all.
+#[derive(Drop)]
+pub(crate) struct Progress<'a> {
+    pub(crate) index: u32,
+    pub(crate) waiting: Vec<Segment<'a>>,
+    pub(crate) threads: Vec<JoinHandle<Outcome<'a>>>,
+    pub(crate) joined: Joined<'a>,
+    ghost few: { index + vec_len waiting ≤ MAX_SEGMENTS },
+    ghost unstarted: { All (λ s. s.round ≡ 0) waiting.items },
+    ghost thread_room: { vec_len threads + vec_len waiting ≤ vec_capacity threads },
+    ghost room: { vec_len joined.segments + vec_len threads + vec_len waiting ≤ vec_capacity joined.segments },
+}
+
+impl<'a> Progress<'a> {
+    // Counts the segment whose start was tried, and keeps its thread if the start was not refused.
+    pub(crate) fn keep(
+        &mut self,
+        thread: Option<JoinHandle<Outcome<'a>>>,
+    ) -> Result<(), CourseFault>
+        requires few { self.old.index + vec_len self.old.waiting < MAX_SEGMENTS }
+        requires thread_room { vec_len self.old.threads + vec_len self.old.waiting < vec_capacity self.old.threads }
+        requires room { vec_len self.old.joined.segments + vec_len self.old.threads + vec_len self.old.waiting < vec_capacity self.old.joined.segments }
+        ensures index { self.new.index ≡ self.old.index + 1 }
+        ensures kept { MatchOption thread.entry ((result ≡ Err NoThread) × (vec_len self.new.threads ≡ vec_len self.old.threads))
+            (λ _. (result ≡ Ok tt) × (vec_len self.new.threads ≡ vec_len self.old.threads + 1)) }
+        ensures waiting { self.new.waiting ≡ self.old.waiting }
+        ensures joined { self.new.joined ≡ self.old.joined }
+    {
+        self.index += 1;
+        self.threads
+            .push_reserved(thread.ok_or(CourseFault::NoThread)?);
+        Ok(())
+    }
+}
