@@ -3,7 +3,7 @@ ghost use Rattle.lang_check.specs.Plans.{ProgramForIds};
 ghost use Rattle.shared_memo.specs.declared.memo.Memo.{Memo};
 ghost use Rattle.shared_memo.specs.Passes.{known};
 ghost use Rattle.shared_memo.specs.PlanJobs.{IsKey};
-ghost use Rattle.table_fill.specs.MissingBlocks.{IsMissingBlock};
+ghost use Rattle.table_fill.specs.MissingBlocks.{missing_of, IsMissingBlock};
 ghost use Rattle.table_fill.specs.declared.cell.Made.TheVariants.{Fresh};
 ghost use Rattle.window_states.specs.Entries.{Asked, Entries};
 
@@ -119,12 +119,24 @@ pub(crate) fn fill_cell<C: Cells>(
         match cells.make(alloc, maker, level, number) {
             Ok(Made::Fresh) => return Ok(()),
             Ok(Made::Stood) if cells.finds(level, number) => return Ok(()),
-            Err(MakeFault::Missing(low, below)) if !cells.stranger() => {
+            Ok(Made::Stood) => return Err(WorkFault::Stranger),
+            Err(fault) => {
+                let (low, below) = missing_block(fault, cells.stranger())?;
                 fill_cell(alloc, cells, maker, low, below)?;
             }
-            Err(MakeFault::OutOfMemory) => return Err(WorkFault::OutOfMemory),
-            _ => return Err(WorkFault::Stranger),
         }
     }
     Err(WorkFault::Stranger)
+}
+
+// The block that is to be made first after a block was not made, or the worker's fault: refused
+// memory, or a stranger where a cell held one.
+fn missing_block(fault: MakeFault, stranger: bool) -> Result<(u32, u32), WorkFault>
+    ensures { result ≡ missing_of fault stranger }
+{
+    match fault {
+        MakeFault::OutOfMemory => Err(WorkFault::OutOfMemory),
+        MakeFault::Missing(_, _) if stranger => Err(WorkFault::Stranger),
+        MakeFault::Missing(low, below) => Ok((low, below)),
+    }
 }
