@@ -1,7 +1,8 @@
 ghost use Rattle.std.specs.Prelude.{◌≡◌};
 ghost use Rattle.shared_memo.specs.declared.fault.CrewFault.TheVariants.{Work};
-ghost use Rattle.shared_memo.specs.declared.fault.WorkFault.TheVariants.{OutOfMemory as NoMemory};
+ghost use Rattle.shared_memo.specs.declared.fault.WorkFault.TheVariants.{OutOfMemory as NoMemory, Stranger as Met};
 
+use crate::memo::Stranger;
 use node_program::OutOfMemory;
 use std::alloc::AllocError;
 
@@ -28,6 +29,14 @@ impl From<OutOfMemory> for WorkFault {
 
     fn from(_refused: OutOfMemory) -> WorkFault {
         WorkFault::OutOfMemory
+    }
+}
+
+impl From<Stranger> for WorkFault {
+    ghost from_gives = { λ _ fault. fault ≡ Met };
+
+    fn from(_met: Stranger) -> WorkFault {
+        WorkFault::Stranger
     }
 }
 

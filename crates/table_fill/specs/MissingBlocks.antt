@@ -1,5 +1,5 @@
 -- A block that is missing when one of a higher level is made.
-use Rattle.std.specs.Prelude.{ℕ, ◌<◌, Bool, true, false, Result, Ok, Err}
+use Rattle.std.specs.Prelude.{ℕ, ◌<◌, Result, Ok, Err}
 use Rattle.lang_check.specs.Plans.{ProgramForIds}
 use Rattle.unroll.specs.declared.fault.MakeFault.{MakeFault}
 use Rattle.unroll.specs.declared.fault.MakeFault.TheVariants.{Missing, OutOfMemory}
@@ -12,8 +12,7 @@ abbrev pub IsMissingBlock : ProgramForIds → ℕ → MakeFault → Type 0
 IsMissingBlock plan level (Missing low number) = (low < level) × IsKey plan low number
 IsMissingBlock plan level OutOfMemory = Unit {0}
 
--- the missing block; else the worker's fault: refused memory, or a stranger where a cell held one
-abbrev pub missing_of : MakeFault → Bool → Result (ℕ × ℕ) WorkFault
-missing_of OutOfMemory stranger = Err work.OutOfMemory
-missing_of (Missing low number) true = Err work.Stranger
-missing_of (Missing low number) false = Ok (low, number)
+-- the missing block, or the fault that memory was refused
+abbrev pub missing_of : MakeFault → Result (ℕ × ℕ) WorkFault
+missing_of (Missing low number) = Ok (low, number)
+missing_of OutOfMemory = Err work.OutOfMemory

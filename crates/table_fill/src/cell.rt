@@ -1,18 +1,18 @@
-ghost use Rattle.std.specs.Prelude.{◌≡◌, IfOk, IfErr, OnOk, true, is_some};
+ghost use Rattle.std.specs.Prelude.{◌≡◌, None, IfOk, IfErr, OnOk, OnErr, IsSomeAnd, true, false, is_some};
 ghost use Rattle.lang_check.specs.Plans.{ProgramForIds};
 ghost use Rattle.shared_memo.specs.declared.memo.Memo.{Memo};
-ghost use Rattle.shared_memo.specs.Passes.{known};
-ghost use Rattle.shared_memo.specs.PlanJobs.{IsKey};
+ghost use Rattle.shared_memo.specs.Passes.{known, seen};
+ghost use Rattle.shared_memo.specs.PlanJobs.{IsKey, IsStranger};
 ghost use Rattle.table_fill.specs.MissingBlocks.{missing_of, IsMissingBlock};
 ghost use Rattle.table_fill.specs.declared.cell.Made.TheVariants.{Fresh};
 ghost use Rattle.window_states.specs.Entries.{Asked, Entries};
 
 use crate::cell_maker::CellMaker;
-use shared_memo::{Installed, WorkFault};
+use crate::own_reader::OwnReader;
+use shared_memo::{Installed, Stranger, WorkFault};
 use std::alloc::Global;
 use unroll::MakeFault;
 use win_index::{MAX_BLOCKS, window_of_number};
-use window_states::Source;
 
 // The outcome of making a block.
 #[derive(Clone, Copy)]
@@ -35,11 +35,17 @@ pub(crate) trait Cells {
     // The blocks that are known to be in their cells.
     ghost entries: { Self → Entries };
 
+    // The blocks that were seen in their cells, right or not.
+    ghost seen: { Self → Entries };
+
     // Looks at the cell of this level and number, and returns whether its block is known then.
-    fn finds(&mut self, level: u32, number: u32) -> bool
+    // Fails if the cell holds a stranger.
+    fn finds(&mut self, level: u32, number: u32) -> Result<bool, Stranger>
         requires { IsKey (plan self.old) level number }
         ensures asked { Asked plan fixed entries self.old self.new }
-        ensures found { result ≡ is_some (entries self.new level number) };
+        ensures found { IfOk result (λ found. found ≡ is_some (entries self.new level number)) }
+        ensures empty { IfOk result (λ found. found ≡ false → seen self.new level number ≡ None) }
+        ensures stranger { OnErr result (IsSomeAnd (seen self.new level number) (IsStranger (plan self.old) level number)) };
 
     // Makes the block of this level and number and stores it, or returns a block of a lower level
     // that is missing.
@@ -54,9 +60,6 @@ pub(crate) trait Cells {
         ensures asked { Asked plan fixed entries self.old self.new }
         ensures fresh { IfOk result (λ made. made ≡ Fresh → is_some (entries self.new level number) ≡ true) }
         ensures missing { IfErr result (IsMissingBlock (plan self.old) level) };
-
-    // Whether a cell held an unexpected block.
-    fn stranger(&self) -> bool;
 }
 
 impl<'s, 'a> Cells for CellMaker<'s, 'a> {
@@ -68,8 +71,11 @@ impl<'s, 'a> Cells for CellMaker<'s, 'a> {
 
     ghost entries = { λ c. known c.reader.pass };
 
-    fn finds(&mut self, level: u32, number: u32) -> bool {
-        self.reader.block(level, number).is_some()
+    ghost seen = { λ c. seen c.reader.pass };
+
+    fn finds(&mut self, level: u32, number: u32) -> Result<bool, Stranger> {
+        let OwnReader { memo, pass } = &mut self.reader;
+        Ok(memo.look(pass, level, number)?.is_some())
     }
 
     fn make(
@@ -93,10 +99,6 @@ impl<'s, 'a> Cells for CellMaker<'s, 'a> {
             Installed::Stood(_) => Made::Stood,
         })
     }
-
-    fn stranger(&self) -> bool {
-        self.reader.stranger
-    }
 }
 
 // Fills the cell of this level and number, unless it is full. Missing blocks below are made first;
@@ -112,16 +114,21 @@ pub(crate) fn fill_cell<C: Cells>(
     ensures asked { Asked C.plan C.fixed C.entries cells.old cells.new }
     ensures known { OnOk result (is_some (C.entries cells.new level number) ≡ true) }
 {
-    if cells.finds(level, number) {
+    if cells.finds(level, number)? {
         return Ok(());
     }
     for _attempt in 0..MAX_BLOCKS + 1 {
         match cells.make(alloc, maker, level, number) {
             Ok(Made::Fresh) => return Ok(()),
-            Ok(Made::Stood) if cells.finds(level, number) => return Ok(()),
-            Ok(Made::Stood) => return Err(WorkFault::Stranger),
+            Ok(Made::Stood) => {
+                return if cells.finds(level, number)? {
+                    Ok(())
+                } else {
+                    Err(WorkFault::Stranger)
+                };
+            }
             Err(fault) => {
-                let (low, below) = missing_block(fault, cells.stranger())?;
+                let (low, below) = missing_block(fault)?;
                 fill_cell(alloc, cells, maker, low, below)?;
             }
         }
@@ -129,14 +136,12 @@ pub(crate) fn fill_cell<C: Cells>(
     Err(WorkFault::Stranger)
 }
 
-// The block that is to be made first after a block was not made, or the worker's fault: refused
-// memory, or a stranger where a cell held one.
-fn missing_block(fault: MakeFault, stranger: bool) -> Result<(u32, u32), WorkFault>
-    ensures { result ≡ missing_of fault stranger }
+// The block that was missing when one was made, or the fault that memory was refused.
+fn missing_block(fault: MakeFault) -> Result<(u32, u32), WorkFault>
+    ensures { result ≡ missing_of fault }
 {
     match fault {
-        MakeFault::OutOfMemory => Err(WorkFault::OutOfMemory),
-        MakeFault::Missing(_, _) if stranger => Err(WorkFault::Stranger),
         MakeFault::Missing(low, below) => Ok((low, below)),
+        MakeFault::OutOfMemory => Err(WorkFault::OutOfMemory),
     }
 }

@@ -53,7 +53,6 @@ impl<'m, 'a> Leaves for MemoFill<'m, 'a> {
         let reader = OwnReader {
             memo: self.memo,
             pass,
-            stranger: false,
         };
         let mut cells = CellMaker { reader, blocks };
         fill_drawn(alloc, desk, ticket, gate, &mut cells)?;

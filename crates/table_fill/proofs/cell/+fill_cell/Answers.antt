@@ -4,8 +4,5 @@ use Rattle.table_fill.proofs.cell.+fill_cell.Goals as goal
 pub returns-in-Ok-Fresh-clause-asked : goal.returns-in-Ok-Fresh-clause-asked
 returns-in-Ok-Fresh-clause-asked g t c = asked_both g.C.Cells.plan g.C.Cells.fixed g.C.Cells.entries _ _ _ c.loop-attempt.invariant c.make.ensures.asked
 
-pub returns-in-Ok-Stood-clause-asked : goal.returns-in-Ok-Stood-clause-asked
-returns-in-Ok-Stood-clause-asked g t c = asked_both g.C.Cells.plan g.C.Cells.fixed g.C.Cells.entries _ _ _ (asked_both g.C.Cells.plan g.C.Cells.fixed g.C.Cells.entries _ _ _ c.loop-attempt.invariant c.make.ensures.asked) c.if-finds-2.ensures.asked
-
 pub loop-attempt-preserved : goal.loop-attempt-preserved
 loop-attempt-preserved g t c = asked_both g.C.Cells.plan g.C.Cells.fixed g.C.Cells.entries _ _ _ (asked_both g.C.Cells.plan g.C.Cells.fixed g.C.Cells.entries _ _ _ c.loop-attempt.invariant c.make.ensures.asked) c.fill_cell.ensures.asked
