@@ -1,4 +1,4 @@
-ghost use Rattle.std.specs.Prelude.{◌≡◌, None, IfOk, IfErr, OnOk, OnErr, IsSomeAnd, true, false, is_some};
+ghost use Rattle.std.specs.Prelude.{◌≡◌, ℕ, None, IfOk, IfErr, OnOk, OnErr, IsSomeAnd, true, false, is_some};
 ghost use Rattle.lang_check.specs.Plans.{ProgramForIds};
 ghost use Rattle.shared_memo.specs.declared.memo.Memo.{Memo};
 ghost use Rattle.shared_memo.specs.Passes.{known, seen};
@@ -27,6 +27,9 @@ pub(crate) enum Made {
 pub(crate) trait Cells {
     ghost plan: { Self → ProgramForIds };
 
+    // The number of the worker, which is the maker of its blocks.
+    ghost worker: { Self → ℕ };
+
     ghost Fixed: { Type 0 };
 
     // What no call changes.
@@ -43,27 +46,25 @@ pub(crate) trait Cells {
     fn finds(&mut self, level: u32, number: u32) -> Result<bool, Stranger>
         requires { IsKey (plan self.old) level number }
         ensures asked { Asked plan fixed entries self.old self.new }
+        ensures same_worker { worker self.new ≡ worker self.old }
         ensures found { IfOk result (λ found. found ≡ is_some (entries self.new level number)) }
         ensures empty { IfOk result (λ found. found ≡ false → seen self.new level number ≡ None) }
         ensures stranger { OnErr result (IsSomeAnd (seen self.new level number) (IsStranger (plan self.old) level number)) };
 
     // Makes the block of this level and number and stores it, or returns a block of a lower level
     // that is missing.
-    fn make(
-        &mut self,
-        alloc: Global,
-        maker: u32,
-        level: u32,
-        number: u32,
-    ) -> Result<Made, MakeFault>
+    fn make(&mut self, alloc: Global, level: u32, number: u32) -> Result<Made, MakeFault>
         requires { IsKey (plan self.old) level number }
         ensures asked { Asked plan fixed entries self.old self.new }
-        ensures fresh { IfOk result (λ made. made ≡ Fresh → is_some (entries self.new level number) ≡ true) }
+        ensures same_worker { worker self.new ≡ worker self.old }
+        ensures fresh { IfOk result (λ made. made ≡ Fresh → IsSomeAnd (entries self.new level number) (λ block. block.maker ≡ worker self.old)) }
         ensures missing { IfErr result (IsMissingBlock (plan self.old) level) };
 }
 
 impl<'s, 'a> Cells for CellMaker<'s, 'a> {
     ghost plan = { λ c. c.reader.pass.plan.now };
+
+    ghost worker = { λ c. c.worker };
 
     ghost Fixed = { Memo };
 
@@ -78,16 +79,14 @@ impl<'s, 'a> Cells for CellMaker<'s, 'a> {
         Ok(memo.look(pass, level, number)?.is_some())
     }
 
-    fn make(
-        &mut self,
-        alloc: Global,
-        maker: u32,
-        level: u32,
-        number: u32,
-    ) -> Result<Made, MakeFault> {
+    fn make(&mut self, alloc: Global, level: u32, number: u32) -> Result<Made, MakeFault> {
         window_of_number();
-        let CellMaker { reader, blocks } = self;
-        let block = match blocks.make(reader, level, number, maker) {
+        let CellMaker {
+            reader,
+            blocks,
+            worker,
+        } = self;
+        let block = match blocks.make(reader, level, number, *worker) {
             Ok(block) => block,
             Err(fault) => return Err(fault),
         };
@@ -106,19 +105,19 @@ impl<'s, 'a> Cells for CellMaker<'s, 'a> {
 pub(crate) fn fill_cell<C: Cells>(
     alloc: Global,
     cells: &mut C,
-    maker: u32,
     level: u32,
     number: u32,
 ) -> Result<(), WorkFault>
     requires { IsKey (C.plan cells.old) level number }
     ensures asked { Asked C.plan C.fixed C.entries cells.old cells.new }
+    ensures same_worker { C.worker cells.new ≡ C.worker cells.old }
     ensures known { OnOk result (is_some (C.entries cells.new level number) ≡ true) }
 {
     if cells.finds(level, number)? {
         return Ok(());
     }
     for _attempt in 0..MAX_BLOCKS + 1 {
-        match cells.make(alloc, maker, level, number) {
+        match cells.make(alloc, level, number) {
             Ok(Made::Fresh) => return Ok(()),
             Ok(Made::Stood) => {
                 return if cells.finds(level, number)? {
@@ -129,7 +128,7 @@ pub(crate) fn fill_cell<C: Cells>(
             }
             Err(fault) => {
                 let (low, below) = missing_block(fault)?;
-                fill_cell(alloc, cells, maker, low, below)?;
+                fill_cell(alloc, cells, low, below)?;
             }
         }
     }

@@ -54,7 +54,11 @@ impl<'m, 'a> Leaves for MemoFill<'m, 'a> {
             memo: self.memo,
             pass,
         };
-        let mut cells = CellMaker { reader, blocks };
+        let mut cells = CellMaker {
+            reader,
+            blocks,
+            worker: ticket.worker(),
+        };
         fill_drawn(alloc, desk, ticket, gate, &mut cells)?;
         Ok(cells.reader.pass)
     }
@@ -70,18 +74,18 @@ fn fill_drawn<G: Gate>(
 ) -> Result<(), WorkFault>
     requires ticket { IsFreshTicketOf desk.now ticket.old }
     requires total { numbers_of desk.now ≡ job_count cells.old.reader.memo.now.plan.now }
+    requires maker { cells.old.worker ≡ worker_of ticket.old }
     ensures told { OnOk result (told ticket.new ≡ 1) }
     ensures worker { worker_of ticket.new ≡ worker_of ticket.old }
     ensures memo { cells.new.reader.memo.now ≡ cells.old.reader.memo.now }
     ensures filled { OnOk result (AreKnown cells.new.reader.pass.plan.now (known cells.new.reader.pass) (drawn ticket.new)) }
 {
     jobs_have_numbers();
-    let worker = ticket.worker();
     let shape = cells.reader.memo.plan().shape();
     while let Some(job) = desk.draw(ticket) {
-        gate.entered(worker, job);
+        gate.entered(ticket.worker(), job);
         let (level, block) = shape.job(job);
-        fill_cell(alloc, cells, worker, level, block)?;
+        fill_cell(alloc, cells, level, block)?;
     }
     Ok(())
 }
