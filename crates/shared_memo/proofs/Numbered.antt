@@ -23,10 +23,6 @@ numbered_snoc {W = W} number xs w before next =
 abbrev pub AreNumberedFrom : {W : Type 0} → ℕ → List W → (W → ℕ) → Type 0
 AreNumberedFrom {W = W} n items number = (k : ℕ) (w : W) → slice_get items k ≡ Some w → number w ≡ n + k
 
--- those of a numbered list are numbered from 0 on
-pub numbered_from_0 : {W : Type 0} (number : W → ℕ) (xs : List W) → AreNumbered xs number → AreNumberedFrom 0 xs number
-numbered_from_0 number xs numbered = λ k w e. let is = numbered k w e in omega arith
-
 -- the first of them has the number n, and the others are numbered from n + 1 on
 pub numbered_rest :
     {W : Type 0} (number : W → ℕ) (n : ℕ) (x : W) (all xs : List W) → all ≡ x ∷ xs → AreNumberedFrom n all number
