@@ -1,8 +1,9 @@
 -- The effect of asking a reader for a block.
-use Rattle.std.specs.Prelude.{◌≡◌, ℕ, Bool, true, false, None, Some}
+use Rattle.std.specs.Prelude.{◌≡◌, ℕ, Bool, true, false, None, Some, IsSomeAnd}
 use Rattle.window_states.specs.BlockStates.{MadeBlock}
 use Rattle.window_states.specs.Entries.{Asked}
 use Rattle.shared_memo.specs.declared.reader.Reader.{Reader}
+use Rattle.shared_memo.specs.PlanJobs.{IsStranger}
 use Rattle.shared_memo.specs.Passes.{known, seen, LearnsAt, KnowsSame}
 
 -- whether the reader has met a stranger
@@ -27,3 +28,6 @@ pub record Asks (level number : ℕ) (found : Bool) (old new : Reader) : Type 0 
   pub only_known : met_stranger old ≡ true → known old.pass.now level number ≡ None → found ≡ false
   -- if none is returned, an empty cell was seen, or the mark is set
   pub marked : found ≡ false → met_stranger new ≡ false → seen new.pass.now level number ≡ None
+  -- if the mark was set by this, a stranger was seen
+  pub only_stranger : met_stranger old ≡ false → met_stranger new ≡ true
+      → IsSomeAnd (seen new.pass.now level number) (IsStranger new.pass.now.plan.now level number)

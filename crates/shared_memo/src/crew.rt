@@ -1,20 +1,29 @@
-ghost use Rattle.std.specs.Prelude.{◌≡◌, ◌+◌, ◌<◌, ◌≤◌, IfOk, IfErr, IfSome, IsTrue, vec_len, vec_capacity, All};
-ghost use Rattle.node_program.specs.declared.limits.TheConstants.{MAX_THREADS};
-ghost use Rattle.shared_memo.specs.Tickets.{numbers_of, IsFreshTicketOf};
+ghost use Rattle.std.specs.Prelude.{◌≡◌, [], ◌<◌, ◌≤◌, ◌↔◌, IfOk, IfErr, IfSome, MatchOption, IsTrue, vec_len, vec_capacity, All};
+ghost use Rattle.std.specs.Option.{ForSome};
+ghost use Rattle.shared_memo.specs.Tickets.{worker_of, numbers_of, IsFreshTicketOf};
 ghost use Rattle.shared_memo.specs.Workers.{AreNumbered, IsWorkerCount};
-ghost use Rattle.shared_memo.specs.Faults.{first_fault, crew_answer};
+ghost use Rattle.shared_memo.specs.Outcomes.{outcome_worker, AreOutcomes, IsCrewAnswer, IsLowestFault};
 
 use crate::desk::{Desk, Ticket};
 use crate::fault::{CrewFault, WorkFault};
-use crate::worker::{Fills, Leaves, Worker};
+use crate::worker::{Fills, Leaves, Outcome, Worker, fill_all};
+use node_program::OutOfMemory;
 use round_eval::Gate;
 use std::alloc::Global;
 use std::sync::Wait;
 use std::thread;
-use std::thread::{JoinHandle, Scope, Threads};
+use std::thread::{Promise, PromisedHandle, Scope, Threads};
 
-// The result of a worker.
-type Answer = Result<(), WorkFault>;
+// The promise that a thread returns the outcome of the worker with this number.
+#[derive(Clone, Copy)]
+struct OutcomeOf(u32);
+
+impl Promise<Outcome> for OutcomeOf {
+    ghost kept_by = { λ promise outcome. outcome_worker outcome ≡ promise.0 };
+}
+
+// A worker's thread.
+type Handle = PromisedHandle<Outcome, OutcomeOf>;
 
 /// Fills jobs with `workers` workers, 1 to `MAX_THREADS`, that draw them at one desk. A single worker
 /// runs on the calling thread and returns what it learned; several run on a thread each.
@@ -33,9 +42,7 @@ pub fn fill_by_workers<R: Threads + Wait + Sync, M: Leaves + Sync, G: Gate + Syn
     ensures left { IfOk result (λ left. IfSome left (M.IsLeft memo.now)) }
     ensures alone { IfErr result (λ fault. fault ≡ CrewFault.NoThread → 1 < workers) }
 {
-    let Ok((desk, mut tickets)) = Desk::new(alloc, memo.total(), workers) else {
-        return Err(CrewFault::Work(WorkFault::OutOfMemory));
-    };
+    let (desk, mut tickets) = Desk::new(alloc, memo.total(), workers)?;
     if workers > 1 {
         fill_at(rt, alloc, memo, &desk, tickets, gate)?;
         return Ok(None);
@@ -43,7 +50,7 @@ pub fn fill_by_workers<R: Threads + Wait + Sync, M: Leaves + Sync, G: Gate + Syn
     let Some(mut ticket) = tickets.pop() else {
         unreachable!()
     };
-    Ok(Some(memo.work_alone(alloc, &desk, &mut ticket, gate, 0)?))
+    Ok(Some(memo.work_alone(alloc, &desk, &mut ticket, gate)?))
 }
 
 // Makes a worker for each ticket, and runs each on a thread of its own.
@@ -56,68 +63,69 @@ fn fill_at<R: Threads + Wait + Sync, M: Fills + Sync, G: Gate + Sync>(
     gate: &G,
 ) -> Result<(), CrewFault>
     requires tickets { All (IsFreshTicketOf desk.now) tickets.items }
+    requires workers { AreNumbered tickets.items worker_of }
     requires jobs { numbers_of desk.now ≡ M.jobs memo.now }
-    requires few { vec_len tickets ≤ MAX_THREADS }
 {
-    let Ok(handles) = Vec::with_capacity(alloc, tickets.len()) else {
-        return Err(CrewFault::Work(WorkFault::OutOfMemory));
-    };
+    let handles = Vec::with_capacity(alloc, tickets.len())?;
+    let outcomes = Vec::with_capacity(alloc, tickets.len())?;
     let crew = crew_of(alloc, memo, desk, tickets, gate)?;
-    run_all(rt, crew, handles)
+    answer_of(run_all(rt, crew, handles, outcomes))
 }
 
-// A worker for each ticket, numbered from 0 in the order of the tickets.
+// A worker for each ticket, in the order of the tickets.
 fn crew_of<'d, 'm, 'g, M: Fills, G: Gate>(
     alloc: Global,
     memo: &'m M,
     desk: &'d Desk,
     tickets: Vec<Ticket>,
     gate: &'g G,
-) -> Result<Vec<Worker<'d, 'm, 'g, M, G>>, WorkFault>
+) -> Result<Vec<Worker<'d, 'm, 'g, M, G>>, OutOfMemory>
     requires tickets { All (IsFreshTicketOf desk.now) tickets.items }
+    requires workers { AreNumbered tickets.items worker_of }
     requires jobs { numbers_of desk.now ≡ M.jobs memo.now }
-    requires few { vec_len tickets ≤ MAX_THREADS }
     ensures count { IfOk result (λ crew. vec_len crew ≡ vec_len tickets) }
-    ensures numbers { IfOk result (λ crew. AreNumbered crew.items (λ worker. worker.number)) }
+    ensures workers { IfOk result (λ crew. AreNumbered crew.items (λ worker. worker_of worker.ticket)) }
 {
-    let Ok(mut crew) = Vec::with_capacity(alloc, tickets.len()) else {
-        return Err(WorkFault::OutOfMemory);
-    };
+    let mut crew = Vec::with_capacity(alloc, tickets.len())?;
     for ticket in tickets {
-        let worker = Worker {
-            number: crew.len() as u32,
+        crew.push_reserved(Worker {
             alloc,
             memo,
             desk,
             gate,
             ticket,
-        };
-        if crew.push(worker).is_err() {
-            return Err(WorkFault::OutOfMemory);
-        }
+        });
     }
     Ok(crew)
 }
 
-// Runs each worker on a thread of its own, until all have ended.
+// Runs each worker on a thread of its own, until all have ended. Returns what they came to, or
+// `None` if the start of a thread was refused.
 fn run_all<'d, 'm, 'g, R: Threads + Wait + Sync, M: Fills + Sync, G: Gate + Sync>(
     rt: &R,
     crew: Vec<Worker<'d, 'm, 'g, M, G>>,
-    handles: Vec<JoinHandle<Answer>>,
-) -> Result<(), CrewFault>
-    requires { vec_len handles + vec_len crew ≤ vec_capacity handles }
+    handles: Vec<Handle>,
+    outcomes: Vec<Outcome>,
+) -> Option<Vec<Outcome>>
+    requires workers { AreNumbered crew.items (λ worker. worker_of worker.ticket) }
+    requires none { (handles.items ≡ []) × (outcomes.items ≡ []) }
+    requires room { (vec_len crew ≤ vec_capacity handles) × (vec_len crew ≤ vec_capacity outcomes) }
+    ensures { IfSome result (λ outcomes. AreOutcomes (vec_len crew.entry) outcomes.items) }
 {
     thread::scope(
         thread::scope_env(),
         rt,
-        |scope| -> Result<(), CrewFault>
-            requires { vec_len handles + vec_len crew ≤ vec_capacity handles }
-        { run_in_scope(rt, scope, crew, handles) },
+        |scope| -> Option<Vec<Outcome>>
+            requires workers { AreNumbered crew.items (λ worker. worker_of worker.ticket) }
+            requires none { (handles.items ≡ []) × (outcomes.items ≡ []) }
+            requires room { (vec_len crew ≤ vec_capacity handles) × (vec_len crew ≤ vec_capacity outcomes) }
+            ensures { IfSome result (λ outcomes. AreOutcomes (vec_len crew.entry) outcomes.items) }
+        { run_in_scope(rt, scope, crew, handles, outcomes) },
     )
 }
 
-// Starts the workers, and joins all that were started. A refused start takes precedence over their
-// faults.
+// Starts the workers, and joins all that were started. Returns what they came to, or `None` if a
+// start was refused.
 fn run_in_scope<
     's,
     'd: 's,
@@ -131,43 +139,37 @@ fn run_in_scope<
     rt: &R,
     scope: &Scope<'s, E>,
     crew: Vec<Worker<'d, 'm, 'g, M, G>>,
-    mut handles: Vec<JoinHandle<Answer>>,
-) -> Result<(), CrewFault>
-    requires { vec_len handles + vec_len crew ≤ vec_capacity handles }
+    mut handles: Vec<Handle>,
+    outcomes: Vec<Outcome>,
+) -> Option<Vec<Outcome>>
+    requires workers { AreNumbered crew.items (λ worker. worker_of worker.ticket) }
+    requires none { (handles.items ≡ []) × (outcomes.items ≡ []) }
+    requires room { (vec_len crew ≤ vec_capacity handles) × (vec_len crew ≤ vec_capacity outcomes) }
+    ensures { IfSome result (λ outcomes. AreOutcomes (vec_len crew.entry) outcomes.items) }
 {
-    let started = start_all(scope, crew, &mut handles);
-    answer_of(started, join_all(rt, handles))
-}
-
-// The result of a pool of workers: a refused start, else what they returned.
-fn answer_of(started: bool, joined: Answer) -> Result<(), CrewFault>
-    ensures { result ≡ crew_answer started joined }
-{
-    if !started {
-        return Err(CrewFault::NoThread);
-    }
-    match joined {
-        Ok(()) => Ok(()),
-        Err(fault) => Err(CrewFault::Work(fault)),
-    }
+    let all_started = start_all(scope, crew, &mut handles);
+    let outcomes = join_all(rt, handles, outcomes);
+    if all_started { Some(outcomes) } else { None }
 }
 
 // Starts workers until a start is refused, and returns whether all were started.
 fn start_all<'s, 'd: 's, 'm: 's, 'g: 's, E, M: Fills + Sync + 's, G: Gate + Sync + 's>(
     scope: &Scope<'s, E>,
     crew: Vec<Worker<'d, 'm, 'g, M, G>>,
-    handles: &mut Vec<JoinHandle<Answer>>,
+    handles: &mut Vec<Handle>,
 ) -> bool
-    requires { vec_len handles.old + vec_len crew ≤ vec_capacity handles.old }
-    ensures { IsTrue result → vec_len handles.new ≡ vec_len handles.old + vec_len crew.entry }
+    requires workers { AreNumbered crew.items (λ worker. worker_of worker.ticket) }
+    requires none { handles.old.items ≡ [] }
+    requires room { vec_len crew ≤ vec_capacity handles.old }
+    ensures workers { AreNumbered handles.new.items (λ handle. handle.promise.0) }
+    ensures few { vec_len handles.new ≤ vec_len crew.entry }
+    ensures all { IsTrue result ↔ (vec_len handles.new ≡ vec_len crew.entry) }
 {
     for worker in crew {
         let Some(handle) = start_one(scope, worker) else {
             return false;
         };
-        let Ok(()) = handles.push(handle) else {
-            unreachable!()
-        };
+        handles.push_reserved(handle);
     }
     true
 }
@@ -176,25 +178,59 @@ fn start_all<'s, 'd: 's, 'm: 's, 'g: 's, E, M: Fills + Sync + 's, G: Gate + Sync
 fn start_one<'s, 'd: 's, 'm: 's, 'g: 's, E, M: Fills + Sync + 's, G: Gate + Sync + 's>(
     scope: &Scope<'s, E>,
     worker: Worker<'d, 'm, 'g, M, G>,
-) -> Option<JoinHandle<Answer>> {
-    scope.spawn(move || worker.run()).ok()
-}
-
-// Joins the workers in order, and returns the fault of the lowest one that has a fault.
-fn join_all<R: Threads>(rt: &R, handles: Vec<JoinHandle<Answer>>) -> Answer {
-    let mut lowest = Ok(());
-    for handle in handles {
-        lowest = earlier(lowest, handle.join(rt));
-    }
-    lowest
-}
-
-// The first result if it is a fault, else the second.
-fn earlier(first: Answer, second: Answer) -> Answer
-    ensures { result ≡ first_fault first second }
+) -> Option<Handle>
+    ensures { IfSome result (λ handle. handle.promise.0 ≡ worker_of worker.entry.ticket) }
 {
-    match first {
-        Ok(()) => second,
-        Err(fault) => Err(fault),
+    let Worker {
+        alloc,
+        memo,
+        desk,
+        gate,
+        ticket,
+    } = worker;
+    let promise = OutcomeOf(ticket.worker());
+    scope
+        .spawn_with(promise, move || fill_all(alloc, memo, desk, gate, ticket))
+        .ok()
+}
+
+// Joins the threads in order, and appends what their workers came to.
+fn join_all<R: Threads>(rt: &R, handles: Vec<Handle>, mut outcomes: Vec<Outcome>) -> Vec<Outcome>
+    requires workers { AreNumbered handles.items (λ handle. handle.promise.0) }
+    requires none { outcomes.items ≡ [] }
+    requires room { vec_len handles ≤ vec_capacity outcomes }
+    ensures { AreOutcomes (vec_len handles) result.items }
+{
+    for handle in handles {
+        outcomes.push_reserved(handle.join(rt));
     }
+    outcomes
+}
+
+// The answer of a crew: `NoThread` if a start was refused, else the fault of the lowest worker that
+// has one.
+fn answer_of(outcomes: Option<Vec<Outcome>>) -> Result<(), CrewFault>
+    requires { ForSome outcomes (λ some. AreNumbered some.items outcome_worker) }
+    ensures { MatchOption outcomes (result ≡ Err CrewFault.NoThread) (λ some. IsCrewAnswer some.items result) }
+{
+    let Some(outcomes) = outcomes else {
+        return Err(CrewFault::NoThread);
+    };
+    match lowest_fault(&outcomes) {
+        Ok(()) => Ok(()),
+        Err(fault) => Err(CrewFault::Work(fault)),
+    }
+}
+
+// The fault of the lowest worker that has one.
+fn lowest_fault(outcomes: &[Outcome]) -> Result<(), WorkFault>
+    requires { AreNumbered outcomes.now outcome_worker }
+    ensures { IsLowestFault outcomes.now result }
+{
+    for outcome in outcomes {
+        if let Err(fault) = outcome.answer {
+            return Err(fault);
+        }
+    }
+    Ok(())
 }

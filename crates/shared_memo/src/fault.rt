@@ -1,5 +1,10 @@
 ghost use Rattle.std.specs.Prelude.{◌≡◌};
 ghost use Rattle.shared_memo.specs.declared.fault.CrewFault.TheVariants.{Work};
+ghost use Rattle.shared_memo.specs.declared.fault.WorkFault.TheVariants.{OutOfMemory as NoMemory, Stranger as Met};
+
+use crate::memo::Stranger;
+use node_program::OutOfMemory;
+use std::alloc::AllocError;
 
 /// Why a worker did not fill its jobs.
 #[derive(Clone, Copy)]
@@ -19,10 +24,42 @@ pub enum CrewFault {
     NoThread,
 }
 
+impl From<OutOfMemory> for WorkFault {
+    ghost from_gives = { λ _ fault. fault ≡ NoMemory };
+
+    fn from(_refused: OutOfMemory) -> WorkFault {
+        WorkFault::OutOfMemory
+    }
+}
+
+impl From<Stranger> for WorkFault {
+    ghost from_gives = { λ _ fault. fault ≡ Met };
+
+    fn from(_met: Stranger) -> WorkFault {
+        WorkFault::Stranger
+    }
+}
+
 impl From<WorkFault> for CrewFault {
     ghost from_gives = { λ work fault. fault ≡ Work work };
 
     fn from(fault: WorkFault) -> CrewFault {
         CrewFault::Work(fault)
+    }
+}
+
+impl From<OutOfMemory> for CrewFault {
+    ghost from_gives = { λ _ fault. fault ≡ Work NoMemory };
+
+    fn from(_refused: OutOfMemory) -> CrewFault {
+        CrewFault::Work(WorkFault::OutOfMemory)
+    }
+}
+
+impl From<AllocError> for CrewFault {
+    ghost from_gives = { λ _ fault. fault ≡ Work NoMemory };
+
+    fn from(_refused: AllocError) -> CrewFault {
+        CrewFault::Work(WorkFault::OutOfMemory)
     }
 }

@@ -1,5 +1,6 @@
-ghost use Rattle.std.specs.Prelude.{◌≡◌, ℕ, ◌≤◌, ◌^◌, List, IfOk};
-ghost use Rattle.shared_memo.specs.Tickets.{drawn, numbers_of, IsFreshTicketOf};
+// A worker that is ready to draw, and what it came to.
+ghost use Rattle.std.specs.Prelude.{◌≡◌, ℕ, ◌≤◌, ◌^◌, List, IfOk, OnOk, true, is_ok};
+ghost use Rattle.shared_memo.specs.Tickets.{drawn, told, worker_of, numbers_of, IsFreshTicketOf};
 
 use crate::desk::{Desk, Ticket};
 use crate::fault::WorkFault;
@@ -16,18 +17,19 @@ pub trait Fills {
         ensures value { result ≡ jobs self.now }
         ensures few { result ≤ 2 ^ 24 };
 
-    /// Draws until all jobs are drawn, and fills each. The gate is called once for each job that
-    /// was drawn, with the worker's number.
+    /// Draws until the ticket is told that all jobs are drawn, and fills each job that it has
+    /// drawn. The gate is called once for each of them, with the number of the ticket's worker.
     fn work<G: Gate>(
         &self,
         alloc: Global,
         desk: &Desk,
-        ticket: Ticket,
+        ticket: &mut Ticket,
         gate: &G,
-        number: u32,
     ) -> Result<(), WorkFault>
-        requires ticket { IsFreshTicketOf desk.now ticket }
-        requires total { numbers_of desk.now ≡ jobs self.now };
+        requires ticket { IsFreshTicketOf desk.now ticket.old }
+        requires total { numbers_of desk.now ≡ jobs self.now }
+        ensures told { OnOk result (told ticket.new ≡ 1) }
+        ensures worker { worker_of ticket.new ≡ worker_of ticket.old };
 }
 
 /// Jobs whose single worker returns what it learned.
@@ -48,10 +50,11 @@ pub trait Leaves: Fills {
         desk: &Desk,
         ticket: &mut Ticket,
         gate: &G,
-        number: u32,
     ) -> Result<Self::Left, WorkFault>
         requires ticket { IsFreshTicketOf desk.now ticket.old }
         requires total { numbers_of desk.now ≡ Self.jobs self.now }
+        ensures told { OnOk result (told ticket.new ≡ 1) }
+        ensures worker { worker_of ticket.new ≡ worker_of ticket.old }
         ensures left { IfOk result (IsLeft self.now) }
         ensures filled { IfOk result (λ left. KnowsJobs left (drawn ticket.new)) };
 }
@@ -59,7 +62,6 @@ pub trait Leaves: Fills {
 // A worker that is ready to draw.
 #[derive(Drop)]
 pub(crate) struct Worker<'d, 'm, 'g, M: Fills, G: Gate> {
-    pub number: u32,
     pub alloc: Global,
     pub memo: &'m M,
     pub desk: &'d Desk,
@@ -69,17 +71,27 @@ pub(crate) struct Worker<'d, 'm, 'g, M: Fills, G: Gate> {
     pub ghost total: { numbers_of desk.now ≡ M.jobs memo.now },
 }
 
-impl<'d, 'm, 'g, M: Fills, G: Gate> Worker<'d, 'm, 'g, M, G> {
-    // Draws and fills until all jobs are drawn.
-    pub(crate) fn run(self) -> Result<(), WorkFault> {
-        let Worker {
-            number,
-            alloc,
-            memo,
-            desk,
-            gate,
-            ticket,
-        } = self;
-        memo.work(alloc, desk, ticket, gate, number)
-    }
+// What a worker came to: its ticket, and its fault if it has one. Without a fault, the ticket was
+// told that all jobs are drawn.
+#[derive(Drop)]
+pub(crate) struct Outcome {
+    pub ticket: Ticket,
+    pub answer: Result<(), WorkFault>,
+    pub ghost all_drawn: { is_ok answer ≡ true → told ticket ≡ 1 },
+}
+
+// Draws and fills until all jobs are drawn, and returns what the ticket's worker came to.
+pub(crate) fn fill_all<M: Fills, G: Gate>(
+    alloc: Global,
+    memo: &M,
+    desk: &Desk,
+    gate: &G,
+    mut ticket: Ticket,
+) -> Outcome
+    requires ticket { IsFreshTicketOf desk.now ticket }
+    requires total { numbers_of desk.now ≡ M.jobs memo.now }
+    ensures { worker_of result.ticket ≡ worker_of ticket }
+{
+    let answer = memo.work(alloc, desk, &mut ticket, gate);
+    Outcome { ticket, answer }
 }

@@ -1,18 +1,18 @@
-ghost use Rattle.std.specs.Prelude.{◌≡◌, IfOk, IfErr, OnOk, true, is_some};
+ghost use Rattle.std.specs.Prelude.{◌≡◌, ℕ, None, IfOk, IfErr, OnOk, OnErr, IsSomeAnd, true, false, is_some};
 ghost use Rattle.lang_check.specs.Plans.{ProgramForIds};
 ghost use Rattle.shared_memo.specs.declared.memo.Memo.{Memo};
-ghost use Rattle.shared_memo.specs.Passes.{known};
-ghost use Rattle.shared_memo.specs.PlanJobs.{IsKey};
-ghost use Rattle.table_fill.specs.MissingBlocks.{IsMissingBlock};
+ghost use Rattle.shared_memo.specs.Passes.{known, seen};
+ghost use Rattle.shared_memo.specs.PlanJobs.{IsKey, IsStranger};
+ghost use Rattle.table_fill.specs.MissingBlocks.{missing_of, IsMissingBlock};
 ghost use Rattle.table_fill.specs.declared.cell.Made.TheVariants.{Fresh};
 ghost use Rattle.window_states.specs.Entries.{Asked, Entries};
 
 use crate::cell_maker::CellMaker;
-use shared_memo::{Installed, WorkFault};
+use crate::own_reader::OwnReader;
+use shared_memo::{Installed, Stranger, WorkFault};
 use std::alloc::Global;
 use unroll::MakeFault;
 use win_index::{MAX_BLOCKS, window_of_number};
-use window_states::Source;
 
 // The outcome of making a block.
 #[derive(Clone, Copy)]
@@ -27,6 +27,9 @@ pub(crate) enum Made {
 pub(crate) trait Cells {
     ghost plan: { Self → ProgramForIds };
 
+    // The number of the worker, which is the maker of its blocks.
+    ghost worker: { Self → ℕ };
+
     ghost Fixed: { Type 0 };
 
     // What no call changes.
@@ -35,32 +38,33 @@ pub(crate) trait Cells {
     // The blocks that are known to be in their cells.
     ghost entries: { Self → Entries };
 
+    // The blocks that were seen in their cells, right or not.
+    ghost seen: { Self → Entries };
+
     // Looks at the cell of this level and number, and returns whether its block is known then.
-    fn finds(&mut self, level: u32, number: u32) -> bool
+    // Fails if the cell holds a stranger.
+    fn finds(&mut self, level: u32, number: u32) -> Result<bool, Stranger>
         requires { IsKey (plan self.old) level number }
         ensures asked { Asked plan fixed entries self.old self.new }
-        ensures found { result ≡ is_some (entries self.new level number) };
+        ensures same_worker { worker self.new ≡ worker self.old }
+        ensures found { IfOk result (λ found. found ≡ is_some (entries self.new level number)) }
+        ensures empty { IfOk result (λ found. found ≡ false → seen self.new level number ≡ None) }
+        ensures stranger { OnErr result (IsSomeAnd (seen self.new level number) (IsStranger (plan self.old) level number)) };
 
     // Makes the block of this level and number and stores it, or returns a block of a lower level
     // that is missing.
-    fn make(
-        &mut self,
-        alloc: Global,
-        maker: u32,
-        level: u32,
-        number: u32,
-    ) -> Result<Made, MakeFault>
+    fn make(&mut self, alloc: Global, level: u32, number: u32) -> Result<Made, MakeFault>
         requires { IsKey (plan self.old) level number }
         ensures asked { Asked plan fixed entries self.old self.new }
-        ensures fresh { IfOk result (λ made. made ≡ Fresh → is_some (entries self.new level number) ≡ true) }
+        ensures same_worker { worker self.new ≡ worker self.old }
+        ensures fresh { IfOk result (λ made. made ≡ Fresh → IsSomeAnd (entries self.new level number) (λ block. block.maker ≡ worker self.old)) }
         ensures missing { IfErr result (IsMissingBlock (plan self.old) level) };
-
-    // Whether a cell held an unexpected block.
-    fn stranger(&self) -> bool;
 }
 
 impl<'s, 'a> Cells for CellMaker<'s, 'a> {
     ghost plan = { λ c. c.reader.pass.plan.now };
+
+    ghost worker = { λ c. c.worker };
 
     ghost Fixed = { Memo };
 
@@ -68,20 +72,21 @@ impl<'s, 'a> Cells for CellMaker<'s, 'a> {
 
     ghost entries = { λ c. known c.reader.pass };
 
-    fn finds(&mut self, level: u32, number: u32) -> bool {
-        self.reader.block(level, number).is_some()
+    ghost seen = { λ c. seen c.reader.pass };
+
+    fn finds(&mut self, level: u32, number: u32) -> Result<bool, Stranger> {
+        let OwnReader { memo, pass } = &mut self.reader;
+        Ok(memo.look(pass, level, number)?.is_some())
     }
 
-    fn make(
-        &mut self,
-        alloc: Global,
-        maker: u32,
-        level: u32,
-        number: u32,
-    ) -> Result<Made, MakeFault> {
+    fn make(&mut self, alloc: Global, level: u32, number: u32) -> Result<Made, MakeFault> {
         window_of_number();
-        let CellMaker { reader, blocks } = self;
-        let block = match blocks.make(reader, level, number, maker) {
+        let CellMaker {
+            reader,
+            blocks,
+            worker,
+        } = self;
+        let block = match blocks.make(reader, level, number, *worker) {
             Ok(block) => block,
             Err(fault) => return Err(fault),
         };
@@ -93,10 +98,6 @@ impl<'s, 'a> Cells for CellMaker<'s, 'a> {
             Installed::Stood(_) => Made::Stood,
         })
     }
-
-    fn stranger(&self) -> bool {
-        self.reader.stranger
-    }
 }
 
 // Fills the cell of this level and number, unless it is full. Missing blocks below are made first;
@@ -104,27 +105,42 @@ impl<'s, 'a> Cells for CellMaker<'s, 'a> {
 pub(crate) fn fill_cell<C: Cells>(
     alloc: Global,
     cells: &mut C,
-    maker: u32,
     level: u32,
     number: u32,
 ) -> Result<(), WorkFault>
     requires { IsKey (C.plan cells.old) level number }
     ensures asked { Asked C.plan C.fixed C.entries cells.old cells.new }
+    ensures same_worker { C.worker cells.new ≡ C.worker cells.old }
     ensures known { OnOk result (is_some (C.entries cells.new level number) ≡ true) }
 {
-    if cells.finds(level, number) {
+    if cells.finds(level, number)? {
         return Ok(());
     }
     for _attempt in 0..MAX_BLOCKS + 1 {
-        match cells.make(alloc, maker, level, number) {
+        match cells.make(alloc, level, number) {
             Ok(Made::Fresh) => return Ok(()),
-            Ok(Made::Stood) if cells.finds(level, number) => return Ok(()),
-            Err(MakeFault::Missing(low, below)) if !cells.stranger() => {
-                fill_cell(alloc, cells, maker, low, below)?;
+            Ok(Made::Stood) => {
+                return if cells.finds(level, number)? {
+                    Ok(())
+                } else {
+                    Err(WorkFault::Stranger)
+                };
             }
-            Err(MakeFault::OutOfMemory) => return Err(WorkFault::OutOfMemory),
-            _ => return Err(WorkFault::Stranger),
+            Err(fault) => {
+                let (low, below) = missing_block(fault)?;
+                fill_cell(alloc, cells, low, below)?;
+            }
         }
     }
     Err(WorkFault::Stranger)
+}
+
+// The block that was missing when one was made, or the fault that memory was refused.
+fn missing_block(fault: MakeFault) -> Result<(u32, u32), WorkFault>
+    ensures { result ≡ missing_of fault }
+{
+    match fault {
+        MakeFault::Missing(low, below) => Ok((low, below)),
+        MakeFault::OutOfMemory => Err(WorkFault::OutOfMemory),
+    }
 }

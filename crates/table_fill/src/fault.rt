@@ -1,6 +1,8 @@
 ghost use Rattle.std.specs.Prelude.{◌≡◌, ◌≢◌};
 ghost use Rattle.table_fill.specs.Faults.{fill_fault_of};
+ghost use Rattle.table_fill.specs.declared.fault.FillFault.TheVariants.{OutOfMemory as NoMemory};
 
+use node_program::OutOfMemory;
 use shared_memo::{CrewFault, WorkFault};
 
 /// Why a table was not compiled.
@@ -15,6 +17,14 @@ pub enum FillFault {
     Stranger,
     /// The start of a thread was refused.
     NoThread,
+}
+
+impl From<OutOfMemory> for FillFault {
+    ghost from_gives = { λ _ fault. fault ≡ NoMemory };
+
+    fn from(_refused: OutOfMemory) -> FillFault {
+        FillFault::OutOfMemory
+    }
 }
 
 // Converts a fault of a pool of workers to `compile`'s.

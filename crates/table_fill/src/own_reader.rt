@@ -1,16 +1,15 @@
 // A worker's own reader of a memo.
 ghost use Rattle.shared_memo.specs.Passes.{IsPassOf, IsPassOf-prop};
 
-use shared_memo::{Memo, Pass, found_in};
+use shared_memo::{Memo, Pass, Stranger};
 use window_states::{Block, Source};
 
-// A source of blocks that looks into a memo through a pass of its own, and marks a stranger. It
-// keeps looking after one, so a block that the pass knows is always found.
+// A source of blocks that looks into a memo through a pass of its own. It returns no block for a
+// cell that holds a stranger.
 #[derive(Drop)]
 pub(crate) struct OwnReader<'s, 'a> {
     pub(crate) memo: &'s Memo<'a>,
     pub(crate) pass: Pass<'a>,
-    pub(crate) stranger: bool,
     pub(crate) ghost pass_of: { IsPassOf memo.now pass } by { IsPassOf-prop memo.now pass },
 }
 
@@ -27,7 +26,9 @@ impl<'s, 'a> Source<'s> for OwnReader<'s, 'a> {
     ghost fixed = { λ r. r.memo.now };
 
     fn block(&mut self, level: u32, number: u32) -> Option<&'s Block<'s>> {
-        let looked = self.memo.look(&mut self.pass, level, number);
-        found_in(looked, &mut self.stranger)
+        match self.memo.look(&mut self.pass, level, number) {
+            Ok(found) => found,
+            Err(Stranger) => None,
+        }
     }
 }

@@ -2,7 +2,7 @@
 ghost use Rattle.std.specs.Prelude.{◌≡◌, OnOk};
 ghost use Rattle.shared_memo.specs.Passes.{known, memo_plan, IsPassOf};
 ghost use Rattle.shared_memo.specs.PlanJobs.{job_count};
-ghost use Rattle.shared_memo.specs.Tickets.{drawn, numbers_of, IsFreshTicketOf};
+ghost use Rattle.shared_memo.specs.Tickets.{drawn, told, worker_of, numbers_of, IsFreshTicketOf};
 ghost use Rattle.table_fill.specs.Filled.{AreKnown};
 
 use crate::cell::fill_cell;
@@ -26,11 +26,10 @@ impl<'m, 'a> Fills for MemoFill<'m, 'a> {
         &self,
         alloc: Global,
         desk: &Desk,
-        mut ticket: Ticket,
+        ticket: &mut Ticket,
         gate: &G,
-        number: u32,
     ) -> Result<(), WorkFault> {
-        let _pass = self.work_alone(alloc, desk, &mut ticket, gate, number)?;
+        let _pass = self.work_alone(alloc, desk, ticket, gate)?;
         Ok(())
     }
 }
@@ -48,45 +47,45 @@ impl<'m, 'a> Leaves for MemoFill<'m, 'a> {
         desk: &Desk,
         ticket: &mut Ticket,
         gate: &G,
-        number: u32,
     ) -> Result<Pass<'a>, WorkFault> {
-        let Ok(pass) = self.memo.pass(alloc) else {
-            return Err(WorkFault::OutOfMemory);
-        };
-        let Ok(blocks) = BlockMaker::new(alloc, self.code) else {
-            return Err(WorkFault::OutOfMemory);
-        };
+        let pass = self.memo.pass(alloc)?;
+        let blocks = BlockMaker::new(alloc, self.code)?;
         let reader = OwnReader {
             memo: self.memo,
             pass,
-            stranger: false,
         };
-        let mut cells = CellMaker { reader, blocks };
-        fill_drawn(alloc, desk, ticket, gate, number, &mut cells)?;
+        let mut cells = CellMaker {
+            reader,
+            blocks,
+            worker: ticket.worker(),
+        };
+        fill_drawn(alloc, desk, ticket, gate, &mut cells)?;
         Ok(cells.reader.pass)
     }
 }
 
-// Fills the cell of each job that a worker draws, until none is left.
+// Fills the cell of each job that a worker draws, until it is told that all are drawn.
 fn fill_drawn<G: Gate>(
     alloc: Global,
     desk: &Desk,
     ticket: &mut Ticket,
     gate: &G,
-    number: u32,
     cells: &mut CellMaker<'_, '_>,
 ) -> Result<(), WorkFault>
     requires ticket { IsFreshTicketOf desk.now ticket.old }
     requires total { numbers_of desk.now ≡ job_count cells.old.reader.memo.now.plan.now }
+    requires maker { cells.old.worker ≡ worker_of ticket.old }
+    ensures told { OnOk result (told ticket.new ≡ 1) }
+    ensures worker { worker_of ticket.new ≡ worker_of ticket.old }
     ensures memo { cells.new.reader.memo.now ≡ cells.old.reader.memo.now }
     ensures filled { OnOk result (AreKnown cells.new.reader.pass.plan.now (known cells.new.reader.pass) (drawn ticket.new)) }
 {
     jobs_have_numbers();
     let shape = cells.reader.memo.plan().shape();
     while let Some(job) = desk.draw(ticket) {
-        gate.entered(number, job);
+        gate.entered(ticket.worker(), job);
         let (level, block) = shape.job(job);
-        fill_cell(alloc, cells, number, level, block)?;
+        fill_cell(alloc, cells, level, block)?;
     }
     Ok(())
 }

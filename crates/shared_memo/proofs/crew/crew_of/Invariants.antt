@@ -1,12 +1,15 @@
-use Rattle.std.proofs.Common.{◌≡◌, ◌+◌, All, vec_len}
+use Rattle.std.proofs.Common.{◌≡◌, ◌+◌, ◌≤◌, All, vec_len, vec_capacity}
 use Rattle.std.specs.Vec.Iter.{into_iter_items, into_iter_len}
-use Rattle.shared_memo.specs.Tickets.{IsFreshTicketOf}
+use Rattle.shared_memo.specs.Tickets.{worker_of, IsFreshTicketOf}
 use Rattle.shared_memo.specs.Workers.{AreNumbered}
+use Rattle.shared_memo.proofs.Numbered.{AreNumberedFrom}
 use Rattle.shared_memo.proofs.crew.crew_of.Given as goal
 
 abbrev pub invariant-loop-ticket : goal.invariant-loop-ticket
 invariant-loop-ticket g l = record {
   ready : All (IsFreshTicketOf l.desk) (into_iter_items l.ticket-iterator);
+  room : vec_len l.crew + into_iter_len l.ticket-iterator ≤ vec_capacity l.crew;
   count : vec_len l.crew + into_iter_len l.ticket-iterator ≡ vec_len l.fn.tickets;
-  numbers : AreNumbered l.crew.items (λ worker. worker.number);
+  rest : AreNumberedFrom (vec_len l.crew) (into_iter_items l.ticket-iterator) worker_of;
+  workers : AreNumbered l.crew.items (λ worker. worker_of worker.ticket);
 }

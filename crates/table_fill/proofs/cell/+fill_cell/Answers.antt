@@ -1,23 +1,12 @@
+use Rattle.std.proofs.Common.{◌∙◌}
 use Rattle.table_fill.proofs.AskedTwice.{asked_both}
 use Rattle.table_fill.proofs.cell.+fill_cell.Goals as goal
 
 pub returns-in-Ok-Fresh-clause-asked : goal.returns-in-Ok-Fresh-clause-asked
-returns-in-Ok-Fresh-clause-asked g t c = asked_both g.C.Cells.plan g.C.Cells.fixed g.C.Cells.entries _ _ _ c.loop-attempt.invariant c.make.ensures.asked
-
-pub returns-in-Ok-Stood-clause-asked : goal.returns-in-Ok-Stood-clause-asked
-returns-in-Ok-Stood-clause-asked g t c = asked_both g.C.Cells.plan g.C.Cells.fixed g.C.Cells.entries _ _ _ (asked_both g.C.Cells.plan g.C.Cells.fixed g.C.Cells.entries _ _ _ c.loop-attempt.invariant c.make.ensures.asked) c.if-finds-2.ensures.asked
-
-pub returns-in_err-fill_cell-in-Err-Missing-clause-asked : goal.returns-in_err-fill_cell-in-Err-Missing-clause-asked
-returns-in_err-fill_cell-in-Err-Missing-clause-asked g t c = asked_both g.C.Cells.plan g.C.Cells.fixed g.C.Cells.entries _ _ _ (asked_both g.C.Cells.plan g.C.Cells.fixed g.C.Cells.entries _ _ _ c.loop-attempt.invariant c.make.ensures.asked) c.fill_cell.ensures.asked
-
-pub returns-in-Err-OutOfMemory-clause-asked : goal.returns-in-Err-OutOfMemory-clause-asked
-returns-in-Err-OutOfMemory-clause-asked g t c = asked_both g.C.Cells.plan g.C.Cells.fixed g.C.Cells.entries _ _ _ c.loop-attempt.invariant c.make.ensures.asked
+returns-in-Ok-Fresh-clause-asked g t c = asked_both g.C.Cells.plan g.C.Cells.fixed g.C.Cells.entries _ _ _ c.loop-attempt.invariant.asked c.make.ensures.asked
 
 pub loop-attempt-preserved : goal.loop-attempt-preserved
-loop-attempt-preserved g t c = asked_both g.C.Cells.plan g.C.Cells.fixed g.C.Cells.entries _ _ _ (asked_both g.C.Cells.plan g.C.Cells.fixed g.C.Cells.entries _ _ _ c.loop-attempt.invariant c.make.ensures.asked) c.fill_cell.ensures.asked
-
-pub returns-in_default-clause-asked : goal.returns-in_default-clause-asked
-returns-in_default-clause-asked g t c = asked_both g.C.Cells.plan g.C.Cells.fixed g.C.Cells.entries _ _ _ (asked_both g.C.Cells.plan g.C.Cells.fixed g.C.Cells.entries _ _ _ c.loop-attempt.invariant c.make.ensures.asked) c.if-finds-2.ensures.asked
-
-pub returns-in_default-2-clause-asked : goal.returns-in_default-2-clause-asked
-returns-in_default-2-clause-asked g t c = asked_both g.C.Cells.plan g.C.Cells.fixed g.C.Cells.entries _ _ _ c.loop-attempt.invariant c.make.ensures.asked
+loop-attempt-preserved g t c = record {
+  asked = asked_both g.C.Cells.plan g.C.Cells.fixed g.C.Cells.entries _ _ _ (asked_both g.C.Cells.plan g.C.Cells.fixed g.C.Cells.entries _ _ _ c.loop-attempt.invariant.asked c.make.ensures.asked) c.fill_cell.ensures.asked;
+  same_worker = c.fill_cell.ensures.same_worker ∙ c.make.ensures.same_worker ∙ c.loop-attempt.invariant.same_worker;
+}

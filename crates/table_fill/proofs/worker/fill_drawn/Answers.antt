@@ -29,6 +29,8 @@ loop-job-preserved g c =
     record {
       ticket = search rules;
       untold = search rules;
+      worker = search rules;
+      maker = search rules;
       same_plan = search rules;
       same_memo = search rules;
       filled = rw all known_all;

@@ -1,0 +1,34 @@
+-- What the workers of a crew came to. No public contract cites this file.
+use Rattle.std.specs.Prelude.{◌≡◌, ℕ, ◌<◌, List, Result, Ok, Err, IsOk, All, Contains, length}
+use Rattle.shared_memo.specs.declared.fault.WorkFault.{WorkFault}
+use Rattle.shared_memo.specs.declared.fault.CrewFault.{CrewFault}
+use Rattle.shared_memo.specs.declared.fault.CrewFault.TheVariants.{Work, NoThread}
+use Rattle.shared_memo.specs.declared.worker.Outcome.{Outcome}
+use Rattle.shared_memo.specs.Tickets.{worker_of}
+use Rattle.shared_memo.specs.Workers.{AreNumbered}
+
+-- the number of the worker that came to this
+abbrev pub outcome_worker : Outcome → ℕ
+outcome_worker outcome = worker_of outcome.ticket
+
+-- the outcomes of this many workers, in the order of their numbers
+pub record AreOutcomes (workers : ℕ) (outcomes : List Outcome) : Type 0 where
+  pub count : length outcomes ≡ workers
+  pub numbers : AreNumbered outcomes outcome_worker
+
+-- an outcome of the lowest worker with a fault: this is its fault, and workers with lower numbers have none
+pub record IsLowest (outcomes : List Outcome) (fault : WorkFault) (outcome : Outcome) : Type 0 where
+  pub one_of : Contains outcomes outcome
+  pub fault_is : outcome.answer ≡ Err fault
+  pub none_lower : All (λ other. outcome_worker other < outcome_worker outcome → IsOk other.answer) outcomes
+
+-- the fault of the lowest worker that has one, if one has one
+abbrev pub IsLowestFault : List Outcome → Result (Unit {0}) WorkFault → Type 0
+IsLowestFault outcomes (Ok done) = All (λ outcome. IsOk outcome.answer) outcomes
+IsLowestFault outcomes (Err fault) = (outcome : Outcome) × IsLowest outcomes fault outcome
+
+-- the same as the fault of a crew
+abbrev pub IsCrewAnswer : List Outcome → Result (Unit {0}) CrewFault → Type 0
+IsCrewAnswer outcomes (Ok done) = IsLowestFault outcomes (Ok done)
+IsCrewAnswer outcomes (Err (Work fault)) = IsLowestFault outcomes (Err fault)
+IsCrewAnswer outcomes (Err NoThread) = ⊥
