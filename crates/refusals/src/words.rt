@@ -1,5 +1,6 @@
 use crate::miss::Miss;
-use crate::tell::{other_call, tell, tell_numbers};
+use crate::tell::{other_call, retried, tell, tell_numbers, value_or_refusal};
+use node_lang::OutOfMemory;
 use std::alloc::Global;
 use std::io;
 use std::io::ErrorKind;
@@ -80,17 +81,19 @@ fn tell_task_answer<R: Print>(rt: &R, answer: &Result<Task, WordsFault>) -> Resu
 
 /// `words_fault`: prints the text for words that are not UTF-8.
 pub(crate) fn do_words_fault<R: AllocGlobal + Print>(rt: &R) -> Result<(), Miss> {
-    let answer = match words_fault(rt.alloc(), io::Error::from(ErrorKind::InvalidData)) {
-        WordsFault::OutOfMemory => {
-            tell(rt, "OutOfMemory")?;
-            words_fault(rt.alloc(), io::Error::from(ErrorKind::InvalidData))
-        }
-        answer => answer,
+    let fault = match value_or_refusal(rt, not_utf8(rt.alloc()))? {
+        Some(fault) => fault,
+        None => retried(not_utf8(rt.alloc()))?,
     };
-    match answer {
+    match fault {
         WordsFault::Usage(text) => tell(rt, &text),
         _ => Err(Miss::Wrong),
     }
+}
+
+// Returns the fault of words that are not UTF-8.
+fn not_utf8(alloc: Global) -> Result<WordsFault, OutOfMemory> {
+    Ok(words_fault(alloc, io::Error::from(ErrorKind::InvalidData))?)
 }
 
 // Splits a line into words at its blanks.
