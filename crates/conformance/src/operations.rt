@@ -1,8 +1,8 @@
 //! Rounds of many nodes at once, compared with rounds of single nodes.
 
-ghost use Rattle.std.specs.Prelude.{◌≡◌, ◌<◌, ◌≤◌, length, IfSome};
+ghost use Rattle.std.specs.Prelude.{◌≡◌, ◌<◌, ◌≤◌, length};
 ghost use Rattle.round_columns.specs.Room.{HasRoomFor};
-ghost use Rattle.round_columns.specs.States.{HasSize, SameSize};
+ghost use Rattle.round_columns.specs.States.{SameSize};
 
 use lang_check::Plan;
 use round_columns::{Code, Columns, Work, step_columns};

@@ -167,25 +167,26 @@ fn first_block<'a, R: AllocGlobal + Print>(
     if !has_block(plan, 0, 0) {
         return Err(Miss::Wrong);
     }
-    let block = made(rt, plan, &mut NoBlocks { plan }, 0, maker)?;
+    let block = made(rt, plan, &mut NoBlocks { plan }, (0, 0), maker)?;
     other_call(Box::new(rt.alloc(), block))
 }
 
-// Returns the last block of a level, made from the blocks of a source.
+// Returns the block of a level and a number, made from the blocks of a source.
 fn made<'a, 's, S: Source<'s>, R: AllocGlobal + Print>(
     rt: &R,
     plan: &'a Plan,
     source: &mut S,
-    level: u32,
+    key: (u32, u32),
     maker: u32,
 ) -> Result<Block<'a>, Miss>
     requires plan { S.plan source.old ≡ plan.now }
-    requires key { IsKey plan.now level level }
+    requires key { IsKey plan.now key.0 key.1 }
 {
     let alloc = rt.alloc();
-    match value_or_refusal(rt, make_block(alloc, plan, source, level, level, maker))? {
+    let (level, number) = key;
+    match value_or_refusal(rt, make_block(alloc, plan, source, level, number, maker))? {
         Some(block) => Ok(block),
-        None => retried(make_block(alloc, plan, source, level, level, maker)),
+        None => retried(make_block(alloc, plan, source, level, number, maker)),
     }
 }
 
@@ -201,7 +202,7 @@ fn tell_blocks<R: AllocGlobal + Print>(
         return Err(Miss::Wrong);
     }
     tell_missing(rt, plan)?;
-    let block = made(rt, plan, reader, 1, 4)?;
+    let block = made(rt, plan, reader, (1, 1), 4)?;
     tell_states(rt, &block)
 }
 
