@@ -28,8 +28,9 @@ pub(crate) struct Course<'a, R, G, B: BorderName, L: BorderName> {
     pub(crate) progress: Progress<'a>,
 }
 
-// Makes the next segment's right border and starts the segment. If one of the two is refused, the
-// run can't go on: the borders before the segment and after the last one are closed.
+// Makes the next segment's right border and starts the segment, so that `_count` segments are left
+// to start. If one of the two is refused, the run can't go on: the borders before the segment and
+// after the last one are closed.
 pub(crate) fn started<
     's,
     'e,
