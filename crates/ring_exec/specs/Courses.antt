@@ -1,6 +1,9 @@
 -- Runs on their way. No public contract cites this file.
-use Rattle.std.specs.Prelude.{◌≡◌, ◌≢◌, ℕ, ◌+◌, Option, None, IsSome, IsNone, vec_len}
+use Rattle.std.specs.Prelude.{◌≡◌, ◌≢◌, ℕ, ◌+◌, ◌≤◌, Option, None, Some, IsSome, IsNone, vec_len}
+use Rattle.ring_exec.specs.Faults.{blamed}
 use Rattle.ring_exec.specs.Outcomes.{HasMore}
+use Rattle.ring_exec.specs.declared.fault.SegmentFault.TheVariants.{OutOfMemory}
+use Rattle.ring_exec.specs.declared.fault.CourseFault.TheVariants.{Segment, NoThread}
 use Rattle.ring_exec.specs.declared.joined.Joined.{Joined}
 use Rattle.ring_exec.specs.declared.progress.Progress.{Progress}
 
@@ -16,6 +19,13 @@ HasStarted before after =
     after.joined.fault ≡ None
     → (before.joined.fault ≡ None) × (vec_len after.joined.segments ≡ vec_len before.joined.segments)
     × (vec_len after.threads ≡ vec_len before.threads + 1)
+
+-- the fault of a run whose next segment was not started: if its start was tried, which raises the index, there was no
+-- thread, and else no memory
+pub record HasRefused (before after : Progress) : Type 0 where
+  pub index : (before.index ≤ after.index) × (after.index ≤ before.index + 1)
+  pub thread : after.index ≡ before.index + 1 → after.joined.fault ≡ Some (blamed before.joined.fault NoThread)
+  pub memory : after.index ≡ before.index → after.joined.fault ≡ Some (blamed before.joined.fault (Segment OutOfMemory))
 
 -- after the end of a run in which so many segments were not started yet: without a fault, the outcomes of its threads
 -- and of these segments were added

@@ -1,7 +1,6 @@
 // The course of a run: the segments that run, and those that are still to start.
 ghost use Rattle.std.specs.Prelude.{◌≡◌, ◌≢◌, ℕ, ◌+◌, ◌<◌, ◌≤◌, ◌↔◌, None, Some, IsNone, IsSome, IfErr, OnOk, vec_len, vec_capacity};
-ghost use Rattle.ring_exec.specs.Courses.{HasEnded, HasStarted, IsOnCourse};
-ghost use Rattle.ring_exec.specs.Faults.{blamed};
+ghost use Rattle.ring_exec.specs.Courses.{HasEnded, HasRefused, HasStarted, IsOnCourse};
 ghost use Rattle.ring_exec.specs.Outcomes.{HasMore};
 ghost use Rattle.ring_exec.specs.Seats.{AreSeatsOf};
 ghost use Rattle.border_exchange.specs.declared.Side.TheVariants.{Leftward};
@@ -29,8 +28,9 @@ pub(crate) struct Course<'a, R, G, B: BorderName, L: BorderName> {
     pub(crate) progress: Progress<'a>,
 }
 
-// Makes the next segment's right border and starts the segment. If one of the two is refused, the
-// run can't go on: the borders before the segment and after the last one are closed.
+// Makes the next segment's right border and starts the segment, so that `_count` segments are left
+// to start. If one of the two is refused, the run can't go on: the borders before the segment and
+// after the last one are closed.
 pub(crate) fn started<
     's,
     'e,
@@ -51,12 +51,7 @@ pub(crate) fn started<
     requires on_course { IsOnCourse course.before course.progress (_count + 1) }
     ensures on_course { IsOnCourse result.before result.progress _count }
     ensures started { HasStarted course.entry.progress result.progress }
-    // A start that was tried raises the index.
-    ensures no_thread { IsSome course.entry.before → IsNone result.before → result.progress.index ≡ course.entry.progress.index + 1
-        → result.progress.joined.fault ≡ Some (blamed course.entry.progress.joined.fault NoThread) }
-    ensures no_memory { IsSome course.entry.before → IsNone result.before → result.progress.index ≡ course.entry.progress.index
-        → result.progress.joined.fault ≡ Some (blamed course.entry.progress.joined.fault (OfSegment NoMemory)) }
-    ensures index { (course.entry.progress.index ≤ result.progress.index) × (result.progress.index ≤ course.entry.progress.index + 1) }
+    ensures refused { IsSome course.entry.before → IsNone result.before → HasRefused course.entry.progress result.progress }
 {
     let Course {
         shared,

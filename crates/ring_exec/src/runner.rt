@@ -1,5 +1,5 @@
 // A segment that runs between its two borders.
-ghost use Rattle.std.specs.Prelude.{◌≡◌, ◌≢◌, ◌+◌, ◌<◌, ◌↔◌, IfErr, IfOk, IsOk, OnOk, length};
+ghost use Rattle.std.specs.Prelude.{◌≡◌, ◌≢◌, ◌+◌, ◌<◌, ◌↔◌, IfErr, IfOk, IsOk, OnOk, OnErr, length};
 ghost use Rattle.border_exchange.specs.declared.Side.TheVariants.{Rightward, Leftward};
 ghost use Rattle.node_program.specs.declared.limits.TheConstants.{MAX_ROUNDS};
 ghost use Rattle.ring_segments.specs.Headings.{heading_of};
@@ -80,6 +80,8 @@ fn run_rounds<'a, R: Wait, G: Gate, A: BorderName, B: BorderName>(
     right: &mut End<Msg<'a>, B>,
 ) -> Result<(), Stop>
     requires { AreSeatsOf segment.old left.old.seat right.old.seat }
+    ensures same { segment.new ≡ record segment.old { round = segment.new.round } }
+    ensures done { OnOk result (segment.new.round ≡ length segment.new.plan.program.steps) }
 {
     while segment.round() < segment.rounds() {
         shared.gate.entered(index, segment.round());
@@ -114,6 +116,7 @@ fn next_round<'a, R: Wait, A: BorderName, B: BorderName>(
     requires few { segment.old.round < MAX_ROUNDS }
     requires seats { AreSeatsOf segment.old left.old.seat right.old.seat }
     ensures advanced { OnOk result (segment.new ≡ record segment.old { round = segment.old.round + 1 }) }
+    ensures unchanged { OnErr result (segment.new ≡ segment.old) }
     ensures seats { OnOk result (AreSeatsOf segment.new left.new.seat right.new.seat) }
 {
     send(rt, segment, left, right)?;
@@ -167,6 +170,7 @@ fn advance<'a>(
     requires rounds { ((heading_of from_left).round ≡ segment.old.round) × ((heading_of from_right).round ≡ segment.old.round) }
     ensures exactly { IsOk result ↔ ((heading_of from_left.entry ≡ needs.from_left segment.old) × (heading_of from_right.entry ≡ needs.from_right segment.old)) }
     ensures advanced { OnOk result (segment.new ≡ record segment.old { round = segment.old.round + 1 }) }
+    ensures unchanged { OnErr result (segment.new ≡ segment.old) }
     ensures stranger { IfErr result (λ stop. stop ≡ Fault Stranger) }
 {
     segment.advance(from_left, from_right)?;
