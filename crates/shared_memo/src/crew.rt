@@ -39,6 +39,7 @@ pub fn fill_by_workers<R: Threads + Wait + Sync, M: Leaves + Sync, G: Gate + Syn
     gate: &G,
 ) -> Result<Option<M::Left>, CrewFault>
     requires { IsWorkerCount workers }
+    ensures one { IfOk result (λ left. MatchOption left (1 < workers) (λ _. workers ≡ 1)) }
     ensures left { IfOk result (λ left. IfSome left (M.IsLeft memo.now)) }
     ensures alone { IfErr result (λ fault. fault ≡ CrewFault.NoThread → 1 < workers) }
 {

@@ -1,5 +1,5 @@
 // What workers share that fill a memo.
-ghost use Rattle.std.specs.Prelude.{◌≡◌, ◌<◌, IfOk, IfErr, IfSome};
+ghost use Rattle.std.specs.Prelude.{◌≡◌, ◌<◌, IfOk, IfErr, IfSome, MatchOption};
 ghost use Rattle.shared_memo.specs.Workers.{IsWorkerCount};
 ghost use Rattle.shared_memo.specs.Passes.{IsPassOf};
 
@@ -28,6 +28,7 @@ pub(crate) fn fill_memo<'a, R: Threads + Wait + Sync, G: Gate + Sync>(
     gate: &G,
 ) -> Result<Option<Pass<'a>>, CrewFault>
     requires { IsWorkerCount workers }
+    ensures one { IfOk result (λ left. MatchOption left (1 < workers) (λ _. workers ≡ 1)) }
     ensures left { IfOk result (λ left. IfSome left (IsPassOf fill.now.memo.now)) }
     ensures alone { IfErr result (λ fault. fault ≡ CrewFault.NoThread → 1 < workers) }
 {
