@@ -3,7 +3,7 @@
 use lang_check::Plan;
 use std::test::Fail;
 use test_programs::{CV1, RED, TWO_REGISTERS, plan_of};
-use win_index::Shape;
+use win_index::{MAX_ROUNDS, Shape};
 use window_states::window_state;
 
 // Levels of eight identifiers, windows of them, and their numbers.
@@ -98,7 +98,7 @@ fn has_jobs(shape: Shape, blocks: &[u32], jobs: u32, number: u32, job: (u32, u32
 #[test]
 fn jobs_are_in_the_order_of_levels(rt: HostRuntime) -> Result<(), Fail> {
     for (ids, rounds, blocks, jobs, number, job) in &JOBS {
-        assert!(rt; *rounds <= 4);
+        assert!(rt; *rounds <= MAX_ROUNDS);
         let shape = Shape::new(*ids, *rounds).ok().ok_or("a shape")?;
         assert!(rt; has_jobs(shape, *blocks, *jobs, *number, *job));
     }
