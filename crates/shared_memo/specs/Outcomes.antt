@@ -1,8 +1,6 @@
 -- What the workers of a crew came to. No public contract cites this file.
 use Rattle.std.specs.Prelude.{◌≡◌, ℕ, ◌<◌, List, Result, Ok, Err, IsOk, All, Contains, length}
 use Rattle.shared_memo.specs.declared.fault.WorkFault.{WorkFault}
-use Rattle.shared_memo.specs.declared.fault.CrewFault.{CrewFault}
-use Rattle.shared_memo.specs.declared.fault.CrewFault.TheVariants.{Work, NoThread}
 use Rattle.shared_memo.specs.declared.worker.Outcome.{Outcome}
 use Rattle.shared_memo.specs.Tickets.{worker_of}
 use Rattle.shared_memo.specs.Workers.{AreNumbered}
@@ -26,9 +24,3 @@ pub record IsLowest (outcomes : List Outcome) (fault : WorkFault) (outcome : Out
 abbrev pub IsLowestFault : List Outcome → Result (Unit {0}) WorkFault → Type 0
 IsLowestFault outcomes (Ok done) = All (λ outcome. IsOk outcome.answer) outcomes
 IsLowestFault outcomes (Err fault) = (outcome : Outcome) × IsLowest outcomes fault outcome
-
--- the same as the fault of a crew
-abbrev pub IsCrewAnswer : List Outcome → Result (Unit {0}) CrewFault → Type 0
-IsCrewAnswer outcomes (Ok done) = IsLowestFault outcomes (Ok done)
-IsCrewAnswer outcomes (Err (Work fault)) = IsLowestFault outcomes (Err fault)
-IsCrewAnswer outcomes (Err NoThread) = ⊥

@@ -1,11 +1,10 @@
 ghost use Rattle.std.specs.Prelude.{◌≡◌, [], ◌<◌, ◌≤◌, ◌↔◌, IfOk, IfErr, IfSome, MatchOption, IsTrue, vec_len, vec_capacity, All};
-ghost use Rattle.std.specs.Option.{ForSome};
 ghost use Rattle.shared_memo.specs.Tickets.{worker_of, numbers_of, IsFreshTicketOf};
 ghost use Rattle.shared_memo.specs.Workers.{AreNumbered, IsWorkerCount};
-ghost use Rattle.shared_memo.specs.Outcomes.{outcome_worker, AreOutcomes, IsCrewAnswer, IsLowestFault};
+ghost use Rattle.shared_memo.specs.Outcomes.{outcome_worker, AreOutcomes, IsLowestFault};
 
 use crate::desk::{Desk, Ticket};
-use crate::fault::{CrewFault, WorkFault};
+use crate::fault::{CrewFault, RefusedStart, WorkFault};
 use crate::worker::{Fills, Leaves, Outcome, Worker, fill_all};
 use node_program::OutOfMemory;
 use round_eval::Gate;
@@ -45,7 +44,7 @@ pub fn fill_by_workers<R: Threads + Wait + Sync, M: Leaves + Sync, G: Gate + Syn
 {
     let (desk, mut tickets) = Desk::new(alloc, memo.total(), workers)?;
     if workers > 1 {
-        fill_at(rt, alloc, memo, &desk, tickets, gate)?;
+        let _outcomes = fill_at(rt, alloc, memo, &desk, tickets, gate)?;
         return Ok(None);
     }
     let Some(mut ticket) = tickets.pop() else {
@@ -54,7 +53,8 @@ pub fn fill_by_workers<R: Threads + Wait + Sync, M: Leaves + Sync, G: Gate + Syn
     Ok(Some(memo.work_alone(alloc, &desk, &mut ticket, gate)?))
 }
 
-// Makes a worker for each ticket, and runs each on a thread of its own.
+// Makes a worker for each ticket, and runs each on a thread of its own. Returns what they came to,
+// if none has a fault.
 fn fill_at<R: Threads + Wait + Sync, M: Fills + Sync, G: Gate + Sync>(
     rt: &R,
     alloc: Global,
@@ -62,15 +62,19 @@ fn fill_at<R: Threads + Wait + Sync, M: Fills + Sync, G: Gate + Sync>(
     desk: &Desk,
     tickets: Vec<Ticket>,
     gate: &G,
-) -> Result<(), CrewFault>
+) -> Result<Vec<Outcome>, CrewFault>
     requires tickets { All (IsFreshTicketOf desk.now) tickets.items }
     requires workers { AreNumbered tickets.items worker_of }
     requires jobs { numbers_of desk.now ≡ M.jobs memo.now }
+    ensures each { IfOk result (λ outcomes. AreOutcomes (vec_len tickets) outcomes.items) }
+    ensures fine { IfOk result (λ outcomes. IsLowestFault outcomes.items (Ok tt)) }
 {
     let handles = Vec::with_capacity(alloc, tickets.len())?;
     let outcomes = Vec::with_capacity(alloc, tickets.len())?;
     let crew = crew_of(alloc, memo, desk, tickets, gate)?;
-    answer_of(run_all(rt, crew, handles, outcomes))
+    let outcomes = run_all(rt, crew, handles, outcomes)?;
+    lowest_fault(&outcomes)?;
+    Ok(outcomes)
 }
 
 // A worker for each ticket, in the order of the tickets.
@@ -100,33 +104,33 @@ fn crew_of<'d, 'm, 'g, M: Fills, G: Gate>(
     Ok(crew)
 }
 
-// Runs each worker on a thread of its own, until all have ended. Returns what they came to, or
-// `None` if the start of a thread was refused.
+// Runs each worker on a thread of its own, until all have ended. Returns what they came to, or that
+// the start of a thread was refused.
 fn run_all<'d, 'm, 'g, R: Threads + Wait + Sync, M: Fills + Sync, G: Gate + Sync>(
     rt: &R,
     crew: Vec<Worker<'d, 'm, 'g, M, G>>,
     handles: Vec<Handle>,
     outcomes: Vec<Outcome>,
-) -> Option<Vec<Outcome>>
+) -> Result<Vec<Outcome>, RefusedStart>
     requires workers { AreNumbered crew.items (λ worker. worker_of worker.ticket) }
     requires none { (handles.items ≡ []) × (outcomes.items ≡ []) }
     requires room { (vec_len crew ≤ vec_capacity handles) × (vec_len crew ≤ vec_capacity outcomes) }
-    ensures { IfSome result (λ outcomes. AreOutcomes (vec_len crew.entry) outcomes.items) }
+    ensures { IfOk result (λ outcomes. AreOutcomes (vec_len crew.entry) outcomes.items) }
 {
     thread::scope(
         thread::scope_env(),
         rt,
-        |scope| -> Option<Vec<Outcome>>
+        |scope| -> Result<Vec<Outcome>, RefusedStart>
             requires workers { AreNumbered crew.items (λ worker. worker_of worker.ticket) }
             requires none { (handles.items ≡ []) × (outcomes.items ≡ []) }
             requires room { (vec_len crew ≤ vec_capacity handles) × (vec_len crew ≤ vec_capacity outcomes) }
-            ensures { IfSome result (λ outcomes. AreOutcomes (vec_len crew.entry) outcomes.items) }
+            ensures { IfOk result (λ outcomes. AreOutcomes (vec_len crew.entry) outcomes.items) }
         { run_in_scope(rt, scope, crew, handles, outcomes) },
     )
 }
 
-// Starts the workers, and joins all that were started. Returns what they came to, or `None` if a
-// start was refused.
+// Starts the workers, and joins all that were started. Returns what they came to, or that a start
+// was refused.
 fn run_in_scope<
     's,
     'd: 's,
@@ -142,15 +146,19 @@ fn run_in_scope<
     crew: Vec<Worker<'d, 'm, 'g, M, G>>,
     mut handles: Vec<Handle>,
     outcomes: Vec<Outcome>,
-) -> Option<Vec<Outcome>>
+) -> Result<Vec<Outcome>, RefusedStart>
     requires workers { AreNumbered crew.items (λ worker. worker_of worker.ticket) }
     requires none { (handles.items ≡ []) × (outcomes.items ≡ []) }
     requires room { (vec_len crew ≤ vec_capacity handles) × (vec_len crew ≤ vec_capacity outcomes) }
-    ensures { IfSome result (λ outcomes. AreOutcomes (vec_len crew.entry) outcomes.items) }
+    ensures { IfOk result (λ outcomes. AreOutcomes (vec_len crew.entry) outcomes.items) }
 {
     let all_started = start_all(scope, crew, &mut handles);
     let outcomes = join_all(rt, handles, outcomes);
-    if all_started { Some(outcomes) } else { None }
+    if all_started {
+        Ok(outcomes)
+    } else {
+        Err(RefusedStart)
+    }
 }
 
 // Starts workers until a start is refused, and returns whether all were started.
@@ -206,21 +214,6 @@ fn join_all<R: Threads>(rt: &R, handles: Vec<Handle>, mut outcomes: Vec<Outcome>
         outcomes.push_reserved(handle.join(rt));
     }
     outcomes
-}
-
-// The answer of a crew: `NoThread` if a start was refused, else the fault of the lowest worker that
-// has one.
-fn answer_of(outcomes: Option<Vec<Outcome>>) -> Result<(), CrewFault>
-    requires { ForSome outcomes (λ some. AreNumbered some.items outcome_worker) }
-    ensures { MatchOption outcomes (result ≡ Err CrewFault.NoThread) (λ some. IsCrewAnswer some.items result) }
-{
-    let Some(outcomes) = outcomes else {
-        return Err(CrewFault::NoThread);
-    };
-    match lowest_fault(&outcomes) {
-        Ok(()) => Ok(()),
-        Err(fault) => Err(CrewFault::Work(fault)),
-    }
 }
 
 // The fault of the lowest worker that has one.

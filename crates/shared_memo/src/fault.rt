@@ -1,5 +1,5 @@
 ghost use Rattle.std.specs.Prelude.{◌≡◌};
-ghost use Rattle.shared_memo.specs.declared.fault.CrewFault.TheVariants.{Work};
+ghost use Rattle.shared_memo.specs.declared.fault.CrewFault.TheVariants.{Work, NoThread};
 ghost use Rattle.shared_memo.specs.declared.fault.WorkFault.TheVariants.{OutOfMemory as NoMemory, Stranger as Met};
 
 use crate::memo::Stranger;
@@ -24,6 +24,10 @@ pub enum CrewFault {
     NoThread,
 }
 
+// The start of a thread was refused.
+#[derive(Drop)]
+pub(crate) struct RefusedStart;
+
 impl From<OutOfMemory> for WorkFault {
     ghost from_gives = { λ _ fault. fault ≡ NoMemory };
 
@@ -45,6 +49,14 @@ impl From<WorkFault> for CrewFault {
 
     fn from(fault: WorkFault) -> CrewFault {
         CrewFault::Work(fault)
+    }
+}
+
+impl From<RefusedStart> for CrewFault {
+    ghost from_gives = { λ _ fault. fault ≡ NoThread };
+
+    fn from(_refused: RefusedStart) -> CrewFault {
+        CrewFault::NoThread
     }
 }
 
