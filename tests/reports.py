@@ -62,6 +62,7 @@ RUNS = [
     ("run --ids 102 --ring 5,1,3,7", cv1_of(14), "2 4 3 5\n", 0),
     ("run --ids 8 --ring 5,1,3,7", LDB, "1 2 1 2\n", 0),
     ("run --ids 2 --ring 0,1", ID0, "0 1\n", 0),
+    ("run --ids 8 --ring 007,1", OWN, "7 1\n", 0),
     ("run --ids 2 --ring 0,1", ZERO, "0 0\n", 0),
     ("run --ids 8 --ring 5,1,3,7,0,2,4,6", RED, "1 0 3 1 0 3 2 3\n", 0),
     ("run --ids 8 --ring 5,1,3,7,0,2,4,6 --segments 3", RED, "1 0 3 1 0 3 2 3\n", 0),
