@@ -11,7 +11,7 @@ use Rattle.win_index.specs.Windows.{IsWindow}
 use Rattle.channel_tables.specs.Tables.{ChannelTable, channel_of}
 use Rattle.channel_tables.specs.declared.separation.Separation.{Separation}
 use Rattle.nbhd_check.specs.Apart.{extra, AreClose, tuples, IsBad, IsApartEverywhere, IsLeastBad}
-use Rattle.nbhd_check.specs.Verdicts.{IsWitness}
+use Rattle.nbhd_check.specs.Verdicts.{IsStep, IsWitness}
 use Rattle.nbhd_check.specs.Laws.{TuplesSuffice, BadTuplesAreRings}
 
 -- a list is the first of these that is so
@@ -92,33 +92,26 @@ module _ (suffice : TuplesSuffice) (bad_ring : BadTuplesAreRings) (number_at : N
       least : IsLeastBad t s 0 first.number ring
       least = record { from_low = omega arith; item = first.item; bad = first.is; least = λ k y low less item. first.before k y less item }
 
+      -- the two places are so many steps apart
+      broken_at : (distance step : ℕ) → AreClose distance (at t.rounds) (at (t.rounds + step)) → IsStep t s ring step → JudgeAnswer t s
+      broken_at distance step close is =
+          let told = channels_of_close distance (at t.rounds) (at (t.rounds + step)) close in
+          not_apart ring (t.rounds, t.rounds + step) (told.0, told.1) (record {
+            number = first.number;
+            least = least;
+            step = step;
+            step_is = is;
+            first_place = refl;
+            second_place = refl;
+            first_channel = told.2;
+            second_channel = told.3;
+          })
+
       go : AreClose s.near (at t.rounds) (at (t.rounds + 1)) ⊎ (¬ AreClose s.near (at t.rounds) (at (t.rounds + 1)))
           → AreClose s.near (at t.rounds) (at (t.rounds + 1)) ⊎ AreClose s.far (at t.rounds) (at (t.rounds + 2)) → JudgeAnswer t s
-      go (inl near) some =
-          let told = channels_of_close s.near (at t.rounds) (at (t.rounds + 1)) near in
-          not_apart ring (t.rounds, t.rounds + 1) (told.0, told.1) (record {
-            number = first.number;
-            least = least;
-            step = 1;
-            step_is = inl (near, refl);
-            first_place = refl;
-            second_place = refl;
-            first_channel = told.2;
-            second_channel = told.3;
-          })
+      go (inl near) some = broken_at s.near 1 near (inl (near, refl))
       go (inr wide) (inl near) = absurd (wide near)
-      go (inr wide) (inr far) =
-          let told = channels_of_close s.far (at t.rounds) (at (t.rounds + 2)) far in
-          not_apart ring (t.rounds, t.rounds + 2) (told.0, told.1) (record {
-            number = first.number;
-            least = least;
-            step = 2;
-            step_is = inr (wide, refl);
-            first_place = refl;
-            second_place = refl;
-            first_channel = told.2;
-            second_channel = told.3;
-          })
+      go (inr wide) (inr far) = broken_at s.far 2 far (inr (wide, refl))
 
   pub judge_answer : (t : ChannelTable) (s : Separation) → JudgeAnswer t s
   judge_answer t s = go (first_of (IsBad t s) (bad_or_not t s) (tuples t s))
