@@ -1,0 +1,6 @@
+-- The definitions that the contracts cite: clauses and the values of variables, what the hints of a step show, marked
+-- literals, and the laws.
+pub mod Clauses
+pub mod Hints
+pub mod Marked
+pub mod Laws

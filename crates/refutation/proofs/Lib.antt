@@ -1,0 +1,2 @@
+pub mod HintSteps
+pub mod Adding

@@ -1,0 +1,29 @@
+-- The statements of the laws of this crate.
+use Rattle.std.specs.Prelude.{◌↔◌, ℕ, ◌≤◌, Bool, All}
+use Rattle.node_program.specs.declared.limits.TheConstants.{MAX_CHANNELS}
+use Rattle.win_index.specs.declared.limits.TheConstants.{MAX_ROUNDS}
+use Rattle.win_index.specs.ShapeRange.{IsShape}
+use Rattle.channel_tables.specs.Tables.{ChannelTable}
+use Rattle.clause_check.specs.Clauses.{Holds}
+use Rattle.table_formula.specs.Problems.{Problem, IsSolution, IsImpossible}
+use Rattle.table_formula.specs.Formula.{formula, values_of}
+
+-- each table that is asked for makes all clauses hold
+abbrev pub SolutionsSatisfy : Type 0
+SolutionsSatisfy = (p : Problem) (t : ChannelTable) → IsSolution p t → All (Holds (values_of p t)) (formula p)
+
+-- a problem whose tables have some channels, and no more than tables can have
+pub record HasTables (p : Problem) : Type 0 where
+  pub few_rounds : p.rounds ≤ MAX_ROUNDS
+  pub shape : IsShape p.ids p.rounds
+  pub some_channels : 1 ≤ p.channels
+  pub few_channels : p.channels ≤ MAX_CHANNELS
+
+-- values that make all clauses hold describe a table that is asked for, so the formula asks for no more than the problem
+abbrev pub ModelsGiveSolutions : Type 0
+ModelsGiveSolutions =
+    (p : Problem) (values : ℕ → Bool) → HasTables p → All (Holds values) (formula p) → (t : ChannelTable) × IsSolution p t
+
+-- there is no such table exactly if no values make all clauses hold
+abbrev pub FormulaIsExact : Type 0
+FormulaIsExact = (p : Problem) → HasTables p → IsImpossible p ↔ ((values : ℕ → Bool) → ¬ All (Holds values) (formula p))

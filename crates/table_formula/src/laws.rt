@@ -1,0 +1,37 @@
+ghost use Rattle.table_formula.specs.Laws as law;
+
+use nbhd_check::tuples_suffice;
+use win_index::{
+    number_of_window, rings_have_windows, tuples_are_rings, window_of_number, windows_have_numbers,
+};
+
+/// Each table that is asked for makes all clauses of the formula hold.
+pub fn solutions_satisfy()
+    ensures { law.SolutionsSatisfy }
+{
+    tuples_suffice();
+    tuples_are_rings();
+    rings_have_windows();
+    windows_have_numbers();
+    number_of_window();
+}
+
+/// Values of the variables that make all clauses hold describe a table that is asked for.
+pub fn models_give_solutions()
+    ensures { law.ModelsGiveSolutions }
+{
+    tuples_suffice();
+    tuples_are_rings();
+    rings_have_windows();
+    windows_have_numbers();
+    number_of_window();
+    window_of_number();
+}
+
+/// There is no table that is asked for exactly if no values make all clauses hold.
+pub fn formula_is_exact()
+    ensures { law.FormulaIsExact }
+{
+    solutions_satisfy();
+    models_give_solutions();
+}
