@@ -2,6 +2,7 @@ ghost use Rattle.std.specs.Prelude.{◌≡◌, ◌+◌, ◌*◌, ◌<◌, ◌≤
 ghost use Rattle.nbhd_check.specs.Apart.{extra};
 ghost use Rattle.table_formula.specs.declared.limits.TheConstants.{MAX_CLAUSES};
 ghost use Rattle.table_formula.specs.Formula.{close_in, formula};
+ghost use Rattle.table_formula.specs.Problems.{problem_of};
 ghost use Rattle.table_formula.specs.Limits.{IsWithinLimits};
 ghost use Rattle.table_formula.specs.FormulaFaults.{IsFormulaFault};
 
@@ -37,26 +38,26 @@ pub struct Formula {
 }
 
 impl Model for Formula {
-    ghost use Rattle.table_formula.specs.Problems.{Problem, problem_code};
+    ghost use Rattle.table_formula.specs.Problems.{Problem, problem_of, problem_code};
     ghost use Rattle.table_formula.specs.Limits.{IsKept};
 
     ghost Value = { Problem };
 
     ghost coded = { problem_code };
 
-    ghost view = { λ f. record { ids = f.shape.ids; rounds = f.shape.rounds; channels = f.channels; separation = f.separation } };
+    ghost view = { λ f. problem_of f.shape f.channels f.separation };
 
-    ghost invariant = { λ f. IsKept (record { ids = f.shape.ids; rounds = f.shape.rounds; channels = f.channels; separation = f.separation })
-        f.conflicts.items f.clauses };
+    ghost invariant = { λ f. IsKept (problem_of f.shape f.channels f.separation) f.conflicts.items f.clauses };
 }
 
 impl Formula {
-    ghost use Rattle.std.specs.Prelude.{◌≡◌, ◌+◌, ◌++◌, [], ◌*◌, ◌<◌, ◌≤◌, IfOk, IfErr, OnOk, Some, length, take, All, slice_get, slice_index_or};
+    ghost use Rattle.std.specs.Prelude.{◌≡◌, ◌+◌, ◌*◌, ◌<◌, ◌≤◌, IfOk, IfErr, OnOk, Some, length, take, All, slice_get, slice_index_or};
     ghost use Rattle.win_index.specs.declared.limits.TheConstants.{MAX_TUPLE_LEN};
     ghost use Rattle.win_index.specs.Windows.{IsWindow};
     ghost use Rattle.nbhd_check.specs.Apart.{extra};
     ghost use Rattle.table_formula.specs.declared.limits.TheConstants.{MAX_CLAUSES, MAX_VARIABLES};
     ghost use Rattle.table_formula.specs.Formula.{windows_of, tuples_of, variable_of, variable_count, conflicts_of, window_in, some_channel, not_both, IsPair, formula, longest_len};
+    ghost use Rattle.table_formula.specs.Problems.{problem_of};
     ghost use Rattle.table_formula.specs.Limits.{IsWithinLimits};
     ghost use Rattle.table_formula.specs.FormulaFaults.{IsFormulaFault};
 
@@ -69,9 +70,9 @@ impl Formula {
         channels: u32,
         separation: Separation,
     ) -> Result<Formula, FormulaFault>
-        ensures ok { IfOk result (λ f. f ≡ record { ids = shape.ids; rounds = shape.rounds; channels = channels; separation = separation }) }
-        ensures limits { OnOk result (IsWithinLimits (record { ids = shape.ids; rounds = shape.rounds; channels = channels; separation = separation })) }
-        ensures err { IfErr result (IsFormulaFault (record { ids = shape.ids; rounds = shape.rounds; channels = channels; separation = separation })) }
+        ensures ok { IfOk result (λ f. f ≡ problem_of shape channels separation) }
+        ensures limits { OnOk result (IsWithinLimits (problem_of shape channels separation)) }
+        ensures err { IfErr result (IsFormulaFault (problem_of shape channels separation)) }
     {
         let clauses = clauses_of(shape, channels, separation)?;
         let tuples = shape.tuples(extra_of(separation));
@@ -258,9 +259,9 @@ fn extra_of(separation: Separation) -> u32
 
 // Returns the number of clauses of a formula, or its fault if it is not within the limits.
 fn clauses_of(shape: Shape, channels: u32, separation: Separation) -> Result<u64, FormulaFault>
-    ensures ok { IfOk result (λ clauses. clauses ≡ length (formula (record { ids = shape.ids; rounds = shape.rounds; channels = channels; separation = separation }))) }
-    ensures limits { OnOk result (IsWithinLimits (record { ids = shape.ids; rounds = shape.rounds; channels = channels; separation = separation })) }
-    ensures err { IfErr result (IsFormulaFault (record { ids = shape.ids; rounds = shape.rounds; channels = channels; separation = separation })) }
+    ensures ok { IfOk result (λ clauses. clauses ≡ length (formula (problem_of shape channels separation))) }
+    ensures limits { OnOk result (IsWithinLimits (problem_of shape channels separation)) }
+    ensures err { IfErr result (IsFormulaFault (problem_of shape channels separation)) }
 {
     let windows = u64::from(shape.count(shape.rounds()));
     if windows * u64::from(channels) > MAX_VARIABLES {
