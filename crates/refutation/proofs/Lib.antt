@@ -1,2 +1,2 @@
-pub mod HintSteps
-pub mod Adding
+pub mod Sound
+pub mod Verdicts

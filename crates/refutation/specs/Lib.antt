@@ -1,3 +1,8 @@
--- The definitions that the contracts cite: the clauses that a hint can name, and what a step adds.
-pub mod Stored
-pub mod Steps
+-- The definitions that the contracts cite: the words and the lines of a text, the clauses that a refutation has so far, which
+-- texts are refutations and which fault another text has, the laws, and the state of the program.
+pub mod Words
+pub mod Lines
+pub mod Derivations
+pub mod Refutations
+pub mod FirstFaults
+pub mod Laws

@@ -1,15 +1,12 @@
 //! Refutations of the formula of all tables of a shape with some number of channels.
 #![tactic(auto)]
 
-mod added;
-mod checker;
 mod fault;
-mod hints;
-mod lines;
-mod refute_fault;
-mod words;
+mod laws;
+mod limits;
+mod refuting;
 
-pub use checker::Checker;
-pub use fault::StepFault;
-pub use lines::refute;
-pub use refute_fault::{RefuteError, RefuteFault};
+pub use fault::{LineFault, RefuteError};
+pub use laws::{each_text_has_a_verdict, one_refutation_verdict, refutations_are_sound};
+pub use limits::LONGEST_REFUTATION;
+pub use refuting::refute;
