@@ -1,2 +1,5 @@
 pub mod Sound
 pub mod Verdicts
+pub mod Splitting
+pub mod Numbers
+pub mod ItemLists

@@ -1,5 +1,5 @@
 -- Each text is a refutation or has a first fault, and only one of both.
-use Rattle.std.proofs.Common.{◌≡◌, ◌≢◌, ◌⊎◌, inl, inr, ℕ, ◌+◌, ◌<◌, ◌≤◌, Bool, true, false, List, [], ◌∷◌, ◌++◌, Option, None, Some, length, refl, sym, ap, ◌∙◌, arith, append-nil}
+use Rattle.std.proofs.Common.{◌≡◌, ◌≢◌, ◌⊎◌, inl, inr, ℕ, ◌+◌, ◌≤◌, Bool, true, false, List, [], ◌∷◌, ◌++◌, Option, None, Some, length, refl, sym, ap, ◌∙◌, arith, append-nil}
 use Rattle.std.proofs.lemmas.Bool.{cases_order}
 use Rattle.table_formula.specs.Problems.{Problem}
 use Rattle.refutation.specs.declared.fault.LineFault.{LineFault}
@@ -10,7 +10,7 @@ use Rattle.refutation.specs.declared.limits.TheConstants.{LONGEST_REFUTATION}
 use Rattle.refutation.specs.Words.{lines_of}
 use Rattle.refutation.specs.Lines.{line_in}
 use Rattle.refutation.specs.Derivations.{Derivation, opening, line_fault, after_line, adds_empty}
-use Rattle.refutation.specs.Refutations.{Leads, Reaches, IsRefutation, HasFaultAt, LacksEmptyClause, IsFault}
+use Rattle.refutation.specs.Refutations.{Leads, IsRefutation, IsFault}
 use Rattle.refutation.specs.FirstFaults.{fault_or, first_fault}
 use Rattle.refutation.specs.Laws.{RefutationsAreRight, OneRefutationFault, EachTextHasAVerdict}
 

@@ -5,4 +5,6 @@ pub mod Lines
 pub mod Derivations
 pub mod Refutations
 pub mod FirstFaults
+pub mod Parts
+pub mod Forms
 pub mod Laws

@@ -2,9 +2,12 @@
 #![tactic(auto)]
 
 mod fault;
+mod forms;
 mod laws;
 mod limits;
+mod parts;
 mod refuting;
+mod words;
 
 pub use fault::{LineFault, RefuteError};
 pub use laws::{each_text_has_a_verdict, one_refutation_verdict, refutations_are_sound};
