@@ -3,3 +3,5 @@ pub mod Verdicts
 pub mod Splitting
 pub mod Numbers
 pub mod ItemLists
+pub mod Deleting
+pub mod HintSteps

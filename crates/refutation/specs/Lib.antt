@@ -7,4 +7,7 @@ pub mod Refutations
 pub mod FirstFaults
 pub mod Parts
 pub mod Forms
+pub mod Added
+pub mod Stored
+pub mod Checked
 pub mod Laws

@@ -1,12 +1,17 @@
 //! Refutations of the formula of all tables of a shape with some number of channels.
 #![tactic(auto)]
 
+mod added;
+mod checker;
+mod clauses;
 mod fault;
 mod forms;
+mod hints;
 mod laws;
 mod limits;
 mod parts;
 mod refuting;
+mod step_error;
 mod words;
 
 pub use fault::{LineFault, RefuteError};
