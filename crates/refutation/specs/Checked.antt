@@ -1,6 +1,5 @@
 -- The state of a checker. No public contract cites this file.
-use Rattle.std.specs.Prelude.{◌≡◌, List, Option, None, Some}
-use Rattle.clause_check.specs.declared.outcome.Outcome.{Outcome}
+use Rattle.std.specs.Prelude.{◌≡◌, Option, Some}
 use Rattle.table_formula.specs.Problems.{Problem}
 use Rattle.refutation.specs.declared.checker.Checker.{Checker}
 use Rattle.refutation.specs.declared.step_error.StepError.{StepError}

@@ -90,11 +90,7 @@ impl<'f> Clauses<'f> {
     }
 
     /// Adds a clause. Its number is above those of the formula's clauses.
-    pub(crate) fn insert(
-        &mut self,
-        number: u64,
-        clause: Vec<Literal>,
-    ) -> Result<(), AllocError>
+    pub(crate) fn insert(&mut self, number: u64, clause: Vec<Literal>) -> Result<(), AllocError>
         requires after { length (clauses_of self.old.formula.now) < number }
         requires known { All (λ l. l.variable < variable_count self.old.formula.now) clause.items }
         ensures formula { self.new.formula.now ≡ self.old.formula.now }

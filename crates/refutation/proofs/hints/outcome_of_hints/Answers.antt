@@ -1,4 +1,4 @@
-use Rattle.std.proofs.Common.{◌<◌, ◌||◌, ap, sym, ◌∙◌, subst, IfSome, Option, Some}
+use Rattle.std.proofs.Common.{◌<◌, ◌||◌, ap, sym, ◌∙◌, subst, Some}
 use Rattle.clause_check.specs.Clauses.{is_same}
 use Rattle.clause_check.specs.Marked.{is_marked, variables_of, IsOneBelow}
 use Rattle.clause_check.specs.declared.literal.Literal.{Literal}

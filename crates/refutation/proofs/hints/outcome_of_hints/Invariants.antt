@@ -1,4 +1,4 @@
-use Rattle.std.proofs.Common.{◌≡◌, ◌≤◌, drop, map, length}
+use Rattle.std.proofs.Common.{◌≡◌, drop, map, length}
 use Rattle.clause_check.specs.Hints.{outcome_of}
 use Rattle.clause_check.specs.Marked.{is_marked, variables_of}
 use Rattle.refutation.specs.Stored.{clause_of}
