@@ -3,19 +3,18 @@ use Rattle.std.proofs.Common.{◌≡◌, ◌==◌, ℕ, ◌-◌, Bool, true, fal
 use Rattle.std.specs.List.{list_any}
 use Rattle.std.proofs.lemmas.List.Elements.{All-map}
 use Rattle.std.proofs.lemmas.Option.{slice_get_within, get_or_from_slice_get}
-use Rattle.channel_tables.specs.Tables.{ChannelTable}
 use Rattle.clause_check.specs.Clauses.{Holds}
 use Rattle.clause_check.specs.Laws.{StepsAreSound}
 use Rattle.clause_check.specs.declared.literal.Literal.{Literal}
 use Rattle.clause_check.specs.declared.outcome.Outcome.{Outcome}
 use Rattle.clause_check.specs.declared.outcome.Outcome.TheVariants as outcome
-use Rattle.table_formula.specs.Problems.{Problem, IsSolution, IsImpossible}
+use Rattle.table_formula.specs.Problems.{Problem}
 use Rattle.table_formula.specs.Formula.{formula, values_of}
 use Rattle.table_formula.specs.Laws.{SolutionsSatisfy}
 use Rattle.refutation.specs.declared.fault.LineFault.TheVariants as fault
 use Rattle.refutation.specs.Lines.{Line, Comment, Deletion, Addition, line_in}
 use Rattle.refutation.specs.Derivations.{Derivation, opening, hints_fault, line_fault, after_line, adds_empty}
-use Rattle.refutation.specs.Refutations.{Leads, IsRefutation}
+use Rattle.refutation.specs.Refutations.{Leads}
 use Rattle.refutation.specs.Laws.{RefutationsAreSound}
 
 -- each clause that a number names holds

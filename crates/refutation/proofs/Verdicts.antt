@@ -1,5 +1,5 @@
 -- Each text is a refutation or has a first fault, and only one of both.
-use Rattle.std.proofs.Common.{◌≡◌, ◌≢◌, ◌⊎◌, inl, inr, ℕ, ◌+◌, ◌<◌, ◌≤◌, Bool, true, false, List, [], ◌∷◌, ◌++◌, Option, None, Some, length, refl, sym, ap, ◌∙◌, arith, append-nil}
+use Rattle.std.proofs.Common.{◌≡◌, ◌≢◌, ◌⊎◌, inl, inr, ℕ, ◌+◌, ◌≤◌, Bool, true, false, List, [], ◌∷◌, ◌++◌, Option, None, Some, length, refl, sym, ap, ◌∙◌, arith, append-nil}
 use Rattle.std.proofs.lemmas.Bool.{cases_order}
 use Rattle.table_formula.specs.Problems.{Problem}
 use Rattle.refutation.specs.declared.fault.LineFault.{LineFault}
@@ -10,8 +10,8 @@ use Rattle.refutation.specs.declared.limits.TheConstants.{LONGEST_REFUTATION}
 use Rattle.refutation.specs.Words.{lines_of}
 use Rattle.refutation.specs.Lines.{line_in}
 use Rattle.refutation.specs.Derivations.{Derivation, opening, line_fault, after_line, adds_empty}
-use Rattle.refutation.specs.Refutations.{Leads, Reaches, IsRefutation, HasFaultAt, LacksEmptyClause, IsFault}
-use Rattle.refutation.specs.FirstFaults.{fault_or, first_fault}
+use Rattle.refutation.specs.Refutations.{Leads, IsRefutation, IsFault}
+use Rattle.refutation.specs.FirstFaults.{fault_or, first_fault, fault_in, IsFirstFault}
 use Rattle.refutation.specs.Laws.{RefutationsAreRight, OneRefutationFault, EachTextHasAVerdict}
 
 -- how the lines from a derivation on end
@@ -58,17 +58,14 @@ module _ (p : Problem) where
       ∙ ap (λ n. first_fault p later n more) (omega arith)
 
   module _ (text : List ℕ) where
-    abbrev pub fault_in : Option RefuteError
-    fault_in = first_fault p (opening p) 0 (lines_of text)
-
-    pub right_told : length text ≤ LONGEST_REFUTATION → fault_in ≡ None → IsRefutation p text
+    pub right_told : length text ≤ LONGEST_REFUTATION → fault_in p text ≡ None → IsRefutation p text
     right_told short told = elim (ends (opening p) 0 (lines_of text)) [
       | refutes before here later after e leads right empty is ↦ (before, here, later, record { short = short; after = after; lines = e; right = leads }, right, empty)
       | fails before here later after f e leads wrong is ↦ cc
       | lacks later leads is ↦ cc
     ]
 
-    pub fault_told : (f : RefuteError) → length text ≤ LONGEST_REFUTATION → fault_in ≡ Some f → IsFault p text f
+    pub fault_told : (f : RefuteError) → length text ≤ LONGEST_REFUTATION → fault_in p text ≡ Some f → IsFault p text f
     fault_told TooLong short told = elim (ends (opening p) 0 (lines_of text)) [
       | refutes before here later after e leads right empty is ↦ cc
       | fails before here later after f e leads wrong is ↦ cc
@@ -89,12 +86,17 @@ module _ (p : Problem) where
           inr ((short, later, leads), faults, omega (arith, lines))
     ]
 
-    right_known : IsRefutation p text → fault_in ≡ None
+    pub first_told : (f : RefuteError) → length text ≤ LONGEST_REFUTATION → IsFirstFault (fault_in p text) f → IsFault p text f
+    first_told TooLong short told = fault_told TooLong short told
+    first_told (At line fault) short told = fault_told (At line fault) short told
+    first_told OutOfMemory short told = short
+
+    right_known : IsRefutation p text → fault_in p text ≡ None
     right_known (before, here, d, reaches, right, empty) =
         ap (first_fault p (opening p) 0) reaches.lines ∙ led (opening p) 0 before (here ∷ reaches.after) d reaches.right
         ∙ (λ i. fault_or (right i) (empty i) (0 + length before + 1) (first_fault p (after_line d (line_in here)) (0 + length before + 1) reaches.after))
 
-    fault_known : (line : ℕ) (fault : LineFault) → IsFault p text (At line fault) → fault_in ≡ Some (At line fault)
+    fault_known : (line : ℕ) (fault : LineFault) → IsFault p text (At line fault) → fault_in p text ≡ Some (At line fault)
     fault_known line fault (inl (before, here, d, reaches, wrong, is)) =
         ap (first_fault p (opening p) 0) reaches.lines ∙ led (opening p) 0 before (here ∷ reaches.after) d reaches.right
         ∙ (λ i. fault_or (wrong i) (adds_empty (line_in here)) (0 + length before + 1) (first_fault p (after_line d (line_in here)) (0 + length before + 1) reaches.after))

@@ -1,12 +1,12 @@
 -- Derivations: the clauses that the hints of a step can name, and what a line does to them.
-use Rattle.std.specs.Prelude.{◌==◌, ℕ, ◌+◌, ◌-◌, ◌*◌, Bool, true, false, not, List, [], ◌∷◌, Option, None, Some, map, length, nat_le, nat_lt, slice_get, if◌then◌else◌}
+use Rattle.std.specs.Prelude.{◌==◌, ℕ, ◌-◌, Bool, true, false, List, [], ◌∷◌, Option, None, Some, map, length, nat_le, nat_lt, slice_get, if◌then◌else◌}
 use Rattle.std.specs.List.{list_all, list_any}
 use Rattle.clause_check.specs.Hints.{step_outcome}
 use Rattle.clause_check.specs.declared.literal.Literal.{Literal}
 use Rattle.clause_check.specs.declared.outcome.Outcome.{Outcome}
 use Rattle.clause_check.specs.declared.outcome.Outcome.TheVariants as outcome
 use Rattle.table_formula.specs.Problems.{Problem}
-use Rattle.table_formula.specs.Formula.{windows_of, formula}
+use Rattle.table_formula.specs.Formula.{variable_count, formula}
 use Rattle.refutation.specs.declared.fault.LineFault.{LineFault}
 use Rattle.refutation.specs.declared.fault.LineFault.TheVariants as fault
 use Rattle.refutation.specs.Lines.{Line, Comment, Deletion, Addition}
@@ -39,7 +39,7 @@ with_clause d added clause = record {
 
 -- whether all variables of a clause are variables of the formula
 abbrev pub is_known : Problem → List Literal → Bool
-is_known p clause = list_all (λ l. nat_lt l.variable (length (windows_of p) * p.channels)) clause
+is_known p clause = list_all (λ l. nat_lt l.variable (variable_count p)) clause
 
 -- what is wrong with hints that show this of a clause
 abbrev pub hints_fault : Outcome → Option LineFault

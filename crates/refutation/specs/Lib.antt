@@ -5,4 +5,9 @@ pub mod Lines
 pub mod Derivations
 pub mod Refutations
 pub mod FirstFaults
+pub mod Parts
+pub mod Forms
+pub mod Added
+pub mod Stored
+pub mod Checked
 pub mod Laws

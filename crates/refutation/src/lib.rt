@@ -1,10 +1,18 @@
 //! Refutations of the formula of all tables of a shape with some number of channels.
 #![tactic(auto)]
 
+mod added;
+mod checker;
+mod clauses;
 mod fault;
+mod forms;
+mod hints;
 mod laws;
 mod limits;
+mod parts;
 mod refuting;
+mod step_error;
+mod words;
 
 pub use fault::{LineFault, RefuteError};
 pub use laws::{each_text_has_a_verdict, one_refutation_verdict, refutations_are_sound};

@@ -1,0 +1,143 @@
+ghost use Rattle.std.specs.Prelude.{◌≡◌, ◌≤◌, length};
+ghost use Rattle.clause_check.specs.Marked.{variables_of};
+ghost use Rattle.table_formula.specs.Formula.{variable_count, longest_len, formula as clauses_of};
+
+use crate::clauses::Clauses;
+use crate::fault::LineFault;
+use crate::forms::Form;
+use crate::hints::outcome_of_hints;
+use crate::step_error::StepError;
+use clause_check::{Literal, Marks, Outcome};
+use std::alloc::{AllocError, Global};
+use table_formula::Formula;
+
+/// A refutation so far.
+#[derive(Drop)]
+pub(crate) struct Checker<'f> {
+    alloc: Global,
+    clauses: Clauses<'f>,
+    variables: u32,
+    marks: Marks,
+    room: Vec<Literal>,
+    newest: u64,
+    ghost known: { variables ≡ variable_count clauses.formula.now },
+    ghost marked: { variables_of marks ≡ variable_count clauses.formula.now },
+    ghost longest: { longest_len (clauses_of clauses.formula.now) ≤ length room.items },
+    ghost after: { length (clauses_of clauses.formula.now) ≤ newest },
+}
+
+impl<'f> Checker<'f> {
+    ghost use Rattle.std.specs.Prelude.{◌<◌, None, IsTrue, IfOk, IfErr, OnOk, map};
+    ghost use Rattle.clause_check.specs.Hints.{step_outcome};
+    ghost use Rattle.refutation.specs.Derivations.{opening, hints_fault, is_known, step_fault, line_fault, with_clause, after_line};
+    ghost use Rattle.refutation.specs.Forms.{line_of};
+    ghost use Rattle.refutation.specs.Stored.{clause_of};
+    ghost use Rattle.refutation.specs.Checked.{problem_of, derivation_of, IsStepError};
+
+    /// Returns the refutation that has no step.
+    pub(crate) fn new(alloc: Global, formula: &'f Formula) -> Result<Checker<'f>, AllocError>
+        ensures problem { IfOk result (λ checker. problem_of checker ≡ formula.now) }
+        ensures derivation { IfOk result (λ checker. derivation_of checker ≡ opening formula.now) }
+    {
+        let variables = formula.variables();
+        let marks = Marks::new(alloc, variables)?;
+        let room = vec![in alloc; Literal::new(0, true); formula.longest_clause()]?;
+        let newest = formula.count();
+        let clauses = Clauses::new(alloc, formula)?;
+        Ok(Checker {
+            alloc,
+            clauses,
+            variables,
+            marks,
+            room,
+            newest,
+        })
+    }
+
+    /// Makes the step of a line of this form with this clause and these numbers.
+    pub(crate) fn step(
+        &mut self,
+        form: Form,
+        clause: &[Literal],
+        numbers: &[u64],
+    ) -> Result<(), StepError>
+        ensures problem { problem_of self.new ≡ problem_of self.old }
+        ensures right { OnOk result (line_fault (problem_of self.old) (derivation_of self.old) (line_of form clause.now numbers.now) ≡ None) }
+        ensures after { OnOk result (derivation_of self.new ≡ after_line (derivation_of self.old) (line_of form clause.now numbers.now)) }
+        ensures fault { IfErr result (IsStepError (line_fault (problem_of self.old) (derivation_of self.old) (line_of form clause.now numbers.now))) }
+    {
+        match form {
+            Form::Malformed => Err(StepError::Fault(LineFault::Form)),
+            Form::Comment => Ok(()),
+            Form::Deletion => {
+                self.clauses.delete(numbers);
+                Ok(())
+            }
+            Form::Addition(number) => self.add(number, clause, numbers),
+        }
+    }
+
+    // Adds a clause that follows from those of the hints.
+    fn add(&mut self, number: u64, clause: &[Literal], hints: &[u64]) -> Result<(), StepError>
+        ensures problem { problem_of self.new ≡ problem_of self.old }
+        ensures right { OnOk result (step_fault (problem_of self.old) (derivation_of self.old) number clause.now hints.now ≡ None) }
+        ensures after { OnOk result (derivation_of self.new ≡ with_clause (derivation_of self.old) number clause.now) }
+        ensures fault { IfErr result (IsStepError (step_fault (problem_of self.old) (derivation_of self.old) number clause.now hints.now)) }
+    {
+        if number <= self.newest {
+            return Err(StepError::Fault(LineFault::NumberNotAscending));
+        }
+        if !are_below(clause, self.variables) {
+            return Err(StepError::Fault(LineFault::UnknownVariable));
+        }
+        if let Some(fault) = self.fault_of_hints(clause, hints) {
+            return Err(StepError::Fault(fault));
+        }
+        self.insert(number, clause)?;
+        Ok(())
+    }
+
+    // Returns what is wrong with the hints of a clause.
+    fn fault_of_hints(&mut self, clause: &[Literal], hints: &[u64]) -> Option<LineFault>
+        requires { IsTrue (is_known (problem_of self.old) clause.now) }
+        ensures problem { problem_of self.new ≡ problem_of self.old }
+        ensures derivation { derivation_of self.new ≡ derivation_of self.old }
+        ensures value { result ≡ hints_fault (step_outcome clause.now (map (clause_of self.old.clauses) hints.now)) }
+    {
+        self.marks.take_clause(clause);
+        match outcome_of_hints(&self.clauses, &mut self.marks, &mut self.room, hints) {
+            Outcome::Follows => None,
+            Outcome::UnknownHint => Some(LineFault::UnknownHint),
+            Outcome::HintNotUnit => Some(LineFault::HintNotUnit),
+            Outcome::NoConflict => Some(LineFault::NoConflict),
+        }
+    }
+
+    // Adds a clause.
+    fn insert(&mut self, number: u64, clause: &[Literal]) -> Result<(), AllocError>
+        requires ascending { self.old.newest < number }
+        requires known { IsTrue (is_known (problem_of self.old) clause.now) }
+        ensures problem { problem_of self.new ≡ problem_of self.old }
+        ensures after { OnOk result (derivation_of self.new ≡ with_clause (derivation_of self.old) number clause.now) }
+    {
+        let clause = Vec::from_slice(self.alloc, clause)?;
+        self.clauses.insert(number, clause)?;
+        self.newest = number;
+        Ok(())
+    }
+}
+
+ghost use Rattle.std.specs.Prelude.{nat_lt};
+ghost use Rattle.std.specs.List.{list_all};
+
+// Returns whether the variables of a clause are below this number.
+fn are_below(clause: &[Literal], variables: u32) -> bool
+    ensures { result ≡ list_all (λ l. nat_lt l.variable variables) clause.now }
+{
+    for l in clause {
+        if l.variable() >= variables {
+            return false;
+        }
+    }
+    true
+}

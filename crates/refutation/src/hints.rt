@@ -1,0 +1,48 @@
+ghost use Rattle.std.specs.Prelude.{◌≡◌, ◌≤◌, length, map, if◌then◌else◌};
+ghost use Rattle.clause_check.specs.Hints.{outcome_of};
+ghost use Rattle.clause_check.specs.Marked.{is_marked, variables_of};
+ghost use Rattle.table_formula.specs.Formula.{variable_count, longest_len, formula as clauses_of};
+ghost use Rattle.refutation.specs.Stored.{clause_of};
+
+use crate::clauses::Clauses;
+use clause_check::{Literal, Marks, Outcome, Remaining, negation};
+
+/// Returns what the clauses of the hints show, where the marked literals are known to be false. The
+/// literals that this shows to be false are marked, too. A clause of the formula is written to
+/// `room`.
+pub(crate) fn outcome_of_hints(
+    clauses: &Clauses,
+    marks: &mut Marks,
+    room: &mut [Literal],
+    hints: &[u64],
+) -> Outcome
+    requires variables { variables_of marks.old ≡ variable_count clauses.now.formula.now }
+    requires room { longest_len (clauses_of clauses.now.formula.now) ≤ length room.old }
+    ensures value { result ≡ outcome_of (is_marked marks.old) (map (clause_of clauses.now) hints.now) }
+    ensures variables { variables_of marks.new ≡ variables_of marks.old }
+    ensures room { length room.new ≡ length room.old }
+{
+    for (i, hint) in hints.iter().enumerate() {
+        let Some(remaining) = clauses.remaining(*hint, marks, room) else {
+            return Outcome::UnknownHint;
+        };
+        let is_last = i + 1 == hints.len();
+        match remaining {
+            Remaining::Nothing => return at_conflict(is_last),
+            Remaining::One(l) => marks.mark(negation(l)),
+            Remaining::Several => return Outcome::HintNotUnit,
+        }
+    }
+    Outcome::NoConflict
+}
+
+// Returns what a hint shows whose clause has only literals that are known to be false.
+fn at_conflict(is_last: bool) -> Outcome
+    ensures { result ≡ (if is_last then Outcome.Follows else Outcome.HintNotUnit) }
+{
+    if is_last {
+        Outcome::Follows
+    } else {
+        Outcome::HintNotUnit
+    }
+}

@@ -1,0 +1,71 @@
+ghost use Rattle.std.specs.Prelude.{◌≡◌, ◌+◌, ◌*◌, ◌^◌, ◌<◌, ◌==◌, true};
+ghost use Rattle.std.specs.Char.{digit_value, is_ascii_digit};
+ghost use Rattle.std.specs.List.{list_all};
+ghost use Rattle.std.specs.Option.{SomeIff};
+ghost use Rattle.refutation.specs.Words as spelled;
+
+use clause_check::Literal;
+
+/// Returns the number that a word spells in decimal digits.
+pub(crate) fn number_in(word: &[u8]) -> Option<u64>
+    ensures { result ≡ spelled.number_in word.now }
+{
+    if word.is_empty() {
+        return None;
+    }
+    let mut value: u64 = 0;
+    for byte in word {
+        value = push_digit(value, *byte)?;
+    }
+    Some(value)
+}
+
+// Returns the number that has one more digit.
+fn push_digit(value: u64, byte: u8) -> Option<u64>
+    ensures { SomeIff result ((is_ascii_digit byte ≡ true) × (value * 10 + digit_value byte < 2 ^ 64)) (value * 10 + digit_value byte) }
+{
+    if !byte.is_ascii_digit() {
+        return None;
+    }
+    value.checked_mul(10)?.checked_add(u64::from(byte - b'0'))
+}
+
+/// Returns the literal that a word spells: a number, with a minus in front for a negation.
+pub(crate) fn literal_in(word: &[u8]) -> Option<Literal>
+    ensures { result ≡ spelled.literal_in word.now }
+{
+    match word {
+        [b'-', digits @ ..] => literal_of(false, number_in(digits)),
+        _ => literal_of(true, number_in(word)),
+    }
+}
+
+// Returns the literal with this number and this sign.
+fn literal_of(is_positive: bool, number: Option<u64>) -> Option<Literal>
+    ensures { result ≡ spelled.literal_of is_positive number }
+{
+    let number = number?;
+    if number < 1 || number > 1 << 31 {
+        return None;
+    }
+    Some(Literal::new((number - 1) as u32, is_positive))
+}
+
+/// Returns whether a word ends a list: it is digits 0.
+pub(crate) fn is_end(word: &[u8]) -> bool
+    ensures { result ≡ spelled.is_end word.now }
+{
+    !word.is_empty() && are_zeros(word)
+}
+
+// Returns whether all bytes are digits 0.
+fn are_zeros(word: &[u8]) -> bool
+    ensures { result ≡ list_all (λ byte. byte == 48) word.now }
+{
+    for byte in word {
+        if *byte != b'0' {
+            return false;
+        }
+    }
+    true
+}
