@@ -281,11 +281,9 @@ DAMAGES = [
     sign_changed,
 ]
 
-# The problem of the texts below has the clauses 1 2, 3 4, 5 6 of three windows, and from 4 on for each of the pairs of windows
-# 1 2, 1 3, 2 1, 2 3, 3 1 and 3 2 two clauses, one for each channel: 4 is -1 -3, and 5 is -2 -4.
+# Texts for a problem with 15 clauses and 6 variables. The first clauses are 1 2, 3 4 and 5 6, and the fourth is -1 -3.
 SMALL = (3, 0, 2, 1, 0)
-UNITS = "16 -1 0 4 6 2 3 12 0\n16 0 d 0\n"
-WORDS = [
+TEXTS = [
     "",
     "\n",
     "\n\n",
@@ -379,7 +377,7 @@ def small_refutation():
 
 def small_texts():
     """Texts that are written by hand, for the small problem."""
-    yield from WORDS
+    yield from TEXTS
     first, last = small_refutation()
     yield from [f"{first}\n{last}", f"{first}\n{last}\n", f"{first}\n{last}\nwhat follows\n\xff", f"{first}\n\n{last}"]
     yield from [f"{first}\nc \xff\n{last}", f"{first}\n{last} ", f"{first} \n{last}", f"{first}\r\n{last}", f"{last}\n{first}"]
@@ -402,8 +400,8 @@ def kept():
 
 def rows():
     yield from kept()
-    for words in small_texts():
-        text = words.encode("latin-1")
+    for text in small_texts():
+        text = text.encode("latin-1")
         yield f"refute {formulas.words(*SMALL)}", text, *report(SMALL, text)
     for text, line in [(MAX_BYTES * b" ", "refutation fault L2 line 1\n"), (MAX_BYTES * b" " + b" ", "refutation fault L1\n")]:
         yield f"refute {formulas.words(*SMALL)}", text, line, 3
