@@ -5,6 +5,7 @@ import { byId, html, svg } from "./svg.js";
 import { change, state } from "./state.js";
 import { drawRing, drawWindow, say } from "./ring.js";
 import { badgeImage } from "./channels.js";
+import { fewerChannels } from "./least.js";
 import { PROGRAM_REFUSED, readRefusal } from "./faults.js";
 
 const verdict = byId("verdict");
@@ -31,7 +32,7 @@ export async function updateJudge(checked) {
   }
   const run = await ask("witness", "trace", { ids, ring: no.ring.join(",") }, text);
   if (run === undefined) return undefined;
-  return showNo(no, checked.accepted.rounds, run.status === 0 ? channelsOf(run.out) : undefined);
+  return showNo(no, checked.accepted, run.status === 0 ? channelsOf(run.out) : undefined);
 }
 
 /** Reads `no: ring A B .. place P channel X`, or `.. places P Q channels X Y`; `null` for any other line. */
@@ -60,7 +61,14 @@ function demand() {
   return `${neighbours}, and those at distance two ${far === 1 ? "differ" : `by at least ${far}`}`;
 }
 
-function showYes(line, { ids, rounds }) {
+/** What is known of fewer channels, as a list of at most one paragraph. */
+function fewer({ ids, rounds, channels }) {
+  const known = fewerChannels(rounds, ids, Number(state.near), Number(state.far), channels);
+  return known ? [html("p", { class: "aside fewer" }, known)] : [];
+}
+
+function showYes(line, accepted) {
+  const { ids, rounds } = accepted;
   const tuples = Number(line.match(/\d+/)?.[0] ?? 0);
   // Where distance two counts, tuples have one identifier more, and so have the least rings.
   const extra = Number(state.far) > 0 ? 2 : 1;
@@ -71,6 +79,7 @@ function showYes(line, { ids, rounds }) {
     html("p", {}, least > ids ? `No ring has ${least} distinct identifiers below ${ids}.`
       : `On every ring of ${least < ids ? `${least} to ` : ""}${ids} distinct identifiers below ${ids}, ${demand()}.`),
     html("p", { class: "aside" }, `${tuples.toLocaleString("en")} tuples were looked at.`),
+    ...fewer(accepted),
   );
   witness.replaceChildren(drawTuple(rounds, extra));
   const pair = extra === 1 ? "two neighbours" : "two nodes at distance two";
@@ -79,7 +88,8 @@ function showYes(line, { ids, rounds }) {
     + "Every such pair on every such ring is in a tuple."));
 }
 
-function showNo({ ring, places, channels }, rounds, all) {
+function showNo({ ring, places, channels }, accepted, all) {
+  const { rounds } = accepted;
   const nodes = places.map((place) => ring[place]);
   const apart = (places[1] - places[0] + ring.length) % ring.length === 1 ? "are neighbours" : "are at distance two";
   const have = channels[0] === channels[1]
@@ -89,6 +99,7 @@ function showNo({ ring, places, channels }, rounds, all) {
   verdict.replaceChildren(
     html("p", { class: "word" }, "No"),
     html("p", {}, `On the ring ${ring.join(" ")} the nodes ${nodes[0]} and ${nodes[1]} ${apart} and ${have}.`),
+    ...fewer(accepted),
   );
 
   const drawing = drawRing({

@@ -178,7 +178,7 @@ Exit status:
 ]
 
 # The commands, each of which has three ways to ask for its help.
-COMMANDS = ["check", "print", "table", "judge", "run", "trace", "plan", "audit", "migrate"]
+COMMANDS = ["check", "print", "table", "judge", "run", "trace", "plan", "audit", "migrate", "formula", "refute"]
 
 # Other words that ask for help.
 HELP_WORDS = [
@@ -329,6 +329,36 @@ NO_COMMANDS = [
     "run --ids 8 --ring 5 --segments 65",
     "run --ids 8 --ring 5 --segments 4294967297",
     "table --ids 8 --workers x",
+    # the options of a formula
+    *(
+        f"{command} {options}".strip()
+        for command in ["formula", "refute"]
+        for options in [
+            "",
+            "--ids 8",
+            "--ids 8 --rounds 1",
+            "--ids 8 --channels 3",
+            "--rounds 1 --channels 3",
+            "--ids 8 --rounds 1 --channels",
+            "--ids 8 --rounds 5 --channels 3",
+            "--ids 8 --rounds -1 --channels 3",
+            "--ids 8 --rounds 1 --channels 0",
+            "--ids 8 --rounds 1 --channels 4097",
+            "--ids 4294967296 --rounds 1 --channels 3",
+            "--ids 8 --rounds 1 --channels 3 --near 0",
+            "--ids 8 --rounds 1 --channels 3 --near 4097",
+            "--ids 8 --rounds 1 --channels 3 --far 4097",
+            "--ids 8 --rounds 1 --channels 3 --far -1",
+            "--ids 8 --rounds 1 --rounds 1 --channels 3",
+            "--ids 8 --rounds 1 --channels 3 --channels 3",
+            "--ids 8 --rounds 1 --channels 3 --workers 1",
+            "--ids 8 --rounds 1 --channels 3 --ring 5,1,3,7",
+            "--ids 8 --rounds 1 --channels 3 3",
+            "--ids 8 --rounds one --channels 3",
+        ]
+    ),
+    "judge --ids 8 --rounds 1",
+    "table --ids 8 --channels 3",
     # these faults come before a bad ring
     "run --ids eight --ring 5,,1",
     "run --ids 8 --ring 5,,1 --segments 0",
@@ -395,5 +425,7 @@ SAME_COMMANDS = [
     ),
     (CV1, ["trace --ids 8 --ring 5,1,3,7", "trace --ring=05,01,3,7 --ids=+8"]),
     (CV1, ["plan --ids 8 --ring 5,1,3,7", "plan --ring 5,1,3,7 --ids 8", "plan --workers 64 --ring 5,1,3,7 --ids 8"]),
+    (b"", ["formula --ids 5 --rounds 1 --channels 3", "formula --channels=03 --rounds=+1 --ids 005 --far=00 --near 1"]),
+    (b"5 0 1 2 3 0", ["refute --ids 2 --rounds 0 --channels 1", "refute --channels=1 --near=01 --rounds 00 --ids 2"]),
     *((b"", [f"help {command}", f"{command} --help", f"{command} -h"]) for command in COMMANDS),
 ]

@@ -336,6 +336,8 @@ def judge_distances(page):
     STEPS.check("its number of tuples", f"{tuples:,} tuples" in page.text(".verdict"), page.text(".verdict"))
     rings = "On every ring of 4 to 8 distinct identifiers below 8, neighbours’ channels differ."
     STEPS.check("its rings", rings in page.text(".verdict"), page.text(".verdict"))
+    fewer = "Fewer channels? There is a table with 4 channels, and with 3 channels there is none."
+    STEPS.equal("what is known of fewer channels", page.texts(".verdict .fewer"), [fewer])
     for ids, far, said in (
         ("4", "0", "On every ring of 4 distinct identifiers below 4, neighbours’ channels differ."),
         ("4", "1", "No ring has 5 distinct identifiers below 4."),
@@ -343,6 +345,7 @@ def judge_distances(page):
         page.open(view="judge", ids=ids, far=far, ring="0,1,2,3", example="cv1.txt")
         page.wait(f"the yes for {ids} identifiers and far {far}", "document.querySelector('.verdict.yes')")
         STEPS.check("its sentence", said in page.text(".verdict"), page.text(".verdict"))
+    STEPS.equal("nothing is known without a ring", page.count(".verdict .fewer"), 0)
     page.open(view="judge", ids="8", ring="5,1,3,7", example="cv1.txt")
     page.wait("the yes for 8 identifiers", "document.querySelector('.verdict.yes')")
     page.fill("#far", "1")

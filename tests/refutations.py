@@ -1,0 +1,415 @@
+"""Refutations of small formulas, right ones and damaged ones, with what a checker that is written here from docs/LANGUAGE.md finds, and
+those of examples/least: a row has the words, the input, the standard output and the exit status."""
+
+import re
+from math import perm
+from pathlib import Path
+from random import Random
+
+import formulas
+
+FOLDER = Path(__file__).resolve().parent.parent / "examples/least"
+COUNT = 500
+MAX_BYTES = 1 << 27
+NUMBER, LITERAL = re.compile(rb"[0-9]+"), re.compile(rb"-?[0-9]+")
+FORM, NOT_ASCENDING, UNKNOWN_VARIABLE, UNKNOWN_HINT, NOT_UNIT, NO_CONFLICT, NO_EMPTY_CLAUSE = "L2", "L3", "L4", "L5", "L6", "L7", "L8"
+
+# Identifiers, rounds, channels, near and far of problems without a table.
+PROBLEMS = [
+    (2, 0, 1, 1, 0),
+    (3, 0, 2, 1, 0),
+    (3, 0, 4, 2, 1),
+    (3, 0, 3, 1, 2),
+    (4, 0, 3, 1, 1),
+    (4, 1, 1, 1, 0),
+    (4, 1, 2, 2, 0),
+    (5, 1, 2, 1, 0),
+    (5, 1, 3, 2, 0),
+    (5, 1, 2, 1, 1),
+    (5, 0, 4, 1, 0),
+    (4, 0, 5, 2, 1),
+    (5, 1, 3, 1, 1),
+]
+
+
+class Fault(Exception):
+    """The fault of a line."""
+
+
+def number(word):
+    """The value of a number word."""
+    if not NUMBER.fullmatch(word) or int(word) >= 1 << 64:
+        raise Fault(FORM)
+    return int(word)
+
+
+def literal(word):
+    """The value of a literal word, 0 for the end of a list."""
+    if not LITERAL.fullmatch(word) or abs(int(word)) > 1 << 31 or word.startswith(b"-") and int(word) == 0:
+        raise Fault(FORM)
+    return int(word)
+
+
+def listed(words, value):
+    """The values of a list up to its 0, and the words after it."""
+    values = []
+    for place, word in enumerate(words):
+        values.append(value(word))
+        if not values[-1]:
+            return values[:-1], words[place + 1 :]
+    raise Fault(FORM)
+
+
+def read(line):
+    """The step of a line: `None` for a comment, the numbers of a deletion, or an addition's number, clause and hints."""
+    if not line or line.startswith(b"c"):
+        return None
+    first, *words = line.split(b" ")
+    first = number(first)
+    if words[:1] == [b"d"]:
+        numbers, rest = listed(words[1:], number)
+        step = (numbers,)
+    else:
+        clause, words = listed(words, literal)
+        hints, rest = listed(words, number)
+        step = (first, clause, hints)
+    if rest:
+        raise Fault(FORM)
+    return step
+
+
+def follow(clauses, clause, hints):
+    """Refuses the hints of a clause, if they do not lead to a conflict."""
+    false = set(clause)
+    for place, hint in enumerate(hints, 1):
+        if hint not in clauses:
+            raise Fault(UNKNOWN_HINT)
+        left = [it for it in clauses[hint] if it not in false]
+        if not left and place == len(hints):
+            return
+        if len(left) != 1:
+            raise Fault(NOT_UNIT)
+        false.add(-left[0])
+    raise Fault(NO_CONFLICT)
+
+
+def first_fault(problem, text):
+    """The first fault of a text and its line, `None` for a refutation."""
+    clauses = dict(enumerate(formulas.clauses(*problem), 1))
+    variables, newest = formulas.size(*problem)
+    lines = text.split(b"\n")
+    for place, line in enumerate(lines, 1):
+        try:
+            step = read(line)
+            if step and len(step) == 1:
+                for it in step[0]:
+                    clauses.pop(it, None)
+            elif step:
+                name, clause, hints = step
+                if name <= newest:
+                    raise Fault(NOT_ASCENDING)
+                if any(abs(it) > variables for it in clause):
+                    raise Fault(UNKNOWN_VARIABLE)
+                follow(clauses, clause, hints)
+                if not clause:
+                    return None
+                clauses[name], newest = clause, name
+        except Fault as fault:
+            return f"{fault} line {place}"
+    return f"{NO_EMPTY_CLAUSE} line {len(lines)}"
+
+
+def report(problem, text):
+    """The line for a text and its exit status."""
+    if len(text) > MAX_BYTES:
+        return "refutation fault L1\n", 3
+    fault = first_fault(problem, text)
+    return (f"refutation fault {fault}\n", 3) if fault else (refuted(*problem), 0)
+
+
+def refuted(ids, rounds, channels, near, far):
+    """The line for a refutation."""
+    return f"refuted: ids {ids} rounds {rounds} channels {channels} near {near} far {far}\n"
+
+
+class Search:
+    """A search for a refutation: it decides variables at random, and learns a clause of each conflict."""
+
+    def __init__(self, problem, numbers):
+        self.numbers = numbers
+        self.clauses, self.places, self.steps = {}, {}, []
+        for clause in formulas.clauses(*problem):
+            self.add(clause)
+        self.close([])
+
+    def add(self, clause):
+        name = len(self.clauses) + 1
+        self.clauses[name] = clause
+        for it in clause:
+            self.places.setdefault(it, []).append(name)
+        return name
+
+    def propagate(self, decisions):
+        """The true literals in order, each with the clause that it is the last one of, and a clause without a literal left."""
+        reasons = {it: None for it in decisions}
+        units = [name for name, clause in self.clauses.items() if len(clause) == 1]
+        order = [*decisions]
+        for place in range(-1, 10**9):
+            if place >= len(order):
+                return reasons, None
+            for name in units if place < 0 else self.places.get(-order[place], []):
+                left = [it for it in self.clauses[name] if -it not in reasons]
+                if not left:
+                    return reasons, name
+                if len(left) == 1 and left[0] not in reasons:
+                    reasons[left[0]] = name
+                    order.append(left[0])
+
+    def close(self, decisions):
+        """Learns that not all of these literals are true."""
+        while True:
+            reasons, conflict = self.propagate(decisions)
+            if conflict:
+                break
+            free = [it for clause in self.clauses.values() for it in clause if it not in reasons and -it not in reasons]
+            self.close([*decisions, self.numbers.choice(free)])
+        needed, hints = {-it for it in self.clauses[conflict]}, [conflict]
+        for it in reversed([*reasons]):
+            if it in needed and reasons[it]:
+                hints.append(reasons[it])
+                needed |= {-other for other in self.clauses[reasons[it]] if other != it}
+        clause = [-it for it in decisions if it in needed]
+        self.steps.append((self.add(clause), clause, hints[::-1]))
+
+
+def written(word, numbers):
+    """A word, and a number now and then with leading zeros."""
+    return f"{word:09}" if isinstance(word, int) and numbers.random() < 0.002 else str(word)
+
+
+def refutation(problem, numbers):
+    """The text of a refutation: numbers with gaps, deletions, comments and leading zeros here and there."""
+    steps = Search(problem, numbers).steps
+    last_uses = {hint: name for name, _, hints in steps for hint in hints}
+    count = formulas.size(*problem)[1]
+    lines, names, newest = [], {}, count
+    for name, clause, hints in steps:
+        newest += numbers.choice([1, 1, 1, 2, 10])
+        names[name] = newest
+        lines.append([newest, *clause, 0, *(names.get(it, it) for it in hints), 0])
+        done = [names.get(hint, hint) for hint in hints if last_uses[hint] == name]
+        if done and numbers.random() < 0.3:
+            lines.append([newest, "d", *done, 0])
+        if numbers.random() < 0.06:
+            lines.append(numbers.choice([[], ["c", "a", "comment"]]))
+    texts = [" ".join(written(word, numbers) for word in line) for line in lines]
+    return "\n".join(texts).encode() + b"\n" * (numbers.random() < 0.5)
+
+
+def put(parts, place, *new):
+    """The parts with the one at a place replaced."""
+    return [*parts[:place], *new, *parts[place + 1 :]]
+
+
+def other_digit(text, numbers):
+    place = numbers.choice([it.start() for it in re.finditer(rb"[0-9]", text)])
+    return text[:place] + b"%d" % numbers.randrange(10) + text[place + 1 :]
+
+
+def without_word(text, numbers):
+    words = re.split(rb"( |\n)", text)
+    place = 2 * numbers.randrange(len(words) // 2)
+    return b"".join(words[:place] + words[place + 2 :])
+
+
+def word_twice(text, numbers):
+    words = re.split(rb"( |\n)", text)
+    place = 2 * numbers.randrange(len(words) // 2)
+    return b"".join(put(words, place, words[place], b" ", words[place]))
+
+
+def without_line(text, numbers):
+    lines = text.split(b"\n")
+    return b"\n".join(put(lines, numbers.randrange(len(lines))))
+
+
+def line_twice(text, numbers):
+    lines = text.split(b"\n")
+    place = numbers.randrange(len(lines))
+    return b"\n".join(put(lines, place, lines[place], lines[place]))
+
+
+def lines_exchanged(text, numbers):
+    lines = text.split(b"\n")
+    first, second = numbers.randrange(len(lines)), numbers.randrange(len(lines))
+    lines[first], lines[second] = lines[second], lines[first]
+    return b"\n".join(lines)
+
+
+def cut_off(text, numbers):
+    return text[: numbers.randrange(len(text))]
+
+
+def deletion_put_in(text, numbers):
+    lines = text.split(b"\n")
+    names = re.findall(rb"(?<= )[1-9][0-9]*(?= )", text) or [b"1"]
+    place = numbers.randrange(len(lines))
+    chosen = [numbers.choice(names) for _ in range(numbers.randrange(1, 4))]
+    return b"\n".join(put(lines, place, b" ".join([b"1 d", *chosen, b"0"]), lines[place]))
+
+
+def byte_put_in(text, numbers):
+    place = numbers.randrange(len(text) + 1)
+    return text[:place] + bytes([numbers.choice(b"0123456789 -+dc\n\r\t\0\xff")]) + text[place:]
+
+
+def sign_changed(text, numbers):
+    place = numbers.choice([it.start() for it in re.finditer(rb"-?[0-9]+", text)])
+    return text[:place] + (text[place + 1 :] if text[place : place + 1] == b"-" else b"-" + text[place:])
+
+
+DAMAGES = [
+    other_digit,
+    without_word,
+    word_twice,
+    without_line,
+    line_twice,
+    lines_exchanged,
+    cut_off,
+    deletion_put_in,
+    byte_put_in,
+    sign_changed,
+]
+
+# Texts for a problem with 15 clauses and 6 variables. The first clauses are 1 2, 3 4 and 5 6, and the fourth is -1 -3.
+SMALL = (3, 0, 2, 1, 0)
+TEXTS = [
+    "",
+    "\n",
+    "\n\n",
+    "c\n",
+    "comment",
+    " c",
+    "d",
+    "d 1 0",
+    "0 d 0",
+    "1 d 1 0",
+    "1 d 1 0 ",
+    "1 d 1",
+    "1 d",
+    "1 d  1 0",
+    "1 d 00",
+    "1 d 1 0 0",
+    "1 d -1 0",
+    "1 d 18446744073709551615 0",
+    "1 d 18446744073709551616 0",
+    "18446744073709551615 d 0",
+    "18446744073709551616 d 0",
+    "1 D 0",
+    "1",
+    "1 0",
+    "1 0 0",
+    "0 0 0",
+    "15 0 0",
+    "16 0 0",
+    "16 0 0 0",
+    "16 0 0 ",
+    " 16 0 0",
+    "16  0 0",
+    "16 0  0",
+    "16 0 0\r",
+    "16\t0 0",
+    "+16 0 0",
+    "-16 0 0",
+    "16 00 00",
+    "16 -0 0 0",
+    "16 0 -0 0",
+    "16 0 -1 0",
+    "16 0 +1 0",
+    "16 0 1",
+    "16 1 0",
+    "16 7 0 0",
+    "16 -7 0 0",
+    "16 6 0 0",
+    "16 -6 0 99 0",
+    "16 2147483648 0 0",
+    "16 -2147483648 0 0",
+    "16 2147483649 0 0",
+    "16 -2147483649 0 0",
+    "15 7 0 0",
+    "16 7 0 99 0",
+    "18446744073709551615 0 0",
+    "18446744073709551616 0 0",
+    "000000000000000000000000000016 0 0",
+    "16 1 0 1 0",
+    "16 1 2 0 1 0",
+    "16 2 1 0 1 0",
+    "16 1 1 0 1 0",
+    "16 1 2 0 01 0",
+    "16 1 2 0 1 1 0",
+    "16 1 2 0 0",
+    "16 1 2 0 99 0",
+    "16 1 2 0 0 0",
+    "16 1 2 0 1 99 0",
+    "16 1 2 0 16 0",
+    "16 1 2 0 18446744073709551615 0",
+    "16 1 -1 0 1 4 0",
+    "16 1 -1 0 0",
+    "16 1 -1 2 0 1 0",
+    "c\n\nc\n16 1 0 2 0",
+    "1 d 1 0\n16 1 2 0 1 0",
+    "1 d 2 99 0 \n16 1 2 0 1 0",
+    "1 d 2 99 16 0\n16 1 2 0 1 0\n17 1 2 0 16 0\n17 d 16 0\n18 1 2 0 17 0\n19 1 2 0 16 0",
+    "16 1 2 0 1 0\n16 1 2 0 1 0",
+    "16 1 2 0 1 0\n15 1 2 0 1 0",
+    "20 1 2 0 1 0\n18 1 2 0 1 0",
+    "20 1 2 0 1 0\n21 1 2 0 20 0\n22 1 2 0 19 0",
+]
+
+
+def small_refutation():
+    """A refutation of the small problem: of the first window's channels each leads to a conflict."""
+    names = {tuple(clause): name for name, clause in enumerate(formulas.clauses(*SMALL), 1)}
+    not_first = [names[-1, -3], names[3, 4], names[-1, -5], names[5, 6], names[-4, -6]]
+    not_second = [1, names[-2, -4], 2, names[-2, -6], 3, names[-3, -5]]
+    return f"16 -1 0 {' '.join(map(str, not_first))} 0", f"17 0 16 {' '.join(map(str, not_second))} 0"
+
+
+def small_texts():
+    """Texts that are written by hand, for the small problem."""
+    yield from TEXTS
+    first, last = small_refutation()
+    yield from [f"{first}\n{last}", f"{first}\n{last}\n", f"{first}\n{last}\nwhat follows\n\xff", f"{first}\n\n{last}"]
+    yield from [f"{first}\nc \xff\n{last}", f"{first}\n{last} ", f"{first} \n{last}", f"{first}\r\n{last}", f"{last}\n{first}"]
+    yield from [first, f"{first}\n", f"{first}\n1 d 16 0\n{last}", f"{first}\n1 d 17 0\n{last}", f"1 d 1 0\n{first}\n{last}"]
+    yield from [f"{first}\n{last[:-2]}", f"{first}\n{last[:-2]} 1 0", f"{first}\n{last.replace(' 16', '')}"]
+    # a clause with a literal twice has two literals left
+    yield f"16 -1 -1 0{first[7:]}\n{last}"
+
+
+def kept():
+    """The refutations and the tables of examples/least, by the names of their files."""
+    for path in sorted(FOLDER.glob("*")):
+        problem = [int(re.search(rf"{name}(\d+)", path.name)[1]) for name in ["ids", "rounds", "channels", "near", "far"]]
+        if path.suffix == ".lrat":
+            yield f"refute {formulas.words(*problem)}", path.read_bytes(), refuted(*problem), 0
+        else:
+            ids, rounds, _, _, far = problem
+            yield "audit", path.read_bytes(), f"yes: {perm(ids, 2 * rounds + 2 + (far > 0))} tuples\n", 0
+
+
+def rows():
+    yield from kept()
+    for text in small_texts():
+        text = text.encode("latin-1")
+        yield f"refute {formulas.words(*SMALL)}", text, *report(SMALL, text)
+    for text, line in [(MAX_BYTES * b" ", "refutation fault L2 line 1\n"), (MAX_BYTES * b" " + b" ", "refutation fault L1\n")]:
+        yield f"refute {formulas.words(*SMALL)}", text, line, 3
+    numbers = Random(20261127)
+    for turn in range(COUNT):
+        problem = PROBLEMS[turn % len(PROBLEMS)]
+        line, right = f"refute {formulas.words(*problem)}", refutation(problem, numbers)
+        yield line, right, refuted(*problem), 0
+        for damage in DAMAGES:
+            text = damage(right, numbers)
+            yield line, text, *report(problem, text)
