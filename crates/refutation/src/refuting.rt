@@ -18,12 +18,24 @@ use clause_check::Literal;
 use std::alloc::Global;
 use table_formula::Formula;
 
-/// Checks that a text is a refutation of a formula: a list of clauses in LRAT, in text form, each
-/// of which follows from the formula and those before it by unit propagation, with the empty clause
-/// among them. What follows the empty clause is not read.
+/// Checks that a text is a refutation of a formula, so that no table solves its problem. The text
+/// is LRAT in text form, with steps of unit propagation alone: it adds clauses, each of which
+/// follows from those that its hints name, up to the empty clause. What follows is not read.
 ///
-/// Fails with `TooLong` if the text is longer than `LONGEST_REFUTATION` bytes, with the first line
-/// that is wrong and its fault, or with `OutOfMemory` if memory was refused.
+/// Lines end before line feeds, and words before single blanks. A line is one of these:
+///
+/// - A comment, which is empty or begins with `c`.
+/// - A deletion: a number, which is not used, the word `d`, the numbers of clauses, and 0. Numbers
+///   that name no clause are passed over.
+/// - An addition: the number of the clause, which is above those of all clauses before, its
+///   literals, 0, the numbers of its hints, and 0. A literal is the number of a variable, counted
+///   from 1, with `-` in front for its negation.
+///
+/// The clauses of the formula have the numbers from 1 on. Numbers are in decimal, leading zeros
+/// allowed, and below 2^64; those of variables are at most 2^31.
+///
+/// Fails with `TooLong` if the text is longer than `LONGEST_REFUTATION` bytes, else with the first
+/// line that is wrong and its fault, or with `OutOfMemory` if memory was refused.
 #[tactic(auto, using(crate::proofs::Verdicts::right_told, crate::proofs::Verdicts::first_told))]
 pub fn refute(alloc: Global, formula: &Formula, text: &[u8]) -> Result<(), RefuteError>
     ensures ok { OnOk result (IsRefutation formula.now text.now) }
