@@ -5,9 +5,11 @@ mod conflict;
 mod formula;
 mod laws;
 mod limits;
+mod text;
 
 pub use channel_tables::Separation;
 pub use conflict::Conflict;
 pub use formula::{Formula, FormulaFault};
 pub use laws::{formula_is_exact, models_give_solutions, solutions_satisfy};
 pub use limits::{MAX_CLAUSES, MAX_VARIABLES};
+pub use text::write_formula;

@@ -1,11 +1,10 @@
--- The bytes of a writer, and the contents of a chunk.
-use Rattle.std.proofs.Common.{◌≡◌, ℕ, ◌+◌, ◌≤◌, List, [], ◌++◌, length, take, drop, arith, Option, Result, Ok, Err, OnErr, subst, sym, ap, ◌∙◌, append-nil, append_assoc}
+-- The bytes of a writer, and those that wait in a chunk.
+use Rattle.std.proofs.Common.{◌≡◌, ℕ, ◌+◌, ◌≤◌, List, [], ◌++◌, length, take, drop, arith, Option, subst, refl, sym, ap, ◌∙◌, append-nil, append_assoc}
 use Rattle.std.proofs.Math.Seq.{take-append-add, take-append_seam}
 use Rattle.std.proofs.lemmas.List.{take-append-le, take-append-drop, length-take, length-take-le}
-use Rattle.std.proofs.KnownBytes.{Appends-trans}
+use Rattle.std.proofs.KnownBytes.{Appends-nil, Appends-trans}
 use Rattle.std.specs.Io.KnownBytes.{Appends}
-use Rattle.devices.specs.Output.{AppendsFront}
-use Rattle.table_text.specs.Pieces.{IsWrittenSoFar}
+use Rattle.devices.specs.Output.{AppendsFront, IsWrittenSoFar}
 
 -- one more piece in the chunk
 pub tells_more :
@@ -20,6 +19,15 @@ tells_all a b c waiting text told sent = subst (Appends a c) told.2 (Appends-tra
 -- they are written, and the chunk is empty
 pub tells_sent : (a b c : Option (List ℕ)) (waiting text : List ℕ) → IsWrittenSoFar a b waiting text → Appends b c waiting → IsWrittenSoFar a c [] text
 tells_sent a b c waiting text told sent = (text, tells_all a b c waiting text told sent, append-nil text)
+
+-- of those that wait, some are written
+pub tells_moved : (a b c : Option (List ℕ)) (waiting left text : List ℕ) → IsWrittenSoFar a b waiting text → IsWrittenSoFar b c left waiting → IsWrittenSoFar a c left text
+tells_moved a b c waiting left text told moved =
+    (told.0 ++ moved.0, Appends-trans a b c told.0 moved.0 told.1 moved.1, append_assoc told.0 moved.0 left ∙ ap (λ t. told.0 ++ t) moved.2 ∙ told.2)
+
+-- nothing was written yet
+pub tells_none : (a : Option (List ℕ)) (waiting : List ℕ) → IsWrittenSoFar a a waiting waiting
+tells_none a waiting = ([], Appends-nil a, refl)
 
 -- a prefix is taken by its own length
 front_is : (n : ℕ) (xs : List ℕ) → take (length (take n xs)) xs ≡ take n xs
@@ -38,10 +46,6 @@ tells_front a b c waiting text whole rest told failed longer =
     ∙ ap (λ t. told.0 ++ t) (take-append-le k waiting rest short ∙ front_is count waiting) in
     (length told.0 + k, subst (Appends a c) (sym front) (Appends-trans a b c told.0 (take count waiting) told.1 failed.1))
 
--- a text of at most `most` bytes fits where there is room for these
-pub fits_in : (len most filled size : ℕ) → len ≤ most → filled + most ≤ size → filled + len ≤ size
-fits_in len most filled size short room = omega arith
-
 -- a piece was written over the items from an index on
 pub put_front :
     (start n : ℕ) (xs piece rest : List ℕ) → start ≤ length xs → n ≤ length piece
@@ -50,8 +54,3 @@ put_front start n xs piece rest within le =
     let long : length (take start xs) ≡ start = length-take-le start xs within in
     ap (λ k. take (k + n) (take start xs ++ (piece ++ rest))) (sym long) ∙ take-append-add (take start xs) (piece ++ rest) n
     ∙ ap (λ t. take start xs ++ t) (take-append-le n piece rest le)
-
--- what holds of each error holds of this one
-pub on_err : {T E P : Type 0} (r : Result T E) → P → OnErr r P
-on_err (Ok x) p = tt
-on_err (Err e) p = p
