@@ -105,3 +105,52 @@ fn adds_empty_clause(form: Form, clause: &[Literal]) -> bool
         _ => false,
     }
 }
+
+#[cfg(test)]
+mod tests {
+    use super::*;
+    use table_formula::Separation;
+    use win_index::Shape;
+
+    // Refutes, by this text, that two neighbours have different channels where there is one channel.
+    // The clauses of the formula are 1, 2, -1 -2 and -2 -1.
+    fn refute_one_channel(alloc: Global, text: &str) -> Result<(), RefuteError> {
+        let Ok(shape) = Shape::new(2, 0) else {
+            return Err(RefuteError::TooLong);
+        };
+        let separation = Separation { near: 1, far: 0 };
+        match Formula::new(alloc, shape, 1, separation) {
+            Ok(formula) => refute(alloc, &formula, text.as_bytes()),
+            Err(_) => Err(RefuteError::TooLong),
+        }
+    }
+
+    // Returns the line and the fault, if the text has a fault in a line.
+    fn fault_of(alloc: Global, text: &str) -> Option<(u64, LineFault)> {
+        match refute_one_channel(alloc, text) {
+            Err(RefuteError::At { line, fault }) => Some((line, fault)),
+            _ => None,
+        }
+    }
+
+    #[test]
+    fn a_refutation(rt: HostRuntime) {
+        let text = "c one step\n5 d 4 9 0\n\n6 0 01 2 3 0\nnot read";
+        assert!(rt; refute_one_channel(rt.alloc(), text).is_ok());
+    }
+
+    #[test]
+    fn faults(rt: HostRuntime) {
+        for (text, line, fault) in [
+            ("5 0 1 2 3", 1, LineFault::Form),
+            ("4 0 1 2 3 0", 1, LineFault::NumberNotAscending),
+            ("5 -3 0 1 2 3 0", 1, LineFault::UnknownVariable),
+            ("1 d 3 0\n5 0 1 2 3 0", 2, LineFault::UnknownHint),
+            ("5 0 1 2 3 4 0", 1, LineFault::HintNotUnit),
+            ("5 0 1 2 0", 1, LineFault::NoConflict),
+            ("5 -1 0 2 3 0\n", 2, LineFault::NoEmptyClause),
+        ] {
+            assert!(rt; fault_of(rt.alloc(), text) == Some((line, fault)));
+        }
+    }
+}

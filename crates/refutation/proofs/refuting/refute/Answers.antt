@@ -1,4 +1,4 @@
-use Rattle.std.proofs.Common.{arith, ◌≤◌, length}
+use Rattle.std.proofs.Common.{arith}
 use Rattle.std.proofs.lemmas.Result.{IfOk-weaker}
 use Rattle.refutation.proofs.Verdicts.{right_told}
 use Rattle.refutation.proofs.refuting.refute.Goals as goal
