@@ -1,5 +1,5 @@
--- The definitions that the contracts cite: the words and the lines of a text, the clauses that a refutation has so far, which
--- texts are refutations and which fault another text has, the laws, and the state of the program.
+-- The definitions that the contracts cite: the words and the lines of a text, which clauses numbers name and what a line does
+-- to them, which texts are refutations and which fault another text has, and the laws. The other files serve the program.
 pub mod Words
 pub mod Lines
 pub mod Derivations

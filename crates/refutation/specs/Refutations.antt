@@ -23,13 +23,13 @@ pub record Reaches (p : Problem) (text : List ℕ) (before : List (List ℕ)) (h
   pub lines : lines_of text ≡ before ++ here ∷ after
   pub right : Leads p (opening p) before d
 
--- the first line that is wrong or adds the empty clause is right and adds the empty clause
+-- a line adds the empty clause, and it and all lines before it are right
 abbrev pub IsRefutation : Problem → List ℕ → Type 0
 IsRefutation p text =
     (before : List (List ℕ)) × (here : List ℕ) × (d : Derivation) × Reaches p text before here d
     × (line_fault p d (line_in here) ≡ None) × (adds_empty (line_in here) ≡ true)
 
--- the first line that is wrong or adds the empty clause has this number, counted from 1, and this fault
+-- the line with this number, counted from 1, has this fault; all lines before it are right, and none adds the empty clause
 abbrev pub HasFaultAt : Problem → List ℕ → ℕ → LineFault → Type 0
 HasFaultAt p text line fault =
     (before : List (List ℕ)) × (here : List ℕ) × (d : Derivation) × Reaches p text before here d
@@ -39,7 +39,7 @@ HasFaultAt p text line fault =
 abbrev pub LacksEmptyClause : Problem → List ℕ → Type 0
 LacksEmptyClause p text = (length text ≤ LONGEST_REFUTATION) × (d : Derivation) × Leads p (opening p) (lines_of text) d
 
--- why a text is not a refutation. OutOfMemory can replace any fault except TooLong, and a refutation
+-- why a text was not found to be a refutation. Memory can be refused for each text that is not too long
 abbrev pub IsFault : Problem → List ℕ → RefuteError → Type 0
 IsFault p text TooLong = LONGEST_REFUTATION < length text
 IsFault p text (At line fault) =

@@ -18,12 +18,24 @@ use clause_check::Literal;
 use std::alloc::Global;
 use table_formula::Formula;
 
-/// Checks that a text is a refutation of a formula: a list of clauses in LRAT, in text form, each
-/// of which follows from the formula and those before it by unit propagation, with the empty clause
-/// among them. What follows the empty clause is not read.
+/// Checks that a text is a refutation of a formula, so that no table solves its problem. The text
+/// is LRAT in text form, with steps of unit propagation alone: it adds clauses, each of which
+/// follows from those that its hints name, up to the empty clause. What follows is not read.
 ///
-/// Fails with `TooLong` if the text is longer than `LONGEST_REFUTATION` bytes, with the first line
-/// that is wrong and its fault, or with `OutOfMemory` if memory was refused.
+/// Lines end before line feeds, and words before single blanks. A line is one of these:
+///
+/// - A comment, which is empty or begins with `c`.
+/// - A deletion: a number, which is not used, the word `d`, the numbers of clauses, and 0. Numbers
+///   that name no clause are passed over.
+/// - An addition: the number of the clause, which is above those of all clauses before, its
+///   literals, 0, the numbers of its hints, and 0. A literal is the number of a variable, counted
+///   from 1, with `-` in front for its negation.
+///
+/// The clauses of the formula have the numbers from 1 on. Numbers are in decimal, leading zeros
+/// allowed, and below 2^64; those of variables are at most 2^31.
+///
+/// Fails with `TooLong` if the text is longer than `LONGEST_REFUTATION` bytes, else with the first
+/// line that is wrong and its fault, or with `OutOfMemory` if memory was refused.
 #[tactic(auto, using(crate::proofs::Verdicts::right_told, crate::proofs::Verdicts::first_told))]
 pub fn refute(alloc: Global, formula: &Formula, text: &[u8]) -> Result<(), RefuteError>
     ensures ok { OnOk result (IsRefutation formula.now text.now) }
@@ -91,5 +103,54 @@ fn adds_empty_clause(form: Form, clause: &[Literal]) -> bool
     match form {
         Form::Addition(_) => clause.is_empty(),
         _ => false,
+    }
+}
+
+#[cfg(test)]
+mod tests {
+    use super::*;
+    use table_formula::Separation;
+    use win_index::Shape;
+
+    // Refutes, by this text, that two neighbours have different channels where there is one channel.
+    // The clauses of the formula are 1, 2, -1 -2 and -2 -1.
+    fn refute_one_channel(alloc: Global, text: &str) -> Result<(), RefuteError> {
+        let Ok(shape) = Shape::new(2, 0) else {
+            return Err(RefuteError::TooLong);
+        };
+        let separation = Separation { near: 1, far: 0 };
+        match Formula::new(alloc, shape, 1, separation) {
+            Ok(formula) => refute(alloc, &formula, text.as_bytes()),
+            Err(_) => Err(RefuteError::TooLong),
+        }
+    }
+
+    // Returns the line and the fault, if the text has a fault in a line.
+    fn fault_of(alloc: Global, text: &str) -> Option<(u64, LineFault)> {
+        match refute_one_channel(alloc, text) {
+            Err(RefuteError::At { line, fault }) => Some((line, fault)),
+            _ => None,
+        }
+    }
+
+    #[test]
+    fn a_refutation(rt: HostRuntime) {
+        let text = "c one step\n5 d 4 9 0\n\n6 0 01 2 3 0\nnot read";
+        assert!(rt; refute_one_channel(rt.alloc(), text).is_ok());
+    }
+
+    #[test]
+    fn faults(rt: HostRuntime) {
+        for (text, line, fault) in [
+            ("5 0 1 2 3", 1, LineFault::Form),
+            ("4 0 1 2 3 0", 1, LineFault::NumberNotAscending),
+            ("5 -3 0 1 2 3 0", 1, LineFault::UnknownVariable),
+            ("1 d 3 0\n5 0 1 2 3 0", 2, LineFault::UnknownHint),
+            ("5 0 1 2 3 4 0", 1, LineFault::HintNotUnit),
+            ("5 0 1 2 0", 1, LineFault::NoConflict),
+            ("5 -1 0 2 3 0\n", 2, LineFault::NoEmptyClause),
+        ] {
+            assert!(rt; fault_of(rt.alloc(), text) == Some((line, fault)));
+        }
     }
 }
