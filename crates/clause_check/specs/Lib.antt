@@ -1,5 +1,6 @@
--- The definitions that the contracts cite: clauses and the values of variables, what the hints of a step show, marked
--- literals, and the laws.
+-- The definitions that the contracts cite: literals, clauses and the values of variables, what the hints of a step show,
+-- marked literals, and the laws.
+pub mod SignedVariables
 pub mod Clauses
 pub mod Hints
 pub mod Marked

@@ -34,6 +34,7 @@ impl Marks {
     /// Returns marks for literals of this many variables; none is marked.
     pub fn new(alloc: Global, variables: u32) -> Result<Marks, AllocError>
         ensures variables { IfOk result (λ marks. variables_of marks ≡ variables) }
+        ensures unmarked { IfOk result (λ marks. (k : Lit) → is_marked marks k ≡ false) }
     {
         Ok(Marks {
             positive: vec![in alloc; 0; variables as usize]?,
@@ -42,7 +43,8 @@ impl Marks {
         })
     }
 
-    /// Removes all marks, and marks the literals of a clause.
+    /// Removes all marks, and marks the literals of a clause. Their variables must be below the number
+    /// that `new` was given, as in `mark` and `remaining`.
     pub fn take_clause(&mut self, clause: &[Literal])
         requires { All (λ l. l.variable < variables_of self.old) clause.now }
         ensures marked { (k : Lit) → is_marked self.new k ≡ has_literal clause.now k }
@@ -60,10 +62,10 @@ impl Marks {
         ensures marked { (k : Lit) → is_marked self.new k ≡ (is_marked self.old k || is_same k l) }
         ensures variables { variables_of self.new ≡ variables_of self.old }
     {
-        if l.is_positive {
-            self.positive[l.variable as usize] = self.newest;
+        if l.is_positive() {
+            self.positive[l.variable() as usize] = self.newest;
         } else {
-            self.negative[l.variable as usize] = self.newest;
+            self.negative[l.variable() as usize] = self.newest;
         }
     }
 
@@ -93,10 +95,10 @@ impl Marks {
         requires { l.variable < variables_of self.now }
         ensures { result ≡ is_marked self.now l }
     {
-        if l.is_positive {
-            self.positive[l.variable as usize] == self.newest
+        if l.is_positive() {
+            self.positive[l.variable() as usize] == self.newest
         } else {
-            self.negative[l.variable as usize] == self.newest
+            self.negative[l.variable() as usize] == self.newest
         }
     }
 

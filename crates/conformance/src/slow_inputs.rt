@@ -169,11 +169,11 @@ fn a_long_input_is_read_in_one_call_more_than_its_limit(rt: HostRuntime) {
     assert!(rt; found == (Ok(Status::Refused), 65_537, true));
 }
 
-// Reads single bytes up to a limit of 3. Returns whether one byte more was read, and the number of
+// Reads single bytes, at most four of them. Returns whether the first four were read, and the number of
 // calls.
-fn read_past_three(alloc: Global) -> Option<(bool, usize)> {
+fn read_four(alloc: Global) -> Option<(bool, usize)> {
     let mut reader = Watched::new(SlowReader::new(b"start", Pace::of(1)));
-    let input = read_input(alloc, &mut reader, 3).ok()?;
+    let input = read_input(alloc, &mut reader, 4).ok()?;
     Some((
         input.as_slice() == b"star".as_slice(),
         reader.into_device().calls(),
@@ -182,7 +182,7 @@ fn read_past_three(alloc: Global) -> Option<(bool, usize)> {
 
 #[test]
 fn single_bytes_are_read_in_no_more_calls_than_bytes(rt: HostRuntime) {
-    assert!(rt; read_past_three(rt.alloc()) == Some((true, 4)));
+    assert!(rt; read_four(rt.alloc()) == Some((true, 4)));
 }
 
 // Reads twice into no room, with a reader that fails at the second call. Returns both results, and
@@ -209,7 +209,7 @@ fn a_read_into_no_room_is_no_failure(rt: HostRuntime) {
 fn failed_read(alloc: Global) -> (Option<EngineFault>, bool, usize) {
     let pace = Pace::failing_at(3, ErrorKind::Interrupted, 1);
     let mut reader = Watched::new(SlowReader::new(b"start", pace));
-    let fault = read_input(alloc, &mut reader, 3).err();
+    let fault = read_input(alloc, &mut reader, 4).err();
     (fault, reader.failed(), reader.into_device().calls())
 }
 

@@ -1,6 +1,6 @@
 //! Reading the input.
 
-ghost use Rattle.std.specs.Prelude.{◌≡◌, ◌+◌, ◌<◌, ◌≤◌, ◌⊎◌, ◌↔◌, false, IsTrue, IfOk, IfErr, OnErr, IsErrOf};
+ghost use Rattle.std.specs.Prelude.{◌≡◌, ◌+◌, ◌≤◌, ◌⊎◌, ◌↔◌, false, IsTrue, IfOk, IfErr, OnErr, IsErrOf};
 ghost use Rattle.devices.specs.Input.{GivesInput, TakesFront};
 ghost use Rattle.devices.specs.Watched.{device_of, has_failed, calls_of};
 
@@ -12,33 +12,31 @@ use std::io::Read;
 /// The maximum number of bytes requested in one read.
 const CHUNK: usize = 4096;
 
-/// Reads the whole input, or the first `limit + 1` bytes of a longer one, in at most `limit + 1`
-/// reads.
+/// Reads the whole input, or the first `most` bytes of a longer one, in at most `most` reads.
 ///
 /// Fails with `Read` exactly if a read failed, and with `Memory` if memory was refused; in both
-/// cases up to `limit + 1` bytes were taken from the reader.
+/// cases up to `most` bytes were taken from the reader.
 pub fn read_input<R: Read>(
     alloc: Global,
     reader: &mut Watched<R>,
-    limit: usize,
+    most: usize,
 ) -> Result<Vec<u8>, EngineFault>
-    requires limited { limit < usize.MAX }
-    requires working { has_failed reader.old ≡ false }
+    requires { has_failed reader.old ≡ false }
     ensures input { IfOk result (λ input. GivesInput (R.remaining (device_of reader.old))
-        (R.remaining (device_of reader.new)) limit input.items) }
+        (R.remaining (device_of reader.new)) most input.items) }
     ensures refused { OnErr result (TakesFront (R.remaining (device_of reader.old))
-        (R.remaining (device_of reader.new)) limit) }
+        (R.remaining (device_of reader.new)) most) }
     ensures faults { IfErr result (λ fault. (fault ≡ EngineFault.Read) ⊎ (fault ≡ EngineFault.Memory)) }
     ensures failed { IsErrOf result EngineFault.Read ↔ IsTrue (has_failed reader.new) }
-    ensures asked { calls_of reader.new ≤ calls_of reader.old + (limit + 1) }
+    ensures asked { calls_of reader.new ≤ calls_of reader.old + most }
 {
     let mut input = Vec::new(alloc);
     let mut chunk = [0u8; CHUNK];
-    'reads: for _turn in 0..limit + 1 {
-        if input.len() > limit {
+    'reads: for _turn in 0..most {
+        if input.len() >= most {
             break;
         }
-        let room = CHUNK.min(limit + 1 - input.len());
+        let room = CHUNK.min(most - input.len());
         let count = reader.read(&mut chunk[..room])?;
         if count == 0 {
             break;

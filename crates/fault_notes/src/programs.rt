@@ -92,8 +92,9 @@ fn ids_range(alloc: Global, least: u32, most: u32) -> Result<String, AllocError>
     format!(in alloc; "{least} to {most}")
 }
 
-// Returns the note on a number of identifiers.
-fn ids_note(alloc: Global, rounds: u32, ids: u32) -> Result<String, AllocError>
+/// Returns the note on a number of identifiers that makes no shape with a number of rounds: the
+/// possible numbers. Fails if memory was refused.
+pub fn ids_note(alloc: Global, rounds: u32, ids: u32) -> Result<String, AllocError>
     requires { rounds ≤ MAX_ROUNDS }
     ensures { IfOk result (λ note. IsIdsNote rounds ids (string_bytes note)) }
 {

@@ -9,11 +9,14 @@ use Rattle.nbhd_check.specs.Laws.{WitnessesAreOnRings}
 use Rattle.channel_tables.specs.Tables.{ChannelTable}
 use Rattle.channel_tables.specs.declared.separation.Separation.{Separation}
 use Rattle.task_words.specs.declared.task.Task.{Task}
-use Rattle.task_words.specs.declared.task.Task.TheVariants.{Check, Print, Table, Judge, Run, Trace, Plan, Audit, Migrate}
+use Rattle.task_words.specs.declared.task.Task.TheVariants.{Check, Print, Table, Judge, Run, Trace, Plan, Audit, Migrate, Formula, Refute}
 use Rattle.reports.specs.Causes.{Reason}
 use Rattle.reports.specs.Notes.{IsFound}
 use Rattle.reports.specs.Report.{Report, IsJudgement, good, bad, IsAnswerOnRing, ring_fault, on_ring, IsRunAnswer, out_of_range, ran, IsTextRefusal, text_refused, in_print, text_fault, check_fault, IsProgramReport, program_refused, answered, IsTableReport, table_refused, of_table}
-use Rattle.plan_print.specs.TaskReport.{IsReport}
+use Rattle.reports.specs.FormulaReports.{IsFormulaRefusal, no_formula, has_text, not_asked, refuted, not_refuted}
+use Rattle.table_formula.specs.Problems.{Problem}
+use Rattle.task_words.specs.Task.{IsRunnable}
+use Rattle.plan_print.specs.TaskReport.{problem, IsReport}
 
 -- the cause of the report, if there is one, is found in the input
 abbrev IsOfInput : List ℕ → Report → Type 0
@@ -67,18 +70,27 @@ in_table_of : WitnessesAreOnRings → (input : List ℕ) (p : ProgramTree) (m : 
 unfolding table_of
 in_table_of placed input p m s r few ids said = in_judgement placed input (table_of p m) s r few ids said
 
-pub found : WitnessesAreOnRings → (task : Task) (input : List ℕ) (r : Report) → IsReport task input r → IfSome r.cause (IsFound input)
-found placed (Check ids) input r is = in_program ids _ input r (λ p few small said. no_cause input r said.2) is
-found placed Print input r (text_refused refused) = in_text input r refused
-found placed Print input r (in_print p reads says) = no_cause input r says.2
-found placed (Table ids workers near far) input r is = in_program ids _ input r (λ p few small said. no_cause input r said.2) is
-found placed (Judge ids workers near far) input r is =
+-- numbers of which there is no formula are of few rounds
+in_refusal : (input : List ℕ) (r : Report) (p : Problem) → p.rounds ≤ MAX_ROUNDS → IsFormulaRefusal p r → IsOfInput input r
+in_refusal input r p few refusal = its_cause input r _ refusal.says.2 few
+
+pub found : WitnessesAreOnRings → (task : Task) → IsRunnable task → (input : List ℕ) (r : Report) → IsReport task input r → IfSome r.cause (IsFound input)
+found placed (Check ids) able input r is = in_program ids _ input r (λ p few small said. no_cause input r said.2) is
+found placed Print able input r (text_refused refused) = in_text input r refused
+found placed Print able input r (in_print p reads says) = no_cause input r says.2
+found placed (Table ids workers near far) able input r is = in_program ids _ input r (λ p few small said. no_cause input r said.2) is
+found placed (Judge ids workers near far) able input r is =
     in_program ids _ input r (λ p few small said. in_table_of placed input p ids _ r few small said) is
-found placed (Run ids ring segments) input r is =
+found placed (Run ids ring segments) able input r is =
     in_program ids _ input r (λ p few small said. in_list input _ _ _ _ r few (in_run input p ring.items segments r) said) is
-found placed (Trace ids ring) input r is =
+found placed (Trace ids ring) able input r is =
     in_program ids _ input r (λ p few small said. in_list input _ _ _ _ r few (λ says. no_cause input r says.2) said) is
-found placed (Plan ids ring workers) input r is =
+found placed (Plan ids ring workers) able input r is =
     in_program ids _ input r (λ p few small said. in_list input _ _ _ _ r few (λ says. no_cause input r says.2) said) is
-found placed Audit input r is = in_table _ input r (λ t s few small said. in_judgement placed input t s r few small said) is
-found placed Migrate input r is = in_table _ input r (λ t s few small said. no_cause input r said.2) is
+found placed Audit able input r is = in_table _ input r (λ t s few small said. in_judgement placed input t s r few small said) is
+found placed Migrate able input r is = in_table _ input r (λ t s few small said. no_cause input r said.2) is
+found placed (Formula ids rounds channels near far) able input r (no_formula refusal) = in_refusal input r (problem ids rounds channels near far) able.few_rounds refusal
+found placed (Formula ids rounds channels near far) able input r (has_text has says) = no_cause input r says.2
+found placed (Refute ids rounds channels near far) able input r (not_asked refusal) = in_refusal input r (problem ids rounds channels near far) able.few_rounds refusal
+found placed (Refute ids rounds channels near far) able input r (refuted has refutes says) = no_cause input r says.2
+found placed (Refute ids rounds channels near far) able input r (not_refuted has f known is says) = its_cause input r _ says.2 known

@@ -1,5 +1,5 @@
 -- The report of a task on an accepted program. No public contract cites this file.
-use Rattle.std.specs.Prelude.{ℕ, length}
+use Rattle.std.specs.Prelude.{ℕ, Bool, true, false, length}
 use Rattle.node_program.specs.Term.{ProgramTree}
 use Rattle.table_entries.specs.ProgramTables.{table_of}
 use Rattle.task_words.specs.declared.task.Task.{Task}
@@ -7,6 +7,20 @@ use Rattle.task_words.specs.declared.task.Task.TheVariants as task
 use Rattle.reports.specs.Trace.{trace_lines}
 use Rattle.reports.specs.Report.{Report, Says, accepted_line, place_lines, IsTableText, IsJudgement, IsAnswerOnRing, IsRunAnswer}
 use Rattle.reports.specs.declared.status.Status.TheVariants.{Done}
+
+-- whether a task is on an accepted program
+abbrev pub is_on_program : Task → Bool
+is_on_program (task.Check ids) = true
+is_on_program task.Print = false
+is_on_program (task.Table ids workers near far) = true
+is_on_program (task.Judge ids workers near far) = true
+is_on_program (task.Run ids ring segments) = true
+is_on_program (task.Trace ids ring) = true
+is_on_program (task.Plan ids ring workers) = true
+is_on_program task.Audit = false
+is_on_program task.Migrate = false
+is_on_program (task.Formula ids rounds channels near far) = false
+is_on_program (task.Refute ids rounds channels near far) = false
 
 -- the number of identifiers of a task on an accepted program, 0 for other tasks
 abbrev pub ids_of : Task → ℕ

@@ -7,7 +7,7 @@ ghost use Rattle.devices.specs.Watched.{device_of, has_failed, calls_of};
 ghost use Rattle.reports.specs.Notes.{IsNoteOn, IsFound};
 ghost use Rattle.reports.specs.Causes.{reason_in};
 ghost use Rattle.reports.specs.Written.{MayHave};
-ghost use Rattle.plan_print.specs.Engine.{limit_of, WritesReport, TellsReport, LeavesOutput, TellsFailures, thread_count_of};
+ghost use Rattle.plan_print.specs.Engine.{max_read, WritesReport, TellsReport, LeavesOutput, TellsFailures, thread_count_of};
 
 use crate::report::report_of;
 use devices::fault::EngineFault;
@@ -16,6 +16,7 @@ use devices::watched::Watched;
 use nbhd_check::one_witness;
 use node_lang::LONGEST_TEXT;
 use node_program::OutOfMemory;
+use refutation::LONGEST_REFUTATION;
 use reports::cause::Cause;
 use reports::note::note_on;
 use reports::status::Status;
@@ -29,8 +30,8 @@ use task_words::task::Task;
 
 /// Reads the input of a task and writes its report. Returns the report's status.
 ///
-/// Reads the whole input, or one byte more than the task's limit of a longer one, in at most one
-/// read more than that limit. The task's number of workers, if it has one, must be 1 to
+/// Reads the whole input, or one byte more than the longest text of its kind if it is longer, in at
+/// most as many reads; nothing for a formula. The task's number of workers, if it has one, must be 1 to
 /// `MAX_COUNT`. If its ring can't be run in its number of segments, the report says so.
 ///
 /// Fails with `Read` exactly if a read failed, with `Write` exactly if a write failed or took no
@@ -54,8 +55,8 @@ pub fn engine<T: Threads + Wait + Sync, R: Read, W: Write>(
     ensures left { IfErr result (LeavesOutput task
         (R.remaining (device_of reader.old)) (R.remaining (device_of reader.new))
         (W.contents (device_of writer.old)) (W.contents (device_of writer.new))) }
-    ensures taken { OnErr result (TakesFront (R.remaining (device_of reader.old)) (R.remaining (device_of reader.new)) (limit_of task)) }
-    ensures asked { calls_of reader.new ≤ calls_of reader.old + (limit_of task + 1) }
+    ensures taken { OnErr result (TakesFront (R.remaining (device_of reader.old)) (R.remaining (device_of reader.new)) (max_read task)) }
+    ensures asked { calls_of reader.new ≤ calls_of reader.old + max_read task }
     ensures threads { IfErr result (MayHave (thread_count_of task)) }
     ensures failed { TellsFailures result (has_failed reader.new) (has_failed writer.new) }
 {
@@ -92,13 +93,13 @@ pub fn engine_with_note<T: Threads + Wait + Sync, R: Read, W: Write>(
     ensures left { IfErr result (LeavesOutput task
         (R.remaining (device_of reader.old)) (R.remaining (device_of reader.new))
         (W.contents (device_of writer.old)) (W.contents (device_of writer.new))) }
-    ensures taken { OnErr result (TakesFront (R.remaining (device_of reader.old)) (R.remaining (device_of reader.new)) (limit_of task)) }
-    ensures asked { calls_of reader.new ≤ calls_of reader.old + (limit_of task + 1) }
+    ensures taken { OnErr result (TakesFront (R.remaining (device_of reader.old)) (R.remaining (device_of reader.new)) (max_read task)) }
+    ensures asked { calls_of reader.new ≤ calls_of reader.old + max_read task }
     ensures threads { IfErr result (MayHave (thread_count_of task)) }
     ensures failed { TellsFailures result (has_failed reader.new) (has_failed writer.new) }
 {
     one_witness();
-    let input = read_input(alloc, reader, limit(&task))?;
+    let input = read_input(alloc, reader, max_read(&task))?;
     let answer = report_of(rt, alloc, task, &input)?;
     let (status, cause) = write_answer(alloc, answer, writer)?;
     let note = note_of(alloc, &input, cause);
@@ -119,9 +120,9 @@ fn note_of(alloc: Global, input: &[u8], cause: Option<Cause>) -> Option<Result<S
     }
 }
 
-// Returns the maximum length in bytes of the input of a task.
-fn limit(task: &Task) -> usize
-    ensures { result ≡ limit_of task.now }
+// Returns the maximum number of bytes that are read of the input of a task.
+fn max_read(task: &Task) -> usize
+    ensures { result ≡ max_read task.now }
 {
     match task {
         Task::Check { ids: _ }
@@ -148,7 +149,21 @@ fn limit(task: &Task) -> usize
             ids: _,
             ring: _,
             workers: _,
-        } => LONGEST_TEXT,
-        Task::Audit | Task::Migrate => LONGEST_TABLE_TEXT,
+        } => LONGEST_TEXT + 1,
+        Task::Audit | Task::Migrate => LONGEST_TABLE_TEXT + 1,
+        Task::Formula {
+            ids: _,
+            rounds: _,
+            channels: _,
+            near: _,
+            far: _,
+        } => 0,
+        Task::Refute {
+            ids: _,
+            rounds: _,
+            channels: _,
+            near: _,
+            far: _,
+        } => LONGEST_REFUTATION + 1,
     }
 }

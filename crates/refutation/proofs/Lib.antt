@@ -1,2 +1,7 @@
+pub mod Sound
+pub mod Verdicts
+pub mod Splitting
+pub mod Numbers
+pub mod ItemLists
+pub mod Deleting
 pub mod HintSteps
-pub mod Adding

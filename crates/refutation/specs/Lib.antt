@@ -1,3 +1,13 @@
--- The definitions that the contracts cite: the clauses that a hint can name, and what a step adds.
+-- The definitions that the contracts cite: the words and the lines of a text, the clauses that a refutation has so far, which
+-- texts are refutations and which fault another text has, the laws, and the state of the program.
+pub mod Words
+pub mod Lines
+pub mod Derivations
+pub mod Refutations
+pub mod FirstFaults
+pub mod Parts
+pub mod Forms
+pub mod Added
 pub mod Stored
-pub mod Steps
+pub mod Checked
+pub mod Laws

@@ -1,31 +1,26 @@
-ghost use Rattle.std.specs.Prelude.{◌≡◌, ◌≢◌, ℕ, None, Some, IfErr, OnOk, OnErr};
-ghost use Rattle.refutation.specs.Stored.{added_clause};
+ghost use Rattle.std.specs.Prelude.{◌≡◌, ◌==◌, ℕ, None, Some, OnOk, OnErr, if◌then◌else◌};
+ghost use Rattle.refutation.specs.Added.{added_clause};
 
-use crate::fault::StepFault;
 use clause_check::Literal;
+use std::alloc::AllocError;
 use std::collections::BTreeMap;
 
-// Adds a clause.
-#[tactic(auto, using(crate::proofs::Adding::apart))]
+// Adds a clause to those that were added.
 pub(crate) fn insert_clause(
     added: &mut BTreeMap<u64, Vec<Literal>>,
     number: u64,
     clause: Vec<Literal>,
-) -> Result<(), StepFault>
-    ensures here { OnOk result (added_clause added.new number ≡ Some clause.items) }
-    ensures others { OnOk result ((n : ℕ) → n ≢ number → added_clause added.new n ≡ added_clause added.old n) }
-    ensures same { OnErr result ((n : ℕ) → added_clause added.new n ≡ added_clause added.old n) }
-    ensures memory { IfErr result (λ e. e ≡ StepFault.OutOfMemory) }
+) -> Result<(), AllocError>
+    ensures ok { OnOk result ((n : ℕ) → added_clause added.new n ≡ (if n == number then Some clause.items else added_clause added.old n)) }
+    ensures err { OnErr result ((n : ℕ) → added_clause added.new n ≡ added_clause added.old n) }
 {
     added.insert(number, clause)?;
     Ok(())
 }
 
 // Deletes the added clause with this number, if there is one.
-#[tactic(auto, using(crate::proofs::Adding::apart))]
 pub(crate) fn delete_clause(added: &mut BTreeMap<u64, Vec<Literal>>, number: u64)
-    ensures here { added_clause added.new number ≡ None }
-    ensures others { (n : ℕ) → n ≢ number → added_clause added.new n ≡ added_clause added.old n }
+    ensures { (n : ℕ) → added_clause added.new n ≡ (if number == n then None else added_clause added.old n) }
 {
     let _ = added.remove(&number);
 }

@@ -1,149 +1,143 @@
-ghost use Rattle.std.specs.Prelude.{◌≡◌, ◌↔◌, ◌*◌, ◌<◌, ◌≤◌, All, length, IsTrue};
+ghost use Rattle.std.specs.Prelude.{◌≡◌, ◌≤◌, length};
 ghost use Rattle.clause_check.specs.Marked.{variables_of};
-ghost use Rattle.table_formula.specs.Problems.{IsImpossible};
-ghost use Rattle.table_formula.specs.Formula.{windows_of, formula as clauses_of};
-ghost use Rattle.refutation.specs.Stored.{AreWithin, AreSound};
+ghost use Rattle.table_formula.specs.Formula.{variable_count, longest_len, formula as clauses_of};
 
-use crate::added::{delete_clause, insert_clause};
-use crate::fault::StepFault;
-use table_formula::Formula;
+use crate::clauses::Clauses;
+use crate::fault::LineFault;
+use crate::forms::Form;
 use crate::hints::outcome_of_hints;
-use table_formula::solutions_satisfy;
-use clause_check::{Literal, Marks, Outcome, steps_are_sound};
+use crate::step_error::StepError;
+use clause_check::{Literal, Marks, Outcome};
 use std::alloc::{AllocError, Global};
-use std::collections::BTreeMap;
+use table_formula::Formula;
 
-/// A refutation of a formula so far: the clauses that were added and not deleted, each of which
-/// holds for each table that is asked for.
+/// A refutation so far.
 #[derive(Drop)]
-pub struct Checker {
-    pub(crate) formula: Formula,
-    pub(crate) added: BTreeMap<u64, Vec<Literal>>,
-    pub(crate) marks: Marks,
-    pub(crate) room: Vec<Literal>,
-    pub(crate) newest: u64,
-    pub(crate) is_refuted: bool,
-    ghost variables: { variables_of marks ≡ length (windows_of formula) * formula.channels },
-    ghost after: { length (clauses_of formula) ≤ newest },
-    ghost within: { AreWithin formula added },
-    ghost sound: { AreSound formula added },
-    ghost refuted: { IsTrue is_refuted → IsImpossible formula },
+pub(crate) struct Checker<'f> {
+    alloc: Global,
+    clauses: Clauses<'f>,
+    variables: u32,
+    marks: Marks,
+    room: Vec<Literal>,
+    newest: u64,
+    ghost known: { variables ≡ variable_count clauses.formula.now },
+    ghost marked: { variables_of marks ≡ variable_count clauses.formula.now },
+    ghost longest: { longest_len (clauses_of clauses.formula.now) ≤ length room.items },
+    ghost after: { length (clauses_of clauses.formula.now) ≤ newest },
 }
 
-impl Checker {
-    ghost use Rattle.std.specs.Prelude.{◌≢◌, ℕ, IfOk, IfErr, OnOk, None, Some, ◌||◌};
-    ghost use Rattle.channel_tables.specs.Tables.{ChannelTable};
-    ghost use Rattle.clause_check.specs.Clauses.{Holds};
-    ghost use Rattle.table_formula.specs.Problems.{IsSolution};
-    ghost use Rattle.table_formula.specs.Formula.{values_of};
-    ghost use Rattle.refutation.specs.Stored.{added_clause};
-    ghost use Rattle.refutation.specs.Steps.{IsAdded, IsStepFault, IsHintFault, IsKnown, shown, is_empty};
+impl<'f> Checker<'f> {
+    ghost use Rattle.std.specs.Prelude.{◌<◌, None, IsTrue, IfOk, IfErr, OnOk, map};
+    ghost use Rattle.clause_check.specs.Hints.{step_outcome};
+    ghost use Rattle.refutation.specs.Derivations.{opening, hints_fault, is_known, step_fault, line_fault, with_clause, after_line};
+    ghost use Rattle.refutation.specs.Forms.{line_of};
+    ghost use Rattle.refutation.specs.Stored.{clause_of};
+    ghost use Rattle.refutation.specs.Checked.{problem_of, derivation_of, IsStepError};
 
     /// Returns the refutation that has no step.
-    pub fn new(alloc: Global, formula: Formula) -> Result<Checker, AllocError>
-        ensures { IfOk result (λ checker. checker.formula ≡ formula) }
+    pub(crate) fn new(alloc: Global, formula: &'f Formula) -> Result<Checker<'f>, AllocError>
+        ensures problem { IfOk result (λ checker. problem_of checker ≡ formula.now) }
+        ensures derivation { IfOk result (λ checker. derivation_of checker ≡ opening formula.now) }
     {
-        let marks = Marks::new(alloc, formula.variables())?;
+        let variables = formula.variables();
+        let marks = Marks::new(alloc, variables)?;
+        let room = vec![in alloc; Literal::new(0, true); formula.longest_clause()]?;
         let newest = formula.count();
+        let clauses = Clauses::new(alloc, formula)?;
         Ok(Checker {
-            formula,
-            added: BTreeMap::new(alloc),
+            alloc,
+            clauses,
+            variables,
             marks,
-            room: Vec::new(alloc),
+            room,
             newest,
-            is_refuted: false,
         })
     }
 
-    /// Returns whether the empty clause was added, so that no table is there.
-    pub fn is_refuted(&self) -> bool
-        ensures value { result ≡ self.now.is_refuted }
-        ensures impossible { IsTrue result → IsImpossible self.now.formula }
+    /// Makes the step of a line of this form with this clause and these numbers.
+    pub(crate) fn step(
+        &mut self,
+        form: Form,
+        clause: &[Literal],
+        numbers: &[u64],
+    ) -> Result<(), StepError>
+        ensures problem { problem_of self.new ≡ problem_of self.old }
+        ensures right { OnOk result (line_fault (problem_of self.old) (derivation_of self.old) (line_of form clause.now numbers.now) ≡ None) }
+        ensures after { OnOk result (derivation_of self.new ≡ after_line (derivation_of self.old) (line_of form clause.now numbers.now)) }
+        ensures fault { IfErr result (IsStepError (line_fault (problem_of self.old) (derivation_of self.old) (line_of form clause.now numbers.now))) }
     {
-        self.is_refuted
+        match form {
+            Form::Malformed => Err(StepError::Fault(LineFault::Form)),
+            Form::Comment => Ok(()),
+            Form::Deletion => {
+                self.clauses.delete(numbers);
+                Ok(())
+            }
+            Form::Addition(number) => self.add(number, clause, numbers),
+        }
     }
 
-    /// Deletes the added clause with this number, if there is one. A clause of the formula stays.
-    pub fn delete(&mut self, number: u64)
-        ensures formula { self.new.formula ≡ self.old.formula }
-        ensures here { added_clause self.new.added number ≡ None }
-        ensures others { (n : ℕ) → n ≢ number → added_clause self.new.added n ≡ added_clause self.old.added n }
-        ensures newest { self.new.newest ≡ self.old.newest }
-        ensures refuted { self.new.is_refuted ≡ self.old.is_refuted }
-    {
-        delete_clause(&mut self.added, number);
-    }
-
-    /// Adds a clause that follows from those of the hints, by unit propagation: the clause of each
-    /// hint but the last has one literal that is not known to be false, which is true from then on,
-    /// and that of the last has none. At first the literals of the new clause are taken to be
-    /// false.
-    pub fn add(&mut self, number: u64, clause: Vec<Literal>, hints: &[u64]) -> Result<(), StepFault>
-        ensures formula { self.new.formula ≡ self.old.formula }
-        ensures ok { OnOk result (IsAdded self.old self.new number clause.items hints.now) }
-        ensures err { IfErr result (IsStepFault self.old number clause.items hints.now) }
+    // Adds a clause that follows from those of the hints.
+    fn add(&mut self, number: u64, clause: &[Literal], hints: &[u64]) -> Result<(), StepError>
+        ensures problem { problem_of self.new ≡ problem_of self.old }
+        ensures right { OnOk result (step_fault (problem_of self.old) (derivation_of self.old) number clause.now hints.now ≡ None) }
+        ensures after { OnOk result (derivation_of self.new ≡ with_clause (derivation_of self.old) number clause.now) }
+        ensures fault { IfErr result (IsStepError (step_fault (problem_of self.old) (derivation_of self.old) number clause.now hints.now)) }
     {
         if number <= self.newest {
-            return Err(StepFault::NumberNotAscending);
+            return Err(StepError::Fault(LineFault::NumberNotAscending));
         }
-        if !are_below(&clause, self.formula.variables()) {
-            return Err(StepFault::UnknownVariable);
+        if !are_below(clause, self.variables) {
+            return Err(StepError::Fault(LineFault::UnknownVariable));
         }
-        solutions_satisfy();
-        steps_are_sound();
-        self.check_hints(&clause, hints)?;
-        self.insert(number, clause)
+        if let Some(fault) = self.fault_of_hints(clause, hints) {
+            return Err(StepError::Fault(fault));
+        }
+        self.insert(number, clause)?;
+        Ok(())
     }
 
-    // Checks that a clause follows from those of the hints.
-    fn check_hints(&mut self, clause: &[Literal], hints: &[u64]) -> Result<(), StepFault>
-        requires { IsKnown self.old clause.now }
-        ensures formula { self.new.formula ≡ self.old.formula }
-        ensures added { self.new.added ≡ self.old.added }
-        ensures newest { self.new.newest ≡ self.old.newest }
-        ensures refuted { self.new.is_refuted ≡ self.old.is_refuted }
-        ensures ok { OnOk result (shown self.old clause.now hints.now ≡ Outcome.Follows) }
-        ensures err { IfErr result (IsHintFault self.old clause.now hints.now) }
+    // Returns what is wrong with the hints of a clause.
+    fn fault_of_hints(&mut self, clause: &[Literal], hints: &[u64]) -> Option<LineFault>
+        requires { IsTrue (is_known (problem_of self.old) clause.now) }
+        ensures problem { problem_of self.new ≡ problem_of self.old }
+        ensures derivation { derivation_of self.new ≡ derivation_of self.old }
+        ensures value { result ≡ hints_fault (step_outcome clause.now (map (clause_of self.old.clauses) hints.now)) }
     {
         self.marks.take_clause(clause);
-        let outcome = outcome_of_hints(
-            &self.formula,
-            &self.added,
-            &mut self.marks,
-            &mut self.room,
-            hints,
-        )?;
-        match outcome {
-            Outcome::Follows => Ok(()),
-            Outcome::UnknownHint => Err(StepFault::UnknownHint),
-            Outcome::HintNotUnit => Err(StepFault::HintNotUnit),
-            Outcome::NoConflict => Err(StepFault::NoConflict),
+        match outcome_of_hints(&self.clauses, &mut self.marks, &mut self.room, hints) {
+            Outcome::Follows => None,
+            Outcome::UnknownHint => Some(LineFault::UnknownHint),
+            Outcome::HintNotUnit => Some(LineFault::HintNotUnit),
+            Outcome::NoConflict => Some(LineFault::NoConflict),
         }
     }
 
-    // Adds a clause that holds for each table that is asked for.
-    fn insert(&mut self, number: u64, clause: Vec<Literal>) -> Result<(), StepFault>
+    // Adds a clause.
+    fn insert(&mut self, number: u64, clause: &[Literal]) -> Result<(), AllocError>
         requires ascending { self.old.newest < number }
-        requires known { IsKnown self.old clause.items }
-        requires holds { (t : ChannelTable) → IsSolution self.old.formula t → Holds (values_of self.old.formula t) clause.items }
-        ensures formula { self.new.formula ≡ self.old.formula }
-        ensures here { OnOk result (added_clause self.new.added number ≡ Some clause.items) }
-        ensures others { OnOk result ((n : ℕ) → n ≢ number → added_clause self.new.added n ≡ added_clause self.old.added n) }
-        ensures newest { OnOk result (self.new.newest ≡ number) }
-        ensures refuted { OnOk result (self.new.is_refuted ≡ (self.old.is_refuted || is_empty clause.items)) }
-        ensures memory { IfErr result (λ e. e ≡ StepFault.OutOfMemory) }
+        requires known { IsTrue (is_known (problem_of self.old) clause.now) }
+        ensures problem { problem_of self.new ≡ problem_of self.old }
+        ensures after { OnOk result (derivation_of self.new ≡ with_clause (derivation_of self.old) number clause.now) }
     {
-        let is_empty = clause.is_empty();
-        insert_clause(&mut self.added, number, clause)?;
+        let clause = Vec::from_slice(self.alloc, clause)?;
+        self.clauses.insert(number, clause)?;
         self.newest = number;
-        self.is_refuted = self.is_refuted || is_empty;
         Ok(())
     }
 }
 
+ghost use Rattle.std.specs.Prelude.{nat_lt};
+ghost use Rattle.std.specs.List.{list_all};
+
 // Returns whether the variables of a clause are below this number.
 fn are_below(clause: &[Literal], variables: u32) -> bool
-    ensures { IsTrue result ↔ All (λ l. l.variable < variables) clause.now }
+    ensures { result ≡ list_all (λ l. nat_lt l.variable variables) clause.now }
 {
-    clause.iter().all(|l| l.variable < variables)
+    for l in clause {
+        if l.variable() >= variables {
+            return false;
+        }
+    }
+    true
 }

@@ -1,40 +1,44 @@
-use std::alloc::{AllocError, AllocFailed};
+use std::alloc::AllocError;
 
-/// Why a step is refused.
+/// Why a text is not a refutation.
 #[derive(Clone, Copy, Debug, PartialEq, Eq)]
-pub enum StepFault {
-    /// The number of the clause is not above those of the formula and of the clauses before.
-    NumberNotAscending,
-    /// A literal's variable is not one of the formula.
-    UnknownVariable,
-    /// There is no clause with the number of a hint.
-    UnknownHint,
-    /// The clause of a hint does not have one literal left, or none if it is the last.
-    HintNotUnit,
-    /// The hints end before a clause has no literal left.
-    NoConflict,
-    /// Memory was refused.
+pub enum RefuteError {
+    /// The text is longer than `LONGEST_REFUTATION` bytes.
+    TooLong,
+    /// The first fault of the text, and the number of its line, counted from 1.
+    At { line: u64, fault: LineFault },
+    /// Memory was refused. This can replace any fault except `TooLong`.
     OutOfMemory,
 }
 
-impl From<AllocError> for StepFault {
-    ghost use Rattle.std.specs.Prelude.{◌≡◌};
-    ghost use Rattle.refutation.specs.declared.fault.StepFault.TheVariants.{OutOfMemory};
-
-    ghost from_gives = { λ _ e. e ≡ OutOfMemory };
-
-    fn from(_error: AllocError) -> StepFault {
-        StepFault::OutOfMemory
-    }
+/// What is wrong with a line of a text.
+#[derive(Clone, Copy, Debug, PartialEq, Eq)]
+pub enum LineFault {
+    /// The line is not a comment, a deletion or an addition.
+    Form,
+    /// The number of the added clause is not above those of the formula's clauses and of the
+    /// clauses that were added before.
+    NumberNotAscending,
+    /// The added clause has a literal whose variable is not one of the formula.
+    UnknownVariable,
+    /// A hint names no clause.
+    UnknownHint,
+    /// The clause of a hint has several literals that are not known to be false, or it has none and
+    /// another hint follows.
+    HintNotUnit,
+    /// There is no hint after which the literals of a clause are all known to be false.
+    NoConflict,
+    /// The text ends before the empty clause is added.
+    NoEmptyClause,
 }
 
-impl<T: Drop> From<AllocFailed<T>> for StepFault {
+impl From<AllocError> for RefuteError {
     ghost use Rattle.std.specs.Prelude.{◌≡◌};
-    ghost use Rattle.refutation.specs.declared.fault.StepFault.TheVariants.{OutOfMemory};
+    ghost use Rattle.refutation.specs.declared.fault.RefuteError.TheVariants.{OutOfMemory};
 
     ghost from_gives = { λ _ e. e ≡ OutOfMemory };
 
-    fn from(_error: AllocFailed<T>) -> StepFault {
-        StepFault::OutOfMemory
+    fn from(_error: AllocError) -> RefuteError {
+        RefuteError::OutOfMemory
     }
 }

@@ -3,13 +3,18 @@
 
 mod added;
 mod checker;
+mod clauses;
 mod fault;
+mod forms;
 mod hints;
-mod lines;
-mod refute_fault;
+mod laws;
+mod limits;
+mod parts;
+mod refuting;
+mod step_error;
 mod words;
 
-pub use checker::Checker;
-pub use fault::StepFault;
-pub use lines::refute;
-pub use refute_fault::{RefuteError, RefuteFault};
+pub use fault::{LineFault, RefuteError};
+pub use laws::{each_text_has_a_verdict, one_refutation_verdict, refutations_are_sound};
+pub use limits::LONGEST_REFUTATION;
+pub use refuting::refute;

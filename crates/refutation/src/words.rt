@@ -1,117 +1,71 @@
-// The words of a line of a refutation. Each function returns what it reads and the rest of the text.
-ghost use Rattle.std.specs.Prelude.{◌≡◌, ◌<◌, ◌≤◌, length, IfOk, IfSome};
+ghost use Rattle.std.specs.Prelude.{◌≡◌, ◌+◌, ◌*◌, ◌^◌, ◌<◌, ◌==◌, true};
+ghost use Rattle.std.specs.Char.{digit_value, is_ascii_digit};
+ghost use Rattle.std.specs.List.{list_all};
+ghost use Rattle.std.specs.Option.{SomeIff};
+ghost use Rattle.refutation.specs.Words as spelled;
 
-use crate::refute_fault::RefuteFault;
 use clause_check::Literal;
-use std::alloc::Global;
 
-// Reads a number in decimal digits. `None` if there is no digit, or if the number is 2^64 or more.
-pub(crate) fn number_at(text: &[u8]) -> Option<(u64, &[u8])>
-    ensures { IfSome result (λ r. length r.1.now < length text.now) }
+/// Returns the number that a word spells in decimal digits.
+pub(crate) fn number_in(word: &[u8]) -> Option<u64>
+    ensures { result ≡ spelled.number_in word.now }
 {
-    let mut value: u64 = 0;
-    let mut len = 0;
-    for byte in text {
-        if !byte.is_ascii_digit() {
-            break;
-        }
-        value = value.checked_mul(10)?.checked_add(u64::from(*byte - b'0'))?;
-        len += 1;
-    }
-    if len == 0 {
+    if word.is_empty() {
         return None;
     }
-    Some((value, &text[len..]))
+    let mut value: u64 = 0;
+    for byte in word {
+        value = push_digit(value, *byte)?;
+    }
+    Some(value)
 }
 
-// Reads this byte. `None` if the text begins with another, or is empty.
-pub(crate) fn byte_at(text: &[u8], byte: u8) -> Option<&[u8]>
-    ensures { IfSome result (λ rest. length rest.now < length text.now) }
+// Returns the number that has one more digit.
+fn push_digit(value: u64, byte: u8) -> Option<u64>
+    ensures { SomeIff result ((is_ascii_digit byte ≡ true) × (value * 10 + digit_value byte < 2 ^ 64)) (value * 10 + digit_value byte) }
 {
-    match text {
-        [first, rest @ ..] if *first == byte => Some(rest),
-        _ => None,
+    if !byte.is_ascii_digit() {
+        return None;
+    }
+    value.checked_mul(10)?.checked_add(u64::from(byte - b'0'))
+}
+
+/// Returns the literal that a word spells: a number, with a minus in front for a negation.
+pub(crate) fn literal_in(word: &[u8]) -> Option<Literal>
+    ensures { result ≡ spelled.literal_in word.now }
+{
+    match word {
+        [b'-', digits @ ..] => literal_of(false, number_in(digits)),
+        _ => literal_of(true, number_in(word)),
     }
 }
 
-// Reads a line to its end.
-pub(crate) fn line_at(text: &[u8]) -> &[u8]
-    ensures { length result.now ≤ length text.now }
+// Returns the literal with this number and this sign.
+fn literal_of(is_positive: bool, number: Option<u64>) -> Option<Literal>
+    ensures { result ≡ spelled.literal_of is_positive number }
 {
-    for (i, byte) in text.iter().enumerate() {
-        if *byte == b'\n' {
-            return &text[i + 1..];
+    let number = number?;
+    if number < 1 || number > 1 << 31 {
+        return None;
+    }
+    Some(Literal::new((number - 1) as u32, is_positive))
+}
+
+/// Returns whether a word ends a list: it is digits 0.
+pub(crate) fn is_end(word: &[u8]) -> bool
+    ensures { result ≡ spelled.is_end word.now }
+{
+    !word.is_empty() && are_zeros(word)
+}
+
+// Returns whether all bytes are digits 0.
+fn are_zeros(word: &[u8]) -> bool
+    ensures { result ≡ list_all (λ byte. byte == 48) word.now }
+{
+    for byte in word {
+        if *byte != b'0' {
+            return false;
         }
     }
-    &text[text.len()..]
-}
-
-// Reads numbers, each followed by a blank, up to a 0.
-pub(crate) fn numbers_at<'t>(
-    alloc: Global,
-    text: &'t [u8],
-) -> Result<(Vec<u64>, &'t [u8]), RefuteFault>
-    ensures { IfOk result (λ r. length r.1.now < length text.now) }
-{
-    let mut numbers = Vec::new(alloc);
-    let mut rest = text;
-    loop {
-        let Some((number, after)) = number_at(rest) else {
-            return Err(RefuteFault::Form);
-        };
-        if number == 0 {
-            return Ok((numbers, after));
-        }
-        numbers.push(number)?;
-        let Some(next) = byte_at(after, b' ') else {
-            return Err(RefuteFault::Form);
-        };
-        rest = next;
-    }
-}
-
-// Reads literals, each followed by a blank, up to a 0.
-pub(crate) fn literals_at<'t>(
-    alloc: Global,
-    text: &'t [u8],
-) -> Result<(Vec<Literal>, &'t [u8]), RefuteFault>
-    ensures { IfOk result (λ r. length r.1.now < length text.now) }
-{
-    let mut clause = Vec::new(alloc);
-    let mut rest = text;
-    loop {
-        let (is_positive, digits) = sign_at(rest);
-        let Some((number, after)) = number_at(digits) else {
-            return Err(RefuteFault::Form);
-        };
-        if number == 0 && is_positive {
-            return Ok((clause, after));
-        }
-        let Some(variable) = variable_of(number) else {
-            return Err(RefuteFault::Form);
-        };
-        clause.push(Literal {
-            variable,
-            is_positive,
-        })?;
-        let Some(next) = byte_at(after, b' ') else {
-            return Err(RefuteFault::Form);
-        };
-        rest = next;
-    }
-}
-
-// Reads a minus sign, if there is one, and returns whether there is none.
-fn sign_at(text: &[u8]) -> (bool, &[u8])
-    ensures { length result.1.now ≤ length text.now }
-{
-    match byte_at(text, b'-') {
-        Some(rest) => (false, rest),
-        None => (true, text),
-    }
-}
-
-// Returns the variable of a literal with this number: variables are numbered from 1 on.
-fn variable_of(number: u64) -> Option<u32> {
-    u32::try_from(number.checked_sub(1)?).ok()
+    true
 }

@@ -1,5 +1,5 @@
 -- Each task has a report on each input.
-use Rattle.std.proofs.Common.{ℕ, List, ◌∷◌, [], length, Some, None, inl, inr, refl}
+use Rattle.std.proofs.Common.{◌≢◌, ℕ, List, ◌∷◌, [], length, Some, None, inl, inr, refl}
 use Rattle.std.specs.Prelude.{◌⊎◌}
 use Rattle.node_program.specs.Term.{ProgramTree}
 use Rattle.node_program.specs.GlobalRounds.{channels_of}
@@ -12,15 +12,27 @@ use Rattle.nbhd_check.specs.Apart.{tuples}
 use Rattle.table_entries.specs.ProgramTables.{table_of}
 use Rattle.table_text.specs.TableText.{table_text}
 use Rattle.task_words.specs.declared.task.Task.{Task}
-use Rattle.task_words.specs.declared.task.Task.TheVariants.{Check, Print, Table, Judge, Run, Trace, Plan, Audit, Migrate}
+use Rattle.task_words.specs.declared.task.Task.TheVariants.{Check, Print, Table, Judge, Run, Trace, Plan, Audit, Migrate, Formula, Refute}
 use Rattle.reports.specs.declared.status.Status.{Status}
-use Rattle.reports.specs.declared.status.Status.TheVariants.{Done, No, Words, Refused, RingRefused}
-use Rattle.reports.specs.Causes.{Reason, of_text, of_program, of_ring, of_segments, of_table_text, of_no}
+use Rattle.reports.specs.declared.status.Status.TheVariants.{Done, No, Words, Refused, RingRefused, FormulaRefused}
+use Rattle.reports.specs.Causes.{Reason, of_text, of_program, of_ring, of_segments, of_table_text, of_formula, of_refutation, of_no}
 use Rattle.reports.specs.Lines.{line, numbers_text}
 use Rattle.reports.specs.Trace.{trace_lines}
 use Rattle.reports.specs.Report as report
 use Rattle.reports.specs.Report.{Report, Says, IsJudgement, good, bad, IsAnswerOnRing, ring_fault, on_ring, IsRunAnswer, out_of_range, ran, text_refused, in_print, text_fault, check_fault, IsProgramReport, program_refused, answered, IsTableText, IsTableReport, table_refused, of_table}
+use Rattle.table_formula.specs.Problems.{Problem}
+use Rattle.table_formula.specs.Texts.{formula_text}
+use Rattle.refutation.specs.Laws.{EachTextHasAVerdict}
+use Rattle.refutation.specs.Refutations.{IsRefutation, IsFault}
+use Rattle.refutation.specs.declared.fault.RefuteError.{RefuteError}
+use Rattle.refutation.specs.declared.fault.RefuteError.TheVariants as refute
+use Rattle.reports.specs.FormulaReports as formulas
+use Rattle.reports.specs.FormulaReports.{IsFormulaReport, no_formula, has_text, IsRefuteReport, not_asked, refuted, not_refuted}
+use Rattle.reports.specs.ProblemFaults.{HasFormula, IsProblemFault}
+use Rattle.reports.specs.declared.problem.ProblemFault.{ProblemFault}
+use Rattle.plan_print.specs.TaskReport.{problem}
 use Rattle.report_laws.specs.Laws.{HasReport, EachTaskHasAReport}
+use Rattle.report_laws.proofs.FormulaAnswers.{FormulaAnswer, formula_answer}
 use Rattle.report_laws.proofs.TextAnswers.{TextAnswer, text_answer}
 use Rattle.report_laws.proofs.JudgeAnswers.{JudgeAnswer, apart, not_apart}
 use Rattle.report_laws.proofs.TableAnswers.{TableAnswer, is_text, has_fault, table_answer}
@@ -37,7 +49,7 @@ abbrev refuse : List ℕ → Status → Reason → Report
 refuse bytes status cause = record { bytes = bytes; status = status; cause = Some cause }
 
 module _ (readable : ReadTextsAreReadable) (stops : ReadingStopsAtFirstFault) (no_fault : ReadableTextsHaveNoFault)
-    (judged : (t : ChannelTable) (s : Separation) → JudgeAnswer t s) where
+    (judged : (t : ChannelTable) (s : Separation) → JudgeAnswer t s) (verdict : EachTextHasAVerdict) where
   on_print : (input : List ℕ) → TextAnswer input → Some-report (report.IsPrintReport input)
   on_print input (inl read) = let said = say (printed read.0) Done in (said.0, in_print read.0 read.1 said.1)
   on_print input (inr met) =
@@ -86,6 +98,25 @@ module _ (readable : ReadTextsAreReadable) (stops : ReadingStopsAtFirstFault) (n
   on_table answer each input (has_fault f known is) =
       (refuse (report.table_fault_line f) Refused (of_table_text f), table_refused (record { what = f; known = known; fault = is; says = (refl, refl, refl) }))
 
+  refusal : (p : Problem) (met : (f : ProblemFault) × IsProblemFault p f) → Some-report (formulas.IsFormulaRefusal p)
+  refusal p met = (
+    refuse (formulas.formula_fault_line met.0) FormulaRefused (of_formula p.ids p.rounds met.0),
+    record { what = met.0; fault = met.1; says = (refl, refl, refl) },
+  )
+
+  on_formula : (p : Problem) → FormulaAnswer p → Some-report (IsFormulaReport p)
+  on_formula p (inl has) = let said = say (formula_text p) Done in (said.0, has_text has said.1)
+  on_formula p (inr met) = let refused = refusal p met in (refused.0, no_formula refused.1)
+
+  on_refutation : (p : Problem) (input : List ℕ) → FormulaAnswer p → Some-report (IsRefuteReport p input)
+  on_refutation p input (inr met) = let refused = refusal p met in (refused.0, not_asked refused.1)
+  on_refutation p input (inl has) = go (verdict p input)
+    where
+      go : IsRefutation p input ⊎ ((f : RefuteError) × (f ≢ refute.OutOfMemory) × IsFault p input f) → Some-report (IsRefuteReport p input)
+      go (inl is) = let said = say (formulas.refuted_line p) Done in (said.0, refuted has is said.1)
+      go (inr met) =
+          (refuse (formulas.refutation_fault_line met.0) Refused (of_refutation met.0), not_refuted has met.0 met.1 met.2 (refl, refl, refl))
+
   pub each_task_has_a_report : EachTaskHasAReport
   each_task_has_a_report task input = go task
     where
@@ -110,3 +141,5 @@ module _ (readable : ReadTextsAreReadable) (stops : ReadingStopsAtFirstFault) (n
           on_program m _ (λ p. on_list m (length p.steps) x _ (say (report.place_lines p x) Done) (ring_answer m (length p.steps) x)) input text
       go Audit = on_table IsJudgement (λ t s. on_judgement t s (judged t s)) input (table_answer input)
       go Migrate = on_table IsTableText (λ t s. say (table_text t s) Done) input (table_answer input)
+      go (Formula m t channels near far) = let p = problem m t channels near far in on_formula p (formula_answer p)
+      go (Refute m t channels near far) = let p = problem m t channels near far in on_refutation p input (formula_answer p)

@@ -5,6 +5,8 @@ mod ProgramAnswers
 mod JudgeAnswers
 mod Fronts
 mod TableAnswers
+mod FormulaAnswers
 mod EachReport
+mod Refuted
 mod ReadBack
 pub mod OneNote

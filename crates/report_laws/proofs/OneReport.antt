@@ -16,11 +16,18 @@ use Rattle.lang_check.specs.Laws.{OneRefusal, AcceptedProgramsHaveNoRefusal}
 use Rattle.channel_tables.specs.declared.separation.Separation.{Separation}
 use Rattle.nbhd_check.specs.Laws.{OneWitness, ApartTablesHaveNoWitness}
 use Rattle.task_words.specs.declared.task.Task.{Task}
-use Rattle.task_words.specs.declared.task.Task.TheVariants.{Check, Print, Table, Judge, Run, Trace, Plan, Audit, Migrate}
+use Rattle.task_words.specs.declared.task.Task.TheVariants.{Check, Print, Table, Judge, Run, Trace, Plan, Audit, Migrate, Formula, Refute}
 use Rattle.reports.specs.declared.status.Status.{Status}
-use Rattle.reports.specs.Causes.{Reason, of_text, of_program, of_ring, of_table_text, of_no}
+use Rattle.reports.specs.Causes.{Reason, of_text, of_program, of_ring, of_table_text, of_formula, of_refutation, of_no}
 use Rattle.reports.specs.Report as report
 use Rattle.reports.specs.Report.{Report, Says, Refuses, IsJudgement, good, bad, IsAnswerOnRing, ring_fault, on_ring, IsRunAnswer, out_of_range, ran, IsTableText, IsTextRefusal, IsPrintReport, text_refused, in_print, IsProgramRefusal, text_fault, check_fault, IsProgramReport, program_refused, answered, IsTableRefusal, IsTableReport, table_refused, of_table}
+use Rattle.table_formula.specs.Problems.{Problem}
+use Rattle.refutation.specs.Laws.{OneRefutationFault, RefutationsAreRight}
+use Rattle.reports.specs.FormulaReports as formulas
+use Rattle.reports.specs.FormulaReports.{IsFormulaRefusal, IsFormulaReport, no_formula, has_text, IsRefuteReport, not_asked, refuted, not_refuted}
+use Rattle.reports.specs.ProblemFaults.{HasFormula, IsProblemFault}
+use Rattle.reports.specs.declared.problem.ProblemFault.{ProblemFault}
+use Rattle.reports.specs.declared.problem.ProblemFault.TheVariants.{IdsOutOfRange, TooManyWindows, TooManyVariables, TooManyClauses}
 use Rattle.plan_print.specs.TaskReport.{IsReport}
 use Rattle.report_laws.specs.Laws.{OneReport}
 
@@ -140,9 +147,58 @@ one_table_report one_fault apart read answer once input r s (of_table t d told s
     let same = one_telling apart input u t e d told' told in
     once t d r s said (subst (λ x. answer t x s) same.1 (subst (λ x. answer x e s) same.0 said'))
 
+-- a problem has at most one fault, and none if it has a formula
+one_problem_fault : (p : Problem) (f g : ProblemFault) → IsProblemFault p f → IsProblemFault p g → f ≡ g
+one_problem_fault p IdsOutOfRange IdsOutOfRange is is' = refl
+one_problem_fault p IdsOutOfRange TooManyWindows is is' = absurd (is is'.0)
+one_problem_fault p IdsOutOfRange TooManyVariables is is' = absurd (is is'.0.ids)
+one_problem_fault p IdsOutOfRange TooManyClauses is is' = absurd (is is'.0.ids)
+one_problem_fault p TooManyWindows IdsOutOfRange is is' = absurd (is' is.0)
+one_problem_fault p TooManyWindows TooManyWindows is is' = refl
+one_problem_fault p TooManyWindows TooManyVariables is is' = absurd (is.1 is'.0.few_windows)
+one_problem_fault p TooManyWindows TooManyClauses is is' = absurd (is.1 is'.0.few_windows)
+one_problem_fault p TooManyVariables IdsOutOfRange is is' = absurd (is' is.0.ids)
+one_problem_fault p TooManyVariables TooManyWindows is is' = absurd (is'.1 is.0.few_windows)
+one_problem_fault p TooManyVariables TooManyVariables is is' = refl
+one_problem_fault p TooManyVariables TooManyClauses is is' = absurd (is.1 is'.1.0)
+one_problem_fault p TooManyClauses IdsOutOfRange is is' = absurd (is' is.0.ids)
+one_problem_fault p TooManyClauses TooManyWindows is is' = absurd (is'.1 is.0.few_windows)
+one_problem_fault p TooManyClauses TooManyVariables is is' = absurd (is'.1 is.1.0)
+one_problem_fault p TooManyClauses TooManyClauses is is' = refl
+
+no_problem_fault : (p : Problem) (f : ProblemFault) → HasFormula p → IsProblemFault p f → ⊥
+no_problem_fault p IdsOutOfRange has is = is has.shape.ids
+no_problem_fault p TooManyWindows has is = is.1 has.shape.few_windows
+no_problem_fault p TooManyVariables has is = is.1 has.limits.few_variables
+no_problem_fault p TooManyClauses has is = is.1.1 has.limits.few_clauses
+
+one_formula_refusal : (p : Problem) (r s : Report) → IsFormulaRefusal p r → IsFormulaRefusal p s → r ≡ s
+one_formula_refusal p r s first second =
+    let same = one_problem_fault p first.what second.what first.fault second.fault in
+    refused_once _ _ _ _ _ r s (ap formulas.formula_fault_line same) (ap (of_formula p.ids p.rounds) same) first.says second.says
+
+one_formula_report : (p : Problem) (r s : Report) → IsFormulaReport p r → IsFormulaReport p s → r ≡ s
+one_formula_report p r s (no_formula first) (no_formula second) = one_formula_refusal p r s first second
+one_formula_report p r s (no_formula first) (has_text has says) = absurd (no_problem_fault p first.what has first.fault)
+one_formula_report p r s (has_text has says) (no_formula second) = absurd (no_problem_fault p second.what has second.fault)
+one_formula_report p r s (has_text has says) (has_text has' says') = said_once _ _ _ r s refl says says'
+
+one_refute_report : OneRefutationFault → RefutationsAreRight → (p : Problem) (input : List ℕ) (r s : Report) → IsRefuteReport p input r → IsRefuteReport p input s → r ≡ s
+one_refute_report one right p input r s (not_asked first) (not_asked second) = one_formula_refusal p r s first second
+one_refute_report one right p input r s (not_asked first) (refuted has is says) = absurd (no_problem_fault p first.what has first.fault)
+one_refute_report one right p input r s (not_asked first) (not_refuted has f known is says) = absurd (no_problem_fault p first.what has first.fault)
+one_refute_report one right p input r s (refuted has is says) (not_asked second) = absurd (no_problem_fault p second.what has second.fault)
+one_refute_report one right p input r s (refuted has is says) (refuted has' is' says') = said_once _ _ _ r s refl says says'
+one_refute_report one right p input r s (refuted has is says) (not_refuted has' f known is' says') = absurd (known (right p input f is is'))
+one_refute_report one right p input r s (not_refuted has f known is says) (not_asked second) = absurd (no_problem_fault p second.what has second.fault)
+one_refute_report one right p input r s (not_refuted has f known is says) (refuted has' is' says') = absurd (known (right p input f is' is))
+one_refute_report one right p input r s (not_refuted has f known is says) (not_refuted has' g known' is' says') =
+    let same = one p input f g known known' is is' in
+    refused_once _ _ _ _ _ r s (ap formulas.refutation_fault_line same) (ap of_refutation same) says says'
+
 pub one_report : OneReading → OneTextFault → OneRefusal → AcceptedProgramsHaveNoRefusal → OneRingFault → RingsHaveNoFault → OneWitness → ApartTablesHaveNoWitness
-    → OneTableFault → TableTextsAreApart → TableTextsAreRead → OneReport
-one_report one_reading one_text_fault one_refusal no_refusal one_fault no_fault one_witness no_witness one_table_fault apart read task =
+    → OneTableFault → TableTextsAreApart → TableTextsAreRead → OneRefutationFault → RefutationsAreRight → OneReport
+one_report one_reading one_text_fault one_refusal no_refusal one_fault no_fault one_witness no_witness one_table_fault apart read one_refutation right task =
     go task
   where
     of_program : (m : ℕ) (answer : ProgramTree → Report → Type 0) → ((p : ProgramTree) (r s : Report) → answer p r → answer p s → r ≡ s)
@@ -162,3 +218,5 @@ one_report one_reading one_text_fault one_refusal no_refusal one_fault no_fault 
     go (Plan ids ring workers) = of_program ids _ (λ p. one_on_ring one_fault no_fault _ _ _ _ (λ r s. said_once _ _ _ r s refl))
     go Audit = one_table_report one_table_fault apart read IsJudgement judged_once
     go Migrate = one_table_report one_table_fault apart read IsTableText one_table_text
+    go (Formula m t channels near far) input = one_formula_report _
+    go (Refute m t channels near far) = one_refute_report one_refutation right _

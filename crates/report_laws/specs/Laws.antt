@@ -1,6 +1,6 @@
 -- The laws: a task has one report on an input, reports agree with global rounds, and prints and table texts are read
 -- back.
-use Rattle.std.specs.Prelude.{◌≡◌, ◌↔◌, ℕ, ◌<◌, List, [], ◌∷◌, ◌++◌, Vec, Some, ⊤, length, codes}
+use Rattle.std.specs.Prelude.{◌≡◌, ◌↔◌, ℕ, ◌<◌, ◌≤◌, List, [], ◌∷◌, ◌++◌, Vec, Some, ⊤, length, codes}
 use Rattle.std.specs.declared.alloc.Global.{Global}
 use Rattle.node_program.specs.Term.{ProgramTree}
 use Rattle.node_lang.specs.Grammar.{Reads}
@@ -12,16 +12,18 @@ use Rattle.table_text.specs.LineForms.{IsSeparation}
 use Rattle.task_words.specs.Counts.{IsNear, IsFar}
 use Rattle.channel_tables.specs.Tables.{IsTable, ChannelTable, channel_of}
 use Rattle.channel_tables.specs.declared.separation.Separation.{Separation}
+use Rattle.nbhd_check.specs.Apart.{IsApartEverywhere}
+use Rattle.nbhd_check.specs.Verdicts.{IsWitness}
 use Rattle.table_entries.specs.ProgramTables.{table_of}
 use Rattle.ring_segments.specs.SegmentCounts.{IsSegmentCount}
 use Rattle.headline.specs.Headline.{ChannelsAreApart}
 use Rattle.table_text.specs.TableText.{table_text}
 use Rattle.task_words.specs.declared.task.Task.{Task}
-use Rattle.task_words.specs.declared.task.Task.TheVariants.{Print, Table, Judge, Run, Trace, Plan, Audit, Migrate}
+use Rattle.task_words.specs.declared.task.Task.TheVariants.{Print, Table, Judge, Run, Trace, Plan, Audit, Migrate, Refute}
 use Rattle.reports.specs.declared.status.Status.TheVariants.{Done, No}
 use Rattle.reports.specs.Lines.{line, numbers_text}
 use Rattle.reports.specs.Trace.{trace_lines}
-use Rattle.reports.specs.Causes.{Reason, of_ring, of_segments, of_no}
+use Rattle.reports.specs.Causes.{Reason, of_ring, of_segments, of_refutation, of_no}
 use Rattle.reports.specs.Notes.{IsNote}
 use Rattle.reports.specs.Report.{Report, Says, place_lines}
 use Rattle.plan_print.specs.TaskReport.{IsReport}
@@ -122,13 +124,44 @@ AuditOfTableIsJudge =
     (m v w near far : ℕ) (input : List ℕ) (r s : Report) → IsNear near → IsFar far → IsReport (Table m v near far) input r → r.status ≡ Done
     → IsReport Audit r.bytes s → IsReport (Judge m w near far) input s
 
--- the cause is a list that is no ring, a number of segments, or a no: its note has no advice
+-- the cause is a list that is no ring, a number of segments, a fault of a refutation, or a no: its note has no advice
 abbrev pub HasNoAdvice : Reason → Type 0
 HasNoAdvice (of_ring m t places f) = ⊤
 HasNoAdvice (of_segments segments places) = ⊤
+HasNoAdvice (of_refutation f) = ⊤
 HasNoAdvice (of_no t ring places channels) = ⊤
 HasNoAdvice _ = ⊥
 
 -- such a cause has one note
 abbrev pub OneNote : Type 0
 OneNote = (input : List ℕ) (cause : Reason) (note other : List ℕ) → HasNoAdvice cause → IsNote input cause note → IsNote input cause other → note ≡ other
+
+-- the report of refute on a text is that the formula is refuted
+pub record IsRefuted (m t channels : ℕ) (s : Separation) : Type 0 where
+  pub input : List ℕ
+  pub report : Report
+  pub is_report : IsReport (Refute m t channels s.near s.far) input report
+  pub done : report.status ≡ Done
+
+-- then no table of these identifiers and rounds with at most so many channels keeps the separation on every ring
+abbrev pub NoTableIfRefuted : Type 0
+NoTableIfRefuted =
+    (m t channels : ℕ) (s : Separation) (table : ChannelTable) → IsRefuted m t channels s → IsTable table → table.ids ≡ m → table.rounds ≡ t
+    → table.channels ≤ channels → ¬ IsApartEverywhere table s
+
+-- two channels of the table are too close on some ring
+abbrev pub FailsOnARing : ChannelTable → Separation → Type 0
+FailsOnARing table s = (ring : List ℕ) × (places : ℕ × ℕ) × (channels : ℕ × ℕ) × IsWitness table s ring places channels
+
+-- the program fails: the channels of its global rounds are not apart on every ring, its table fails on some ring, and the
+-- report of a judge on its text is a no
+pub record Fails (m : ℕ) (s : Separation) (text : List ℕ) (p : ProgramTree) : Type 0 where
+  pub rounds : ¬ ChannelsAreApart p m s
+  pub ring : FailsOnARing (table_of p m) s
+  pub judged : (workers : ℕ) (r : Report) → IsReport (Judge m workers s.near s.far) text r → r.status ≡ No
+
+-- and every accepted program with these rounds and at most so many channels fails
+abbrev pub NoProgramIfRefuted : Type 0
+NoProgramIfRefuted =
+    (m t channels : ℕ) (s : Separation) (text : List ℕ) (p : ProgramTree) → IsRefuted m t channels s → IsAcceptedText text m p → length p.steps ≡ t
+    → p.channels ≤ channels → Fails m s text p

@@ -6,6 +6,7 @@ use headline::program_tables_are_apart;
 use lang_check::one_refusal;
 use nbhd_check::{one_witness, tuples_suffice};
 use node_lang::{first_fault, one_reading, one_text_fault, printed_is_read_back, reading_is_exact};
+use refutation::{each_text_has_a_verdict, one_refutation_verdict, refutations_are_sound};
 use table_entries::{program_tables_are_tables, table_has_the_channels_of_rounds};
 use table_text::{one_table_fault, table_texts_are_apart, table_texts_are_read};
 use win_index::{number_of_window, one_ring_fault, windows_have_numbers};
@@ -25,6 +26,7 @@ pub fn one_report()
     one_table_fault();
     table_texts_are_apart();
     table_texts_are_read();
+    one_refutation_verdict();
 }
 
 /// Each task has a report on each input.
@@ -37,6 +39,7 @@ pub fn each_task_has_a_report()
     tuples_suffice();
     number_of_window();
     windows_have_numbers();
+    each_text_has_a_verdict();
 }
 
 /// The reports on an accepted program agree with synchronous rounds on rings (Linial 1992). The
@@ -82,7 +85,26 @@ pub fn table_reports_are_read_back()
     program_tables_are_tables();
 }
 
-/// The note on a list that is no ring, on a number of segments or on a no is one text.
+/// If `refute` says that a formula is refuted, no table of its identifiers and rounds with at most
+/// its number of channels keeps its separation. So every accepted program with these rounds and at
+/// most so many channels fails on some ring, and the judge says no.
+pub fn refuted_is_impossible()
+    ensures table { law.NoTableIfRefuted }
+    ensures program { law.NoProgramIfRefuted }
+{
+    refutations_are_sound();
+    one_reading();
+    one_refusal();
+    one_witness();
+    program_tables_are_tables();
+    program_tables_are_apart();
+    tuples_suffice();
+    number_of_window();
+    windows_have_numbers();
+}
+
+/// The note on a list that is no ring, on a number of segments, on a fault of a refutation or on a no
+/// is one text.
 #[tactic(auto, using(crate::proofs::OneNote::one_note))]
 pub fn one_note()
     ensures { law.OneNote }

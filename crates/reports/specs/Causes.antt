@@ -5,18 +5,23 @@ use Rattle.node_lang.specs.declared.fault.FaultKind.{FaultKind}
 use Rattle.lang_check.specs.declared.acceptance.CheckFault.{CheckFault}
 use Rattle.win_index.specs.declared.ring.RingFault.{RingFault}
 use Rattle.table_text.specs.declared.fault.TableFault.{TableFault}
+use Rattle.refutation.specs.declared.fault.RefuteError.{RefuteError}
+use Rattle.reports.specs.declared.problem.ProblemFault.{ProblemFault}
 use Rattle.reports.specs.declared.cause.Cause.{Cause}
 use Rattle.reports.specs.declared.cause.Cause.TheVariants as cause
 
 -- The cause of a report: the fault of a program text and its place; the refusal of a program for a number of
 -- identifiers; the fault of a list of identifiers, for m identifiers and t rounds; a number of segments for a number of
--- places; the fault of a table text; or, on a ring, two places and their channels, for t rounds.
+-- places; the fault of a table text; why there is no formula of m identifiers and t rounds; the fault of a refutation; or,
+-- on a ring, two places and their channels, for t rounds.
 pub data Reason : Type 0 where
   of_text : (kind : FaultKind) (offset : ℕ) → Reason
   of_program : (p : ProgramTree) (ids : ℕ) (f : CheckFault) → Reason
   of_ring : (m t : ℕ) (places : List ℕ) (f : RingFault) → Reason
   of_segments : (segments places : ℕ) → Reason
   of_table_text : (f : TableFault) → Reason
+  of_formula : (m t : ℕ) (f : ProblemFault) → Reason
+  of_refutation : (f : RefuteError) → Reason
   of_no : (t : ℕ) (ring : List ℕ) (places channels : ℕ × ℕ) → Reason
 
 abbrev pub reason_of : Cause → Reason
@@ -25,6 +30,8 @@ reason_of (cause.Program p ids f) = of_program p ids f
 reason_of (cause.Ring rounds ids places f) = of_ring ids rounds places.items f
 reason_of (cause.Segments segments places) = of_segments segments places
 reason_of (cause.TableText f) = of_table_text f
+reason_of (cause.Formula ids rounds f) = of_formula ids rounds f
+reason_of (cause.Refutation f) = of_refutation f
 reason_of (cause.No rounds ring places channels) = of_no rounds ring.items places channels
 
 abbrev pub reason_in : Option Cause → Option Reason

@@ -1,10 +1,13 @@
--- The definitions that the contracts cite: exit statuses, printed lines and traces, reports, their causes and the notes
--- on these, reports before they are written, and what writing one leaves.
+-- The definitions that the contracts cite: exit statuses, printed lines and traces, the numbers of a problem, reports, their
+-- causes and the notes on these, reports before they are written, and what writing one leaves.
 pub mod StatusCodes
 pub mod Lines
 pub mod Trace
 pub mod Report
+pub mod ProblemFaults
 pub mod Causes
+pub mod FormulaReports
+pub mod FormulaNotes
 pub mod Notes
 pub mod Answers
 pub mod Written

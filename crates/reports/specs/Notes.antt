@@ -16,7 +16,9 @@ use Rattle.fault_notes.specs.ProgramNotes.{IsCheckNote}
 use Rattle.fault_notes.specs.RingNotes.{ring_note, segments_note}
 use Rattle.fault_notes.specs.TableNotes.{long_note, IsFormNote, IsWindowNote, channel_note}
 use Rattle.fault_notes.specs.VerdictNotes.{verdict_note}
-use Rattle.reports.specs.Causes.{Reason, of_text, of_program, of_ring, of_segments, of_table_text, of_no}
+use Rattle.refutation.specs.declared.fault.RefuteError.TheVariants as refute
+use Rattle.reports.specs.Causes.{Reason, of_text, of_program, of_ring, of_segments, of_table_text, of_formula, of_refutation, of_no}
+use Rattle.reports.specs.FormulaNotes.{IsFormulaNote, refutation_note}
 
 -- the note on a fault of a table text; OutOfMemory is no fault of one
 abbrev pub IsTableNote : List ℕ → TableFault → List ℕ → Type 0
@@ -34,6 +36,8 @@ IsNote input (of_program p ids f) note = IsCheckNote input p ids f note
 IsNote input (of_ring m t places f) note = note ≡ ring_note m t places f
 IsNote input (of_segments segments places) note = note ≡ segments_note segments places
 IsNote input (of_table_text f) note = IsTableNote input f note
+IsNote input (of_formula m t f) note = IsFormulaNote m t f note
+IsNote input (of_refutation f) note = note ≡ refutation_note f
 IsNote input (of_no t ring places channels) note = note ≡ verdict_note t ring places channels
 
 -- the note of a report: without a cause there is none, else it is on the cause, unless memory for it was refused
@@ -44,11 +48,13 @@ IsNoteOn input (Some cause) (Some (Err refused)) = ⊤
 IsNoteOn input (Some cause) None = ⊥
 
 -- The cause is found in this input: the fault of a text is one of it. That of a list of identifiers is its own, and the
--- places of a no are places of its ring.
+-- places of a no are places of its ring; a formula is of few rounds. OutOfMemory is no fault of a refutation.
 abbrev pub IsFound : List ℕ → Reason → Type 0
 IsFound input (of_text k offset) = FaultsAt input k offset
 IsFound input (of_ring m t places f) = (t ≤ MAX_ROUNDS) × IsFirstFault m t places f
 IsFound input (of_table_text f) = (f ≢ table.OutOfMemory) × IsFault input f
+IsFound input (of_formula m t f) = t ≤ MAX_ROUNDS
+IsFound input (of_refutation f) = f ≢ refute.OutOfMemory
 IsFound input (of_no t ring places channels) =
     (t ≤ MAX_ROUNDS) × (t ≤ length ring) × (length ring ≤ MAX_IDS) × (places.0 < length ring) × (places.1 < length ring)
 IsFound input _ = ⊤

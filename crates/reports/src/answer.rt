@@ -6,6 +6,7 @@ use crate::cause::Cause;
 use crate::status::Status;
 use channel_tables::Table;
 use nbhd_check::Separation;
+use table_formula::Formula;
 
 /// A table and a separation that a table text can have.
 #[derive(Drop)]
@@ -24,4 +25,6 @@ pub enum Answer {
     Told(String, Status, Cause),
     /// The table and the separation whose text it is.
     Table(TableReport),
+    /// The formula whose text it is.
+    Formula(Formula),
 }

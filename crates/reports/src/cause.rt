@@ -1,7 +1,9 @@
 //! The cause of a report that is a refusal or a no.
 
+use crate::problem::ProblemFault;
 use lang_check::CheckFault;
 use node_lang::{Program, TextFault};
+use refutation::RefuteError;
 use table_text::TableFault;
 use win_index::RingFault;
 
@@ -30,6 +32,14 @@ pub enum Cause {
     },
     /// The fault of a table text.
     TableText(TableFault),
+    /// Why there is no formula of these numbers of identifiers and rounds.
+    Formula {
+        ids: u32,
+        rounds: u32,
+        fault: ProblemFault,
+    },
+    /// The fault of a text that is no refutation.
+    Refutation(RefuteError),
     /// The ring, the places and their channels at which a table breaks a separation.
     No {
         rounds: u32,

@@ -1,13 +1,17 @@
-//! Reports: printed lines and traces, reports on texts, tables and rings, their causes and their exit
-//! statuses, and how a report is written.
+//! Reports: printed lines and traces, reports on texts, tables, rings and formulas, their causes and
+//! their exit statuses, and how a report is written.
 #![tactic(auto)]
 
 pub mod answer;
 pub mod cause;
+mod formula_lines;
+mod formula_notes;
+pub mod formulas;
 pub mod judgement;
 pub mod judging;
 pub mod lines;
 pub mod note;
+pub mod problem;
 pub mod rings;
 pub mod status;
 pub mod texts;

@@ -6,6 +6,7 @@ ghost use Rattle.reports.specs.Notes.{IsNote, IsTableNote, IsFound};
 ghost use Rattle.table_text.specs.Faults.{IsFault};
 
 use crate::cause::Cause;
+use crate::formula_notes::{formula_note, refutation_note};
 use fault_notes::{
     channel_note, check_note, form_note, long_note, ring_note, segments_note, text_note,
     verdict_note, window_note,
@@ -33,6 +34,8 @@ pub fn note_on(alloc: Global, input: &[u8], cause: &Cause) -> Result<String, All
         } => ring_note(alloc, *ids, *rounds, places, *fault),
         Cause::Segments { segments, places } => segments_note(alloc, *segments, *places),
         Cause::TableText(fault) => table_note(alloc, input, *fault),
+        Cause::Formula { ids, rounds, fault } => formula_note(alloc, *ids, *rounds, *fault),
+        Cause::Refutation(fault) => refutation_note(alloc, *fault),
         Cause::No {
             rounds,
             ring,

@@ -14,14 +14,16 @@ pub enum Status {
     No,
     /// The ring can't be run in the number of segments that the words request.
     Words,
-    /// The program text, the program or the table text was refused.
+    /// The program text, the program, the table text or the refutation was refused.
     Refused,
     /// The ring was refused.
     RingRefused,
+    /// There is no formula of the numbers, or it is too large.
+    FormulaRefused,
 }
 
 impl Status {
-    /// Returns the exit status of the process: 0 to 4, in the order of the variants.
+    /// Returns the exit status of the process: 0 to 4 and 7, in the order of the variants.
     pub fn code(self) -> u8
         ensures { result ≡ exit_code self }
     {
@@ -31,6 +33,7 @@ impl Status {
             Status::Words => 2,
             Status::Refused => 3,
             Status::RingRefused => 4,
+            Status::FormulaRefused => 7,
         }
     }
 }

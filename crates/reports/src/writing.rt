@@ -5,6 +5,7 @@ ghost use Rattle.std.specs.Io.KnownBytes.{Appends};
 ghost use Rattle.devices.specs.Watched.{device_of, has_failed};
 ghost use Rattle.table_text.specs.LineForms.{IsSeparation};
 ghost use Rattle.table_text.specs.TableText.{table_text};
+ghost use Rattle.table_formula.specs.Texts.{formula_text};
 ghost use Rattle.reports.specs.Answers.{report_in};
 ghost use Rattle.reports.specs.Causes.{reason_in};
 ghost use Rattle.reports.specs.Written.{LeavesFront, MayHave};
@@ -18,6 +19,7 @@ use devices::output::send;
 use devices::watched::Watched;
 use std::alloc::Global;
 use std::io::Write;
+use table_formula::{Formula, write_formula};
 use table_text::write_table;
 
 /// Writes a report. Returns its status, and its cause if it is a refusal or a no.
@@ -50,6 +52,10 @@ pub fn write_answer<W: Write>(
             write_table_text(alloc, &table, separation, writer)?;
             Ok((Status::Done, None))
         }
+        Answer::Formula(formula) => {
+            write_formula_text(alloc, &formula, writer)?;
+            Ok((Status::Done, None))
+        }
     }
 }
 
@@ -69,6 +75,26 @@ fn write_table_text<W: Write>(
     ensures failed { IsErrOf result EngineFault.Write ↔ IsTrue (has_failed writer.new) }
 {
     match write_table(alloc, table, separation, writer) {
+        Ok(()) => Ok(()),
+        Err(OutFault::Write) => Err(EngineFault::Write),
+        Err(OutFault::Memory) => Err(EngineFault::Memory),
+    }
+}
+
+// Writes the text of a formula.
+fn write_formula_text<W: Write>(
+    alloc: Global,
+    formula: &Formula,
+    writer: &mut Watched<W>,
+) -> Result<(), EngineFault>
+    requires { has_failed writer.old ≡ false }
+    ensures report { OnOk result (Appends (W.contents (device_of writer.old)) (W.contents (device_of writer.new)) (formula_text formula.now)) }
+    ensures left { IfErr result (LeavesFront (formula_text formula.now) (W.contents (device_of writer.old)) (W.contents (device_of writer.new))) }
+    ensures fault { IfErr result (λ fault. fault ≢ EngineFault.Read) }
+    ensures own { IfErr result (MayHave 0) }
+    ensures failed { IsErrOf result EngineFault.Write ↔ IsTrue (has_failed writer.new) }
+{
+    match write_formula(alloc, formula, writer) {
         Ok(()) => Ok(()),
         Err(OutFault::Write) => Err(EngineFault::Write),
         Err(OutFault::Memory) => Err(EngineFault::Memory),

@@ -1,4 +1,8 @@
 pub mod Clauses
+pub mod CloseChannels
+pub mod Longest
+pub mod Sizes
+pub mod ClauseLengths
 pub mod Satisfied
 pub mod Numbered
 pub mod Models

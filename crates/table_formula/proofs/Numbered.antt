@@ -1,11 +1,12 @@
 -- The clauses of a formula by their numbers.
-use Rattle.std.proofs.Common.{◌≡◌, ℕ, zero, suc, ◌+◌, ◌*◌, ◌/◌, ◌%◌, ◌<◌, ◌≤◌, List, [], ◌∷◌, ◌++◌, map, All, length, get_or, slice_get, Some, refl, sym, ap, ◌∙◌, arith, zero-add, length-append}
+use Rattle.std.proofs.Common.{◌≡◌, ℕ, zero, suc, ◌+◌, ◌*◌, ◌/◌, ◌%◌, ◌<◌, ◌≤◌, List, [], ◌∷◌, ◌++◌, map, All, length, get_or, slice_get, slice_set, take, Some, refl, sym, ap, ◌∙◌, arith, add-one, zero-add, length-append}
 use Rattle.std.specs.List.{range_with_len, flat_map}
 use Rattle.std.proofs.lemmas.List.{length-map, get_or_append_left, get_or-append-add}
 use Rattle.std.proofs.lemmas.List.FromFn.{length-map-range_with_len, get_or-map-range_with_len, map-range_with_len_more}
 use Rattle.std.proofs.lemmas.List.Elements.{All-append, All-map, All-weaker, All-nil, All-cons}
 use Rattle.std.proofs.lemmas.Nat.{mul-le, div-add-mod'}
 use Rattle.std.proofs.lemmas.Option.{slice_get-get_or}
+use Rattle.std.proofs.Math.Seq.{take-suc-set}
 use Rattle.clause_check.specs.declared.literal.Literal.{Literal}
 use Rattle.table_formula.specs.declared.conflict.Conflict.{Conflict}
 use Rattle.table_formula.specs.Problems.{Problem}
@@ -89,6 +90,22 @@ all_pairs p =
     (All-weaker (IsClose p.channels 2 p.separation.far) (IsPair p)
     (λ k is. let step = is.step_is in let close = is.close in record { step = omega arith; first = is.first_below; second = is.second_below })
     (close_pairs p.channels 2 p.separation.far) (all_close p.channels 2 p.separation.far))
+
+-- one more cell
+pub take_set_more : (cells : List Literal) (i : ℕ) (a : Literal) → i < length cells → take (i + 1) (slice_set cells i a) ≡ take i cells ++ a ∷ []
+take_set_more cells i a within = ap (λ n. take n (slice_set cells i a)) (add-one i) ∙ take-suc-set cells i a within
+
+-- the first two cells
+pub two_cells : (cells : List Literal) (a b : Literal) → 2 ≤ length cells → take 2 (slice_set (slice_set cells 0 a) 1 b) ≡ a ∷ b ∷ []
+two_cells [] a b room = absurd (omega arith)
+two_cells (x ∷ []) a b room = absurd (omega arith)
+two_cells (x ∷ (y ∷ cells)) a b room = refl
+
+-- a formula with more clauses than windows has tuples
+pub some_tuples : (p : Problem) (index : ℕ) → length (windows_of p) + index < length (formula p) → 0 < length (tuples_of p)
+some_tuples p index below =
+    let no : ¬ (length (tuples_of p) ≡ 0) = λ e. omega (arith, formula_length p, ap (λ t. t * length (conflicts_of p)) e, below) in
+    omega arith
 
 -- the index of a clause of a tuple and a pair, cut into the number of the tuple and the index of the pair
 pub record Splits (p : Problem) (index count : ℕ) : Type 0 where

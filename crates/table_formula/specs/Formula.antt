@@ -1,11 +1,12 @@
 -- The formula of a problem: variables that say which window has which channel, and clauses that hold for each table that
 -- is asked for.
-use Rattle.std.specs.Prelude.{◌==◌, ℕ, ◌+◌, ◌*◌, ◌/◌, ◌%◌, ◌<◌, ◌≤◌, Bool, true, false, List, [], ◌∷◌, ◌++◌, map, filter, length, nat_lt, unwrap_or, slice_index}
+use Rattle.std.specs.Prelude.{◌==◌, ℕ, ◌+◌, ◌*◌, ◌/◌, ◌%◌, ◌<◌, ◌≤◌, Bool, true, false, List, [], ◌∷◌, ◌++◌, map, filter, length, max, nat_lt, unwrap_or, slice_index}
 use Rattle.std.specs.Int.{abs_diff}
 use Rattle.std.specs.List.{range_with_len, flat_map}
 use Rattle.win_index.specs.Arcs.{part_at}
 use Rattle.win_index.specs.Windows.{windows, number_of}
 use Rattle.channel_tables.specs.Tables.{ChannelTable}
+use Rattle.channel_tables.specs.declared.separation.Separation.{Separation}
 use Rattle.nbhd_check.specs.Apart.{extra}
 use Rattle.clause_check.specs.declared.literal.Literal.{Literal}
 use Rattle.table_formula.specs.declared.conflict.Conflict.{Conflict}
@@ -22,6 +23,10 @@ tuples_of p = windows (2 * p.rounds + 1 + extra p.separation) p.ids
 -- the variable that says that the window with this number has this channel
 abbrev pub variable_of : Problem → ℕ → ℕ → ℕ
 variable_of p window channel = window * p.channels + channel
+
+-- the number of variables
+abbrev pub variable_count : Problem → ℕ
+variable_count p = length (windows_of p) * p.channels
 
 -- the values of the variables that describe a table
 abbrev pub values_of : Problem → ChannelTable → ℕ → Bool
@@ -49,9 +54,12 @@ close_to channels step distance first =
 abbrev pub close_pairs : ℕ → ℕ → ℕ → List Conflict
 close_pairs channels step distance = flat_map (close_to channels step distance) (range_with_len 0 channels)
 
--- the pairs of channels that a separation forbids: those of neighbours, then those of places at distance two
+-- the pairs of channels below a number that a separation forbids: those of neighbours, then those of places at distance two
+abbrev pub close_in : ℕ → Separation → List Conflict
+close_in channels s = close_pairs channels 1 s.near ++ close_pairs channels 2 s.far
+
 abbrev pub conflicts_of : Problem → List Conflict
-conflicts_of p = close_pairs p.channels 1 p.separation.near ++ close_pairs p.channels 2 p.separation.far
+conflicts_of p = close_in p.channels p.separation
 
 -- what each forbidden pair is
 pub record IsPair (p : Problem) (k : Conflict) : Type 0 where
@@ -74,3 +82,8 @@ not_too_close p tuple = map (not_both p tuple) (conflicts_of p)
 -- a clause for each window, and for each tuple and each forbidden pair
 unfoldable pub formula : Problem → List (List Literal)
 formula p = map (some_channel p) (range_with_len 0 (length (windows_of p))) ++ flat_map (not_too_close p) (tuples_of p)
+
+-- the number of literals of the longest of some clauses, at least 1
+abbrev pub longest_len : List (List Literal) → ℕ
+longest_len [] = 1
+longest_len (clause ∷ clauses) = max (length clause) (longest_len clauses)

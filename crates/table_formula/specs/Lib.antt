@@ -1,6 +1,8 @@
--- The definitions that the contracts cite: problems, the tables that answer them, the formula of a problem, its text, and
--- the laws.
+-- The definitions that the contracts cite: problems, the tables that answer them, the formula of a problem, the limits
+-- of formulas and their faults, the text of a formula, and the laws.
 pub mod Problems
 pub mod Formula
+pub mod Limits
+pub mod FormulaFaults
 pub mod Texts
 pub mod Laws

@@ -1,6 +1,7 @@
 -- Problems: which tables are asked for.
 use Rattle.std.specs.Prelude.{◌≡◌, ℕ, ◌≤◌, refl}
 use Rattle.std.specs.Coded.{Coded, code_by, coded×, coded_ℕ}
+use Rattle.win_index.specs.declared.shape.Shape.{Shape}
 use Rattle.channel_tables.specs.Tables.{ChannelTable, IsTable}
 use Rattle.channel_tables.specs.declared.separation.Separation.{Separation}
 use Rattle.nbhd_check.specs.Apart.{IsApartEverywhere}
@@ -11,6 +12,10 @@ pub record Problem : Type 0 where
   pub rounds : ℕ
   pub channels : ℕ
   pub separation : Separation
+
+-- the problem of the tables of a shape
+abbrev pub problem_of : Shape → ℕ → Separation → Problem
+problem_of shape channels separation = record { ids = shape.ids; rounds = shape.rounds; channels = channels; separation = separation }
 
 -- a table that is asked for
 pub record IsSolution (p : Problem) (t : ChannelTable) : Type 0 where

@@ -1,10 +1,10 @@
 -- The text of a formula in DIMACS. Variables are numbered from 1 on.
-use Rattle.std.specs.Prelude.{ℕ, ◌+◌, ◌*◌, List, [], ◌∷◌, ◌++◌, length, codes, if◌then◌else◌}
+use Rattle.std.specs.Prelude.{ℕ, ◌+◌, List, [], ◌∷◌, ◌++◌, length, codes, if◌then◌else◌}
 use Rattle.std.specs.Fmt.{decimal}
 use Rattle.std.specs.List.{flat_map}
 use Rattle.clause_check.specs.declared.literal.Literal.{Literal}
 use Rattle.table_formula.specs.Problems.{Problem}
-use Rattle.table_formula.specs.Formula.{windows_of, formula}
+use Rattle.table_formula.specs.Formula.{variable_count, formula}
 
 -- a literal and a blank
 abbrev pub literal_text : Literal → List ℕ
@@ -17,7 +17,7 @@ clause_text clause = flat_map literal_text clause ++ (48 ∷ 10 ∷ [])
 -- the first line: the numbers of variables and of clauses
 abbrev pub head_text : Problem → List ℕ
 head_text p =
-    codes "p cnf " ++ (decimal (length (windows_of p) * p.channels) ++ 32 ∷ (decimal (length (formula p)) ++ 10 ∷ []))
+    codes "p cnf " ++ (decimal (variable_count p) ++ 32 ∷ (decimal (length (formula p)) ++ 10 ∷ []))
 
 abbrev pub formula_text : Problem → List ℕ
 formula_text p = head_text p ++ flat_map clause_text (formula p)

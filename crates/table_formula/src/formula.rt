@@ -1,4 +1,12 @@
-use crate::conflict::{Conflict, push_close_pairs};
+ghost use Rattle.std.specs.Prelude.{◌≡◌, ◌+◌, ◌*◌, ◌<◌, ◌≤◌, IfOk, IfErr, OnOk, MatchOption, length};
+ghost use Rattle.nbhd_check.specs.Apart.{extra};
+ghost use Rattle.table_formula.specs.declared.limits.TheConstants.{MAX_CLAUSES};
+ghost use Rattle.table_formula.specs.Formula.{close_in, formula};
+ghost use Rattle.table_formula.specs.Problems.{problem_of};
+ghost use Rattle.table_formula.specs.Limits.{IsWithinLimits};
+ghost use Rattle.table_formula.specs.FormulaFaults.{IsFormulaFault};
+
+use crate::conflict::{Conflict, conflict_count, conflicts_in};
 use crate::limits::{MAX_CLAUSES, MAX_VARIABLES};
 use channel_tables::Separation;
 use clause_check::Literal;
@@ -9,15 +17,17 @@ use win_index::{MAX_TUPLE_LEN, Shape, rings_have_windows, tuples_are_rings};
 /// Why a problem has no formula here.
 #[derive(Clone, Copy, Debug, PartialEq, Eq)]
 pub enum FormulaFault {
-    /// It would have more than `MAX_VARIABLES` variables.
+    /// V1: it would have more than `MAX_VARIABLES` variables.
     TooManyVariables,
-    /// It would have more than `MAX_CLAUSES` clauses.
+    /// V2: it would have more than `MAX_CLAUSES` clauses.
     TooManyClauses,
     /// Memory for the pairs of channels that are too close was refused.
     OutOfMemory,
 }
 
-/// The formula of a problem. Its clauses are made when they are asked for, by their numbers.
+/// The formula of a problem: whether there is a table of a shape with at most some number of
+/// channels that keeps a separation. It has at most `MAX_VARIABLES` variables and at most
+/// `MAX_CLAUSES` clauses. A clause is made when it is asked for, by its index.
 #[derive(Drop)]
 pub struct Formula {
     shape: Shape,
@@ -28,52 +38,46 @@ pub struct Formula {
 }
 
 impl Model for Formula {
-    ghost use Rattle.std.specs.Prelude.{◌≡◌, ◌*◌, ◌+◌, ◌≤◌, length};
-    ghost use Rattle.table_formula.specs.declared.limits.TheConstants.{MAX_CLAUSES, MAX_VARIABLES};
-    ghost use Rattle.table_formula.specs.Problems.{Problem, problem_code};
-    ghost use Rattle.table_formula.specs.Formula.{conflicts_of, formula};
-    ghost use Rattle.win_index.specs.Windows.{windows};
+    ghost use Rattle.table_formula.specs.Problems.{Problem, problem_of, problem_code};
+    ghost use Rattle.table_formula.specs.Limits.{IsKept};
 
     ghost Value = { Problem };
 
     ghost coded = { problem_code };
 
-    ghost view = { λ f. record { ids = f.shape.ids; rounds = f.shape.rounds; channels = f.channels; separation = f.separation } };
+    ghost view = { λ f. problem_of f.shape f.channels f.separation };
 
-    ghost invariant = { λ f. let p : Problem = record { ids = f.shape.ids; rounds = f.shape.rounds; channels = f.channels; separation = f.separation } in
-        (length (windows (2 * p.rounds + 1) p.ids) * p.channels ≤ MAX_VARIABLES)
-        × (f.conflicts.items ≡ conflicts_of p) × (f.clauses ≡ length (formula p)) × (f.clauses ≤ MAX_CLAUSES) };
+    ghost invariant = { λ f. IsKept (problem_of f.shape f.channels f.separation) f.conflicts.items f.clauses };
 }
 
 impl Formula {
-    ghost use Rattle.std.specs.Prelude.{◌≡◌, ◌+◌, ◌++◌, [], ◌*◌, ◌<◌, ◌≤◌, IfOk, OnOk, Some, length, All, slice_get, slice_index_or};
+    ghost use Rattle.std.specs.Prelude.{◌≡◌, ◌+◌, ◌*◌, ◌<◌, ◌≤◌, IfOk, IfErr, OnOk, Some, length, take, All, slice_get, slice_index_or};
     ghost use Rattle.win_index.specs.declared.limits.TheConstants.{MAX_TUPLE_LEN};
     ghost use Rattle.win_index.specs.Windows.{IsWindow};
     ghost use Rattle.nbhd_check.specs.Apart.{extra};
     ghost use Rattle.table_formula.specs.declared.limits.TheConstants.{MAX_CLAUSES, MAX_VARIABLES};
-    ghost use Rattle.table_formula.specs.Formula.{windows_of, tuples_of, variable_of, conflicts_of, window_in, some_channel, not_both, IsPair, formula};
+    ghost use Rattle.table_formula.specs.Formula.{windows_of, tuples_of, variable_of, variable_count, conflicts_of, window_in, some_channel, not_both, IsPair, formula, longest_len};
+    ghost use Rattle.table_formula.specs.Problems.{problem_of};
+    ghost use Rattle.table_formula.specs.Limits.{IsWithinLimits};
+    ghost use Rattle.table_formula.specs.FormulaFaults.{IsFormulaFault};
 
-    /// Returns the formula of the tables of this shape with at most so many channels that keep the
-    /// separation.
-    #[tactic(auto, using(crate::proofs::Clauses::formula_length))]
+    /// Returns the formula of the tables of this shape with at most `channels` channels that keep
+    /// the separation, or its first fault: `TooManyVariables`, else `TooManyClauses`, else
+    /// `OutOfMemory` if memory was refused.
     pub fn new(
         alloc: Global,
         shape: Shape,
         channels: u32,
         separation: Separation,
     ) -> Result<Formula, FormulaFault>
-        ensures { IfOk result (λ f. f ≡ record { ids = shape.ids; rounds = shape.rounds; channels = channels; separation = separation }) }
+        ensures ok { IfOk result (λ f. f ≡ problem_of shape channels separation) }
+        ensures limits { OnOk result (IsWithinLimits (problem_of shape channels separation)) }
+        ensures err { IfErr result (IsFormulaFault (problem_of shape channels separation)) }
     {
-        let windows = u64::from(shape.count(shape.rounds()));
-        if windows * u64::from(channels) > MAX_VARIABLES {
-            return Err(FormulaFault::TooManyVariables);
-        }
-        let mut conflicts = Vec::new(alloc);
-        push_close_pairs(&mut conflicts, channels, 1, separation.near)?;
-        push_close_pairs(&mut conflicts, channels, 2, separation.far)?;
+        let clauses = clauses_of(shape, channels, separation)?;
         let tuples = shape.tuples(extra_of(separation));
-        let Some(clauses) = clause_count(windows, tuples, conflicts.len() as u64) else {
-            return Err(FormulaFault::TooManyClauses);
+        let Ok(conflicts) = conflicts_for(alloc, tuples, channels, separation) else {
+            return Err(FormulaFault::OutOfMemory);
         };
         Ok(Formula {
             shape,
@@ -92,60 +96,86 @@ impl Formula {
         self.clauses
     }
 
-    /// Returns the number of variables.
+    /// Returns the number of variables. Variables are the numbers below it.
     pub fn variables(&self) -> u32
-        ensures value { result ≡ length (windows_of self.now) * self.now.channels }
+        ensures value { result ≡ variable_count self.now }
         ensures few { result ≤ MAX_VARIABLES }
     {
-        self.shape.count(self.shape.rounds()) * self.channels
+        self.windows() * self.channels
     }
 
-    /// Writes the clause with this index in the formula to `out`, which is emptied first.
-    #[tactic(auto, using(crate::proofs::Numbered::window_clause, crate::proofs::Numbered::some_within))]
-    pub fn write_clause(&self, index: u64, out: &mut Vec<Literal>) -> Result<(), AllocError>
-        requires { index < length (formula self.now) }
-        ensures item { OnOk result (slice_get (formula self.now) index ≡ Some out.new.items) }
-        ensures within { OnOk result (All (λ l. l.variable < length (windows_of self.now) * self.now.channels) out.new.items) }
+    /// Returns the number of literals of the longest clause, at least 1.
+    #[tactic(auto, using(crate::proofs::Longest::longest_with, crate::proofs::Longest::longest_without))]
+    pub fn longest_clause(&self) -> usize
+        ensures { result ≡ longest_len (formula self.now) }
     {
-        out.clear();
-        let windows = u64::from(self.shape.count(self.shape.rounds()));
+        if self.clauses > u64::from(self.windows()) {
+            return 2.max(self.channels) as usize;
+        }
+        1.max(self.channels) as usize
+    }
+
+    /// Writes the clause with this index in the formula to the first cells of `out`, and returns the
+    /// number of its literals. The other cells can be overwritten too.
+    pub fn write_clause(&self, index: u64, out: &mut [Literal]) -> usize
+        requires index { index < length (formula self.now) }
+        requires room { longest_len (formula self.now) ≤ length out.old }
+        ensures len { length out.new ≡ length out.old }
+        ensures fits { result ≤ length out.new }
+        ensures item { slice_get (formula self.now) index ≡ Some (take result out.new) }
+        ensures within { All (λ l. l.variable < variable_count self.now) (take result out.new) }
+    {
+        let windows = u64::from(self.windows());
         if index < windows {
-            self.push_some_channel(index as u32, out)
+            self.write_some_channel(index as u32, out)
         } else {
-            self.push_pair(index - windows, out)
+            self.write_pair(index - windows, out)
         }
     }
 
-    // Appends the literals of the clause of a window.
-    #[tactic(auto, using(crate::proofs::Numbered::some_more))]
-    fn push_some_channel(&self, window: u32, out: &mut Vec<Literal>) -> Result<(), AllocError>
-        requires { window < length (windows_of self.now) }
-        ensures { OnOk result (out.new.items ≡ out.old.items ++ some_channel self.now window) }
+    // Returns the number of windows.
+    fn windows(&self) -> u32
+        ensures value { result ≡ length (windows_of self.now) }
+        ensures some { 0 < result }
+    {
+        self.shape.count(self.shape.rounds())
+    }
+
+    // Writes the clause of a window.
+    fn write_some_channel(&self, window: u32, out: &mut [Literal]) -> usize
+        requires window { window < length (windows_of self.now) }
+        requires room { self.now.channels ≤ length out.old }
+        ensures len { length out.new ≡ length out.old }
+        ensures count { result ≡ self.now.channels }
+        ensures items { take result out.new ≡ some_channel self.now window }
     {
         for channel in 0..self.channels {
-            out.push(self.literal(window, channel, true))?;
+            out[channel as usize] = self.literal(window, channel, true);
         }
-        Ok(())
+        self.channels as usize
     }
 
-    // Appends the literals of the clause of a tuple and a pair of channels that has this index
-    // among those clauses.
-    fn push_pair(&self, index: u64, out: &mut Vec<Literal>) -> Result<(), AllocError>
-        requires empty { out.old.items ≡ [] }
+    // Writes the clause of a tuple and a pair of channels that has this index among those clauses.
+    fn write_pair(&self, index: u64, out: &mut [Literal]) -> usize
         requires below { length (windows_of self.now) + index < length (formula self.now) }
-        ensures item { OnOk result (slice_get (formula self.now) (length (windows_of self.now) + index) ≡ Some out.new.items) }
-        ensures within { OnOk result (All (λ l. l.variable < length (windows_of self.now) * self.now.channels) out.new.items) }
+        requires room { 2 ≤ length out.old }
+        ensures len { length out.new ≡ length out.old }
+        ensures count { result ≡ 2 }
+        ensures item { slice_get (formula self.now) (length (windows_of self.now) + index) ≡ Some (take 2 out.new) }
+        ensures within { All (λ l. l.variable < variable_count self.now) (take 2 out.new) }
     {
         let count = self.conflict_count();
         let mut cells = [0; MAX_TUPLE_LEN];
         let tuple = &mut cells[..self.tuple_len()];
         self.write_tuple(index / count, tuple);
         let conflict = self.conflict((index % count) as usize);
-        self.push_not_both(tuple, conflict, out)
+        self.write_not_both(tuple, conflict, out);
+        2
     }
 
     // Returns the number of pairs of channels that the separation forbids.
     fn conflict_count(&self) -> u64
+        requires { 0 < length (tuples_of self.now) }
         ensures { result ≡ length (conflicts_of self.now) }
     {
         self.conflicts.len() as u64
@@ -154,7 +184,8 @@ impl Formula {
     // Returns the pair with this index.
     #[tactic(auto, using(crate::proofs::Numbered::all_pairs))]
     fn conflict(&self, index: usize) -> Conflict
-        requires { index < length (conflicts_of self.now) }
+        requires some { 0 < length (tuples_of self.now) }
+        requires below { index < length (conflicts_of self.now) }
         ensures item { slice_index_or (conflicts_of self.now) index result ≡ result }
         ensures pair { IsPair self.now result }
     {
@@ -171,26 +202,19 @@ impl Formula {
         self.shape.tuple(extra_of(self.separation), number, out);
     }
 
-    // Appends the literals of the clause of a tuple and a pair of channels.
-    fn push_not_both(
-        &self,
-        tuple: &[u32],
-        conflict: Conflict,
-        out: &mut Vec<Literal>,
-    ) -> Result<(), AllocError>
+    // Writes the two literals of the clause of a tuple and a pair of channels.
+    fn write_not_both(&self, tuple: &[u32], conflict: Conflict, out: &mut [Literal])
         requires tuple { IsWindow (2 * self.now.rounds + 1 + extra self.now.separation) self.now.ids tuple.now }
-        requires step { conflict.step ≤ extra self.now.separation }
-        requires first { conflict.first < self.now.channels }
-        requires second { conflict.second < self.now.channels }
-        ensures items { OnOk result (out.new.items ≡ out.old.items ++ not_both self.now tuple.now conflict) }
-        ensures here { window_in self.now tuple.now 0 < length (windows_of self.now) }
-        ensures there { window_in self.now tuple.now conflict.step < length (windows_of self.now) }
+        requires pair { IsPair self.now conflict }
+        requires room { 2 ≤ length out.old }
+        ensures len { length out.new ≡ length out.old }
+        ensures items { take 2 out.new ≡ not_both self.now tuple.now conflict }
+        ensures within { All (λ l. l.variable < variable_count self.now) (take 2 out.new) }
     {
         let here = self.window_at(tuple, 0);
         let there = self.window_at(tuple, conflict.step as usize);
-        out.push(self.literal(here, conflict.first, false))?;
-        out.push(self.literal(there, conflict.second, false))?;
-        Ok(())
+        out[0] = self.literal(here, conflict.first, false);
+        out[1] = self.literal(there, conflict.second, false);
     }
 
     // Returns the number of the window from an offset on in a tuple.
@@ -222,10 +246,7 @@ impl Formula {
         requires channel { channel < self.now.channels }
         ensures { result ≡ record { variable = variable_of self.now window channel; is_positive = is_positive } }
     {
-        Literal {
-            variable: window * self.channels + channel,
-            is_positive,
-        }
+        Literal::new(window * self.channels + channel, is_positive)
     }
 }
 
@@ -236,9 +257,28 @@ fn extra_of(separation: Separation) -> u32
     if separation.far == 0 { 1 } else { 2 }
 }
 
-// Returns the number of clauses of a formula, if it is at most `MAX_CLAUSES`.
+// Returns the number of clauses of a formula, or its fault if it is not within the limits.
+fn clauses_of(shape: Shape, channels: u32, separation: Separation) -> Result<u64, FormulaFault>
+    ensures ok { IfOk result (λ clauses. clauses ≡ length (formula (problem_of shape channels separation))) }
+    ensures limits { OnOk result (IsWithinLimits (problem_of shape channels separation)) }
+    ensures err { IfErr result (IsFormulaFault (problem_of shape channels separation)) }
+{
+    let windows = u64::from(shape.count(shape.rounds()));
+    if windows * u64::from(channels) > MAX_VARIABLES {
+        return Err(FormulaFault::TooManyVariables);
+    }
+    let tuples = shape.tuples(extra_of(separation));
+    let pairs = conflict_count(channels, separation);
+    let Some(clauses) = clause_count(windows, tuples, pairs) else {
+        return Err(FormulaFault::TooManyClauses);
+    };
+    Ok(clauses)
+}
+
+// Returns the number of clauses of a formula, or `None` if it is over `MAX_CLAUSES`.
 fn clause_count(windows: u64, tuples: u64, conflicts: u64) -> Option<u64>
-    ensures { IfSome result (λ count. (count ≡ windows + tuples * conflicts) × (count ≤ MAX_CLAUSES)) }
+    ensures { MatchOption result (MAX_CLAUSES < windows + tuples * conflicts)
+        (λ count. (count ≡ windows + tuples * conflicts) × (count ≤ MAX_CLAUSES)) }
 {
     let count = tuples.checked_mul(conflicts)?.checked_add(windows)?;
     if count > MAX_CLAUSES {
@@ -247,15 +287,17 @@ fn clause_count(windows: u64, tuples: u64, conflicts: u64) -> Option<u64>
     Some(count)
 }
 
-ghost use Rattle.std.specs.Prelude.{◌≡◌, ◌+◌, ◌*◌, ◌≤◌, IfSome};
-ghost use Rattle.nbhd_check.specs.Apart.{extra};
-
-impl From<AllocError> for FormulaFault {
-    ghost use Rattle.table_formula.specs.declared.formula.FormulaFault.TheVariants.{OutOfMemory};
-
-    ghost from_gives = { λ _ e. e ≡ OutOfMemory };
-
-    fn from(_error: AllocError) -> FormulaFault {
-        FormulaFault::OutOfMemory
+// Returns the pairs of channels that a separation forbids, or none if there are no tuples.
+fn conflicts_for(
+    alloc: Global,
+    tuples: u64,
+    channels: u32,
+    separation: Separation,
+) -> Result<Vec<Conflict>, AllocError>
+    ensures { 0 < tuples → IfOk result (λ pairs. pairs.items ≡ close_in channels separation) }
+{
+    if tuples == 0 {
+        return Ok(Vec::new(alloc));
     }
+    conflicts_in(alloc, channels, separation)
 }

@@ -12,4 +12,4 @@ pub use conflict::Conflict;
 pub use formula::{Formula, FormulaFault};
 pub use laws::{formula_is_exact, models_give_solutions, solutions_satisfy};
 pub use limits::{MAX_CLAUSES, MAX_VARIABLES};
-pub use text::text_of_formula;
+pub use text::write_formula;

@@ -2,4 +2,4 @@
 pub const MAX_VARIABLES: u64 = 1 << 22;
 
 /// The maximum number of clauses of a formula.
-pub const MAX_CLAUSES: u64 = 1 << 31;
+pub const MAX_CLAUSES: u64 = 1 << 24;

@@ -1,52 +1,163 @@
-ghost use Rattle.std.specs.Prelude.{◌≡◌, ◌++◌, IfOk, OnOk};
+//! Writing the text of a formula.
+
+ghost use Rattle.std.specs.Prelude.{◌≡◌, ◌↔◌, ◌+◌, ◌<◌, ◌≤◌, ◌++◌, ◌∷◌, [], drop, false, IsTrue, length, IfErr, OnOk, OnErr, IsErrOf};
+ghost use Rattle.std.specs.Fmt.{decimal};
+ghost use Rattle.std.specs.Io.KnownBytes.{Appends, Keeps};
+ghost use Rattle.std.specs.List.{flat_map};
+ghost use Rattle.devices.specs.declared.chunk.TheConstants.{CHUNK_LEN};
+ghost use Rattle.devices.specs.Output.{AppendsFront, IsWrittenSoFar};
+ghost use Rattle.devices.specs.Watched.{device_of, has_failed};
+ghost use Rattle.table_formula.specs.Formula.{formula as clauses_of, longest_len};
 ghost use Rattle.table_formula.specs.Texts.{literal_text, clause_text, head_text, formula_text};
 
 use crate::formula::Formula;
 use clause_check::Literal;
-use std::alloc::{AllocError, Global};
+use devices::chunk::Chunk;
+use devices::fault::{EngineFault, OutFault};
+use devices::watched::Watched;
+use itoa::{Buffer, write_digits};
+use std::alloc::Global;
+use std::io::Write;
 
-/// Returns the text of a formula in DIMACS: its clauses in order, as a solver reads them.
-pub fn text_of_formula(alloc: Global, formula: &Formula) -> Result<Vec<u8>, AllocError>
-    ensures { IfOk result (λ text. text.items ≡ formula_text formula.now) }
+// The maximum length of the text of a literal: a sign, ten digits and a blank.
+const LITERAL_LEN: usize = 12;
+
+/// Writes the text of a formula in DIMACS, as a solver reads it: a line `p cnf` with the numbers of
+/// variables and of clauses, and a line for each clause, in order. That line has the literals, each
+/// as the number of its variable, counted from 1, with a `-` before that of a negation, and a 0.
+///
+/// Fails with `Write` exactly if a write failed or took no byte; a prefix of the text was then
+/// written. Fails with `Memory` if memory was refused; nothing was then written.
+pub fn write_formula<W: Write>(
+    alloc: Global,
+    formula: &Formula,
+    writer: &mut Watched<W>,
+) -> Result<(), OutFault>
+    requires { has_failed writer.old ≡ false }
+    ensures ok { OnOk result (Appends (W.contents (device_of writer.old))
+        (W.contents (device_of writer.new)) (formula_text formula.now)) }
+    ensures front { IsErrOf result OutFault.Write → AppendsFront (W.contents (device_of writer.old))
+        (W.contents (device_of writer.new)) (formula_text formula.now) }
+    ensures no_memory { IsErrOf result OutFault.Memory → Keeps (W.contents (device_of writer.old)) (W.contents (device_of writer.new)) }
+    ensures failed { IsErrOf result OutFault.Write ↔ IsTrue (has_failed writer.new) }
 {
-    let mut out = Vec::new(alloc);
-    push_head(alloc, &mut out, formula)?;
-    let mut clause = Vec::new(alloc);
-    for index in 0..formula.count() {
-        formula.write_clause(index, &mut clause)?;
-        push_clause(alloc, &mut out, &clause)?;
+    let mut clause = vec![in alloc; Literal::new(0, true); formula.longest_clause()]?;
+    let mut chunk = Chunk::new(alloc)?;
+    push_head(&mut chunk, formula);
+    match write_clauses(writer, &mut chunk, &mut clause, formula) {
+        Ok(()) => Ok(()),
+        Err(_) => Err(OutFault::Write),
     }
-    Ok(out)
 }
 
-// Appends the first line.
-fn push_head(alloc: Global, out: &mut Vec<u8>, formula: &Formula) -> Result<(), AllocError>
-    ensures { OnOk result (out.new.items ≡ out.old.items ++ head_text formula.now) }
+// Appends the first line to an empty chunk.
+fn push_head(chunk: &mut Chunk, formula: &Formula)
+    requires { chunk.old ≡ [] }
+    ensures { chunk.new ≡ head_text formula.now }
 {
-    let variables = formula.variables();
-    let clauses = formula.count();
-    let line = format!(in alloc; "p cnf {variables} {clauses}\n")?;
-    out.extend_from_slice(line.as_bytes())
+    chunk.push(b"p cnf ");
+    push_number(chunk, u64::from(formula.variables()), b' ');
+    push_number(chunk, formula.count(), b'\n');
 }
 
-// Appends the line of a clause.
-fn push_clause(alloc: Global, out: &mut Vec<u8>, clause: &[Literal]) -> Result<(), AllocError>
-    ensures { OnOk result (out.new.items ≡ out.old.items ++ clause_text clause.now) }
+// Appends a number and the byte `end`.
+fn push_number(chunk: &mut Chunk, number: u64, end: u8)
+    requires { length chunk.old + 64 ≤ CHUNK_LEN }
+    ensures text { chunk.new ≡ chunk.old ++ (decimal number ++ end ∷ []) }
+    ensures len { length chunk.new ≤ length chunk.old + 41 }
+{
+    let mut buffer = Buffer::new();
+    chunk.push(buffer.format(number).as_bytes());
+    chunk.push(&[end]);
+}
+
+// Writes the first line, which is the chunk's contents, and the lines of all clauses. `clause` is
+// scratch for the longest one.
+fn write_clauses<W: Write>(
+    writer: &mut Watched<W>,
+    chunk: &mut Chunk,
+    clause: &mut [Literal],
+    formula: &Formula,
+) -> Result<(), EngineFault>
+    requires working { has_failed writer.old ≡ false }
+    requires first { chunk.old ≡ head_text formula.now }
+    requires room { longest_len (clauses_of formula.now) ≤ length clause.old }
+    ensures ok { OnOk result (Appends (W.contents (device_of writer.old))
+        (W.contents (device_of writer.new)) (formula_text formula.now)) }
+    ensures err { OnErr result (AppendsFront (W.contents (device_of writer.old))
+        (W.contents (device_of writer.new)) (formula_text formula.now)) }
+    ensures fault { IfErr result (λ fault. fault ≡ EngineFault.Write) }
+    ensures failed { IsErrOf result EngineFault.Write ↔ IsTrue (has_failed writer.new) }
+{
+    for index in 0..formula.count() {
+        let len = formula.write_clause(index, clause);
+        write_clause(writer, chunk, &clause[..len])?;
+    }
+    chunk.send(writer)
+}
+
+// Writes the contents of the chunk and the line of a clause, whose end can be left in the chunk.
+fn write_clause<W: Write>(
+    writer: &mut Watched<W>,
+    chunk: &mut Chunk,
+    clause: &[Literal],
+) -> Result<(), EngineFault>
+    requires working { has_failed writer.old ≡ false }
+    ensures ok { OnOk result (IsWrittenSoFar (W.contents (device_of writer.old)) (W.contents (device_of writer.new))
+        chunk.new (chunk.old ++ clause_text clause.now)) }
+    ensures err { OnErr result (AppendsFront (W.contents (device_of writer.old))
+        (W.contents (device_of writer.new)) (chunk.old ++ clause_text clause.now)) }
+    ensures fault { IfErr result (λ fault. fault ≡ EngineFault.Write) }
+    ensures failed { IsErrOf result EngineFault.Write ↔ IsTrue (has_failed writer.new) }
+{
+    write_literals(writer, chunk, clause)?;
+    chunk.make_room(2, writer)?;
+    chunk.push(b"0\n");
+    Ok(())
+}
+
+// Writes the contents of the chunk and the literals of a clause, the last of which can be left in
+// the chunk.
+fn write_literals<W: Write>(
+    writer: &mut Watched<W>,
+    chunk: &mut Chunk,
+    clause: &[Literal],
+) -> Result<(), EngineFault>
+    requires working { has_failed writer.old ≡ false }
+    ensures ok { OnOk result (IsWrittenSoFar (W.contents (device_of writer.old)) (W.contents (device_of writer.new))
+        chunk.new (chunk.old ++ flat_map literal_text clause.now)) }
+    ensures err { OnErr result (AppendsFront (W.contents (device_of writer.old))
+        (W.contents (device_of writer.new)) (chunk.old ++ flat_map literal_text clause.now)) }
+    ensures fault { IfErr result (λ fault. fault ≡ EngineFault.Write) }
+    ensures failed { IsErrOf result EngineFault.Write ↔ IsTrue (has_failed writer.new) }
 {
     for l in clause {
-        push_literal(alloc, out, *l)?;
+        chunk.make_room(LITERAL_LEN, writer)?;
+        push_literal(chunk, *l);
     }
-    out.extend_from_slice(b"0\n")
+    Ok(())
 }
 
 // Appends a literal and a blank.
-fn push_literal(alloc: Global, out: &mut Vec<u8>, l: Literal) -> Result<(), AllocError>
-    ensures { OnOk result (out.new.items ≡ out.old.items ++ literal_text l) }
+fn push_literal(chunk: &mut Chunk, l: Literal)
+    requires { length chunk.old + LITERAL_LEN ≤ CHUNK_LEN }
+    ensures { chunk.new ≡ chunk.old ++ literal_text l }
 {
-    let number = u64::from(l.variable) + 1;
-    if !l.is_positive {
-        out.extend_from_slice(b"-")?;
+    let mut bytes = [b' '; LITERAL_LEN];
+    let start = write_literal(l, &mut bytes);
+    chunk.push(&bytes[start..]);
+}
+
+// Writes a literal before the last byte, which is a blank, and returns where it starts.
+fn write_literal(l: Literal, bytes: &mut [u8; LITERAL_LEN]) -> usize
+    requires { drop 11 bytes.old ≡ 32 ∷ [] }
+    ensures start { result ≤ LITERAL_LEN }
+    ensures text { drop result bytes.new ≡ literal_text l }
+{
+    let start = write_digits(u64::from(l.variable()) + 1, bytes, LITERAL_LEN - 1);
+    if l.is_positive() {
+        return start;
     }
-    let text = format!(in alloc; "{number} ")?;
-    out.extend_from_slice(text.as_bytes())
+    bytes[start - 1] = b'-';
+    start - 1
 }

@@ -6,7 +6,6 @@ pub mod TableLines
 pub mod TablesOnce
 pub mod TextsApart
 pub mod WrittenLines
-pub mod WrittenChunks
 pub mod PieceTexts
 pub mod FaultsOnce
 pub mod TextLimit

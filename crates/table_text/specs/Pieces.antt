@@ -1,13 +1,11 @@
 -- Short texts from which the lines of windows are made. No public contract cites this file.
-use Rattle.std.specs.Prelude.{◌≡◌, ℕ, List, [], ◌∷◌, ◌++◌, take, map, length, codes, Option}
-use Rattle.std.specs.Io.KnownBytes.{Appends}
+use Rattle.std.specs.Prelude.{◌≡◌, ℕ, List, [], ◌∷◌, ◌++◌, take, map, length, codes}
 use Rattle.std.specs.List.{range_with_len}
 use Rattle.std.specs.Fmt.{decimal}
 use Rattle.channel_tables.specs.Tables.{ChannelTable}
 use Rattle.table_text.specs.declared.piece.Piece.{Piece}
 use Rattle.table_text.specs.declared.piece.Pieces.{Pieces}
 use Rattle.table_text.specs.declared.line_prefix.LinePrefix.{LinePrefix}
-use Rattle.table_text.specs.declared.chunk.Chunk.{Chunk}
 
 -- the text of a piece
 abbrev pub piece_text : Piece → List ℕ
@@ -35,11 +33,3 @@ pub record ArePieces (t : ChannelTable) (pieces : Pieces) : Type 0 where
   pub all_ids : length pieces.ids.items ≡ t.ids
   pub channels : AreTexts channel_text pieces.channels.items
   pub all_channels : length pieces.channels.items ≡ t.channels
-
--- the contents of a chunk
-abbrev pub held : Chunk → List ℕ
-held chunk = take chunk.filled chunk.bytes.items
-
--- the bytes written since, followed by those that wait, are the text
-abbrev pub IsWrittenSoFar : Option (List ℕ) → Option (List ℕ) → List ℕ → List ℕ → Type 0
-IsWrittenSoFar before now waiting text = (sent : List ℕ) × Appends before now sent × (sent ++ waiting ≡ text)

@@ -1,7 +1,6 @@
 //! Reading and writing the text of a table and its separation.
 #![tactic(auto)]
 
-mod chunk;
 mod fault;
 mod laws;
 mod limits;

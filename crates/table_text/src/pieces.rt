@@ -7,8 +7,8 @@ ghost use Rattle.table_text.specs.TableText.{ids_then};
 
 use crate::line_prefix::{LinePrefix, PREFIX_LEN};
 use crate::piece::{Piece, Pieces};
-use crate::storing::write_at;
 use channel_tables::Table;
+use devices::chunk::write_at;
 use std::alloc::{AllocError, Global};
 use win_index::MAX_WINDOW_LEN;
 

@@ -1,23 +1,23 @@
 //! Writing the text of a table.
 
-ghost use Rattle.std.specs.Prelude.{◌≡◌, ◌↔◌, ℕ, ◌+◌, ◌*◌, ◌<◌, ◌≤◌, ◌++◌, List, [], Option, false, IsTrue, length, take, slice_get, Some, IfOk, IfErr, OnOk, OnErr, IsErrOf, string_bytes};
+ghost use Rattle.std.specs.Prelude.{◌≡◌, ◌↔◌, ℕ, ◌+◌, ◌*◌, ◌<◌, ◌≤◌, ◌++◌, [], false, IsTrue, length, take, slice_get, Some, IfOk, IfErr, OnOk, OnErr, IsErrOf, string_bytes};
 ghost use Rattle.std.specs.Io.KnownBytes.{Appends, Keeps};
-ghost use Rattle.devices.specs.Output.{AppendsFront};
+ghost use Rattle.devices.specs.declared.chunk.TheConstants.{CHUNK_LEN};
+ghost use Rattle.devices.specs.Output.{AppendsFront, IsWrittenSoFar};
 ghost use Rattle.devices.specs.Watched.{device_of, has_failed};
 ghost use Rattle.win_index.specs.Windows.{windows, IsWindow};
 ghost use Rattle.channel_tables.specs.declared.separation.Separation.{Separation};
 ghost use Rattle.table_text.specs.declared.version.Version.TheVariants.{Two};
 ghost use Rattle.table_text.specs.LineForms.{IsSeparation};
 ghost use Rattle.table_text.specs.TableText.{written, head_then, ids_then, lines_then, table_text};
-ghost use Rattle.table_text.specs.Pieces.{held, prefix_text, piece_text, id_text, channel_text, AreTexts, ArePieces, IsWrittenSoFar};
+ghost use Rattle.table_text.specs.Pieces.{prefix_text, piece_text, id_text, channel_text, AreTexts, ArePieces};
 
-use crate::chunk::Chunk;
-use crate::limits::CHUNK_LEN;
 use crate::line_prefix::{LinePrefix, PREFIX_LEN};
 use crate::piece::{Piece, Pieces};
 use crate::pieces::{line_prefix_of, piece_of, pieces_of};
-use crate::storing::{empty_chunk, send_held, store, store_first, store_prefix};
+use crate::storing::{store, store_prefix};
 use channel_tables::{Separation, Table};
+use devices::chunk::Chunk;
 use devices::fault::{EngineFault, OutFault};
 use devices::watched::Watched;
 use std::alloc::{AllocError, Global};
@@ -51,8 +51,8 @@ pub fn write_table<W: Write>(
 {
     let text = first_lines(alloc, table, separation)?;
     let pieces = pieces_of(alloc, table)?;
-    let mut chunk = empty_chunk(alloc)?;
-    store_first(&mut chunk, text.as_bytes());
+    let mut chunk = Chunk::new(alloc)?;
+    chunk.push(text.as_bytes());
     match write_lines(writer, &mut chunk, &pieces, table, separation) {
         Ok(()) => Ok(()),
         Err(_) => Err(OutFault::Write),
@@ -85,7 +85,7 @@ fn write_lines<W: Write>(
     separation: Separation,
 ) -> Result<(), EngineFault>
     requires working { has_failed writer.old ≡ false }
-    requires first { held chunk.old ≡ head_then (written Two table.now separation) [] }
+    requires first { chunk.old ≡ head_then (written Two table.now separation) [] }
     requires pieces { ArePieces table.now pieces.now }
     ensures ok { OnOk result (Appends (W.contents (device_of writer.old))
         (W.contents (device_of writer.new)) (table_text table.now separation)) }
@@ -96,7 +96,7 @@ fn write_lines<W: Write>(
 {
     write_entries(writer, chunk, pieces, table, separation)?;
     store(chunk, piece_of(b"end\n"));
-    send_held(chunk, writer)
+    chunk.send(writer)
 }
 
 // Writes the first two lines, which are the chunk's contents, and the lines of all windows. The
@@ -109,11 +109,11 @@ fn write_entries<W: Write>(
     separation: Separation,
 ) -> Result<(), EngineFault>
     requires working { has_failed writer.old ≡ false }
-    requires first { held chunk.old ≡ head_then (written Two table.now separation) [] }
+    requires first { chunk.old ≡ head_then (written Two table.now separation) [] }
     requires pieces { ArePieces table.now pieces.now }
     ensures ok { OnOk result (IsWrittenSoFar (W.contents (device_of writer.old)) (W.contents (device_of writer.new))
-        (held chunk.new) (lines_then (written Two table.now separation) [])) }
-    ensures room { OnOk result (chunk.new.filled + 8 ≤ CHUNK_LEN) }
+        chunk.new (lines_then (written Two table.now separation) [])) }
+    ensures room { OnOk result (length chunk.new + 8 ≤ CHUNK_LEN) }
     ensures err { OnErr result (AppendsFront (W.contents (device_of writer.old))
         (W.contents (device_of writer.new)) (table_text table.now separation)) }
     ensures fault { IfErr result (λ fault. fault ≡ EngineFault.Write) }
@@ -128,12 +128,12 @@ fn write_entries<W: Write>(
     let ids: &[Piece] = &pieces.ids;
     let mut prefix = line_prefix_of(ids, &window[..2 * level as usize]);
     for number in 0..count {
-        flush_if_full(chunk, writer)?;
+        chunk.make_room(LINE_LEN, writer)?;
         let last = window[2 * level as usize];
         store_entry(chunk, pieces, &prefix, last, table.entry(number));
         advance(shape, ids, window, &mut prefix);
     }
-    flush_if_full(chunk, writer)
+    chunk.make_room(LINE_LEN, writer)
 }
 
 // Advances to the next window and its prefix, if there is one.
@@ -153,31 +153,14 @@ fn advance(shape: Shape, ids: &[Piece], window: &mut [u32], prefix: &mut LinePre
     }
 }
 
-// Writes the contents of a chunk if it has no space for another line.
-fn flush_if_full<W: Write>(chunk: &mut Chunk, writer: &mut Watched<W>) -> Result<(), EngineFault>
-    requires { has_failed writer.old ≡ false }
-    ensures ok { OnOk result ((before : Option (List ℕ)) (text : List ℕ) → IsWrittenSoFar before (W.contents (device_of writer.old)) (held chunk.old) text
-        → IsWrittenSoFar before (W.contents (device_of writer.new)) (held chunk.new) text) }
-    ensures room { OnOk result (chunk.new.filled + LINE_LEN ≤ CHUNK_LEN) }
-    ensures err { OnErr result (AppendsFront (W.contents (device_of writer.old))
-        (W.contents (device_of writer.new)) (held chunk.old)) }
-    ensures fault { IfErr result (λ fault. fault ≡ EngineFault.Write) }
-    ensures failed { IsErrOf result EngineFault.Write ↔ IsTrue (has_failed writer.new) }
-{
-    if chunk.filled + LINE_LEN > CHUNK_LEN {
-        send_held(chunk, writer)?;
-    }
-    Ok(())
-}
-
 // Appends to a chunk the line of a window with this prefix, last identifier and channel.
 fn store_entry(chunk: &mut Chunk, pieces: &Pieces, prefix: &LinePrefix, last: u32, channel: u32)
-    requires room { chunk.old.filled + LINE_LEN ≤ CHUNK_LEN }
+    requires room { length chunk.old + LINE_LEN ≤ CHUNK_LEN }
     requires ids { AreTexts id_text pieces.now.ids.items }
     requires channels { AreTexts channel_text pieces.now.channels.items }
     requires last { last < length pieces.now.ids.items }
     requires channel { channel < length pieces.now.channels.items }
-    ensures { held chunk.new ≡ held chunk.old ++ (prefix_text prefix.now ++ (id_text last ++ channel_text channel)) }
+    ensures { chunk.new ≡ chunk.old ++ (prefix_text prefix.now ++ (id_text last ++ channel_text channel)) }
 {
     let ids: &[Piece] = &pieces.ids;
     let ends: &[Piece] = &pieces.channels;
@@ -187,8 +170,8 @@ fn store_entry(chunk: &mut Chunk, pieces: &Pieces, prefix: &LinePrefix, last: u3
 // Appends a line to a chunk: the prefix of a window, the piece of its last identifier and that of
 // its channel.
 fn store_line(chunk: &mut Chunk, prefix: &LinePrefix, last: Piece, end: Piece)
-    requires room { chunk.old.filled + LINE_LEN ≤ CHUNK_LEN }
-    ensures { held chunk.new ≡ held chunk.old ++ (prefix_text prefix.now ++ (piece_text last ++ piece_text end)) }
+    requires room { length chunk.old + LINE_LEN ≤ CHUNK_LEN }
+    ensures { chunk.new ≡ chunk.old ++ (prefix_text prefix.now ++ (piece_text last ++ piece_text end)) }
 {
     store_prefix(chunk, prefix);
     store(chunk, last);

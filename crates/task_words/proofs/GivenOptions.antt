@@ -11,11 +11,11 @@ use Rattle.clap.proofs.CallerReads.{signed_reads}
 use Rattle.clap.proofs.WalkLemmas.{one_text-rows}
 use Rattle.option_values.specs.OptionLines.{HasValue, IsOneOf, is_option_line}
 use Rattle.option_values.specs.Laws.{OptionsHaveValues}
-use Rattle.task_words.specs.CommandLine.{command_line, ids_rule, ring_rule, workers_rule, segments_rule, near_rule, far_rule}
-use Rattle.task_words.specs.Counts.{IsCount, IsNear, IsFar}
+use Rattle.task_words.specs.CommandLine.{command_line, ids_rule, ring_rule, workers_rule, segments_rule, near_rule, far_rule, rounds_rule, channels_rule}
+use Rattle.task_words.specs.Counts.{IsCount, IsNear, IsFar, AreFormulaNumbers}
 use Rattle.task_words.specs.Options.{IsNumberGiven, IsTextGiven}
-use Rattle.task_words.specs.declared.limits.TheConstants.{MAX_COUNT, MAX_DISTANCE}
-use Rattle.task_words.specs.Words.{HasNumber, IsRingName}
+use Rattle.task_words.specs.declared.limits.TheConstants.{MAX_CHANNELS, MAX_COUNT, MAX_DISTANCE, MAX_ROUNDS}
+use Rattle.task_words.specs.Words.{HasNumber, IsRingName, IsFormulaName}
 
 -- ---- the options of each command
 
@@ -25,14 +25,18 @@ is_named other name = bytes_eq name other
 abbrev pub takes_workers : Text → Bool
 takes_workers name = is_named (codes "table") name || (is_named (codes "judge") name || is_named (codes "plan") name)
 
+-- the commands on the formula of all tables
+abbrev pub takes_rounds : Text → Bool
+takes_rounds name = is_named (codes "formula") name || is_named (codes "refute") name
+
 abbrev pub takes_near : Text → Bool
-takes_near name = is_named (codes "table") name || is_named (codes "judge") name
+takes_near name = is_named (codes "table") name || (is_named (codes "judge") name || takes_rounds name)
 
 abbrev pub takes_ring : Text → Bool
 takes_ring name = is_named (codes "run") name || (is_named (codes "trace") name || is_named (codes "plan") name)
 
 abbrev pub takes_ids : Text → Bool
-takes_ids name = is_named (codes "check") name || (is_named (codes "table") name || (is_named (codes "judge") name || takes_ring name))
+takes_ids name = is_named (codes "check") name || (takes_near name || takes_ring name)
 
 -- a name that passes a test differs from one that fails it
 other_name : (test : Text → Bool) (name other : Text) → test other ≡ false → test name ≡ true → name ≡ other → ⊥
@@ -45,6 +49,11 @@ pub ring_takes : (test : Text → Bool) (name : Text) → test (codes "run") ≡
 ring_takes test name run trace plan (inl is) = ap test is ∙ run
 ring_takes test name run trace plan (inr (inl is)) = ap test is ∙ trace
 ring_takes test name run trace plan (inr (inr is)) = ap test is ∙ plan
+
+-- and so does each name of a command on the formula
+pub formula_takes : (test : Text → Bool) (name : Text) → test (codes "formula") ≡ true → test (codes "refute") ≡ true → IsFormulaName name → test name ≡ true
+formula_takes test name formula refute (inl is) = ap test is ∙ formula
+formula_takes test name formula refute (inr is) = ap test is ∙ refute
 
 ids_of_value : (values : List Row) → HasValue ids_rule values → IsNumberGiven values (codes "ids") 0 4294967295
 ids_of_value values value = (value.0, value.2, value.3)
@@ -61,6 +70,12 @@ near_of_value values value = (value.0, value.2, value.3)
 far_of_value : (values : List Row) → HasValue far_rule values → IsNumberGiven values (codes "far") 0 MAX_DISTANCE
 far_of_value values value = (value.0, value.2, value.3)
 
+rounds_of_value : (values : List Row) → HasValue rounds_rule values → IsNumberGiven values (codes "rounds") 0 MAX_ROUNDS
+rounds_of_value values value = (value.0, value.2, value.3)
+
+channels_of_value : (values : List Row) → HasValue channels_rule values → IsNumberGiven values (codes "channels") 1 MAX_CHANNELS
+channels_of_value values value = (value.0, value.2, value.3)
+
 ring_of_value : (values : List Row) → HasValue ring_rule values → IsTextGiven values (codes "ring")
 ring_of_value values value = (value.0, value.1)
 
@@ -74,7 +89,9 @@ ids_given name values (inr (inr (inr (inr (inr (inl (is, (ids, rest)))))))) take
 ids_given name values (inr (inr (inr (inr (inr (inr (inl (is, (ids, rest))))))))) takes = ids_of_value values (ids refl)
 ids_given name values (inr (inr (inr (inr (inr (inr (inr (inl (is, rest))))))))) takes = absurd (other_name takes_ids name _ refl takes is)
 ids_given name values (inr (inr (inr (inr (inr (inr (inr (inr (inl (is, rest)))))))))) takes = absurd (other_name takes_ids name _ refl takes is)
-ids_given name values (inr (inr (inr (inr (inr (inr (inr (inr (inr none))))))))) takes = absurd none
+ids_given name values (inr (inr (inr (inr (inr (inr (inr (inr (inr (inl (is, (ids, rest)))))))))))) takes = ids_of_value values (ids refl)
+ids_given name values (inr (inr (inr (inr (inr (inr (inr (inr (inr (inr (inl (is, (ids, rest))))))))))))) takes = ids_of_value values (ids refl)
+ids_given name values (inr (inr (inr (inr (inr (inr (inr (inr (inr (inr (inr none))))))))))) takes = absurd none
 
 pub workers_given : (name : Text) (values : List Row) → IsOneOf command_line.subs name values → takes_workers name ≡ true → IsNumberGiven values (codes "workers") 1 MAX_COUNT
 workers_given name values (inl (is, rest)) takes = absurd (other_name takes_workers name _ refl takes is)
@@ -86,7 +103,9 @@ workers_given name values (inr (inr (inr (inr (inr (inl (is, rest))))))) takes =
 workers_given name values (inr (inr (inr (inr (inr (inr (inl (is, (ids, (ring, (workers, rest))))))))))) takes = workers_of_value values (workers refl)
 workers_given name values (inr (inr (inr (inr (inr (inr (inr (inl (is, rest))))))))) takes = absurd (other_name takes_workers name _ refl takes is)
 workers_given name values (inr (inr (inr (inr (inr (inr (inr (inr (inl (is, rest)))))))))) takes = absurd (other_name takes_workers name _ refl takes is)
-workers_given name values (inr (inr (inr (inr (inr (inr (inr (inr (inr none))))))))) takes = absurd none
+workers_given name values (inr (inr (inr (inr (inr (inr (inr (inr (inr (inl (is, rest))))))))))) takes = absurd (other_name takes_workers name _ refl takes is)
+workers_given name values (inr (inr (inr (inr (inr (inr (inr (inr (inr (inr (inl (is, rest)))))))))))) takes = absurd (other_name takes_workers name _ refl takes is)
+workers_given name values (inr (inr (inr (inr (inr (inr (inr (inr (inr (inr (inr none))))))))))) takes = absurd none
 
 pub segments_given : (name : Text) (values : List Row) → IsOneOf command_line.subs name values → is_named (codes "run") name ≡ true
     → IsNumberGiven values (codes "segments") 1 MAX_COUNT
@@ -99,7 +118,9 @@ segments_given name values (inr (inr (inr (inr (inr (inl (is, rest))))))) takes 
 segments_given name values (inr (inr (inr (inr (inr (inr (inl (is, rest)))))))) takes = absurd (other_name (is_named (codes "run")) name _ refl takes is)
 segments_given name values (inr (inr (inr (inr (inr (inr (inr (inl (is, rest))))))))) takes = absurd (other_name (is_named (codes "run")) name _ refl takes is)
 segments_given name values (inr (inr (inr (inr (inr (inr (inr (inr (inl (is, rest)))))))))) takes = absurd (other_name (is_named (codes "run")) name _ refl takes is)
-segments_given name values (inr (inr (inr (inr (inr (inr (inr (inr (inr none))))))))) takes = absurd none
+segments_given name values (inr (inr (inr (inr (inr (inr (inr (inr (inr (inl (is, rest))))))))))) takes = absurd (other_name (is_named (codes "run")) name _ refl takes is)
+segments_given name values (inr (inr (inr (inr (inr (inr (inr (inr (inr (inr (inl (is, rest)))))))))))) takes = absurd (other_name (is_named (codes "run")) name _ refl takes is)
+segments_given name values (inr (inr (inr (inr (inr (inr (inr (inr (inr (inr (inr none))))))))))) takes = absurd none
 
 pub ring_given : (name : Text) (values : List Row) → IsOneOf command_line.subs name values → takes_ring name ≡ true → IsTextGiven values (codes "ring")
 ring_given name values (inl (is, rest)) takes = absurd (other_name takes_ring name _ refl takes is)
@@ -111,7 +132,9 @@ ring_given name values (inr (inr (inr (inr (inr (inl (is, (ids, (ring, rest)))))
 ring_given name values (inr (inr (inr (inr (inr (inr (inl (is, (ids, (ring, rest)))))))))) takes = ring_of_value values (ring refl)
 ring_given name values (inr (inr (inr (inr (inr (inr (inr (inl (is, rest))))))))) takes = absurd (other_name takes_ring name _ refl takes is)
 ring_given name values (inr (inr (inr (inr (inr (inr (inr (inr (inl (is, rest)))))))))) takes = absurd (other_name takes_ring name _ refl takes is)
-ring_given name values (inr (inr (inr (inr (inr (inr (inr (inr (inr none))))))))) takes = absurd none
+ring_given name values (inr (inr (inr (inr (inr (inr (inr (inr (inr (inl (is, rest))))))))))) takes = absurd (other_name takes_ring name _ refl takes is)
+ring_given name values (inr (inr (inr (inr (inr (inr (inr (inr (inr (inr (inl (is, rest)))))))))))) takes = absurd (other_name takes_ring name _ refl takes is)
+ring_given name values (inr (inr (inr (inr (inr (inr (inr (inr (inr (inr (inr none))))))))))) takes = absurd none
 
 pub near_given : (name : Text) (values : List Row) → IsOneOf command_line.subs name values → takes_near name ≡ true
     → IsNumberGiven values (codes "near") 1 MAX_DISTANCE
@@ -124,7 +147,9 @@ near_given name values (inr (inr (inr (inr (inr (inl (is, rest))))))) takes = ab
 near_given name values (inr (inr (inr (inr (inr (inr (inl (is, rest)))))))) takes = absurd (other_name takes_near name _ refl takes is)
 near_given name values (inr (inr (inr (inr (inr (inr (inr (inl (is, rest))))))))) takes = absurd (other_name takes_near name _ refl takes is)
 near_given name values (inr (inr (inr (inr (inr (inr (inr (inr (inl (is, rest)))))))))) takes = absurd (other_name takes_near name _ refl takes is)
-near_given name values (inr (inr (inr (inr (inr (inr (inr (inr (inr none))))))))) takes = absurd none
+near_given name values (inr (inr (inr (inr (inr (inr (inr (inr (inr (inl (is, (ids, (rounds, (channels, (near, rest))))))))))))))) takes = near_of_value values (near refl)
+near_given name values (inr (inr (inr (inr (inr (inr (inr (inr (inr (inr (inl (is, (ids, (rounds, (channels, (near, rest)))))))))))))))) takes = near_of_value values (near refl)
+near_given name values (inr (inr (inr (inr (inr (inr (inr (inr (inr (inr (inr none))))))))))) takes = absurd none
 
 pub far_given : (name : Text) (values : List Row) → IsOneOf command_line.subs name values → takes_near name ≡ true
     → IsNumberGiven values (codes "far") 0 MAX_DISTANCE
@@ -137,7 +162,39 @@ far_given name values (inr (inr (inr (inr (inr (inl (is, rest))))))) takes = abs
 far_given name values (inr (inr (inr (inr (inr (inr (inl (is, rest)))))))) takes = absurd (other_name takes_near name _ refl takes is)
 far_given name values (inr (inr (inr (inr (inr (inr (inr (inl (is, rest))))))))) takes = absurd (other_name takes_near name _ refl takes is)
 far_given name values (inr (inr (inr (inr (inr (inr (inr (inr (inl (is, rest)))))))))) takes = absurd (other_name takes_near name _ refl takes is)
-far_given name values (inr (inr (inr (inr (inr (inr (inr (inr (inr none))))))))) takes = absurd none
+far_given name values (inr (inr (inr (inr (inr (inr (inr (inr (inr (inl (is, (ids, (rounds, (channels, (near, (far, rest)))))))))))))))) takes = far_of_value values (far refl)
+far_given name values (inr (inr (inr (inr (inr (inr (inr (inr (inr (inr (inl (is, (ids, (rounds, (channels, (near, (far, rest))))))))))))))))) takes = far_of_value values (far refl)
+far_given name values (inr (inr (inr (inr (inr (inr (inr (inr (inr (inr (inr none))))))))))) takes = absurd none
+
+pub rounds_given : (name : Text) (values : List Row) → IsOneOf command_line.subs name values → takes_rounds name ≡ true
+    → IsNumberGiven values (codes "rounds") 0 MAX_ROUNDS
+rounds_given name values (inl (is, rest)) takes = absurd (other_name takes_rounds name _ refl takes is)
+rounds_given name values (inr (inl (is, rest))) takes = absurd (other_name takes_rounds name _ refl takes is)
+rounds_given name values (inr (inr (inl (is, rest)))) takes = absurd (other_name takes_rounds name _ refl takes is)
+rounds_given name values (inr (inr (inr (inl (is, rest))))) takes = absurd (other_name takes_rounds name _ refl takes is)
+rounds_given name values (inr (inr (inr (inr (inl (is, rest)))))) takes = absurd (other_name takes_rounds name _ refl takes is)
+rounds_given name values (inr (inr (inr (inr (inr (inl (is, rest))))))) takes = absurd (other_name takes_rounds name _ refl takes is)
+rounds_given name values (inr (inr (inr (inr (inr (inr (inl (is, rest)))))))) takes = absurd (other_name takes_rounds name _ refl takes is)
+rounds_given name values (inr (inr (inr (inr (inr (inr (inr (inl (is, rest))))))))) takes = absurd (other_name takes_rounds name _ refl takes is)
+rounds_given name values (inr (inr (inr (inr (inr (inr (inr (inr (inl (is, rest)))))))))) takes = absurd (other_name takes_rounds name _ refl takes is)
+rounds_given name values (inr (inr (inr (inr (inr (inr (inr (inr (inr (inl (is, (ids, (rounds, rest))))))))))))) takes = rounds_of_value values (rounds refl)
+rounds_given name values (inr (inr (inr (inr (inr (inr (inr (inr (inr (inr (inl (is, (ids, (rounds, rest)))))))))))))) takes = rounds_of_value values (rounds refl)
+rounds_given name values (inr (inr (inr (inr (inr (inr (inr (inr (inr (inr (inr none))))))))))) takes = absurd none
+
+pub channels_given : (name : Text) (values : List Row) → IsOneOf command_line.subs name values → takes_rounds name ≡ true
+    → IsNumberGiven values (codes "channels") 1 MAX_CHANNELS
+channels_given name values (inl (is, rest)) takes = absurd (other_name takes_rounds name _ refl takes is)
+channels_given name values (inr (inl (is, rest))) takes = absurd (other_name takes_rounds name _ refl takes is)
+channels_given name values (inr (inr (inl (is, rest)))) takes = absurd (other_name takes_rounds name _ refl takes is)
+channels_given name values (inr (inr (inr (inl (is, rest))))) takes = absurd (other_name takes_rounds name _ refl takes is)
+channels_given name values (inr (inr (inr (inr (inl (is, rest)))))) takes = absurd (other_name takes_rounds name _ refl takes is)
+channels_given name values (inr (inr (inr (inr (inr (inl (is, rest))))))) takes = absurd (other_name takes_rounds name _ refl takes is)
+channels_given name values (inr (inr (inr (inr (inr (inr (inl (is, rest)))))))) takes = absurd (other_name takes_rounds name _ refl takes is)
+channels_given name values (inr (inr (inr (inr (inr (inr (inr (inl (is, rest))))))))) takes = absurd (other_name takes_rounds name _ refl takes is)
+channels_given name values (inr (inr (inr (inr (inr (inr (inr (inr (inl (is, rest)))))))))) takes = absurd (other_name takes_rounds name _ refl takes is)
+channels_given name values (inr (inr (inr (inr (inr (inr (inr (inr (inr (inl (is, (ids, (rounds, (channels, rest)))))))))))))) takes = channels_of_value values (channels refl)
+channels_given name values (inr (inr (inr (inr (inr (inr (inr (inr (inr (inr (inl (is, (ids, (rounds, (channels, rest))))))))))))))) takes = channels_of_value values (channels refl)
+channels_given name values (inr (inr (inr (inr (inr (inr (inr (inr (inr (inr (inr none))))))))))) takes = absurd none
 
 -- ---- the number that a value is
 
@@ -183,6 +240,23 @@ all_in_range name values workers near far one is_filled is_judged w n f = (
   near_is values near n (near_given name values one is_judged),
   far_is values far f (far_given name values one is_judged),
 )
+
+-- the numbers of a command on the formula are in their ranges
+pub formula_in_range : (name : Text) (values : List Row) (rounds channels near far : ℕ) → IsOneOf command_line.subs name values → IsFormulaName name
+    → IsRanged values (codes "rounds") rounds → IsRanged values (codes "channels") channels → IsRanged values (codes "near") near → IsRanged values (codes "far") far
+    → AreFormulaNumbers rounds channels near far
+formula_in_range name values rounds channels near far one is r c n f =
+    let takes = formula_takes takes_rounds name refl refl is in
+    let judged = formula_takes takes_near name refl refl is in
+    let rounds_range = r 0 MAX_ROUNDS (omega arith) (rounds_given name values one takes) in
+    let channels_range = c 1 MAX_CHANNELS (omega arith) (channels_given name values one takes) in
+    record {
+      few_rounds = rounds_range.1;
+      some_channels = channels_range.0;
+      few_channels = channels_range.1;
+      near_fits = near_is values near n (near_given name values one judged);
+      far_fits = far_is values far f (far_given name values one judged);
+    }
 
 -- ---- the law at this command line
 

@@ -1,4 +1,4 @@
--- The command line of the program, as `clap` reads it: one of nine commands, then its options in any order, each with
+-- The command line of the program, as `clap` reads it: one of eleven commands, then its options in any order, each with
 -- one value.
 use Rattle.std.specs.Prelude.{◌≡◌, ℕ, List, [], ◌∷◌, ◌++◌, Some, true, false, codes, pos}
 use Rattle.clap.specs.Words.{App, Rule, Shape, new_app, new_rule, shape_of}
@@ -7,7 +7,7 @@ use Rattle.clap.specs.declared.builder.command.Command.TheViews.{out-Command}
 use Rattle.clap.specs.declared.builder.action.ArgAction.TheVariants.{Set}
 use Rattle.clap.specs.declared.builder.value_parser.ValueParser.{ValueParser}
 use Rattle.clap.specs.declared.builder.value_parser.ValueParser.TheVariants.{String, Signed}
-use Rattle.task_words.specs.declared.limits.TheConstants.{MAX_COUNT, MAX_DISTANCE}
+use Rattle.task_words.specs.declared.limits.TheConstants.{MAX_CHANNELS, MAX_COUNT, MAX_DISTANCE, MAX_ROUNDS}
 
 -- the option `--NAME`, given at most once, with one value, which has one name in the help and is accepted by this
 -- parser
@@ -50,6 +50,14 @@ near_rule = record (option_rule (codes "near") (Signed (pos 1) (pos MAX_DISTANCE
 -- `--far Q`: a number from 0 to MAX_DISTANCE, 0 by default
 abbrev pub far_rule : Rule
 far_rule = record (option_rule (codes "far") (Signed (pos 0) (pos MAX_DISTANCE))) { defaults = codes "0" ∷ [] }
+
+-- `--rounds T`: a number from 0 to MAX_ROUNDS
+abbrev pub rounds_rule : Rule
+rounds_rule = required_rule (codes "rounds") (Signed (pos 0) (pos MAX_ROUNDS))
+
+-- `--channels C`: a number from 1 to MAX_CHANNELS
+abbrev pub channels_rule : Rule
+channels_rule = required_rule (codes "channels") (Signed (pos 1) (pos MAX_CHANNELS))
 
 -- a command of this name with these options
 abbrev pub command_of : List ℕ → List Rule → Shape
@@ -95,6 +103,14 @@ audit_command = command_of (codes "audit") []
 abbrev pub migrate_command : Shape
 migrate_command = command_of (codes "migrate") []
 
+-- `formula --ids M --rounds T --channels C [--near P] [--far Q]`
+abbrev pub formula_command : Shape
+formula_command = command_of (codes "formula") (ids_rule ∷ rounds_rule ∷ channels_rule ∷ near_rule ∷ far_rule ∷ [])
+
+-- `refute --ids M --rounds T --channels C [--near P] [--far Q]`
+abbrev pub refute_command : Shape
+refute_command = command_of (codes "refute") (ids_rule ∷ rounds_rule ∷ channels_rule ∷ near_rule ∷ far_rule ∷ [])
+
 -- the program without its commands: the words are those after its name, and a command is required
 abbrev pub program : App
 program = record {
@@ -122,6 +138,14 @@ ring_commands = running_commands ++ plan_command ∷ []
 abbrev pub line_of : List Shape → App
 line_of commands = record { top = record program.top { is_leaf = false }; subs = commands }
 
--- the words after the program's name: the name of one of the nine commands, and its options
+-- the commands that read a table text
+abbrev pub table_commands : List Shape
+table_commands = audit_command ∷ migrate_command ∷ []
+
+-- the commands on the formula of all tables
+abbrev pub formula_commands : List Shape
+formula_commands = formula_command ∷ refute_command ∷ []
+
+-- the words after the program's name: the name of one of the eleven commands, and its options
 abbrev pub command_line : App
-command_line = line_of (program_commands ++ (ring_commands ++ audit_command ∷ migrate_command ∷ []))
+command_line = line_of (program_commands ++ (ring_commands ++ (table_commands ++ formula_commands)))

@@ -8,7 +8,7 @@ use Rattle.task_words.specs.CommandLine.{command_line}
 use Rattle.task_words.specs.Decimal.{IsNumber, number_in}
 use Rattle.task_words.specs.RingText.{IsRingText, ring_in}
 use Rattle.task_words.specs.declared.task.Task.{Task}
-use Rattle.task_words.specs.declared.task.Task.TheVariants.{Check, Print, Table, Judge, Run, Trace, Plan, Audit, Migrate}
+use Rattle.task_words.specs.declared.task.Task.TheVariants.{Check, Print, Table, Judge, Run, Trace, Plan, Audit, Migrate, Formula, Refute}
 
 -- `clap` accepts the words: they have no fault of any kind
 abbrev pub IsCommand : List Text → Type 0
@@ -40,6 +40,10 @@ HasRing values ring = (text : Text) × (first_of (codes "ring") values ≡ Some 
 abbrev pub IsRingName : Text → Type 0
 IsRingName name = (name ≡ codes "run") ⊎ (name ≡ codes "trace") ⊎ (name ≡ codes "plan")
 
+-- the commands on the formula of all tables
+abbrev pub IsFormulaName : Text → Type 0
+IsFormulaName name = (name ≡ codes "formula") ⊎ (name ≡ codes "refute")
+
 -- the value of `--ring` is not a ring text
 abbrev pub IsRingBad : List Row → Type 0
 IsRingBad values = (text : Text) × (first_of (codes "ring") values ≡ Some text) × ¬ IsRingText text
@@ -47,6 +51,14 @@ IsRingBad values = (text : Text) × (first_of (codes "ring") values ≡ Some tex
 -- `clap` accepts the words, and they name a command with a ring, but the value of `--ring` is not a ring text
 abbrev pub HasBadRing : List Text → Type 0
 HasBadRing words = IsCommand words × (name : Text) × (values : List Row) × IsCallOf words name values × IsRingName name × IsRingBad values
+
+-- the values of the options of a formula are these numbers
+pub record HasFormulaNumbers (values : List Row) (ids rounds channels near far : ℕ) : Type 0 where
+  pub ids_is : HasNumber values (codes "ids") ids
+  pub rounds_is : HasNumber values (codes "rounds") rounds
+  pub channels_is : HasNumber values (codes "channels") channels
+  pub near_is : HasNumber values (codes "near") near
+  pub far_is : HasNumber values (codes "far") far
 
 -- the task of the command with this name and these values of its options
 abbrev pub IsTaskFor : Text → List Row → Task → Type 0
@@ -65,6 +77,8 @@ IsTaskFor name values (Plan ids ring workers) = (name ≡ codes "plan") × HasNu
     × HasRing values ring.items × HasNumber values (codes "workers") workers
 IsTaskFor name values Audit = name ≡ codes "audit"
 IsTaskFor name values Migrate = name ≡ codes "migrate"
+IsTaskFor name values (Formula ids rounds channels near far) = (name ≡ codes "formula") × HasFormulaNumbers values ids rounds channels near far
+IsTaskFor name values (Refute ids rounds channels near far) = (name ≡ codes "refute") × HasFormulaNumbers values ids rounds channels near far
 
 -- the task that the words request
 abbrev pub IsTaskOf : List Text → Task → Type 0

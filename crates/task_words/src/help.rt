@@ -62,9 +62,18 @@ pub(crate) const AUDIT: &str =
 
 pub(crate) const MIGRATE: &str = "Prints a table text of any version in the newest one";
 
+pub(crate) const FORMULA: &str =
+    "Prints the formula that asks for a table of some size, for a SAT solver";
+
+pub(crate) const REFUTE: &str = "Checks a solver's refutation: there is no table of this size";
+
 pub(crate) const IDS: &str = "How many identifiers there are; they are 0 to M-1";
 
 pub(crate) const RING: &str = "The ring's identifiers, each followed by its right neighbour's";
+
+pub(crate) const ROUNDS: &str = "How many rounds nodes communicate, 0 to 4";
+
+pub(crate) const CHANNELS: &str = "How many channels there are, 1 to 4096; they are 0 to C-1";
 
 pub(crate) const WORKERS: &str = "How many threads work on the table, 1 to 64";
 
@@ -220,3 +229,35 @@ Exit status:
   3  the table text is refused
   5  reading or writing failed
   6  memory was refused";
+
+/// The input, output and exit statuses of `formula`.
+pub(crate) const FORMULA_DETAILS: &str = "Standard input:  nothing is read
+Standard output: the formula in DIMACS, as SAT solvers read it, or one line: what is refused
+
+The formula has a variable for each window of 2T+1 identifiers and each channel: w*C+c+1 says that
+window number w has channel c. Exactly if values make it true, there is a table of M identifiers, T
+rounds and C channels whose channels are far enough apart on every ring. It has at most 4194304
+variables and 16777216 clauses.
+
+Exit status:
+  0  the formula is printed
+  2  the words are refused
+  5  writing failed
+  6  memory was refused
+  7  there is no such formula, or it is too large";
+
+/// The input, output and exit statuses of `refute`.
+pub(crate) const REFUTE_DETAILS: &str =
+    "Standard input:  a refutation of the formula that `nbhd formula` prints, in LRAT
+Standard output: one line: refuted, or what is refused
+
+Refuted means: no table of M identifiers, T rounds and at most C channels keeps channels far enough
+apart on every ring, so no program with T rounds does. Each step of the refutation is checked.
+
+Exit status:
+  0  refuted
+  2  the words are refused
+  3  the text is no refutation
+  5  reading or writing failed
+  6  memory was refused
+  7  there is no such formula, or it is too large";

@@ -4,5 +4,11 @@
 /// request.
 pub const MAX_COUNT: u32 = node_program::MAX_THREADS;
 
+/// The maximum number of rounds that the words can request.
+pub const MAX_ROUNDS: u32 = node_program::MAX_ROUNDS;
+
+/// The maximum number of channels that the words can request.
+pub const MAX_CHANNELS: u32 = node_program::MAX_CHANNELS;
+
 /// The largest difference of channels that the words can request.
 pub const MAX_DISTANCE: u32 = node_program::MAX_CHANNELS;

@@ -7,7 +7,7 @@ ghost use Rattle.task_words.specs.CommandLine.{command_line};
 ghost use Rattle.task_words.specs.Counts.{IsCount};
 ghost use Rattle.task_words.specs.Options.{IsNumberGiven, IsSomeNumberGiven, IsTextGiven};
 ghost use Rattle.task_words.specs.Task.{IsInRange, IsRunnable, segments_of};
-ghost use Rattle.task_words.specs.Words.{HasNumber, HasRing, IsRingBad, IsRingName, IsTaskFor};
+ghost use Rattle.task_words.specs.Words.{HasNumber, HasRing, IsFormulaName, IsRingBad, IsRingName, IsTaskFor};
 ghost use Rattle.task_words.specs.declared.words.WordsFault.TheVariants.{BadRing, OutOfMemory};
 
 use crate::ring_text::ring_of;
@@ -97,6 +97,38 @@ fn ringless_task(name: &str, options: &ArgMatches<'_>) -> Task
         },
         "audit" => Task::Audit,
         "migrate" => Task::Migrate,
+        _ => formula_task(name, options),
+    }
+}
+
+// Returns the task of a command on the formula of all tables.
+fn formula_task(name: &str, options: &ArgMatches<'_>) -> Task
+    requires one { IsOneOf command_line.subs name.now (rows_of (found_of options.now)) }
+    requires name { IsFormulaName name.now }
+    ensures task { IsTaskFor name.now (rows_of (found_of options.now)) result }
+    ensures runnable { IsRunnable result }
+    ensures segments { IsCount (segments_of result) }
+{
+    let ids = number_in(options, "ids");
+    let rounds = number_in(options, "rounds");
+    let channels = number_in(options, "channels");
+    let near = number_in(options, "near");
+    let far = number_in(options, "far");
+    match name {
+        "formula" => Task::Formula {
+            ids,
+            rounds,
+            channels,
+            near,
+            far,
+        },
+        "refute" => Task::Refute {
+            ids,
+            rounds,
+            channels,
+            near,
+            far,
+        },
         _ => unreachable!(),
     }
 }

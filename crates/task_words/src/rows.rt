@@ -1,7 +1,7 @@
 //! The commands and their options, in tables.
 
 use crate::help;
-use crate::limits::{MAX_COUNT, MAX_DISTANCE};
+use crate::limits::{MAX_CHANNELS, MAX_COUNT, MAX_DISTANCE, MAX_ROUNDS};
 
 // The values that an option takes.
 #[derive(Clone, Copy)]
@@ -82,8 +82,24 @@ const FAR: OptionRow = OptionRow {
     default: Some("0"),
 };
 
+const ROUNDS: OptionRow = OptionRow {
+    name: "rounds",
+    value_name: "T",
+    help: help::ROUNDS,
+    values: Values::Numbers(0, MAX_ROUNDS),
+    default: None,
+};
+
+const CHANNELS: OptionRow = OptionRow {
+    name: "channels",
+    value_name: "C",
+    help: help::CHANNELS,
+    values: Values::Numbers(1, MAX_CHANNELS),
+    default: None,
+};
+
 // The commands, in the order of the help of the program.
-pub(crate) const COMMANDS: [CommandRow; 9] = [
+pub(crate) const COMMANDS: [CommandRow; 11] = [
     // `check --ids M`
     CommandRow {
         name: "check",
@@ -146,5 +162,19 @@ pub(crate) const COMMANDS: [CommandRow; 9] = [
         about: help::MIGRATE,
         details: help::MIGRATE_DETAILS,
         options: &[],
+    },
+    // `formula --ids M --rounds T --channels C [--near P] [--far Q]`
+    CommandRow {
+        name: "formula",
+        about: help::FORMULA,
+        details: help::FORMULA_DETAILS,
+        options: &[IDS, ROUNDS, CHANNELS, NEAR, FAR],
+    },
+    // `refute --ids M --rounds T --channels C [--near P] [--far Q]`
+    CommandRow {
+        name: "refute",
+        about: help::REFUTE,
+        details: help::REFUTE_DETAILS,
+        options: &[IDS, ROUNDS, CHANNELS, NEAR, FAR],
     },
 ];

@@ -1,9 +1,9 @@
 //! The tasks of the program.
 
 ghost use Rattle.std.specs.Prelude.{◌↔◌, IsTrue};
-ghost use Rattle.task_words.specs.Counts.{IsCount, IsNear};
+ghost use Rattle.task_words.specs.Counts.{IsCount, IsNear, AreFormulaNumbers};
 
-use crate::limits::{MAX_COUNT, MAX_DISTANCE};
+use crate::limits::{MAX_CHANNELS, MAX_COUNT, MAX_DISTANCE, MAX_ROUNDS};
 
 /// A task that the words of a command request.
 #[derive(Drop)]
@@ -72,6 +72,33 @@ pub enum Task {
     Audit,
     /// Writes the table and the separation of the table text of the input in the newest version.
     Migrate,
+    /// Prints the formula that asks for a table of this many identifiers, rounds and channels that
+    /// keeps a separation, in DIMACS. Reads no input.
+    Formula {
+        /// The number of identifiers.
+        ids: u32,
+        /// The number of rounds, at most `MAX_ROUNDS`.
+        rounds: u32,
+        /// The number of channels, 1 to `MAX_CHANNELS`.
+        channels: u32,
+        /// The minimum difference of neighbours' channels, 1 to `MAX_DISTANCE`.
+        near: u32,
+        /// The minimum difference of the channels of places at distance two, 0 to `MAX_DISTANCE`.
+        far: u32,
+    },
+    /// Checks whether the text of the input refutes that formula, so that there is no such table.
+    Refute {
+        /// The number of identifiers.
+        ids: u32,
+        /// The number of rounds, at most `MAX_ROUNDS`.
+        rounds: u32,
+        /// The number of channels, 1 to `MAX_CHANNELS`.
+        channels: u32,
+        /// The minimum difference of neighbours' channels, 1 to `MAX_DISTANCE`.
+        near: u32,
+        /// The minimum difference of the channels of places at distance two, 0 to `MAX_DISTANCE`.
+        far: u32,
+    },
 }
 
 impl Task {
@@ -79,8 +106,9 @@ impl Task {
     ghost use Rattle.task_words.specs.Task.{IsRunnable, segments_of};
 
     /// Returns whether the task can be done: its number of workers, if it has one, is 1 to
-    /// `MAX_COUNT`, and its minimum differences of channels, if it has any, are at most
-    /// `MAX_DISTANCE`, and at least 1 for neighbours.
+    /// `MAX_COUNT`, its minimum differences of channels, if it has any, are at most `MAX_DISTANCE`,
+    /// and at least 1 for neighbours, and the numbers of rounds and of channels of a formula are at
+    /// most `MAX_ROUNDS` and 1 to `MAX_CHANNELS`.
     pub fn is_runnable(&self) -> bool
         ensures { IsTrue result ↔ IsRunnable self.now }
     {
@@ -112,6 +140,20 @@ impl Task {
                 ring: _,
                 workers,
             } => is_count(*workers),
+            Task::Formula {
+                ids: _,
+                rounds,
+                channels,
+                near,
+                far,
+            }
+            | Task::Refute {
+                ids: _,
+                rounds,
+                channels,
+                near,
+                far,
+            } => are_formula_numbers(*rounds, *channels, *near, *far),
         }
     }
 
@@ -135,6 +177,18 @@ fn is_count(count: u32) -> bool
     ensures { IsTrue result ↔ IsCount count }
 {
     1 <= count && count <= MAX_COUNT
+}
+
+// Returns whether the words can request the formula with these numbers of rounds and channels and
+// these minimum differences of channels.
+fn are_formula_numbers(rounds: u32, channels: u32, near: u32, far: u32) -> bool
+    ensures { IsTrue result ↔ AreFormulaNumbers rounds channels near far }
+{
+    rounds <= MAX_ROUNDS
+        && 1 <= channels
+        && channels <= MAX_CHANNELS
+        && is_near(near)
+        && far <= MAX_DISTANCE
 }
 
 // Returns whether the words can request this minimum difference of neighbours' channels.

@@ -98,10 +98,13 @@ pub fn words_fault(alloc: Global, error: io::Error) -> Result<WordsFault, AllocE
 /// - `plan --ids M --ring A,B,.. [--workers W]`
 /// - `audit`
 /// - `migrate`
+/// - `formula --ids M --rounds T --channels C [--near P] [--far Q]`
+/// - `refute --ids M --rounds T --channels C [--near P] [--far Q]`
 ///
 /// `M` is a decimal number up to 4294967295. `W` and `S` are such numbers from 1 to `MAX_COUNT`, 1
 /// by default. `P` is one from 1 to `MAX_DISTANCE`, 1 by default, and `Q` one from 0 to
-/// `MAX_DISTANCE`, 0 by default. The value of `--ring` is a ring text.
+/// `MAX_DISTANCE`, 0 by default. `T` is one up to `MAX_ROUNDS`, and `C` one from 1 to `MAX_CHANNELS`.
+/// The value of `--ring` is a ring text.
 ///
 /// Fails with `Usage` if `clap` refuses the words, with `BadRing` if it accepts them but the value
 /// of `--ring` is not a ring text, with `Help` if they ask for help, and with `OutOfMemory` if

@@ -6,7 +6,7 @@ abbrev pub invariant-reads : goal.invariant-reads
 invariant-reads g l = record {
   taken : Consumes (g.R.Read.remaining l.initial.reader.device) (g.R.Read.remaining l.reader.device) l.input.items;
   turns : l._turn ≤ length l.input.items;
-  bounded : length l.input.items ≤ l.limit + 1;
+  bounded : length l.input.items ≤ l.most;
   working : l.reader.failed ≡ false;
   asked : l.reader.calls ≤ l.initial.reader.calls + l._turn;
 }

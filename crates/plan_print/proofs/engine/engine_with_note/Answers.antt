@@ -5,7 +5,7 @@ use Rattle.devices.specs.Watched.{device_of}
 use Rattle.reports.specs.Answers.{report_in}
 use Rattle.reports.specs.Causes.{Reason, reason_in}
 use Rattle.reports.specs.Notes.{IsNoteOn, IsFound}
-use Rattle.plan_print.specs.Engine.{limit_of}
+use Rattle.plan_print.specs.Engine.{max_read}
 use Rattle.plan_print.specs.TaskReport.{IsReport}
 use Rattle.plan_print.proofs.Found.{found}
 use Rattle.plan_print.proofs.engine.engine_with_note.Goals as goal
@@ -15,7 +15,7 @@ pub returns-clause-report : goal.returns-clause-report
 returns-clause-report g c =
     let input : List ℕ = c.in_ok-input.input.items in
     let report = report_in c.in_ok-answer.answer in
-    let read : GivesInput (g.R.Read.remaining (device_of c.args.reader.now)) (g.R.Read.remaining (device_of c.read_input.new.reader)) (limit_of c.args.task) input = search rules in
+    let read : GivesInput (g.R.Read.remaining (device_of c.args.reader.now)) (g.R.Read.remaining (device_of c.read_input.new.reader)) (max_read c.args.task) input = search rules in
     let note = subst (λ (input : List ℕ). IsNoteOn input (reason_in c.in_ok-status.cause) c.note_of-note.result) c.deref-2.ensures.value c.note_of-note.ensures in
     record {
       report = record {
@@ -33,6 +33,6 @@ returns-clause-report g c =
 pub note_of-note-requires : goal.note_of-note-requires
 note_of-note-requires g c =
     let report = report_in c.in_ok-answer.answer in
-    let is = found c.one_witness.ensures.places c.args.task c.deref.result.now report c.in_ok-answer.ensures.report in
+    let is = found c.one_witness.ensures.places c.args.task c.requires.runnable c.deref.result.now report c.in_ok-answer.ensures.report in
     subst (λ (cause : Option Reason). IfSome cause (IsFound c.deref-2.result.now)) (sym c.in_ok-status.ensures.report.2)
     (subst (λ (input : List ℕ). IfSome report.cause (IsFound input)) (c.deref.ensures.value ∙ sym c.deref-2.ensures.value) is)

@@ -14,11 +14,11 @@ returns-in-Ok-clause-report g c =
     let reads : Reads c.args.input.now p = search rules in
     let accepted : IsAccepted c.ids_of.result p = search rules in
     IfOk-weaker c.program_answer.result _ _
-    (λ r said. as_report c.args.task c.ids_of.result c.args.input.now (report_in r) c.requires.no_print c.requires.no_audit c.requires.no_migrate c.ids_of.ensures
+    (λ r said. as_report c.args.task c.ids_of.result c.args.input.now (report_in r) c.requires.on_program c.ids_of.ensures
     (answered p reads accepted (rw ids at said))) c.program_answer.ensures.answer
 
 pub returns-in-Err-clause-report : goal.returns-in-Err-clause-report
 returns-in-Err-clause-report g c =
     let refused : IsProgramRefusal c.ids_of.result c.args.input.now (report_in c.in-Err.refusal) = rw c.in-Err.is at c.in_ok-plan.ensures.refusal in
-    as_report c.args.task c.ids_of.result c.args.input.now (report_in c.in-Err.refusal) c.requires.no_print c.requires.no_audit c.requires.no_migrate c.ids_of.ensures
+    as_report c.args.task c.ids_of.result c.args.input.now (report_in c.in-Err.refusal) c.requires.on_program c.ids_of.ensures
     (program_refused refused)

@@ -1,32 +1,33 @@
-use Rattle.std.proofs.Common.{◌<◌, ◌||◌, ap, sym, ◌∙◌, subst, IfSome, Option, Some}
+use Rattle.std.proofs.Common.{◌<◌, ◌||◌, ap, sym, ◌∙◌, subst, Some}
 use Rattle.clause_check.specs.Clauses.{is_same}
 use Rattle.clause_check.specs.Marked.{is_marked, variables_of, IsOneBelow}
 use Rattle.clause_check.specs.declared.literal.Literal.{Literal}
 use Rattle.clause_check.specs.declared.marks.Remaining.{Remaining}
-use Rattle.refutation.specs.Stored.{clause_at}
+use Rattle.refutation.specs.Stored.{clause_of}
 use Rattle.refutation.proofs.HintSteps.{at_nothing, at_one}
 use Rattle.refutation.proofs.hints.outcome_of_hints.Goals as goal
 
 pub returns-in-Nothing-clause-value : goal.returns-in-Nothing-clause-value
 returns-in-Nothing-clause-value c =
     c.at_conflict.ensures
-    ∙ at_nothing (clause_at c.args.formula.now c.args.added.now) c.args.hints.now (is_marked c.loop-i.marks) c.loop-i.i c.loop-i-test.true
-    (ap Some (sym c.in-Nothing.is) ∙ sym c.in-Some.is ∙ c.in_ok-remaining.ensures.value)
+    ∙ at_nothing (clause_of c.args.clauses.now) c.args.hints.now (is_marked c.loop-i.marks) c.loop-i.i c.loop-i-test.true
+    (ap Some (sym c.in-Nothing.is) ∙ c.in-Some.ensures.value)
     ∙ c.loop-i.invariant.value
 
 pub mark-requires : goal.mark-requires
 mark-requires c =
     let n = variables_of c.loop-i.marks in
-    let below : c.in-One.l.variable < n = subst (λ (o : Option Remaining). IfSome o (IsOneBelow n)) (c.in-Some.is ∙ ap Some c.in-One.is) c.in_ok-remaining.ensures.below in
+    let below : c.in-One.l.variable < n = subst (λ (r : Remaining). IsOneBelow n r) c.in-One.is c.in-Some.ensures.below in
     subst (λ (l : Literal). l.variable < n) (sym c.negation.ensures) below
 
 pub loop-i-preserved : goal.loop-i-preserved
 loop-i-preserved c = record {
   value =
-      at_one (clause_at c.args.formula.now c.args.added.now) c.args.hints.now (is_marked c.loop-i.marks) c.loop-i.i c.in-One.l (is_marked c.mark.new.self)
+      at_one (clause_of c.args.clauses.now) c.args.hints.now (is_marked c.loop-i.marks) c.loop-i.i c.in-One.l (is_marked c.mark.new.self)
       c.loop-i-test.true
-      (ap Some (sym c.in-One.is) ∙ sym c.in-Some.is ∙ c.in_ok-remaining.ensures.value)
+      (ap Some (sym c.in-One.is) ∙ c.in-Some.ensures.value)
       (λ k. c.mark.ensures.marked k ∙ ap (λ (l : Literal). is_marked c.loop-i.marks k || is_same k l) c.negation.ensures)
       ∙ c.loop-i.invariant.value;
   variables = c.mark.ensures.variables ∙ c.loop-i.invariant.variables;
+  room = c.remaining.ensures.room ∙ c.loop-i.invariant.room;
 }

@@ -1,12 +1,12 @@
-use Rattle.std.proofs.Common.{◌≡◌, drop, map}
+use Rattle.std.proofs.Common.{◌≡◌, drop, map, length}
 use Rattle.clause_check.specs.Hints.{outcome_of}
 use Rattle.clause_check.specs.Marked.{is_marked, variables_of}
-use Rattle.refutation.specs.Stored.{clause_at}
+use Rattle.refutation.specs.Stored.{clause_of}
 use Rattle.refutation.proofs.hints.outcome_of_hints.Given as goal
 
 abbrev pub invariant-loop-i : goal.invariant-loop-i
 invariant-loop-i l = record {
-  value : outcome_of (is_marked l.marks) (map (clause_at l.formula l.added) (drop l.i l.hints))
-      ≡ outcome_of (is_marked l.fn.marks) (map (clause_at l.formula l.added) l.hints);
+  value : outcome_of (is_marked l.marks) (map (clause_of l.clauses) (drop l.i l.hints)) ≡ outcome_of (is_marked l.fn.marks) (map (clause_of l.clauses) l.hints);
   variables : variables_of l.marks ≡ variables_of l.fn.marks;
+  room : length l.room ≡ length l.fn.room;
 }

@@ -6,13 +6,15 @@ use Rattle.std.proofs.KnownBytes.{Appends-nil}
 use Rattle.devices.specs.Watched.{device_of}
 use Rattle.win_index.specs.Windows.{windows}
 use Rattle.channel_tables.specs.Tables.{windows_of}
-use Rattle.table_text.specs.declared.limits.TheConstants.{CHUNK_LEN}
+use Rattle.devices.specs.declared.chunk.TheConstants.{CHUNK_LEN}
 use Rattle.table_text.specs.declared.version.Version.TheVariants.{Two}
 use Rattle.table_text.specs.declared.writing.TheConstants.{LINE_LEN}
 use Rattle.table_text.specs.TableText.{written, lines_then, entry_then}
-use Rattle.table_text.specs.Pieces.{held, id_text, channel_text, IsWrittenSoFar}
+use Rattle.table_text.specs.Pieces.{id_text, channel_text}
 use Rattle.table_text.proofs.WrittenLines.{front_more, lines_front, line_of_run, last_within, prefix_short, prefix_size}
-use Rattle.table_text.proofs.WrittenChunks.{tells_more, tells_front, on_err}
+use Rattle.devices.specs.Output.{IsWrittenSoFar}
+use Rattle.devices.proofs.Known.{on_err}
+use Rattle.devices.proofs.WrittenChunks.{tells_more, tells_moved, tells_front}
 use Rattle.table_text.proofs.writing.write_entries.Goals as goal
 
 le_same : {a b : ℕ} → a ≡ b → a ≤ b
@@ -107,11 +109,11 @@ loop-number-preserved g c =
     let window = c.loop-number.window in
     let channel = c.entry.result in
     let line = entry_then window channel [] in
-    let stored : held c.store_entry.new.chunk ≡ held c.flush_if_full.new.chunk ++ line =
-    c.store_entry.ensures ∙ ap (λ text. held c.flush_if_full.new.chunk ++ text)
+    let stored : c.store_entry.new.chunk ≡ c.make_room.new.self ++ line =
+    c.store_entry.ensures ∙ ap (λ text. c.make_room.new.self ++ text)
     ((λ i. inv.prefix i ++ (id_text (get_or window (2 * level i) 0) ++ channel_text channel)) ∙ line_of_run (2 * t.rounds) window channel inv.window.size) in
-    let before = c.in_ok-flush_if_full.ensures.ok _ _ inv.told in
-    let more = tells_more _ _ _ (held c.store_entry.new.chunk) line _ before stored in
+    let before = tells_moved _ _ _ _ _ _ inv.told c.in_ok-make_room.ensures.ok in
+    let more = tells_more _ _ _ c.store_entry.new.chunk line _ before stored in
     let own : n < length t.entries = rw shape.table.size within in
     let lines = front_more t c.args.separation n c.entry.result window _ line own (inv.next within) refl c.entry.ensures.value refl in
     let next = rw (shape.rounds, shape.ids) at c.advance.ensures.next in
@@ -122,11 +124,11 @@ loop-number-preserved g c =
       window = advanced;
       prefix = prefix;
       working = search rules;
-      told = subst (IsWrittenSoFar _ _ (held c.store_entry.new.chunk)) lines more;
+      told = subst (IsWrittenSoFar _ _ c.store_entry.new.chunk) lines more;
     }
 
 pub returns-clause-room : goal.returns-clause-room
-returns-clause-room g c = on_ok_weaker c.flush_if_full-2.result (room_left c.flush_if_full-2.new.chunk.filled) c.flush_if_full-2.ensures.room
+returns-clause-room g c = on_ok_weaker c.make_room-2.result (room_left (length c.make_room-2.new.self)) c.make_room-2.ensures.room
 
 pub returns-clause-ok : goal.returns-clause-ok
 returns-clause-ok g c =
@@ -137,19 +139,19 @@ returns-clause-ok g c =
     (c.count-count.ensures.value ∙ (λ i. length (windows (2 * level_is i + 1) (shape.ids i)))) shape.table.size in
     let told = subst
     (λ (entries : List ℕ).
-    IsWrittenSoFar (g.W.Write.contents (device_of c.args.writer.now)) (g.W.Write.contents (device_of c.loop-number.writer)) (held c.loop-number.chunk)
+    IsWrittenSoFar (g.W.Write.contents (device_of c.args.writer.now)) (g.W.Write.contents (device_of c.loop-number.writer)) c.loop-number.chunk
     (lines_then (written Two (record t { entries = entries }) c.args.separation) []))
     (take_all c.loop-number.number t.entries all) c.loop-number.invariant.told in
-    on_ok_weaker c.flush_if_full-2.result (λ more. more _ _ told) c.flush_if_full-2.ensures.ok
+    on_ok_weaker c.make_room-2.result (λ moved. tells_moved _ _ _ _ _ _ told moved) c.make_room-2.ensures.ok
 
-pub returns-in_err-flush_if_full-clause-err : goal.returns-in_err-flush_if_full-clause-err
-returns-in_err-flush_if_full-clause-err g c =
+pub returns-in_err-make_room-clause-err : goal.returns-in_err-make_room-clause-err
+returns-in_err-make_room-clause-err g c =
     let t = c.args.table.now in
     let front = lines_front t c.args.separation c.loop-number.number (le_same c.shape-shape.ensures.table.size) in
-    on_err c.from_residual.result (tells_front _ _ _ _ _ _ front.0 c.loop-number.invariant.told c.in_err-flush_if_full.ensures.err front.1)
+    on_err c.from_residual.result (tells_front _ _ _ _ _ _ front.0 c.loop-number.invariant.told c.in_err-make_room.ensures.err front.1)
 
 pub returns-clause-err : goal.returns-clause-err
 returns-clause-err g c =
     let t = c.args.table.now in
     let front = lines_front t c.args.separation c.loop-number.number (le_same c.shape-shape.ensures.table.size) in
-    on_err_weaker c.flush_if_full-2.result (λ failed. tells_front _ _ _ _ _ _ front.0 c.loop-number.invariant.told failed front.1) c.flush_if_full-2.ensures.err
+    on_err_weaker c.make_room-2.result (λ failed. tells_front _ _ _ _ _ _ front.0 c.loop-number.invariant.told failed front.1) c.make_room-2.ensures.err

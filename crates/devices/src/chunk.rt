@@ -1,0 +1,118 @@
+//! A buffer that collects bytes, so that they are written in large pieces.
+
+ghost use Rattle.std.specs.Prelude.{◌≡◌, ◌+◌, ◌≤◌, ◌++◌, ◌↔◌, ℕ, [], false, IsTrue, length, take, IfOk, IfErr, OnOk, OnErr, IsErrOf};
+ghost use Rattle.std.specs.Io.KnownBytes.{Appends};
+ghost use Rattle.devices.specs.Output.{AppendsFront, IsWrittenSoFar};
+ghost use Rattle.devices.specs.Watched.{device_of, has_failed};
+
+use crate::fault::EngineFault;
+use crate::output::send;
+use crate::watched::Watched;
+use std::alloc::{AllocError, Global};
+use std::io::Write;
+use std::marker::Model;
+
+/// The maximum number of bytes that a chunk holds.
+pub const CHUNK_LEN: usize = 1 << 16;
+
+/// A buffer of at most `CHUNK_LEN` bytes that wait to be written. Contracts see it as the list of
+/// these bytes.
+#[derive(Drop)]
+pub struct Chunk {
+    bytes: Vec<u8>,
+    filled: usize,
+}
+
+impl Model for Chunk {
+    ghost use Rattle.std.specs.Prelude.{◌≡◌, ◌≤◌, ℕ, List, length, take};
+    ghost use Rattle.devices.specs.declared.chunk.TheConstants.{CHUNK_LEN};
+
+    ghost Value = { List ℕ };
+
+    ghost view = { λ chunk. take chunk.filled chunk.bytes.items };
+
+    ghost invariant = { λ chunk. (length chunk.bytes.items ≡ CHUNK_LEN) × (chunk.filled ≤ CHUNK_LEN) };
+}
+
+impl Chunk {
+    /// Allocates an empty chunk.
+    pub fn new(alloc: Global) -> Result<Chunk, AllocError>
+        ensures { IfOk result (λ chunk. chunk ≡ []) }
+    {
+        let bytes = vec![in alloc; 0; CHUNK_LEN]?;
+        Ok(Chunk { bytes, filled: 0 })
+    }
+
+    /// Appends all bytes of `text`.
+    pub fn push(&mut self, text: &[u8])
+        requires { length self.old + length text.now ≤ CHUNK_LEN }
+        ensures { self.new ≡ self.old ++ text.now }
+    {
+        self.push_prefix(text, text.len());
+    }
+
+    /// Appends the first `len` bytes of `text`. There must be space for all bytes of `text`, so that
+    /// a short text in a buffer of fixed length can be copied whole.
+    pub fn push_prefix(&mut self, text: &[u8], len: usize)
+        requires len { len ≤ length text.now }
+        requires room { length self.old + length text.now ≤ CHUNK_LEN }
+        ensures { self.new ≡ self.old ++ take len text.now }
+    {
+        write_at(&mut self.bytes, self.filled, text);
+        self.filled += len;
+    }
+
+    /// Writes the contents and empties the chunk.
+    ///
+    /// Fails with `Write` exactly if a write failed or took no byte; a prefix of the contents was
+    /// then written, and the chunk is unchanged.
+    pub fn send<W: Write>(&mut self, writer: &mut Watched<W>) -> Result<(), EngineFault>
+        requires { has_failed writer.old ≡ false }
+        ensures ok { OnOk result (Appends (W.contents (device_of writer.old))
+            (W.contents (device_of writer.new)) self.old) }
+        ensures empty { OnOk result (self.new ≡ []) }
+        ensures err { OnErr result (AppendsFront (W.contents (device_of writer.old))
+            (W.contents (device_of writer.new)) self.old) }
+        ensures kept { OnErr result (self.new ≡ self.old) }
+        ensures fault { IfErr result (λ fault. fault ≡ EngineFault.Write) }
+        ensures failed { IsErrOf result EngineFault.Write ↔ IsTrue (has_failed writer.new) }
+    {
+        let filled = self.filled;
+        send(writer, &self.bytes[..filled])?;
+        self.filled = 0;
+        Ok(())
+    }
+
+    /// Makes space for `room` more bytes: if there is less, writes the contents and empties the
+    /// chunk, as `send` does, with the same fault.
+    pub fn make_room<W: Write>(
+        &mut self,
+        room: usize,
+        writer: &mut Watched<W>,
+    ) -> Result<(), EngineFault>
+        requires short { room ≤ CHUNK_LEN }
+        requires working { has_failed writer.old ≡ false }
+        ensures ok { OnOk result (IsWrittenSoFar (W.contents (device_of writer.old))
+            (W.contents (device_of writer.new)) self.new self.old) }
+        ensures room { OnOk result (length self.new + room ≤ CHUNK_LEN) }
+        ensures err { OnErr result (AppendsFront (W.contents (device_of writer.old))
+            (W.contents (device_of writer.new)) self.old) }
+        ensures kept { OnErr result (self.new ≡ self.old) }
+        ensures fault { IfErr result (λ fault. fault ≡ EngineFault.Write) }
+        ensures failed { IsErrOf result EngineFault.Write ↔ IsTrue (has_failed writer.new) }
+    {
+        if CHUNK_LEN - self.filled < room {
+            self.send(writer)?;
+        }
+        Ok(())
+    }
+}
+
+/// Copies a text over the bytes from index `start` on.
+pub fn write_at(bytes: &mut [u8], start: usize, text: &[u8])
+    requires room { start + length text.now ≤ length bytes.old }
+    ensures len { length bytes.new ≡ length bytes.old }
+    ensures fronts { (n : ℕ) → n ≤ length text.now → take (start + n) bytes.new ≡ take start bytes.old ++ take n text.now }
+{
+    bytes[start..start + text.len()].copy_from_slice(text);
+}

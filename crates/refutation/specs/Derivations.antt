@@ -1,0 +1,80 @@
+-- Derivations: the clauses that the hints of a step can name, and what a line does to them.
+use Rattle.std.specs.Prelude.{◌==◌, ℕ, ◌-◌, Bool, true, false, List, [], ◌∷◌, Option, None, Some, map, length, nat_le, nat_lt, slice_get, if◌then◌else◌}
+use Rattle.std.specs.List.{list_all, list_any}
+use Rattle.clause_check.specs.Hints.{step_outcome}
+use Rattle.clause_check.specs.declared.literal.Literal.{Literal}
+use Rattle.clause_check.specs.declared.outcome.Outcome.{Outcome}
+use Rattle.clause_check.specs.declared.outcome.Outcome.TheVariants as outcome
+use Rattle.table_formula.specs.Problems.{Problem}
+use Rattle.table_formula.specs.Formula.{variable_count, formula}
+use Rattle.refutation.specs.declared.fault.LineFault.{LineFault}
+use Rattle.refutation.specs.declared.fault.LineFault.TheVariants as fault
+use Rattle.refutation.specs.Lines.{Line, Comment, Deletion, Addition}
+
+-- which clause each number names, and the number of the newest clause
+pub record Derivation : Type 0 where
+  pub clauses : ℕ → Option (List Literal)
+  pub newest : ℕ
+
+-- the clauses of the formula, numbered from 1 on
+abbrev pub opening : Problem → Derivation
+opening p = record {
+  clauses = λ number. if number == 0 then None else slice_get (formula p) (number - 1);
+  newest = length (formula p);
+}
+
+-- these numbers name no clause any more
+abbrev pub without : Derivation → List ℕ → Derivation
+without d numbers = record {
+  clauses = λ number. if list_any (λ deleted. deleted == number) numbers then None else d.clauses number;
+  newest = d.newest;
+}
+
+-- one more clause, which is the newest one
+abbrev pub with_clause : Derivation → ℕ → List Literal → Derivation
+with_clause d added clause = record {
+  clauses = λ number. if number == added then Some clause else d.clauses number;
+  newest = added;
+}
+
+-- whether all variables of a clause are variables of the formula
+abbrev pub is_known : Problem → List Literal → Bool
+is_known p clause = list_all (λ l. nat_lt l.variable (variable_count p)) clause
+
+-- what is wrong with hints that show this of a clause
+abbrev pub hints_fault : Outcome → Option LineFault
+hints_fault outcome.Follows = None
+hints_fault outcome.UnknownHint = Some fault.UnknownHint
+hints_fault outcome.HintNotUnit = Some fault.HintNotUnit
+hints_fault outcome.NoConflict = Some fault.NoConflict
+
+-- what is wrong with the step that adds a clause: its number, else its variables, else its hints
+abbrev pub step_fault : Problem → Derivation → ℕ → List Literal → List ℕ → Option LineFault
+step_fault p d number clause hints =
+    if nat_le number d.newest then Some fault.NumberNotAscending
+    else (if is_known p clause then hints_fault (step_outcome clause (map d.clauses hints)) else Some fault.UnknownVariable)
+
+-- what is wrong with a line that says this, or that has none of the forms
+abbrev pub line_fault : Problem → Derivation → Option Line → Option LineFault
+line_fault p d None = Some fault.Form
+line_fault p d (Some Comment) = None
+line_fault p d (Some (Deletion numbers)) = None
+line_fault p d (Some (Addition number clause hints)) = step_fault p d number clause hints
+
+-- the derivation after a line that says this
+abbrev pub after_line : Derivation → Option Line → Derivation
+after_line d None = d
+after_line d (Some Comment) = d
+after_line d (Some (Deletion numbers)) = without d numbers
+after_line d (Some (Addition number clause hints)) = with_clause d number clause
+
+abbrev pub is_empty : List Literal → Bool
+is_empty [] = true
+is_empty (l ∷ ls) = false
+
+-- whether a line that says this adds the empty clause
+abbrev pub adds_empty : Option Line → Bool
+adds_empty None = false
+adds_empty (Some Comment) = false
+adds_empty (Some (Deletion numbers)) = false
+adds_empty (Some (Addition number clause hints)) = is_empty clause

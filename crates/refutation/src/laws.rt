@@ -1,0 +1,24 @@
+ghost use Rattle.refutation.specs.Laws as law;
+
+use clause_check::steps_are_sound;
+use table_formula::solutions_satisfy;
+
+/// Where the formula of a problem has a refutation, no table solves the problem.
+pub fn refutations_are_sound()
+    ensures { law.RefutationsAreSound }
+{
+    solutions_satisfy();
+    steps_are_sound();
+}
+
+/// A text is not both a refutation and faulty, and has at most one fault besides `OutOfMemory`.
+#[tactic(auto, using(crate::proofs::Verdicts::right, crate::proofs::Verdicts::one_fault))]
+pub fn one_refutation_verdict()
+    ensures right { law.RefutationsAreRight }
+    ensures one { law.OneRefutationFault }
+{}
+
+/// Each text is a refutation or has a fault besides `OutOfMemory`.
+pub fn each_text_has_a_verdict()
+    ensures { law.EachTextHasAVerdict }
+{}

@@ -1,0 +1,2 @@
+/// The maximum length of the text of a refutation in bytes.
+pub const LONGEST_REFUTATION: usize = 1 << 27;

@@ -1,0 +1,40 @@
+-- The notes on numbers of which there is no formula, and on a text that is no refutation.
+use Rattle.std.specs.Prelude.{◌≡◌, ℕ, ◌++◌, List, codes}
+use Rattle.std.specs.Fmt.{decimal}
+use Rattle.fault_notes.specs.ProgramNotes.{IsIdsNote}
+use Rattle.refutation.specs.declared.fault.LineFault.{LineFault}
+use Rattle.refutation.specs.declared.fault.LineFault.TheVariants as line_fault
+use Rattle.refutation.specs.declared.fault.RefuteError.{RefuteError}
+use Rattle.refutation.specs.declared.fault.RefuteError.TheVariants as refute
+use Rattle.reports.specs.declared.problem.ProblemFault.{ProblemFault}
+use Rattle.reports.specs.declared.problem.ProblemFault.TheVariants as problem
+
+abbrev pub variables_note : List ℕ
+variables_note = codes "nbhd: a formula has a variable for each window and channel, and at most 4194304 of them\n"
+
+abbrev pub clauses_note : List ℕ
+clauses_note = codes "nbhd: a formula has at most 16777216 clauses, and a table of this size would need more\n"
+
+-- the note on m identifiers and t rounds of which there is no formula
+abbrev pub IsFormulaNote : ℕ → ℕ → ProblemFault → List ℕ → Type 0
+IsFormulaNote m t problem.IdsOutOfRange note = IsIdsNote t m note
+IsFormulaNote m t problem.TooManyWindows note = IsIdsNote t m note
+IsFormulaNote m t problem.TooManyVariables note = note ≡ variables_note
+IsFormulaNote m t problem.TooManyClauses note = note ≡ clauses_note
+
+-- what is wrong with a line of a refutation
+abbrev pub line_cause : LineFault → List ℕ
+line_cause line_fault.Form =
+    codes "this line is no step, as `5 -1 2 0 3 4 0`, no deletion, as `5 d 3 4 0`, and no comment; `tools/lrat` adds the hints that a proof in DRAT lacks"
+line_cause line_fault.NumberNotAscending = codes "the number of this step is not above those of the formula's clauses and of the steps before it"
+line_cause line_fault.UnknownVariable = codes "this clause has a variable that the formula lacks; the numbers may be those of another formula"
+line_cause line_fault.UnknownHint = codes "a hint names no clause: there is none of its number yet, or it was deleted"
+line_cause line_fault.HintNotUnit = codes "the clause of a hint has several literals left, or none before the last hint"
+line_cause line_fault.NoConflict = codes "after the last hint no clause has all its literals false"
+line_cause line_fault.NoEmptyClause = codes "the text ends here, before the empty clause"
+
+-- the note on a text that is no refutation; OutOfMemory has none
+abbrev pub refutation_note : RefuteError → List ℕ
+refutation_note refute.TooLong = codes "nbhd: the text of a refutation has at most 134217728 bytes\n"
+refutation_note (refute.At number f) = codes "nbhd: line " ++ (decimal number ++ (codes ": " ++ (line_cause f ++ codes "\n")))
+refutation_note refute.OutOfMemory = codes ""

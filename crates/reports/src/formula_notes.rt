@@ -1,0 +1,78 @@
+//! The notes on numbers of which there is no formula, and on a text that is no refutation. Each call
+//! fails only if memory was refused.
+
+ghost use Rattle.std.specs.Prelude.{◌≡◌, ◌≤◌, IfOk, string_bytes};
+ghost use Rattle.win_index.specs.declared.limits.TheConstants.{MAX_ROUNDS};
+ghost use Rattle.reports.specs.FormulaNotes as notes;
+
+use crate::problem::ProblemFault;
+use fault_notes::ids_note;
+use refutation::{LineFault, RefuteError};
+use std::alloc::{AllocError, Global};
+
+// Returns the note on numbers of identifiers and rounds of which there is no formula.
+pub(crate) fn formula_note(
+    alloc: Global,
+    ids: u32,
+    rounds: u32,
+    fault: ProblemFault,
+) -> Result<String, AllocError>
+    requires { rounds ≤ MAX_ROUNDS }
+    ensures { IfOk result (λ note. notes.IsFormulaNote ids rounds fault (string_bytes note)) }
+{
+    match fault {
+        ProblemFault::IdsOutOfRange | ProblemFault::TooManyWindows => ids_note(alloc, rounds, ids),
+        ProblemFault::TooManyVariables => String::from_str(
+            alloc,
+            "nbhd: a formula has a variable for each window and channel, and at most 4194304 of them\n",
+        ),
+        ProblemFault::TooManyClauses => String::from_str(
+            alloc,
+            "nbhd: a formula has at most 16777216 clauses, and a table of this size would need more\n",
+        ),
+    }
+}
+
+// Returns the note on a text that is no refutation, an empty one for `OutOfMemory`.
+pub(crate) fn refutation_note(alloc: Global, fault: RefuteError) -> Result<String, AllocError>
+    ensures { IfOk result (λ note. string_bytes note ≡ notes.refutation_note fault) }
+{
+    match fault {
+        RefuteError::TooLong => {
+            String::from_str(
+                alloc,
+                "nbhd: the text of a refutation has at most 134217728 bytes\n",
+            )
+        }
+        RefuteError::At { line, fault } => {
+            let cause = line_cause(fault);
+            format!(in alloc; "nbhd: line {line}: {cause}\n")
+        }
+        RefuteError::OutOfMemory => Ok(String::new(alloc)),
+    }
+}
+
+// Returns what is wrong with a line of a refutation.
+fn line_cause(fault: LineFault) -> &'static str
+    ensures { result.now ≡ notes.line_cause fault }
+{
+    match fault {
+        LineFault::Form => {
+            "this line is no step, as `5 -1 2 0 3 4 0`, no deletion, as `5 d 3 4 0`, and no comment; `tools/lrat` adds the hints that a proof in DRAT lacks"
+        }
+        LineFault::NumberNotAscending => {
+            "the number of this step is not above those of the formula's clauses and of the steps before it"
+        }
+        LineFault::UnknownVariable => {
+            "this clause has a variable that the formula lacks; the numbers may be those of another formula"
+        }
+        LineFault::UnknownHint => {
+            "a hint names no clause: there is none of its number yet, or it was deleted"
+        }
+        LineFault::HintNotUnit => {
+            "the clause of a hint has several literals left, or none before the last hint"
+        }
+        LineFault::NoConflict => "after the last hint no clause has all its literals false",
+        LineFault::NoEmptyClause => "the text ends here, before the empty clause",
+    }
+}

@@ -1,0 +1,33 @@
+-- The numbers of variables and clauses of a formula.
+use Rattle.std.proofs.Common.{◌≡◌, ℕ, ◌+◌, ◌*◌, ◌<◌, ◌≤◌, length, sym, ◌∙◌, subst, arith}
+use Rattle.std.proofs.lemmas.Nat.{mul-le}
+use Rattle.win_index.specs.Windows.{windows}
+use Rattle.table_formula.specs.Problems.{Problem}
+use Rattle.table_formula.specs.Formula.{windows_of, tuples_of, conflicts_of, formula}
+use Rattle.table_formula.specs.Limits.{HasFewVariables, HasFewClauses}
+use Rattle.table_formula.specs.declared.limits.TheConstants.{MAX_VARIABLES, MAX_CLAUSES}
+use Rattle.table_formula.proofs.Clauses.{formula_length}
+
+-- the numbers of windows, tuples and pairs of a problem
+pub record AreSizes (p : Problem) (windows tuples pairs : ℕ) : Type 0 where
+  pub windows_is : windows ≡ length (windows_of p)
+  pub tuples_is : tuples ≡ length (tuples_of p)
+  pub pairs_is : pairs ≡ length (conflicts_of p)
+
+pub few_channels : (windows channels : ℕ) → 0 < windows → windows * channels ≤ MAX_VARIABLES → channels ≤ MAX_VARIABLES
+few_channels windows channels some few = omega (arith, few, mul-le 1 channels windows channels some (omega arith))
+
+pub clauses_of : (p : Problem) (windows tuples pairs : ℕ) → AreSizes p windows tuples pairs → length (formula p) ≡ windows + tuples * pairs
+clauses_of p windows tuples pairs are =
+    formula_length p ∙ sym (λ i. are.windows_is i + are.tuples_is i * are.pairs_is i)
+
+pub few_variables : (p : Problem) (windows tuples pairs channels : ℕ) → AreSizes p windows tuples pairs → channels ≡ p.channels
+    → windows * channels ≤ MAX_VARIABLES → HasFewVariables p
+few_variables p windows tuples pairs channels are same few = subst (λ n. n ≤ MAX_VARIABLES) (λ i. are.windows_is i * same i) few
+
+pub few_clauses : (p : Problem) (windows tuples pairs count : ℕ) → AreSizes p windows tuples pairs → count ≡ windows + tuples * pairs
+    → count ≤ MAX_CLAUSES → HasFewClauses p
+few_clauses p windows tuples pairs count are is few = omega (arith, clauses_of p windows tuples pairs are, is, few)
+
+pub many_clauses : (p : Problem) (windows tuples pairs : ℕ) → AreSizes p windows tuples pairs → MAX_CLAUSES < windows + tuples * pairs → ¬ HasFewClauses p
+many_clauses p windows tuples pairs are many = λ few. omega (arith, clauses_of p windows tuples pairs are, many, few)
