@@ -21,6 +21,8 @@ Commands:
   plan     Prints the channels of a ring's places, looked up in the table
   audit    Tells whether channels are far enough apart on every ring, by a table text
   migrate  Prints a table text of any version in the newest one
+  formula  Prints the formula that asks for a table of some size, for a SAT solver
+  refute   Checks a solver's refutation: there is no table of this size
   help     Print this message or the help of the given subcommand(s)
 
 Options:
@@ -175,6 +177,65 @@ Exit status:
   6  memory or a thread was refused
 """,
     ),
+    (
+        "formula --help",
+        """Prints the formula that asks for a table of some size, for a SAT solver
+
+Usage: nbhd formula [OPTIONS] --ids <M> --rounds <T> --channels <C>
+
+Options:
+      --ids <M>       How many identifiers there are; they are 0 to M-1
+      --rounds <T>    How many rounds nodes communicate, 0 to 4
+      --channels <C>  How many channels there are, 1 to 4096; they are 0 to C-1
+      --near <P>      By how much neighbours' channels have to differ, 1 to 4096 [default: 1]
+      --far <Q>       By how much the channels at distance two have to differ, 0 to 4096 [default: 0]
+  -h, --help          Print help
+
+Standard input:  nothing is read
+Standard output: the formula in DIMACS, as SAT solvers read it, or one line: what is refused
+
+The formula has a variable for each window of 2T+1 identifiers and each channel: w*C+c+1 says that
+window number w has channel c. Exactly if values make it true, there is a table of M identifiers, T
+rounds and C channels whose channels are far enough apart on every ring. It has at most 4194304
+variables and 16777216 clauses.
+
+Exit status:
+  0  the formula is printed
+  2  the words are refused
+  5  writing failed
+  6  memory was refused
+  7  there is no such formula, or it is too large
+""",
+    ),
+    (
+        "refute --help",
+        """Checks a solver's refutation: there is no table of this size
+
+Usage: nbhd refute [OPTIONS] --ids <M> --rounds <T> --channels <C>
+
+Options:
+      --ids <M>       How many identifiers there are; they are 0 to M-1
+      --rounds <T>    How many rounds nodes communicate, 0 to 4
+      --channels <C>  How many channels there are, 1 to 4096; they are 0 to C-1
+      --near <P>      By how much neighbours' channels have to differ, 1 to 4096 [default: 1]
+      --far <Q>       By how much the channels at distance two have to differ, 0 to 4096 [default: 0]
+  -h, --help          Print help
+
+Standard input:  a refutation of the formula that `nbhd formula` prints, in LRAT
+Standard output: one line: refuted, or what is refused
+
+Refuted means: no table of M identifiers, T rounds and at most C channels keeps channels far enough
+apart on every ring, so no program with T rounds does. Each step of the refutation is checked.
+
+Exit status:
+  0  refuted
+  2  the words are refused
+  3  the text is no refutation
+  5  reading or writing failed
+  6  memory was refused
+  7  there is no such formula, or it is too large
+""",
+    ),
 ]
 
 # The commands, each of which has three ways to ask for its help.
@@ -204,7 +265,7 @@ REFUSED = [
     (
         "",
         """error: 'nbhd' requires a subcommand but one was not provided
-  [subcommands: check, print, table, judge, run, trace, plan, audit, migrate, help]
+  [subcommands: check, print, table, judge, run, trace, plan, audit, migrate, formula, refute, help]
 
 Usage: nbhd <COMMAND>
 
