@@ -14,6 +14,8 @@ mod filling;
 #[cfg(test)]
 mod findings;
 #[cfg(test)]
+mod formulas;
+#[cfg(test)]
 mod gates;
 #[cfg(test)]
 mod memo;
