@@ -11,6 +11,7 @@ use Rattle.clause_check.specs.declared.outcome.Outcome.TheVariants.{Follows, Unk
 abbrev pub left_of : (Literal → Bool) → List Literal → List Literal
 left_of is_false clause = filter (λ l. not (is_false l)) clause
 
+-- which literals are left: none, one, or several
 abbrev pub remaining_of : List Literal → Remaining
 remaining_of [] = Nothing
 remaining_of (l ∷ []) = One l

@@ -32,9 +32,11 @@ variable_count p = length (windows_of p) * p.channels
 abbrev pub values_of : Problem → ChannelTable → ℕ → Bool
 values_of p t variable = slice_index t.entries (variable / p.channels) == variable % p.channels
 
+-- the window with this number has this channel
 abbrev pub has_channel : Problem → ℕ → ℕ → Literal
 has_channel p window channel = record { variable = variable_of p window channel; is_positive = true }
 
+-- the window with this number does not have this channel
 abbrev pub lacks_channel : Problem → ℕ → ℕ → Literal
 lacks_channel p window channel = record { variable = variable_of p window channel; is_positive = false }
 
@@ -51,6 +53,7 @@ abbrev pub close_to : ℕ → ℕ → ℕ → ℕ → List Conflict
 close_to channels step distance first =
     filter (is_close distance) (map (λ second. record { step = step; first = first; second = second }) (range_with_len 0 channels))
 
+-- the pairs of channels, at places this many steps apart, that are closer than the distance
 abbrev pub close_pairs : ℕ → ℕ → ℕ → List Conflict
 close_pairs channels step distance = flat_map (close_to channels step distance) (range_with_len 0 channels)
 
@@ -58,6 +61,7 @@ close_pairs channels step distance = flat_map (close_to channels step distance) 
 abbrev pub close_in : ℕ → Separation → List Conflict
 close_in channels s = close_pairs channels 1 s.near ++ close_pairs channels 2 s.far
 
+-- the pairs of channels that a problem forbids
 abbrev pub conflicts_of : Problem → List Conflict
 conflicts_of p = close_in p.channels p.separation
 
@@ -76,6 +80,7 @@ abbrev pub not_both : Problem → List ℕ → Conflict → List Literal
 not_both p tuple conflict =
     lacks_channel p (window_in p tuple 0) conflict.first ∷ lacks_channel p (window_in p tuple conflict.step) conflict.second ∷ []
 
+-- the clauses of a tuple: for each forbidden pair, its windows do not have these two channels
 abbrev pub not_too_close : Problem → List ℕ → List (List Literal)
 not_too_close p tuple = map (not_both p tuple) (conflicts_of p)
 
@@ -83,7 +88,7 @@ not_too_close p tuple = map (not_both p tuple) (conflicts_of p)
 unfoldable pub formula : Problem → List (List Literal)
 formula p = map (some_channel p) (range_with_len 0 (length (windows_of p))) ++ flat_map (not_too_close p) (tuples_of p)
 
--- the number of literals of the longest of some clauses, at least 1
+-- the number of literals of the longest clause of a list, or 1 if no clause has a literal
 abbrev pub longest_len : List (List Literal) → ℕ
 longest_len [] = 1
 longest_len (clause ∷ clauses) = max (length clause) (longest_len clauses)
