@@ -28,7 +28,7 @@ use Rattle.reports.specs.FormulaReports.{IsFormulaRefusal, IsFormulaReport, no_f
 use Rattle.reports.specs.ProblemFaults.{HasFormula, IsProblemFault}
 use Rattle.reports.specs.declared.problem.ProblemFault.{ProblemFault}
 use Rattle.reports.specs.declared.problem.ProblemFault.TheVariants.{IdsOutOfRange, TooManyWindows, TooManyVariables, TooManyClauses}
-use Rattle.plan_print.specs.TaskReport.{IsReport}
+use Rattle.plan_print.specs.TaskReport.{problem, IsReport}
 use Rattle.report_laws.specs.Laws.{OneReport}
 
 -- two reports with the same bytes, the same status and the same cause are equal
@@ -218,5 +218,5 @@ one_report one_reading one_text_fault one_refusal no_refusal one_fault no_fault 
     go (Plan ids ring workers) = of_program ids _ (λ p. one_on_ring one_fault no_fault _ _ _ _ (λ r s. said_once _ _ _ r s refl))
     go Audit = one_table_report one_table_fault apart read IsJudgement judged_once
     go Migrate = one_table_report one_table_fault apart read IsTableText one_table_text
-    go (Formula m t channels near far) input = one_formula_report _
-    go (Refute m t channels near far) = one_refute_report one_refutation right _
+    go (Formula m t channels near far) = λ input. one_formula_report (problem m t channels near far)
+    go (Refute m t channels near far) = one_refute_report one_refutation right (problem m t channels near far)
