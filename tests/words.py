@@ -28,7 +28,8 @@ Commands:
 Options:
   -h, --help  Print help
 
-Each command reads a text from standard input and prints its answer to standard output. Example:
+Each command but `formula` reads a text from standard input, and prints its answer to standard
+output. Example:
 
   nbhd run --ids 8 --ring 5,1,3,7 < programs/cv1.txt
 

@@ -31,7 +31,8 @@ identifiers, and judges whether neighbours' channels differ on every oriented ri
 
 /// An example of a call of the program.
 pub(crate) const EXAMPLE: &str =
-    "Each command reads a text from standard input and prints its answer to standard output. Example:
+    "Each command but `formula` reads a text from standard input, and prints its answer to standard
+output. Example:
 
   nbhd run --ids 8 --ring 5,1,3,7 < programs/cv1.txt
 
