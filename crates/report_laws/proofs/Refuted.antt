@@ -1,11 +1,13 @@
 -- What a refuted formula says of tables and programs.
-use Rattle.std.proofs.Common.{◌≡◌, ℕ, ◌≤◌, List, length, refl, sym, ◌∙◌}
+use Rattle.std.proofs.Common.{◌≡◌, ◌⊎◌, ℕ, ◌+◌, ◌*◌, ◌≤◌, List, length, refl, sym, subst, ◌∙◌}
 use Rattle.node_program.specs.Term.{ProgramTree}
+use Rattle.win_index.specs.Laws.{NumberOfWindow, WindowOfNumber, WindowsHaveNumbers, RingsHaveWindows}
+use Rattle.win_index.specs.ShapeRange.{IsShape}
 use Rattle.channel_tables.specs.Tables.{ChannelTable, IsTable}
 use Rattle.channel_tables.specs.declared.separation.Separation.{Separation}
 use Rattle.lang_check.specs.Laws.{AcceptedProgramsHaveNoRefusal}
-use Rattle.nbhd_check.specs.Apart.{IsApartEverywhere}
-use Rattle.nbhd_check.specs.Laws.{ApartTablesHaveNoWitness}
+use Rattle.nbhd_check.specs.Apart.{extra, IsApartEverywhere}
+use Rattle.nbhd_check.specs.Laws.{ApartTablesHaveNoWitness, LessIsApart}
 use Rattle.node_lang.specs.Laws.{OneReading}
 use Rattle.table_entries.specs.Laws.{ProgramTablesAreTables}
 use Rattle.table_entries.specs.ProgramTables.{table_of}
@@ -16,35 +18,47 @@ use Rattle.reports.specs.FormulaReports.{IsRefuteReport, not_asked, refuted, not
 use Rattle.reports.specs.Report.{Report}
 use Rattle.reports.specs.declared.status.Status.TheVariants.{Done}
 use Rattle.plan_print.specs.TaskReport.{problem}
-use Rattle.report_laws.specs.Laws.{IsRefuted, NoTableIfRefuted, NoProgramIfRefuted, FailsOnARing}
+use Rattle.report_laws.specs.Laws.{AsksForAsMuch, IsRefuted, NoTableIfRefuted, NoProgramIfRefuted, FailsOnARing}
 use Rattle.report_laws.proofs.JudgeAnswers.{JudgeAnswer, apart, not_apart}
+use Rattle.report_laws.proofs.Restricted.{restricted, restricted_is_table, restricted_is_apart}
 use Rattle.report_laws.proofs.ToldRounds.{judge_tells}
 
--- a report with the status of a refuted formula is on a refutation of it
-impossible : RefutationsAreSound → (p : Problem) (input : List ℕ) (r : Report) → IsRefuteReport p input r → r.status ≡ Done → IsImpossible p
+-- a report with the status of a refuted formula is on a refutation of it, and the formula's numbers are a shape
+impossible : RefutationsAreSound → (p : Problem) (input : List ℕ) (r : Report) → IsRefuteReport p input r → r.status ≡ Done → IsImpossible p × IsShape p.ids p.rounds
 impossible sound p input r (not_asked refusal) done = let both = sym refusal.says.1 ∙ done in cc
-impossible sound p input r (refuted has is says) done = sound p input is
+impossible sound p input r (refuted has is says) done = (sound p input is, has.shape)
 impossible sound p input r (not_refuted has f known is says) done = let both = sym says.1 ∙ done in cc
 
-pub no_table : RefutationsAreSound → NoTableIfRefuted
-no_table sound m t channels s table is keeps ids rounds few are =
-    impossible sound (problem m t channels s.near s.far) is.input is.report is.is_report is.done table
-    (record { table = keeps; ids = ids; rounds = rounds; channels = few; apart = are })
-
--- a table whose channels are not apart everywhere fails on a ring
+-- a table fails on a ring if its channels are not apart everywhere
 fails : (table : ChannelTable) (s : Separation) → ¬ IsApartEverywhere table s → JudgeAnswer table s → FailsOnARing table s
 fails table s not (apart is) = absurd (not is)
 fails table s not (not_apart ring places channels is) = (ring, places, channels, is)
 
-pub no_program : RefutationsAreSound → OneReading → AcceptedProgramsHaveNoRefusal → ApartTablesHaveNoWitness → ProgramTablesAreTables → ProgramTablesAreApart
-    → ((t : ChannelTable) (s : Separation) → JudgeAnswer t s) → NoProgramIfRefuted
-unfolding table_of
-no_program sound one_reading no_refusal no_witness tables apart_tables judged m t channels s text p is accepted rounds few =
-    let none : ¬ IsApartEverywhere (table_of p m) s =
-    no_table sound m t channels s (table_of p m) is (tables p m accepted.0.limits accepted.1) refl rounds few in
-    record {
-      rounds = λ are. none ((apart_tables p m s).1 are);
-      ring = fails (table_of p m) s none (judged (table_of p m) s);
-      judged = λ workers r report. (judge_tells one_reading no_refusal no_witness apart_tables m workers s.near s.far text p r accepted report).1.1
-          (λ are. none ((apart_tables p m s).1 are));
-    }
+module _ (sound : RefutationsAreSound) (less : LessIsApart) (number : NumberOfWindow) (item : WindowOfNumber) (have : WindowsHaveNumbers)
+    (rings : RingsHaveWindows) where
+  pub no_table : NoTableIfRefuted
+  no_table m t channels s own table is keeps more rounds few asks are =
+      let known = impossible sound (problem m t channels s.near s.far) is.input is.report is.is_report is.done in
+      let enough : (extra s ≡ extra own) ⊎ (2 * table.rounds + 3 ≤ table.ids) =
+      subst (λ (r : ℕ). (extra s ≡ extra own) ⊎ (2 * r + 3 ≤ table.ids)) (sym rounds) asks.rings in
+      let shape : IsShape m table.rounds = subst (λ (r : ℕ). IsShape m r) (sym rounds) known.1 in
+      known.0 (restricted table m) (record {
+        table = restricted_is_table table m keeps shape;
+        ids = refl;
+        rounds = rounds;
+        channels = few;
+        apart = restricted_is_apart number item have rings table m s more (less table own s asks.near_more asks.far_more enough are);
+      })
+
+  pub no_program : OneReading → AcceptedProgramsHaveNoRefusal → ApartTablesHaveNoWitness → ProgramTablesAreTables → ProgramTablesAreApart
+      → ((t : ChannelTable) (s : Separation) → JudgeAnswer t s) → NoProgramIfRefuted
+  unfolding table_of
+  no_program one_reading no_refusal no_witness tables apart_tables judged m t channels ids s own text p is accepted more rounds few asks =
+      let none : ¬ IsApartEverywhere (table_of p ids) own =
+      no_table m t channels s own (table_of p ids) is (tables p ids accepted.0.limits accepted.1) more rounds few asks in
+      record {
+        rounds = λ are. none ((apart_tables p ids own).1 are);
+        ring = fails (table_of p ids) own none (judged (table_of p ids) own);
+        judged = λ workers r report. (judge_tells one_reading no_refusal no_witness apart_tables ids workers own.near own.far text p r accepted report).1.1
+            (λ are. none ((apart_tables p ids own).1 are));
+      }

@@ -1,6 +1,6 @@
 -- The laws: a task has one report on an input, reports agree with global rounds, and prints and table texts are read
 -- back.
-use Rattle.std.specs.Prelude.{◌≡◌, ◌↔◌, ℕ, ◌<◌, ◌≤◌, List, [], ◌∷◌, ◌++◌, Vec, Some, ⊤, length, codes}
+use Rattle.std.specs.Prelude.{◌≡◌, ◌↔◌, ◌⊎◌, ℕ, ◌+◌, ◌*◌, ◌<◌, ◌≤◌, List, [], ◌∷◌, ◌++◌, Vec, Some, ⊤, length, codes}
 use Rattle.std.specs.declared.alloc.Global.{Global}
 use Rattle.node_program.specs.Term.{ProgramTree}
 use Rattle.node_lang.specs.Grammar.{Reads}
@@ -12,7 +12,7 @@ use Rattle.table_text.specs.LineForms.{IsSeparation}
 use Rattle.task_words.specs.Counts.{IsNear, IsFar}
 use Rattle.channel_tables.specs.Tables.{IsTable, ChannelTable, channel_of}
 use Rattle.channel_tables.specs.declared.separation.Separation.{Separation}
-use Rattle.nbhd_check.specs.Apart.{IsApartEverywhere}
+use Rattle.nbhd_check.specs.Apart.{extra, IsApartEverywhere}
 use Rattle.nbhd_check.specs.Verdicts.{IsWitness}
 use Rattle.table_entries.specs.ProgramTables.{table_of}
 use Rattle.ring_segments.specs.SegmentCounts.{IsSegmentCount}
@@ -143,11 +143,19 @@ pub record IsRefuted (m t channels : ℕ) (s : Separation) : Type 0 where
   pub is_report : IsReport (Refute m t channels s.near s.far) input report
   pub done : report.status ≡ Done
 
--- then no table of these identifiers and rounds with at most so many channels keeps the separation on every ring
+-- a separation asks for at least as much as another one of so many identifiers and rounds. If far is 0 in the other one
+-- alone, only that one counts rings of 2t+2 nodes, so there must be identifiers for one node more
+pub record AsksForAsMuch (ids t : ℕ) (own s : Separation) : Type 0 where
+  pub near_more : s.near ≤ own.near
+  pub far_more : s.far ≤ own.far
+  pub rings : (extra s ≡ extra own) ⊎ (2 * t + 3 ≤ ids)
+
+-- then no table of these rounds with at least as many identifiers and at most as many channels keeps a separation that asks
+-- for at least as much
 abbrev pub NoTableIfRefuted : Type 0
 NoTableIfRefuted =
-    (m t channels : ℕ) (s : Separation) (table : ChannelTable) → IsRefuted m t channels s → IsTable table → table.ids ≡ m → table.rounds ≡ t
-    → table.channels ≤ channels → ¬ IsApartEverywhere table s
+    (m t channels : ℕ) (s own : Separation) (table : ChannelTable) → IsRefuted m t channels s → IsTable table → m ≤ table.ids → table.rounds ≡ t
+    → table.channels ≤ channels → AsksForAsMuch table.ids t own s → ¬ IsApartEverywhere table own
 
 -- two channels of the table are too close on some ring
 abbrev pub FailsOnARing : ChannelTable → Separation → Type 0
@@ -160,8 +168,8 @@ pub record Fails (m : ℕ) (s : Separation) (text : List ℕ) (p : ProgramTree) 
   pub ring : FailsOnARing (table_of p m) s
   pub judged : (workers : ℕ) (r : Report) → IsReport (Judge m workers s.near s.far) text r → r.status ≡ No
 
--- and every accepted program with these rounds and at most so many channels fails
+-- and every accepted program with these rounds, at least as many identifiers and at most as many channels fails
 abbrev pub NoProgramIfRefuted : Type 0
 NoProgramIfRefuted =
-    (m t channels : ℕ) (s : Separation) (text : List ℕ) (p : ProgramTree) → IsRefuted m t channels s → IsAcceptedText text m p → length p.steps ≡ t
-    → p.channels ≤ channels → Fails m s text p
+    (m t channels ids : ℕ) (s own : Separation) (text : List ℕ) (p : ProgramTree) → IsRefuted m t channels s → IsAcceptedText text ids p → m ≤ ids
+    → length p.steps ≡ t → p.channels ≤ channels → AsksForAsMuch ids t own s → Fails ids own text p

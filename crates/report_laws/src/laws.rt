@@ -4,12 +4,14 @@ ghost use Rattle.report_laws.specs.Laws as law;
 
 use headline::program_tables_are_apart;
 use lang_check::one_refusal;
-use nbhd_check::{one_witness, tuples_suffice};
+use nbhd_check::{less_is_apart, one_witness, tuples_suffice};
 use node_lang::{first_fault, one_reading, one_text_fault, printed_is_read_back, reading_is_exact};
 use refutation::{each_text_has_a_verdict, one_refutation_verdict, refutations_are_sound};
 use table_entries::{program_tables_are_tables, table_has_the_channels_of_rounds};
 use table_text::{one_table_fault, table_texts_are_apart, table_texts_are_read};
-use win_index::{number_of_window, one_ring_fault, windows_have_numbers};
+use win_index::{
+    number_of_window, one_ring_fault, rings_have_windows, window_of_number, windows_have_numbers,
+};
 
 /// A task has at most one report on an input. The report is the same for every number of workers,
 /// and for every number of segments in its range.
@@ -85,9 +87,9 @@ pub fn table_reports_are_read_back()
     program_tables_are_tables();
 }
 
-/// If `refute` says that a formula is refuted, no table of its identifiers and rounds with at most
-/// its number of channels keeps its separation. So every accepted program with these rounds and at
-/// most so many channels fails on some ring, and the judge says no.
+/// If `refute` says that a formula is refuted, no table of its rounds with at most its number of
+/// channels and at least its number of identifiers keeps its separation, or one that asks for more.
+/// So every accepted program with these numbers fails on some ring, and the judge says no.
 pub fn refuted_is_impossible()
     ensures table { law.NoTableIfRefuted }
     ensures program { law.NoProgramIfRefuted }
@@ -98,8 +100,11 @@ pub fn refuted_is_impossible()
     one_witness();
     program_tables_are_tables();
     program_tables_are_apart();
+    less_is_apart();
     tuples_suffice();
+    rings_have_windows();
     number_of_window();
+    window_of_number();
     windows_have_numbers();
 }
 
