@@ -18,7 +18,7 @@ pub ids_append : (ids rest more : List ℕ) → ids_then ids rest ++ more ≡ id
 ids_append [] rest more = refl
 ids_append (id ∷ ids) rest more = field_append id 32 (ids_then ids rest) more ∙ ap (λ l. decimal id ++ 32 ∷ l) (ids_append ids rest more)
 
-entry_append : (window : List ℕ) (channel : ℕ) (rest more : List ℕ) → entry_then window channel rest ++ more ≡ entry_then window channel (rest ++ more)
+pub entry_append : (window : List ℕ) (channel : ℕ) (rest more : List ℕ) → entry_then window channel rest ++ more ≡ entry_then window channel (rest ++ more)
 entry_append window channel rest more =
     ids_append window (codes ": " ++ (decimal channel ++ 10 ∷ rest)) more
     ∙ ap (λ l. ids_then window (codes ": " ++ l)) (field_append channel 10 rest more)

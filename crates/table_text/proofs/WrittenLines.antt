@@ -12,7 +12,7 @@ use Rattle.table_text.specs.declared.version.Version.TheVariants.{Two}
 use Rattle.table_text.specs.TableText.{written, ids_then, entry_then, entries_then, end_then, head_then, lines_then, text_of, table_text}
 use Rattle.table_text.proofs.TableLines.{lines_more}
 use Rattle.table_text.specs.Pieces.{id_text, channel_text}
-use Rattle.table_text.proofs.TextsApart.{ids_append, lines_append}
+use Rattle.table_text.proofs.TextsApart.{ids_append, entry_append, lines_append}
 
 -- one more identifier
 pub ids_more : (ids : List ℕ) (id : ℕ) (rest : List ℕ) → ids_then (ids ++ id ∷ []) rest ≡ ids_then ids [] ++ (decimal id ++ 32 ∷ rest)
@@ -45,6 +45,18 @@ line_of_run last window channel size =
     sym (ids_more (take last window) (get_or window last 0) []) ∙ ap (λ xs. ids_then xs []) (sym (take_more window last 0 (omega arith)) ∙ take_all (last + 1) window (omega arith)) in
     sym (append_assoc (ids_then (take last window) []) (id_text (get_or window last 0)) (channel_text channel))
     ∙ ap (λ text. text ++ channel_text channel) ids ∙ ids_append window [] (channel_text channel)
+
+-- the same line, followed by a rest
+pub line_before :
+    (last : ℕ) (window : List ℕ) (channel : ℕ) (rest : List ℕ) → length window ≡ last + 1
+    → ids_then (take last window) [] ++ (id_text (get_or window last 0) ++ (channel_text channel ++ rest)) ≡ entry_then window channel rest
+line_before last window channel rest size =
+    let ids = ids_then (take last window) [] in
+    let id = id_text (get_or window last 0) in
+    ap (λ l. ids ++ l) (sym (append_assoc id (channel_text channel) rest))
+    ∙ sym (append_assoc ids (id ++ channel_text channel) rest)
+    ∙ ap (λ l. l ++ rest) (line_of_run last window channel size)
+    ∙ entry_append window channel [] rest
 
 -- the table with its first entries only
 abbrev pub front_of : ChannelTable → ℕ → ChannelTable

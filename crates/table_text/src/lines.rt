@@ -1,13 +1,18 @@
 //! The lines of a table text.
 
-ghost use Rattle.std.specs.Prelude.{◌≡◌, ◌≢◌, ◌<◌, ◌≤◌, ◌^◌, ℕ, List, ◌∷◌, ◌++◌, length, MatchOption, IfSome, IfNone};
+ghost use Rattle.std.specs.Prelude.{◌≡◌, ◌≢◌, ◌-◌, ◌<◌, ◌≤◌, ◌^◌, ℕ, List, [], ◌∷◌, ◌++◌, All, length, take, MatchOption, IfSome, IfNone};
 ghost use Rattle.std.specs.Fmt.{decimal};
+ghost use Rattle.node_program.specs.declared.limits.TheConstants.{MAX_CHANNELS};
+ghost use Rattle.win_index.specs.declared.limits.TheConstants.{MAX_IDS};
 ghost use Rattle.channel_tables.specs.declared.separation.Separation.{Separation};
-ghost use Rattle.table_text.specs.TableText.{title_then, counts_then, counts_end, distances_then, sizes_then, end_then};
+ghost use Rattle.table_text.specs.TableText.{title_then, counts_then, counts_end, distances_then, sizes_then, ids_then, end_then};
+ghost use Rattle.table_text.specs.Pieces.{piece_text, prefix_text, id_text, channel_text, AreTexts};
 ghost use Rattle.table_text.specs.LineForms.{HasTitle, AreSizes, IsSeparationOf, HasSizes, IsEntry, HasEntry, HasEnd};
 ghost use Rattle.table_text.specs.LinePrefixes.{IsLine};
 
+use crate::line_prefix::LinePrefix;
 use crate::numbers::{number_before, numbers_in};
+use crate::piece::Piece;
 use crate::version::Version;
 use channel_tables::Separation;
 use node_program::MAX_CHANNELS;
@@ -246,4 +251,89 @@ pub(crate) fn line_of<'a>(window: &[u32], text: &'a [u8]) -> Line<'a>
 {
     let mut cells = [0u32; MAX_WINDOW_LEN];
     line_in(window, text, &mut cells[..window.len()])
+}
+
+// Guesses the channel of a line from the text after its identifiers. Nothing is promised of the
+// guess.
+fn guess(text: &[u8]) -> u32
+    requires { 6 ≤ length text.now }
+{
+    let first = u32::from(text[2]) & 15;
+    if text[3] < b'0' {
+        return first;
+    }
+    let second = 10 * first + (u32::from(text[3]) & 15);
+    if text[4] < b'0' {
+        return second;
+    }
+    let third = 10 * second + (u32::from(text[4]) & 15);
+    if text[5] < b'0' {
+        return third;
+    }
+    10 * third + (u32::from(text[5]) & 15)
+}
+
+// Returns the text after a piece, or `None` if the text does not begin with it.
+fn after_piece<'a>(text: &'a [u8], piece: &Piece) -> Option<&'a [u8]>
+    ensures { IfSome result (λ rest. text.entry.now ≡ piece_text piece.now ++ rest.now) }
+{
+    after(text, &piece.bytes[..piece.len])
+}
+
+// Returns the text after a prefix, or `None` if the text does not begin with it.
+fn after_prefix<'a>(text: &'a [u8], prefix: &LinePrefix) -> Option<&'a [u8]>
+    ensures { IfSome result (λ rest. text.entry.now ≡ prefix_text prefix.now ++ rest.now) }
+{
+    after(text, &prefix.bytes[..prefix.len])
+}
+
+// Returns the channel whose piece the text begins with, and the text after it, or `None` if that
+// is not seen at once.
+fn known_channel<'a>(ends: &[Piece], text: &'a [u8]) -> Option<(u32, &'a [u8])>
+    requires { AreTexts channel_text ends.now }
+    ensures channel { IfSome result (λ read. read.0 < length ends.now) }
+    ensures text { IfSome result (λ read. text.entry.now ≡ channel_text read.0 ++ read.1.now) }
+{
+    if text.len() < 8 {
+        return None;
+    }
+    let channel = guess(text);
+    if channel as usize >= ends.len() {
+        return None;
+    }
+    let Some(rest) = after_piece(text, &ends[channel as usize]) else {
+        return None;
+    };
+    Some((channel, rest))
+}
+
+// Classifies the first line of the text, where the line of this window is expected, as `line_of`
+// does. `prefix` is the text of the identifiers except the last; the line is compared with the
+// pieces that are written for it, and read only if it differs.
+pub(crate) fn line_at<'a>(
+    window: &[u32],
+    prefix: &LinePrefix,
+    ids: &[Piece],
+    ends: &[Piece],
+    text: &'a [u8],
+) -> Line<'a>
+    requires some { 1 ≤ length window.now }
+    requires short { length window.now ≤ MAX_WINDOW_LEN }
+    requires below { All (λ id. id < length ids.now) window.now }
+    requires ids { AreTexts id_text ids.now × (length ids.now ≤ MAX_IDS) }
+    requires ends { AreTexts channel_text ends.now × (length ends.now ≤ MAX_CHANNELS) }
+    requires prefix { prefix_text prefix.now ≡ ids_then (take (length window.now - 1) window.now) [] }
+    ensures { IsLine window.now text.entry.now result }
+{
+    let last = window[window.len() - 1];
+    let Some(more) = after_prefix(text, prefix) else {
+        return line_of(window, text);
+    };
+    let Some(end) = after_piece(more, &ids[last as usize]) else {
+        return line_of(window, text);
+    };
+    let Some((channel, rest)) = known_channel(ends, end) else {
+        return line_of(window, text);
+    };
+    Line::Entry(channel, rest)
 }

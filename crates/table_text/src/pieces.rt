@@ -22,7 +22,7 @@ pub(crate) fn pieces_of(alloc: Global, table: &Table) -> Result<Pieces, AllocErr
 }
 
 // Returns for each identifier below `ids` the piece of the identifier and a blank.
-fn id_pieces(alloc: Global, ids: u32) -> Result<Vec<Piece>, AllocError>
+pub(crate) fn id_pieces(alloc: Global, ids: u32) -> Result<Vec<Piece>, AllocError>
     requires { ids ≤ MAX_IDS }
     ensures texts { IfOk result (λ pieces. AreTexts id_text pieces.items) }
     ensures count { IfOk result (λ pieces. length pieces.items ≡ ids) }
@@ -35,7 +35,7 @@ fn id_pieces(alloc: Global, ids: u32) -> Result<Vec<Piece>, AllocError>
 }
 
 // Returns for each channel below `channels` the piece that follows the identifiers of its lines.
-fn channel_pieces(alloc: Global, channels: u32) -> Result<Vec<Piece>, AllocError>
+pub(crate) fn channel_pieces(alloc: Global, channels: u32) -> Result<Vec<Piece>, AllocError>
     requires { channels ≤ MAX_CHANNELS }
     ensures texts { IfOk result (λ pieces. AreTexts channel_text pieces.items) }
     ensures count { IfOk result (λ pieces. length pieces.items ≡ channels) }

@@ -11,8 +11,10 @@ ghost use Rattle.table_text.specs.Faults.{IsMalformed, IsFault};
 use crate::fault::TableFault;
 use crate::laws::{table_texts_are_apart, table_texts_are_read};
 use crate::limits::LONGEST_TABLE_TEXT;
-use crate::lines::{Header, Line, after_end, after_title, line_of, sizes};
+use crate::lines::{Header, Line, after_end, after_title, line_at, sizes};
+use crate::pieces::{channel_pieces, id_pieces, line_prefix_of};
 use crate::version::Version;
+use crate::writing::advance;
 use channel_tables::{Separation, Table, TableMaker};
 use std::alloc::Global;
 use win_index::MAX_WINDOW_LEN;
@@ -106,14 +108,21 @@ fn entries<'a>(
         return Err(TableFault::OutOfMemory);
     };
     let shape = header.shape;
+    let Ok(ids) = id_pieces(alloc, shape.ids()) else {
+        return Err(TableFault::OutOfMemory);
+    };
+    let Ok(ends) = channel_pieces(alloc, header.channels) else {
+        return Err(TableFault::OutOfMemory);
+    };
     let level = shape.rounds();
     let count = shape.count(level);
     let mut cells = [0u32; MAX_WINDOW_LEN];
     let window = &mut cells[..2 * level as usize + 1];
     shape.window(level, 0, window);
+    let mut prefix = line_prefix_of(&ids, &window[..2 * level as usize]);
     let mut rest = start;
     'lines: for number in 0..count {
-        match line_of(window, rest) {
+        match line_at(window, &prefix, &ids, &ends, rest) {
             Line::Malformed => return Err(syntax(text, rest)),
             Line::OtherWindow => return Err(TableFault::WrongWindow(number + 3)),
             Line::Entry(channel, after) => {
@@ -124,7 +133,7 @@ fn entries<'a>(
                 rest = after;
             }
         }
-        shape.next_window(level, window);
+        advance(shape, &ids, window, &mut prefix);
     }
     Ok((maker.done(), rest))
 }

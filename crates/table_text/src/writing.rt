@@ -137,7 +137,7 @@ fn write_entries<W: Write>(
 }
 
 // Advances to the next window and its prefix, if there is one.
-fn advance(shape: Shape, ids: &[Piece], window: &mut [u32], prefix: &mut LinePrefix)
+pub(crate) fn advance(shape: Shape, ids: &[Piece], window: &mut [u32], prefix: &mut LinePrefix)
     requires ids { AreTexts id_text ids.now × (length ids.now ≡ shape.ids) }
     requires window { IsWindow (2 * shape.rounds + 1) shape.ids window.old }
     requires prefix { prefix_text prefix.old ≡ ids_then (take (2 * shape.rounds) window.old) [] }

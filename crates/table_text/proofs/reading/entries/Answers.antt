@@ -1,12 +1,11 @@
-use Rattle.std.proofs.Common.{◌≡◌, ℕ, ◌+◌, ◌*◌, ◌<◌, ◌≤◌, Some, length, slice_get, sym, ap, subst, ◌∙◌, arith}
+use Rattle.std.proofs.Common.{◌≡◌, ℕ, ◌+◌, ◌*◌, ◌<◌, ◌≤◌, [], Some, length, take, slice_get, sym, ap, subst, ◌∙◌, arith}
 use Rattle.std.proofs.lemmas.List.Elements.{All-nil}
 use Rattle.std.proofs.lemmas.List.{length_push}
 use Rattle.channel_tables.specs.Tables.{IsBegun, IsTable, windows_of}
-use Rattle.table_text.specs.TableText.{written, lines_then}
+use Rattle.table_text.specs.TableText.{written, ids_then, lines_then}
 use Rattle.table_text.specs.LineForms.{HasEntry}
 use Rattle.table_text.specs.Faults.{IsWithin, no_entry}
 use Rattle.table_text.proofs.TableLines.{begun_more, lines_more}
-use Rattle.table_text.proofs.WrittenLines.{next_window}
 use Rattle.table_text.proofs.reading.entries.Goals as goal
 
 none_le : (n : ℕ) → 0 ≤ n
@@ -44,6 +43,7 @@ lines-init c =
       count = ap (λ t. length t.entries) made;
       next = λ _. first;
       window = window;
+      prefix = rw c.rounds-level.ensures at c.line_prefix_of-prefix.ensures;
       read = c.requires.header ∙ ap (λ t. lines_then (written c.args.version t c.args.header.separation) c.args.start.now) (sym made);
     }
 
@@ -72,24 +72,27 @@ lines-preserved c =
     let room : length t.entries < length (windows_of t) = rw (inv.rounds, inv.ids) (room_for _ _ _ _ inv.count c.lines-test.true count) in
     let within = rw count at c.lines-test.true in
     let next : slice_get (windows_of t) (length t.entries) ≡ Some c.lines.window = rw (inv.rounds, inv.ids, inv.count) (inv.next within) in
-    let replaced = rw level at c.next_window.ensures in
+    let advanced = c.advance.ensures in
     record {
       ids = ap (λ m. m.ids) pushed ∙ inv.ids;
       rounds = ap (λ m. m.rounds) pushed ∙ inv.rounds;
       channels = ap (λ m. m.channels) pushed ∙ inv.channels;
       begun = subst IsBegun (sym pushed) (begun_more t channel inv.begun room (rw inv.channels (c.is_too_large.ensures.no c.if-is_too_large.false)));
       count = ap (λ m. length m.entries) pushed ∙ length_push t.entries channel ∙ ap (λ n. n + 1) inv.count;
-      next = next_window _ _ c.lines.number c.next_window.result c.lines.window _ replaced (inv.next within);
-      window = replaced.window;
+      next = advanced.next c.lines.number (inv.next within);
+      window = advanced.window;
+      prefix = advanced.prefix;
       read = lines_more c.args.version t c.args.header.separation c.args.text.now c.lines.rest.now c.lines.window channel c.in-Entry.after.now inv.read next c.in-Entry.ensures.spelled
           ∙ ap (λ m. lines_then (written c.args.version m c.args.header.separation) c.in-Entry.after.now) (sym pushed);
     }
 
-pub next_window-requires-clause-level : goal.next_window-requires-clause-level
-next_window-requires-clause-level c = le_same c.rounds-level.ensures
+pub advance-requires-clause-prefix : goal.advance-requires-clause-prefix
+advance-requires-clause-prefix c = c.lines.invariant.prefix
 
-pub next_window-requires-clause-window : goal.next_window-requires-clause-window
-next_window-requires-clause-window c = rw c.rounds-level.ensures c.lines.invariant.window
+pub line_at-requires-clause-prefix : goal.line_at-requires-clause-prefix
+line_at-requires-clause-prefix c =
+    let inv = c.lines.invariant in
+    inv.prefix ∙ ap (λ n. ids_then (take n c.lines.window) []) (omega (arith, inv.window.size))
 
 pub push-requires-clause-room : goal.push-requires-clause-room
 push-requires-clause-room c =
