@@ -10,7 +10,7 @@ use std::alloc::Global;
 use std::io::Read;
 
 /// The maximum number of bytes requested in one read.
-const CHUNK: usize = 4096;
+const CHUNK: usize = 1 << 16;
 
 /// Reads the whole input, or the first `most` bytes of a longer one, in at most `most` reads.
 ///
