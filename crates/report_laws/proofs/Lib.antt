@@ -7,7 +7,7 @@ mod Fronts
 mod TableAnswers
 mod FormulaAnswers
 mod EachReport
-mod Restricted
+mod SeenTables
 mod Refuted
 mod ReadBack
 pub mod OneNote

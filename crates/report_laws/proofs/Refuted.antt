@@ -1,7 +1,7 @@
 -- What a refuted formula says of tables and programs.
-use Rattle.std.proofs.Common.{◌≡◌, ◌⊎◌, ℕ, ◌+◌, ◌*◌, ◌≤◌, List, length, refl, sym, subst, ◌∙◌}
+use Rattle.std.proofs.Common.{◌≡◌, ◌⊎◌, ℕ, ◌+◌, ◌*◌, ◌≤◌, List, length, refl, sym, ◌∙◌, inl, inr, arith}
 use Rattle.node_program.specs.Term.{ProgramTree}
-use Rattle.win_index.specs.Laws.{NumberOfWindow, WindowOfNumber, WindowsHaveNumbers, RingsHaveWindows}
+use Rattle.win_index.specs.Laws.{NumberOfWindow, WindowOfNumber, WindowsHaveNumbers, RingsHaveWindows, CountOfWindows, LengthOfArcs, ItemsOfArcs}
 use Rattle.win_index.specs.ShapeRange.{IsShape}
 use Rattle.channel_tables.specs.Tables.{ChannelTable, IsTable}
 use Rattle.channel_tables.specs.declared.separation.Separation.{Separation}
@@ -20,7 +20,7 @@ use Rattle.reports.specs.declared.status.Status.TheVariants.{Done}
 use Rattle.plan_print.specs.TaskReport.{problem}
 use Rattle.report_laws.specs.Laws.{AsksForAsMuch, IsRefuted, NoTableIfRefuted, NoProgramIfRefuted, FailsOnARing}
 use Rattle.report_laws.proofs.JudgeAnswers.{JudgeAnswer, apart, not_apart}
-use Rattle.report_laws.proofs.Restricted.{restricted, restricted_is_table, restricted_is_apart}
+use Rattle.report_laws.proofs.SeenTables.{seen_table, seen_is_table, seen_is_apart}
 use Rattle.report_laws.proofs.ToldRounds.{judge_tells}
 
 -- a report with the status of a refuted formula is on a refutation of it, and the formula's numbers are a shape
@@ -34,20 +34,24 @@ fails : (table : ChannelTable) (s : Separation) → ¬ IsApartEverywhere table s
 fails table s not (apart is) = absurd (not is)
 fails table s not (not_apart ring places channels is) = (ring, places, channels, is)
 
+-- identifiers that are enough for more rounds are enough for fewer
+enough_for_fewer : (few t ids a b : ℕ) → few ≤ t → (a ≡ b) ⊎ (2 * t + 3 ≤ ids) → (a ≡ b) ⊎ (2 * few + 3 ≤ ids)
+enough_for_fewer few t ids a b fewer (inl same) = inl same
+enough_for_fewer few t ids a b fewer (inr enough) = inr (omega (arith, enough))
+
 module _ (sound : RefutationsAreSound) (less : LessIsApart) (number : NumberOfWindow) (item : WindowOfNumber) (have : WindowsHaveNumbers)
-    (rings : RingsHaveWindows) where
+    (rings : RingsHaveWindows) (count : CountOfWindows) (arcs : LengthOfArcs) (items : ItemsOfArcs) where
   pub no_table : NoTableIfRefuted
   no_table m t channels s own table is keeps more rounds few asks are =
       let known = impossible sound (problem m t channels s.near s.far) is.input is.report is.is_report is.done in
-      let enough : (extra s ≡ extra own) ⊎ (2 * table.rounds + 3 ≤ table.ids) =
-      subst (λ (r : ℕ). (extra s ≡ extra own) ⊎ (2 * r + 3 ≤ table.ids)) (sym rounds) asks.rings in
-      let shape : IsShape m table.rounds = subst (λ (r : ℕ). IsShape m r) (sym rounds) known.1 in
-      known.0 (restricted table m) (record {
-        table = restricted_is_table table m keeps shape;
+      let enough = enough_for_fewer table.rounds t table.ids (extra s) (extra own) rounds asks.rings in
+      known.0 (seen_table table m t) (record {
+        table = seen_is_table count table m t keeps known.1;
         ids = refl;
-        rounds = rounds;
+        rounds = refl;
         channels = few;
-        apart = restricted_is_apart number item have rings table m s more (less table own s asks.near_more asks.far_more enough are);
+        apart =
+            seen_is_apart arcs items number item have rings table m t s more rounds (less table own s asks.near_more asks.far_more enough are);
       })
 
   pub no_program : OneReading → AcceptedProgramsHaveNoRefusal → ApartTablesHaveNoWitness → ProgramTablesAreTables → ProgramTablesAreApart

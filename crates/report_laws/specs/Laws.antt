@@ -150,11 +150,11 @@ pub record AsksForAsMuch (ids t : ℕ) (own s : Separation) : Type 0 where
   pub far_more : s.far ≤ own.far
   pub rings : (extra s ≡ extra own) ⊎ (2 * t + 3 ≤ ids)
 
--- then no table of these rounds with at least as many identifiers and at most as many channels keeps a separation that asks
--- for at least as much
+-- then no table with at least as many identifiers, at most as many rounds and at most as many channels keeps a separation
+-- that asks for at least as much
 abbrev pub NoTableIfRefuted : Type 0
 NoTableIfRefuted =
-    (m t channels : ℕ) (s own : Separation) (table : ChannelTable) → IsRefuted m t channels s → IsTable table → m ≤ table.ids → table.rounds ≡ t
+    (m t channels : ℕ) (s own : Separation) (table : ChannelTable) → IsRefuted m t channels s → IsTable table → m ≤ table.ids → table.rounds ≤ t
     → table.channels ≤ channels → AsksForAsMuch table.ids t own s → ¬ IsApartEverywhere table own
 
 -- two channels of the table are too close on some ring
@@ -168,8 +168,8 @@ pub record Fails (m : ℕ) (s : Separation) (text : List ℕ) (p : ProgramTree) 
   pub ring : FailsOnARing (table_of p m) s
   pub judged : (workers : ℕ) (r : Report) → IsReport (Judge m workers s.near s.far) text r → r.status ≡ No
 
--- and every accepted program with these rounds, at least as many identifiers and at most as many channels fails
+-- and every accepted program with these numbers fails
 abbrev pub NoProgramIfRefuted : Type 0
 NoProgramIfRefuted =
     (m t channels ids : ℕ) (s own : Separation) (text : List ℕ) (p : ProgramTree) → IsRefuted m t channels s → IsAcceptedText text ids p → m ≤ ids
-    → length p.steps ≡ t → p.channels ≤ channels → AsksForAsMuch ids t own s → Fails ids own text p
+    → length p.steps ≤ t → p.channels ≤ channels → AsksForAsMuch ids t own s → Fails ids own text p

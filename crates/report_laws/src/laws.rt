@@ -10,7 +10,8 @@ use refutation::{each_text_has_a_verdict, one_refutation_verdict, refutations_ar
 use table_entries::{program_tables_are_tables, table_has_the_channels_of_rounds};
 use table_text::{one_table_fault, table_texts_are_apart, table_texts_are_read};
 use win_index::{
-    number_of_window, one_ring_fault, rings_have_windows, window_of_number, windows_have_numbers,
+    count_of_windows, number_of_window, one_ring_fault, places_of_arcs, rings_have_windows,
+    window_of_number, windows_have_numbers,
 };
 
 /// A task has at most one report on an input. The report is the same for every number of workers,
@@ -87,8 +88,9 @@ pub fn table_reports_are_read_back()
     program_tables_are_tables();
 }
 
-/// If `refute` says that a formula is refuted, no table of its rounds with at most its number of
-/// channels and at least its number of identifiers keeps its separation, or one that asks for more.
+/// If `refute` says that a formula is refuted, no table with at least its number of identifiers, at
+/// most its number of rounds and at most its number of channels keeps its separation, or one that
+/// asks for more.
 /// So every accepted program with these numbers fails on some ring, and the judge says no.
 pub fn refuted_is_impossible()
     ensures table { law.NoTableIfRefuted }
@@ -106,6 +108,8 @@ pub fn refuted_is_impossible()
     number_of_window();
     window_of_number();
     windows_have_numbers();
+    count_of_windows();
+    places_of_arcs();
 }
 
 /// The note on a list that is no ring, on a number of segments, on a fault of a refutation or on a no
