@@ -3,12 +3,15 @@
 ghost use Rattle.std.specs.Prelude.{ℕ, ◌+◌, ◌*◌, ◌<◌, ◌≤◌, length};
 ghost use Rattle.std.specs.Thread.{IsSync};
 ghost use Rattle.nbhd_check.specs.Apart.{tuples};
+ghost use Rattle.nbhd_check.specs.Masks.{AreMasks};
 ghost use Rattle.nbhd_check.specs.Searches.{IsLeastIn, AreGoodParts};
 
-use crate::part::{judge_part, run_len, window_count};
+use crate::masks::fresh_masks;
+use crate::part::{judge_with_masks, run_len, window_count};
 use crate::tuple::tuple_count;
 use channel_tables::{Separation, Table};
 use rayon::join;
+use std::alloc::Global;
 use std::sync::atomic::{AtomicUsize, Ordering};
 use std::thread::Threads;
 
@@ -24,13 +27,21 @@ type Marks = [bool; MAX_PARTS];
 // Returns the least number of a bad tuple, by at most `most` threads.
 pub(crate) fn least_by_runs<R: Threads + Sync>(
     rt: &R,
+    alloc: Global,
     table: &Table,
     separation: Separation,
     most: u64,
 ) -> Option<u64>
     ensures { IsLeastIn table.now separation 0 (length (tuples table.now separation)) result }
 {
-    least_by_parts(rt, table, separation, part_len(table, separation), most)
+    least_by_parts(
+        rt,
+        alloc,
+        table,
+        separation,
+        part_len(table, separation),
+        most,
+    )
 }
 
 // Returns the number of tuples of a part, which is that of whole runs.
@@ -50,6 +61,7 @@ fn part_len(table: &Table, separation: Separation) -> u64
 // Starts no thread if there is one part, or if `most` is below 2.
 pub(crate) fn least_by_parts<R: Threads + Sync>(
     rt: &R,
+    alloc: Global,
     table: &Table,
     separation: Separation,
     len: u64,
@@ -66,6 +78,7 @@ pub(crate) fn least_by_parts<R: Threads + Sync>(
     } else {
         judge_parts(
             rt,
+            alloc,
             table,
             separation,
             len,
@@ -74,7 +87,8 @@ pub(crate) fn least_by_parts<R: Threads + Sync>(
             threads,
         )
     };
-    least_unmarked(table, separation, len, parts as usize, &marks)
+    let mut masks = fresh_masks(alloc, table, separation.near);
+    least_unmarked(table, separation, &mut masks, len, parts as usize, &marks)
 }
 
 // Returns marks of parts that have no bad tuple. Each of `threads` threads judges the parts that it
@@ -82,6 +96,7 @@ pub(crate) fn least_by_parts<R: Threads + Sync>(
 #[cycle(threads)]
 fn judge_parts<R: Threads + Sync>(
     rt: &R,
+    alloc: Global,
     table: &Table,
     separation: Separation,
     len: u64,
@@ -101,11 +116,11 @@ fn judge_parts<R: Threads + Sync>(
         move || -> Marks
             requires { (parts ≤ MAX_PARTS) × ((part : ℕ) → part < parts → part * len < length (tuples table.now separation)) }
             ensures { AreGoodParts table.entry.now separation len result }
-        { draw_parts(table, separation, len, parts, next) },
+        { draw_parts(alloc, table, separation, len, parts, next) },
         move || -> Marks
             requires { IsSync R.row × (0 < threads) × (parts ≤ MAX_PARTS) × ((part : ℕ) → part < parts → part * len < length (tuples table.now separation)) }
             ensures { AreGoodParts table.entry.now separation len result }
-        { judge_parts(rt, table, separation, len, parts, next, threads - 1) },
+        { judge_parts(rt, alloc, table, separation, len, parts, next, threads - 1) },
     );
     marked_in_either(table, separation, len, own, &others)
 }
@@ -117,10 +132,9 @@ fn no_marks(table: &Table, separation: Separation, len: u64) -> Marks
     [false; MAX_PARTS]
 }
 
-// Draws parts and judges them, until none is left or one has a bad tuple; then no thread draws
-// another one. The proof needs no fact about the counter: a part that no thread has drawn is not
-// marked.
+// Like `draw_with_masks`, with masks of its own.
 fn draw_parts(
+    alloc: Global,
     table: &Table,
     separation: Separation,
     len: u64,
@@ -131,13 +145,33 @@ fn draw_parts(
     requires begin { (part : ℕ) → part < parts → part * len < length (tuples table.now separation) }
     ensures { AreGoodParts table.now separation len result }
 {
+    let mut masks = fresh_masks(alloc, table, separation.near);
+    draw_with_masks(table, separation, &mut masks, len, parts, next)
+}
+
+// Draws parts and judges them, until none is left or one has a bad tuple; then no thread draws
+// another one. The proof needs no fact about the counter: a part that no thread has drawn is not
+// marked.
+fn draw_with_masks(
+    table: &Table,
+    separation: Separation,
+    masks: &mut [u64],
+    len: u64,
+    parts: usize,
+    next: &AtomicUsize,
+) -> Marks
+    requires few { parts ≤ MAX_PARTS }
+    requires begin { (part : ℕ) → part < parts → part * len < length (tuples table.now separation) }
+    requires masks { AreMasks table.now separation.near masks.old }
+    ensures { AreGoodParts table.now separation len result }
+{
     let mut marks = no_marks(table, separation, len);
     for _draw in 0..parts {
         let part = next.fetch_add(1, Ordering::SeqCst);
         if part >= parts {
             return marks;
         }
-        if least_of_part(table, separation, len, part).is_some() {
+        if least_of_part(table, separation, masks, len, part).is_some() {
             next.store(parts, Ordering::SeqCst);
             return marks;
         }
@@ -171,6 +205,7 @@ fn marked_in_either(
 fn least_unmarked(
     table: &Table,
     separation: Separation,
+    masks: &mut [u64],
     len: u64,
     parts: usize,
     marks: &Marks,
@@ -179,11 +214,12 @@ fn least_unmarked(
     requires begin { (part : ℕ) → part < parts → part * len < length (tuples table.now separation) }
     requires all { length (tuples table.now separation) ≤ parts * len }
     requires marks { AreGoodParts table.now separation len marks.now }
+    requires masks { AreMasks table.now separation.near masks.old }
     ensures { IsLeastIn table.now separation 0 (length (tuples table.now separation)) result }
 {
     for part in 0..parts {
         if !marks[part] {
-            if let Some(number) = least_of_part(table, separation, len, part) {
+            if let Some(number) = least_of_part(table, separation, masks, len, part) {
                 return Some(number);
             }
         }
@@ -192,11 +228,19 @@ fn least_unmarked(
 }
 
 // Returns the least number of a bad tuple of a part.
-fn least_of_part(table: &Table, separation: Separation, len: u64, part: usize) -> Option<u64>
+fn least_of_part(
+    table: &Table,
+    separation: Separation,
+    masks: &mut [u64],
+    len: u64,
+    part: usize,
+) -> Option<u64>
     requires begin { part * len < length (tuples table.now separation) }
-    ensures { IsLeastIn table.now separation (part * len) (part * len + len) result }
+    requires masks { AreMasks table.now separation.near masks.old }
+    ensures masks { AreMasks table.now separation.near masks.new }
+    ensures least { IsLeastIn table.now separation (part * len) (part * len + len) result }
 {
     let count = tuple_count(table, separation);
     let low = part as u64 * len;
-    judge_part(table, separation, low, low + len.min(count - low))
+    judge_with_masks(table, separation, masks, low, low + len.min(count - low))
 }
