@@ -7,6 +7,7 @@ use Rattle.win_index.specs.Windows.{windows, IsWindow}
 use Rattle.channel_tables.specs.Tables.{ChannelTable, channel_of}
 use Rattle.nbhd_check.specs.Counts.{shared_len}
 
+-- the mask covers the channel
 abbrev pub Covers : ℕ → ℕ → ℕ → Type 0
 Covers distance channel mask = (c : ℕ) → abs_diff c channel < distance → bit_at mask (c % 64) ≡ 1
 
@@ -24,10 +25,11 @@ AreGroupMasks t len distance masks =
 abbrev pub AreMasks : ChannelTable → ℕ → List ℕ → Type 0
 AreMasks t distance masks = AreGroupMasks t (t.ids - 2 * t.rounds) distance masks
 
--- masks for blocks, the windows that begin with the same 2t-1 identifiers
+-- the number of windows of a block: a block, as in Counts, is the windows that begin with the same 2t-1 identifiers
 abbrev pub block_len : ChannelTable → ℕ
 block_len t = (t.ids - shared_len t) * (t.ids - shared_len t - 1)
 
+-- masks for blocks
 abbrev pub AreBlockMasks : ChannelTable → ℕ → List ℕ → Type 0
 AreBlockMasks t distance masks = AreGroupMasks t (block_len t) distance masks
 
@@ -47,9 +49,10 @@ CoversThird t distance window mask =
 abbrev pub IsFirstBlock : ChannelTable → List ℕ → ℕ → Type 0
 IsFirstBlock t window first = IsRunStart (2 * (t.rounds - 1)) t.ids (drop 2 (take (2 * t.rounds) window)) first
 
--- the number of the first list of 2t identifiers that begins with those of the window but its first and its last, for
--- one round or more
+-- the number of the first list of 2t identifiers that begins with those of the window but its first and its last; there
+-- is one round or more
 abbrev pub IsFirstRun : ChannelTable → List ℕ → ℕ → Type 0
 IsFirstRun t window first =
-    1 ≤ t.rounds → (number : ℕ) × (slice_get (windows (2 * (t.rounds - 1) + 1) t.ids) number ≡ Some (drop 1 (take (2 * t.rounds) window)))
-    × (first ≡ number * (t.ids - (2 * (t.rounds - 1) + 1)))
+    (1 ≤ t.rounds)
+    × ((number : ℕ) × (slice_get (windows (2 * (t.rounds - 1) + 1) t.ids) number ≡ Some (drop 1 (take (2 * t.rounds) window)))
+    × (first ≡ number * (t.ids - (2 * (t.rounds - 1) + 1))))

@@ -10,7 +10,7 @@ ghost use Rattle.nbhd_check.specs.Masks.{AreBlockMasks, CoversThird, IsFirstBloc
 ghost use Rattle.nbhd_check.specs.Runs.{BeginsFarTuple};
 
 use crate::laws::numbers_of_windows;
-use crate::masks::{MAX_DISTANCE, first_block, fresh_block_masks, has_bit, mask_after_next};
+use crate::masks::{MAX_DISTANCE, first_block, fresh_block_masks, has_bit, mask_of_third};
 use channel_tables::Table;
 use std::alloc::Global;
 use win_index::MAX_WINDOW_LEN;
@@ -50,7 +50,7 @@ fn scan_far(table: &Table, masks: &mut [u64], distance: u32, window: &mut [u32],
 {
     let mut block = first_block(table, window);
     for number in 0..count {
-        let mask = mask_after_next(table, masks, distance, window, block);
+        let mask = mask_of_third(table, masks, distance, window, block);
         if may_begin_far_tuple(table, distance, window, number, mask) {
             return false;
         }

@@ -1,6 +1,8 @@
-// Masks of the channels of runs. They show quickly of most windows that no second window is close.
-// A mask is made when it is first asked for, so that an early no does not pay for all.
-ghost use Rattle.std.specs.Prelude.{◌≡◌, ℕ, ◌+◌, ◌-◌, ◌*◌, ◌%◌, ◌<◌, ◌≤◌, ◌↔◌, IsTrue, List, Some, length, drop, take, slice_get, slice_index};
+// Masks of the channels of runs and of blocks. They show quickly of most windows that no second or
+// third window is close. A run is the windows that begin with the same 2t identifiers. A block, here
+// and in the counts, is the windows that begin with the same 2t-1. A mask is made when it is first
+// asked for, so that an early no does not pay for all.
+ghost use Rattle.std.specs.Prelude.{◌≡◌, ℕ, ◌+◌, ◌-◌, ◌*◌, ◌%◌, ◌<◌, ◌≤◌, ◌↔◌, IfSome, IsTrue, List, Some, length, drop, take, slice_get, slice_index};
 ghost use Rattle.std.specs.Int.{abs_diff, bit_at};
 ghost use Rattle.win_index.specs.Windows.{windows, IsWindow};
 ghost use Rattle.channel_tables.specs.Tables.{windows_of, IsTable};
@@ -17,81 +19,99 @@ use win_index::{count_of_windows, place_among_unused};
 /// The greatest distance for which masks are made. They hardly help at greater ones.
 pub(crate) const MAX_DISTANCE: u32 = 8;
 
-// The minimum number of windows of a run with a mask. Shorter runs have too many masks.
-const MIN_RUN_LEN: u32 = 4;
+/// The maximum number of masks that all threads have at a time, which take a megabyte.
+pub(crate) const MAX_MASKS: usize = 1 << 17;
 
-/// Returns masks for the runs of a table, none of them made yet. Returns none if they do not help,
-/// or if memory was refused.
-pub(crate) fn fresh_masks(alloc: Global, table: &Table, distance: u32) -> Vec<u64>
+// The minimum number of windows of a run with a mask. A mask saves little time at shorter runs.
+const MIN_RUN_WINDOWS: usize = 4;
+
+/// The memory for the masks of one thread.
+#[derive(Clone, Copy)]
+pub(crate) struct MaskRoom {
+    pub(crate) alloc: Global,
+    // The maximum number of masks.
+    pub(crate) limit: usize,
+}
+
+/// Returns the memory for the masks of each of `threads` threads, or of one if there are none.
+pub(crate) fn mask_room(alloc: Global, threads: u64) -> MaskRoom {
+    let limit = (MAX_MASKS as u64 / threads.max(1)) as usize;
+    MaskRoom { alloc, limit }
+}
+
+/// Returns masks for the first runs of a table, none of them made yet. Returns none if they do not
+/// help, or if memory was refused.
+pub(crate) fn fresh_masks(room: MaskRoom, table: &Table, distance: u32) -> Vec<u64>
     ensures { AreMasks table.now distance result.items }
 {
-    let shape = table.shape();
-    let wide = shape.ids() - 2 * shape.rounds();
-    if shape.rounds() == 0 || wide < MIN_RUN_LEN || distance > MAX_DISTANCE {
-        return Vec::new(alloc);
+    let windows = windows_per_run(table);
+    if table.shape().rounds() == 0 || windows < MIN_RUN_WINDOWS || distance > MAX_DISTANCE {
+        return Vec::new(room.alloc);
     }
-    match vec![in alloc; 0u64; (window_count(table) / wide) as usize] {
+    let runs = window_count(table) as usize / windows;
+    match vec![in room.alloc; 0u64; runs.min(room.limit)] {
         Ok(masks) => masks,
-        Err(_) => Vec::new(alloc),
+        Err(_) => Vec::new(room.alloc),
     }
 }
 
-/// Returns masks for the blocks of a table, none of them made yet. Returns none if memory was refused.
+/// Returns masks for the blocks of a table, none of them made yet. Returns none if there are more
+/// than `MAX_MASKS` blocks, or if memory was refused.
 pub(crate) fn fresh_block_masks(alloc: Global, table: &Table, distance: u32) -> Vec<u64>
     requires some { 1 ≤ table.now.rounds }
     ensures { AreBlockMasks table.now distance result.items }
 {
     let shape = table.shape();
-    match vec![in alloc; 0u64; shape.count(shape.rounds() - 1) as usize] {
+    let blocks = shape.count(shape.rounds() - 1) as usize;
+    if blocks > MAX_MASKS {
+        return Vec::new(alloc);
+    }
+    match vec![in alloc; 0u64; blocks] {
         Ok(masks) => masks,
         Err(_) => Vec::new(alloc),
     }
 }
 
-/// Returns the number of the first run that the second windows of the window's run have. Returns 0
-/// if there are no rounds, or if it is not used.
-pub(crate) fn first_run(table: &Table, window: &[u32], is_used: bool) -> usize
+/// Returns the number of the first run that the second windows of the window's run have. Returns
+/// `None` if there are no rounds or no masks.
+pub(crate) fn first_run(table: &Table, masks: &[u64], window: &[u32]) -> Option<usize>
     requires window { IsWindow (2 * table.now.rounds + 1) table.now.ids window.now }
-    ensures { IsTrue is_used → IsFirstRun table.now window.now result }
+    ensures { IfSome result (IsFirstRun table.now window.now) }
 {
     let shape = table.shape();
     let rounds = shape.rounds();
-    if !is_used || rounds == 0 {
-        return 0;
+    if masks.is_empty() || rounds == 0 {
+        return None;
     }
     let shared = &window[1..2 * rounds as usize];
     let number = shape.window_number(rounds - 1, shared) as usize;
-    number * (shape.ids() as usize - shared.len())
+    Some(number * (shape.ids() as usize - shared.len()))
 }
 
-/// Returns a mask that covers the channels of the second windows after this one. Returns all ones
-/// if masks are not used.
-pub(crate) fn mask_after(
+/// Returns a mask that covers the channels of the second windows after this one. It is all ones if
+/// their run has no mask, so that it tells nothing.
+pub(crate) fn mask_of_next(
     table: &Table,
     masks: &mut [u64],
     distance: u32,
     window: &[u32],
-    first: usize,
-    is_used: bool,
+    first: Option<usize>,
 ) -> u64
     requires window { IsWindow (2 * table.now.rounds + 1) table.now.ids window.now }
-    requires first { IsTrue is_used → IsFirstRun table.now window.now first }
+    requires first { IfSome first (IsFirstRun table.now window.now) }
     requires masks { AreMasks table.now distance masks.old }
     ensures masks { AreMasks table.now distance masks.new }
     ensures covers { CoversNext table.now distance window.now result }
 {
     numbers_of_windows();
-    if !is_used {
+    let Some(first) = first else {
         return u64::MAX;
-    }
-    if table.shape().rounds() == 0 || distance > MAX_DISTANCE {
-        return u64::MAX;
-    }
+    };
     let run = run_after(table, window, first);
-    if run >= masks.len() {
+    if run >= masks.len() || distance > MAX_DISTANCE {
         return u64::MAX;
     }
-    made_mask(table, masks, run_width(table), distance, run)
+    made_mask(table, masks, windows_per_run(table), distance, run)
 }
 
 /// Returns the number of the first block that the third windows of the window's run have.
@@ -105,8 +125,9 @@ pub(crate) fn first_block(table: &Table, window: &[u32]) -> usize
     shape.run_start(rounds - 1, &window[2..2 * rounds as usize]) as usize
 }
 
-/// Returns a mask that covers the channels of the third windows after this one.
-pub(crate) fn mask_after_next(
+/// Returns a mask that covers the channels of the third windows after this one. It is all ones if
+/// their block has no mask, so that it tells nothing.
+pub(crate) fn mask_of_third(
     table: &Table,
     masks: &mut [u64],
     distance: u32,
@@ -126,7 +147,7 @@ pub(crate) fn mask_after_next(
     if block >= masks.len() {
         return u64::MAX;
     }
-    made_mask(table, masks, block_width(table), distance, block)
+    made_mask(table, masks, windows_per_block(table), distance, block)
 }
 
 // Returns the number of the block of the third windows after this one.
@@ -145,7 +166,6 @@ fn block_after(table: &Table, window: &[u32], first: usize) -> usize
 
 // Returns the number of the run of the second windows after this one.
 fn run_after(table: &Table, window: &[u32], first: usize) -> usize
-    requires some { 1 ≤ table.now.rounds }
     requires window { IsWindow (2 * table.now.rounds + 1) table.now.ids window.now }
     requires first { IsFirstRun table.now window.now first }
     ensures item { slice_get (windows (2 * table.now.rounds) table.now.ids) result ≡ Some (drop 1 window.now) }
@@ -158,7 +178,7 @@ fn run_after(table: &Table, window: &[u32], first: usize) -> usize
 }
 
 // Returns the number of windows of a run.
-fn run_width(table: &Table) -> usize
+fn windows_per_run(table: &Table) -> usize
     ensures value { result ≡ table.now.ids - 2 * table.now.rounds }
 {
     let shape = table.shape();
@@ -166,7 +186,7 @@ fn run_width(table: &Table) -> usize
 }
 
 // Returns the number of windows of a block.
-fn block_width(table: &Table) -> usize
+fn windows_per_block(table: &Table) -> usize
     requires some { 1 ≤ table.now.rounds }
     ensures value { result ≡ block_len table.now }
     ensures table { IsTable table.now }

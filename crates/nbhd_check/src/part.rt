@@ -1,4 +1,4 @@
-ghost use Rattle.std.specs.Prelude.{◌≡◌, ℕ, List, ◌+◌, ◌-◌, ◌*◌, ◌/◌, ◌<◌, ◌≤◌, MatchOption, IsTrue, Some, length, slice_get, max, min};
+ghost use Rattle.std.specs.Prelude.{◌≡◌, ℕ, List, ◌+◌, ◌-◌, ◌*◌, ◌/◌, ◌<◌, ◌≤◌, MatchOption, IfSome, Some, length, slice_get, max, min};
 ghost use Rattle.win_index.specs.declared.limits.TheConstants.{MAX_IDS};
 ghost use Rattle.win_index.specs.Windows.{IsWindow};
 ghost use Rattle.channel_tables.specs.Tables.{windows_of, IsTable};
@@ -7,7 +7,7 @@ ghost use Rattle.nbhd_check.specs.Masks.{AreMasks, CoversNext, IsFirstRun};
 ghost use Rattle.nbhd_check.specs.Runs.{run_len};
 
 use crate::laws::numbers_of_windows;
-use crate::masks::{first_run, mask_after};
+use crate::masks::{first_run, mask_of_next};
 use crate::run::may_begin_bad_tuple;
 use crate::tuple::least_bad_tuple;
 use channel_tables::{Separation, Table};
@@ -104,27 +104,26 @@ fn scan_runs(
         (λ n. (n < high) × ((tuple : List ℕ) × IsLeastBad table.now separation low n tuple)) }
 {
     let last = ((high - 1) / run_len(table, separation)) as u32;
-    let is_used = masks.len() > 0;
-    let mut run = first_run(table, window, is_used);
+    let mut run = first_run(table, masks, window);
     for number in first..last + 1 {
-        let mask = mask_after(table, masks, separation.near, window, run, is_used);
+        let mask = mask_of_next(table, masks, separation.near, window, run);
         if let Some(found) = least_in_run(table, separation, window, number, mask, low, high) {
             return Some(found);
         }
-        run = advance(table, window, run, is_used);
+        run = advance(table, masks, window, run);
     }
     None
 }
 
 // Replaces a window by the next one, unless it is the last. Returns the `first_run` of the new one;
 // `first` is that of the old one.
-fn advance(table: &Table, window: &mut [u32], first: usize, is_used: bool) -> usize
+fn advance(table: &Table, masks: &[u64], window: &mut [u32], first: Option<usize>) -> Option<usize>
     requires window { IsWindow (2 * table.now.rounds + 1) table.now.ids window.old }
-    requires first { IsTrue is_used → IsFirstRun table.now window.old first }
+    requires first { IfSome first (IsFirstRun table.now window.old) }
     ensures window { IsWindow (2 * table.now.rounds + 1) table.now.ids window.new }
     ensures next { (number : ℕ) → number + 1 < length (windows_of table.now)
         → slice_get (windows_of table.now) number ≡ Some window.old → slice_get (windows_of table.now) (number + 1) ≡ Some window.new }
-    ensures first { IsTrue is_used → IsFirstRun table.now window.new result }
+    ensures first { IfSome result (IsFirstRun table.now window.new) }
 {
     let shape = table.shape();
     let level = shape.rounds();
@@ -132,7 +131,7 @@ fn advance(table: &Table, window: &mut [u32], first: usize, is_used: bool) -> us
         return first;
     }
     shape.next_window(level, window);
-    first_run(table, window, is_used)
+    first_run(table, masks, window)
 }
 
 // Like `judge_part`, for the tuples that begin with this window. The mask covers the channels of

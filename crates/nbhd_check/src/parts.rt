@@ -6,7 +6,7 @@ ghost use Rattle.nbhd_check.specs.Apart.{tuples};
 ghost use Rattle.nbhd_check.specs.Masks.{AreMasks};
 ghost use Rattle.nbhd_check.specs.Searches.{IsLeastIn, AreGoodParts};
 
-use crate::masks::fresh_masks;
+use crate::masks::{MaskRoom, fresh_masks, mask_room};
 use crate::part::{judge_with_masks, run_len, window_count};
 use crate::tuple::tuple_count;
 use channel_tables::{Separation, Table};
@@ -73,12 +73,13 @@ pub(crate) fn least_by_parts<R: Threads + Sync>(
 {
     let parts = tuple_count(table, separation).div_ceil(len);
     let threads = most.min(parts);
+    let room = mask_room(alloc, threads);
     let marks = if threads < 2 {
         no_marks(table, separation, len)
     } else {
         judge_parts(
             rt,
-            alloc,
+            room,
             table,
             separation,
             len,
@@ -87,7 +88,7 @@ pub(crate) fn least_by_parts<R: Threads + Sync>(
             threads,
         )
     };
-    let mut masks = fresh_masks(alloc, table, separation.near);
+    let mut masks = own_masks(room, table, separation.near, threads);
     least_unmarked(table, separation, &mut masks, len, parts as usize, &marks)
 }
 
@@ -96,7 +97,7 @@ pub(crate) fn least_by_parts<R: Threads + Sync>(
 #[cycle(threads)]
 fn judge_parts<R: Threads + Sync>(
     rt: &R,
-    alloc: Global,
+    room: MaskRoom,
     table: &Table,
     separation: Separation,
     len: u64,
@@ -116,13 +117,24 @@ fn judge_parts<R: Threads + Sync>(
         move || -> Marks
             requires { (parts ≤ MAX_PARTS) × ((part : ℕ) → part < parts → part * len < length (tuples table.now separation)) }
             ensures { AreGoodParts table.entry.now separation len result }
-        { draw_parts(alloc, table, separation, len, parts, next) },
+        { draw_parts(room, table, separation, len, parts, next) },
         move || -> Marks
             requires { IsSync R.row × (0 < threads) × (parts ≤ MAX_PARTS) × ((part : ℕ) → part < parts → part * len < length (tuples table.now separation)) }
             ensures { AreGoodParts table.entry.now separation len result }
-        { judge_parts(rt, alloc, table, separation, len, parts, next, threads - 1) },
+        { judge_parts(rt, room, table, separation, len, parts, next, threads - 1) },
     );
     marked_in_either(table, separation, len, own, &others)
+}
+
+// Returns masks for the calling thread. Returns none if it has other threads: what it judges after
+// them is little.
+fn own_masks(room: MaskRoom, table: &Table, distance: u32, threads: u64) -> Vec<u64>
+    ensures { AreMasks table.now distance result.items }
+{
+    if threads > 1 {
+        return Vec::new(room.alloc);
+    }
+    fresh_masks(room, table, distance)
 }
 
 // Returns marks with no part marked.
@@ -134,7 +146,7 @@ fn no_marks(table: &Table, separation: Separation, len: u64) -> Marks
 
 // Like `draw_with_masks`, with masks of its own.
 fn draw_parts(
-    alloc: Global,
+    room: MaskRoom,
     table: &Table,
     separation: Separation,
     len: u64,
@@ -145,7 +157,7 @@ fn draw_parts(
     requires begin { (part : ℕ) → part < parts → part * len < length (tuples table.now separation) }
     ensures { AreGoodParts table.now separation len result }
 {
-    let mut masks = fresh_masks(alloc, table, separation.near);
+    let mut masks = fresh_masks(room, table, separation.near);
     draw_with_masks(table, separation, &mut masks, len, parts, next)
 }
 

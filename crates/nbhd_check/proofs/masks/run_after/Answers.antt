@@ -23,11 +23,12 @@ module _ (c : After-place_among_unused) where
       let t = c.args.table.now in
       let window = c.args.window.now in
       let rounds_is : c.rounds.result ≡ t.rounds = c.rounds.ensures ∙ c.shape.ensures.rounds in
-      let found = c.requires.first c.requires.some in
-      let cut = shared_cut t c.rounds.result window rounds_is c.requires.some in
+      let some = c.requires.first.0 in
+      let found = c.requires.first.1 in
+      let cut = shared_cut t c.rounds.result window rounds_is some in
       let place : c.place_among_unused.result ≡ length (unused (slice_index window (2 * t.rounds)) (drop 1 (take (2 * t.rounds) window))) =
       c.place_among_unused.ensures ∙ (λ q. length (unused (slice_index window (2 * rounds_is q)) (cut q))) in
-      number_of_next c.numbers_of_windows.ensures t window found.0 c.args.first c.place_among_unused.result c.requires.some c.requires.window found.1 found.2 place
+      number_of_next c.numbers_of_windows.ensures t window found.0 c.args.first c.place_among_unused.result some c.requires.window found.1 found.2 place
 
   run_in : (c.args.first + c.place_among_unused.result) * (c.args.table.now.ids - 2 * c.args.table.now.rounds) + (c.args.table.now.ids - 2 * c.args.table.now.rounds) ≤ length c.args.table.now.entries
   run_in =

@@ -25,7 +25,7 @@ loop-number-preserved c =
           (c.loop-number.invariant.0 c.loop-number-test.true),
       c.advance-run.ensures.window,
       none_in_more t c.args.separation c.args.low c.args.high number run c.loop-number.invariant.2 c.in_default.ensures,
-      c.mask_after-mask.ensures.masks,
+      c.mask_of_next-mask.ensures.masks,
       c.advance-run.ensures.first,
     )
 
