@@ -61,10 +61,20 @@ def verdict(ids, rounds, near, far, channel_of):
         first, *others = (channel_of(window) for window in zip(*(ring[place:] for place in range(2 * rounds + 1))))
         for step, other, least in zip([1, 2], others, [near, far]):
             if abs(first - other) < least:
-                line = " ".join(str(it) for it in ring)
-                if (near, far) == (1, 0):
-                    return f"no: ring {line} place {rounds} channel {first}\n", 1
-                return f"no: ring {line} places {rounds} {rounds + step} channels {first} {other}\n", 1
+                return no(ring, rounds, near, far, step, first, other)
+    return yes(ids, rounds, far)
+
+
+def no(ring, rounds, near, far, step, first, other):
+    """The line for a ring whose places `rounds` and `rounds + step` have channels that are too close, and its exit status."""
+    line = " ".join(str(it) for it in ring)
+    if (near, far) == (1, 0):
+        return f"no: ring {line} place {rounds} channel {first}\n", 1
+    return f"no: ring {line} places {rounds} {rounds + step} channels {first} {other}\n", 1
+
+
+def yes(ids, rounds, far):
+    """The line for a table that keeps its separation, and its exit status."""
     return f"yes: {perm(ids, 2 * rounds + 2 + (far > 0))} tuples\n", 0
 
 

@@ -7,6 +7,7 @@ pub mod EnoughParts
 pub mod HeldCounts
 pub mod Included
 pub mod Marks
+pub mod Covered
 pub mod RunLengths
 pub mod LastAdded
 pub mod LeastFrom

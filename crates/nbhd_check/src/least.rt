@@ -5,6 +5,7 @@ ghost use Rattle.nbhd_check.specs.Runs.{AreFree};
 ghost use Rattle.nbhd_check.specs.Searches.{IsLeastIn};
 
 use crate::counts::{Counts, channel_limit};
+use crate::far_masks::are_far_free;
 use crate::far_parts::{MAX_FAR_PARTS, far_free_windows, searchers};
 use crate::laws::numbers_of_windows;
 use crate::part::{judge_part, run_len, window_count};
@@ -26,7 +27,7 @@ pub(crate) fn least_of_all<R: Threads + Sync>(
 {
     match free_windows(rt, alloc, table, separation, threads) {
         Some(first) => least_from(table, separation, first),
-        None => least_by_runs(rt, table, separation, threads),
+        None => least_by_runs(rt, alloc, table, separation, threads),
     }
 }
 
@@ -61,7 +62,10 @@ fn free_windows<R: Threads + Sync>(
     let Ok(mut searchers) = searchers(alloc, table, separation.far, limit, more as usize) else {
         return None;
     };
-    let near = near_free_windows(rt, table, separation.near, threads);
+    let near = near_free_windows(rt, alloc, table, separation.near, threads);
+    if are_far_free(alloc, table, separation.far, near) {
+        return Some(near);
+    }
     Some(far_free_windows(rt, table, separation.far, &mut searchers, &mut counts, near))
 }
 
@@ -79,13 +83,19 @@ fn are_worth_counting(table: &Table, limit: u32) -> bool
 
 // Returns a number of windows such that none of the windows below it begins a tuple whose second
 // window is closer than `near`.
-fn near_free_windows<R: Threads + Sync>(rt: &R, table: &Table, near: u32, threads: u64) -> u32
+fn near_free_windows<R: Threads + Sync>(
+    rt: &R,
+    alloc: Global,
+    table: &Table,
+    near: u32,
+    threads: u64,
+) -> u32
     ensures { AreFree table.now (record { near = near; far = 0 }) result }
 {
     numbers_of_windows();
     let separation = Separation { near, far: 0 };
     let count = window_count(table);
-    match least_by_runs(rt, table, separation, threads) {
+    match least_by_runs(rt, alloc, table, separation, threads) {
         Some(number) => (number / run_len(table, separation)) as u32,
         None => count,
     }

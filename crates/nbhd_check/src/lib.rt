@@ -3,10 +3,12 @@
 
 mod counts;
 mod far;
+mod far_masks;
 mod far_parts;
 mod gaps;
 mod laws;
 mod least;
+mod masks;
 mod part;
 mod parts;
 mod run;

@@ -1,11 +1,13 @@
-ghost use Rattle.std.specs.Prelude.{◌≡◌, ℕ, List, ◌+◌, ◌-◌, ◌*◌, ◌/◌, ◌<◌, ◌≤◌, MatchOption, Some, length, slice_get, max, min};
+ghost use Rattle.std.specs.Prelude.{◌≡◌, ℕ, List, ◌+◌, ◌-◌, ◌*◌, ◌/◌, ◌<◌, ◌≤◌, MatchOption, IfSome, Some, length, slice_get, max, min};
 ghost use Rattle.win_index.specs.declared.limits.TheConstants.{MAX_IDS};
 ghost use Rattle.win_index.specs.Windows.{IsWindow};
 ghost use Rattle.channel_tables.specs.Tables.{windows_of, IsTable};
 ghost use Rattle.nbhd_check.specs.Apart.{tuples, extra, NoneIsBad, IsLeastBad};
+ghost use Rattle.nbhd_check.specs.Masks.{AreMasks, CoversNext, IsFirstRun};
 ghost use Rattle.nbhd_check.specs.Runs.{run_len};
 
 use crate::laws::numbers_of_windows;
+use crate::masks::{first_run, mask_of_next};
 use crate::run::may_begin_bad_tuple;
 use crate::tuple::least_bad_tuple;
 use channel_tables::{Separation, Table};
@@ -23,6 +25,24 @@ pub fn judge_part(table: &Table, separation: Separation, low: u64, high: u64) ->
     ensures { MatchOption result (NoneIsBad table.now separation low high)
         (λ n. (n < high) × ((tuple : List ℕ) × IsLeastBad table.now separation low n tuple)) }
 {
+    judge_with_masks(table, separation, &mut [], low, high)
+}
+
+// Like `judge_part`. Makes those of the masks that it needs.
+pub(crate) fn judge_with_masks(
+    table: &Table,
+    separation: Separation,
+    masks: &mut [u64],
+    low: u64,
+    high: u64,
+) -> Option<u64>
+    requires order { low ≤ high }
+    requires within { high ≤ length (tuples table.now separation) }
+    requires masks { AreMasks table.now separation.near masks.old }
+    ensures masks { AreMasks table.now separation.near masks.new }
+    ensures least { MatchOption result (NoneIsBad table.now separation low high)
+        (λ n. (n < high) × ((tuple : List ℕ) × IsLeastBad table.now separation low n tuple)) }
+{
     if low == high {
         return None;
     }
@@ -32,7 +52,7 @@ pub fn judge_part(table: &Table, separation: Separation, low: u64, high: u64) ->
     let mut cells = [0; MAX_WINDOW_LEN];
     let window = &mut cells[..2 * level as usize + 1];
     shape.window(level, first, window);
-    scan_runs(table, separation, window, first, low, high)
+    scan_runs(table, separation, masks, window, first, low, high)
 }
 
 // Returns the number of tuples that begin with one window, 0 if a tuple has more identifiers than
@@ -41,6 +61,7 @@ pub(crate) fn run_len(table: &Table, separation: Separation) -> u64
     ensures value { result ≡ run_len table.now separation }
     ensures few { result ≤ MAX_IDS * MAX_IDS }
     ensures all { length (tuples table.now separation) ≡ length (windows_of table.now) * result }
+    ensures table { IsTable table.now }
 {
     count_of_windows();
     let shape = table.shape();
@@ -66,6 +87,7 @@ pub(crate) fn window_count(table: &Table) -> u32
 fn scan_runs(
     table: &Table,
     separation: Separation,
+    masks: &mut [u64],
     window: &mut [u32],
     first: u32,
     low: u64,
@@ -76,31 +98,56 @@ fn scan_runs(
     requires window { IsWindow (2 * table.now.rounds + 1) table.now.ids window.old }
     requires item { slice_get (windows_of table.now) first ≡ Some window.old }
     requires first { first ≡ low / run_len table.now separation }
-    ensures { MatchOption result (NoneIsBad table.now separation low high)
+    requires masks { AreMasks table.now separation.near masks.old }
+    ensures masks { AreMasks table.now separation.near masks.new }
+    ensures least { MatchOption result (NoneIsBad table.now separation low high)
         (λ n. (n < high) × ((tuple : List ℕ) × IsLeastBad table.now separation low n tuple)) }
 {
-    let shape = table.shape();
     let last = ((high - 1) / run_len(table, separation)) as u32;
+    let mut run = first_run(table, masks, window);
     for number in first..last + 1 {
-        if let Some(found) = least_in_run(table, separation, window, number, low, high) {
+        let mask = mask_of_next(table, masks, separation.near, window, run);
+        if let Some(found) = least_in_run(table, separation, window, number, mask, low, high) {
             return Some(found);
         }
-        shape.next_window(shape.rounds(), window);
+        run = advance(table, masks, window, run);
     }
     None
 }
 
-// Like `judge_part`, for the tuples that begin with this window.
+// Replaces a window by the next one, unless it is the last. Returns the `first_run` of the new one;
+// `first` is that of the old one.
+fn advance(table: &Table, masks: &[u64], window: &mut [u32], first: Option<usize>) -> Option<usize>
+    requires window { IsWindow (2 * table.now.rounds + 1) table.now.ids window.old }
+    requires first { IfSome first (IsFirstRun table.now window.old) }
+    ensures window { IsWindow (2 * table.now.rounds + 1) table.now.ids window.new }
+    ensures next { (number : ℕ) → number + 1 < length (windows_of table.now)
+        → slice_get (windows_of table.now) number ≡ Some window.old → slice_get (windows_of table.now) (number + 1) ≡ Some window.new }
+    ensures first { IfSome result (IsFirstRun table.now window.new) }
+{
+    let shape = table.shape();
+    let level = shape.rounds();
+    if shape.next_in_run(level, window) {
+        return first;
+    }
+    shape.next_window(level, window);
+    first_run(table, masks, window)
+}
+
+// Like `judge_part`, for the tuples that begin with this window. The mask covers the channels of
+// its second windows.
 fn least_in_run(
     table: &Table,
     separation: Separation,
     window: &[u32],
     number: u32,
+    mask: u64,
     low: u64,
     high: u64,
 ) -> Option<u64>
     requires window { IsWindow (2 * table.now.rounds + 1) table.now.ids window.now }
     requires item { slice_get (windows_of table.now) number ≡ Some window.now }
+    requires mask { CoversNext table.now separation.near window.now mask }
     requires within { high ≤ length (tuples table.now separation) }
     requires begins { number * run_len table.now separation < high }
     requires ends { low < number * run_len table.now separation + run_len table.now separation }
@@ -110,7 +157,7 @@ fn least_in_run(
         (λ n. (n < high) × ((tuple : List ℕ) × IsLeastBad table.now separation (max low start) n tuple)) }
 {
     numbers_of_windows();
-    if !may_begin_bad_tuple(table, separation, window, number) {
+    if !may_begin_bad_tuple(table, separation, window, number, mask) {
         return None;
     }
     let free = run_len(table, separation);

@@ -4,28 +4,33 @@ ghost use Rattle.std.specs.Prelude.{◌≡◌, ℕ, ◌+◌, ◌*◌, ◌<◌, �
 ghost use Rattle.std.specs.Bool.{OnFalse};
 ghost use Rattle.win_index.specs.Windows.{IsWindow};
 ghost use Rattle.channel_tables.specs.Tables.{windows_of};
+ghost use Rattle.nbhd_check.specs.Masks.{CoversNext};
 ghost use Rattle.nbhd_check.specs.Runs.{BeginsBadTuple, BeginsFarTuple, NoneCloseAfter, AreChannelsAfter};
 
 use crate::gaps::has_close_outside;
 use crate::laws::numbers_of_windows;
+use crate::masks::has_bit;
 use crate::tuple::contains;
 use channel_tables::{Separation, Table};
 use win_index::{MAX_TUPLE_LEN, place_among_unused};
 
-// Returns `false` only if no tuple that begins with this window is bad.
+// Returns `false` only if no tuple that begins with this window is bad. The mask covers the
+// channels of its second windows.
 pub(crate) fn may_begin_bad_tuple(
     table: &Table,
     separation: Separation,
     window: &[u32],
     number: u32,
+    mask: u64,
 ) -> bool
     requires window { IsWindow (2 * table.now.rounds + 1) table.now.ids window.now }
     requires item { slice_get (windows_of table.now) number ≡ Some window.now }
+    requires mask { CoversNext table.now separation.near window.now mask }
     ensures { OnFalse result (¬ BeginsBadTuple table.now separation window.now) }
 {
     numbers_of_windows();
     let channel = table.entries()[number as usize];
-    may_be_close_next(table, window, separation.near, channel)
+    may_be_close_by_mask(table, window, separation.near, channel, mask)
         || may_begin_far_tuple(table, separation.far, window, number)
 }
 
@@ -39,6 +44,26 @@ fn may_begin_far_tuple(table: &Table, distance: u32, window: &[u32], number: u32
     numbers_of_windows();
     let channel = table.entries()[number as usize];
     may_be_close_at_two(table, window, distance, channel)
+}
+
+// Like `may_be_close_next`. Looks at the second windows only if the mask, which covers their
+// channels, has the bit of the channel.
+fn may_be_close_by_mask(
+    table: &Table,
+    window: &[u32],
+    distance: u32,
+    channel: u16,
+    mask: u64,
+) -> bool
+    requires window { IsWindow (2 * table.now.rounds + 1) table.now.ids window.now }
+    requires mask { CoversNext table.now distance window.now mask }
+    ensures { OnFalse result (NoneCloseAfter table.now window.now 1 distance channel) }
+{
+    numbers_of_windows();
+    if !has_bit(mask, channel) {
+        return false;
+    }
+    may_be_close_next(table, window, distance, channel)
 }
 
 // Returns `false` only if no list that begins with this window has a second window closer than

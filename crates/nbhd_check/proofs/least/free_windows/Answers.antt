@@ -1,4 +1,5 @@
 use Rattle.std.proofs.Common.{arith, All, subst, sym}
+use Rattle.std.proofs.lemmas.Bool.{OnTrue_at}
 use Rattle.nbhd_check.proofs.Runs.{free_of_both}
 use Rattle.nbhd_check.specs.FarSearch.{IsSearcherOf}
 use Rattle.nbhd_check.proofs.least.free_windows.Goals as goal
@@ -7,6 +8,12 @@ pub returns : goal.returns
 returns g c =
     free_of_both c.numbers_of_windows.ensures c.args.table.now c.args.separation c.near_free_windows-near.result c.far_free_windows.result c.far_free_windows.result
     c.shape.ensures.table.size c.near_free_windows-near.ensures c.far_free_windows.ensures.free c.far_free_windows.ensures.less (omega arith)
+
+pub returns-then-are_far_free : goal.returns-then-are_far_free
+returns-then-are_far_free g c =
+    let near = c.near_free_windows-near.result in
+    free_of_both c.numbers_of_windows.ensures c.args.table.now c.args.separation near near near
+    c.shape.ensures.table.size c.near_free_windows-near.ensures (OnTrue_at c.if-are_far_free.true c.are_far_free.ensures) (omega arith) (omega arith)
 
 pub searchers-requires-clause-limit : goal.searchers-requires-clause-limit
 searchers-requires-clause-limit g c = c.channel_limit-limit.ensures.limit

@@ -1,13 +1,12 @@
-use Rattle.std.proofs.Common.{ℕ, ◌+◌, ◌*◌, ◌/◌, ◌-◌, ◌<◌, max, min, length, subst, ap, ◌∙◌, arith, ◌≤◌}
+use Rattle.std.proofs.Common.{ℕ, ◌+◌, ◌*◌, ◌/◌, ◌-◌, ◌<◌, max, min, length, subst, ap, arith, ◌≤◌}
 use Rattle.nbhd_check.specs.Runs.{run_len}
 use Rattle.nbhd_check.proofs.LeastFrom.{least_from_before, none_before, none_in_more, last_window, scan_begins, scan_ends, scan_covers, some_run}
-use Rattle.nbhd_check.proofs.Prefixes.{next_item, window_of_shape, step_of_shape}
 use Rattle.channel_tables.specs.Tables.{windows_of}
 use Rattle.nbhd_check.proofs.part.scan_runs.Goals.{After-run_len}
 use Rattle.nbhd_check.proofs.part.scan_runs.Goals as goal
 
-pub returns-in-Some : goal.returns-in-Some
-returns-in-Some c =
+pub returns-in-Some-clause-least : goal.returns-in-Some-clause-least
+returns-in-Some-clause-least c =
     let run = run_len c.args.table.now c.args.separation in
     let start : ℕ = c.loop-number.number * run in
     let found = c.in-Some.ensures in (
@@ -20,13 +19,14 @@ pub loop-number-preserved : goal.loop-number-preserved
 loop-number-preserved c =
     let t = c.args.table.now in
     let number : ℕ = c.loop-number.number in
-    let run = run_len t c.args.separation in
-    let step = step_of_shape t c.rounds.result c.shape-shape.result.ids c.next_window.result c.loop-number.window c.next_window.new.window
-    (c.rounds.ensures ∙ c.shape-shape.ensures.rounds) c.shape-shape.ensures.ids c.next_window.ensures in (
-      λ lt. next_item t number c.next_window.result c.loop-number.window c.next_window.new.window step (c.loop-number.invariant.0 c.loop-number-test.true)
-          (last_window c.args.high _ (length (windows_of t)) c.run_len.result (number + 1) (omega arith) c.run_len.ensures.all c.requires.within lt),
-      step.window,
+    let run = run_len t c.args.separation in (
+      λ lt. c.advance-run.ensures.next number
+          (last_window c.args.high _ (length (windows_of t)) c.run_len.result (number + 1) (omega arith) c.run_len.ensures.all c.requires.within lt)
+          (c.loop-number.invariant.0 c.loop-number-test.true),
+      c.advance-run.ensures.window,
       none_in_more t c.args.separation c.args.low c.args.high number run c.loop-number.invariant.2 c.in_default.ensures,
+      c.mask_of_next-mask.ensures.masks,
+      c.advance-run.ensures.first,
     )
 
 pub loop-number-init : goal.loop-number-init
@@ -34,12 +34,9 @@ loop-number-init c = (
   λ lt. c.requires.item,
   c.requires.window,
   none_before c.args.table.now c.args.separation c.args.low c.args.high c.args.first (run_len c.args.table.now c.args.separation) c.requires.first,
+  c.requires.masks,
+  c.first_run-run.ensures,
 )
-
-pub next_window-requires-clause-window : goal.next_window-requires-clause-window
-next_window-requires-clause-window c =
-    window_of_shape c.args.table.now c.rounds.result c.shape-shape.result.ids c.loop-number.window
-    (c.rounds.ensures ∙ c.shape-shape.ensures.rounds) c.shape-shape.ensures.ids c.loop-number.invariant.1
 
 pub least_in_run-requires-clause-ends : goal.least_in_run-requires-clause-ends
 least_in_run-requires-clause-ends c =
@@ -59,8 +56,8 @@ least_in_run-requires-clause-begins c =
 pub least_in_run-requires-clause-window : goal.least_in_run-requires-clause-window
 least_in_run-requires-clause-window c = c.loop-number.invariant.1
 
-pub returns : goal.returns
-returns c = λ n tuple ge lt item.
+pub returns-clause-least : goal.returns-clause-least
+returns-clause-least c = λ n tuple ge lt item.
     let t = c.args.table.now in
     let some : 0 < c.args.high = omega arith in
     let positive = some_run (length (windows_of t)) c.run_len.result _ c.args.high c.run_len.ensures.all c.requires.within some in
@@ -77,7 +74,7 @@ module _ (c : After-run_len) where
       c.requires.within (omega arith)
 
 pub overflow_cast-last : goal.overflow_cast-last
-overflow_cast-last c = omega (arith, last_in c, c.shape-shape.ensures.table.begun.shape.few_windows)
+overflow_cast-last c = omega (arith, last_in c, c.run_len.ensures.table.begun.shape.few_windows)
 
 pub overflow_add-number-end : goal.overflow_add-number-end
-overflow_add-number-end c = omega (arith, last_in c, c.shape-shape.ensures.table.begun.shape.few_windows)
+overflow_add-number-end c = omega (arith, last_in (goal.at.overflow_add-number-end c).After-run_len, c.run_len.ensures.table.begun.shape.few_windows)

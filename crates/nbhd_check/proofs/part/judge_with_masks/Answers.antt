@@ -3,8 +3,8 @@ use Rattle.nbhd_check.proofs.Prefixes.{shape_of_window}
 use Rattle.std.proofs.lemmas.List.{length-take-le}
 use Rattle.channel_tables.specs.Tables.{windows_of}
 use Rattle.nbhd_check.proofs.LeastFrom.{quotient_below}
-use Rattle.nbhd_check.proofs.part.judge_part.Goals.{After-run_len}
-use Rattle.nbhd_check.proofs.part.judge_part.Goals as goal
+use Rattle.nbhd_check.proofs.part.judge_with_masks.Goals.{After-run_len}
+use Rattle.nbhd_check.proofs.part.judge_with_masks.Goals as goal
 
 pub scan_runs-requires-clause-window : goal.scan_runs-requires-clause-window
 scan_runs-requires-clause-window c =
