@@ -1,7 +1,6 @@
 //! The lines of a table text.
 
 ghost use Rattle.std.specs.Prelude.{◌≡◌, ◌≢◌, ◌-◌, ◌<◌, ◌≤◌, ◌^◌, ℕ, List, [], ◌∷◌, ◌++◌, All, length, take, MatchOption, IfSome, IfNone};
-ghost use Rattle.std.specs.Fmt.{decimal};
 ghost use Rattle.node_program.specs.declared.limits.TheConstants.{MAX_CHANNELS};
 ghost use Rattle.win_index.specs.declared.limits.TheConstants.{MAX_IDS};
 ghost use Rattle.channel_tables.specs.declared.separation.Separation.{Separation};
@@ -11,10 +10,11 @@ ghost use Rattle.table_text.specs.LineForms.{HasTitle, AreSizes, IsSeparationOf,
 ghost use Rattle.table_text.specs.LinePrefixes.{IsLine};
 
 use crate::line_prefix::LinePrefix;
-use crate::numbers::{number_before, numbers_in};
+use crate::numbers::numbers_in;
 use crate::piece::Piece;
 use crate::version::Version;
 use channel_tables::Separation;
+use decimal_texts::{after, field};
 use node_program::MAX_CHANNELS;
 use win_index::{MAX_ROUNDS, MAX_WINDOW_LEN, Shape};
 
@@ -44,14 +44,6 @@ pub(crate) enum Line<'a> {
     Entry(u32, &'a [u8]),
 }
 
-// Returns the text after this prefix, or `None` if the text does not begin with it.
-fn after<'a>(text: &'a [u8], beginning: &[u8]) -> Option<&'a [u8]>
-    ensures { MatchOption result ((rest : List ℕ) → text.entry.now ≢ beginning.now ++ rest)
-        (λ rest. text.entry.now ≡ beginning.now ++ rest.now) }
-{
-    text.strip_prefix(beginning)
-}
-
 // Returns the version that the first line of a table text names, and the text after that line.
 pub(crate) fn after_title(text: &[u8]) -> Option<(Version, &[u8])>
     ensures { MatchOption result (¬ HasTitle text.now) (λ read. text.now ≡ title_then read.0 read.1.now) }
@@ -70,23 +62,6 @@ pub(crate) fn after_end(text: &[u8]) -> Option<&[u8]>
     ensures { MatchOption result (¬ HasEnd text.now) (λ rest. text.now ≡ end_then rest.now) }
 {
     after(text, b"end\n")
-}
-
-// Returns the number between a name and the byte `end`, and the text after that byte.
-fn field<'a>(text: &'a [u8], name: &[u8], end: u8) -> Option<(u32, &'a [u8])>
-    requires { end < 48 }
-    ensures field { IfSome result (λ read. text.entry.now ≡ name.now ++ (decimal read.0 ++ end ∷ read.1.now)) }
-    ensures fits { IfSome result (λ read. read.0 < 2 ^ 32) }
-    ensures none { IfNone result ((number : ℕ) (rest : List ℕ) → number < 2 ^ 32
-        → text.entry.now ≡ name.now ++ (decimal number ++ end ∷ rest) → ⊥) }
-{
-    let Some(number) = after(text, name) else {
-        return None;
-    };
-    let Some((value, rest)) = number_before(number, end) else {
-        return None;
-    };
-    Some((value, rest))
 }
 
 // Returns the first three numbers of the second line, the last of which is followed by the byte
