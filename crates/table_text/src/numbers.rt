@@ -16,9 +16,7 @@ pub(crate) fn numbers_in<'a>(text: &'a [u8], numbers: &mut [u32]) -> Option<&'a 
 {
     let mut rest = text;
     'numbers: for number in numbers.iter_mut() {
-        let Some((value, after)) = number_before(rest, b' ') else {
-            return None;
-        };
+        let (value, after) = number_before(rest, b' ')?;
         *number = value;
         rest = after;
     }
