@@ -2,7 +2,6 @@ pub mod Joined
 pub mod Marks
 pub mod WordKinds
 pub mod Causes
-pub mod NumberTexts
 pub mod Shapes
 pub mod Appended
 pub mod Reached

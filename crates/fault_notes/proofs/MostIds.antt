@@ -1,10 +1,9 @@
 -- With fewer identifiers there are fewer windows, so all numbers up to the greatest make a shape.
-use Rattle.std.proofs.Common.{◌≡◌, ℕ, zero, suc, ◌+◌, ◌-◌, ◌*◌, ◌≤◌, length, arith}
+use Rattle.std.proofs.Common.{ℕ, zero, suc, ◌+◌, ◌-◌, ◌*◌, ◌≤◌, arith}
 use Rattle.std.proofs.lemmas.Nat.{mul-le}
 use Rattle.win_index.specs.Falling.{falling}
 use Rattle.win_index.specs.Laws.{CountOfWindows}
 use Rattle.win_index.specs.ShapeRange.{IsShape}
-use Rattle.win_index.specs.Windows.{windows}
 
 falling_grows : (k m n : ℕ) → m ≤ n → falling m k ≤ falling n k
 falling_grows zero m n le = omega arith

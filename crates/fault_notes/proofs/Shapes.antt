@@ -1,5 +1,6 @@
 -- The shape that a table text gives, and the window that a line of it is to have.
 use Rattle.std.proofs.Common.{◌≡◌, ℕ, ◌+◌, ◌-◌, ◌*◌, ◌^◌, ◌<◌, ◌≤◌, List, length, sym, subst, ◌∙◌, arith}
+use Rattle.std.specs.Prelude.{codes}
 use Rattle.std.specs.List.{after_first}
 use Rattle.std.proofs.lemmas.Option.{slice_get_within}
 use Rattle.source_places.specs.Places.{is_feed}
@@ -7,7 +8,15 @@ use Rattle.win_index.specs.declared.limits.TheConstants.{MAX_ROUNDS}
 use Rattle.win_index.specs.ShapeRange.{IsShape}
 use Rattle.win_index.specs.Windows.{windows}
 use Rattle.fault_notes.specs.TableSizes.{sizes_then, HasShape, IsDue}
-use Rattle.fault_notes.proofs.NumberTexts.{sizes_once}
+use Rattle.decimal_texts.proofs.NumberTexts.{field_once}
+
+-- a line begins with one pair of sizes
+sizes_once : (t m u n : ℕ) (x y : List ℕ) → t < 2 ^ 32 → m < 2 ^ 32 → u < 2 ^ 32 → n < 2 ^ 32
+    → sizes_then t m x ≡ sizes_then u n y → (t ≡ u) × (m ≡ n)
+sizes_once t m u n x y p q r s same =
+    let first = field_once (codes "rounds ") 32 t u _ _ (omega arith) p r same in
+    let second = field_once (codes "ids ") 32 m n x y (omega arith) q s first.1 in
+    (first.0, second.0)
 
 -- the numbers at the start of the second line are those of the shape
 pub shape_once : (text rest : List ℕ) (r i t m : ℕ) → after_first is_feed text ≡ sizes_then r i rest → r < 2 ^ 32 → i < 2 ^ 32 → HasShape text t m → (t ≡ r) × (m ≡ i)

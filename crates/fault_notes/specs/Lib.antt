@@ -9,7 +9,6 @@ pub mod ProgramNotes
 pub mod RingNotes
 pub mod VerdictNotes
 pub mod TableSizes
-pub mod Decimals
 pub mod TableNotes
 pub mod Wanted
 pub mod Probes

@@ -3,7 +3,6 @@
 
 mod advice;
 mod bounds;
-mod decimals;
 mod kinds;
 mod laws;
 mod lexemes;

@@ -7,8 +7,8 @@ ghost use Rattle.win_index.specs.declared.limits.TheConstants.{MAX_ROUNDS};
 ghost use Rattle.win_index.specs.ShapeRange.{IsShape};
 ghost use Rattle.fault_notes.specs.TableSizes.{sizes_then, HasShape};
 
-use crate::decimals::field;
 use crate::lexemes::front_len;
+use decimal_texts::field;
 use win_index::{MAX_ROUNDS, Shape};
 
 // Returns the text after the first line.
@@ -27,12 +27,8 @@ fn two_sizes(line: &[u8]) -> Option<(u32, u32)>
     ensures none { IfNone result ((rounds ids : ℕ) (rest : List ℕ) → rounds < 2 ^ 32 → ids < 2 ^ 32
         → line.now ≢ sizes_then rounds ids rest) }
 {
-    let Some((rounds, rest)) = field(line, b"rounds ", b' ') else {
-        return None;
-    };
-    let Some((ids, _)) = field(rest, b"ids ", b' ') else {
-        return None;
-    };
+    let (rounds, rest) = field(line, b"rounds ", b' ')?;
+    let (ids, _) = field(rest, b"ids ", b' ')?;
     Some((rounds, ids))
 }
 
@@ -57,11 +53,6 @@ pub(crate) fn shape_of(text: &[u8]) -> Option<Shape>
     ensures one { IfSome result (λ shape. (rounds ids : ℕ) → HasShape text.now rounds ids → (rounds ≡ shape.rounds) × (ids ≡ shape.ids)) }
     ensures none { IfNone result ((rounds ids : ℕ) → ¬ HasShape text.now rounds ids) }
 {
-    let Some((rounds, ids)) = two_sizes(after_line(text)) else {
-        return None;
-    };
-    let Some(shape) = shape_with(rounds, ids) else {
-        return None;
-    };
-    Some(shape)
+    let (rounds, ids) = two_sizes(after_line(text))?;
+    shape_with(rounds, ids)
 }

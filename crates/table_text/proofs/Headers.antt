@@ -8,13 +8,7 @@ use Rattle.table_text.specs.declared.version.Version.{Version}
 use Rattle.table_text.specs.declared.version.Version.TheVariants.{One, Two}
 use Rattle.table_text.specs.TableText.{title_then, counts_then, counts_end, distances_then, sizes_then}
 use Rattle.table_text.specs.LineForms.{AreSizes, IsSeparationOf, HasSizes}
-use Rattle.table_text.proofs.NumberTexts.{number_once}
-
--- the text after a name begins with one number
-pub field_once : (name : List ℕ) (end m n : ℕ) (x y : List ℕ) → end < 48 → m < 2 ^ 32 → n < 2 ^ 32
-    → name ++ (decimal m ++ end ∷ x) ≡ name ++ (decimal n ++ end ∷ y) → (m ≡ n) × (x ≡ y)
-field_once name end m n x y small p q same =
-    number_once end m n x y small p q (append_cancel_left name (decimal m ++ end ∷ x) (decimal n ++ end ∷ y) same)
+use Rattle.decimal_texts.proofs.NumberTexts.{field_once}
 
 -- numbers below 2^32
 pub record Fit (rounds ids channels : ℕ) : Type 0 where

@@ -1,5 +1,4 @@
 -- Lemmas that several proofs share.
-pub mod NumberTexts
 pub mod IdTexts
 pub mod Headers
 pub mod TableLines
@@ -9,4 +8,3 @@ pub mod WrittenLines
 pub mod PieceTexts
 pub mod FaultsOnce
 pub mod TextLimit
-pub mod FirstByte

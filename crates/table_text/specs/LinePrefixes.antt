@@ -1,13 +1,8 @@
 -- Prefixes of a text. No public contract cites this file.
 use Rattle.std.specs.Prelude.{◌≢◌, ℕ, List, length}
-use Rattle.std.specs.List.{AllByRecursion}
 use Rattle.table_text.specs.LineForms.{IsEntry, HasEntry}
 use Rattle.table_text.specs.declared.lines.Line.{Line}
 use Rattle.table_text.specs.declared.lines.Line.TheVariants.{Malformed, OtherWindow, Entry}
-
--- the byte does not occur in the text
-abbrev pub Lacks : ℕ → List ℕ → Type 0
-Lacks byte text = AllByRecursion (λ b. b ≢ byte) text
 
 -- the first line of the text, where the line of this window is expected
 abbrev pub IsLine : List ℕ → List ℕ → Line → Type 0

@@ -1,7 +1,6 @@
 //! The lines of a table text.
 
 ghost use Rattle.std.specs.Prelude.{◌≡◌, ◌≢◌, ◌-◌, ◌<◌, ◌≤◌, ◌^◌, ℕ, List, [], ◌∷◌, ◌++◌, All, length, take, MatchOption, IfSome, IfNone};
-ghost use Rattle.std.specs.Fmt.{decimal};
 ghost use Rattle.node_program.specs.declared.limits.TheConstants.{MAX_CHANNELS};
 ghost use Rattle.win_index.specs.declared.limits.TheConstants.{MAX_IDS};
 ghost use Rattle.channel_tables.specs.declared.separation.Separation.{Separation};
@@ -11,10 +10,11 @@ ghost use Rattle.table_text.specs.LineForms.{HasTitle, AreSizes, IsSeparationOf,
 ghost use Rattle.table_text.specs.LinePrefixes.{IsLine};
 
 use crate::line_prefix::LinePrefix;
-use crate::numbers::{number_before, numbers_in};
+use crate::numbers::numbers_in;
 use crate::piece::Piece;
 use crate::version::Version;
 use channel_tables::Separation;
+use decimal_texts::{after, field};
 use node_program::MAX_CHANNELS;
 use win_index::{MAX_ROUNDS, MAX_WINDOW_LEN, Shape};
 
@@ -44,14 +44,6 @@ pub(crate) enum Line<'a> {
     Entry(u32, &'a [u8]),
 }
 
-// Returns the text after this prefix, or `None` if the text does not begin with it.
-fn after<'a>(text: &'a [u8], beginning: &[u8]) -> Option<&'a [u8]>
-    ensures { MatchOption result ((rest : List ℕ) → text.entry.now ≢ beginning.now ++ rest)
-        (λ rest. text.entry.now ≡ beginning.now ++ rest.now) }
-{
-    text.strip_prefix(beginning)
-}
-
 // Returns the version that the first line of a table text names, and the text after that line.
 pub(crate) fn after_title(text: &[u8]) -> Option<(Version, &[u8])>
     ensures { MatchOption result (¬ HasTitle text.now) (λ read. text.now ≡ title_then read.0 read.1.now) }
@@ -59,9 +51,7 @@ pub(crate) fn after_title(text: &[u8]) -> Option<(Version, &[u8])>
     if let Some(rest) = after(text, b"nbhd-table 1\n") {
         return Some((Version::One, rest));
     }
-    let Some(rest) = after(text, b"nbhd-table 2\n") else {
-        return None;
-    };
+    let rest = after(text, b"nbhd-table 2\n")?;
     Some((Version::Two, rest))
 }
 
@@ -70,23 +60,6 @@ pub(crate) fn after_end(text: &[u8]) -> Option<&[u8]>
     ensures { MatchOption result (¬ HasEnd text.now) (λ rest. text.now ≡ end_then rest.now) }
 {
     after(text, b"end\n")
-}
-
-// Returns the number between a name and the byte `end`, and the text after that byte.
-fn field<'a>(text: &'a [u8], name: &[u8], end: u8) -> Option<(u32, &'a [u8])>
-    requires { end < 48 }
-    ensures field { IfSome result (λ read. text.entry.now ≡ name.now ++ (decimal read.0 ++ end ∷ read.1.now)) }
-    ensures fits { IfSome result (λ read. read.0 < 2 ^ 32) }
-    ensures none { IfNone result ((number : ℕ) (rest : List ℕ) → number < 2 ^ 32
-        → text.entry.now ≡ name.now ++ (decimal number ++ end ∷ rest) → ⊥) }
-{
-    let Some(number) = after(text, name) else {
-        return None;
-    };
-    let Some((value, rest)) = number_before(number, end) else {
-        return None;
-    };
-    Some((value, rest))
 }
 
 // Returns the first three numbers of the second line, the last of which is followed by the byte
@@ -98,15 +71,9 @@ fn three_counts(text: &[u8], end: u8) -> Option<(Counts, &[u8])>
     ensures none { IfNone result ((rounds ids channels : ℕ) (rest : List ℕ) → rounds < 2 ^ 32 → ids < 2 ^ 32
         → channels < 2 ^ 32 → text.now ≡ counts_then rounds ids channels end rest → ⊥) }
 {
-    let Some((rounds, rest)) = field(text, b"rounds ", b' ') else {
-        return None;
-    };
-    let Some((ids, rest)) = field(rest, b"ids ", b' ') else {
-        return None;
-    };
-    let Some((channels, rest)) = field(rest, b"channels ", end) else {
-        return None;
-    };
+    let (rounds, rest) = field(text, b"rounds ", b' ')?;
+    let (ids, rest) = field(rest, b"ids ", b' ')?;
+    let (channels, rest) = field(rest, b"channels ", end)?;
     let counts = Counts {
         rounds,
         ids,
@@ -143,12 +110,8 @@ fn two_distances(text: &[u8]) -> Option<(Separation, &[u8])>
     ensures distances { IfSome result (λ read. text.now ≡ distances_then Version.Two read.0 read.1.now) }
     ensures none { IfNone result ((s : Separation) (rest : List ℕ) → IsSeparationOf Version.Two s → text.now ≡ distances_then Version.Two s rest → ⊥) }
 {
-    let Some((near, rest)) = field(text, b"near ", b' ') else {
-        return None;
-    };
-    let Some((far, rest)) = field(rest, b"far ", b'\n') else {
-        return None;
-    };
+    let (near, rest) = field(text, b"near ", b' ')?;
+    let (far, rest) = field(rest, b"far ", b'\n')?;
     if near < 1 {
         return None;
     }
@@ -193,15 +156,9 @@ pub(crate) fn sizes(version: Version, text: &[u8]) -> Option<(Header, &[u8])>
         read.0.channels read.0.separation read.1.now) }
     ensures none { IfNone result (¬ HasSizes version text.now) }
 {
-    let Some((counts, distances)) = three_counts(text, counts_end(version)) else {
-        return None;
-    };
-    let Some(shape) = shape_of(counts) else {
-        return None;
-    };
-    let Some((separation, rest)) = separation_in(version, distances) else {
-        return None;
-    };
+    let (counts, distances) = three_counts(text, counts_end(version))?;
+    let shape = shape_of(counts)?;
+    let (separation, rest) = separation_in(version, distances)?;
     let header = Header {
         shape,
         channels: counts.channels,
@@ -217,13 +174,8 @@ fn entry<'a>(text: &'a [u8], ids: &mut [u32]) -> Option<(u32, &'a [u8])>
     ensures entry { IfSome result (λ read. IsEntry (length ids.old) text.entry.now ids.new read.0 read.1.now) }
     ensures none { IfNone result (¬ HasEntry (length ids.old) text.entry.now) }
 {
-    let Some(after_ids) = numbers_in(text, ids) else {
-        return None;
-    };
-    let Some((channel, rest)) = field(after_ids, b": ", b'\n') else {
-        return None;
-    };
-    Some((channel, rest))
+    let after_ids = numbers_in(text, ids)?;
+    field(after_ids, b": ", b'\n')
 }
 
 // Classifies the first line of the text, where the line of this window is expected. `ids` is
@@ -301,9 +253,7 @@ fn known_channel<'a>(ends: &[Piece], text: &'a [u8]) -> Option<(u32, &'a [u8])>
     if channel as usize >= ends.len() {
         return None;
     }
-    let Some(rest) = after_piece(text, &ends[channel as usize]) else {
-        return None;
-    };
+    let rest = after_piece(text, &ends[channel as usize])?;
     Some((channel, rest))
 }
 

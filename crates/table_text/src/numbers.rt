@@ -1,68 +1,9 @@
 //! Numbers at the start of a text.
 
-ghost use Rattle.std.specs.Prelude.{◌≡◌, ◌==◌, ◌<◌, ◌&&◌, ◌^◌, ℕ, List, ◌∷◌, ◌++◌, All, nat_lt, length, slice_index, IfSome, IfNone};
-ghost use Rattle.std.specs.Fmt.{decimal};
+ghost use Rattle.std.specs.Prelude.{◌≡◌, ◌<◌, ◌^◌, ℕ, List, All, length, IfSome, IfNone};
 ghost use Rattle.table_text.specs.TableText.{ids_then};
-ghost use Rattle.table_text.specs.LinePrefixes.{Lacks};
 
-// Returns the parts of a text before and after the first byte of this value.
-fn cut_at(text: &[u8], end: u8) -> Option<(&[u8], &[u8])>
-    ensures cut { IfSome result (λ parts. text.now ≡ parts.0.now ++ end ∷ parts.1.now) }
-    ensures first { IfSome result (λ parts. Lacks end parts.0.now) }
-    ensures none { IfNone result (Lacks end text.now) }
-{
-    let place = text.iter().position(|byte| *byte == end)?;
-    Some((&text[..place], &text[place + 1..]))
-}
-
-fn is_signed(word: &[u8]) -> bool
-    ensures { result ≡ (slice_index word.now 0 == 43) }
-{
-    !word.is_empty() && word[0] == b'+'
-}
-
-fn is_padded(word: &[u8]) -> bool
-    ensures { result ≡ (nat_lt 1 (length word.now) && (slice_index word.now 0 == 48)) }
-{
-    word.len() > 1 && word[0] == b'0'
-}
-
-// Returns the number with these decimal digits: `0`, or digits that do not begin with 0.
-fn number_of(word: &[u8]) -> Option<u32>
-    ensures number { IfSome result (λ number. word.now ≡ decimal number) }
-    ensures none { IfNone result ((number : ℕ) → number < 2 ^ 32 → word.now ≡ decimal number → ⊥) }
-{
-    if is_signed(word) {
-        return None;
-    }
-    if is_padded(word) {
-        return None;
-    }
-    let Ok(digits) = str::from_utf8(word) else {
-        return None;
-    };
-    let Ok(number) = digits.parse::<u32>() else {
-        return None;
-    };
-    Some(number)
-}
-
-// Returns the number at the start of a text, before the byte `end`, and the text after that byte.
-pub(crate) fn number_before(text: &[u8], end: u8) -> Option<(u32, &[u8])>
-    requires { end < 48 }
-    ensures number { IfSome result (λ read. text.now ≡ decimal read.0 ++ end ∷ read.1.now) }
-    ensures fits { IfSome result (λ read. read.0 < 2 ^ 32) }
-    ensures none { IfNone result ((number : ℕ) (rest : List ℕ) → number < 2 ^ 32
-        → text.now ≡ decimal number ++ end ∷ rest → ⊥) }
-{
-    let Some((word, rest)) = cut_at(text, end) else {
-        return None;
-    };
-    let Some(number) = number_of(word) else {
-        return None;
-    };
-    Some((number, rest))
-}
+use decimal_texts::number_before;
 
 // Fills `numbers` with the numbers at the start of a text, each followed by a blank, and returns
 // the text after them.
@@ -75,9 +16,7 @@ pub(crate) fn numbers_in<'a>(text: &'a [u8], numbers: &mut [u32]) -> Option<&'a 
 {
     let mut rest = text;
     'numbers: for number in numbers.iter_mut() {
-        let Some((value, after)) = number_before(rest, b' ') else {
-            return None;
-        };
+        let (value, after) = number_before(rest, b' ')?;
         *number = value;
         rest = after;
     }

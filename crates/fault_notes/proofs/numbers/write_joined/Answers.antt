@@ -1,4 +1,4 @@
-use Rattle.std.proofs.Common.{◌++◌, ◌+◌}
+use Rattle.std.proofs.Common.{◌++◌}
 use Rattle.std.specs.Fmt.{decimal}
 use Rattle.fault_notes.proofs.Joined.{more_written}
 use Rattle.fault_notes.proofs.numbers.write_joined.Goals as goal

@@ -1,9 +1,10 @@
 use Rattle.std.proofs.Common.{sym, ◌∙◌, arith}
 use Rattle.std.specs.Prelude.{codes}
-use Rattle.fault_notes.proofs.NumberTexts.{field_once}
+use Rattle.decimal_texts.proofs.NumberTexts.{field_once}
 use Rattle.fault_notes.proofs.sizes.two_sizes.Goals as goal
 
-pub returns-in_default-field-clause-none : goal.returns-in_default-field-clause-none
-returns-in_default-field-clause-none c rounds ids rest r i same =
-    let first = field_once (codes "rounds ") 32 c.in-Some.rounds rounds c.in-Some.rest.now _ (omega arith) c.in-Some.ensures.fits r (sym c.in-Some.ensures.field ∙ same) in
-    c.in_default-field.ensures.none ids _ i first.1
+pub returns-in_err-ids-clause-none : goal.returns-in_err-ids-clause-none
+returns-in_err-ids-clause-none c = rw c.from_residual-in_err-ids.ensures (λ rounds ids rest r i same.
+    let read = c.in_ok-rounds.ensures in
+    let first = field_once (codes "rounds ") 32 c.in_ok-rounds.rounds rounds c.in_ok-rounds.rest.now _ (omega arith) read.fits r (sym read.field ∙ same) in
+    c.in_err-ids.ensures.none ids _ i first.1)

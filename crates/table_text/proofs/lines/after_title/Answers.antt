@@ -10,5 +10,5 @@ no_version : (text : List ℕ) → ((rest : List ℕ) → text ≡ title_then On
 no_version text first second One rest is = first rest is
 no_version text first second Two rest is = second rest is
 
-pub returns-in_default-after : goal.returns-in_default-after
-returns-in_default-after c has = no_version c.args.text.now c.in_default.ensures c.in_default-after.ensures has.0 has.1 has.2
+pub returns-in_err-rest : goal.returns-in_err-rest
+returns-in_err-rest c = rw c.from_residual.ensures (λ has. no_version c.args.text.now c.in_default.ensures c.in_err-rest.ensures has.0 has.1 has.2)

@@ -6,4 +6,4 @@ use Rattle.table_text.proofs.lines.known_channel.Goals as goal
 pub returns-clause-text : goal.returns-clause-text
 returns-clause-text c =
     let piece = ap piece_text c.index-ends-channel.is ∙ piece_at channel_text c.args.ends.now c.guess-channel.result _ c.requires (omega arith) in
-    c.in-Some.ensures ∙ ap (λ text. text ++ c.in-Some.rest.now) piece
+    c.in_ok-rest.ensures ∙ ap (λ text. text ++ c.in_ok-rest.rest.now) piece

@@ -6,10 +6,11 @@ use Rattle.std.specs.Str.{IsUtf8}
 use Rattle.std.specs.Str.Parse.{AllDigits, IsNumeral, digits_value, without_leading_plus}
 use Rattle.std.proofs.lemmas.Bool.{and_parts, eqb-true}
 use Rattle.std.proofs.lemmas.Bool.Decides.{nat_tests}
+use Rattle.std.proofs.lemmas.List.{append_cancel_left}
 use Rattle.std.proofs.lemmas.Fmt.{decimal_is_IsNumeral, decimal_digit, first_decimal, IsAscii-decimal, decimal_injective, decimal-digits_value}
 use Rattle.std.proofs.lemmas.Str.{IsUtf8-from_ascii}
 use Rattle.std.proofs.lemmas.Str.Parse.{digit_at, digit_from_value, without_leading_plus_none, numerals_by_value, tells_digits}
-use Rattle.table_text.specs.LinePrefixes.{Lacks}
+use Rattle.decimal_texts.specs.Bytes.{Lacks}
 
 digits : (n : ℕ) → n < 2 ^ 32 → IsNumeral 10 (decimal n)
 digits n small = (decimal_is_IsNumeral n (omega arith)).0
@@ -91,3 +92,9 @@ pub number_once : (end m n : ℕ) (xs ys : List ℕ) → end < 48 → m < 2 ^ 32
 number_once end m n xs ys small p q same =
     let cut = one_cut end (decimal m) (decimal n) xs ys (lacks_decimal end m small p) (lacks_decimal end n small q) same in
     (decimal_injective m n (omega arith) (omega arith) cut.0, cut.1)
+
+-- the text after a name begins with one number
+pub field_once : (name : List ℕ) (end m n : ℕ) (x y : List ℕ) → end < 48 → m < 2 ^ 32 → n < 2 ^ 32
+    → name ++ (decimal m ++ end ∷ x) ≡ name ++ (decimal n ++ end ∷ y) → (m ≡ n) × (x ≡ y)
+field_once name end m n x y small p q same =
+    number_once end m n x y small p q (append_cancel_left name (decimal m ++ end ∷ x) (decimal n ++ end ∷ y) same)

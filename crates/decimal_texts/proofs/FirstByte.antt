@@ -3,7 +3,7 @@ use Rattle.std.proofs.Common.{◌≡◌, ◌≢◌, ℕ, ◌+◌, ◌-◌, ◌<�
 use Rattle.std.specs.List.{AllWithin, HoldsAt}
 use Rattle.std.proofs.lemmas.List.{drop_more, get_or-take, length-take-le, take-append-drop, take_rest}
 use Rattle.std.proofs.lemmas.List.Elements.{recursion_from_All}
-use Rattle.table_text.specs.LinePrefixes.{Lacks}
+use Rattle.decimal_texts.specs.Bytes.{Lacks}
 
 pub cut_there :
     (text : List ℕ) (place end : ℕ) → place < length text → HoldsAt (λ b. b ≡ end) text place

@@ -1,7 +1,7 @@
 use Rattle.std.proofs.Common.{◌≢◌, ◌≡◌, ℕ, rules, tests}
 use Rattle.std.proofs.lemmas.Iterator.{IsFirst-from_position, YieldsList-from_slice}
-use Rattle.table_text.proofs.FirstByte.{cut_there, none_before, none_at_all}
-use Rattle.table_text.proofs.numbers.cut_at.Goals as goal
+use Rattle.decimal_texts.proofs.FirstByte.{cut_there, none_before, none_at_all}
+use Rattle.decimal_texts.proofs.numbers.cut_at.Goals as goal
 
 pub returns-in_err-place-clause-cut : goal.returns-in_err-place-clause-cut
 returns-in_err-place-clause-cut c = rw c.from_residual.ensures tt

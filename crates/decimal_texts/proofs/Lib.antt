@@ -1,0 +1,4 @@
+-- Lemmas that several proofs share. The crates above cite those of NumberTexts and of Options.
+pub mod FirstByte
+pub mod NumberTexts
+pub mod Options

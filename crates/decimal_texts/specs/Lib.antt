@@ -1,0 +1,2 @@
+-- The definition that the proofs share.
+pub mod Bytes
