@@ -125,31 +125,6 @@ fn max_read(task: &Task) -> usize
     ensures { result ≡ max_read task.now }
 {
     match task {
-        Task::Check { ids: _ }
-        | Task::Print
-        | Task::Table {
-            ids: _,
-            workers: _,
-            near: _,
-            far: _,
-        }
-        | Task::Judge {
-            ids: _,
-            workers: _,
-            near: _,
-            far: _,
-        }
-        | Task::Run {
-            ids: _,
-            ring: _,
-            segments: _,
-        }
-        | Task::Trace { ids: _, ring: _ }
-        | Task::Plan {
-            ids: _,
-            ring: _,
-            workers: _,
-        } => LONGEST_TEXT + 1,
         Task::Audit | Task::Migrate => LONGEST_TABLE_TEXT + 1,
         Task::Formula {
             ids: _,
@@ -165,5 +140,6 @@ fn max_read(task: &Task) -> usize
             near: _,
             far: _,
         } => LONGEST_REFUTATION + 1,
+        _ => LONGEST_TEXT + 1,
     }
 }

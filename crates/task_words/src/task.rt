@@ -113,16 +113,6 @@ impl Task {
         ensures { IsTrue result ↔ IsRunnable self.now }
     {
         match self {
-            Task::Check { ids: _ }
-            | Task::Print
-            | Task::Run {
-                ids: _,
-                ring: _,
-                segments: _,
-            }
-            | Task::Trace { ids: _, ring: _ }
-            | Task::Audit
-            | Task::Migrate => true,
             Task::Table {
                 ids: _,
                 workers,
@@ -154,6 +144,7 @@ impl Task {
                 near,
                 far,
             } => are_formula_numbers(*rounds, *channels, *near, *far),
+            _ => true,
         }
     }
 
