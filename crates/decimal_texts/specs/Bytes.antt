@@ -1,7 +1,13 @@
 -- Bytes that end numbers. No public contract cites this file.
-use Rattle.std.specs.Prelude.{◌≢◌, ℕ, List}
+use Rattle.std.specs.Prelude.{◌≡◌, ◌≢◌, ℕ, ◌+◌, ◌<◌, List, ◌∷◌, ◌++◌, length, take, drop}
 use Rattle.std.specs.List.{AllByRecursion}
 
 -- the byte does not occur in the text
 abbrev pub Lacks : ℕ → List ℕ → Type 0
 Lacks byte text = AllByRecursion (λ b. b ≢ byte) text
+
+-- the first byte of this value is at this index
+pub record IsFirstByte (text : List ℕ) (place byte : ℕ) : Type 0 where
+  pub within : place < length text
+  pub cut : text ≡ take place text ++ byte ∷ drop (place + 1) text
+  pub before : Lacks byte (take place text)

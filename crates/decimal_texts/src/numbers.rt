@@ -1,8 +1,15 @@
 //! Numbers at the start of a text.
 
-ghost use Rattle.std.specs.Prelude.{◌≡◌, ◌==◌, ◌<◌, ◌&&◌, ◌^◌, ℕ, List, ◌∷◌, ◌++◌, nat_lt, length, slice_index, IfSome, IfNone};
+ghost use Rattle.std.specs.Prelude.{◌≡◌, ◌==◌, ◌<◌, ◌&&◌, ◌^◌, ℕ, List, ◌∷◌, ◌++◌, nat_lt, length, slice_index, MatchOption, IfSome, IfNone};
 ghost use Rattle.std.specs.Fmt.{decimal};
-ghost use Rattle.decimal_texts.specs.Bytes.{Lacks};
+ghost use Rattle.decimal_texts.specs.Bytes.{Lacks, IsFirstByte};
+
+// Returns the index of the first byte of this value.
+fn place_of(text: &[u8], end: u8) -> Option<usize>
+    ensures { MatchOption result (Lacks end text.now) (λ place. IsFirstByte text.now place end) }
+{
+    text.iter().position(|byte| *byte == end)
+}
 
 // Returns the parts of a text before and after the first byte of this value.
 fn cut_at(text: &[u8], end: u8) -> Option<(&[u8], &[u8])>
@@ -10,7 +17,7 @@ fn cut_at(text: &[u8], end: u8) -> Option<(&[u8], &[u8])>
     ensures first { IfSome result (λ parts. Lacks end parts.0.now) }
     ensures none { IfNone result (Lacks end text.now) }
 {
-    let place = text.iter().position(|byte| *byte == end)?;
+    let place = place_of(text, end)?;
     Some((&text[..place], &text[place + 1..]))
 }
 
