@@ -8,3 +8,6 @@ pub mod WrittenLines
 pub mod PieceTexts
 pub mod FaultsOnce
 pub mod TextLimit
+pub mod Orders
+pub mod PrefixTexts
+pub mod Odometers

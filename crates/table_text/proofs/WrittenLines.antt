@@ -1,11 +1,7 @@
 -- The lines of a table, written one after another.
-use Rattle.std.proofs.Common.{◌≡◌, ℕ, zero, suc, ◌+◌, ◌*◌, ◌<◌, ◌≤◌, Bool, true, false, drop, List, [], ◌∷◌, ◌++◌, Some, length, take, get_or, slice_get, refl, sym, ap, ◌∙◌, arith, append_assoc}
+use Rattle.std.proofs.Common.{◌≡◌, ℕ, zero, suc, ◌+◌, ◌<◌, ◌≤◌, drop, List, [], ◌∷◌, ◌++◌, Some, length, take, get_or, slice_get, refl, sym, ap, ◌∙◌, arith, append_assoc}
 use Rattle.std.specs.Fmt.{decimal}
-use Rattle.std.proofs.lemmas.Bool.{OnTrue_at, OnFalse_at}
-use Rattle.win_index.specs.Successor.{IsReplaced}
-use Rattle.win_index.specs.Windows.{windows}
-use Rattle.win_index.specs.declared.limits.TheConstants.{MAX_ROUNDS, MAX_WINDOW_LEN}
-use Rattle.std.proofs.lemmas.List.{take_more, take_all, length-take-le}
+use Rattle.std.proofs.lemmas.List.{take_more, length-take-le}
 use Rattle.channel_tables.specs.Tables.{ChannelTable, windows_of}
 use Rattle.channel_tables.specs.declared.separation.Separation.{Separation}
 use Rattle.table_text.specs.declared.version.Version.TheVariants.{Two}
@@ -19,44 +15,20 @@ pub ids_more : (ids : List ℕ) (id : ℕ) (rest : List ℕ) → ids_then (ids +
 ids_more [] id rest = refl
 ids_more (x ∷ ids) id rest = ap (λ l. decimal x ++ 32 ∷ l) (ids_more ids id rest) ∙ sym (append_assoc (decimal x) (32 ∷ ids_then ids []) (decimal id ++ 32 ∷ rest))
 
--- the identifiers of a window but the last
-pub prefix_size : (rounds : ℕ) (window : List ℕ) → length window ≡ 2 * rounds + 1 → length (take (2 * rounds) window) ≡ 2 * rounds
-prefix_size rounds window size = length-take-le (2 * rounds) window (omega arith)
-
-pub prefix_short : (level rounds : ℕ) → level ≡ rounds → rounds ≤ MAX_ROUNDS → 2 * level < MAX_WINDOW_LEN
-prefix_short level rounds same few = omega arith
-
-pub last_within : (level rounds len : ℕ) → level ≡ rounds → len ≡ 2 * rounds + 1 → 2 * level < len
-last_within level rounds len same size = omega arith
-
--- a window that is not the last one is replaced by the next one
-pub next_window :
-    (k m n : ℕ) (replaced : Bool) (old new : List ℕ) → IsReplaced k m replaced old new → slice_get (windows k m) n ≡ Some old
-    → n + 1 < length (windows k m) → slice_get (windows k m) (n + 1) ≡ Some new
-next_window k m n true old new is item lt = OnTrue_at refl is.next n item
-next_window k m n false old new is item lt = absurd (omega (arith, OnFalse_at refl is.last n item))
-
 -- the line of a window, from its prefix, its last identifier and its channel
-pub line_of_run :
-    (last : ℕ) (window : List ℕ) (channel : ℕ) → length window ≡ last + 1
-    → ids_then (take last window) [] ++ (id_text (get_or window last 0) ++ channel_text channel) ≡ entry_then window channel []
-line_of_run last window channel size =
-    let ids : ids_then (take last window) [] ++ id_text (get_or window last 0) ≡ ids_then window [] =
-    sym (ids_more (take last window) (get_or window last 0) []) ∙ ap (λ xs. ids_then xs []) (sym (take_more window last 0 (omega arith)) ∙ take_all (last + 1) window (omega arith)) in
-    sym (append_assoc (ids_then (take last window) []) (id_text (get_or window last 0)) (channel_text channel))
-    ∙ ap (λ text. text ++ channel_text channel) ids ∙ ids_append window [] (channel_text channel)
+pub line_of_run : (front : List ℕ) (id channel : ℕ)
+    → ids_then front [] ++ (id_text id ++ channel_text channel) ≡ entry_then (front ++ id ∷ []) channel []
+line_of_run front id channel =
+    sym (append_assoc (ids_then front []) (id_text id) (channel_text channel)) ∙ ap (λ text. text ++ channel_text channel) (sym (ids_more front id []))
+    ∙ ids_append (front ++ id ∷ []) [] (channel_text channel)
 
 -- the same line, followed by a rest
-pub line_before :
-    (last : ℕ) (window : List ℕ) (channel : ℕ) (rest : List ℕ) → length window ≡ last + 1
-    → ids_then (take last window) [] ++ (id_text (get_or window last 0) ++ (channel_text channel ++ rest)) ≡ entry_then window channel rest
-line_before last window channel rest size =
-    let ids = ids_then (take last window) [] in
-    let id = id_text (get_or window last 0) in
-    ap (λ l. ids ++ l) (sym (append_assoc id (channel_text channel) rest))
-    ∙ sym (append_assoc ids (id ++ channel_text channel) rest)
-    ∙ ap (λ l. l ++ rest) (line_of_run last window channel size)
-    ∙ entry_append window channel [] rest
+pub line_before : (front : List ℕ) (id channel : ℕ) (rest : List ℕ)
+    → ids_then front [] ++ (id_text id ++ (channel_text channel ++ rest)) ≡ entry_then (front ++ id ∷ []) channel rest
+line_before front id channel rest =
+    ap (λ l. ids_then front [] ++ l) (sym (append_assoc (id_text id) (channel_text channel) rest))
+    ∙ sym (append_assoc (ids_then front []) (id_text id ++ channel_text channel) rest) ∙ ap (λ l. l ++ rest) (line_of_run front id channel)
+    ∙ entry_append (front ++ id ∷ []) channel [] rest
 
 -- the table with its first entries only
 abbrev pub front_of : ChannelTable → ℕ → ChannelTable

@@ -7,3 +7,6 @@ pub mod Faults
 pub mod Laws
 pub mod LinePrefixes
 pub mod Pieces
+pub mod Orders
+pub mod Prefixes
+pub mod Odometers

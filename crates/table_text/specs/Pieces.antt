@@ -2,7 +2,6 @@
 use Rattle.std.specs.Prelude.{◌≡◌, ℕ, List, [], ◌∷◌, ◌++◌, take, map, length, codes}
 use Rattle.std.specs.List.{range_with_len}
 use Rattle.std.specs.Fmt.{decimal}
-use Rattle.channel_tables.specs.Tables.{ChannelTable}
 use Rattle.table_text.specs.declared.piece.Piece.{Piece}
 use Rattle.table_text.specs.declared.piece.Pieces.{Pieces}
 use Rattle.table_text.specs.declared.line_prefix.LinePrefix.{LinePrefix}
@@ -27,9 +26,9 @@ channel_text channel = codes ": " ++ (decimal channel ++ 10 ∷ [])
 abbrev pub AreTexts : (ℕ → List ℕ) → List Piece → Type 0
 AreTexts text pieces = map piece_text pieces ≡ map text (range_with_len 0 (length pieces))
 
--- the pieces are those of all identifiers and of all channels of the table
-pub record ArePieces (t : ChannelTable) (pieces : Pieces) : Type 0 where
-  pub ids : AreTexts id_text pieces.ids.items
-  pub all_ids : length pieces.ids.items ≡ t.ids
-  pub channels : AreTexts channel_text pieces.channels.items
-  pub all_channels : length pieces.channels.items ≡ t.channels
+-- the pieces are those of so many identifiers and channels
+pub record ArePieces (ids channels : ℕ) (pieces : Pieces) : Type 0 where
+  pub ids_are : AreTexts id_text pieces.ids.items
+  pub all_ids : length pieces.ids.items ≡ ids
+  pub channels_are : AreTexts channel_text pieces.channels.items
+  pub all_channels : length pieces.channels.items ≡ channels

@@ -7,6 +7,7 @@ mod limits;
 mod line_prefix;
 mod lines;
 mod numbers;
+mod odometer;
 mod piece;
 mod pieces;
 mod reading;

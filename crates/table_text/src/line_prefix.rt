@@ -1,7 +1,9 @@
 // The text of the identifiers that the windows of a run share.
-ghost use Rattle.std.specs.Prelude.{◌≤◌};
+ghost use Rattle.std.specs.Prelude.{◌≡◌, ◌<◌, ◌≤◌, [], All, length, take};
 ghost use Rattle.table_text.specs.declared.line_prefix.TheConstants.{PREFIX_LEN};
 
+use crate::piece::Piece;
+use devices::chunk::write_at;
 use win_index::MAX_WINDOW_LEN;
 
 // The length of a prefix's buffer: 8 bytes for each identifier of a window except the last.
@@ -13,5 +15,44 @@ pub(crate) const PREFIX_LEN: usize = 8 * (MAX_WINDOW_LEN - 1);
 pub(crate) struct LinePrefix {
     pub(crate) bytes: [u8; PREFIX_LEN],
     pub(crate) len: usize,
+    // The length of the text of the first identifiers, for each number of them.
+    pub(crate) ends: [usize; MAX_WINDOW_LEN],
     pub(crate) ghost short: { len ≤ PREFIX_LEN },
+}
+
+impl LinePrefix {
+    ghost use Rattle.win_index.specs.declared.limits.TheConstants.{MAX_WINDOW_LEN};
+    ghost use Rattle.table_text.specs.TableText.{ids_then};
+    ghost use Rattle.table_text.specs.Pieces.{prefix_text, id_text, AreTexts};
+    ghost use Rattle.table_text.specs.Prefixes.{HasTexts};
+
+    // The prefix of no identifiers.
+    pub(crate) fn empty() -> LinePrefix
+        ensures { HasTexts result.bytes result.ends [] }
+    {
+        LinePrefix {
+            bytes: [0; PREFIX_LEN],
+            len: 0,
+            ends: [0; MAX_WINDOW_LEN],
+        }
+    }
+
+    // Writes the text of these identifiers, each followed by a blank. That of the first `kept` is
+    // written.
+    pub(crate) fn show(&mut self, ids: &[Piece], front: &[u32], kept: usize)
+        requires short { length front.now < MAX_WINDOW_LEN }
+        requires ids { AreTexts id_text ids.now × All (λ id. id < length ids.now) front.now }
+        requires kept { (kept ≤ length front.now) × HasTexts self.old.bytes self.old.ends (take kept front.now) }
+        ensures texts { HasTexts self.new.bytes self.new.ends front.now }
+        ensures text { prefix_text self.new ≡ ids_then front.now [] }
+    {
+        let mut len = self.ends[kept];
+        for place in kept..front.len() {
+            let piece = ids[front[place] as usize];
+            write_at(&mut self.bytes, len, &piece.bytes);
+            len += piece.len;
+            self.ends[place + 1] = len;
+        }
+        self.len = len;
+    }
 }

@@ -8,10 +8,12 @@ ghost use Rattle.table_text.specs.TableText.{title_then, counts_then, counts_end
 ghost use Rattle.table_text.specs.Pieces.{piece_text, prefix_text, id_text, channel_text, AreTexts};
 ghost use Rattle.table_text.specs.LineForms.{HasTitle, AreSizes, IsSeparationOf, HasSizes, IsEntry, HasEntry, HasEnd};
 ghost use Rattle.table_text.specs.LinePrefixes.{IsLine};
+ghost use Rattle.table_text.specs.Odometers.{IsOdometer, window_of};
 
 use crate::line_prefix::LinePrefix;
 use crate::numbers::numbers_in;
-use crate::piece::Piece;
+use crate::odometer::Odometer;
+use crate::piece::{Piece, Pieces};
 use crate::version::Version;
 use channel_tables::Separation;
 use decimal_texts::{after, field};
@@ -243,8 +245,7 @@ fn after_prefix<'a>(text: &'a [u8], prefix: &LinePrefix) -> Option<&'a [u8]>
 // is not seen at once.
 fn known_channel<'a>(ends: &[Piece], text: &'a [u8]) -> Option<(u32, &'a [u8])>
     requires { AreTexts channel_text ends.now }
-    ensures channel { IfSome result (λ read. read.0 < length ends.now) }
-    ensures text { IfSome result (λ read. text.entry.now ≡ channel_text read.0 ++ read.1.now) }
+    ensures { IfSome result (λ read. (read.0 < length ends.now) × (text.entry.now ≡ channel_text read.0 ++ read.1.now)) }
 {
     if text.len() < 8 {
         return None;
@@ -257,33 +258,32 @@ fn known_channel<'a>(ends: &[Piece], text: &'a [u8]) -> Option<(u32, &'a [u8])>
     Some((channel, rest))
 }
 
-// Classifies the first line of the text, where the line of this window is expected, as `line_of`
-// does. `prefix` is the text of the identifiers except the last; the line is compared with the
-// pieces that are written for it, and read only if it differs.
-pub(crate) fn line_at<'a>(
-    window: &[u32],
-    prefix: &LinePrefix,
-    ids: &[Piece],
-    ends: &[Piece],
-    text: &'a [u8],
-) -> Line<'a>
-    requires some { 1 ≤ length window.now }
-    requires short { length window.now ≤ MAX_WINDOW_LEN }
-    requires below { All (λ id. id < length ids.now) window.now }
-    requires ids { AreTexts id_text ids.now × (length ids.now ≤ MAX_IDS) }
-    requires ends { AreTexts channel_text ends.now × (length ends.now ≤ MAX_CHANNELS) }
-    requires prefix { prefix_text prefix.now ≡ ids_then (take (length window.now - 1) window.now) [] }
-    ensures { IsLine window.now text.entry.now result }
+// Returns the channel of the first line and the text after the line, if the line is that of the
+// odometer's window, and that is seen at once from the pieces that are written for it.
+fn known_line<'a>(odometer: &Odometer, pieces: &Pieces, text: &'a [u8]) -> Option<(u32, &'a [u8])>
+    requires odometer { IsOdometer odometer.now × (odometer.now.ids ≡ length pieces.now.ids.items) }
+    requires texts { AreTexts id_text pieces.now.ids.items × AreTexts channel_text pieces.now.channels.items }
+    requires few { length pieces.now.channels.items ≤ MAX_CHANNELS }
+    ensures { IfSome result (λ read. IsEntry (length (window_of odometer.now)) text.entry.now (window_of odometer.now) read.0 read.1.now) }
 {
-    let last = window[window.len() - 1];
-    let Some(more) = after_prefix(text, prefix) else {
-        return line_of(window, text);
-    };
-    let Some(end) = after_piece(more, &ids[last as usize]) else {
-        return line_of(window, text);
-    };
-    let Some((channel, rest)) = known_channel(ends, end) else {
-        return line_of(window, text);
-    };
-    Line::Entry(channel, rest)
+    let ids: &[Piece] = &pieces.ids;
+    let more = after_prefix(text, &odometer.prefix)?;
+    let end = after_piece(more, &ids[odometer.last_id() as usize])?;
+    known_channel(&pieces.channels, end)
+}
+
+// Classifies the first line of the text, where the line of the odometer's window is expected. The
+// line is compared with the pieces that are written for it, and read only if it differs.
+pub(crate) fn line_at<'a>(odometer: &Odometer, pieces: &Pieces, text: &'a [u8]) -> Line<'a>
+    requires odometer { IsOdometer odometer.now × (odometer.now.ids ≡ length pieces.now.ids.items) }
+    requires texts { AreTexts id_text pieces.now.ids.items × AreTexts channel_text pieces.now.channels.items }
+    requires few { length pieces.now.channels.items ≤ MAX_CHANNELS }
+    ensures { IsLine (window_of odometer.now) text.entry.now result }
+{
+    if let Some((channel, rest)) = known_line(odometer, pieces, text) {
+        return Line::Entry(channel, rest);
+    }
+    let mut cells = [0u32; MAX_WINDOW_LEN];
+    let len = odometer.write_window(&mut cells);
+    line_of(&cells[..len], text)
 }

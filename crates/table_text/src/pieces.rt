@@ -1,28 +1,25 @@
 // The pieces from which the lines of windows are made.
-ghost use Rattle.std.specs.Prelude.{◌≡◌, ◌<◌, ◌≤◌, [], All, length, IfOk};
+ghost use Rattle.std.specs.Prelude.{◌≡◌, ◌<◌, ◌≤◌, length, IfOk};
 ghost use Rattle.node_program.specs.declared.limits.TheConstants.{MAX_CHANNELS};
 ghost use Rattle.win_index.specs.declared.limits.TheConstants.{MAX_IDS};
-ghost use Rattle.table_text.specs.Pieces.{piece_text, prefix_text, id_text, channel_text, AreTexts, ArePieces};
-ghost use Rattle.table_text.specs.TableText.{ids_then};
+ghost use Rattle.table_text.specs.Pieces.{piece_text, id_text, channel_text, AreTexts, ArePieces};
 
-use crate::line_prefix::{LinePrefix, PREFIX_LEN};
 use crate::piece::{Piece, Pieces};
-use channel_tables::Table;
-use devices::chunk::write_at;
 use std::alloc::{AllocError, Global};
-use win_index::MAX_WINDOW_LEN;
 
-// Returns the pieces from which the lines of a table are made.
-pub(crate) fn pieces_of(alloc: Global, table: &Table) -> Result<Pieces, AllocError>
-    ensures { IfOk result (ArePieces table.now) }
+// Returns the pieces from which the lines of a table of so many identifiers and channels are made.
+pub(crate) fn pieces_of(alloc: Global, ids: u32, channels: u32) -> Result<Pieces, AllocError>
+    requires ids { ids ≤ MAX_IDS }
+    requires channels { channels ≤ MAX_CHANNELS }
+    ensures { IfOk result (ArePieces ids channels) }
 {
-    let ids = id_pieces(alloc, table.shape().ids())?;
-    let channels = channel_pieces(alloc, table.channels())?;
+    let ids = id_pieces(alloc, ids)?;
+    let channels = channel_pieces(alloc, channels)?;
     Ok(Pieces { ids, channels })
 }
 
 // Returns for each identifier below `ids` the piece of the identifier and a blank.
-pub(crate) fn id_pieces(alloc: Global, ids: u32) -> Result<Vec<Piece>, AllocError>
+fn id_pieces(alloc: Global, ids: u32) -> Result<Vec<Piece>, AllocError>
     requires { ids ≤ MAX_IDS }
     ensures texts { IfOk result (λ pieces. AreTexts id_text pieces.items) }
     ensures count { IfOk result (λ pieces. length pieces.items ≡ ids) }
@@ -35,7 +32,7 @@ pub(crate) fn id_pieces(alloc: Global, ids: u32) -> Result<Vec<Piece>, AllocErro
 }
 
 // Returns for each channel below `channels` the piece that follows the identifiers of its lines.
-pub(crate) fn channel_pieces(alloc: Global, channels: u32) -> Result<Vec<Piece>, AllocError>
+fn channel_pieces(alloc: Global, channels: u32) -> Result<Vec<Piece>, AllocError>
     requires { channels ≤ MAX_CHANNELS }
     ensures texts { IfOk result (λ pieces. AreTexts channel_text pieces.items) }
     ensures count { IfOk result (λ pieces. length pieces.items ≡ channels) }
@@ -76,20 +73,4 @@ pub(crate) fn piece_of(text: &[u8]) -> Piece
         bytes,
         len: text.len(),
     }
-}
-
-// Returns the prefix of the identifiers of a window except the last, each followed by a blank.
-pub(crate) fn line_prefix_of(ids: &[Piece], shared: &[u32]) -> LinePrefix
-    requires short { length shared.now < MAX_WINDOW_LEN }
-    requires ids { AreTexts id_text ids.now × All (λ id. id < length ids.now) shared.now }
-    ensures { prefix_text result ≡ ids_then shared.now [] }
-{
-    let mut bytes = [0; PREFIX_LEN];
-    let mut len = 0;
-    for id in shared {
-        let piece = ids[*id as usize];
-        write_at(&mut bytes, len, &piece.bytes);
-        len += piece.len;
-    }
-    LinePrefix { bytes, len }
 }

@@ -12,12 +12,12 @@ use crate::fault::TableFault;
 use crate::laws::{table_texts_are_apart, table_texts_are_read};
 use crate::limits::LONGEST_TABLE_TEXT;
 use crate::lines::{Header, Line, after_end, after_title, line_at, sizes};
-use crate::pieces::{channel_pieces, id_pieces, line_prefix_of};
+use crate::odometer::Odometer;
+use crate::piece::Piece;
+use crate::pieces::pieces_of;
 use crate::version::Version;
-use crate::writing::advance;
 use channel_tables::{Separation, Table, TableMaker};
 use std::alloc::Global;
-use win_index::MAX_WINDOW_LEN;
 
 /// Returns the table and the separation whose text this is.
 ///
@@ -108,21 +108,16 @@ fn entries<'a>(
         return Err(TableFault::OutOfMemory);
     };
     let shape = header.shape;
-    let Ok(ids) = id_pieces(alloc, shape.ids()) else {
-        return Err(TableFault::OutOfMemory);
-    };
-    let Ok(ends) = channel_pieces(alloc, header.channels) else {
+    let Ok(pieces) = pieces_of(alloc, shape.ids(), header.channels) else {
         return Err(TableFault::OutOfMemory);
     };
     let level = shape.rounds();
     let count = shape.count(level);
-    let mut cells = [0u32; MAX_WINDOW_LEN];
-    let window = &mut cells[..2 * level as usize + 1];
-    shape.window(level, 0, window);
-    let mut prefix = line_prefix_of(&ids, &window[..2 * level as usize]);
+    let ids: &[Piece] = &pieces.ids;
+    let mut odometer = Odometer::first(shape.ids(), 2 * level as usize, ids);
     let mut rest = start;
     'lines: for number in 0..count {
-        match line_at(window, &prefix, &ids, &ends, rest) {
+        match line_at(&odometer, &pieces, rest) {
             Line::Malformed => return Err(syntax(text, rest)),
             Line::OtherWindow => return Err(TableFault::WrongWindow(number + 3)),
             Line::Entry(channel, after) => {
@@ -133,7 +128,7 @@ fn entries<'a>(
                 rest = after;
             }
         }
-        advance(shape, &ids, window, &mut prefix);
+        odometer.advance(ids);
     }
     Ok((maker.done(), rest))
 }

@@ -13,8 +13,9 @@ ghost use Rattle.table_text.specs.TableText.{written, head_then, ids_then, lines
 ghost use Rattle.table_text.specs.Pieces.{prefix_text, piece_text, id_text, channel_text, AreTexts, ArePieces};
 
 use crate::line_prefix::{LinePrefix, PREFIX_LEN};
+use crate::odometer::Odometer;
 use crate::piece::{Piece, Pieces};
-use crate::pieces::{line_prefix_of, piece_of, pieces_of};
+use crate::pieces::{piece_of, pieces_of};
 use crate::storing::{store, store_prefix};
 use channel_tables::{Separation, Table};
 use devices::chunk::Chunk;
@@ -22,7 +23,6 @@ use devices::fault::{EngineFault, OutFault};
 use devices::watched::Watched;
 use std::alloc::{AllocError, Global};
 use std::io::Write;
-use win_index::{MAX_WINDOW_LEN, Shape};
 
 // The space for a line: a prefix, the piece of an identifier and that of a channel.
 const LINE_LEN: usize = PREFIX_LEN + 16;
@@ -50,7 +50,7 @@ pub fn write_table<W: Write>(
     ensures failed { IsErrOf result OutFault.Write ↔ IsTrue (has_failed writer.new) }
 {
     let text = first_lines(alloc, table, separation)?;
-    let pieces = pieces_of(alloc, table)?;
+    let pieces = pieces_of(alloc, table.shape().ids(), table.channels())?;
     let mut chunk = Chunk::new(alloc)?;
     chunk.push(text.as_bytes());
     match write_lines(writer, &mut chunk, &pieces, table, separation) {
@@ -86,7 +86,7 @@ fn write_lines<W: Write>(
 ) -> Result<(), EngineFault>
     requires working { has_failed writer.old ≡ false }
     requires first { chunk.old ≡ head_then (written Two table.now separation) [] }
-    requires pieces { ArePieces table.now pieces.now }
+    requires pieces { ArePieces table.now.ids table.now.channels pieces.now }
     ensures ok { OnOk result (Appends (W.contents (device_of writer.old))
         (W.contents (device_of writer.new)) (table_text table.now separation)) }
     ensures err { OnErr result (AppendsFront (W.contents (device_of writer.old))
@@ -110,7 +110,7 @@ fn write_entries<W: Write>(
 ) -> Result<(), EngineFault>
     requires working { has_failed writer.old ≡ false }
     requires first { chunk.old ≡ head_then (written Two table.now separation) [] }
-    requires pieces { ArePieces table.now pieces.now }
+    requires pieces { ArePieces table.now.ids table.now.channels pieces.now }
     ensures ok { OnOk result (IsWrittenSoFar (W.contents (device_of writer.old)) (W.contents (device_of writer.new))
         chunk.new (lines_then (written Two table.now separation) [])) }
     ensures room { OnOk result (length chunk.new + 8 ≤ CHUNK_LEN) }
@@ -122,35 +122,15 @@ fn write_entries<W: Write>(
     let shape = table.shape();
     let level = shape.rounds();
     let count = shape.count(level);
-    let mut cells = [0u32; MAX_WINDOW_LEN];
-    let window = &mut cells[..2 * level as usize + 1];
-    shape.window(level, 0, window);
     let ids: &[Piece] = &pieces.ids;
-    let mut prefix = line_prefix_of(ids, &window[..2 * level as usize]);
+    let mut odometer = Odometer::first(shape.ids(), 2 * level as usize, ids);
     for number in 0..count {
         chunk.make_room(LINE_LEN, writer)?;
-        let last = window[2 * level as usize];
-        store_entry(chunk, pieces, &prefix, last, table.entry(number));
-        advance(shape, ids, window, &mut prefix);
+        let last = odometer.last_id();
+        store_entry(chunk, pieces, &odometer.prefix, last, table.entry(number));
+        odometer.advance(ids);
     }
     chunk.make_room(LINE_LEN, writer)
-}
-
-// Advances to the next window and its prefix, if there is one.
-pub(crate) fn advance(shape: Shape, ids: &[Piece], window: &mut [u32], prefix: &mut LinePrefix)
-    requires ids { AreTexts id_text ids.now × (length ids.now ≡ shape.ids) }
-    requires window { IsWindow (2 * shape.rounds + 1) shape.ids window.old }
-    requires prefix { prefix_text prefix.old ≡ ids_then (take (2 * shape.rounds) window.old) [] }
-    ensures next { (n : ℕ) → slice_get (windows (2 * shape.rounds + 1) shape.ids) n ≡ Some window.old
-        → n + 1 < length (windows (2 * shape.rounds + 1) shape.ids) → slice_get (windows (2 * shape.rounds + 1) shape.ids) (n + 1) ≡ Some window.new }
-    ensures window { IsWindow (2 * shape.rounds + 1) shape.ids window.new }
-    ensures prefix { prefix_text prefix.new ≡ ids_then (take (2 * shape.rounds) window.new) [] }
-{
-    let level = shape.rounds();
-    if !shape.next_in_run(level, window) {
-        shape.next_window(level, window);
-        *prefix = line_prefix_of(ids, &window[..2 * level as usize]);
-    }
 }
 
 // Appends to a chunk the line of a window with this prefix, last identifier and channel.

@@ -1,10 +1,12 @@
-use Rattle.std.proofs.Common.{◌≡◌, ℕ, ◌+◌, ◌*◌, ◌<◌, ◌≤◌, [], Some, length, take, slice_get, sym, ap, subst, ◌∙◌, arith}
+use Rattle.std.proofs.Common.{◌≡◌, ℕ, ◌+◌, ◌*◌, ◌<◌, ◌≤◌, Some, length, slice_get, sym, ap, subst, ◌∙◌, arith}
 use Rattle.std.proofs.lemmas.List.Elements.{All-nil}
 use Rattle.std.proofs.lemmas.List.{length_push}
 use Rattle.channel_tables.specs.Tables.{IsBegun, IsTable, windows_of}
-use Rattle.table_text.specs.TableText.{written, ids_then, lines_then}
+use Rattle.table_text.specs.TableText.{written, lines_then}
+use Rattle.table_text.specs.Odometers.{window_of}
 use Rattle.table_text.specs.LineForms.{HasEntry}
 use Rattle.table_text.specs.Faults.{IsWithin, no_entry}
+use Rattle.table_text.proofs.Odometers.{window_size, followed_at}
 use Rattle.table_text.proofs.TableLines.{begun_more, lines_more}
 use Rattle.table_text.proofs.reading.entries.Goals as goal
 
@@ -25,8 +27,6 @@ unfolding lines_then
 lines-init c =
     let made = c.in-Ok.ensures in
     let sizes = c.requires.sizes in
-    let first = rw c.rounds-level.ensures at c.window.ensures.item in
-    let window = rw c.rounds-level.ensures at c.window.ensures.window in
     record {
       ids = ap (λ t. t.ids) made;
       rounds = ap (λ t. t.rounds) made;
@@ -41,9 +41,10 @@ lines-init c =
             below = All-nil (λ (x : ℕ). x < c.args.header.channels);
           });
       count = ap (λ t. length t.entries) made;
-      next = λ _. first;
-      window = window;
-      prefix = rw c.rounds-level.ensures at c.line_prefix_of-prefix.ensures;
+      shows = c.first-odometer.ensures.is;
+      front_is = c.first-odometer.ensures.of.0 ∙ ap (λ n. 2 * n) c.rounds-level.ensures;
+      ids_is = c.first-odometer.ensures.of.1 ∙ c.ids-2.ensures;
+      next = λ _. rw (c.rounds-level.ensures, c.ids-2.ensures) at c.first-odometer.ensures.first;
       read = c.requires.header ∙ ap (λ t. lines_then (written c.args.version t c.args.header.separation) c.args.start.now) (sym made);
     }
 
@@ -58,7 +59,8 @@ syntax-requires-clause-malformed c =
       before = inv.read;
       more = rw (inv.rounds, inv.ids) (room_for _ _ _ _ inv.count c.lines-test.true (rw c.rounds-level.ensures at count));
     } in
-    let width : length c.lines.window ≡ 2 * c.lines.maker.rounds + 1 = rw inv.rounds inv.window.size in
+    let width : length (window_of c.lines.odometer) ≡ 2 * c.lines.maker.rounds + 1 =
+    rw inv.rounds (window_size c.lines.odometer inv.shows ∙ ap (λ n. n + 1) inv.front_is) in
     no_entry w within (subst (λ k. HasEntry k c.lines.rest.now → ⊥) width c.in-Malformed.ensures)
 
 pub lines-preserved : goal.lines-preserved
@@ -71,7 +73,7 @@ lines-preserved c =
     let count = rw level at c.count-count.ensures.value in
     let room : length t.entries < length (windows_of t) = rw (inv.rounds, inv.ids) (room_for _ _ _ _ inv.count c.lines-test.true count) in
     let within = rw count at c.lines-test.true in
-    let next : slice_get (windows_of t) (length t.entries) ≡ Some c.lines.window = rw (inv.rounds, inv.ids, inv.count) (inv.next within) in
+    let next : slice_get (windows_of t) (length t.entries) ≡ Some (window_of c.lines.odometer) = rw (inv.rounds, inv.ids, inv.count) (inv.next within) in
     let advanced = c.advance.ensures in
     record {
       ids = ap (λ m. m.ids) pushed ∙ inv.ids;
@@ -79,20 +81,14 @@ lines-preserved c =
       channels = ap (λ m. m.channels) pushed ∙ inv.channels;
       begun = subst IsBegun (sym pushed) (begun_more t channel inv.begun room (rw inv.channels (c.is_too_large.ensures.no c.if-is_too_large.false)));
       count = ap (λ m. length m.entries) pushed ∙ length_push t.entries channel ∙ ap (λ n. n + 1) inv.count;
-      next = advanced.next c.lines.number (inv.next within);
-      window = advanced.window;
-      prefix = advanced.prefix;
-      read = lines_more c.args.version t c.args.header.separation c.args.text.now c.lines.rest.now c.lines.window channel c.in-Entry.after.now inv.read next c.in-Entry.ensures.spelled
+      shows = advanced.is;
+      front_is = advanced.same.0 ∙ inv.front_is;
+      ids_is = advanced.same.1 ∙ inv.ids_is;
+      next = followed_at (2 * c.args.header.shape.rounds) c.args.header.shape.ids c.lines.odometer c.advance.new.self inv.front_is inv.ids_is advanced.next
+          c.lines.number (inv.next within);
+      read = lines_more c.args.version t c.args.header.separation c.args.text.now c.lines.rest.now (window_of c.lines.odometer) channel c.in-Entry.after.now inv.read next c.in-Entry.ensures.spelled
           ∙ ap (λ m. lines_then (written c.args.version m c.args.header.separation) c.in-Entry.after.now) (sym pushed);
     }
-
-pub advance-requires-clause-prefix : goal.advance-requires-clause-prefix
-advance-requires-clause-prefix c = c.lines.invariant.prefix
-
-pub line_at-requires-clause-prefix : goal.line_at-requires-clause-prefix
-line_at-requires-clause-prefix c =
-    let inv = c.lines.invariant in
-    inv.prefix ∙ ap (λ n. ids_then (take n c.lines.window) []) (omega (arith, inv.window.size))
 
 pub push-requires-clause-room : goal.push-requires-clause-room
 push-requires-clause-room c =
@@ -128,13 +124,14 @@ returns-then-is_too_large-clause-fault c =
       before = inv.read;
       more = rw (inv.rounds, inv.ids) (room_for _ _ _ _ inv.count c.lines-test.true count);
     } in
-    let width : length c.lines.window ≡ 2 * c.lines.maker.rounds + 1 = rw inv.rounds inv.window.size in
+    let width : length (window_of c.lines.odometer) ≡ 2 * c.lines.maker.rounds + 1 =
+    rw inv.rounds (window_size c.lines.odometer inv.shows ∙ ap (λ n. n + 1) inv.front_is) in
     let own = rw width at c.in-Entry.ensures in
     let below = rw count at c.lines-test.true in
-    let next : slice_get (windows_of c.lines.maker) (length c.lines.maker.entries) ≡ Some c.lines.window = rw (inv.rounds, inv.ids, inv.count) (inv.next below) in (
+    let next : slice_get (windows_of c.lines.maker) (length c.lines.maker.entries) ≡ Some (window_of c.lines.odometer) = rw (inv.rounds, inv.ids, inv.count) (inv.next below) in (
       c.requires.short,
       w,
-      c.lines.window,
+      window_of c.lines.odometer,
       c.in-Entry.channel,
       (c.lines.rest.now, c.in-Entry.after.now, within, own),
       next,

@@ -1,7 +1,6 @@
-use Rattle.std.proofs.Common.{◌≡◌, ℕ, ◌+◌, ◌*◌, ◌<◌, ◌≤◌, List, [], ◌++◌, length, get_or, refl, sym, ap, ◌∙◌, subst, arith, rules}
+use Rattle.std.proofs.Common.{◌≡◌, ℕ, ◌+◌, ◌*◌, ◌<◌, ◌≤◌, List, [], ◌++◌, length, refl, ap, ◌∙◌, subst, arith, rules}
 use Rattle.std.proofs.lemmas.Result.{on_err_weaker, on_ok_weaker}
 use Rattle.std.proofs.lemmas.List.{take_all}
-use Rattle.std.proofs.lemmas.List.Elements.{All-take}
 use Rattle.std.proofs.KnownBytes.{Appends-nil}
 use Rattle.devices.specs.Watched.{device_of}
 use Rattle.win_index.specs.Windows.{windows}
@@ -11,7 +10,9 @@ use Rattle.table_text.specs.declared.version.Version.TheVariants.{Two}
 use Rattle.table_text.specs.declared.writing.TheConstants.{LINE_LEN}
 use Rattle.table_text.specs.TableText.{written, lines_then, entry_then}
 use Rattle.table_text.specs.Pieces.{id_text, channel_text}
-use Rattle.table_text.proofs.WrittenLines.{front_more, lines_front, line_of_run, last_within, prefix_short, prefix_size}
+use Rattle.table_text.specs.Odometers.{front_of, last_of, window_of}
+use Rattle.table_text.proofs.Odometers.{followed_at}
+use Rattle.table_text.proofs.WrittenLines.{front_more, lines_front, line_of_run}
 use Rattle.devices.specs.Output.{IsWrittenSoFar}
 use Rattle.devices.proofs.Known.{on_err}
 use Rattle.devices.proofs.WrittenChunks.{tells_more, tells_moved, tells_front}
@@ -29,33 +30,17 @@ all_lines n count windows entries le count_is full = omega arith
 room_left : (filled : ℕ) → filled + LINE_LEN ≤ CHUNK_LEN → filled + 8 ≤ CHUNK_LEN
 room_left filled fits = omega arith
 
-pub slice_bounds-line_prefix_of-end-2 : goal.slice_bounds-line_prefix_of-end-2
-slice_bounds-line_prefix_of-end-2 g c = sym (prefix_size c.rounds-level.result c.window.new.out c.window.ensures.window.size)
-
-pub line_prefix_of-prefix-requires-clause-short : goal.line_prefix_of-prefix-requires-clause-short
-line_prefix_of-prefix-requires-clause-short g c =
-    rw (prefix_size c.rounds-level.result c.window.new.out c.window.ensures.window.size)
-    (prefix_short c.rounds-level.result c.shape-shape.result.rounds c.rounds-level.ensures c.shape-shape.result.few_rounds)
-
-pub line_prefix_of-prefix-requires-clause-ids : goal.line_prefix_of-prefix-requires-clause-ids
-line_prefix_of-prefix-requires-clause-ids g c =
-    let all = ap length c.deref-ids.ensures.value ∙ c.requires.pieces.all_ids ∙ sym c.shape-shape.ensures.ids in (
-      rw c.deref-ids.ensures.value c.requires.pieces.ids,
-      rw all (All-take (λ (id : ℕ). id < c.shape-shape.result.ids) (2 * c.rounds-level.result) c.window.new.out c.window.ensures.window.below),
-    )
-
 pub loop-number-init : goal.loop-number-init
 unfolding lines_then
 loop-number-init g c =
     let shape = c.shape-shape.ensures in
     let level_is : c.rounds-level.result ≡ c.args.table.now.rounds = c.rounds-level.ensures ∙ shape.rounds in
-    let first = rw (level_is, shape.ids) at c.window.ensures.item in
-    let window = rw (level_is, shape.ids) at c.window.ensures.window in
-    let prefix = rw level_is at c.line_prefix_of-prefix.ensures in
+    let ids_is = c.ids.ensures ∙ shape.ids in
     record {
-      next = λ _. first;
-      window = window;
-      prefix = prefix;
+      shows = c.first-odometer.ensures.is;
+      front = c.first-odometer.ensures.of.0 ∙ ap (λ n. 2 * n) level_is;
+      ids = c.first-odometer.ensures.of.1 ∙ ids_is;
+      next = λ _. rw (level_is, ids_is) at c.first-odometer.ensures.first;
       working = c.requires.working;
       told = ([], Appends-nil _, c.requires.first);
     }
@@ -68,13 +53,6 @@ entry-requires g c =
     below_count c.loop-number.number c.count-count.result (length (windows_of t)) (length t.entries) c.loop-number-test.true
     (c.count-count.ensures.value ∙ (λ i. length (windows (2 * level_is i + 1) (shape.ids i)))) shape.table.size
 
-pub store_entry-requires-clause-last : goal.store_entry-requires-clause-last
-store_entry-requires-clause-last g c =
-    let own = c.loop-number.invariant.window in
-    let level_is : c.rounds-level.result ≡ c.args.table.now.rounds = c.rounds-level.ensures ∙ c.shape-shape.ensures.rounds in
-    rw c.requires.pieces.all_ids
-    (own.below (2 * c.rounds-level.result) 0 (last_within c.rounds-level.result c.args.table.now.rounds (length c.loop-number.window) level_is own.size))
-
 pub store_entry-requires-clause-channel : goal.store_entry-requires-clause-channel
 store_entry-requires-clause-channel g c =
     let t = c.args.table.now in
@@ -83,18 +61,6 @@ store_entry-requires-clause-channel g c =
     let within = below_count c.loop-number.number c.count-count.result (length (windows_of t)) (length t.entries) c.loop-number-test.true
     (c.count-count.ensures.value ∙ (λ i. length (windows (2 * level_is i + 1) (shape.ids i)))) shape.table.size in
     rw (c.requires.pieces.all_channels, c.entry.ensures.value) (shape.table.begun.below c.loop-number.number 0 within)
-
-pub advance-requires-clause-window : goal.advance-requires-clause-window
-advance-requires-clause-window g c = rw (c.shape-shape.ensures.rounds, c.shape-shape.ensures.ids) c.loop-number.invariant.window
-
-pub advance-requires-clause-ids : goal.advance-requires-clause-ids
-advance-requires-clause-ids g c = (
-  rw c.deref-ids.ensures.value c.requires.pieces.ids,
-  ap length c.deref-ids.ensures.value ∙ c.requires.pieces.all_ids ∙ sym c.shape-shape.ensures.ids,
-)
-
-pub advance-requires-clause-prefix : goal.advance-requires-clause-prefix
-advance-requires-clause-prefix g c = rw c.shape-shape.ensures.rounds c.loop-number.invariant.prefix
 
 -- One more line is in the chunk.
 pub loop-number-preserved : goal.loop-number-preserved
@@ -106,23 +72,23 @@ loop-number-preserved g c =
     let level : c.rounds-level.result ≡ t.rounds = c.rounds-level.ensures ∙ shape.rounds in
     let count : c.count-count.result ≡ length (windows_of t) = c.count-count.ensures.value ∙ (λ i. length (windows (2 * level i + 1) (shape.ids i))) in
     let within : n < length (windows_of t) = rw (← count) c.loop-number-test.true in
-    let window = c.loop-number.window in
+    let odometer = c.loop-number.odometer in
+    let window = window_of odometer in
     let channel = c.entry.result in
     let line = entry_then window channel [] in
     let stored : c.store_entry.new.chunk ≡ c.make_room.new.self ++ line =
     c.store_entry.ensures ∙ ap (λ text. c.make_room.new.self ++ text)
-    ((λ i. inv.prefix i ++ (id_text (get_or window (2 * level i) 0) ++ channel_text channel)) ∙ line_of_run (2 * t.rounds) window channel inv.window.size) in
+    ((λ i. inv.shows.text i ++ (id_text (c.last_id-last.ensures.last i) ++ channel_text channel)) ∙ line_of_run (front_of odometer) (last_of odometer) channel) in
     let before = tells_moved _ _ _ _ _ _ inv.told c.in_ok-make_room.ensures.ok in
     let more = tells_more _ _ _ c.store_entry.new.chunk line _ before stored in
     let own : n < length t.entries = rw shape.table.size within in
     let lines = front_more t c.args.separation n c.entry.result window _ line own (inv.next within) refl c.entry.ensures.value refl in
-    let next = rw (shape.rounds, shape.ids) at c.advance.ensures.next in
-    let advanced = rw (shape.rounds, shape.ids) at c.advance.ensures.window in
-    let prefix = rw shape.rounds at c.advance.ensures.prefix in
+    let advanced = c.advance.ensures in
     record {
-      next = next n (inv.next within);
-      window = advanced;
-      prefix = prefix;
+      shows = advanced.is;
+      front = advanced.same.0 ∙ inv.front;
+      ids = advanced.same.1 ∙ inv.ids;
+      next = followed_at (2 * t.rounds) t.ids odometer c.advance.new.self inv.front inv.ids advanced.next n (inv.next within);
       working = search rules;
       told = subst (IsWrittenSoFar _ _ c.store_entry.new.chunk) lines more;
     }

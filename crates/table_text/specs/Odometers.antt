@@ -1,0 +1,31 @@
+-- The window that an odometer shows. No public contract cites this file.
+use Rattle.std.specs.Prelude.{◌≡◌, ℕ, ◌<◌, ◌≤◌, List, [], ◌∷◌, ◌++◌, take, slice_index}
+use Rattle.win_index.specs.declared.limits.TheConstants.{MAX_IDS, MAX_WINDOW_LEN}
+use Rattle.table_text.specs.Orders.{IsOrder}
+use Rattle.table_text.specs.Pieces.{prefix_text}
+use Rattle.table_text.specs.Prefixes.{HasTexts}
+use Rattle.table_text.specs.TableText.{ids_then}
+use Rattle.table_text.specs.declared.odometer.Odometer.{Odometer}
+
+-- all identifiers of the window but the last
+abbrev pub front_of : Odometer → List ℕ
+front_of o = take o.front o.order
+
+-- the last identifier of the window
+abbrev pub last_of : Odometer → ℕ
+last_of o = slice_index o.order o.last
+
+-- the window
+abbrev pub window_of : Odometer → List ℕ
+window_of o = front_of o ++ last_of o ∷ []
+
+-- The identifiers are an order, the last one of the window is one that its prefix lacks, and the text of the prefix is
+-- written.
+pub record IsOdometer (o : Odometer) : Type 0 where
+  pub few : o.ids ≤ MAX_IDS
+  pub short : o.front < MAX_WINDOW_LEN
+  pub order : IsOrder o.front o.ids (take o.ids o.order)
+  pub from : o.front ≤ o.last
+  pub within : o.last < o.ids
+  pub texts : HasTexts o.prefix.bytes o.prefix.ends (front_of o)
+  pub text : prefix_text o.prefix ≡ ids_then (front_of o) []

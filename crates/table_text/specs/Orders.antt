@@ -1,0 +1,24 @@
+-- Orders of the numbers below a bound: a window, and then the numbers that it lacks. No public contract cites this file.
+use Rattle.std.specs.Prelude.{◌≡◌, ℕ, ◌+◌, ◌<◌, List, length, take, drop, slice_index, slice_get, Some}
+use Rattle.win_index.specs.Windows.{unused, windows, IsWindow}
+
+-- the numbers below m in an order: a window of length k, and then the numbers that it lacks, in rising order
+pub record IsOrder (k m : ℕ) (order : List ℕ) : Type 0 where
+  pub size : length order ≡ m
+  pub window : IsWindow k m (take k order)
+  pub rest : drop k order ≡ unused m (take k order)
+
+-- next has the number after the window's, if there is a window with that number
+abbrev pub IsFollowedBy : ℕ → ℕ → List ℕ → List ℕ → Type 0
+IsFollowedBy k m window next =
+    (n : ℕ) → slice_get (windows k m) n ≡ Some window → n + 1 < length (windows k m) → slice_get (windows k m) (n + 1) ≡ Some next
+
+-- an order whose window is the next one, if there is a next one
+pub record IsStep (k m : ℕ) (old new : List ℕ) : Type 0 where
+  pub order : IsOrder k m new
+  pub next : IsFollowedBy k m (take k old) (take k new)
+
+-- The place behind a window of length k+1 of the first number larger than its last one. It is the length of the order if
+-- there is none.
+abbrev pub place_of : ℕ → List ℕ → ℕ
+place_of k order = k + 1 + length (unused (slice_index order k) (take k order))
