@@ -52,9 +52,7 @@ fn bounds_in_time(
     let mut bounds = Vec::new(alloc);
     for rounds in 0..program.rounds() + 1 {
         let bound = bound_after(program, ids, rounds, register);
-        let Ok(()) = bounds.push(bound) else {
-            return Err(AllocError);
-        };
+        bounds.push(bound)?;
     }
     Ok(bounds)
 }

@@ -41,10 +41,7 @@ fn shape_with(rounds: u32, ids: u32) -> Option<Shape>
     if rounds > MAX_ROUNDS {
         return None;
     }
-    let Ok(shape) = Shape::new(ids, rounds) else {
-        return None;
-    };
-    Some(shape)
+    Shape::new(ids, rounds).ok()
 }
 
 // Returns the shape that the second line of a text gives.

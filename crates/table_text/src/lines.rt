@@ -100,10 +100,7 @@ fn shape_of(counts: Counts) -> Option<Shape>
     if counts.channels > MAX_CHANNELS {
         return None;
     }
-    let Ok(shape) = Shape::new(counts.ids, counts.rounds) else {
-        return None;
-    };
-    Some(shape)
+    Shape::new(counts.ids, counts.rounds).ok()
 }
 
 // Returns the last two numbers of the second line of version 2, and the text after the line.

@@ -9,7 +9,7 @@ pub loop-rounds-preserved : goal.loop-rounds-preserved
 loop-rounds-preserved c =
     let f : ℕ → ℕ = λ r. slice_index (register_bounds c.args.program.now c.args.ids r) c.args.register in
     let k = c.loop-rounds.rounds in
-    c.in-Ok.ensures.items
+    c.in_ok-push.ensures.items
     ∙ ap (λ (items : List ℕ). items ++ c.bound_after-bound.result ∷ []) c.loop-rounds.invariant
     ∙ ap (λ (bound : ℕ). map f (range_with_len 0 k) ++ bound ∷ []) c.bound_after-bound.ensures
     ∙ sym (map-range_with_len_more f 0 k k (omega arith))
