@@ -1,7 +1,7 @@
 // The badge of a channel: its number on a coloured shape. The colours are the light scheme of Paul Tol, made for areas under dark
 // text; the shape distinguishes channels without colour, and only the number is unique.
 
-import { svg } from "./svg.js";
+import { svg } from "./dom.js";
 
 const COLOURS = ["#77aadd", "#ee8866", "#eedd88", "#44bb99", "#ffaabb", "#bbcc33", "#99ddff", "#aaaa00", "#dddddd"];
 

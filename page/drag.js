@@ -11,6 +11,11 @@ export function allowDragging(drawing, ring, edit) {
       if (event.button !== 0) return;
       follow(event, drawing, ring, place, node, edit);
     });
+    // Else a finger on a node would scroll the page, which ends the drag. No focus comes by itself then.
+    node.addEventListener("touchstart", (event) => {
+      event.preventDefault();
+      node.focus();
+    }, { passive: false });
   });
 }
 

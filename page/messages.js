@@ -1,7 +1,7 @@
 // The messages of a round, moving along the arrows: to the right outside the ring, to the left inside.
 
 import { pillWidth, PILL } from "./ring.js";
-import { arrowhead, point, svg } from "./svg.js";
+import { arrowhead, point, svg } from "./dom.js";
 
 const MOVE_MS = 900;
 

@@ -1,6 +1,6 @@
 // The drawing of a ring. Place 0 is at the top, and the right neighbour of a place is the next one clockwise.
 
-import { arc, arrowhead, point, svg } from "./svg.js";
+import { arc, arrowhead, point, svg } from "./dom.js";
 import { badge, colourOf } from "./channels.js";
 
 /** The height of a message, and its width for a number of digits. */

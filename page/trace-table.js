@@ -1,6 +1,6 @@
 // The trace as an HTML table, with a column for each place and a row for each line.
 
-import { html } from "./svg.js";
+import { html } from "./dom.js";
 import { badgeImage } from "./channels.js";
 
 export function showTrace(box, ring, steps, go, highlight) {

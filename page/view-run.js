@@ -1,7 +1,8 @@
 // Run: the drawing of a ring, and the steps of its run.
 
 import { ask, drop } from "./ask.js";
-import { byId, coded, html } from "./svg.js";
+import { byId, coded, html } from "./dom.js";
+import { clamp, whyNoNumber } from "./numbers.js";
 import { change, state } from "./state.js";
 import { drawRing, drawWindow, hasRoomForNames, say } from "./ring.js";
 import { drawMessages, isDot } from "./messages.js";
@@ -23,6 +24,7 @@ let register = 0;
 let named = false; // whether the labels have the register's name
 let digits = [1, 1]; // the most digits of labels and of messages, so that all steps have the same size
 let drawing = null;
+let tabStop = 0; // the place of the node that is a tab stop
 let player = 0;
 
 export async function updateRun(checked) {
@@ -34,6 +36,7 @@ export async function updateRun(checked) {
   drop("run");
   byId("run").classList.remove("pending");
   if (checked.refusal) return showRefused(PROGRAM_REFUSED);
+  offerSizes(checked.accepted);
   const why = whyNoRing(state.ring);
   if (why) return showRefused(why);
   // The ring of the state is drawn at once, and its run when it is known.
@@ -51,6 +54,7 @@ export async function updateRun(checked) {
     return undefined;
   }
   refused.hidden = true;
+  byId("ring").setAttribute("aria-invalid", "false");
   steps = stepsOf(answer.out);
   // The same step stays open after an edit of the ring.
   at = /^[0-9]+$/.test(state.step) ? Math.min(Number(state.step), steps.length - 1) : steps.length - 1;
@@ -64,6 +68,7 @@ export async function updateRun(checked) {
 /** Shows the ring without a run, and why. */
 function showRefused(why) {
   steps = null;
+  byId("ring").setAttribute("aria-invalid", String(why !== PROGRAM_REFUSED));
   refused.replaceChildren(...coded(why));
   refused.hidden = false;
   byId("trace").replaceChildren();
@@ -122,24 +127,35 @@ function showStep(step, moving) {
 function describe(node, place, ring, step) {
   const held = step ? step.registers.map((values, j) => `r${j} ${values[place]}`).join(", ") : "";
   const channel = step?.channels ? `, channel ${step.channels[place]}` : "";
-  node.setAttribute("tabindex", "0");
+  node.setAttribute("tabindex", place === Math.min(tabStop, ring.length - 1) ? "0" : "-1");
   node.setAttribute("role", "button");
   node.setAttribute("aria-label",
-    `Node ${ring[place]} at place ${place}: ${held}${channel}. Delete takes it out, Shift with arrows moves it.`);
+    `Node ${ring[place]} at place ${place}: ${held}${channel}. Delete takes it out, Shift with arrows moves it, arrows go to its neighbours.`);
   node.addEventListener("pointerenter", () => highlight(place));
-  node.addEventListener("pointerleave", () => highlight(null));
-  node.addEventListener("focus", () => highlight(place));
+  // What a finger has touched stays until another node is.
+  node.addEventListener("pointerleave", ({ pointerType }) => pointerType !== "touch" && highlight(null));
+  node.addEventListener("focus", () => {
+    for (const other of drawing.nodes) other.setAttribute("tabindex", other === node ? "0" : "-1");
+    tabStop = place;
+    highlight(place);
+  });
   node.addEventListener("blur", () => highlight(null));
   node.addEventListener("keydown", (event) => {
-    const by = { ArrowLeft: -1, ArrowRight: 1 }[event.key];
-    if (event.key === "Delete" || event.key === "Backspace") edit(ring.toSpliced(place, 1), place % (ring.length - 1 || 1));
-    else if (by && event.shiftKey) {
-      const to = (place + by + ring.length) % ring.length;
-      edit(ring.toSpliced(place, 1).toSpliced(to, 0, ring[place]), to);
-    } else return;
+    if (!nodeKey(event, place, ring)) return;
     event.preventDefault();
     event.stopPropagation();
   });
+}
+
+/** What a key does at a node; tells whether it does anything. Arrows go to the neighbours. */
+function nodeKey({ key, shiftKey }, place, ring) {
+  const by = { ArrowLeft: -1, ArrowUp: -1, ArrowRight: 1, ArrowDown: 1 }[key];
+  const to = (place + (by ?? 0) + ring.length) % ring.length;
+  if (key === "Delete" || key === "Backspace") edit(ring.toSpliced(place, 1), place % (ring.length - 1 || 1));
+  else if (by && shiftKey) edit(ring.toSpliced(place, 1).toSpliced(to, 0, ring[place]), to);
+  else if (by) drawing.nodes[to].focus();
+  else return false;
+  return true;
 }
 
 /** Shows the window that the node at a place has heard of so far. */
@@ -218,11 +234,22 @@ export function startRun() {
 
 export const stopRun = pause;
 
+/** Offers random rings from the least size that the program has on. */
+function offerSizes({ rounds, ids }) {
+  const field = byId("random-size");
+  field.min = 2 * rounds + 2;
+  field.max = ids;
+  if (document.activeElement !== field && field.value !== "") field.value = clamp(Number(field.value), field.min, field.max);
+}
+
 function randomRing() {
-  const ids = Math.min(Math.max(Number(state.ids) || 0, 1), 1024);
-  const size = Math.min(Math.max(Number(byId("random-size").value) || 1, 1), ids);
+  const field = byId("random-size");
+  field.setCustomValidity(whyNoNumber("nodes", field.value) ?? "");
+  if (field.value === "") return field.reportValidity();
+  const ids = clamp(Number(state.ids) || 0, 1, 1024);
+  const size = clamp(Number(field.value), Math.min(Number(field.min), ids), ids);
   const left = Array.from({ length: ids }, (_, i) => i);
   const ring = Array.from({ length: size }, () => left.splice(Math.floor(Math.random() * left.length), 1)[0]);
-  byId("random-size").value = size;
-  change({ ring: ring.join(",") });
+  field.value = size;
+  return change({ ring: ring.join(",") });
 }
