@@ -11,6 +11,7 @@ const area = byId("text");
 const ink = box.querySelector(".ink");
 
 let fault = null; // the place of the mark: { row, column }, both from 0, the column in UTF-16 units
+let asked = null; // the place of the word that is asked about, as that of a fault
 let blocks = []; // of the copy: { element, seen, drawn }, where `drawn` is what the element was drawn from
 
 const watch = new IntersectionObserver((entries) => {
@@ -26,9 +27,31 @@ const watch = new IntersectionObserver((entries) => {
 export function onEdit(listener) {
   area.addEventListener("input", () => {
     fault = null;
+    asked = null;
     draw();
     listener(area.value);
   });
+}
+
+/** Calls `listener` with the place of the cursor whenever the user moves it. */
+export function onWord(listener) {
+  for (const event of ["click", "keyup"]) area.addEventListener(event, () => listener(area.selectionStart));
+}
+
+/** Marks the word at a place `{ at }` of the text, or none. */
+export function markWord(place) {
+  const next = place && placeOf(place.at);
+  if (asked?.row === next?.row && asked?.column === next?.column) return;
+  asked = next;
+  draw();
+  const mark = ink.querySelector(".asked");
+  if (mark) scrollTo(mark);
+}
+
+/** The row and the column of an index of the text, both from 0. */
+function placeOf(index) {
+  const before = area.value.slice(0, index).split("\n");
+  return { row: before.length - 1, column: before.at(-1).length };
 }
 
 /** Shows a text from the first row that is no comment on. */
@@ -36,6 +59,7 @@ export function showText(text) {
   if (area.value === text && blocks.length) return;
   area.value = text;
   fault = null;
+  asked = null;
   draw();
   area.setSelectionRange(0, 0);
   const head = rowOf(headRows(text.split("\n")));
@@ -44,8 +68,7 @@ export function showText(text) {
 
 /** Marks the token at a place of the text, or the end of the text, or nothing if the place is `null`. */
 export function markFault(place) {
-  const before = place && area.value.slice(0, place.index).split("\n");
-  fault = place ? { row: before.length - 1, column: before.at(-1).length } : null;
+  fault = place && placeOf(place.index);
   area.setAttribute("aria-invalid", fault !== null);
   draw();
   // While one types, the cursor decides what is visible.
@@ -54,7 +77,10 @@ export function markFault(place) {
 
 function scrollToFault() {
   const mark = ink.querySelector(".fault");
-  if (!mark) return;
+  if (mark) scrollTo(mark);
+}
+
+function scrollTo(mark) {
   const below = mark.getBoundingClientRect().top - box.getBoundingClientRect().top;
   if (below < 0 || below > box.clientHeight - 40) box.scrollTop += below - box.clientHeight / 2;
 }
@@ -93,8 +119,9 @@ function draw() {
 function drawBlock(number, text) {
   const block = blocks[number];
   const first = number * ROWS;
-  const marked = fault && first <= fault.row && fault.row < first + ROWS ? `${fault.row}:${fault.column}` : "";
-  // The block of the fault has its mark in sight or not, so that one can go there.
+  const marked = [fault, asked].map((place) => (place && first <= place.row && place.row < first + ROWS
+    ? `${place.row}:${place.column}` : "")).join(" ").trim();
+  // The block of a mark has it in sight or not, so that one can go there.
   const coloured = block.seen || marked !== "";
   const { drawn } = block;
   if (drawn.text === text && drawn.marked === marked && drawn.coloured === coloured) return;
@@ -108,8 +135,10 @@ const rowOf = (number) => ink.querySelector(`[data-row="${number + 1}"]`);
 
 function drawRow(text, number) {
   const faultAt = fault?.row === number ? fault.column : -1;
+  const askedAt = asked?.row === number ? asked.column : -1;
   const row = html("div", { "data-row": number + 1, class: faultAt < 0 ? "row" : "row faulty" },
-    pieces(text).flatMap((piece) => drawPiece(piece, faultAt)));
+    pieces(text).flatMap((piece) => (piece.at === askedAt
+      ? [html("span", { class: `${piece.kind} asked` }, piece.text)] : drawPiece(piece, faultAt))));
   if (faultAt >= text.length) row.append(html("mark", { class: "fault at-end" }));
   row.append("\n");
   return row;

@@ -54,8 +54,8 @@ export function showExample() {
   }
 }
 
-/** Takes an example with its number of identifiers, a new ring if the current one is no ring for it, and the last step of its run if
- * the number of steps is another one. */
+/** Takes an example with its number of identifiers, a new ring if the current one is no ring for it, and the start of its run if
+ * the number of steps is another one, unless the end was shown. */
 function take(example, rounds) {
   byId("examples").hidePopover();
   const ids = Number(example.ids);
@@ -63,7 +63,7 @@ function take(example, rounds) {
   const least = 2 * rounds + 2;
   const fits = ring.length >= least && ring.every((identifier) => identifier < ids);
   const next = fits ? state.ring : spread(Math.max(least, Math.min(8, ids)), ids);
-  const step = roundsOf(state.text) === rounds ? state.step : "";
+  const step = state.step === "end" || roundsOf(state.text) === rounds ? state.step : "";
   taken = example.text;
   change({ text: example.text, ids: example.ids, ring: next, step }, { keep: true });
 }

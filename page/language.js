@@ -60,5 +60,16 @@ export function headRows(rows) {
   return Math.max(rows.findIndex((row) => /^\s*[^\s#]/.test(row)), 0);
 }
 
+/**
+ * The words of a program's expressions, in order, each with its place as `{ at, length }`: operations, numbers, registers, `id`, `L`
+ * and `R`.
+ */
+export function partTokens(text) {
+  const tokens = [...text.matchAll(/#[^\n]*|[A-Za-z0-9]+|=/g)].filter(([word]) => !word.startsWith("#"));
+  // The header is six words, and a register before `=` is assigned.
+  return tokens.slice(6).filter(([word], i, rest) => word !== "=" && KINDS.get(word) !== "part" && rest[i + 1]?.[0] !== "=")
+    .map((match) => ({ at: match.index, length: match[0].length }));
+}
+
 /** The number of rounds that a text names, 0 where it names none. */
 export const roundsOf = (text) => Number(text.match(/^\s*rounds\s+(\d+)/m)?.[1] ?? 0);

@@ -2,8 +2,11 @@
 
 import { withCommas } from "./ring-text.js";
 
-// The step of a run is its number, from 0, and empty for the last one.
-const DEFAULTS = { view: "run", ids: "8", ring: "5,1,3,7", step: "", near: "1", far: "0", prefix: "", arrange: "channel" };
+// The step of a run is its number, `end` for the last one, and empty for the start. The base is that of a run's numbers.
+const DEFAULTS = {
+  view: "run", ids: "8", ring: "5,1,3,7", step: "", base: "10", near: "1", far: "0", prefix: "", arrange: "channel",
+};
+const BASES = ["2", "10"];
 const FIRST = "cv1.txt";
 const VIEWS = ["run", "judge", "table", "graph"];
 
@@ -69,6 +72,7 @@ function read() {
   for (const name of Object.keys(DEFAULTS)) values[name] = said[name] ?? DEFAULTS[name];
   values.ring = withCommas(values.ring);
   if (!VIEWS.includes(values.view)) values.view = DEFAULTS.view;
+  if (!BASES.includes(values.base)) values.base = DEFAULTS.base;
   const named = said.example ?? FIRST;
   const example = examples.find(({ name }) => name === named);
   missing = example || said.text !== undefined ? null : named;

@@ -137,7 +137,7 @@ function showNo({ ring, places, channels }, accepted, all) {
 
 const inWords = (rounds) => (rounds === 1 ? "one round" : `${rounds} rounds`);
 
-const runRing = (ring) => change({ ring: ring.join(","), step: "", view: "run" }, { keep: true });
+const runRing = (ring) => change({ ring: ring.join(","), step: "end", view: "run" }, { keep: true });
 
 /** The picture of a tuple, with the windows of the two nodes that are compared. */
 function drawTuple(t, extra) {

@@ -11,6 +11,8 @@ import { allowDragging, dragIn } from "./drag.js";
 import { nameOf, sentenceOf, stepsOf } from "./trace.js";
 import { showTrace, markStep, markPlace } from "./trace-table.js";
 import { fillTray } from "./tray.js";
+import { closeWhy, openWhy, showWhy, startWhy, whyPlace } from "./why.js";
+import { numerals } from "./numerals.js";
 import { PROGRAM_REFUSED, readRefusal } from "./faults.js";
 
 const STEP_MS = 1500;
@@ -30,6 +32,7 @@ let player = 0;
 export async function updateRun(checked) {
   pause();
   if (withCommas(byId("ring").value) !== state.ring) byId("ring").value = state.ring;
+  byId("base").value = state.base;
   const ring = readRing(state.ring) ?? [];
   fillTray(ring, Number(state.ids), (identifier) => edit([...ring, identifier]),
     (event, identifier) => drawing && dragIn(event, drawing, ring, identifier, edit));
@@ -57,17 +60,22 @@ export async function updateRun(checked) {
   byId("ring").setAttribute("aria-invalid", "false");
   steps = stepsOf(answer.out);
   // The same step stays open after an edit of the ring.
-  at = /^[0-9]+$/.test(state.step) ? Math.min(Number(state.step), steps.length - 1) : steps.length - 1;
+  const last = steps.length - 1;
+  at = state.step === "end" ? last : Math.min(Number(state.step.match(/^[0-9]+$/) ?? 0), last);
   register = Math.min(register, steps[0].registers.length - 1);
   fillTimeline();
   fillRegisters();
-  showTrace(byId("trace"), readRing(state.ring), steps, go, highlight);
+  showTrace(byId("trace"), readRing(state.ring), steps, { show: shown, go, highlight });
   return show();
 }
+
+/** The texts of numbers, in the base of the state. */
+const shown = (values) => numerals(values, state.base);
 
 /** Shows the ring without a run, and why. */
 function showRefused(why) {
   steps = null;
+  closeWhy();
   byId("ring").setAttribute("aria-invalid", String(why !== PROGRAM_REFUSED));
   refused.replaceChildren(...coded(why));
   refused.hidden = false;
@@ -82,11 +90,11 @@ function show({ moving = false } = {}) {
   const step = steps?.[at];
   stage.classList.toggle("idle", !step);
   for (const name of ["back", "play", "forward"]) byId(name).disabled = !step;
-  byId("run-say").replaceChildren(...(step ? coded(sentenceOf(step, ring)) : []));
+  byId("run-say").replaceChildren(...(step ? coded(sentenceOf(step, shown(ring))) : []));
   drawing = null;
   if (!ring) return stage.replaceChildren();
   if (steps) {
-    const most = (lists) => Math.max(0, ...lists.flat().map((value) => String(value).length));
+    const most = (lists) => Math.max(0, ...lists.flatMap(shown).map((text) => text.length));
     const sent = steps.flatMap(({ left, right }) => (left ? [left, right] : []));
     const held = most(steps.map(({ registers }) => registers[register]));
     named = steps[0].registers.length === 1 && hasRoomForNames(ring.length, held);
@@ -95,24 +103,26 @@ function show({ moving = false } = {}) {
   const focused = stage.contains(document.activeElement) ? document.activeElement.dataset.place : undefined;
   drawing = drawRing({
     ring, channels: step?.channels, digits: digits[0], sentDigits: digits[1],
-    labels: step?.registers[register].map((value) => ({ text: named ? `r0=${value}` : value, title: `r${register} = ${value}` })),
+    labels: step && shown(step.registers[register]).map((value) => ({ text: named ? `r0=${value}` : value, title: `r${register} = ${value}` })),
+    show: shown,
     label: step ? `Ring of ${ring.length} nodes, ${nameOf(step)}` : `Ring of ${ring.length} nodes`,
   });
   stage.replaceChildren(drawing.image);
   drawing.nodes.forEach((node, place) => describe(node, place, ring, step));
   if (step) showStep(step, moving);
-  allowDragging(drawing, ring, edit);
+  allowDragging(drawing, ring, edit, explain);
+  if (step) showWhy(step, ring);
   drawing.nodes[focused]?.focus();
   return undefined;
 }
 
 function showStep(step, moving) {
   const inRound = step.kind === "send" || step.kind === "assign";
-  if (step.kind === "send" && [...step.left, ...step.right].some((value) => isDot(drawing.size, value))) {
+  if (step.kind === "send" && [step.left, step.right].flatMap(shown).some((text) => isDot(drawing.size, text))) {
     byId("run-say").append(" The values are in the table below.");
   }
   say(drawing.layers.centre, inRound ? [[`round ${step.round}`, "centre-big"], [step.kind, "centre-small"]] : [[step.kind, "centre-big"]]);
-  if (step.kind === "send" || (step.kind === "assign" && moving)) drawMessages(drawing, step, moving);
+  if (step.kind === "send" || (step.kind === "assign" && moving)) drawMessages(drawing, step, { moving, show: shown });
   if (step.kind === "assign") {
     drawing.nodes.forEach((node, place) => {
       const changed = step.registers[register][place] !== step.before[register][place];
@@ -130,7 +140,7 @@ function describe(node, place, ring, step) {
   node.setAttribute("tabindex", place === Math.min(tabStop, ring.length - 1) ? "0" : "-1");
   node.setAttribute("role", "button");
   node.setAttribute("aria-label",
-    `Node ${ring[place]} at place ${place}: ${held}${channel}. Delete takes it out, Shift with arrows moves it, arrows go to its neighbours.`);
+    `Node ${ring[place]} at place ${place}: ${held}${channel}. Delete takes it out, Shift with arrows moves it, arrows go to its neighbours, Enter tells why.`);
   node.addEventListener("pointerenter", () => highlight(place));
   // What a finger has touched stays until another node is.
   node.addEventListener("pointerleave", ({ pointerType }) => pointerType !== "touch" && highlight(null));
@@ -154,6 +164,7 @@ function nodeKey({ key, shiftKey }, place, ring) {
   if (key === "Delete" || key === "Backspace") edit(ring.toSpliced(place, 1), place % (ring.length - 1 || 1));
   else if (by && shiftKey) edit(ring.toSpliced(place, 1).toSpliced(to, 0, ring[place]), to);
   else if (by) drawing.nodes[to].focus();
+  else if (key === "Enter") explain(place);
   else return false;
   return true;
 }
@@ -170,6 +181,14 @@ function highlight(place) {
   drawing.layers.under.append(drawWindow(drawing.size, place, t, 0, "known"));
 }
 
+/** Opens or closes the explanation of the node at a place. */
+function explain(place) {
+  const step = steps?.[at];
+  if (!step) return;
+  if (whyPlace() === place) closeWhy();
+  else openWhy(place, step, readRing(state.ring), () => drawing?.nodes[place]?.focus());
+}
+
 function edit(ring, focusPlace) {
   if (ring.join(",") === state.ring) show();
   else change({ ring: ring.join(",") });
@@ -179,7 +198,7 @@ function edit(ring, focusPlace) {
 function go(step, moving = false) {
   if (!steps || step < 0 || step >= steps.length) return;
   at = step;
-  change({ step: at === steps.length - 1 ? "" : String(at) }, { shown: true });
+  change({ step: at === 0 ? "" : at === steps.length - 1 ? "end" : String(at) }, { shown: true });
   show({ moving });
 }
 
@@ -215,6 +234,8 @@ function fillRegisters() {
 }
 
 export function startRun() {
+  startWhy();
+  byId("base").addEventListener("change", (event) => change({ base: event.target.value }));
   byId("back").addEventListener("click", () => { pause(); go(at - 1); });
   byId("forward").addEventListener("click", () => { pause(); go(at + 1, true); });
   byId("play").addEventListener("click", play);

@@ -9,6 +9,7 @@ OPTION_CHARACTERS = 8_000
 COMMANDS = {
     "check": {"ids"},
     "trace": {"ids", "ring"},
+    "explain": {"ids", "ring", "place"},
     "judge": {"ids", "near", "far"},
     "table": {"ids"},
 }

@@ -5,12 +5,14 @@ import { readFileSync } from "node:fs";
 import { test } from "node:test";
 
 import { readRefusal } from "../../page/faults.js";
-import { headRows, OPERATIONS, pieces, roundsOf } from "../../page/language.js";
+import { headRows, OPERATIONS, partTokens, pieces, roundsOf } from "../../page/language.js";
 import { fewerChannels } from "../../page/least.js";
 import { clamp, whyNoNumber } from "../../page/numbers.js";
+import { numerals } from "../../page/numerals.js";
 import { readRing, whyNoRing, withCommas } from "../../page/ring-text.js";
 import { countChannels, edgesOf, leastBytes, readTable } from "../../page/table.js";
 import { equalPairs, nameOf, sentenceOf, stepsOf } from "../../page/trace.js";
+import { treesIn, treesOf } from "../../page/trees.js";
 import { readNo } from "../../page/verdict.js";
 
 const FAULTY = "rounds 1\nchannels 6\nregisters 1\nstart\nr0 = id\nround\n  send lift 0\n";
@@ -148,4 +150,31 @@ test("least: what is known of fewer channels", () => {
   assert.equal(fewerChannels(1, 8, 1, 0, 4), "Fewer channels? No: with 3 channels there is none.");
   assert.equal(fewerChannels(1, 8, 1, 0, 3), "No program does it with so few: with 3 channels there is no table.");
   assert.equal(fewerChannels(3, 8, 1, 0, 3), undefined);
+});
+
+test("numerals: decimal, and binary as wide as the widest", () => {
+  assert.deepEqual(numerals([5, 0, 10], "10"), ["5", "0", "10"]);
+  assert.deepEqual(numerals([5, 0, 10], "2"), ["0101", "0000", "1010"]);
+  assert.deepEqual(numerals([0], "2"), ["0"]);
+  assert.deepEqual(numerals([4294967295], "2"), ["1".repeat(32)]);
+});
+
+test("trees: the trees of an explanation, and those of a step", () => {
+  const text = "start r0\n id 5\nround 1 left\n 0 0\nround 1 right\n r0 5\nround 1 r0\n add 2\n  L 1\n  1 1\nfinish\n r0 2\n";
+  const trees = treesOf(text);
+  assert.deepEqual(trees.map(({ head, parts }) => [head, parts.length]), [
+    ["start r0", 1], ["round 1 left", 1], ["round 1 right", 1], ["round 1 r0", 3], ["finish", 1],
+  ]);
+  assert.deepEqual(trees[3].parts[1], { depth: 2, word: "L", value: 1, number: 4 });
+  const heads = (kind, round) => treesIn(trees, { kind, round }).map(({ head }) => head);
+  assert.deepEqual([heads("start", 0), heads("send", 1), heads("assign", 1), heads("finish", 1)], [
+    ["start r0"], ["round 1 left", "round 1 right"], ["round 1 r0"], ["finish"],
+  ]);
+  assert.deepEqual(heads("assign", 2), []);
+});
+
+test("language: the words of expressions, as the trees have them", () => {
+  const text = "rounds 1 # r0 = L\nchannels 6 registers 1\nstart r0=id round send left 0 send right r0\nr0 = add(L, 1) finish r0";
+  const words = partTokens(text).map(({ at, length }) => text.slice(at, at + length));
+  assert.deepEqual(words, ["id", "0", "r0", "add", "L", "1", "r0"]);
 });

@@ -242,8 +242,105 @@ def paper(page):
         STEPS.check(f"{name}: the program", program in found.replace("\f", ""), made[:300])
         for line in shown.splitlines():
             STEPS.check(f"{name}: {line}", "".join(line.split()) in found, made[-600:])
-        for word in ("Randomring", "Copylink", "Play", "Identifiers8", "Firststeps", "Runthisring", "arrowkeys", "Savetable"):
+        for word in ("Randomring", "Copylink", "Play", "Identifiers8", "Firststeps", "Runthisring", "arrowkeys", "Savetable", "decimal"):
             STEPS.check(f"{name}: no control {word}", word not in found, made)
 
 
-SURFACES = [help_panel, colours, touch, readers, screens, numbers, examples_by_name, graph_by_distance, paper]
+def in_base_two(values):
+    """Numbers in binary, all as wide as the widest."""
+    width = max(len(f"{int(value):b}") for value in values)
+    return [f"{int(value):0{width}b}" for value in values]
+
+
+def binary(page):
+    """Identifiers, registers, messages and channels in binary, which the link keeps."""
+    page.open(**START, base="2")
+    page.wait_ring("the ring in binary", "5,1,3,7")
+    trace = {line.rsplit(" ", 4)[0]: line.split()[-4:] for line in nbhd(CV1, "trace", "--ids", "8", "--ring", "5,1,3,7").splitlines()}
+    STEPS.equal("identifiers in binary", page.texts(".ring .identifier"), ["101", "001", "011", "111"])
+    STEPS.equal("channels in binary", page.texts(".ring .badge-number"), in_base_two(trace["finish"]))
+    rows = page.value("[...document.querySelectorAll('.trace tbody tr')].map(r => [...r.children].map(c => c.textContent))")
+    for name, *values in rows:
+        STEPS.equal(f"{name} in binary", values, in_base_two(trace[name]))
+    page.focus("#stage")
+    page.browser.key("ArrowLeft")
+    STEPS.equal("registers in binary", page.texts(".ring .label"), [f"r0={value}" for value in in_base_two(trace["round 1 r0"])])
+    page.browser.key("ArrowLeft")
+    STEPS.equal("messages in binary", page.texts(".message.right text"), in_base_two(trace["round 1 right"]))
+    page.value("(e => { e.value = '10'; e.dispatchEvent(new Event('change', { bubbles: true })); })(document.querySelector('#base'))")
+    page.wait("decimal again", "document.querySelector('.message.right text').textContent === '5' && !location.hash.includes('base=')")
+
+
+ITEMS = "[...document.querySelectorAll('[role=treeitem]')]"
+
+
+def why(page):
+    """The tree of a node, by mouse, finger and keys, in both bases and at each kind of step."""
+    if "explain" not in nbhd("", "--help"):
+        print("page-test: not run: why, as nbhd has no explain")
+        return
+    lines = nbhd(CV1, "explain", "--ids", "8", "--ring", "5,1,3,7", "--place", "1").splitlines()
+    heads = [number for number, line in enumerate(lines) if not line.startswith(" ")]
+    trees = {lines[a]: lines[a + 1 : b] for a, b in zip(heads, [*heads[1:], len(lines)])}
+    steps = {"": ["start r0"], "1": ["round 1 left", "round 1 right"], "2": ["round 1 r0"], "end": ["finish"]}
+    for width, base, way in ((1280, "10", "mouse"), (1280, "2", "keys"), (390, "10", "finger"), (390, "2", "keys")):
+        page.browser.size(width, 900)
+        page.browser.fingers(way == "finger")
+        for step, wanted in steps.items():
+            page.open(**START, base=base, step=step)
+            page.wait(f"a run for why at {step}", "document.querySelectorAll('#stage .label').length === 4")
+            open_why(page, way)
+            page.wait(f"why at {step} by {way}", f"{ITEMS}.length")
+            found = page.value(f"{ITEMS}.map(e => [Number(e.ariaLevel), ...e.textContent.split(' ')])")
+            parts = [[(len(line) - len(line.lstrip()), *line.split()) for line in trees[head]] for head in wanted]
+            values = [in_base_two([part[2] for part in tree]) if base == "2" else [part[2] for part in tree] for tree in parts]
+            shown = [[part[0], part[1], value] for tree, texts in zip(parts, values) for part, value in zip(tree, texts)]
+            STEPS.equal(f"its trees at {step!r}, {width}, base {base}", found, shown)
+            STEPS.check("it is not too wide", page.value("document.documentElement.scrollWidth <= innerWidth"))
+    page.browser.fingers(False)
+    page.browser.size(1280, 900)
+    why_keys(page)
+
+
+def open_why(page, way):
+    """Opens the tree of the node at place 1."""
+    node = ".node[data-place='1']"
+    page.value("document.querySelector('#stage').scrollIntoView()")
+    if way == "keys":
+        page.focus(node)
+        page.browser.key("Enter")
+    elif way == "finger":
+        page.browser.swipe(page.middle(f"{node} .disc"))
+    else:
+        page.browser.drag(*[page.middle(f"{node} .disc")] * 2)
+
+
+def why_keys(page):
+    """Arrows go along the tree, whose parts mark their words and the other way round; Escape closes it."""
+    page.open(**START, step="2")
+    page.wait("a run for the keys of why", "document.querySelectorAll('#stage .label').length === 4")
+    open_why(page, "keys")
+    page.wait("a tree", f"{ITEMS}.length === 11")
+    asked = "[document.activeElement.textContent, document.querySelector('.ink .asked')?.textContent]"
+    for key, part, word in (
+        ("ArrowDown", "shl 4", "shl"),
+        ("ArrowRight", "ldb 2", "ldb"),
+        ("ArrowDown", "r0 1", "r0"),
+        ("ArrowDown", "L 5", "L"),
+        ("ArrowLeft", "ldb 2", "ldb"),
+        ("ArrowLeft", "shl 4", "shl"),
+        ("ArrowUp", "add 4", "add"),
+    ):
+        page.browser.key(key)
+        STEPS.equal(f"{key} leads to {part}", page.value(asked), [part, word])
+    STEPS.equal("one part of a tree is a tab stop", page.count("[role=treeitem][tabindex='0']"), 1)
+    at = CV1.index("bit(r0, ldb") + 4
+    page.value(f"(t => {{ t.focus(); t.setSelectionRange({at}, {at}); t.click(); }})(document.querySelector('#text'))")
+    STEPS.equal("a word marks its part", page.value(f"{ITEMS}.map(e => e.matches('.marked')).indexOf(true)"), 7)
+    page.focus("[role=treeitem]")
+    page.browser.key("Escape")
+    STEPS.equal("Escape closes it", page.count("[role=treeitem]"), 0)
+    STEPS.equal("and returns to the node", page.value("document.activeElement.dataset.place"), "1")
+
+
+SURFACES = [help_panel, colours, touch, readers, screens, numbers, examples_by_name, graph_by_distance, paper, binary, why]

@@ -101,7 +101,7 @@ def run(page):
     ring = "5,1,3,7"
     page.open(view="run", example="cv1.txt", ids="8", ring=ring)
     page.wait_ring("the ring of CV1", ring)
-    trace = [line.split() for line in nbhd(CV1, "trace", *IDS, "--ring", ring).splitlines()]
+    trace = [line.split() for line in nbhd(CV1, "trace", *IDS, "--ring", ring).splitlines() if not line.startswith("ring ")]
     STEPS.equal("its identifiers", page.texts(".ring .identifier"), ring.split(","))
     STEPS.equal("its channels", page.texts(".ring .badge-number"), trace[-1][1:])
     rows = page.value("[...document.querySelectorAll('.trace tbody tr')].map(r => [...r.children].map(c => c.textContent))")
@@ -193,7 +193,8 @@ def step_keys(page):
     current = "[...document.querySelectorAll('#timeline button')].findIndex(e => e.ariaCurrent === 'step')"
     page.open(view="run", ids="8", ring="5,1,3,7", example="cv1.txt")
     page.wait_ring("the ring for the keys", "5,1,3,7")
-    hint = "Point at a node to see its window; drag it to move it, off the ring to take it out; arrow keys step."
+    hint = "Point at a node to see its window; press it to see why it has its value; "
+    hint += "drag it to move it, off the ring to take it out; arrow keys step."
     STEPS.equal("the line below the ring", page.texts(".hint"), [hint])
     for place, key, step in (
         (None, "ArrowLeft", 2),
@@ -486,7 +487,7 @@ def links(page):
         page.wait("the page", "document.querySelector('.check.good')")
         page.click(f".steps a:nth-of-type({example})")
         shown, name = {
-            1: (".ring .badge", "Cole and Vishkin"), 2: (".verdict.no", "LDB: "), 3: (".check.bad", "Program of the link")
+            1: (".ring .label", "Cole and Vishkin"), 2: (".verdict.no", "LDB: "), 3: (".check.bad", "Program of the link")
         }[example]
         page.wait(f"first step {example}", f"document.querySelector('{shown}')")
         STEPS.check(f"first step {example}: its name", page.text("#example-name").startswith(name), page.text("#example-name"))
@@ -519,16 +520,24 @@ def step_of_link(page):
     page.value("location.hash = location.hash.replace('step=2', 'step=1')")
     page.wait("the step follows the address", f"{current} === 1")
     page.click("#timeline li:last-child button")
-    page.wait("the address of the last step", "!location.hash.includes('step=')")
+    page.wait("the address of the last step", "location.hash.includes('step=end&')")
+    page.click("#timeline li:first-child button")
+    page.wait("the address of the first step", "!location.hash.includes('step=')")
+    page.browser.open(page.value("location.href"))
+    page.wait("a link without a step opens at the start", f"{current} === 0")
     page.open(view="run", ids="8", ring="5,1,3,7", example="cv1.txt", step="1")
     page.wait("a step of CV1", f"{current} === 1")
     page.click("#examples button:nth-of-type(2)")
     page.wait("the same step of LDB", f"{current} === 1 && document.querySelector('#examples-button').title.startsWith('ldb')")
-    page.value("[...document.querySelectorAll('#examples button')].find(e => /^cv2/.test(e.lastElementChild.textContent)).click()")
-    page.wait("the last step of a program of two rounds", f"{current} === 5")
-    for step in ("99", "x", ""):
+    take = "[...document.querySelectorAll('#examples button')].find(e => /^{}/.test(e.lastElementChild.textContent)).click()"
+    page.value(take.format("cv2"))
+    page.wait("the start of a program of two rounds", f"{current} === 0")
+    page.click("#timeline li:last-child button")
+    page.value(take.format("cv1"))
+    page.wait("the end of a program of one round", f"{current} === 3 && document.querySelectorAll('#timeline li').length === 4")
+    for step, shown in (("99", 3), ("end", 3), ("x", 0), ("", 0)):
         page.open(view="run", ids="8", ring="5,1,3,7", example="cv1.txt", step=step)
-        page.wait(f"a link to step {step!r} opens the last one", f"{current} === 3")
+        page.wait(f"a link to step {step!r}", f"{current} === {shown}")
 
 
 def exercises(page):
