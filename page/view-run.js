@@ -103,7 +103,8 @@ function show({ moving = false } = {}) {
   const focused = stage.contains(document.activeElement) ? document.activeElement.dataset.place : undefined;
   drawing = drawRing({
     ring, channels: step?.channels, digits: digits[0], sentDigits: digits[1],
-    labels: step && shown(step.registers[register]).map((value) => ({ text: named ? `r0=${value}` : value, title: `r${register} = ${value}` })),
+    labels: step && shown(step.registers[register])
+      .map((value) => ({ text: named ? `r0=${value}` : value, title: `r${register} = ${value}` })),
     show: shown,
     label: step ? `Ring of ${ring.length} nodes, ${nameOf(step)}` : `Ring of ${ring.length} nodes`,
   });
@@ -140,7 +141,8 @@ function describe(node, place, ring, step) {
   node.setAttribute("tabindex", place === Math.min(tabStop, ring.length - 1) ? "0" : "-1");
   node.setAttribute("role", "button");
   node.setAttribute("aria-label",
-    `Node ${ring[place]} at place ${place}: ${held}${channel}. Delete takes it out, Shift with arrows moves it, arrows go to its neighbours, Enter tells why.`);
+    `Node ${ring[place]} at place ${place}: ${held}${channel}. `
+      + "Delete takes it out, Shift with arrows moves it, arrows go to its neighbours, Enter tells why.");
   node.addEventListener("pointerenter", () => highlight(place));
   // What a finger has touched stays until another node is.
   node.addEventListener("pointerleave", ({ pointerType }) => pointerType !== "touch" && highlight(null));

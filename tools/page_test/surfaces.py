@@ -124,7 +124,8 @@ def screens(page):
         page.open(**START)
         page.wait_ring(f"the ring at {width}", "5,1,3,7")
         page.value("new Promise(done => setTimeout(done, 200))")
-        rows = "[...document.querySelectorAll('.row')].filter(e => /round$|send|r0 =|finish/.test(e.textContent.trim()) && !e.querySelector('.comment'))"
+        rule = "/round$|send|r0 =|finish/.test(e.textContent.trim()) && !e.querySelector('.comment')"
+        rows = f"[...document.querySelectorAll('.row')].filter(e => {rule})"
         box = "document.querySelector('#editor').getBoundingClientRect()"
         seen = f"{rows}.every(e => (r => r.top >= {box}.top && r.bottom <= {box}.bottom + 1)(e.getBoundingClientRect()))"
         STEPS.check(f"the rule is in view at {width}", page.value(f"{rows}.length > 4 && {seen} && {INSIDE}(document.querySelector('#editor'))"))

@@ -195,7 +195,7 @@ def step_keys(page):
     page.wait_ring("the ring for the keys", "5,1,3,7")
     hint = "Point at a node to see its window; press it to see why it has its value; "
     hint += "drag it to move it, off the ring to take it out; arrow keys step."
-    STEPS.equal("the line below the ring", page.texts(".hint"), [hint])
+    STEPS.equal("the line below the ring", [" ".join(text.split()) for text in page.texts(".hint")], [hint])
     for place, key, step in (
         (None, "ArrowLeft", 2),
         ("#stage", "ArrowLeft", 1),
