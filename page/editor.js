@@ -45,7 +45,7 @@ export function markWord(place) {
   asked = next;
   draw();
   const mark = ink.querySelector(".asked");
-  if (mark) scrollTo(mark);
+  if (mark) bringIntoSight(mark);
 }
 
 /** The row and the column of an index of the text, both from 0. */
@@ -77,10 +77,10 @@ export function markFault(place) {
 
 function scrollToFault() {
   const mark = ink.querySelector(".fault");
-  if (mark) scrollTo(mark);
+  if (mark) bringIntoSight(mark);
 }
 
-function scrollTo(mark) {
+function bringIntoSight(mark) {
   const below = mark.getBoundingClientRect().top - box.getBoundingClientRect().top;
   if (below < 0 || below > box.clientHeight - 40) box.scrollTop += below - box.clientHeight / 2;
 }
