@@ -182,7 +182,12 @@ INFIX = [
         "r0 = id / 2",
         "line 5, column 9: `/` is no word of the language; a comment begins with `#`, and half of x is `shr(x, 1)`",
     ),
-    ("r0 = id", "r0 = id % 3", "line 5, column 9: `%` is no word of the language; there is no remainder: that of 2 is `and(x, 1)`"),
+    (
+        "r0 = id",
+        "r0 = id % 3",
+        "line 5, column 9: `%` is no word of the language; a comment begins with `#`, "
+        "and there is no remainder: that of 2 is `and(x, 1)`",
+    ),
     (
         "finish r0",
         "finish r(0)",

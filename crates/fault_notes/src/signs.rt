@@ -114,7 +114,10 @@ const MARKS: [(&[u8], &str); 39] = [
     (b"<", "; write `lt(a, b)` for a < b"),
     (b">", "; write `lt(b, a)` for a > b"),
     (b"*", PRODUCT),
-    (b"%", "; there is no remainder: that of 2 is `and(x, 1)`"),
+    (
+        b"%",
+        "; a comment begins with `#`, and there is no remainder: that of 2 is `and(x, 1)`",
+    ),
     (
         b"/",
         "; a comment begins with `#`, and half of x is `shr(x, 1)`",
