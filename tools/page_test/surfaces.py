@@ -205,6 +205,13 @@ def examples_by_name(page):
     STEPS.equal("its identifiers too", page.value("document.querySelector('#ids').value"), "8")
 
 
+def localhost(page):
+    """The page asked for at localhost is that of the address, with the state of the link."""
+    page.browser.open(page.url.replace("127.0.0.1", "localhost") + "#view=judge&ids=8&example=cv1.txt")
+    page.wait("the address in place of localhost", f"location.href.startsWith('{page.url}#view=judge')")
+    page.wait("its state", "document.querySelector('.verdict.yes')")
+
+
 def graph_by_distance(page):
     """The graph asks how far apart neighbours' channels are to be, and mentions distance two."""
     page.open(view="graph", ids="4", example="cv1.txt", near="2", far="1")
@@ -344,4 +351,4 @@ def why_keys(page):
     STEPS.equal("and returns to the node", page.value("document.activeElement.dataset.place"), "1")
 
 
-SURFACES = [help_panel, colours, touch, readers, screens, numbers, examples_by_name, graph_by_distance, paper, binary, why]
+SURFACES = [help_panel, colours, touch, readers, screens, numbers, examples_by_name, localhost, graph_by_distance, paper, binary, why]
