@@ -166,7 +166,7 @@ function nodeKey({ key, shiftKey }, place, ring) {
   if (key === "Delete" || key === "Backspace") edit(ring.toSpliced(place, 1), place % (ring.length - 1 || 1));
   else if (by && shiftKey) edit(ring.toSpliced(place, 1).toSpliced(to, 0, ring[place]), to);
   else if (by) drawing.nodes[to].focus();
-  else if (key === "Enter") explain(place);
+  else if (key === "Enter") explain(place, true);
   else return false;
   return true;
 }
@@ -183,12 +183,12 @@ function highlight(place) {
   drawing.layers.under.append(drawWindow(drawing.size, place, t, 0, "known"));
 }
 
-/** Opens or closes the explanation of the node at a place. */
-function explain(place) {
+/** Opens or closes the explanation of the node at a place; with `enter` the focus goes there. */
+function explain(place, enter = false) {
   const step = steps?.[at];
   if (!step) return;
   if (whyPlace() === place) closeWhy();
-  else openWhy(place, step, readRing(state.ring), () => drawing?.nodes[place]?.focus());
+  else openWhy(place, step, readRing(state.ring), { enter, back: () => drawing?.nodes[place]?.focus() });
 }
 
 function edit(ring, focusPlace) {

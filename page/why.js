@@ -15,12 +15,12 @@ const box = byId("why-trees");
 let place = null; // of the node that is explained, if one is
 let leave = () => {}; // returns the focus
 
-/** Explains the node at a place in a step of the run; `back` returns the focus when that is closed. */
-export async function openWhy(at, step, ring, back) {
+/** Explains the node at a place in a step of the run. With `enter` the focus goes there, and `back` returns it when that is closed. */
+export async function openWhy(at, step, ring, { enter, back }) {
   place = at;
   leave = back;
   await showWhy(step, ring);
-  itemAt(0)?.focus();
+  if (enter) items()[0]?.focus();
 }
 
 export const whyPlace = () => place;
@@ -63,7 +63,6 @@ function drawTree({ head, parts }, tokens) {
 }
 
 const items = () => [...box.querySelectorAll("[role=treeitem]")];
-const itemAt = (index) => items()[index];
 
 /** Marks a part of a tree, and its word in the program. */
 function mark(number, tokens) {
