@@ -1,7 +1,7 @@
 // The badge of a channel: its number on a coloured shape. The colours are the light scheme of Paul Tol, made for areas under dark
 // text; the shape distinguishes channels without colour, and only the number is unique.
 
-import { svg } from "./svg.js";
+import { svg } from "./dom.js";
 
 const COLOURS = ["#77aadd", "#ee8866", "#eedd88", "#44bb99", "#ffaabb", "#bbcc33", "#99ddff", "#aaaa00", "#dddddd"];
 
@@ -27,24 +27,24 @@ export const colourOf = (channel) => COLOURS[channel % COLOURS.length];
 // In each further cycle of the colours the shapes are shifted by one.
 const shapeOf = (channel) => (channel + Math.floor(channel / COLOURS.length)) % SHAPES.length;
 
-/** The badge of a channel, centred at (x, y) of a drawing. */
-export function badge(channel, x, y, radius) {
+/** The badge of a channel with its text, centred at (x, y) of a drawing. */
+export function badge(channel, x, y, radius, name = String(channel)) {
   const shape = shapeOf(channel);
   const group = svg("g", { class: "badge", transform: `translate(${x} ${y})` });
   const look = { fill: colourOf(channel), class: "badge-shape" };
   const lower = (LOWER[shape] ?? 0) * radius;
   if (SHAPES[shape]) group.append(svg("path", { d: outline(SHAPES[shape], radius, lower), ...look }));
   else group.append(svg("circle", { r: radius, ...look }));
-  const digits = String(channel).length;
-  const size = radius * (digits < 2 ? 1.25 : digits < 3 ? 1.1 : digits < 4 ? 0.8 : 0.62);
-  group.append(svg("text", { y: lower / 2, "font-size": size, class: "badge-number" }, channel));
+  const digits = name.length;
+  const size = radius * (digits < 2 ? 1.25 : digits < 3 ? 1.1 : digits < 4 ? 0.8 : digits < 5 ? 0.62 : 3 / digits);
+  group.append(svg("text", { y: lower / 2, "font-size": size, class: "badge-number" }, name));
   return group;
 }
 
 /** The badge of a channel as a separate image, for running text and lists. */
-export function badgeImage(channel) {
+export function badgeImage(channel, name = String(channel)) {
   const image = svg("svg", { class: "badge-image", viewBox: "-15 -15 30 30", role: "img", "aria-label": `channel ${channel}` });
-  image.append(badge(channel, 0, 0, 10));
+  image.append(badge(channel, 0, 0, 10, name));
   return image;
 }
 

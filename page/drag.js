@@ -5,24 +5,30 @@ import { drawNode, moveNode } from "./ring.js";
 const NEAR = 64; // the distance from the circle up to which a node is in the ring
 const FIRST_MOVE = 5; // the pixels from which on a press is a drag
 
-export function allowDragging(drawing, ring, edit) {
+/** Lets nodes be dragged, which calls `edit` with the new ring; a node that is pressed and not dragged is chosen. */
+export function allowDragging(drawing, ring, edit, choose) {
   drawing.nodes.forEach((node, place) => {
     node.addEventListener("pointerdown", (event) => {
       if (event.button !== 0) return;
-      follow(event, drawing, ring, place, node, edit);
+      follow(event, drawing, ring, place, node, edit, choose);
     });
+    // Else a finger on a node would scroll the page, which ends the drag. No focus comes by itself then.
+    node.addEventListener("touchstart", (event) => {
+      event.preventDefault();
+      node.focus();
+    }, { passive: false });
   });
 }
 
 /** Lets an unused identifier follow the pointer into the ring. */
 export function dragIn(down, drawing, ring, identifier, edit) {
-  const ghost = drawNode(drawing.size, 0, identifier);
+  const ghost = drawNode(drawing.size, 0, String(identifier));
   ghost.style.visibility = "hidden"; // until the first move
   drawing.layers.nodes.append(ghost);
   follow(down, drawing, [...ring, identifier], ring.length, ghost, edit);
 }
 
-function follow(down, drawing, ring, place, node, edit) {
+function follow(down, drawing, ring, place, node, edit, choose) {
   const { image, size, layers, nodes } = drawing;
   const others = nodes.filter((other) => other !== node);
   const rest = ring.toSpliced(place, 1);
@@ -57,6 +63,7 @@ function follow(down, drawing, ring, place, node, edit) {
     removeEventListener("pointercancel", stop);
     if (!dragging) {
       if (!nodes.includes(node)) node.remove();
+      else if (event.type === "pointerup") choose(place);
       return;
     }
     image.classList.remove("dragging");

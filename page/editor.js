@@ -1,39 +1,74 @@
-// The editor: a transparent text area over a copy of its text, which has the colours and the mark of a fault. Both are in one scroll
-// box, so no scroll position has to be synchronised.
+// The editor: a transparent text area over a copy of its text, which has the colours, the numbers of the rows and the mark of a fault.
+// Both wrap alike in one scroll box, so no scroll position has to be synchronised. The copy is in blocks of rows: those in sight have
+// their colours, the others only their text, which is as high.
 
-import { byId, html } from "./svg.js";
-import { pieces } from "./language.js";
+import { byId, html } from "./dom.js";
+import { headRows, pieces } from "./language.js";
 
+const ROWS = 50; // of a block
 const box = byId("editor");
 const area = byId("text");
 const ink = box.querySelector(".ink");
-const gutter = box.querySelector(".gutter");
 
 let fault = null; // the place of the mark: { row, column }, both from 0, the column in UTF-16 units
-let drawn = []; // for each row of the copy what it was drawn from
+let asked = null; // the place of the word that is asked about, as that of a fault
+let blocks = []; // of the copy: { element, seen, drawn }, where `drawn` is what the element was drawn from
+
+const watch = new IntersectionObserver((entries) => {
+  for (const { target, isIntersecting } of entries) {
+    const number = blocks.findIndex(({ element }) => element === target);
+    if (number < 0 || blocks[number].seen === isIntersecting) continue;
+    blocks[number].seen = isIntersecting;
+    drawBlock(number, blocks[number].drawn.text);
+  }
+}, { root: box, rootMargin: "300px 0px" });
 
 /** Calls `listener` with the text whenever the user changes it. */
 export function onEdit(listener) {
   area.addEventListener("input", () => {
     fault = null;
+    asked = null;
     draw();
     listener(area.value);
   });
 }
 
+/** Calls `listener` with the place of the cursor whenever the user moves it. */
+export function onWord(listener) {
+  for (const event of ["click", "keyup"]) area.addEventListener(event, () => listener(area.selectionStart));
+}
+
+/** Marks the word at a place `{ at }` of the text, or none. */
+export function markWord(place) {
+  const next = place && placeOf(place.at);
+  if (asked?.row === next?.row && asked?.column === next?.column) return;
+  asked = next;
+  draw();
+  const mark = ink.querySelector(".asked");
+  if (mark) bringIntoSight(mark);
+}
+
+/** The row and the column of an index of the text, both from 0. */
+function placeOf(index) {
+  const before = area.value.slice(0, index).split("\n");
+  return { row: before.length - 1, column: before.at(-1).length };
+}
+
+/** Shows a text from the first row that is no comment on. */
 export function showText(text) {
-  if (area.value === text && drawn.length) return;
+  if (area.value === text && blocks.length) return;
   area.value = text;
   fault = null;
+  asked = null;
   draw();
   area.setSelectionRange(0, 0);
-  box.scrollTo(0, 0);
+  const head = rowOf(headRows(text.split("\n")));
+  box.scrollTo(0, head ? head.offsetTop - ink.firstElementChild.offsetTop : 0);
 }
 
 /** Marks the token at a place of the text, or the end of the text, or nothing if the place is `null`. */
 export function markFault(place) {
-  const before = place && area.value.slice(0, place.index).split("\n");
-  fault = place ? { row: before.length - 1, column: before.at(-1).length } : null;
+  fault = place && placeOf(place.index);
   area.setAttribute("aria-invalid", fault !== null);
   draw();
   // While one types, the cursor decides what is visible.
@@ -42,9 +77,12 @@ export function markFault(place) {
 
 function scrollToFault() {
   const mark = ink.querySelector(".fault");
-  if (!mark) return;
-  const below = mark.offsetTop - box.scrollTop;
-  if (below < 0 || below > box.clientHeight - 40) box.scrollTop = mark.offsetTop - box.clientHeight / 2;
+  if (mark) bringIntoSight(mark);
+}
+
+function bringIntoSight(mark) {
+  const below = mark.getBoundingClientRect().top - box.getBoundingClientRect().top;
+  if (below < 0 || below > box.clientHeight - 40) box.scrollTop += below - box.clientHeight / 2;
 }
 
 export function goToFault() {
@@ -56,27 +94,51 @@ export function goToFault() {
   ink.querySelector(".fault")?.scrollIntoView({ block: "nearest", inline: "nearest" });
 }
 
-/** Updates the copy. Only the rows from the first to the last changed one are replaced. */
+/** Updates the copy, and the text for the printer. Only blocks that changed are drawn. */
 function draw() {
   const rows = area.value.split("\n");
-  const wanted = rows.map((row, i) => (fault?.row === i ? `${row}\n${fault.column}` : row));
-  const most = Math.min(wanted.length, drawn.length);
-  let head = 0;
-  while (head < most && wanted[head] === drawn[head]) head += 1;
-  let tail = 0;
-  while (tail < most - head && wanted.at(-1 - tail) === drawn.at(-1 - tail)) tail += 1;
-  const old = [...ink.children].slice(head, drawn.length - tail);
-  const next = ink.children[drawn.length - tail] ?? null;
-  for (const row of old) row.remove();
-  const fresh = document.createDocumentFragment();
-  for (let i = head; i < rows.length - tail; i += 1) fresh.append(drawRow(rows[i], fault?.row === i ? fault.column : -1));
-  ink.insertBefore(fresh, next);
-  drawn = wanted;
-  drawGutter(rows.length);
+  const count = Math.ceil(rows.length / ROWS);
+  for (const { element } of blocks.splice(count)) {
+    watch.unobserve(element);
+    element.remove();
+  }
+  while (blocks.length < count) {
+    // The first blocks are in sight until the observer says otherwise.
+    const block = { element: html("div"), seen: blocks.length < 2, drawn: {} };
+    blocks.push(block);
+    ink.append(block.element);
+    watch.observe(block.element);
+  }
+  for (let number = 0; number < count; number += 1) {
+    drawBlock(number, rows.slice(number * ROWS, (number + 1) * ROWS).join("\n"));
+  }
+  box.style.setProperty("--digits", String(Math.max(String(rows.length).length, 2)));
+  byId("printed").textContent = area.value;
 }
 
-function drawRow(text, faultAt) {
-  const row = html("div", {}, pieces(text).flatMap((piece) => drawPiece(piece, faultAt)));
+function drawBlock(number, text) {
+  const block = blocks[number];
+  const first = number * ROWS;
+  const marked = [fault, asked].map((place) => (place && first <= place.row && place.row < first + ROWS
+    ? `${place.row}:${place.column}` : "")).join(" ").trim();
+  // The block of a mark has it in sight or not, so that one can go there.
+  const coloured = block.seen || marked !== "";
+  const { drawn } = block;
+  if (drawn.text === text && drawn.marked === marked && drawn.coloured === coloured) return;
+  if (coloured) block.element.replaceChildren(...text.split("\n").map((row, i) => drawRow(row, first + i)));
+  else if (drawn.text !== text || drawn.coloured) block.element.textContent = `${text}\n`;
+  block.drawn = { text, marked, coloured };
+}
+
+/** The element of a row of a block in sight, by its number from 0. */
+const rowOf = (number) => ink.querySelector(`[data-row="${number + 1}"]`);
+
+function drawRow(text, number) {
+  const faultAt = fault?.row === number ? fault.column : -1;
+  const askedAt = asked?.row === number ? asked.column : -1;
+  const row = html("div", { "data-row": number + 1, class: faultAt < 0 ? "row" : "row faulty" },
+    pieces(text).flatMap((piece) => (piece.at === askedAt
+      ? [html("span", { class: `${piece.kind} asked` }, piece.text)] : drawPiece(piece, faultAt))));
   if (faultAt >= text.length) row.append(html("mark", { class: "fault at-end" }));
   row.append("\n");
   return row;
@@ -94,11 +156,4 @@ function drawPiece({ text, kind, at }, faultAt) {
     ? [html("mark", { class: "fault at-end" }), marked]
     : [html("mark", { class: "fault" }, colour(marked))];
   return [colour(before), ...mark, colour(rest.slice(marked.length))];
-}
-
-function drawGutter(rows) {
-  while (gutter.childElementCount > rows) gutter.lastElementChild.remove();
-  while (gutter.childElementCount < rows) gutter.append(html("div", {}, String(gutter.childElementCount + 1)));
-  gutter.querySelector(".faulty")?.classList.remove("faulty");
-  if (fault) gutter.children[fault.row]?.classList.add("faulty");
 }

@@ -1,6 +1,7 @@
 // The list of examples.
 
-import { byId, html } from "./svg.js";
+import { byId, html } from "./dom.js";
+import { roundsOf } from "./language.js";
 import { change, exampleOf, isLinked, state } from "./state.js";
 
 /** The examples: name, title, text, and the number of identifiers that a comment recommends, else 8. */
@@ -13,7 +14,7 @@ export async function loadExamples() {
   }
 }
 
-const roundsOf = (text) => Number(text.match(/^\s*rounds\s+(\d+)/m)?.[1] ?? 0);
+let taken = null; // the text of the example that was chosen last
 
 export function fillExamples(examples) {
   const list = byId("examples");
@@ -53,8 +54,8 @@ export function showExample() {
   }
 }
 
-/** Takes an example with its number of identifiers, a new ring if the current one is no ring for it, and the last step of its run if
- * the number of steps is another one. */
+/** Takes an example with its number of identifiers, a new ring if the current one is no ring for it, and the start of its run if
+ * the number of steps is another one, unless the end was shown. */
 function take(example, rounds) {
   byId("examples").hidePopover();
   const ids = Number(example.ids);
@@ -62,8 +63,20 @@ function take(example, rounds) {
   const least = 2 * rounds + 2;
   const fits = ring.length >= least && ring.every((identifier) => identifier < ids);
   const next = fits ? state.ring : spread(Math.max(least, Math.min(8, ids)), ids);
-  const step = roundsOf(state.text) === rounds ? state.step : "";
+  const step = state.step === "end" || roundsOf(state.text) === rounds ? state.step : "";
+  taken = example.text;
   change({ text: example.text, ids: example.ids, ring: next, step }, { keep: true });
+}
+
+/** Ctrl-Z takes the choice of an example back, as the browser's Back does, while its text is as it was chosen. */
+export function undoByKey() {
+  addEventListener("keydown", (event) => {
+    if (event.key !== "z" || !(event.ctrlKey || event.metaKey) || event.altKey || event.shiftKey) return;
+    if (event.target.matches("input") || taken === null || state.text !== taken) return;
+    event.preventDefault();
+    taken = null;
+    history.back();
+  });
 }
 
 /** A ring of `n` identifiers below `ids`, not in ascending order. */

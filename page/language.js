@@ -1,11 +1,38 @@
-// The words of the language, for the colours of the text. Faults are found by nbhd alone.
+// The words of the language, for the colours of the text and the help. Faults are found by nbhd alone.
+
+/** The operations, in the order of docs/LANGUAGE.md: how they are written, their value, and an example of each. */
+export const OPERATIONS = [
+  { forms: ["not(a)"], value: "`2^32 - 1 - a`", examples: ["not(0) = 4294967295"] },
+  {
+    forms: ["and(a, b)", "or(a, b)", "xor(a, b)"],
+    value: "bit by bit",
+    examples: ["and(6, 3) = 2", "or(6, 3) = 7", "xor(6, 3) = 5"],
+  },
+  { forms: ["shl(a, k)"], value: "`a * 2^k` modulo `2^32`; 0 for `k >= 32`", examples: ["shl(5, 1) = 10"] },
+  { forms: ["shr(a, k)"], value: "`a / 2^k`, rounded down; 0 for `k >= 32`", examples: ["shr(5, 1) = 2"] },
+  { forms: ["add(a, b)"], value: "`a + b` modulo `2^32`", examples: ["add(5, 2) = 7"] },
+  { forms: ["sub(a, b)"], value: "`a - b`; 0 where that is below 0", examples: ["sub(5, 2) = 3"] },
+  { forms: ["min(a, b)", "max(a, b)"], value: "the lesser, the greater", examples: ["min(5, 2) = 2", "max(5, 2) = 5"] },
+  {
+    forms: ["ldb(a, b)"],
+    value: "the least index of a bit in which they differ, 0 where they are equal",
+    examples: ["ldb(5, 7) = 1"],
+  },
+  { forms: ["bit(a, i)"], value: "bit `i` of `a`; 0 for `i >= 32`", examples: ["bit(5, 2) = 1"] },
+  {
+    forms: ["eq(a, b)", "ne(a, b)", "lt(a, b)", "le(a, b)"],
+    value: "1 where `a` is equal, not equal, less, at most `b`, else 0",
+    examples: ["eq(5, 2) = 0", "ne(5, 2) = 1", "lt(5, 2) = 0", "le(2, 5) = 1"],
+  },
+  { forms: ["if(c, a, b)"], value: "`a` where `c` is not 0, else `b`", examples: ["if(1, 5, 2) = 5"] },
+];
 
 const KINDS = new Map();
-const add = (kind, words) => words.split(" ").forEach((word) => KINDS.set(word, kind));
-add("header", "rounds channels registers");
-add("part", "start round send left right finish");
-add("input", "id L R");
-add("operation", "if not and or xor shl shr add sub min max ldb bit eq ne lt le");
+const add = (kind, words) => words.forEach((word) => KINDS.set(word, kind));
+add("header", ["rounds", "channels", "registers"]);
+add("part", ["start", "round", "send", "left", "right", "finish"]);
+add("input", ["id", "L", "R"]);
+add("operation", OPERATIONS.flatMap(({ forms }) => forms.map((form) => form.split("(")[0])));
 
 const TOKEN = /#[^\n]*|[A-Za-z0-9]+|[\s\S]/g;
 
@@ -27,3 +54,22 @@ function kindOf(token) {
   if (/^r[0-9]$/.test(token)) return "register";
   return KINDS.get(token) ?? (/[A-Za-z0-9]/.test(token) ? "unknown" : "");
 }
+
+/** How many rows at the head of a text are comments or blank; 0 where all are. */
+export function headRows(rows) {
+  return Math.max(rows.findIndex((row) => /^\s*[^\s#]/.test(row)), 0);
+}
+
+/**
+ * The words of a program's expressions, in order, each with its place as `{ at, length }`: operations, numbers, registers, `id`, `L`
+ * and `R`.
+ */
+export function partTokens(text) {
+  const tokens = [...text.matchAll(/#[^\n]*|[A-Za-z0-9]+|=/g)].filter(([word]) => !word.startsWith("#"));
+  // The header is six words, and a register before `=` is assigned.
+  return tokens.slice(6).filter(([word], i, rest) => word !== "=" && KINDS.get(word) !== "part" && rest[i + 1]?.[0] !== "=")
+    .map((match) => ({ at: match.index, length: match[0].length }));
+}
+
+/** The number of rounds that a text names, 0 where it names none. */
+export const roundsOf = (text) => Number(text.match(/^\s*rounds\s+(\d+)/m)?.[1] ?? 0);

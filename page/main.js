@@ -1,9 +1,10 @@
 // The page as a whole: after a change of the state the text is checked, and the open view is updated.
 
-import { byId } from "./svg.js";
-import { change, followAddress, link, onChange, state } from "./state.js";
+import { byId } from "./dom.js";
+import { change, exampleOf, followAddress, link, missingExample, onChange, state } from "./state.js";
 import { onEdit, showText } from "./editor.js";
-import { fillExamples, loadExamples, showExample } from "./examples.js";
+import { fillExamples, loadExamples, showExample, undoByKey } from "./examples.js";
+import { startHelp } from "./help.js";
 import { check } from "./view-check.js";
 import { startRun, stopRun, updateRun } from "./view-run.js";
 import { startJudge, updateJudge } from "./view-judge.js";
@@ -11,8 +12,10 @@ import { startTable, updateTable } from "./view-table.js";
 import { startGraph, updateGraph } from "./view-graph.js";
 
 const VIEWS = { run: updateRun, judge: updateJudge, table: updateTable, graph: updateGraph };
-// The view that a value of the state belongs to. The text and the number of identifiers belong to all views.
-const USERS = { ring: "run", step: "run", near: "judge", far: "judge", prefix: "table", arrange: "graph" };
+// The views that a value of the state belongs to. The text and the number of identifiers belong to all views.
+const USERS = {
+  ring: ["run"], step: ["run"], base: ["run"], near: ["judge", "graph"], far: ["judge", "graph"], prefix: ["table"], arrange: ["graph"],
+};
 const PAUSE_MS = 250;
 
 let checked = null;
@@ -20,6 +23,7 @@ let pause;
 
 function update(changed) {
   showExample();
+  showMissing();
   if (changed.has("view")) showView();
   if (changed.has("text") || changed.has("ids")) {
     checked = null;
@@ -27,9 +31,16 @@ function update(changed) {
     if (byId("ids").value !== state.ids) byId("ids").value = state.ids;
     clearTimeout(pause);
     pause = setTimeout(checkAndUpdate, document.activeElement === byId("text") ? PAUSE_MS : 0);
-  } else if (checked && (changed.has("view") || [...changed].some((name) => USERS[name] === state.view))) {
+  } else if (checked && (changed.has("view") || [...changed].some((name) => USERS[name]?.includes(state.view)))) {
     VIEWS[state.view](checked);
   }
+}
+
+/** Says that the link names an example that is not there. */
+function showMissing() {
+  const name = missingExample();
+  byId("missing").textContent = name === null ? "" : `There is no example ${name}: this is ${exampleOf(state.text)?.name ?? "no text"}.`;
+  byId("missing").hidden = name === null;
 }
 
 async function checkAndUpdate() {
@@ -75,20 +86,6 @@ function startTools() {
     }
     setTimeout(() => (target.textContent = "Copy link"), 4000);
   });
-  const system = matchMedia("(prefers-color-scheme: dark)");
-  const theme = byId("theme");
-  let dark = null;
-  const showTheme = () => {
-    const now = dark ?? system.matches;
-    document.documentElement.style.colorScheme = dark === null ? "" : now ? "dark" : "light";
-    theme.textContent = now ? "Light" : "Dark";
-  };
-  theme.addEventListener("click", () => {
-    dark = !(dark ?? system.matches);
-    showTheme();
-  });
-  system.addEventListener("change", showTheme);
-  showTheme();
 }
 
 onChange(update);
@@ -96,6 +93,8 @@ onEdit((text) => change({ text }));
 byId("ids").addEventListener("input", (event) => change({ ids: event.target.value }));
 startTabs();
 startTools();
+startHelp();
+undoByKey();
 startRun();
 startJudge();
 startTable();

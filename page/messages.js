@@ -1,17 +1,18 @@
 // The messages of a round, moving along the arrows: to the right outside the ring, to the left inside.
 
 import { pillWidth, PILL } from "./ring.js";
-import { arrowhead, point, svg } from "./svg.js";
+import { arrowhead, point, svg } from "./dom.js";
 
 const MOVE_MS = 900;
 
 /** Draws the messages of a round. When `moving`, they go half the way in the step that sends and the rest in the one that assigns. */
-export function drawMessages({ layers, size, nodes }, step, moving) {
+export function drawMessages({ layers, size, nodes }, step, { moving, show }) {
   const calm = matchMedia("(prefers-reduced-motion: reduce)").matches;
   const [from, to] = step.kind === "send" ? [0.08, 0.5] : [0.5, 0.95];
   const messages = [];
+  const [left, right] = [show(step.left), show(step.right)];
   for (let place = 0; place < size.n; place += 1) {
-    messages.push(drawMessage(size, place, step.right[place], 1), drawMessage(size, place, step.left[place], -1));
+    messages.push(drawMessage(size, place, right[place], 1), drawMessage(size, place, left[place], -1));
   }
   layers.over.replaceChildren(...messages.map(({ group }) => group));
   const put = (part, fade) => messages.forEach((message) => message.put(part, fade));
@@ -33,14 +34,13 @@ export function drawMessages({ layers, size, nodes }, step, moving) {
   requestAnimationFrame(frame);
 }
 
-/** Whether a message is a dot, as there is no room for its value. */
-export const isDot = ({ n, free }, value) => pillWidth(String(value).length) + 12 > free + (n <= 6 ? 30 : 14);
+/** Whether a message is a dot, as there is no room for its text. */
+export const isDot = ({ n, free }, text) => pillWidth(text.length) + 12 > free + (n <= 6 ? 30 : 14);
 
 /** A message that leaves `place` to the right (way 1) or to the left (way -1). */
-function drawMessage(size, place, value, way) {
-  const text = String(value);
+function drawMessage(size, place, text, way) {
   const width = pillWidth(text.length);
-  const fits = !isDot(size, value);
+  const fits = !isDot(size, text);
   const group = svg("g", { class: way > 0 ? "message right" : "message left" });
   if (fits) {
     group.append(svg("rect", { x: -width / 2, y: -PILL / 2, width, height: PILL, rx: PILL / 2 }), svg("text", {}, text));

@@ -1,6 +1,6 @@
 // The drawing of a ring. Place 0 is at the top, and the right neighbour of a place is the next one clockwise.
 
-import { arc, arrowhead, point, svg } from "./svg.js";
+import { arc, arrowhead, point, svg } from "./dom.js";
 import { badge, colourOf } from "./channels.js";
 
 /** The height of a message, and its width for a number of digits. */
@@ -25,9 +25,10 @@ export function measure(n, digits = 0, sentDigits = 0) {
 
 /**
  * Draws the ring with the identifiers `ring`; `channels` and `labels` may be missing; a label is the `text` beside a node, with its
- * `title`. `label` is the drawing's text for screen readers. Returns the image with its sizes, layers and nodes.
+ * `title`. `show` gives the texts of a list of numbers. `label` is the drawing's text for screen readers. Returns the image with its
+ * sizes, layers and nodes.
  */
-export function drawRing({ ring, channels, labels, digits, sentDigits, label, margin = 0 }) {
+export function drawRing({ ring, channels, labels, digits, sentDigits, label, show = (values) => values.map(String), margin = 0 }) {
   const size = measure(ring.length, digits, sentDigits);
   const width = size.width + 2 * margin;
   const height = size.height + 2 * margin;
@@ -43,8 +44,11 @@ export function drawRing({ ring, channels, labels, digits, sentDigits, label, ma
     const equal = channels && channels[place] === channels[(place + 1) % ring.length];
     layers.links.append(drawLink(size, place, equal));
   }
-  const nodes = ring.map((identifier, place) => {
-    const node = drawNode(size, place, identifier, channels?.[place], labels?.[place]);
+  const names = show(ring);
+  const channelNames = channels && show(channels);
+  const nodes = names.map((name, place) => {
+    const channel = channels && { number: channels[place], text: channelNames[place] };
+    const node = drawNode(size, place, name, channel, labels?.[place]);
     layers.nodes.append(node);
     return node;
   });
@@ -62,14 +66,14 @@ function drawLink({ n, node, radius, free }, place, equal) {
   return group;
 }
 
-/** A node: its disc and identifier, with its channel and label if there are any. */
+/** A node: its disc and the text of its identifier, with its channel `{ number, text }` and label if there are any. */
 export function drawNode(size, place, identifier, channel, label) {
   const turn = place / size.n;
   const group = svg("g", { class: "node" });
   group.dataset.place = place;
   moveNode(group, size, turn);
   const disc = { r: size.node, class: "disc" };
-  disc.style = { fill: channel === undefined ? "" : colourOf(channel), strokeWidth: size.numbered ? "" : "0.6px" };
+  disc.style = { fill: channel === undefined ? "" : colourOf(channel.number), strokeWidth: size.numbered ? "" : "0.6px" };
   group.append(svg("circle", disc));
   if (size.numbered) {
     const digits = String(identifier).length;
@@ -82,7 +86,7 @@ export function drawNode(size, place, identifier, channel, label) {
   if (channel !== undefined && size.numbered) {
     const small = size.n <= 12 ? 11 : size.n <= 32 ? 8.5 : 7.5;
     const [x, y] = point(turn, -(size.node + small * 1.3 + (size.n <= 12 ? 7 : 3)));
-    group.append(badge(channel, x, y, small));
+    group.append(badge(channel.number, x, y, small, channel.text));
   }
   if (label !== undefined && size.numbered) group.append(drawLabel(size, turn, label));
   return group;

@@ -2,8 +2,12 @@
 
 import { withCommas } from "./ring-text.js";
 
-// The step of a run is its number, from 0, and empty for the last one.
-const DEFAULTS = { view: "run", ids: "8", ring: "5,1,3,7", step: "", near: "1", far: "0", prefix: "", arrange: "channel" };
+// The step of a run is its number, `end` for the last one, and empty for the start. The base is that of a run's numbers.
+const DEFAULTS = {
+  view: "run", ids: "8", ring: "5,1,3,7", step: "", base: "10", near: "1", far: "0", prefix: "", arrange: "channel",
+};
+const BASES = ["2", "10"];
+const FIRST = "cv1.txt";
 const VIEWS = ["run", "judge", "table", "graph"];
 
 export const state = { ...DEFAULTS, text: "" };
@@ -12,6 +16,7 @@ const listeners = [];
 let examples = [];
 let written = "";
 let linked = "";
+let missing = null; // the name of the link's example, if there is none such
 let timer;
 let first = true; // before the first change nothing is shown, so all values count as changed
 
@@ -56,6 +61,9 @@ export function link() {
 /** Whether the text is that of the address, as it was read. */
 export const isLinked = () => state.text === linked;
 
+/** The name of an example that the link asks for and that is not there, until the text is changed; else `null`. */
+export const missingExample = () => (isLinked() ? missing : null);
+
 export const exampleOf = (text) => examples.find((example) => example.text === text);
 
 function read() {
@@ -64,8 +72,11 @@ function read() {
   for (const name of Object.keys(DEFAULTS)) values[name] = said[name] ?? DEFAULTS[name];
   values.ring = withCommas(values.ring);
   if (!VIEWS.includes(values.view)) values.view = DEFAULTS.view;
-  const example = examples.find(({ name }) => name === (said.example ?? "cv1.txt"));
-  values.text = said.text ?? example?.text ?? "";
+  if (!BASES.includes(values.base)) values.base = DEFAULTS.base;
+  const named = said.example ?? FIRST;
+  const example = examples.find(({ name }) => name === named);
+  missing = example || said.text !== undefined ? null : named;
+  values.text = said.text ?? (example ?? examples[0])?.text ?? "";
   linked = values.text;
   written = location.hash;
   change(values);

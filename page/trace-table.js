@@ -1,9 +1,10 @@
 // The trace as an HTML table, with a column for each place and a row for each line.
 
-import { html } from "./svg.js";
+import { html } from "./dom.js";
 import { badgeImage } from "./channels.js";
 
-export function showTrace(box, ring, steps, go, highlight) {
+/** Shows a trace; `show` gives the texts of a list of numbers. */
+export function showTrace(box, ring, steps, { show, go, highlight }) {
   const rows = [];
   const row = (step, name, values, kind = "") => {
     const head = html("th", { scope: "row" }, html("button", { type: "button", onclick: () => go(step) }, name));
@@ -11,17 +12,16 @@ export function showTrace(box, ring, steps, go, highlight) {
     rows.push(html("tr", { "data-step": step, class: kind }, head, cells));
   };
   steps.forEach((step, i) => {
-    const texts = (values) => values.map(String);
-    if (step.kind === "start") step.registers.forEach((values, j) => row(i, `start r${j}`, texts(values), j ? "" : "first"));
+    if (step.kind === "start") step.registers.forEach((values, j) => row(i, `start r${j}`, show(values), j ? "" : "first"));
     if (step.kind === "send") {
-      row(i, `round ${step.round} left`, texts(step.left), "first sent");
-      row(i, `round ${step.round} right`, texts(step.right), "sent");
+      row(i, `round ${step.round} left`, show(step.left), "first sent");
+      row(i, `round ${step.round} right`, show(step.right), "sent");
     }
-    if (step.kind === "assign") step.registers.forEach((values, j) => row(i, `round ${step.round} r${j}`, texts(values)));
-    if (step.kind === "finish") row(i, "finish", step.channels.map(badgeImage), "first");
+    if (step.kind === "assign") step.registers.forEach((values, j) => row(i, `round ${step.round} r${j}`, show(values)));
+    if (step.kind === "finish") row(i, "finish", show(step.channels).map((name, p) => badgeImage(step.channels[p], name)), "first");
   });
   const head = html("tr", {}, html("th", { scope: "row" }, "node"),
-    ring.map((identifier, place) => html("th", { scope: "col", "data-place": place }, String(identifier))));
+    show(ring).map((name, place) => html("th", { scope: "col", "data-place": place }, name)));
   const table = html("table", {}, html("thead", {}, head), html("tbody", {}, rows));
   table.addEventListener("pointerover", (event) => {
     const place = event.target.closest("[data-place]")?.dataset.place;

@@ -1,6 +1,6 @@
 // The identifiers that are not in the ring. A click adds one after the last place; one can also be dragged into the ring.
 
-import { byId, html } from "./svg.js";
+import { byId, html } from "./dom.js";
 
 const SHOWN = 48;
 

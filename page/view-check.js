@@ -1,25 +1,31 @@
 // Check: whether the text is accepted for the number of identifiers, shown below the text while one types.
 
-import { ask } from "./ask.js";
-import { byId, coded, html } from "./svg.js";
+import { ask, drop } from "./ask.js";
+import { byId, coded, html } from "./dom.js";
 import { goToFault, markFault } from "./editor.js";
 import { readRefusal } from "./faults.js";
+import { whyNoNumber } from "./numbers.js";
 
 const box = byId("check");
 
 /** Checks a text and shows the result. Resolves to `{ accepted }` or `{ refusal }`, or to `undefined` if a newer check began. */
 export async function check({ text, ids }) {
+  const note = whyNoNumber("ids", ids);
+  byId("ids").setAttribute("aria-invalid", note !== null);
+  drop("check");
+  if (note) return refuse({ line: "", note, at: null });
   box.classList.add("pending");
   const answer = await ask("check", "check", { ids }, text);
   if (answer === undefined) return undefined;
   box.classList.remove("pending");
-  if (answer.status === 0) {
-    markFault(null);
-    const accepted = readAccepted(answer.out);
-    showAccepted(accepted);
-    return { accepted };
-  }
-  const refusal = readRefusal(answer, text);
+  if (answer.status !== 0) return refuse(readRefusal(answer, text));
+  markFault(null);
+  const accepted = readAccepted(answer.out);
+  showAccepted(accepted);
+  return { accepted };
+}
+
+function refuse(refusal) {
   markFault(refusal.at);
   showRefusal(refusal);
   return { refusal };

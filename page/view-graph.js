@@ -1,12 +1,13 @@
 // Graph: the neighbourhood graph. Its vertices are the windows, and its edges go from each window to those of the right neighbour.
-// Neighbours' channels differ on every ring exactly if no edge joins windows with equal channels.
+// Neighbours' channels differ by at least `near` on every ring exactly if no edge joins windows with channels closer than that.
 
 import { ask, drop } from "./ask.js";
-import { byId, html, point, svg } from "./svg.js";
+import { byId, html, point, svg } from "./dom.js";
 import { change, state } from "./state.js";
 import { badge, badgeImage } from "./channels.js";
 import { edgesOf, readTable } from "./table.js";
 import { PROGRAM_REFUSED, readRefusal } from "./faults.js";
+import { whyNoNumber } from "./numbers.js";
 
 const MOST = 120;
 const FEW = [4, 5, 6]; // the numbers of identifiers that are offered
@@ -16,8 +17,12 @@ const cycles = byId("arrange").querySelector("[value=cycle]");
 
 export async function updateGraph(checked) {
   for (const choice of byId("arrange").querySelectorAll("input")) choice.checked = choice.value === state.arrange;
+  const why = whyNoNumber("near", state.near);
+  if (byId("graph-near").value !== state.near) byId("graph-near").value = state.near;
+  byId("graph-near").setAttribute("aria-invalid", why !== null);
   drop("table");
   if (checked.refusal) return showNothing(PROGRAM_REFUSED);
+  if (why) return showNothing(why);
   const { ids, windows, rounds } = checked.accepted;
   // With 2t+2 identifiers each window has one successor, so the graph consists of disjoint cycles.
   cycles.disabled = ids !== 2 * rounds + 2;
@@ -57,16 +62,24 @@ function showNothing(...why) {
 
 function show(table) {
   const edges = edgesOf(table);
-  const equal = edges.filter(([a, b]) => table.channels[a] === table.channels[b]);
+  const close = edges.filter((edge) => isClose(table, edge));
   sentence.className = "say";
-  const joined = ["None joins", "1 joins"][equal.length] ?? `${equal.length.toLocaleString("en")} join`;
-  const counts = `${table.windows.length} windows, ${edges.length.toLocaleString("en")} edges.`;
-  sentence.textContent = `${counts} ${joined} windows with equal channels.`;
+  sentence.textContent = sentenceOn(table, edges.length, close.length);
   const arrange = cycles.disabled && state.arrange === "cycle" ? "channel" : state.arrange;
   byId("arrange").querySelector(`[value=${arrange}]`).checked = true;
   const places = arrange === "cycle" ? cyclePlaces(edges) : circlePlaces(table, arrange);
   drawing.replaceChildren(draw(table, edges, places));
-  showEqual(table, equal);
+  showClose(table, close);
+}
+
+const isClose = ({ channels }, [a, b]) => Math.abs(channels[a] - channels[b]) < Number(state.near);
+
+function sentenceOn({ windows }, edges, close) {
+  const joined = ["None joins", "1 joins"][close] ?? `${close.toLocaleString("en")} join`;
+  const near = Number(state.near);
+  const channels = near === 1 ? "windows with equal channels" : `windows whose channels differ by less than ${near}`;
+  const far = Number(state.far) > 0 ? " Distance two is no edge here: the judge looks at it." : "";
+  return `${windows.length} windows, ${edges.toLocaleString("en")} edges. ${joined} ${channels}.${far}`;
 }
 
 /** All windows on one circle, in their order, or by channel with a gap between channels. */
@@ -112,7 +125,8 @@ function cyclePlaces(edges) {
   return { at, width: columns * side, height: rows * side, left: -side / 2, top: -side / 2, bend: -0.7 };
 }
 
-function draw({ windows, channels }, edges, { at, width, height, left, top, bend }) {
+function draw(table, edges, { at, width, height, left, top, bend }) {
+  const { windows, channels } = table;
   const image = svg("svg", { class: "graph", viewBox: `${left} ${top} ${width} ${height}`, width, height, role: "group",
     "aria-label": `Neighbourhood graph of ${windows.length} windows. Arrow keys move between them.` });
   const spot = ({ turn, centre, radius }, more = 0) => {
@@ -120,10 +134,10 @@ function draw({ windows, channels }, edges, { at, width, height, left, top, bend
     return [centre[0] + x, centre[1] + y];
   };
   const small = windows.length > 30 ? 5.8 : 9;
-  const lines = { plain: svg("g", { class: "edges" }), equal: svg("g", { class: "edges equal" }) };
+  const lines = { plain: svg("g", { class: "edges" }), close: svg("g", { class: "edges close" }) };
   const drawn = edges.map(([a, b]) => {
     const line = drawEdge(spot(at[a]), spot(at[b]), at[a].centre, { off: small + 4, bend, headed: edges.length <= 80 });
-    lines[channels[a] === channels[b] ? "equal" : "plain"].append(line);
+    lines[isClose(table, [a, b]) ? "close" : "plain"].append(line);
     return { a, b, line };
   });
   const points = windows.map((window, i) => {
@@ -142,7 +156,7 @@ function draw({ windows, channels }, edges, { at, width, height, left, top, bend
   });
   const along = ({ centre: [x, y], turn }, { centre: [u, v], turn: next }) => y - v || x - u || turn - next;
   const order = windows.map((_, i) => i).sort((i, j) => along(at[i], at[j]));
-  image.append(lines.plain, lines.equal, ...order.map((i) => points[i]));
+  image.append(lines.plain, lines.close, ...order.map((i) => points[i]));
   allowKeys(order.map((i) => points[i]));
   return image;
 }
@@ -199,16 +213,18 @@ function pointLabel(window, { turn }, [x, y], along) {
   return svg("text", { class: "window-name", x, y: y + dy * 5, "text-anchor": anchor }, window);
 }
 
-function showEqual({ windows, channels }, equal) {
-  if (equal.length === 0) return byId("edges").replaceChildren();
+function showClose({ windows, channels }, close) {
+  if (close.length === 0) return byId("edges").replaceChildren();
+  const badges = ([a, b]) => [...new Set([channels[a], channels[b]])].map(badgeImage);
   return byId("edges").replaceChildren(
-    html("h3", {}, "Edges between equal channels"),
-    html("ul", { class: "equal-edges" }, equal.slice(0, 24).map(([a, b]) =>
-      html("li", {}, html("span", { class: "code" }, `${windows[a]} → ${windows[b]}`), badgeImage(channels[a])))),
-    equal.length > 24 ? html("p", { class: "aside" }, `and ${(equal.length - 24).toLocaleString("en")} more`) : "",
+    html("h3", {}, state.near === "1" ? "Edges between equal channels" : "Edges between channels that are too close"),
+    html("ul", { class: "close-edges" }, close.slice(0, 24).map(([a, b]) =>
+      html("li", {}, html("span", { class: "code" }, `${windows[a]} → ${windows[b]}`), badges([a, b])))),
+    close.length > 24 ? html("p", { class: "aside" }, `and ${(close.length - 24).toLocaleString("en")} more`) : "",
   );
 }
 
 export function startGraph() {
   byId("arrange").addEventListener("change", (event) => change({ arrange: event.target.value }));
+  byId("graph-near").addEventListener("input", (event) => change({ near: event.target.value }));
 }

@@ -1,22 +1,25 @@
 // Judge: yes, or a ring with two nodes whose channels are too close, and the windows of the two.
 
 import { ask, drop } from "./ask.js";
-import { byId, html, svg } from "./svg.js";
+import { byId, html, svg } from "./dom.js";
 import { change, state } from "./state.js";
 import { drawRing, drawWindow, say } from "./ring.js";
 import { badgeImage } from "./channels.js";
 import { fewerChannels } from "./least.js";
 import { PROGRAM_REFUSED, readRefusal } from "./faults.js";
+import { whyNoNumber } from "./numbers.js";
+import { readNo } from "./verdict.js";
 
 const verdict = byId("verdict");
 const witness = byId("witness");
 const reading = byId("reading");
 
 export async function updateJudge(checked) {
-  for (const name of ["near", "far"]) if (byId(name).value !== state[name]) byId(name).value = state[name];
+  const why = ["near", "far"].map(showNumber).find((each) => each !== null);
   drop("judge");
   drop("witness");
   if (checked.refusal) return showNothing(PROGRAM_REFUSED);
+  if (why) return showNothing(why);
   const { ids, near, far, text } = state;
   const slow = setTimeout(() => showNothing("nbhd judges all tuples…", "waiting"), 400);
   const answer = await ask("judge", "judge", { ids, near, far }, text);
@@ -35,14 +38,12 @@ export async function updateJudge(checked) {
   return showNo(no, checked.accepted, run.status === 0 ? channelsOf(run.out) : undefined);
 }
 
-/** Reads `no: ring A B .. place P channel X`, or `.. places P Q channels X Y`; `null` for any other line. */
-export function readNo(line) {
-  const match = line.match(/^no: ring ([\d ]+) places? (\d+)(?: (\d+))? channels? (\d+)(?: (\d+))?$/);
-  if (!match) return null;
-  const ring = match[1].split(" ").map(Number);
-  const first = Number(match[2]);
-  const second = match[3] === undefined ? (first + 1) % ring.length : Number(match[3]);
-  return { ring, places: [first, second], channels: [Number(match[4]), Number(match[5] ?? match[4])] };
+/** Shows a number of the state in its field, and returns what to say where it is none. */
+function showNumber(name) {
+  const why = whyNoNumber(name, state[name]);
+  if (byId(name).value !== state[name]) byId(name).value = state[name];
+  byId(name).setAttribute("aria-invalid", why !== null);
+  return why;
 }
 
 const channelsOf = (trace) => trace.trim().split("\n").at(-1).split(" ").slice(1).map(Number);
@@ -136,7 +137,7 @@ function showNo({ ring, places, channels }, accepted, all) {
 
 const inWords = (rounds) => (rounds === 1 ? "one round" : `${rounds} rounds`);
 
-const runRing = (ring) => change({ ring: ring.join(","), step: "", view: "run" }, { keep: true });
+const runRing = (ring) => change({ ring: ring.join(","), step: "end", view: "run" }, { keep: true });
 
 /** The picture of a tuple, with the windows of the two nodes that are compared. */
 function drawTuple(t, extra) {

@@ -1,7 +1,8 @@
 // Run: the drawing of a ring, and the steps of its run.
 
 import { ask, drop } from "./ask.js";
-import { byId, coded, html } from "./svg.js";
+import { byId, coded, html } from "./dom.js";
+import { clamp, whyNoNumber } from "./numbers.js";
 import { change, state } from "./state.js";
 import { drawRing, drawWindow, hasRoomForNames, say } from "./ring.js";
 import { drawMessages, isDot } from "./messages.js";
@@ -10,6 +11,8 @@ import { allowDragging, dragIn } from "./drag.js";
 import { nameOf, sentenceOf, stepsOf } from "./trace.js";
 import { showTrace, markStep, markPlace } from "./trace-table.js";
 import { fillTray } from "./tray.js";
+import { closeWhy, openWhy, showWhy, startWhy, whyPlace } from "./why.js";
+import { numerals } from "./numerals.js";
 import { PROGRAM_REFUSED, readRefusal } from "./faults.js";
 
 const STEP_MS = 1500;
@@ -23,17 +26,20 @@ let register = 0;
 let named = false; // whether the labels have the register's name
 let digits = [1, 1]; // the most digits of labels and of messages, so that all steps have the same size
 let drawing = null;
+let tabStop = 0; // the place of the node that is a tab stop
 let player = 0;
 
 export async function updateRun(checked) {
   pause();
   if (withCommas(byId("ring").value) !== state.ring) byId("ring").value = state.ring;
+  byId("base").value = state.base;
   const ring = readRing(state.ring) ?? [];
   fillTray(ring, Number(state.ids), (identifier) => edit([...ring, identifier]),
     (event, identifier) => drawing && dragIn(event, drawing, ring, identifier, edit));
   drop("run");
   byId("run").classList.remove("pending");
   if (checked.refusal) return showRefused(PROGRAM_REFUSED);
+  offerSizes(checked.accepted);
   const why = whyNoRing(state.ring);
   if (why) return showRefused(why);
   // The ring of the state is drawn at once, and its run when it is known.
@@ -51,19 +57,26 @@ export async function updateRun(checked) {
     return undefined;
   }
   refused.hidden = true;
+  byId("ring").setAttribute("aria-invalid", "false");
   steps = stepsOf(answer.out);
   // The same step stays open after an edit of the ring.
-  at = /^[0-9]+$/.test(state.step) ? Math.min(Number(state.step), steps.length - 1) : steps.length - 1;
+  const last = steps.length - 1;
+  at = state.step === "end" ? last : Math.min(Number(state.step.match(/^[0-9]+$/) ?? 0), last);
   register = Math.min(register, steps[0].registers.length - 1);
   fillTimeline();
   fillRegisters();
-  showTrace(byId("trace"), readRing(state.ring), steps, go, highlight);
+  showTrace(byId("trace"), readRing(state.ring), steps, { show: shown, go, highlight });
   return show();
 }
+
+/** The texts of numbers, in the base of the state. */
+const shown = (values) => numerals(values, state.base);
 
 /** Shows the ring without a run, and why. */
 function showRefused(why) {
   steps = null;
+  closeWhy();
+  byId("ring").setAttribute("aria-invalid", String(why !== PROGRAM_REFUSED));
   refused.replaceChildren(...coded(why));
   refused.hidden = false;
   byId("trace").replaceChildren();
@@ -77,11 +90,11 @@ function show({ moving = false } = {}) {
   const step = steps?.[at];
   stage.classList.toggle("idle", !step);
   for (const name of ["back", "play", "forward"]) byId(name).disabled = !step;
-  byId("run-say").replaceChildren(...(step ? coded(sentenceOf(step, ring)) : []));
+  byId("run-say").replaceChildren(...(step ? coded(sentenceOf(step, shown(ring))) : []));
   drawing = null;
   if (!ring) return stage.replaceChildren();
   if (steps) {
-    const most = (lists) => Math.max(0, ...lists.flat().map((value) => String(value).length));
+    const most = (lists) => Math.max(0, ...lists.flatMap(shown).map((text) => text.length));
     const sent = steps.flatMap(({ left, right }) => (left ? [left, right] : []));
     const held = most(steps.map(({ registers }) => registers[register]));
     named = steps[0].registers.length === 1 && hasRoomForNames(ring.length, held);
@@ -90,24 +103,27 @@ function show({ moving = false } = {}) {
   const focused = stage.contains(document.activeElement) ? document.activeElement.dataset.place : undefined;
   drawing = drawRing({
     ring, channels: step?.channels, digits: digits[0], sentDigits: digits[1],
-    labels: step?.registers[register].map((value) => ({ text: named ? `r0=${value}` : value, title: `r${register} = ${value}` })),
+    labels: step && shown(step.registers[register])
+      .map((value) => ({ text: named ? `r0=${value}` : value, title: `r${register} = ${value}` })),
+    show: shown,
     label: step ? `Ring of ${ring.length} nodes, ${nameOf(step)}` : `Ring of ${ring.length} nodes`,
   });
   stage.replaceChildren(drawing.image);
   drawing.nodes.forEach((node, place) => describe(node, place, ring, step));
   if (step) showStep(step, moving);
-  allowDragging(drawing, ring, edit);
+  allowDragging(drawing, ring, edit, explain);
+  if (step) showWhy(step, ring);
   drawing.nodes[focused]?.focus();
   return undefined;
 }
 
 function showStep(step, moving) {
   const inRound = step.kind === "send" || step.kind === "assign";
-  if (step.kind === "send" && [...step.left, ...step.right].some((value) => isDot(drawing.size, value))) {
+  if (step.kind === "send" && [step.left, step.right].flatMap(shown).some((text) => isDot(drawing.size, text))) {
     byId("run-say").append(" The values are in the table below.");
   }
   say(drawing.layers.centre, inRound ? [[`round ${step.round}`, "centre-big"], [step.kind, "centre-small"]] : [[step.kind, "centre-big"]]);
-  if (step.kind === "send" || (step.kind === "assign" && moving)) drawMessages(drawing, step, moving);
+  if (step.kind === "send" || (step.kind === "assign" && moving)) drawMessages(drawing, step, { moving, show: shown });
   if (step.kind === "assign") {
     drawing.nodes.forEach((node, place) => {
       const changed = step.registers[register][place] !== step.before[register][place];
@@ -122,24 +138,37 @@ function showStep(step, moving) {
 function describe(node, place, ring, step) {
   const held = step ? step.registers.map((values, j) => `r${j} ${values[place]}`).join(", ") : "";
   const channel = step?.channels ? `, channel ${step.channels[place]}` : "";
-  node.setAttribute("tabindex", "0");
+  node.setAttribute("tabindex", place === Math.min(tabStop, ring.length - 1) ? "0" : "-1");
   node.setAttribute("role", "button");
   node.setAttribute("aria-label",
-    `Node ${ring[place]} at place ${place}: ${held}${channel}. Delete takes it out, Shift with arrows moves it.`);
+    `Node ${ring[place]} at place ${place}: ${held}${channel}. `
+      + "Delete takes it out, Shift with arrows moves it, arrows go to its neighbours, Enter tells why.");
   node.addEventListener("pointerenter", () => highlight(place));
-  node.addEventListener("pointerleave", () => highlight(null));
-  node.addEventListener("focus", () => highlight(place));
+  // What a finger has touched stays until another node is.
+  node.addEventListener("pointerleave", ({ pointerType }) => pointerType !== "touch" && highlight(null));
+  node.addEventListener("focus", () => {
+    for (const other of drawing.nodes) other.setAttribute("tabindex", other === node ? "0" : "-1");
+    tabStop = place;
+    highlight(place);
+  });
   node.addEventListener("blur", () => highlight(null));
   node.addEventListener("keydown", (event) => {
-    const by = { ArrowLeft: -1, ArrowRight: 1 }[event.key];
-    if (event.key === "Delete" || event.key === "Backspace") edit(ring.toSpliced(place, 1), place % (ring.length - 1 || 1));
-    else if (by && event.shiftKey) {
-      const to = (place + by + ring.length) % ring.length;
-      edit(ring.toSpliced(place, 1).toSpliced(to, 0, ring[place]), to);
-    } else return;
+    if (!nodeKey(event, place, ring)) return;
     event.preventDefault();
     event.stopPropagation();
   });
+}
+
+/** What a key does at a node; tells whether it does anything. Arrows go to the neighbours. */
+function nodeKey({ key, shiftKey }, place, ring) {
+  const by = { ArrowLeft: -1, ArrowUp: -1, ArrowRight: 1, ArrowDown: 1 }[key];
+  const to = (place + (by ?? 0) + ring.length) % ring.length;
+  if (key === "Delete" || key === "Backspace") edit(ring.toSpliced(place, 1), place % (ring.length - 1 || 1));
+  else if (by && shiftKey) edit(ring.toSpliced(place, 1).toSpliced(to, 0, ring[place]), to);
+  else if (by) drawing.nodes[to].focus();
+  else if (key === "Enter") explain(place, true);
+  else return false;
+  return true;
 }
 
 /** Shows the window that the node at a place has heard of so far. */
@@ -154,6 +183,14 @@ function highlight(place) {
   drawing.layers.under.append(drawWindow(drawing.size, place, t, 0, "known"));
 }
 
+/** Opens or closes the explanation of the node at a place; with `enter` the focus goes there. */
+function explain(place, enter = false) {
+  const step = steps?.[at];
+  if (!step) return;
+  if (whyPlace() === place) closeWhy();
+  else openWhy(place, step, readRing(state.ring), { enter, back: () => drawing?.nodes[place]?.focus() });
+}
+
 function edit(ring, focusPlace) {
   if (ring.join(",") === state.ring) show();
   else change({ ring: ring.join(",") });
@@ -163,7 +200,7 @@ function edit(ring, focusPlace) {
 function go(step, moving = false) {
   if (!steps || step < 0 || step >= steps.length) return;
   at = step;
-  change({ step: at === steps.length - 1 ? "" : String(at) }, { shown: true });
+  change({ step: at === 0 ? "" : at === steps.length - 1 ? "end" : String(at) }, { shown: true });
   show({ moving });
 }
 
@@ -199,6 +236,8 @@ function fillRegisters() {
 }
 
 export function startRun() {
+  startWhy();
+  byId("base").addEventListener("change", (event) => change({ base: event.target.value }));
   byId("back").addEventListener("click", () => { pause(); go(at - 1); });
   byId("forward").addEventListener("click", () => { pause(); go(at + 1, true); });
   byId("play").addEventListener("click", play);
@@ -218,11 +257,22 @@ export function startRun() {
 
 export const stopRun = pause;
 
+/** Offers random rings from the least size that the program has on. */
+function offerSizes({ rounds, ids }) {
+  const field = byId("random-size");
+  field.min = 2 * rounds + 2;
+  field.max = ids;
+  if (document.activeElement !== field && field.value !== "") field.value = clamp(Number(field.value), field.min, field.max);
+}
+
 function randomRing() {
-  const ids = Math.min(Math.max(Number(state.ids) || 0, 1), 1024);
-  const size = Math.min(Math.max(Number(byId("random-size").value) || 1, 1), ids);
+  const field = byId("random-size");
+  field.setCustomValidity(whyNoNumber("nodes", field.value) ?? "");
+  if (field.value === "") return field.reportValidity();
+  const ids = clamp(Number(state.ids) || 0, 1, 1024);
+  const size = clamp(Number(field.value), Math.min(Number(field.min), ids), ids);
   const left = Array.from({ length: ids }, (_, i) => i);
   const ring = Array.from({ length: size }, () => left.splice(Math.floor(Math.random() * left.length), 1)[0]);
-  byId("random-size").value = size;
-  change({ ring: ring.join(",") });
+  field.value = size;
+  return change({ ring: ring.join(",") });
 }

@@ -1,7 +1,7 @@
 // Table: the windows with their channels, how often each channel occurs, and the text to save.
 
 import { ask, drop } from "./ask.js";
-import { byId, coded, html } from "./svg.js";
+import { byId, coded, html } from "./dom.js";
 import { change, exampleOf, state } from "./state.js";
 import { badgeImage, colourOf } from "./channels.js";
 import { countChannels, leastBytes, readTable } from "./table.js";

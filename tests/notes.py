@@ -153,7 +153,7 @@ OTHER_FILES = [
 MARKED_LINES = [
     (
         CV1.replace(b"left 0", b"lift 0"),
-        "nbhd: line 7, column 6: `lift` is no word of the language; registers are `r0` to `r7`, and have no other names\n  send lift 0\n       ^\n",
+        "nbhd: line 7, column 6: `lift` is no word of the language; `left` is wanted here\n  send lift 0\n       ^\n",
     ),
     (b"\xef\xbb\xbfrounds 1\n", "\n  \\xef\\xbb\\xbfrounds 1\n  ^\n"),
     (b"rounds\t1\xff", "\n  rounds 1\\xff\n          ^\n"),

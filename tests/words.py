@@ -443,6 +443,14 @@ RING_FOR_IDS = "nbhd: `--ids` takes the number of identifiers; a ring is given b
 RING_IN_WORDS = "nbhd: a ring is one word with commas, as in `--ring 5,1,3,7`\n"
 NEGATIVE = "nbhd: numbers are 0 to 4294967295, without a sign\n"
 FILE_NAME = "nbhd: a text is read from standard input, as in `nbhd judge --ids 8 < FILE`\n"
+TABLE_NAME = "nbhd: a table is read from standard input, as in `nbhd audit < FILE`\n"
+ONE_MINUS = "nbhd: the name of an option has two minus signs before it, as in `--ids 8`\n"
+DASH = "nbhd: the name of an option has two minus signs before it, and no dash, as in `--ids 8`\n"
+CAPITAL = "nbhd: the names of options have small letters, as in `--ids 8`\n"
+OTHER_IDS = "nbhd: the number of identifiers is given by `--ids`\n"
+NO_NUMBER = (
+    "nbhd: numbers are in digits: `--ids` 2 to 1024, `--near` 1 to 4096, `--far` 0 to 4096, `--workers` and `--segments` 1 to 64\n"
+)
 NO_TIP = "For more information, try '--help'.\n"
 TIPS = [
     ("run --ids 8 --ring 5 1 3 7", RING_IN_WORDS),
@@ -454,7 +462,21 @@ TIPS = [
     ("judge cv1.txt --ids 8", FILE_NAME),
     ("judge --ids 1.5", NO_TIP),
     ("judge --file=cv1.txt", NO_TIP),
-    ("judge --ids eight", NO_TIP),
+    ("judge --file cv1 --ids 8", FILE_NAME),
+    ("judge --ids eight", NO_NUMBER),
+    ("judge --ids 8 --near none", NO_NUMBER),
+    ("table --ids 8 --workers all", NO_NUMBER),
+    ("audit cv1.table.txt", TABLE_NAME),
+    ("migrate old.table", TABLE_NAME),
+    ("judge -ids 8", ONE_MINUS),
+    ("run -ring 5,1,3,7 --ids 8", ONE_MINUS),
+    ("judge \u2014ids 8", DASH),
+    ("judge \u2013ids 8", DASH),
+    ("judge --IDS 8", CAPITAL),
+    ("judge --Ids 8", CAPITAL),
+    ("judge --n 8", OTHER_IDS),
+    ("judge --identifiers 8", OTHER_IDS),
+    ("run --ids 8 --ring=5 1 3 7", RING_IN_WORDS),
 ]
 
 # Ring texts, the number of the first part that is none, and this part.

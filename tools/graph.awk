@@ -1,8 +1,12 @@
 # Reads a table text, prints its neighbourhood graph for Graphviz: one node for each window, with its channel, and
-# one edge for each tuple, from the window of a place to that of its right neighbour. An edge is red where both
-# windows have one channel.
+# one edge for each tuple, from the window of a place to that of its right neighbour. An edge is red where the channels
+# of its windows differ by less than the table's near. Of a far above 0 the graph's label says that it is not shown.
 BEGIN { print "digraph {" }
-/^rounds / { identifiers = $4 }
+/^rounds / {
+    identifiers = $4
+    near = $8 == "" ? 1 : $8
+    if ($10 > 0) print "label=\"far " $10 ": distance two is not shown\""
+}
 / : / {
     window = $0
     sub(/ : .*/, "", window)
@@ -19,7 +23,8 @@ END {
         for (last = 0; last < identifiers; last++) {
             right = shared == "" ? last "" : shared " " last
             if (last == first[window] || !(right in channel)) continue
-            red = channel[window] == channel[right] ? " [color=red]" : ""
+            apart = channel[window] - channel[right]
+            red = apart < near && -apart < near ? " [color=red]" : ""
             print "\"" window "\" -> \"" right "\"" red
         }
     }

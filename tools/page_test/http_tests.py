@@ -43,13 +43,15 @@ def address(server):
 
 def files(server):
     """The page's files are served, and no others."""
-    for path in ["/", "/examples.json", *(f"/{file.name}" for file in (ROOT / "page").iterdir() if file.name != "index.html")]:
+    for path in ["/", "/examples.json", *(f"/{file.name}" for file in (ROOT / "page").iterdir() if file.name not in ("index.html", "package.json"))]:
         STEPS.equal(f"GET {path}", server.ask(f"GET {path}")[0], 200)
+    status, text = server.ask("GET /docs/LANGUAGE.md")
+    STEPS.equal("a page of docs, as text", (status, text), (200, (ROOT / "docs/LANGUAGE.md").read_bytes()))
     _, page = server.ask("GET /")
     STEPS.check("the page loads nothing from elsewhere", not re.search(rb"(src|href)=\"(https?:)?//", page))
     foreign = """/../nbhd-page /%2e%2e/nbhd-page /..%2fnbhd-page //etc/passwd /page/../nbhd-page /./style.css /style.css/../main.js
         /index.html /nbhd-page /examples/cv1.txt /style.css?x /\\..\\nbhd-page /tools/page-test /style.css%00 /nbhd * /etc/passwd
-        /.git/config style.css"""
+        /.git/config style.css /package.json /docs /docs/ /docs/../README.md /docs/pictures/ring.svg"""
     for path in [*foreign.split(), f"http://{server.own}/../nbhd-page"]:
         answer = server.ask(f"GET {path}")
         STEPS.check(f"GET {path} is refused", answer[0] in (400, 404), answer)
@@ -59,8 +61,14 @@ def senders(server):
     """Only the page itself is served, by its own address."""
     own, port = server.own, server.port
     other = f"127.0.0.1:{port + 1}"
-    for host in ("evil.example", f"evil.example:{port}", "127.0.0.1", other, f"localhost:{port}", f"{own}.evil.example", "", None):
+    for host in ("evil.example", f"evil.example:{port}", "127.0.0.1", other, f"localhost:{port + 1}", "localhost", f"{own}.evil.example", "", None):
         STEPS.equal(f"Host {host}", server.ask("GET /", {"Host": host})[0], 403)
+    for path in ("/", "/main.js", "/docs/FAULTS.md"):
+        answer = server.raw(f"GET {path} HTTP/1.1\r\nHost: localhost:{port}\r\n\r\n".encode()).decode()
+        sent = answer.split(" ")[1] == "307" and f"\r\nLocation: http://{own}{path}\r\n" in answer
+        STEPS.check(f"localhost leads {path} to the address", sent and answer.endswith("\r\n\r\n"), answer)
+    STEPS.equal("no other file of localhost", server.ask("GET /nbhd-page", {"Host": f"localhost:{port}"})[0], 403)
+    STEPS.equal("no run of localhost", server.run("check", {"ids": "8"}, CV1, {"Host": f"localhost:{port}"})[0], 403)
     twice = server.raw(f"GET / HTTP/1.1\r\nHost: {own}\r\nHost: evil.example\r\n\r\n".encode())
     STEPS.equal("two hosts", twice[9:12], b"403")
     foreign = ["http://evil.example", "null", f"https://{own}", f"http://localhost:{port}", f"http://{own}.evil.example", f"http://{other}"]

@@ -15,6 +15,9 @@ class Page:
         return self.browser.value(expression)
 
     def open(self, **state):
+        """Opens the page in a state, a run at its end unless the state has a step."""
+        if state.get("view") == "run":
+            state.setdefault("step", "end")
         fragment = "&".join(f"{name}={quote(value, safe=',')}" for name, value in state.items())
         self.browser.open(f"{self.url}#{fragment}")
 

@@ -40,7 +40,7 @@ def check(page):
     row, column = faulty[:offset].count("\n") + 1, offset - faulty.rfind("\n", 0, offset)
     STEPS.equal("its line of the report", page.text(".check .line"), line)
     STEPS.equal("its mark", page.texts(".ink .fault"), ["lift"])
-    STEPS.equal("its row", page.texts(".gutter .faulty"), [str(row)])
+    STEPS.equal("its row", page.value("[...document.querySelectorAll('.ink .faulty')].map(e => e.dataset.row)"), [str(row)])
     STEPS.equal("its place", page.text(".check .place"), f"line {row}, column {column}")
     shown_note(page, "its note", faulty)
     page.click(".check .place")
@@ -85,7 +85,9 @@ def faults(page):
     page.wait("a refusal without a place", "document.querySelector('.check .line')?.textContent === 'check fault X1'")
     shown_note(page, "its note", CV1, "--ids", "3")
     page.fill("#ids", "x")
-    page.wait("refused words", "document.querySelector('.check.bad strong')?.textContent === 'Refused'")
+    page.wait("no number", "document.querySelector('.check.bad strong')?.textContent === 'Refused'")
+    page.fill("#ids", "4294967296")
+    page.wait("refused words", "/invalid value '4294967296'/.test(document.querySelector('.check.bad .line')?.textContent)")
     page.browser.size(800, 900)
     page.open(view="run", ids="8", ring="5,1,3,7", text=CV1.replace("finish", "finnish"))
     page.wait("a fault of a link", "document.querySelector('.ink .fault')")
@@ -99,7 +101,7 @@ def run(page):
     ring = "5,1,3,7"
     page.open(view="run", example="cv1.txt", ids="8", ring=ring)
     page.wait_ring("the ring of CV1", ring)
-    trace = [line.split() for line in nbhd(CV1, "trace", *IDS, "--ring", ring).splitlines()]
+    trace = [line.split() for line in nbhd(CV1, "trace", *IDS, "--ring", ring).splitlines() if not line.startswith("ring ")]
     STEPS.equal("its identifiers", page.texts(".ring .identifier"), ring.split(","))
     STEPS.equal("its channels", page.texts(".ring .badge-number"), trace[-1][1:])
     rows = page.value("[...document.querySelectorAll('.trace tbody tr')].map(r => [...r.children].map(c => c.textContent))")
@@ -187,14 +189,16 @@ def strip_of_steps(page):
 
 
 def step_keys(page):
-    """What the line below the ring says of keys is so: they step from the page, a node and a step, and not from a field."""
+    """What the line below the ring says of keys is so: they step from the page, the ring and a step, and not from a node or a field."""
     current = "[...document.querySelectorAll('#timeline button')].findIndex(e => e.ariaCurrent === 'step')"
     page.open(view="run", ids="8", ring="5,1,3,7", example="cv1.txt")
     page.wait_ring("the ring for the keys", "5,1,3,7")
-    hint = "Point at a node to see its window; drag it to move it, off the ring to take it out; arrow keys step."
-    STEPS.equal("the line below the ring", page.text(".hint"), hint)
+    hint = "Point at a node to see its window; press it to see why it has its value; "
+    hint += "drag it to move it, off the ring to take it out; arrow keys step."
+    STEPS.equal("the line below the ring", [" ".join(text.split()) for text in page.texts(".hint")], [hint])
     for place, key, step in (
         (None, "ArrowLeft", 2),
+        ("#stage", "ArrowLeft", 1),
         (".node[data-place='1']", "ArrowLeft", 1),
         ("#timeline li:first-child button", "ArrowRight", 2),
         ("#ring", "ArrowLeft", 2),
@@ -434,10 +438,10 @@ def graph(page):
         equal = [f"{a} → {b}" for a, b in edges if channels[a] == channels[b]]
         STEPS.equal(f"its windows for {ids}", page.count(".graph .point"), len(channels))
         STEPS.equal(f"its edges for {ids}", page.count(".graph .edge"), len(edges))
-        STEPS.equal(f"its red edges for {ids}", page.count(".graph .edges.equal .edge"), len(equal))
+        STEPS.equal(f"its red edges for {ids}", page.count(".graph .edges.close .edge"), len(equal))
         said = {0: "None joins", 1: "1 joins"}.get(len(equal), f"{len(equal)} join")
         STEPS.check(f"its sentence for {ids}", f" {said} windows with equal channels." in page.text("#graph-say"))
-        STEPS.equal(f"their list for {ids}", page.texts(".equal-edges .code"), equal[:24])
+        STEPS.equal(f"their list for {ids}", page.texts(".close-edges .code"), equal[:24])
     page.open(view="graph", ids="5", text=LDB)
     page.wait("the graph for the keys", "document.querySelectorAll('.graph .point').length")
     page.focus(".graph .point[tabindex='0']")
@@ -483,7 +487,7 @@ def links(page):
         page.wait("the page", "document.querySelector('.check.good')")
         page.click(f".steps a:nth-of-type({example})")
         shown, name = {
-            1: (".ring .badge", "Cole and Vishkin"), 2: (".verdict.no", "LDB: "), 3: (".check.bad", "Program of the link")
+            1: (".ring .label", "Cole and Vishkin"), 2: (".verdict.no", "LDB: "), 3: (".check.bad", "Program of the link")
         }[example]
         page.wait(f"first step {example}", f"document.querySelector('{shown}')")
         STEPS.check(f"first step {example}: its name", page.text("#example-name").startswith(name), page.text("#example-name"))
@@ -516,16 +520,24 @@ def step_of_link(page):
     page.value("location.hash = location.hash.replace('step=2', 'step=1')")
     page.wait("the step follows the address", f"{current} === 1")
     page.click("#timeline li:last-child button")
-    page.wait("the address of the last step", "!location.hash.includes('step=')")
+    page.wait("the address of the last step", "location.hash.includes('step=end&')")
+    page.click("#timeline li:first-child button")
+    page.wait("the address of the first step", "!location.hash.includes('step=')")
+    page.browser.open(page.value("location.href"))
+    page.wait("a link without a step opens at the start", f"{current} === 0")
     page.open(view="run", ids="8", ring="5,1,3,7", example="cv1.txt", step="1")
     page.wait("a step of CV1", f"{current} === 1")
     page.click("#examples button:nth-of-type(2)")
     page.wait("the same step of LDB", f"{current} === 1 && document.querySelector('#examples-button').title.startsWith('ldb')")
-    page.value("[...document.querySelectorAll('#examples button')].find(e => /^cv2/.test(e.lastElementChild.textContent)).click()")
-    page.wait("the last step of a program of two rounds", f"{current} === 5")
-    for step in ("99", "x", ""):
+    take = "[...document.querySelectorAll('#examples button')].find(e => /^{}/.test(e.lastElementChild.textContent)).click()"
+    page.value(take.format("cv2"))
+    page.wait("the start of a program of two rounds", f"{current} === 0")
+    page.click("#timeline li:last-child button")
+    page.value(take.format("cv1"))
+    page.wait("the end of a program of one round", f"{current} === 3 && document.querySelectorAll('#timeline li').length === 4")
+    for step, shown in (("99", 3), ("end", 3), ("x", 0), ("", 0)):
         page.open(view="run", ids="8", ring="5,1,3,7", example="cv1.txt", step=step)
-        page.wait(f"a link to step {step!r} opens the last one", f"{current} === 3")
+        page.wait(f"a link to step {step!r}", f"{current} === {shown}")
 
 
 def exercises(page):
@@ -561,53 +573,38 @@ def examples(page):
 
 
 def typing(page):
-    """The editor scrolls to the cursor, and a long text does not make typing slow."""
+    """The editor scrolls to the cursor, and wraps long lines."""
     page.open(view="run", ids="8", example="linial_poly.txt")
     page.value("(t => { t.focus(); t.setSelectionRange(t.value.length, t.value.length); })(document.querySelector('#text'))")
     page.browser.type("\n# " + "long " * 60)
     time.sleep(0.3)
-    for way in ("Top", "Left"):
-        STEPS.check(f"the editor scrolls: {way}", page.value(f"document.querySelector('#editor').scroll{way} > 100"))
-    page.fill("#text", "r0 = add(r0, 1)\n" * 3900)
-    key = (
-        "(t => { const begin = performance.now(); t.setRangeText(' ', 30000, 30000); t.dispatchEvent(new Event('input'));"
-        " document.querySelector('.ink').offsetHeight; return performance.now() - begin; })(document.querySelector('#text'))"
-    )
-    spent = min(page.value(key) for _ in range(3))
-    STEPS.check("a key in a text of 62 KB takes less than 0.6 s", spent < 600, spent)
+    STEPS.check("the editor scrolls", page.value("document.querySelector('#editor').scrollTop > 100"))
+    STEPS.check("its lines wrap", page.value("(e => e.scrollWidth <= e.clientWidth)(document.querySelector('#editor'))"))
 
 
-def formats(page):
-    """The lines and notes of nbhd, as the page reads them."""
+def long_programs(page):
+    """A key in a long program takes little time, and what is in sight has its colours, its numbers and its fault."""
     page.open(view="run", ids="8", example="cv1.txt")
-    text = "rounds 1\nchannels 6\nregisters 1\nstart\nr0 = id\nround\n  send lift 0\n"
-
-    def refusal(out, note):
-        return page.call("faults.js", f"m.readRefusal({json.dumps({'out': out, 'note': note})}, {json.dumps(text)})")
-
-    index = text.index("lift")
-    place, line, cause = {"row": 7, "column": 8, "index": index}, f"text fault N3 at {index}", "`lift` is no word of the language"
-    found = refusal(f"{line}\n", f"nbhd: line 7, column 8: {cause}\n    send lift 0\n         ^\n")
-    STEPS.equal("a note with a place", found, {"code": "N3", "line": line, "note": cause, "at": place})
-    STEPS.equal("an offset without a note", refusal(f"{line}\n", "")["at"], place)
-    cause = "channels may be as large as 11: write `channels 12` or more"
-    found = refusal("check fault C4 bound 11\n", f"nbhd: {cause}\n")
-    STEPS.equal("a note without a place", (found["note"], found["at"]), (cause, None))
-    second = "bounds of r0 after `start` and each round: 8 7"
-    found = refusal("check fault C4 bound 11\n", f"nbhd: {cause}\nnbhd: {second}\n")
-    STEPS.equal("a note of two lines", found["note"], f"{cause} – {second}")
-    found = refusal("check fault C3\n", "nbhd: line 5, column 6: `L` and `R` can be read in a round alone\n  r0 = id\n       ^\n")
-    STEPS.equal("a place of a program that is not accepted", found["at"]["index"], text.index("id"))
-    found = refusal("", "nbhd: bad ring\n")
-    STEPS.equal("a refusal without a report", (found["line"], found["note"]), ("bad ring", ""))
-    found = refusal("", "nbhd: bad ring\nnbhd: part 2 of the ring text, ` 1`, is no number\n")
-    STEPS.equal("a refusal of two lines", found["line"], "bad ring – part 2 of the ring text, ` 1`, is no number")
-    found = refusal("", "error: invalid value '65' for '--ids <M>': 65 is no\n\nFor more information, try '--help'.\n")
-    STEPS.equal("refused words", found["line"], "invalid value '65' for '--ids <M>': 65 is no")
-    no = page.call("view-judge.js", "m.readNo('no: ring 0 2 1 places 0 2 channels 0 1')")
-    STEPS.equal("a no at distance two", no, {"ring": [0, 2, 1], "places": [0, 2], "channels": [0, 1]})
-    steps = page.call("trace.js", "m.stepsOf('start r0 1 2\\nfinish 1 2\\n')")
-    STEPS.equal("a trace without rounds", [step["kind"] for step in steps], ["start", "finish"])
+    copied = "document.querySelector('.ink').textContent === document.querySelector('#text').value + '\\n'"
+    for name, line, count in (("15,000 short lines", "r0=\n", 15000), ("3,900 lines", "r0 = add(r0, 1)\n", 3900)):
+        page.fill("#text", line * count)
+        page.wait(f"{name}: a fault", "document.querySelector('.check.bad')")
+        for key in ("x", "\n"):
+            page.value("document.querySelector('#text').setSelectionRange(3000, 3000)")
+            # Also what is drawn after the key counts, and what the page does then is over before the next one.
+            time.sleep(1)
+            before = page.browser.spent()
+            page.browser.type(key)
+            page.value("document.querySelector('.ink').offsetHeight")
+            spent = page.browser.spent() - before
+            STEPS.check(f"{name}: the key {key!r} takes less than 0.15 s of the processor", spent < 150, spent)
+        STEPS.check(f"{name}: the copy has the same text", page.value(copied))
+        page.value("(e => { e.scrollTop = e.scrollHeight / 2; })(document.querySelector('#editor'))")
+        sight = "document.elementsFromPoint(...(r => [r.x + 80, r.y + 100])(document.querySelector('#editor').getBoundingClientRect()))"
+        rows = "[...document.querySelectorAll('.row')].filter(e => e.getBoundingClientRect().bottom > 200 && e.querySelector('.register'))"
+        page.wait(f"{name}: rows in the middle have colours", f"{rows}.some(e => Number(e.dataset.row) > {count // 3})")
+        STEPS.check(f"{name}: few rows are drawn", page.count(".row") < 1000, page.count(".row"))
+        STEPS.check(f"{name}: the text area lies over them", page.value(f"{sight}[0].id") == "text")
 
 
 def restart(page, server):
@@ -622,5 +619,5 @@ def restart(page, server):
     page.wait_ring("the ring after it", "5,1,3,7,0")
 
 
-VIEWS = [check, faults, typing, run, large_rings, strip_of_steps, step_keys, windows_known, equal_channels, drag, edit_ring]
-VIEWS += [typed_rings, judge, judge_distances, table, long_tables, graph, links, step_of_link, exercises, examples, formats]
+VIEWS = [check, faults, typing, long_programs, run, large_rings, strip_of_steps, step_keys, windows_known, equal_channels, drag, edit_ring]
+VIEWS += [typed_rings, judge, judge_distances, table, long_tables, graph, links, step_of_link, exercises, examples]

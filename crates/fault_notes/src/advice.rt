@@ -1,38 +1,48 @@
 //! Advice on faults of a program text: replacements for words of other languages, and other common
 //! mistakes.
 
-use crate::operands::operands_advice;
+use crate::operands::{is_operation, operands_advice};
+use crate::signs::{comment_advice, mark_advice};
 use crate::wanted::Wanted;
-use crate::words::{advice_at_start, advice_in};
+use crate::words::{advice_in, is_word_byte};
 
-const PRODUCT: &str = "; there is no product: twice x is `shl(x, 1)`";
-
-const REMAINDER: &str = "; there is no remainder: that of 2 is `and(x, 1)`";
-
-const GREATER: &str = "; write `lt(b, a)` for a > b";
+const INFIX: &str = "; an operation stands before its operands, as in `add(a, b)`";
 
 const UNEQUAL: &str = "; write `ne(a, b)`, or `eq(x, 0)` where x is to be 0";
 
-const SUM: &str = "; write `add(a, b)`";
+const ASSIGNED: &str = "; an assignment is written `r0 = ..`";
 
-const DIFFERENCE: &str = "; write `sub(a, b)`, which stops at 0; numbers are 0 to 4294967295";
+const DIGITS: &str = "; a number in digits is wanted here";
+
+const BRACKETED: &str = "; the operands of an operation stand in brackets, as in `if(c, a, b)`";
+
+const OPEN: &str = "; a bracket is open";
 
 const ROUNDS: &str = "; there are as many rounds as `rounds` says";
 
-const UTF_16: &str = "; the file is UTF-16: save it as ASCII";
+const ENDED: &str = "; the expression of `finish` ends the program";
 
 // Words that are not of the language, those with the same advice together.
-const WORDS: [(&[u8], &str); 29] = [
+const WORDS: [(&[u8], &str); 31] = [
     // Names that other languages have for operations, and other words.
-    (b"mul times mult", PRODUCT),
-    (b"mod rem", REMAINDER),
+    (
+        b"mul times mult",
+        "; there is no product: twice x is `shl(x, 1)`",
+    ),
+    (
+        b"mod rem",
+        "; there is no remainder: that of 2 is `and(x, 1)`",
+    ),
     (b"div", "; there is no quotient: half of x is `shr(x, 1)`"),
-    (b"gt", GREATER),
+    (b"gt", "; write `lt(b, a)` for a > b"),
     (b"ge", "; write `le(b, a)` for a >= b"),
     (b"neq", UNEQUAL),
     (b"equals", "; write `eq(a, b)`"),
-    (b"plus sum", SUM),
-    (b"minus", DIFFERENCE),
+    (b"plus sum", "; write `add(a, b)`"),
+    (
+        b"minus",
+        "; write `sub(a, b)`, which stops at 0; numbers are 0 to 4294967295",
+    ),
     // Keywords and names of other languages.
     (b"then else elif endif", "; write `if(c, a, b)`"),
     (
@@ -40,14 +50,22 @@ const WORDS: [(&[u8], &str); 29] = [
         "; the last line is `finish` and an expression",
     ),
     (
-        b"both",
+        b"both all",
         "; write `send left` and `send right`, each with an expression",
     ),
     (b"true True", "; write 1"),
     (b"false False", "; write 0"),
     (b"l", "; the message from the left is `L`"),
-    (b"r", "; the message from the right is `R`"),
-    (b"self me my uid", "; the identifier is `id`"),
+    (
+        b"r",
+        "; the message from the right is `R`, and registers are `r0` to `r7`",
+    ),
+    (
+        b"self me my uid ident identifier",
+        "; the identifier is `id`",
+    ),
+    (b"let var set int uint const mut", ASSIGNED),
+    (b"REM dnl", "; a comment begins with `#`"),
     // Words that `nbhd` prints.
     (
         b"nbhd",
@@ -70,64 +88,59 @@ const WORDS: [(&[u8], &str); 29] = [
     (b"Finish FINISH", "; write `finish`"),
 ];
 
-// Bytes above 127 at the start of a text, each with advice.
-const BYTES: [(&[u8], &str); 4] = [
-    (
-        &[0xef, 0xbb, 0xbf],
-        "; this is a byte order mark: save the file without one",
-    ),
-    (&[0xff, 0xfe], UTF_16),
-    (&[0xfe, 0xff], UTF_16),
-    (
-        &[0xc2, 0xa0],
-        "; this is a blank that does not break: write a plain one",
-    ),
-];
-
-// Returns advice on a word that is not of the language, at a place where `wanted` can follow.
-pub(crate) fn word_advice(word: &[u8], wanted: Option<Wanted>) -> &'static str {
-    let known = known_advice(word);
-    if !known.is_empty() {
-        return known;
-    }
-    match wanted {
-        Some(Wanted::Rounds) => "; a program begins with `rounds`",
-        Some(Wanted::End) => "; the expression of `finish` ends the program",
-        _ => spelling_advice(word),
-    }
-}
-
-// Returns advice on words and marks of other languages.
-fn known_advice(word: &[u8]) -> &'static str {
-    if let Some(advice) = advice_in(&WORDS, word) {
-        return advice;
-    }
+// Returns advice on a word or a mark that is not of the language, with which `rest` begins, at a
+// place where `wanted` can follow.
+pub(crate) fn word_advice(word: &[u8], rest: &[u8], wanted: Option<Wanted>) -> &'static str {
     match word {
-        [mark] => mark_advice(*mark),
-        _ => "",
+        [byte] if !is_word_byte(*byte) => mark_advice(rest, wanted),
+        _ => match wanted {
+            Some(wanted) => letters_advice(word, rest, wanted),
+            None => advice_in(&WORDS, word).unwrap_or(""),
+        },
     }
 }
 
-// Returns advice on the marks of other languages.
-fn mark_advice(mark: u8) -> &'static str {
-    match mark {
-        b'*' => PRODUCT,
-        b'%' => REMAINDER,
-        b'/' => "; a comment begins with `#`, and half of x is `shr(x, 1)`",
-        b'>' => GREATER,
-        b'<' => "; write `lt(a, b)` for a < b",
-        b'!' => UNEQUAL,
-        b'+' => SUM,
-        b'-' => DIFFERENCE,
-        b'&' => "; write `and(a, b)`",
-        b'|' => "; write `or(a, b)`",
-        b'^' => "; write `xor(a, b)`",
-        b'~' => "; write `not(a)`",
-        b':' => "; an assignment is written `r0 = ..`",
-        b';' => "; lines end without a mark",
-        b'"' | b'\'' => "; there are no texts in programs",
-        b'_' | b'.' | b'$' | b'@' => "; registers are `r0` to `r7`, and have no other names",
-        b'[' | b']' | b'{' | b'}' => "; operands stand in `(` and `)`",
+// Returns advice on letters and digits that are no word of the language.
+fn letters_advice(word: &[u8], rest: &[u8], wanted: Wanted) -> &'static str {
+    match wanted {
+        Wanted::Number
+        | Wanted::Channels
+        | Wanted::Registers
+        | Wanted::Start
+        | Wanted::Equals
+        | Wanted::Open => missing_word(wanted),
+        Wanted::Left | Wanted::Right if !matches!(word, b"both" | b"all") => missing_word(wanted),
+        Wanted::Rounds if rest.starts_with(b"p cnf") => "; this is a formula for a solver",
+        _ => advice_in(&WORDS, word).unwrap_or(unknown_advice(word, wanted)),
+    }
+}
+
+// Returns advice on letters and digits of which nothing is known.
+fn unknown_advice(word: &[u8], wanted: Wanted) -> &'static str {
+    match wanted {
+        Wanted::Expression | Wanted::Register(_) => spelling_advice(word),
+        Wanted::Comma => "; operands are parted by commas",
+        Wanted::Close => OPEN,
+        _ => missing_word(wanted),
+    }
+}
+
+// Returns advice that names the word that can follow.
+fn missing_word(wanted: Wanted) -> &'static str {
+    match wanted {
+        Wanted::Rounds => "; a program begins with `rounds`",
+        Wanted::Channels => "; `channels` is wanted here",
+        Wanted::Registers => "; `registers` is wanted here",
+        Wanted::Start => "; `start` is wanted here",
+        Wanted::Round => "; `round` is wanted here",
+        Wanted::Send => "; `send` is wanted here",
+        Wanted::Left => "; `left` is wanted here",
+        Wanted::Right => "; `right` is wanted here",
+        Wanted::Finish => "; `finish` is wanted here",
+        Wanted::Open => BRACKETED,
+        Wanted::Equals => ASSIGNED,
+        Wanted::Number => DIGITS,
+        Wanted::End => ENDED,
         _ => "",
     }
 }
@@ -138,44 +151,99 @@ fn spelling_advice(word: &[u8]) -> &'static str {
         [b'0', b'x' | b'X' | b'b' | b'B' | b'o', ..] => "; numbers are decimal",
         [b'0'..=b'9', ..] => "; a number has digits alone",
         [b'r' | b'R', b'0'..=b'9', ..] => "; registers are `r0` to `r7`",
-        [b'A'..=b'Z' | b'a'..=b'z', _, ..] =>
-            "; registers are `r0` to `r7`, and have no other names",
-        _ => "",
+        _ => "; registers are `r0` to `r7`, and have no other names",
     }
 }
 
-// Returns advice on a byte above 127 at the start of a text.
-pub(crate) fn byte_advice(text: &[u8]) -> &'static str {
-    advice_at_start(&BYTES, text).unwrap_or("")
-}
-
-// Returns advice on a word that cannot follow the text before it, after which `wanted` can follow.
-pub(crate) fn place_advice(before: &[u8], word: &[u8], wanted: Wanted) -> &'static str {
-    if matches!(word, b"=") {
-        return equals_advice(wanted);
-    }
-    match wanted {
-        Wanted::Comma => operands_advice(before),
-        Wanted::Close if matches!(word, b",") => operands_advice(before),
-        Wanted::Close => "; a bracket is open",
-        _ if matches!(word, b")") => "; this bracket closes nothing",
-        Wanted::Finish if matches!(word, b"round") => ROUNDS,
-        _ => wanted_advice(wanted),
+// Returns advice on a word or a mark of the language, with which `rest` begins, that cannot follow
+// the text before it, after which `wanted` can follow.
+pub(crate) fn place_advice(
+    before: &[u8],
+    word: &[u8],
+    rest: &[u8],
+    wanted: Wanted,
+) -> &'static str {
+    match word {
+        b"=" => equals_advice(rest, wanted),
+        b"(" => open_advice(rest, wanted),
+        b")" => close_advice(before, wanted),
+        b"," => comma_advice(before),
+        _ if is_operation(word) => operation_advice(before, wanted),
+        _ => known_advice(before, word, wanted),
     }
 }
 
 // Returns advice on a `=` at a place where `wanted` can follow.
-fn equals_advice(wanted: Wanted) -> &'static str {
+fn equals_advice(rest: &[u8], wanted: Wanted) -> &'static str {
     match wanted {
         Wanted::Comma | Wanted::Close => "; write `eq(a, b)` to compare",
+        _ if rest.starts_with(b"==") => "; write `eq(a, b)` to compare",
         _ => "; `=` stands only behind the register of an assignment",
+    }
+}
+
+// Returns advice on a `(` at a place where `wanted` can follow.
+fn open_advice(rest: &[u8], wanted: Wanted) -> &'static str {
+    match wanted {
+        Wanted::Rounds => comment_advice(rest),
+        Wanted::Expression => "; an expression stands without brackets around it",
+        Wanted::Number => "; a number in digits is wanted here, without brackets",
+        Wanted::Left => "; write `send left ..`, without brackets",
+        Wanted::Right => "; write `send right ..`, without brackets",
+        _ => "; no brackets stand here",
+    }
+}
+
+// Returns advice on a `)` after a text, at a place where `wanted` can follow.
+fn close_advice(before: &[u8], wanted: Wanted) -> &'static str {
+    let advice = operands_advice(before);
+    match wanted {
+        Wanted::Open => BRACKETED,
+        _ if advice.is_empty() => "; this bracket closes nothing",
+        _ => advice,
+    }
+}
+
+// Returns advice on a `,` after a text.
+fn comma_advice(before: &[u8]) -> &'static str {
+    let advice = operands_advice(before);
+    if advice.is_empty() {
+        return "; commas stand between operands alone";
+    }
+    advice
+}
+
+// Returns advice on the name of an operation after a text, at a place where `wanted` can follow.
+fn operation_advice(before: &[u8], wanted: Wanted) -> &'static str {
+    match wanted {
+        Wanted::Comma
+        | Wanted::Close
+        | Wanted::Round
+        | Wanted::Send
+        | Wanted::Right
+        | Wanted::Register(_)
+        | Wanted::Finish
+        | Wanted::End => INFIX,
+        _ => known_advice(before, b"", wanted),
+    }
+}
+
+// Returns advice on another word that cannot follow the text before it.
+fn known_advice(before: &[u8], word: &[u8], wanted: Wanted) -> &'static str {
+    match wanted {
+        Wanted::Comma => operands_advice(before),
+        Wanted::Close => OPEN,
+        Wanted::Rounds if matches!(word, [b'0'..=b'9', ..]) => {
+            "; leave out the numbers of the lines"
+        }
+        Wanted::Finish if matches!(word, b"round") => ROUNDS,
+        _ => wanted_advice(wanted),
     }
 }
 
 // Returns advice on the words that can follow at a place.
 fn wanted_advice(wanted: Wanted) -> &'static str {
     match wanted {
-        Wanted::Open => "; the operands of an operation stand in brackets, as in `if(c, a, b)`",
         Wanted::Rounds | Wanted::Channels | Wanted::Registers => {
             "; a program begins with `rounds`, `channels` and `registers`"
         }
@@ -185,7 +253,22 @@ fn wanted_advice(wanted: Wanted) -> &'static str {
         Wanted::Register(_) => "; each register is assigned, in order",
         Wanted::Round => ROUNDS,
         Wanted::Finish => "; each register is assigned once, then comes `finish`",
-        Wanted::End => "; the expression of `finish` ends the program",
+        Wanted::Expression => "; an expression is missing here",
+        Wanted::Open | Wanted::Equals | Wanted::Number | Wanted::End => missing_word(wanted),
+        _ => "",
+    }
+}
+
+// Returns advice on a text that ends where `wanted` can follow.
+pub(crate) fn end_advice(text: &[u8], wanted: Option<Wanted>) -> &'static str {
+    if text.is_empty() {
+        return "; the text is empty, so no file was given";
+    }
+    if text.contains(&b'#') && text.contains(&b'\r') && !text.contains(&b'\n') {
+        return "; a comment goes up to a line feed, and this text has none";
+    }
+    match wanted {
+        Some(Wanted::Rounds) => "; the text has blanks and comments alone",
         _ => "",
     }
 }

@@ -3,6 +3,7 @@
 
 mod advice;
 mod bounds;
+mod headers;
 mod kinds;
 mod laws;
 mod lexemes;
@@ -13,6 +14,7 @@ mod probe;
 mod programs;
 mod rings;
 mod scanning;
+mod signs;
 mod sizes;
 mod tables;
 mod texts;

@@ -62,3 +62,8 @@ fn open_operation(text: &[u8]) -> &[u8] {
 pub(crate) fn operands_advice(text: &[u8]) -> &'static str {
     advice_in(&OPERANDS, open_operation(text)).unwrap_or("")
 }
+
+// Returns whether a word is the name of an operation.
+pub(crate) fn is_operation(word: &[u8]) -> bool {
+    advice_in(&OPERANDS, word).is_some()
+}

@@ -5,11 +5,13 @@ ghost use Rattle.win_index.specs.Windows.{windows};
 ghost use Rattle.fault_notes.specs.TableSizes.{IsDue};
 ghost use Rattle.fault_notes.specs.TableNotes.{long_note, IsFormNote, IsWindowNote, line_note, channel_note};
 
+use crate::headers::header_advice;
 use crate::lexemes::front_len;
 use crate::numbers::write_joined;
 use crate::sizes::shape_of;
 use crate::texts::write_head;
 use crate::words::advice_at_start;
+use decimal_texts::field;
 use source_places::write_marked_line;
 use std::alloc::{AllocError, Global};
 use std::fmt::Write;
@@ -19,11 +21,17 @@ const PROGRAM: &str = "; this looks like a program: `nbhd judge` takes one";
 
 const PRINTED: &str = "; this is what `nbhd` printed in place of a table";
 
+const STOPPED: &str = "; the text stops in this line: lines are missing";
+
 // Beginnings of texts that are no table texts, each with advice.
-const BEGINNINGS: [(&[u8], &str); 7] = [
+const BEGINNINGS: [(&[u8], &str); 8] = [
     (
         &[0xef, 0xbb, 0xbf],
         "; the text begins with a byte order mark: save the file without one",
+    ),
+    (
+        b"nbhd-table ",
+        "; its first line is `nbhd-table 2`, or `nbhd-table 1`",
     ),
     (b"rounds", PROGRAM),
     (b"#", PROGRAM),
@@ -36,10 +44,7 @@ const BEGINNINGS: [(&[u8], &str); 7] = [
 // Beginnings of lines that do not have their form, each with advice.
 const LINES: [(&[u8], &str); 3] = [
     (b"\n", "; the line is blank"),
-    (
-        b"rounds",
-        "; the numbers of this line do not fit one another",
-    ),
+    (b"end\n", "; lines are missing before it"),
     (b"#", "; there are no comments in tables"),
 ];
 
@@ -78,40 +83,75 @@ fn form_advice(text: &[u8], offset: usize) -> &'static str
     if offset == 0 {
         return first_advice(text);
     }
-    line_advice(&text[offset..])
+    let (before, rest) = text.split_at(offset);
+    if front_len(before, b'\n').saturating_add(1) == offset {
+        return second_advice(text, rest);
+    }
+    if before.ends_with(b"\nend\n") && !rest.starts_with(b"\n") {
+        return "; nothing follows the line `end`";
+    }
+    line_advice(rest)
 }
 
 // Returns advice on a text that does not begin like a table text.
 fn first_advice(text: &[u8]) -> &'static str {
-    advice_at_start(&BEGINNINGS, text).unwrap_or("; its first line is `nbhd-table` and the version")
+    if matches!(text, [b'0'..=b'9', ..]) {
+        return "; its first two lines are missing";
+    }
+    match field(text, b"rounds ", b' ') {
+        Some((_, rest)) if rest.starts_with(b"ids ") => {
+            "; its first line, `nbhd-table 2` or `nbhd-table 1`, is missing"
+        }
+        _ => advice_at_start(&BEGINNINGS, text).unwrap_or(
+            "; its first line is `nbhd-table` and the version",
+        ),
+    }
+}
+
+// Returns advice on the second line of a text, which does not have its form; `rest` is the text
+// from that line on.
+fn second_advice(text: &[u8], rest: &[u8]) -> &'static str {
+    let line = &rest[..front_len(rest, b'\n')];
+    if line.len() == rest.len() {
+        return STOPPED;
+    }
+    if line.contains(&b',') {
+        return "; this line has no commas";
+    }
+    header_advice(text.starts_with(b"nbhd-table 1\n"), rest)
 }
 
 // Returns advice on a line that does not have its form, from the text from the line on.
 fn line_advice(rest: &[u8]) -> &'static str {
     if rest.is_empty() {
-        return "; the text stops before its end, which is a line `end`";
+        return "; the text stops before its end, which is a line `end`: lines are missing";
     }
     if matches!(rest, b"end") {
         return "; the last line has no line end";
     }
+    let line = &rest[..front_len(rest, b'\n')];
+    if line.len() == rest.len() {
+        return STOPPED;
+    }
     match advice_at_start(&LINES, rest) {
         Some(advice) => advice,
-        None => bytes_advice(&rest[..front_len(rest, b'\n')]),
+        None => bytes_advice(line),
     }
 }
 
 // Returns advice on the bytes of a line that does not have its form.
 fn bytes_advice(line: &[u8]) -> &'static str {
-    if matches!(line, [.., b' ']) {
-        return "; a blank stands at its end";
+    match line {
+        b"END" | b"End" => "; the last line is `end`",
+        [.., b':'] | [.., b':', b' '] => "; its channel is missing",
+        [.., b' '] => "; a blank stands at its end",
+        [b'0', b'0'..=b'9', ..] => "; numbers have no zeros before them",
+        _ if line.contains(&b',') || line.contains(&b'\t') => {
+            "; numbers are parted by single blanks"
+        }
+        _ if line.contains(&b'-') || line.contains(&b'.') => "; a number has digits alone",
+        _ => "; a line is the identifiers of a window, ` : ` and a channel",
     }
-    if line.contains(&b',') || line.contains(&b'\t') {
-        return "; numbers are parted by single blanks";
-    }
-    if line.contains(&b'-') {
-        return "; a number has digits alone";
-    }
-    ""
 }
 
 // Returns the window of this shape with this number.

@@ -8,8 +8,9 @@ ghost use Rattle.fault_notes.specs.Wanted.{IsWanted, SaysNothing};
 ghost use Rattle.source_places.specs.Shown.{marked_line};
 ghost use Rattle.fault_notes.specs.TextNotes.{place_head, quoted, cause_of, IsTextNote, too_long_note};
 
-use crate::advice::{byte_advice, place_advice, word_advice};
+use crate::advice::{end_advice, place_advice, word_advice};
 use crate::probe::wanted_after;
+use crate::signs::byte_advice;
 use crate::wanted::Wanted;
 use crate::words::{first_word, write_wanted_part};
 use node_lang::{FaultKind, TextFault};
@@ -155,11 +156,12 @@ fn write_unexpected(out: &mut String, word: &[u8], wanted: Option<Wanted>) -> Re
 fn advice_on(text: &[u8], fault: TextFault, word: &[u8], wanted: Option<Wanted>) -> &'static str
     requires { fault.offset ≤ length text.now }
 {
+    let (before, rest) = text.split_at(fault.offset);
     match (fault.kind, wanted) {
-        (FaultKind::NotAscii, _) => byte_advice(&text[fault.offset..]),
-        (FaultKind::BadWord, wanted) => word_advice(word, wanted),
-        (FaultKind::Unexpected, Some(wanted)) => place_advice(&text[..fault.offset], word, wanted),
-        (FaultKind::EndOfText, _) if text.is_empty() => "; the text is empty, so no file was given",
+        (FaultKind::NotAscii, _) => byte_advice(rest),
+        (FaultKind::BadWord, wanted) => word_advice(word, rest, wanted),
+        (FaultKind::Unexpected, Some(wanted)) => place_advice(before, word, rest, wanted),
+        (FaultKind::EndOfText, wanted) => end_advice(text, wanted),
         _ => "",
     }
 }

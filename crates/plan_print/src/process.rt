@@ -14,7 +14,7 @@ use devices::output::send;
 use devices::watched::Watched;
 use reports::status::{Status, code_of};
 use std::io;
-use std::io::Write;
+use std::io::{IsTerminal, Write};
 use std::rt::Env;
 use std::sync::Wait;
 use std::thread::Threads;
@@ -28,6 +28,8 @@ use task_words::{parse_task, print_words_fault};
 pub fn exit_status<T: AllocGlobal + Env + Input + Print + Eprint + Threads + Wait + Sync>(
     rt: &T,
 ) -> u8
+where
+    T::Reader: IsTerminal,
     ensures { IsExitStatus result }
 {
     status_after(rt, parse_task(rt))
@@ -38,16 +40,31 @@ fn status_after<T: AllocGlobal + Env + Input + Print + Eprint + Threads + Wait +
     rt: &T,
     parsed: Result<Task, WordsFault>,
 ) -> u8
+where
+    T::Reader: IsTerminal,
     requires { IfOk parsed IsRunnable }
     ensures { MatchResult parsed (λ task. IsStatusOf task result) (λ fault. IsStatusAfter fault result) }
 {
     match parsed {
-        Ok(task) => print_result(rt, run_engine(rt, task)),
+        Ok(task) => {
+            tell_of_terminal(rt, &task);
+            print_result(rt, run_engine(rt, task))
+        }
         Err(WordsFault::Help(text)) => {
             let mut writer = Watched::new(io::writer(rt));
             print_fault(rt, write_text(&mut writer, &text))
         }
         Err(fault) => print_words_fault(rt, &fault),
+    }
+}
+
+// Says on standard error that a text is awaited, if it is to come from a terminal.
+fn tell_of_terminal<T: Input + Eprint>(rt: &T, task: &Task)
+where
+    T::Reader: IsTerminal,
+{
+    if !matches!(task, Task::Formula { .. }) && rt.reader().is_terminal() {
+        let _ = eprintln!(rt; "nbhd: reads a text from standard input, which Ctrl-D ends");
     }
 }
 

@@ -21,17 +21,36 @@ pub enum Tip {
     /// The name of a file.
     #[error("nbhd: a text is read from standard input, as in `nbhd judge --ids 8 < FILE`")]
     FileName,
+    /// The name of a file, at a command that reads a table.
+    #[error("nbhd: a table is read from standard input, as in `nbhd audit < FILE`")]
+    TableName,
+    /// An option with one minus sign.
+    #[error("nbhd: the name of an option has two minus signs before it, as in `--ids 8`")]
+    OneMinus,
+    /// An option with a dash in place of minus signs.
+    #[error("nbhd: the name of an option has two minus signs before it, and no dash, as in `--ids 8`")]
+    Dash,
+    /// An option in capitals.
+    #[error("nbhd: the names of options have small letters, as in `--ids 8`")]
+    Capital,
+    /// Another name for the number of identifiers.
+    #[error("nbhd: the number of identifiers is given by `--ids`")]
+    OtherIds,
+    /// A word that is no number, as the value of an option that takes one.
+    #[error("nbhd: numbers are in digits: `--ids` 2 to 1024, `--near` 1 to 4096, `--far` 0 to 4096, `--workers` and `--segments` 1 to 64")]
+    NoNumber,
 }
 
 /// Returns the tip on the first of the words after the program's name that has one.
 pub fn usage_tip(words: &[String]) -> Option<Tip>
     ensures { result ≡ tips.usage_tip (map string_bytes words.now) }
 {
+    let of_table = reads_table(words);
     let mut before = "";
     let mut last = "";
     for word in words {
         let word = word.as_str();
-        if let Some(tip) = tip_on(before, last, word) {
+        if let Some(tip) = tip_on(of_table, before, last, word) {
             return Some(tip);
         }
         before = last;
@@ -40,21 +59,57 @@ pub fn usage_tip(words: &[String]) -> Option<Tip>
     None
 }
 
-// Returns the tip on a word, by the two words before it.
-fn tip_on(before: &str, last: &str, word: &str) -> Option<Tip>
-    ensures { result ≡ tips.tip_on before.now last.now word.now }
+// Returns whether these words are those of a command that reads a table.
+fn reads_table(words: &[String]) -> bool
+    ensures { result ≡ tips.reads_table (map string_bytes words.now) }
+{
+    match words {
+        [command, ..] => command.as_str() == "audit" || command.as_str() == "migrate",
+        [] => false,
+    }
+}
+
+// Returns the tip on a word, by the two words before it and whether its command reads a table.
+fn tip_on(of_table: bool, before: &str, last: &str, word: &str) -> Option<Tip>
+    ensures { result ≡ tips.tip_on of_table before.now last.now word.now }
 {
     if is_ring_for_ids(last, word) {
         return Some(Tip::RingForIds);
     }
-    if is_in_ring(before, word) {
+    if is_in_ring(before, last, word) {
         return Some(Tip::RingInWords);
     }
     if is_negative(word) {
         return Some(Tip::Negative);
     }
-    if is_file_name(last, word) {
-        return Some(Tip::FileName);
+    if is_file_name(last, word) || is_file_option(word) {
+        return Some(if of_table {
+            Tip::TableName
+        } else {
+            Tip::FileName
+        });
+    }
+    if takes_number(last) && is_no_number(word) {
+        return Some(Tip::NoNumber);
+    }
+    tip_on_name(word)
+}
+
+// Returns the tip on a word that is a wrong name of an option.
+fn tip_on_name(word: &str) -> Option<Tip>
+    ensures { result ≡ tips.tip_on_name word.now }
+{
+    if is_other_ids(word) {
+        return Some(Tip::OtherIds);
+    }
+    if is_in_capitals(word) {
+        return Some(Tip::Capital);
+    }
+    if has_one_minus(word) {
+        return Some(Tip::OneMinus);
+    }
+    if has_dash(word) {
+        return Some(Tip::Dash);
     }
     None
 }
@@ -67,10 +122,49 @@ fn is_ring_for_ids(last: &str, word: &str) -> bool
 }
 
 // Returns whether a word is the second number of a ring that is given in several words.
-fn is_in_ring(before: &str, word: &str) -> bool
-    ensures { result ≡ tips.is_in_ring before.now word.now }
+fn is_in_ring(before: &str, last: &str, word: &str) -> bool
+    ensures { result ≡ tips.is_in_ring before.now last.now word.now }
 {
-    before == "--ring" && begins_with_digit(word.as_bytes())
+    (before == "--ring" || has_value(last)) && begins_with_digit(word.as_bytes())
+}
+
+// Returns whether a word is an option with its value.
+fn has_value(word: &str) -> bool
+    ensures { result ≡ tips.has_value word.now }
+{
+    begins_with_minus(word) && contains(word, b'=')
+}
+
+// Returns whether a word is an option that other programs have for the name of a file.
+fn is_file_option(word: &str) -> bool
+    ensures { result ≡ tips.is_file_option word.now }
+{
+    word == "--file" || word == "--input" || word == "--program"
+}
+
+// Returns whether a word is another name for the number of identifiers.
+fn is_other_ids(word: &str) -> bool
+    ensures { result ≡ tips.is_other_ids word.now }
+{
+    word == "--n" || word == "--m" || word == "--identifiers" || word == "--nodes"
+}
+
+// Returns whether a word is an option that takes a number.
+fn takes_number(word: &str) -> bool
+    ensures { result ≡ tips.takes_number word.now }
+{
+    word == "--ids"
+        || word == "--near"
+        || word == "--far"
+        || word == "--workers"
+        || word == "--segments"
+}
+
+// Returns whether a word begins neither with a digit nor with a minus sign.
+fn is_no_number(word: &str) -> bool
+    ensures { result ≡ tips.is_no_number word.now }
+{
+    !begins_with_digit(word.as_bytes()) && !begins_with_minus(word)
 }
 
 // Returns whether a word begins with a number below 0.
@@ -89,6 +183,50 @@ fn is_file_name(last: &str, word: &str) -> bool
     ensures { result ≡ tips.is_file_name last.now word.now }
 {
     !begins_with_minus(last) && !begins_with_minus(word) && contains(word, b'.')
+}
+
+// Returns whether a word is two minus signs and a capital.
+fn is_in_capitals(word: &str) -> bool
+    ensures { result ≡ tips.is_in_capitals word.now }
+{
+    match word.as_bytes() {
+        [first, second, third, ..] => *first == b'-' && *second == b'-' && is_capital(*third),
+        _ => false,
+    }
+}
+
+// Returns whether a word is one minus sign and a letter.
+fn has_one_minus(word: &str) -> bool
+    ensures { result ≡ tips.has_one_minus word.now }
+{
+    match word.as_bytes() {
+        [first, second, ..] => *first == b'-' && is_letter(*second),
+        _ => false,
+    }
+}
+
+// Returns whether a word begins with a dash, of either length.
+fn has_dash(word: &str) -> bool
+    ensures { result ≡ tips.has_dash word.now }
+{
+    match word.as_bytes() {
+        [first, second, third, ..] => {
+            *first == 0xe2 && *second == 0x80 && matches!(*third, 0x93..=0x94)
+        }
+        _ => false,
+    }
+}
+
+fn is_capital(byte: u8) -> bool
+    ensures { result ≡ tips.is_capital byte }
+{
+    matches!(byte, b'A'..=b'Z')
+}
+
+fn is_letter(byte: u8) -> bool
+    ensures { result ≡ tips.is_letter byte }
+{
+    is_capital(byte) || matches!(byte, b'a'..=b'z')
 }
 
 fn begins_with_digit(bytes: &[u8]) -> bool

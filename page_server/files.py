@@ -1,0 +1,29 @@
+"""The files of the page, read once."""
+
+import json
+
+TYPES = {".html": "text/html", ".css": "text/css", ".js": "text/javascript", ".svg": "image/svg+xml"}
+
+
+def page_files(root):
+    """The type and the bytes of each file of the page and of docs/, by its path in the address. No other path is looked up."""
+    files = {}
+    for file in sorted((root / "page").iterdir()):
+        if file.suffix in TYPES and file.is_file():
+            files[f"/{file.name}"] = (f"{TYPES[file.suffix]}; charset=utf-8", file.read_bytes())
+    for file in sorted((root / "docs").glob("*.md")):
+        files[f"/docs/{file.name}"] = ("text/plain; charset=utf-8", file.read_bytes())
+    files["/"] = files.pop("/index.html")
+    files["/examples.json"] = ("application/json", json.dumps(examples(root)).encode())
+    return files
+
+
+def examples(root):
+    """The name, the title (the first comment line) and the text of each example: CV1, LDB, then the others of examples/."""
+    first = [root / "examples/cv1.txt", root / "programs/ldb.txt"]
+    files = first + [file for file in sorted((root / "examples").glob("*.txt")) if file not in first]
+    texts = {file.name: file.read_text(encoding="ascii") for file in files}
+    titles = {name: text.split("\n", 1)[0].lstrip("# ") for name, text in texts.items()}
+    # LDB has no comment.
+    titles["ldb.txt"] = "LDB: Cole and Vishkin without the bit, a rule that fails."
+    return [{"name": name, "title": titles[name], "text": text} for name, text in texts.items()]

@@ -1,0 +1,34 @@
+"""What the page may ask of nbhd."""
+
+import json
+
+from .errors import Refusal
+
+OPTION_CHARACTERS = 8_000
+# The commands that the page may ask for, each with its options.
+COMMANDS = {
+    "check": {"ids"},
+    "trace": {"ids", "ring"},
+    "explain": {"ids", "ring", "place"},
+    "judge": {"ids", "near", "far"},
+    "table": {"ids"},
+}
+
+
+def words_and_text(body):
+    """The words and the standard input of nbhd for the body of a request."""
+    try:
+        asked = json.loads(body)
+        command, options, text = asked["command"], asked["options"], asked["text"]
+        if command not in COMMANDS or not set(options) <= COMMANDS[command] or not isinstance(text, str):
+            raise ValueError
+        words = [command]
+        for name, value in options.items():
+            if not isinstance(value, str) or len(value) > OPTION_CHARACTERS or not value.isprintable():
+                raise ValueError
+            # One word with the option's name, so that no value is taken for an option. Whether the value is right, nbhd says.
+            words.append(f"--{name}={value}")
+        "".join(words).encode()
+        return words, text.encode("utf-8", "surrogatepass")
+    except (ValueError, KeyError, TypeError, AttributeError, RecursionError):
+        raise Refusal(400, "the body is not a command with its options and a text") from None

@@ -1,0 +1,317 @@
+"""Mistakes that were thought of before the notes on them were written, each with the note on its cause and its cure."""
+
+from programs import CV1
+
+# Brackets and operands: parts of `CV1`, their replacements, and the notes.
+BRACKETS = [
+    (
+        "finish r0",
+        "finish (r0)",
+        "line 10, column 8: `(` cannot stand here; wanted an expression; an expression stands without brackets around it",
+    ),
+    (
+        "finish r0",
+        "finish ((r0))",
+        "line 10, column 8: `(` cannot stand here; wanted an expression; an expression stands without brackets around it",
+    ),
+    (
+        "r0 = id",
+        "r0 = (id)",
+        "line 5, column 6: `(` cannot stand here; wanted an expression; an expression stands without brackets around it",
+    ),
+    (
+        "right r0",
+        "right (r0)",
+        "line 8, column 12: `(` cannot stand here; wanted an expression; an expression stands without brackets around it",
+    ),
+    (
+        "finish r0",
+        "finish(r0)",
+        "line 10, column 7: `(` cannot stand here; wanted an expression; an expression stands without brackets around it",
+    ),
+    (
+        "send left 0",
+        "send left(0)",
+        "line 7, column 10: `(` cannot stand here; wanted an expression; an expression stands without brackets around it",
+    ),
+    (
+        "finish r0",
+        "finish add((r0), 1)",
+        "line 10, column 12: `(` cannot stand here; wanted an expression; an expression stands without brackets around it",
+    ),
+    ("finish r0", "finish not()", "line 10, column 12: `)` cannot stand here; wanted an expression; `not` takes 1 operand"),
+    ("finish r0", "finish if(r0, , 1)", "line 10, column 15: `,` cannot stand here; wanted an expression; `if` takes 3 operands"),
+    ("finish r0", "finish min(, r0)", "line 10, column 12: `,` cannot stand here; wanted an expression; `min` takes 2 operands"),
+    ("finish r0", "finish sub(r0; 1)", "line 10, column 14: `;` is no word of the language; operands are parted by commas"),
+    (
+        "finish r0",
+        "finish not r0",
+        "line 10, column 12: `r0` cannot stand here; wanted `(`; the operands of an operation stand in brackets, as in `if(c, a, b)`",
+    ),
+    ("finish r0", "finish [r0]", "line 10, column 8: `[` is no word of the language; leave this bracket out"),
+    ("finish r0", "finish {r0}", "line 10, column 8: `{` is no word of the language; leave this bracket out"),
+    ("finish r0", "finish max[r0, 1]", "line 10, column 11: `[` is no word of the language; operands stand in `(` and `)`"),
+    (
+        "send left 0",
+        "send(left, 0)",
+        "line 7, column 5: `(` cannot stand here; wanted `left`; write `send left ..`, without brackets",
+    ),
+    ("start", "start()", "line 4, column 6: `(` cannot stand here; wanted the assignment of r0; no brackets stand here"),
+    ("start", "start {", "line 4, column 7: `{` is no word of the language; a program has no such brackets"),
+    ("round\nsend", "round {\nsend", "line 6, column 7: `{` is no word of the language; a program has no such brackets"),
+    ("round\nsend", "round()\nsend", "line 6, column 6: `(` cannot stand here; wanted `send`; no brackets stand here"),
+]
+
+# The first lines: parts of `CV1`, their replacements, and the notes.
+HEADER = [
+    (
+        "rounds 1",
+        "round 1",
+        "line 1, column 1: `round` cannot stand here; wanted `rounds`; a program begins with `rounds`, `channels` and `registers`",
+    ),
+    ("channels 6", "channel 6", "line 2, column 1: `channel` is no word of the language; `channels` is wanted here"),
+    ("registers 1", "register 1", "line 3, column 1: `register` is no word of the language; `registers` is wanted here"),
+    ("channels 6", "channels six", "line 2, column 10: `six` is no word of the language; a number in digits is wanted here"),
+    ("rounds 1", "rounds T", "line 1, column 8: `T` is no word of the language; a number in digits is wanted here"),
+    (
+        "registers 1",
+        "registers r0",
+        "line 3, column 11: `r0` cannot stand here; wanted a number; a number in digits is wanted here",
+    ),
+    (
+        "channels 6",
+        "channels 6, registers 1",
+        "line 2, column 11: `,` cannot stand here; wanted `registers`; commas stand between operands alone",
+    ),
+    ("rounds 1", "rounds 1,", "line 1, column 9: `,` cannot stand here; wanted `channels`; commas stand between operands alone"),
+    ("channels 6", "colours 6", "line 2, column 1: `colours` is no word of the language; `channels` is wanted here"),
+    ("registers 1", "variables 1", "line 3, column 1: `variables` is no word of the language; `registers` is wanted here"),
+    ("registers 1", "regs 1", "line 3, column 1: `regs` is no word of the language; `registers` is wanted here"),
+    ("rounds 1", "steps 1", "line 1, column 1: `steps` is no word of the language; a program begins with `rounds`"),
+    ("rounds 1", "rounds -1", "line 1, column 8: `-` is no word of the language; numbers have no sign"),
+    ("rounds 1", "rounds 1.0", "line 1, column 9: `.` is no word of the language; numbers are whole"),
+    ("rounds 1", "rounds", "line 2, column 1: `channels` cannot stand here; wanted a number; a number in digits is wanted here"),
+    (
+        "channels 6\n",
+        "",
+        "line 2, column 1: `registers` cannot stand here; wanted `channels`; a program begins with `rounds`, `channels` and `registers`",
+    ),
+    (
+        "registers 1",
+        "registers (1)",
+        "line 3, column 11: `(` cannot stand here; wanted a number; a number in digits is wanted here, without brackets",
+    ),
+    ("rounds 1", "rounds id", "line 1, column 8: `id` cannot stand here; wanted a number; a number in digits is wanted here"),
+]
+
+# Words where another is wanted: parts of `CV1`, their replacements, and the notes.
+WORDS = [
+    ("start\n", "begin\n", "line 4, column 1: `begin` is no word of the language; `start` is wanted here"),
+    ("start\n", "init\n", "line 4, column 1: `init` is no word of the language; `start` is wanted here"),
+    ("round\nsend", "loop\nsend", "line 6, column 1: `loop` is no word of the language; `round` is wanted here"),
+    ("round\nsend", "step\nsend", "line 6, column 1: `step` is no word of the language; `round` is wanted here"),
+    ("send left 0", "transmit left 0", "line 7, column 1: `transmit` is no word of the language; `send` is wanted here"),
+    ("send left 0", "send l 0", "line 7, column 6: `l` is no word of the language; `left` is wanted here"),
+    (
+        "send right r0",
+        "send R r0",
+        "line 8, column 6: `R` cannot stand here; wanted `right`; `send left` is followed by `send right`",
+    ),
+    ("send left 0", "send up 0", "line 7, column 6: `up` is no word of the language; `left` is wanted here"),
+    (
+        "send left 0",
+        "left 0",
+        "line 7, column 1: `left` cannot stand here; wanted `send`; a round begins with `send left` and `send right`",
+    ),
+    ("finish r0", "end r0", "line 10, column 1: `end` is no word of the language; `finish` is wanted here"),
+    ("finish r0", "done", "line 10, column 1: `done` is no word of the language; `finish` is wanted here"),
+    ("finish r0", "colour r0", "line 10, column 1: `colour` is no word of the language; `finish` is wanted here"),
+    ("send right r0", "receive right", "line 8, column 1: `receive` is no word of the language; `send` is wanted here"),
+    ("r0 = id", "set r0 = id", "line 5, column 1: `set` is no word of the language; an assignment is written `r0 = ..`"),
+    ("r0 = id", "let r0 = id", "line 5, column 1: `let` is no word of the language; an assignment is written `r0 = ..`"),
+    ("r0 = id", "int r0 = id", "line 5, column 1: `int` is no word of the language; an assignment is written `r0 = ..`"),
+    ("r0 = id", "x = id", "line 5, column 1: `x` is no word of the language; registers are `r0` to `r7`, and have no other names"),
+    ("r0 = id", "r0 <- id", "line 5, column 4: `<` is no word of the language; an assignment is written `r0 = ..`"),
+    ("r0 = id", "r0 id", "line 5, column 4: `id` cannot stand here; wanted `=`; an assignment is written `r0 = ..`"),
+    ("r0 = id", "r0 is id", "line 5, column 4: `is` is no word of the language; an assignment is written `r0 = ..`"),
+    ("send right r0", "send right r0 + 1", "line 8, column 15: `+` is no word of the language; write `add(a, b)`"),
+    ("finish r0", "finish identifier", "line 10, column 8: `identifier` is no word of the language; the identifier is `id`"),
+]
+
+# Operations between operands, and numbers: parts of `CV1`, their replacements, and the notes.
+INFIX = [
+    (
+        "finish r0",
+        "finish r0 or 1",
+        "line 10, column 11: `or` cannot stand here; wanted the end of the text; an operation stands before its operands, as in `add(a, b)`",
+    ),
+    (
+        "r0 = id",
+        "r0 = id xor 5",
+        "line 5, column 9: `xor` cannot stand here; wanted `round`; an operation stands before its operands, as in `add(a, b)`",
+    ),
+    (
+        "finish r0",
+        "finish r0 min 5",
+        "line 10, column 11: `min` cannot stand here; wanted the end of the text; an operation stands before its operands, as in `add(a, b)`",
+    ),
+    ("r0 = id", "r0 = id >> 1", "line 5, column 9: `>` is no word of the language; write `shr(a, k)`"),
+    ("r0 = id", "r0 = id & 1", "line 5, column 9: `&` is no word of the language; write `and(a, b)`"),
+    ("r0 = id", "r0 = id ^ 5", "line 5, column 9: `^` is no word of the language; write `xor(a, b)`"),
+    (
+        "finish r0",
+        "finish r0 != 1",
+        "line 10, column 11: `!` is no word of the language; write `ne(a, b)`, or `eq(x, 0)` where x is to be 0",
+    ),
+    ("finish r0", "finish r0 <= 5", "line 10, column 11: `<` is no word of the language; write `le(a, b)` for a <= b"),
+    ("finish r0", "finish r0 >= 5", "line 10, column 11: `>` is no word of the language; write `le(b, a)` for a >= b"),
+    (
+        "finish r0",
+        "finish !r0",
+        "line 10, column 8: `!` is no word of the language; write `ne(a, b)`, or `eq(x, 0)` where x is to be 0",
+    ),
+    ("r0 = id", "r0 = ~id", "line 5, column 6: `~` is no word of the language; write `not(a)`"),
+    ("r0 = id", "r0 += id", "line 5, column 4: `+` is no word of the language; write `r0 = add(r0, ..)`"),
+    ("r0 = id", "r0++", "line 5, column 3: `+` is no word of the language; write `r0 = add(r0, 1)`"),
+    ("r0 = id", "r0 -= 1", "line 5, column 4: `-` is no word of the language; write `r0 = sub(r0, ..)`"),
+    ("finish r0", "finish r0 ? 1 : 0", "line 10, column 11: `?` is no word of the language; write `if(c, a, b)`"),
+    ("finish r0", "finish r0 && 1", "line 10, column 11: `&` is no word of the language; write `and(a, b)`"),
+    ("finish r0", "finish r0 || 1", "line 10, column 11: `|` is no word of the language; write `or(a, b)`"),
+    (
+        "r0 = id",
+        "r0 = id / 2",
+        "line 5, column 9: `/` is no word of the language; a comment begins with `#`, and half of x is `shr(x, 1)`",
+    ),
+    (
+        "r0 = id",
+        "r0 = id % 3",
+        "line 5, column 9: `%` is no word of the language; a comment begins with `#`, "
+        "and there is no remainder: that of 2 is `and(x, 1)`",
+    ),
+    (
+        "finish r0",
+        "finish r(0)",
+        "line 10, column 8: `r` is no word of the language; the message from the right is `R`, and registers are `r0` to `r7`",
+    ),
+    (
+        "finish r0",
+        "finish r_0",
+        "line 10, column 8: `r` is no word of the language; the message from the right is `R`, and registers are `r0` to `r7`",
+    ),
+    (
+        "finish r0",
+        "finish r 1",
+        "line 10, column 8: `r` is no word of the language; the message from the right is `R`, and registers are `r0` to `r7`",
+    ),
+    (
+        "finish r0",
+        "finish r0.bit",
+        "line 10, column 10: `.` is no word of the language; numbers are whole, and an operation stands before its operands, as in `bit(a, i)`",
+    ),
+    (
+        "finish r0",
+        "finish 1,000",
+        "line 10, column 9: `,` cannot stand here; wanted the end of the text; commas stand between operands alone",
+    ),
+    ("finish r0", "finish 1e3", "line 10, column 8: `1e3` is no word of the language; a number has digits alone"),
+    ("finish r0", "finish 5u", "line 10, column 8: `5u` is no word of the language; a number has digits alone"),
+    ("finish r0", "finish 0b101", "line 10, column 8: `0b101` is no word of the language; numbers are decimal"),
+    ("finish r0", "finish .5", "line 10, column 8: `.` is no word of the language; numbers are whole"),
+    ("finish r0", "finish +1", "line 10, column 8: `+` is no word of the language; numbers have no sign"),
+    (
+        "finish r0",
+        "finish r0, r0",
+        "line 10, column 10: `,` cannot stand here; wanted the end of the text; commas stand between operands alone",
+    ),
+]
+
+# Texts that are no programs, and the notes.
+FILES = [
+    (b"(* a program *)\nrounds 1\n", "line 1, column 1: `(` cannot stand here; wanted `rounds`; a comment begins with `#`"),
+    (b"<!-- a program -->\n", "line 1, column 1: `<` is no word of the language; a comment begins with `#`"),
+    (b";; a program\nrounds 1\n", "line 1, column 1: `;` is no word of the language; a comment begins with `#`"),
+    (b"REM a program\nrounds 1\n", "line 1, column 1: `REM` is no word of the language; a comment begins with `#`"),
+    (b"'''a program'''\nrounds 1\n", "line 1, column 1: `'` is no word of the language; a comment begins with `#`"),
+    (b"! a program\nrounds 1\n", "line 1, column 1: `!` is no word of the language; a comment begins with `#`"),
+    (b"> rounds 1\n> channels 6\n", "line 1, column 1: `>` is no word of the language; leave out the prompt before each line"),
+    (
+        b"1: rounds 1\n2: channels 6\n",
+        "line 1, column 1: `1` cannot stand here; wanted `rounds`; leave out the numbers of the lines",
+    ),
+    (b"```\nrounds 1\n```\n", "line 1, column 1: ``` is no word of the language; leave out the marks around the program"),
+    (b'{"rounds": 1}\n', "line 1, column 1: `{` is no word of the language; a program begins with `rounds`, without brackets"),
+    (
+        b"# a program\rrounds 1\rchannels 6\r",
+        "line 1, column 33: the text ends here; wanted `rounds`; a comment goes up to a line feed, and this text has none",
+    ),
+    (b"+rounds 1\n+channels 6\n", "line 1, column 1: `+` is no word of the language; this is a patch and no program"),
+    (b"--- a/cv1.txt\n+++ b/cv1.txt\n", "line 1, column 1: `-` is no word of the language; this is a patch and no program"),
+    (b"\x7fELF\x02\x01\x01\x00", "line 1, column 1: `\\x7f` is no word of the language; this byte is of no text"),
+    (b"# only a comment\n", "line 2, column 1: the text ends here; wanted `rounds`; the text has blanks and comments alone"),
+    (
+        b"rounds 1 \xe2\x80\x93 one\n",
+        "line 1, column 10: a byte over 127; a program text is ASCII, in its comments too; this is a dash or a minus sign that is not ASCII",
+    ),
+    (
+        b"rounds 1\n# \xe2\x80\x9cone\xe2\x80\x9d\n",
+        "line 2, column 3: a byte over 127; a program text is ASCII, in its comments too; this is a typographic quotation mark: write a plain one",
+    ),
+    (
+        b"# na\xefve\nrounds 1\n",
+        "line 1, column 5: a byte over 127; a program text is ASCII, in its comments too; the file may be Latin-1: save it as ASCII",
+    ),
+    (
+        b"rounds 1\xef\xbc\x8cchannels 6\n",
+        "line 1, column 9: a byte over 127; a program text is ASCII, in its comments too; write letters and marks of ASCII",
+    ),
+    (b"p cnf 360 1200\n1 2 3 0\n", "line 1, column 1: `p` is no word of the language; this is a formula for a solver"),
+]
+
+# Texts that are no tables, the lines at fault, and the advice.
+TABLES = [
+    (b"nbhd-table 3\nrounds 0 ids 2 channels 2\n0 : 0\n1 : 1\nend\n", 1, "its first line is `nbhd-table 2`, or `nbhd-table 1`"),
+    (b"nbhd table 1\nrounds 0 ids 2 channels 2\n0 : 0\n1 : 1\nend\n", 1, "its first line is `nbhd-table` and the version"),
+    (b"NBHD-TABLE 1\nrounds 0 ids 2 channels 2\n0 : 0\n1 : 1\nend\n", 1, "its first line is `nbhd-table` and the version"),
+    (b"nbhd-table\nrounds 0 ids 2 channels 2\n0 : 0\n1 : 1\nend\n", 1, "its first line is `nbhd-table` and the version"),
+    (
+        b"rounds 0 ids 2 channels 2 near 1 far 0\n0 : 0\n1 : 1\nend\n",
+        1,
+        "its first line, `nbhd-table 2` or `nbhd-table 1`, is missing",
+    ),
+    (b"0 : 0\n1 : 1\nend\n", 1, "its first two lines are missing"),
+    (b"nbhd-table 1\nround 0 ids 2 channels 2\n0 : 0\n", 2, "it begins with `rounds` and a number"),
+    (b"nbhd-table 1\nrounds 0 id 2 channels 2\n0 : 0\n", 2, "`ids` and a number come second"),
+    (b"nbhd-table 1\nrounds 0 ids 2 colours 2\n0 : 0\n", 2, "`channels` and a number come third"),
+    (b"nbhd-table 1\nrounds 0 ids two channels 2\n0 : 0\n", 2, "`ids` and a number come second"),
+    (b"nbhd-table 1\nrounds 0, ids 2, channels 2\n0 : 0\n", 2, "this line has no commas"),
+    (b"nbhd-table 1\nrounds 0 ids 2 channels 0\n0 : 0\n", 2, "`channels` is 1 to 4096"),
+    (b"nbhd-table 1\nrounds 0 ids 2 channels 5000\n0 : 0\n", 2, "`channels` is 1 to 4096"),
+    (b"nbhd-table 1\nrounds 5 ids 12 channels 2\n", 2, "`rounds` is 0 to 4"),
+    (
+        b"nbhd-table 1\nrounds 0 ids 2 channels 2 near 1 far 0\n0 : 0\n",
+        2,
+        "version 1 ends this line with `channels` and its number",
+    ),
+    (b"nbhd-table 2\nrounds 0 ids 2 channels 2\n0 : 0\n", 2, "version 2 has `near` and `far` in this line"),
+    (b"nbhd-table 2\nrounds 0 ids 2 channels 2 near 0 far 0\n0 : 0\n", 2, "`near` is 1 to 4096"),
+    (b"nbhd-table 2\nrounds 0 ids 2 channels 2 far 0 near 1\n0 : 0\n", 2, "`near` and a number come fourth"),
+    (b"nbhd-table 1\nrounds 0 ids 2 channels 2\n0 = 0\n", 3, "a line is the identifiers of a window, ` : ` and a channel"),
+    (b"nbhd-table 1\nrounds 0 ids 2 channels 2\n0: 0\n", 3, "a line is the identifiers of a window, ` : ` and a channel"),
+    (b"nbhd-table 1\nrounds 0 ids 2 channels 2\n0 : 0\n1 : 1\nEND\n", 5, "the last line is `end`"),
+    (b"nbhd-table 1\nrounds 0 ids 2 channels 2\n0 : 0\n1 : 1\nend\n0 : 0\n", 6, "nothing follows the line `end`"),
+    (b"nbhd-table 1\nrounds 0 ids 3 channels 3\n0 : 0\n1 : 1\nend\n", 5, "lines are missing before it"),
+    (b"nbhd-table 1\nrounds 0 ids 2 channels 2\n0 : 0\n1 : \n", 4, "its channel is missing"),
+    (b"nbhd-table 1\nrounds 0 ids 2 channels 2\n0 : 0.5\n", 3, "a number has digits alone"),
+    (b"nbhd-table 1\nrounds 0 ids 2 channels 2\n00 : 0\n", 3, "numbers have no zeros before them"),
+]
+
+
+def starts():
+    """Words, inputs and the first lines of the notes."""
+    for old, new, note in BRACKETS + HEADER + WORDS + INFIX:
+        yield "check --ids 8", CV1.replace(old.encode(), new.encode(), 1), f"nbhd: {note}\n"
+    for text, note in FILES:
+        yield "check --ids 8", text, f"nbhd: {note}\n"
+    for text, line, advice in TABLES:
+        head = f"nbhd: line {line}, column 1: this line has not the form that `nbhd table` writes"
+        yield "audit", text, f"{head}; {advice}\n"

@@ -1,0 +1,180 @@
+// The modules of the page that need no document.
+
+import assert from "node:assert/strict";
+import { readFileSync } from "node:fs";
+import { test } from "node:test";
+
+import { readRefusal } from "../../page/faults.js";
+import { headRows, OPERATIONS, partTokens, pieces, roundsOf } from "../../page/language.js";
+import { fewerChannels } from "../../page/least.js";
+import { clamp, whyNoNumber } from "../../page/numbers.js";
+import { numerals } from "../../page/numerals.js";
+import { readRing, whyNoRing, withCommas } from "../../page/ring-text.js";
+import { countChannels, edgesOf, leastBytes, readTable } from "../../page/table.js";
+import { equalPairs, nameOf, sentenceOf, stepsOf } from "../../page/trace.js";
+import { treesIn, treesOf } from "../../page/trees.js";
+import { readNo } from "../../page/verdict.js";
+
+const FAULTY = "rounds 1\nchannels 6\nregisters 1\nstart\nr0 = id\nround\n  send lift 0\n";
+const TABLE = "nbhd-table 2\nrounds 0 ids 3 channels 2 near 1 far 0\n0 : 0\n1 : 1\n2 : 0\nend\n";
+const TRACE = "start r0 5 1 3 7\nround 1 left 0 0 0 0\nround 1 right 5 1 3 7\nround 1 r0 2 4 3 5\nfinish 2 4 3 5\n";
+
+test("refusal: a note with a place", () => {
+  const index = FAULTY.indexOf("lift");
+  const line = `text fault N3 at ${index}`;
+  const note = "`lift` is no word of the language";
+  const found = readRefusal({ out: `${line}\n`, note: `nbhd: line 7, column 8: ${note}\n    send lift 0\n         ^\n` }, FAULTY);
+  assert.deepEqual(found, { code: "N3", line, note, at: { row: 7, column: 8, index } });
+  assert.deepEqual(readRefusal({ out: `${line}\n`, note: "" }, FAULTY).at, found.at);
+});
+
+test("refusal: a note without a place, and of two lines", () => {
+  const first = "channels may be as large as 11: write `channels 12` or more";
+  const out = "check fault C4 bound 11\n";
+  const { note, at } = readRefusal({ out, note: `nbhd: ${first}\n` }, FAULTY);
+  assert.deepEqual([note, at], [first, null]);
+  const second = "bounds of r0 after `start` and each round: 8 7";
+  assert.equal(readRefusal({ out, note: `nbhd: ${first}\nnbhd: ${second}\n` }, FAULTY).note, `${first} – ${second}`);
+});
+
+test("refusal: a place of a program that is not accepted", () => {
+  const note = "nbhd: line 5, column 6: `L` and `R` can be read in a round alone\n  r0 = id\n       ^\n";
+  assert.equal(readRefusal({ out: "check fault C3\n", note }, FAULTY).at.index, FAULTY.indexOf("id"));
+});
+
+test("refusal: refused words", () => {
+  const line = (note) => readRefusal({ out: "", note }, FAULTY).line;
+  assert.equal(line("nbhd: bad ring\n"), "bad ring");
+  assert.equal(line("nbhd: bad ring\nnbhd: part 2, ` 1`, is no number\n"), "bad ring – part 2, ` 1`, is no number");
+  const words = "invalid value '65' for '--ids <M>': 65 is no";
+  assert.equal(line(`error: ${words}\n\nFor more information, try '--help'.\n`), words);
+  assert.equal(readRefusal({ refused: "four runs are under way already" }, FAULTY).line, "four runs are under way already");
+});
+
+test("refusal: bytes are counted, not UTF-16 units", () => {
+  const text = "# é🙂\nx";
+  assert.deepEqual(readRefusal({ out: "text fault N3 at 9\n", note: "" }, text).at, { row: 2, column: 1, index: text.indexOf("x") });
+});
+
+test("language: pieces are the text, without gaps", () => {
+  for (const text of ["", "r0 = add(r0, L) # é🙂\n", FAULTY, "r9 r10 0x5 send_left\t(,"]) {
+    const found = pieces(text);
+    assert.equal(found.map((piece) => piece.text).join(""), text);
+    for (const { text: part, at } of found) assert.equal(text.slice(at, at + part.length), part);
+  }
+  const kinds = (text) => pieces(text).map(({ text: part, kind }) => [part, kind]).filter(([, kind]) => kind);
+  assert.deepEqual(kinds("send left bit(r0, 07) # L"), [
+    ["send", "part"], ["left", "part"], ["bit", "operation"], ["r0", "register"], ["07", "number"], ["# L", "comment"],
+  ]);
+  assert.deepEqual(kinds("R r10 lift"), [["R", "input"], ["r10", "unknown"], ["lift", "unknown"]]);
+});
+
+test("language: the head and the rounds of a text", () => {
+  assert.equal(headRows(["# a", "", "  # b", "rounds 1"]), 3);
+  assert.equal(headRows(["rounds 1"]), 0);
+  assert.equal(headRows(["# a", ""]), 0);
+  assert.equal(roundsOf("# rounds 3\n  rounds  2\n"), 2);
+  assert.equal(roundsOf(""), 0);
+});
+
+test("language: the operations are those of docs/LANGUAGE.md", () => {
+  const page = readFileSync(new URL("../../docs/LANGUAGE.md", import.meta.url), "utf-8");
+  const section = page.slice(page.indexOf("| Operation | Value |")).split("\n\n")[0];
+  const rows = section.split("\n").slice(2).map((line) => line.split(" | ").map((part) => part.replace(/^\| | \|$/g, "")));
+  assert.deepEqual(OPERATIONS.map(({ forms }) => forms), rows.map(([forms]) => forms.replaceAll("`", "").split(/, (?=\w+\()/)));
+  rows.forEach(([, value], number) => {
+    const { value: own, examples } = OPERATIONS[number];
+    const [, said, example] = value.match(/^(.*?)(?:: `([^`]*)`)?$/);
+    assert.equal(own, said);
+    if (example) assert.ok(examples.includes(example), example);
+  });
+});
+
+test("language: each operation has an example with as many operands", () => {
+  const shape = (form) => `${form.split("(")[0]}/${form.split(",").length}`;
+  for (const { forms, examples } of OPERATIONS) assert.deepEqual(examples.map(shape), forms.map(shape));
+});
+
+test("ring: a text of a ring", () => {
+  assert.equal(withCommas(" 5 ,1\t3  7 ,"), "5,1,3,7");
+  assert.deepEqual(readRing("5,1,3,7"), [5, 1, 3, 7]);
+  assert.equal(readRing("5,x"), null);
+  assert.equal(readRing(""), null);
+  assert.equal(whyNoRing("5,1"), null);
+  assert.equal(whyNoRing(""), "Write a ring, or take a random one.");
+  assert.match(whyNoRing("5,-1"), /^`-1` is no identifier/);
+});
+
+test("numbers: an emptied field", () => {
+  assert.equal(whyNoNumber("ids", "8"), null);
+  for (const text of ["", "x", "-1", "1.5"]) assert.match(whyNoNumber("far", text), /^A number is wanted: /);
+  assert.deepEqual([0, 5, 99].map((number) => clamp(number, 4, 8)), [4, 5, 8]);
+});
+
+test("table: windows, channels and edges", () => {
+  const table = readTable(TABLE);
+  assert.deepEqual(table, { rounds: 0, ids: 3, windows: ["0", "1", "2"], channels: [0, 1, 0] });
+  assert.deepEqual(countChannels(table.channels), [[0, 2], [1, 1]]);
+  assert.deepEqual(edgesOf(table), [[0, 1], [0, 2], [1, 0], [1, 2], [2, 0], [2, 1]]);
+  const lines = TABLE.split("\n").slice(2, 5);
+  assert.equal(leastBytes(table.windows.length === 3 && { ids: 3, rounds: 0, windows: 3 }), lines.join("\n").length + 1);
+});
+
+test("trace: the steps of a run", () => {
+  const steps = stepsOf(TRACE);
+  assert.deepEqual(steps.map(nameOf), ["start", "1 send", "1 assign", "finish"]);
+  assert.deepEqual(steps[0].registers, [[5, 1, 3, 7]]);
+  assert.deepEqual([steps[1].left, steps[1].right, steps[1].registers], [[0, 0, 0, 0], [5, 1, 3, 7], [[5, 1, 3, 7]]]);
+  assert.deepEqual([steps[2].before, steps[2].registers], [[[5, 1, 3, 7]], [[2, 4, 3, 5]]]);
+  assert.deepEqual(steps[3].channels, [2, 4, 3, 5]);
+  assert.deepEqual(stepsOf("start r0 1 2\nfinish 1 2\n").map(({ kind }) => kind), ["start", "finish"]);
+});
+
+test("trace: sentences", () => {
+  const steps = stepsOf(TRACE);
+  assert.match(sentenceOf(steps[2], [5, 1, 3, 7]), /the 3 identifiers within distance 1\.$/);
+  assert.match(sentenceOf(steps[3], [5, 1, 3, 7]), /neighbours’ channels differ\.$/);
+  assert.deepEqual(equalPairs([1, 1, 2, 1]), [0, 3]);
+  const said = sentenceOf({ kind: "finish", channels: [1, 1, 2, 1] }, [5, 1, 3, 7]);
+  assert.match(said, /Neighbours 5 and 1 have the same channel; so has 1 other pair\.$/);
+});
+
+test("verdict: a no of neighbours and one at distance two", () => {
+  assert.deepEqual(readNo("no: ring 0 1 2 3 place 3 channel 0"), { ring: [0, 1, 2, 3], places: [3, 0], channels: [0, 0] });
+  assert.deepEqual(readNo("no: ring 0 2 1 places 0 2 channels 0 1"), { ring: [0, 2, 1], places: [0, 2], channels: [0, 1] });
+  assert.equal(readNo("yes: 24 tuples"), null);
+});
+
+test("least: what is known of fewer channels", () => {
+  assert.equal(fewerChannels(1, 8, 1, 0, 6), "Fewer channels? There is a table with 4 channels, and with 3 channels there is none.");
+  assert.equal(fewerChannels(1, 8, 1, 0, 4), "Fewer channels? No: with 3 channels there is none.");
+  assert.equal(fewerChannels(1, 8, 1, 0, 3), "No program does it with so few: with 3 channels there is no table.");
+  assert.equal(fewerChannels(3, 8, 1, 0, 3), undefined);
+});
+
+test("numerals: decimal, and binary as wide as the widest", () => {
+  assert.deepEqual(numerals([5, 0, 10], "10"), ["5", "0", "10"]);
+  assert.deepEqual(numerals([5, 0, 10], "2"), ["0101", "0000", "1010"]);
+  assert.deepEqual(numerals([0], "2"), ["0"]);
+  assert.deepEqual(numerals([4294967295], "2"), ["1".repeat(32)]);
+});
+
+test("trees: the trees of an explanation, and those of a step", () => {
+  const text = "start r0\n id 5\nround 1 left\n 0 0\nround 1 right\n r0 5\nround 1 r0\n add 2\n  L 1\n  1 1\nfinish\n r0 2\n";
+  const trees = treesOf(text);
+  assert.deepEqual(trees.map(({ head, parts }) => [head, parts.length]), [
+    ["start r0", 1], ["round 1 left", 1], ["round 1 right", 1], ["round 1 r0", 3], ["finish", 1],
+  ]);
+  assert.deepEqual(trees[3].parts[1], { depth: 2, word: "L", value: 1, number: 4 });
+  const heads = (kind, round) => treesIn(trees, { kind, round }).map(({ head }) => head);
+  assert.deepEqual([heads("start", 0), heads("send", 1), heads("assign", 1), heads("finish", 1)], [
+    ["start r0"], ["round 1 left", "round 1 right"], ["round 1 r0"], ["finish"],
+  ]);
+  assert.deepEqual(heads("assign", 2), []);
+});
+
+test("language: the words of expressions, as the trees have them", () => {
+  const text = "rounds 1 # r0 = L\nchannels 6 registers 1\nstart r0=id round send left 0 send right r0\nr0 = add(L, 1) finish r0";
+  const words = partTokens(text).map(({ at, length }) => text.slice(at, at + length));
+  assert.deepEqual(words, ["id", "0", "r0", "add", "L", "1", "r0"]);
+});

@@ -1,0 +1,66 @@
+"""The parts of the page and of its server, each alone: the modules without a document by `node --test`, where there is one, and the
+modules of page_server."""
+
+import re
+import shutil
+import subprocess
+import sys
+import time
+
+from http_tests import STUB
+from steps import CV1, ROOT, STEPS
+
+sys.path.insert(0, str(ROOT))
+
+from page_server import orders, runs
+from page_server.errors import ClientGone, Refusal
+from page_server.files import page_files
+
+RESULT = re.compile(r"^(not ok|ok) \d+ - (.*)$", re.MULTILINE)
+
+
+def modules():
+    """Whether there is a node to test the modules with."""
+    node = shutil.which("node")
+    if node is None:
+        return False
+    tests = ROOT / "tools/page_test/modules.test.mjs"
+    ran = subprocess.run([node, "--test", "--test-reporter=tap", tests], capture_output=True, text=True)
+    results = RESULT.findall(ran.stdout)
+    STEPS.check("the modules are tested", len(results) >= 16, ran.stdout + ran.stderr)
+    for result, name in results:
+        STEPS.check(name, result == "ok", ran.stdout)
+    return True
+
+
+def refused(call, *words):
+    """The status of a refusal, `None` without one."""
+    try:
+        call(*words)
+    except Refusal as refusal:
+        return refusal.status
+    return None
+
+
+def server_parts():
+    body = b'{"command": "trace", "options": {"ids": "8", "ring": "-h"}, "text": "\\u00e9"}'
+    STEPS.equal("words and text", orders.words_and_text(body), (["trace", "--ids=8", "--ring=-h"], "\u00e9".encode()))
+    for broken in (b"", b"null", b'{"command": "table", "options": {"ring": "1"}, "text": ""}'):
+        STEPS.equal(f"no words: {broken}", refused(orders.words_and_text, broken), 400)
+    files = page_files(ROOT)
+    STEPS.equal("the first page", files["/"], ("text/html; charset=utf-8", (ROOT / "page/index.html").read_bytes()))
+    STEPS.equal("a page of docs", files["/docs/LANGUAGE.md"][0], "text/plain; charset=utf-8")
+    STEPS.check("no file but these", not {"/package.json", "/index.html", "/docs/pictures"} & set(files))
+    present = runs.Runs(STUB)
+    here = lambda: False
+    STEPS.equal("a run", present.run(["check"], b"echo", here), (0, b"stub\n['check']\n", b""))
+    STEPS.equal("a flood", refused(present.run, [], b"flood", here), 503)
+    begin = time.monotonic()
+    try:
+        present.run([], b"sleep 60", lambda: time.monotonic() > begin + 0.2)
+        gone = False
+    except ClientGone:
+        gone = True
+    STEPS.check("a run whose client is gone", gone and time.monotonic() < begin + 5 and not present.children)
+    present.stop_all()
+    STEPS.equal("no run after the end", refused(present.run, [], CV1.encode(), here), 503)

@@ -1,0 +1,354 @@
+"""The page under a finger, by keys and a screen reader, on small and on enlarged screens and on paper; its help and its colours."""
+
+import json
+import re
+import shutil
+import subprocess
+import time
+
+from steps import CV1, LDB, ROOT, STEPS, nbhd
+
+START = {"view": "run", "ids": "8", "ring": "5,1,3,7", "example": "cv1.txt"}
+INSIDE = "(e => { const r = e.getBoundingClientRect(); return r.top >= 0 && r.bottom <= innerHeight; })"
+CLOSED = "!document.querySelector('#help').matches(':popover-open')"
+
+
+def help_panel(page):
+    """The help has the operations, whose examples are so, and links to pages; one can type beside it."""
+    page.open(**START)
+    page.click("[popovertarget=help]")
+    STEPS.equal("the help is open", page.value(CLOSED), False)
+    table = (ROOT / "docs/LANGUAGE.md").read_text(encoding="utf-8").split("| Operation | Value |")[1].split("\n\n")[0]
+    named = [form for row in table.splitlines() for form in re.findall(r"`(\w+\([^`]*\))`", f"{row} | ".split(" | ")[0])]
+    STEPS.equal("its operations", page.texts("#operations th code"), named)
+    for example in page.texts("#operations td:last-child code"):
+        expression, value = example.split(" = ")
+        text = f"rounds 0 channels 1 registers 1 start r0 = {expression} finish 0"
+        trace = nbhd(text, "trace", "--ids", "8", "--ring", "0,1")
+        STEPS.equal(f"{example} is so", f"\n{trace}".split("\nstart r0 ")[1].split("\n")[0], f"{value} {value}")
+    links = page.value("[...document.querySelectorAll('#help a')].map(a => a.href)")
+    for link in links:
+        answer = page.value(f"fetch({json.dumps(link)}).then(r => [r.status, r.headers.get('content-type')])")
+        STEPS.equal(f"the link {link}", answer, [200, "text/plain; charset=utf-8"])
+    STEPS.check("there are links", len(links) >= 5, links)
+    page.fill("#text", LDB)
+    STEPS.equal("it stays while one types", page.value(CLOSED), False)
+    page.browser.key("Escape")
+    STEPS.equal("Escape closes it", page.value(CLOSED), True)
+
+
+def colours(page):
+    """The choice of light and dark is kept, and the button names it; the system's own is followed."""
+    page.browser.size(1280, 900)
+    looks = "[document.querySelector('#theme').textContent, getComputedStyle(document.body).backgroundColor]"
+    page.open(**START)
+    light = page.value(looks)
+    STEPS.equal("light is named", light[0], "Colours: light")
+    page.click("#theme")
+    dark = page.value(looks)
+    STEPS.check("dark is named and seen", dark[0] == "Colours: dark" and dark[1] != light[1], dark)
+    page.open(**START)
+    STEPS.equal("dark is kept over a new load", page.value(looks), dark)
+    page.open(view="judge", ids="8", example="ldb.txt")
+    STEPS.equal("dark is kept over a link", page.value(looks), dark)
+    page.click("#theme")
+    page.open(**START)
+    STEPS.equal("light again", page.value(looks), light)
+    page.browser.size(1280, 900, dark=True)
+    page.wait("the system is followed", f"{looks}[0] === 'Colours: dark'")
+    page.browser.size(1280, 900)
+
+
+def touch(page):
+    """A finger drags nodes and unused identifiers, and scrolls the page elsewhere."""
+    page.browser.size(390, 844)
+    page.browser.fingers(True)
+    try:
+        page.open(**START)
+        page.wait_ring("the ring for a finger", "5,1,3,7")
+        page.value("scrollTo(0, 300)")
+        top, right, bottom = (page.middle(f".node[data-place='{place}'] .disc") for place in range(3))
+        before = page.value("scrollY")
+        between = ((top[0] + right[0]) / 2 + 12, (top[1] + right[1]) / 2 - 12)
+        page.browser.swipe(bottom, (bottom[0] + 15, bottom[1] - 15), between)
+        page.wait_ring("a node dragged by a finger", "5,3,1,7")
+        STEPS.equal("the page has not scrolled", page.value("scrollY"), before)
+        spot = page.middle(".node[data-place='2'] .disc")
+        page.browser.swipe(spot)
+        STEPS.equal("a node that is touched shows its window", page.count(".window.known"), 1)
+        chip = page.middle(".chip[aria-label='Add 6']")
+        stage = page.middle("#stage svg")
+        page.browser.swipe(chip, (chip[0], chip[1] - 20), (stage[0] + 60, stage[1] - 70))
+        page.wait("an identifier dragged in", "/^5,6,3,1,7$/.test(document.querySelector('#ring').value)")
+        centre = page.middle("#stage svg")
+        page.browser.swipe(centre, *((centre[0], centre[1] - 20 * step) for step in range(1, 8)))
+        page.wait("a finger between the nodes scrolls", f"scrollY > {before} + 40")
+        STEPS.check("keys are not named to fingers", page.text(".hint").startswith("Touch a node"), page.texts(".hint"))
+    finally:
+        page.browser.fingers(False)
+        page.browser.size(1280, 900)
+
+
+def readers(page):
+    """Refusals stand in live regions, and the nodes of a ring are one tab stop."""
+    page.open(**START)
+    page.wait_ring("the ring for a reader", "5,1,3,7")
+    invalid = "document.querySelector('#ring').ariaInvalid"
+    STEPS.equal("a ring is valid", page.value(invalid), "false")
+    for ring, said in (("5,1,3", "ring fault G1"), ("5,x", "x is no identifier"), ("5,1,3,8", "ring fault G3")):
+        page.fill("#ring", ring)
+        page.wait(f"the ring {ring} is refused", f"document.querySelector('[role=status] #run-refused').textContent.startsWith('{said}')")
+        STEPS.equal(f"the ring {ring} is invalid", page.value(invalid), "true")
+    page.fill("#ring", "5,1,3,7")
+    page.wait("it is valid again", f"{invalid} === 'false'")
+    described = "document.querySelector('#ring').getAttribute('aria-describedby').split(' ').every(id => document.getElementById(id))"
+    STEPS.check("the ring names its refusal", page.value(described))
+    page.open(view="table", ids="86", text=LDB.replace("channels 3", "channels 86").replace("ldb(r0, L)", "r0"))
+    page.wait("a refused table", "document.querySelector('[role=status] #table-refused').textContent")
+    ring = ",".join(str(i * 5 % 1024) for i in range(1024))
+    page.open(view="run", ids="1024", ring=ring, example="identity.txt")
+    page.wait("a ring of 1,024", "document.querySelectorAll('#stage .node').length === 1024")
+    STEPS.equal("its tab stops", page.count("#stage .node[tabindex='0']"), 1)
+    page.focus("#stage .node[tabindex='0']")
+    for key, place in (("ArrowRight", "1"), ("ArrowDown", "2"), ("ArrowLeft", "1"), ("ArrowUp", "0"), ("ArrowLeft", "1023")):
+        page.browser.key(key)
+        STEPS.equal(f"{key} goes to the place {place}", page.value("document.activeElement.dataset.place"), place)
+    stops = page.value("[...document.querySelectorAll('#stage .node[tabindex=\"0\"]')].map(e => e.dataset.place)")
+    STEPS.equal("the tab stop goes along", stops, ["1023"])
+
+
+def screens(page):
+    """On a stage the rule and the ring are in view together; on a phone nothing is too wide, and the ring begins on the first screen."""
+    for width, height, scale in ((1280, 800, 1), (853, 533, 1.5), (640, 400, 2)):
+        page.browser.size(width, height, scale=scale)
+        page.open(**START)
+        page.wait_ring(f"the ring at {width}", "5,1,3,7")
+        page.value("new Promise(done => setTimeout(done, 200))")
+        rule = "/round$|send|r0 =|finish/.test(e.textContent.trim()) && !e.querySelector('.comment')"
+        rows = f"[...document.querySelectorAll('.row')].filter(e => {rule})"
+        box = "document.querySelector('#editor').getBoundingClientRect()"
+        seen = f"{rows}.every(e => (r => r.top >= {box}.top && r.bottom <= {box}.bottom + 1)(e.getBoundingClientRect()))"
+        STEPS.check(f"the rule is in view at {width}", page.value(f"{rows}.length > 4 && {seen} && {INSIDE}(document.querySelector('#editor'))"))
+        discs = f"[...document.querySelectorAll('#stage .disc')].every({INSIDE})"
+        STEPS.check(f"the ring is in view at {width}", page.value(discs))
+    for width, height in ((390, 844), (320, 568)):
+        page.browser.size(width, height)
+        for name, state in SMALL.items():
+            page.open(**{**START, **state})
+            page.wait(f"{name} at {width}", "document.querySelector('.stage svg, .windows li, .say.refused, .refused:not([hidden])')")
+            STEPS.check(f"{name} at {width}: nothing is too wide", page.value("document.documentElement.scrollWidth <= innerWidth"))
+        page.open(**START)
+        page.wait_ring(f"the ring at {width}", "5,1,3,7")
+        STEPS.check(f"the ring begins on the first screen at {width}", page.value(f"{INSIDE}(document.querySelector('.node .disc'))"))
+        page.click("[popovertarget=help]")
+        STEPS.check(f"the help at {width} is not too wide", page.value("(e => e.scrollWidth <= e.clientWidth)(document.querySelector('#help'))"))
+    page.browser.size(1280, 900)
+
+
+SMALL = {
+    "run": {},
+    "a refused ring": {"ring": "5,1,3"},
+    "a large ring": {"ids": "32", "ring": ",".join(str(7 * i % 32) for i in range(24))},
+    "yes": {"view": "judge"},
+    "no": {"view": "judge", "example": "ldb.txt"},
+    "table": {"view": "table"},
+    "a long table": {"view": "table", "ids": "32"},
+    "graph": {"view": "graph", "ids": "5"},
+    "too many windows": {"view": "graph"},
+    "a fault": {"text": CV1.replace(", 1), bit", ", 1) bit")},
+}
+
+
+def numbers(page):
+    """An emptied number says what is wanted, and a random ring has enough nodes."""
+    page.open(**START)
+    page.wait_ring("a ring before its number", "5,1,3,7")
+    page.listen()
+    page.fill("#ids", "")
+    page.wait("no identifiers", "/^A number is wanted: how many identifiers/.test(document.querySelector('.check .note')?.textContent)")
+    STEPS.equal("the field is invalid", page.value("document.querySelector('#ids').ariaInvalid"), "true")
+    STEPS.equal("nbhd is not asked", page.asked("check", "ids"), [])
+    page.fill("#ids", "8")
+    page.wait("a number again", "document.querySelector('.check.good') && document.querySelector('#ids').ariaInvalid === 'false'")
+    page.click("#tab-judge")
+    for name in ("near", "far"):
+        page.fill(f"#{name}", "")
+        page.wait(f"no {name}", "/^A number is wanted: by how much/.test(document.querySelector('#verdict').textContent)")
+        page.fill(f"#{name}", "1")
+        page.wait(f"{name} again", "document.querySelector('#verdict .word')")
+    page.open(view="run", ids="10", ring="0,1,2,3,4,5,6,7,8,9", example="cv_to_three.txt")
+    page.wait("a run of four rounds", "document.querySelector('#stage .badge')")
+    STEPS.equal("the least random ring", page.value("(e => [e.min, e.max, e.value])(document.querySelector('#random-size'))"), ["10"] * 3)
+    page.fill("#random-size", "2")
+    page.click("#random")
+    page.wait("a random ring has enough nodes", "document.querySelectorAll('#stage .badge').length === 10")
+    page.fill("#random-size", "")
+    page.click("#random")
+    STEPS.check("no size", "A number is wanted" in page.value("document.querySelector('#random-size').validationMessage"))
+
+
+def examples_by_name(page):
+    """A link to an example that is not there says so, and Ctrl-Z takes the choice of an example back."""
+    page.open(view="run", ids="8", ring="5,1,3,7", example="nosuch")
+    page.wait("no such example", "document.querySelector('#missing').checkVisibility()")
+    STEPS.equal("what it says", page.text("#missing"), "There is no example nosuch: this is cv1.txt.")
+    page.fill("#text", LDB)
+    STEPS.equal("it goes with the text", page.texts("#missing"), [])
+    own = LDB + "# of my own\n"
+    page.fill("#text", own)
+    page.wait("the own text is accepted", "document.querySelector('.check.good')")
+    page.click("#examples button:nth-of-type(1)")
+    page.wait("an example", "document.querySelector('#examples-button').title.startsWith('cv1')")
+    page.focus("#text")
+    page.browser.key("z", control=True)
+    page.wait("Ctrl-Z", f"document.querySelector('#text').value === {json.dumps(own)}")
+    STEPS.equal("its identifiers too", page.value("document.querySelector('#ids').value"), "8")
+
+
+def localhost(page):
+    """The page asked for at localhost is that of the address, with the state of the link."""
+    page.browser.open(page.url.replace("127.0.0.1", "localhost") + "#view=judge&ids=8&example=cv1.txt")
+    page.wait("the address in place of localhost", f"location.href.startsWith('{page.url}#view=judge')")
+    page.wait("its state", "document.querySelector('.verdict.yes')")
+
+
+def graph_by_distance(page):
+    """The graph asks how far apart neighbours' channels are to be, and mentions distance two."""
+    page.open(view="graph", ids="4", example="cv1.txt", near="2", far="1")
+    page.wait("a graph by near", "document.querySelectorAll('.graph .point').length === 24")
+    lines = [line for line in nbhd(CV1, "table", "--ids", "4").splitlines() if " : " in line]
+    channels = {window: int(channel) for window, channel in (line.split(" : ") for line in lines)}
+    edges = [(w, " ".join((*w.split()[1:], str(x)))) for w in channels for x in range(4) if str(x) not in w.split()]
+    close = [f"{a} → {b}" for a, b in edges if abs(channels[a] - channels[b]) < 2]
+    STEPS.equal("its red edges", page.count(".graph .edges.close .edge"), len(close))
+    STEPS.equal("their list", page.texts(".close-edges .code"), close[:24])
+    said = f"24 windows, 24 edges. {len(close)} join windows whose channels differ by less than 2. Distance two is no edge here: the judge looks at it."
+    STEPS.equal("its sentence", page.text("#graph-say"), said)
+    page.fill("#graph-near", "1")
+    page.wait("near 1", "/windows with equal channels/.test(document.querySelector('#graph-say').textContent)")
+    page.click("#tab-judge")
+    page.wait("the judge has the same near", "document.querySelector('#near').value === '1'")
+
+
+def paper(page):
+    """The printed page has the whole program, and the ring with its rounds or the judge's answer, and nothing to press."""
+    reader = shutil.which("pdftotext")
+    if reader is None:
+        print("page-test: not run: the text of the printed page, as there is no pdftotext")
+        return
+    long = "rounds 0\nchannels 8\nregisters 1\nstart\n" + "".join(f"# line {n} {'and more ' * 20}\n" for n in range(150)) + "r0 = id\nfinish r0\n"
+    trace = nbhd(CV1, "trace", "--ids", "8", "--ring", "5,1,3,7")
+    runs = {"a run": ({}, CV1, trace), "a long program": ({"text": long}, long, "start r0 5 1 3 7")}
+    runs["a no"] = ({"view": "judge", "example": "ldb.txt"}, LDB, "On the ring 0 1 2 3 the nodes 1 and 2 are neighbours and both have channel 0.")
+    runs["a yes"] = ({"view": "judge"}, CV1, "On every ring of 4 to 8 distinct identifiers below 8, neighbours’ channels differ.")
+    for name, (state, text, shown) in runs.items():
+        page.open(**{**START, **state})
+        page.wait(f"{name} before it is printed", "document.querySelector('#stage .badge, .verdict .word')")
+        made = subprocess.run([reader, "-layout", "-", "-"], input=page.browser.printed(), capture_output=True).stdout.decode()
+        found = "".join(made.split())
+        program = "".join(text.split())
+        STEPS.check(f"{name}: the program", program in found.replace("\f", ""), made[:300])
+        for line in shown.splitlines():
+            STEPS.check(f"{name}: {line}", "".join(line.split()) in found, made[-600:])
+        for word in ("Randomring", "Copylink", "Play", "Identifiers8", "Firststeps", "Runthisring", "arrowkeys", "Savetable", "decimal"):
+            STEPS.check(f"{name}: no control {word}", word not in found, made)
+
+
+def in_base_two(values):
+    """Numbers in binary, all as wide as the widest."""
+    width = max(len(f"{int(value):b}") for value in values)
+    return [f"{int(value):0{width}b}" for value in values]
+
+
+def binary(page):
+    """Identifiers, registers, messages and channels in binary, which the link keeps."""
+    page.open(**START, base="2")
+    page.wait_ring("the ring in binary", "5,1,3,7")
+    trace = {line.rsplit(" ", 4)[0]: line.split()[-4:] for line in nbhd(CV1, "trace", "--ids", "8", "--ring", "5,1,3,7").splitlines()}
+    STEPS.equal("identifiers in binary", page.texts(".ring .identifier"), ["101", "001", "011", "111"])
+    STEPS.equal("channels in binary", page.texts(".ring .badge-number"), in_base_two(trace["finish"]))
+    rows = page.value("[...document.querySelectorAll('.trace tbody tr')].map(r => [...r.children].map(c => c.textContent))")
+    for name, *values in rows:
+        STEPS.equal(f"{name} in binary", values, in_base_two(trace[name]))
+    page.focus("#stage")
+    page.browser.key("ArrowLeft")
+    STEPS.equal("registers in binary", page.texts(".ring .label"), [f"r0={value}" for value in in_base_two(trace["round 1 r0"])])
+    page.browser.key("ArrowLeft")
+    STEPS.equal("messages in binary", page.texts(".message.right text"), in_base_two(trace["round 1 right"]))
+    page.value("(e => { e.value = '10'; e.dispatchEvent(new Event('change', { bubbles: true })); })(document.querySelector('#base'))")
+    page.wait("decimal again", "document.querySelector('.message.right text').textContent === '5' && !location.hash.includes('base=')")
+
+
+ITEMS = "[...document.querySelectorAll('[role=treeitem]')]"
+
+
+def why(page):
+    """The tree of a node, by mouse, finger and keys, in both bases and at each kind of step."""
+    if "explain" not in nbhd("", "--help"):
+        print("page-test: not run: why, as nbhd has no explain")
+        return
+    lines = nbhd(CV1, "explain", "--ids", "8", "--ring", "5,1,3,7", "--place", "1").splitlines()
+    heads = [number for number, line in enumerate(lines) if not line.startswith(" ")]
+    trees = {lines[a]: lines[a + 1 : b] for a, b in zip(heads, [*heads[1:], len(lines)])}
+    steps = {"": ["start r0"], "1": ["round 1 left", "round 1 right"], "2": ["round 1 r0"], "end": ["finish"]}
+    for width, base, way in ((1280, "10", "mouse"), (1280, "2", "keys"), (390, "10", "finger"), (390, "2", "keys")):
+        page.browser.size(width, 900)
+        page.browser.fingers(way == "finger")
+        for step, wanted in steps.items():
+            page.open(**START, base=base, step=step)
+            page.wait(f"a run for why at {step}", "document.querySelectorAll('#stage .label').length === 4")
+            open_why(page, way)
+            page.wait(f"why at {step} by {way}", f"{ITEMS}.length")
+            found = page.value(f"{ITEMS}.map(e => [Number(e.ariaLevel), ...e.textContent.split(' ')])")
+            parts = [[(len(line) - len(line.lstrip()), *line.split()) for line in trees[head]] for head in wanted]
+            values = [in_base_two([part[2] for part in tree]) if base == "2" else [part[2] for part in tree] for tree in parts]
+            shown = [[part[0], part[1], value] for tree, texts in zip(parts, values) for part, value in zip(tree, texts)]
+            STEPS.equal(f"its trees at {step!r}, {width}, base {base}", found, shown)
+            STEPS.check("it is not too wide", page.value("document.documentElement.scrollWidth <= innerWidth"))
+    page.browser.fingers(False)
+    page.browser.size(1280, 900)
+    why_keys(page)
+
+
+def open_why(page, way):
+    """Opens the tree of the node at place 1."""
+    node = ".node[data-place='1']"
+    page.value("document.querySelector('#stage').scrollIntoView()")
+    if way == "keys":
+        page.focus(node)
+        page.browser.key("Enter")
+    elif way == "finger":
+        page.browser.swipe(page.middle(f"{node} .disc"))
+    else:
+        page.browser.drag(*[page.middle(f"{node} .disc")] * 2)
+
+
+def why_keys(page):
+    """Arrows go along the tree, whose parts mark their words and the other way round; Escape closes it."""
+    page.open(**START, step="2")
+    page.wait("a run for the keys of why", "document.querySelectorAll('#stage .label').length === 4")
+    open_why(page, "keys")
+    page.wait("a tree", f"{ITEMS}.length === 11")
+    asked = "[document.activeElement.textContent, document.querySelector('.ink .asked')?.textContent]"
+    for key, part, word in (
+        ("ArrowDown", "shl 4", "shl"),
+        ("ArrowRight", "ldb 2", "ldb"),
+        ("ArrowDown", "r0 1", "r0"),
+        ("ArrowDown", "L 5", "L"),
+        ("ArrowLeft", "ldb 2", "ldb"),
+        ("ArrowLeft", "shl 4", "shl"),
+        ("ArrowUp", "add 4", "add"),
+    ):
+        page.browser.key(key)
+        STEPS.equal(f"{key} leads to {part}", page.value(asked), [part, word])
+    STEPS.equal("one part of a tree is a tab stop", page.count("[role=treeitem][tabindex='0']"), 1)
+    at = CV1.index("bit(r0, ldb") + 4
+    page.value(f"(t => {{ t.focus(); t.setSelectionRange({at}, {at}); t.click(); }})(document.querySelector('#text'))")
+    STEPS.equal("a word marks its part", page.value(f"{ITEMS}.map(e => e.matches('.marked')).indexOf(true)"), 7)
+    page.focus("[role=treeitem]")
+    page.browser.key("Escape")
+    STEPS.equal("Escape closes it", page.count("[role=treeitem]"), 0)
+    STEPS.equal("and returns to the node", page.value("document.activeElement.dataset.place"), "1")
+
+
+SURFACES = [help_panel, colours, touch, readers, screens, numbers, examples_by_name, localhost, graph_by_distance, paper, binary, why]
