@@ -1,0 +1,4 @@
+-- Lemmas that several proofs share.
+mod Small
+mod Roots
+mod TraceLines

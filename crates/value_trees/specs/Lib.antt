@@ -1,0 +1,7 @@
+-- The definitions that the contracts of this crate cite: numbers in a base, the tree of an expression with the value of
+-- every part, how a place of a ring computes, and the laws of these.
+pub mod Numerals
+pub mod Trees
+pub mod Explanation
+pub mod Trace
+pub mod Laws
