@@ -11,14 +11,14 @@ use Rattle.value_trees.specs.Laws.{RootsAreFirst, StartsAreHeld, AssignedAreHeld
 use Rattle.std.proofs.Common.{append-nil}
 
 pub first : RootsAreFirst
-first b env level (Literal n) = record { others = []; whole = sym (append-nil _) }
-first b env level Identifier = record { others = []; whole = sym (append-nil _) }
-first b env level LeftMessage = record { others = []; whole = sym (append-nil _) }
-first b env level RightMessage = record { others = []; whole = sym (append-nil _) }
-first b env level (RegisterValue j) = record { others = []; whole = sym (append-nil _) }
-first b env level (One o x) = record { others = _; whole = refl }
-first b env level (Two o x y) = record { others = _; whole = refl }
-first b env level (Choose c x y) = record { others = _; whole = refl }
+first b env (Literal n) = record { others = []; whole = sym (append-nil _) }
+first b env Identifier = record { others = []; whole = sym (append-nil _) }
+first b env LeftMessage = record { others = []; whole = sym (append-nil _) }
+first b env RightMessage = record { others = []; whole = sym (append-nil _) }
+first b env (RegisterValue j) = record { others = []; whole = sym (append-nil _) }
+first b env (One o x) = record { others = _; whole = refl }
+first b env (Two o x y) = record { others = _; whole = refl }
+first b env (Choose c x y) = record { others = _; whole = refl }
 
 -- the item of a list of values
 mapped : (f : Term → ℕ) (es : List Term) (j : ℕ) (e : Term) → slice_get es j ≡ Some e → f e ≡ get_or (map f es) j 0

@@ -6,9 +6,9 @@ use Rattle.std.proofs.lemmas.List.FromFn.{map-range_with_len_more}
 use Rattle.node_program.specs.Term.{ProgramTree}
 use Rattle.node_program.specs.Node.{channel}
 use Rattle.node_program.specs.GlobalRounds.{state, channel_at, channels_of}
-use Rattle.value_trees.specs.Numerals.{row}
+use Rattle.numerals.specs.Numerals.{row}
 use Rattle.value_trees.specs.Trace.{of_places, row_line, register_lines, message_lines, round_lines, later_lines}
-use Rattle.value_trees.specs.declared.base.Base.{Base}
+use Rattle.numerals.specs.declared.base.Base.{Base}
 
 -- one more line after the text so far
 pub lines_more : (f : ℕ → List ℕ) (before : List ℕ) (n : ℕ)

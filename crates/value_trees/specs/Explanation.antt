@@ -6,11 +6,11 @@ use Rattle.node_program.specs.Value.{Env}
 use Rattle.node_program.specs.Node.{knowing_id, reading_messages, to_left, to_right}
 use Rattle.node_program.specs.GlobalRounds.{left_of, right_of, state}
 use Rattle.value_trees.specs.Trees.{tree_lines}
-use Rattle.value_trees.specs.declared.base.Base.{Base}
+use Rattle.numerals.specs.declared.base.Base.{Base}
 
 -- a heading, and under it the tree of an expression
 abbrev pub headed : List ℕ → Base → Env → Term → List ℕ
-headed heading b env e = heading ++ (codes "\n" ++ tree_lines b env 1 e)
+headed heading b env e = heading ++ (codes "\n" ++ tree_lines b env e)
 
 -- the heading of what gives the registers after r rounds: `start` for 0, else the number of the last round, counted from 1
 abbrev pub phase : ℕ → List ℕ

@@ -4,18 +4,18 @@ use Rattle.node_program.specs.Term.{Term, Round, ProgramTree}
 use Rattle.node_program.specs.Value.{Env, value}
 use Rattle.node_program.specs.Node.{knowing_id, to_left, to_right}
 use Rattle.node_program.specs.GlobalRounds.{state, channels_of}
-use Rattle.value_trees.specs.Trees.{part_line, tree_lines}
+use Rattle.value_trees.specs.Trees.{form_in, part_line, tree_lines}
 use Rattle.value_trees.specs.Explanation.{before_messages, with_messages}
-use Rattle.value_trees.specs.declared.base.Base.{Base}
+use Rattle.numerals.specs.declared.base.Base.{Base}
 
 -- lines that begin with the line of an expression itself
-pub record BeginsWithPart (b : Base) (env : Env) (level : ℕ) (e : Term) (lines : List ℕ) : Type 0 where
+pub record BeginsWithPart (b : Base) (env : Env) (e : Term) (lines : List ℕ) : Type 0 where
   pub others : List ℕ
-  pub whole : lines ≡ part_line b env level e ++ others
+  pub whole : lines ≡ part_line (form_in b env e) env 1 e ++ others
 
 -- the first line of a tree has the value of the whole expression
 abbrev pub RootsAreFirst : Type 0
-RootsAreFirst = (b : Base) (env : Env) (level : ℕ) (e : Term) → BeginsWithPart b env level e (tree_lines b env level e)
+RootsAreFirst = (b : Base) (env : Env) (e : Term) → BeginsWithPart b env e (tree_lines b env e)
 
 -- the value of the expression of a register is the register before the first round, and after a round
 abbrev pub StartsAreHeld : Type 0

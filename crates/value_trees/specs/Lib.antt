@@ -1,6 +1,5 @@
--- The definitions that the contracts of this crate cite: numbers in a base, the tree of an expression with the value of
+-- The definitions that the contracts of this crate cite: the tree of an expression with the value of
 -- every part, how a place of a ring computes, and the laws of these.
-pub mod Numerals
 pub mod Trees
 pub mod Explanation
 pub mod Trace

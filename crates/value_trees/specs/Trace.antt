@@ -6,9 +6,9 @@ use Rattle.std.specs.Fmt.{decimal}
 use Rattle.node_program.specs.Term.{ProgramTree}
 use Rattle.node_program.specs.Node.{to_left, to_right}
 use Rattle.node_program.specs.GlobalRounds.{state, channels_of}
-use Rattle.value_trees.specs.Numerals.{row}
+use Rattle.numerals.specs.Numerals.{row}
 use Rattle.value_trees.specs.Explanation.{phase}
-use Rattle.value_trees.specs.declared.base.Base.{Base}
+use Rattle.numerals.specs.declared.base.Base.{Base}
 
 -- a number for each place of the ring x, from place 0 on
 abbrev pub of_places : List ℕ → (ℕ → ℕ) → List ℕ

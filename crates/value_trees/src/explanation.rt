@@ -7,10 +7,10 @@ ghost use Rattle.node_program.specs.GlobalRounds.{left_of, right_of, state};
 ghost use Rattle.value_trees.specs.Trees.{tree_lines};
 ghost use Rattle.value_trees.specs.Explanation.{phase, assigned_lines, round_trees, rounds_trees, explanation};
 
-use crate::base::Base;
 use crate::tree::write_tree;
 use lang_check::Plan;
 use node_program::{Env, Expr, MAX_DEPTH, OutOfMemory, Round};
+use numerals::Base;
 use round_eval::{Configuration, Told};
 use std::alloc::{AllocError, Global};
 use std::fmt::Write;
@@ -33,11 +33,24 @@ pub fn explanation_text(
     let mut text = String::new(alloc);
     let mut places = Configuration::new(alloc, plan, ring)?;
     let program = plan.program();
-    write_assigned(&mut text, base, knowing(ring.id(place)), 0, program.start())?;
-    write_rounds(&mut text, base, program.steps(), &mut places, place)?;
+    write_assigned(
+        alloc,
+        &mut text,
+        base,
+        knowing(ring.id(place)),
+        0,
+        program.start(),
+    )?;
+    write_rounds(alloc, &mut text, base, program.steps(), &mut places, place)?;
     text.push_str("finish")?;
     let last = places.held_by(place);
-    write_under(&mut text, base, reading(last, 0, 0), program.finish())?;
+    write_under(
+        alloc,
+        &mut text,
+        base,
+        reading(last, 0, 0),
+        program.finish(),
+    )?;
     Ok(text)
 }
 
@@ -67,6 +80,7 @@ fn reading(registers: &[u32], left: u32, right: u32) -> Env<'_>
 
 // Ends the line of a heading, and appends the tree of an expression under it.
 fn write_under(
+    alloc: Global,
     text: &mut String,
     base: Base,
     env: Env<'_>,
@@ -74,10 +88,10 @@ fn write_under(
 ) -> Result<(), AllocError>
     requires { depth (term_of expression.now) ≤ MAX_DEPTH }
     ensures { OnOk result (string_bytes text.new
-        ≡ string_bytes text.old ++ (codes "\n" ++ tree_lines base (env_of env.entry) 1 (term_of expression.now))) }
+        ≡ string_bytes text.old ++ (codes "\n" ++ tree_lines base (env_of env.entry) (term_of expression.now))) }
 {
     text.push_str("\n")?;
-    write_tree(text, base, env, 1, expression)
+    write_tree(alloc, text, base, env, expression)
 }
 
 // Appends the heading of what gives the registers after this many rounds.
@@ -93,6 +107,7 @@ pub(crate) fn write_phase(text: &mut String, rounds: u32) -> Result<(), AllocErr
 
 // Appends the assignments that give the registers after this many rounds.
 fn write_assigned(
+    alloc: Global,
     text: &mut String,
     base: Base,
     env: Env<'_>,
@@ -106,7 +121,7 @@ fn write_assigned(
     'registers: for (register, expression) in expressions.iter().enumerate() {
         write_phase(text, rounds)?;
         write!(text, " r{register}")?;
-        write_under(text, base, env, expression)?;
+        write_under(alloc, text, base, env, expression)?;
     }
     Ok(())
 }
@@ -137,6 +152,7 @@ fn from_right(places: &Configuration<'_>, place: u32) -> u32
 
 // Appends the next round of a place, whose number is `number`.
 fn write_round(
+    alloc: Global,
     text: &mut String,
     base: Base,
     round: &Round,
@@ -154,17 +170,25 @@ fn write_round(
     let own = places.held_by(place);
     write_phase(text, number)?;
     text.push_str(" left")?;
-    write_under(text, base, reading(own, 0, 0), &round.left)?;
+    write_under(alloc, text, base, reading(own, 0, 0), &round.left)?;
     write_phase(text, number)?;
     text.push_str(" right")?;
-    write_under(text, base, reading(own, 0, 0), &round.right)?;
+    write_under(alloc, text, base, reading(own, 0, 0), &round.right)?;
     let left = from_left(places, place);
     let right = from_right(places, place);
-    write_assigned(text, base, reading(own, left, right), number, &round.next)
+    write_assigned(
+        alloc,
+        text,
+        base,
+        reading(own, left, right),
+        number,
+        &round.next,
+    )
 }
 
 // Appends all rounds of a place, and does them.
 fn write_rounds(
+    alloc: Global,
     text: &mut String,
     base: Base,
     rounds: &[Round],
@@ -180,7 +204,7 @@ fn write_rounds(
     ensures done { OnOk result (places.new ≡ record places.old { round = length places.old.program.steps }) }
 {
     'rounds: for (done, round) in rounds.iter().enumerate() {
-        write_round(text, base, round, done as u32 + 1, places, place)?;
+        write_round(alloc, text, base, round, done as u32 + 1, places, place)?;
         places.advance();
     }
     Ok(())

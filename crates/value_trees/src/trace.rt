@@ -2,14 +2,13 @@
 
 ghost use Rattle.std.specs.Prelude.{◌≡◌, ◌+◌, ◌++◌, ◌<◌, length, IfOk, OnOk, string_bytes};
 ghost use Rattle.round_eval.specs.Configuration.{told, CanTell};
-ghost use Rattle.value_trees.specs.Numerals.{row};
+ghost use Rattle.numerals.specs.Numerals.{row};
 ghost use Rattle.value_trees.specs.Trace.{of_places, register_lines, message_lines, later_lines, trace_lines};
 
-use crate::base::Base;
 use crate::explanation::write_phase;
-use crate::numbers::write_row;
 use lang_check::Plan;
 use node_program::OutOfMemory;
+use numerals::{Base, write_row};
 use round_eval::{Configuration, Told};
 use std::alloc::{AllocError, Global};
 use std::fmt::Write;

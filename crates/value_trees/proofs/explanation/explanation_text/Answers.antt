@@ -27,9 +27,9 @@ returns c =
     let own = c.held_by-last.ensures.value ∙ ap (λ (s : RingConfiguration). state s.program s.places s.round i) after in
     let reads = c.reading.ensures ∙ ap (λ registers. reading_messages registers 0 0) own in
     let finish = c.finish.ensures.value ∙ ap (λ (t : ProgramTree). t.finish) program in
-    let last = c.in_ok-write_under.ensures ∙ (λ k. string_bytes c.push_str.new.self ++ (codes "\n" ++ tree_lines b (reads k) 1 (finish k))) in
+    let last = c.in_ok-write_under.ensures ∙ (λ k. string_bytes c.push_str.new.self ++ (codes "\n" ++ tree_lines b (reads k) (finish k))) in
     let all = rounds_trees b p x i 0 p.steps in
-    let end : List ℕ = codes "\n" ++ tree_lines b (before_messages p x i (length p.steps)) 1 p.finish in
+    let end : List ℕ = codes "\n" ++ tree_lines b (before_messages p x i (length p.steps)) p.finish in
     last
     ∙ ap (λ l. l ++ end) (c.in_ok-push_str.ensures.bytes ∙ ap (λ l. l ++ codes "finish") (rounds ∙ ap (λ l. l ++ all) first))
     ∙ three_more (assigned_lines 0 b (knowing_id (get_or x i 0)) 0 p.start) all (codes "finish") end

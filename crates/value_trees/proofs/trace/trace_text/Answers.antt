@@ -1,6 +1,6 @@
 use Rattle.std.proofs.Common.{◌++◌, codes, string_bytes, ap, ◌∙◌, refl, append_assoc}
 use Rattle.round_eval.specs.Configuration.{RingConfiguration}
-use Rattle.value_trees.specs.Numerals.{row}
+use Rattle.numerals.specs.Numerals.{row}
 use Rattle.value_trees.specs.Trace.{row_line, register_lines, later_lines}
 use Rattle.value_trees.proofs.trace.trace_text.Goals as goal
 

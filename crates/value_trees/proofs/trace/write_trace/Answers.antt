@@ -2,7 +2,7 @@ use Rattle.std.proofs.Common.{◌≡◌, ◌+◌, ◌++◌, length, string_bytes
 use Rattle.std.proofs.lemmas.Result.{on_ok_weaker}
 use Rattle.round_eval.specs.Configuration.{RingConfiguration, told}
 use Rattle.round_eval.specs.declared.configuration.Told.TheVariants.{Channel}
-use Rattle.value_trees.specs.Numerals.{row}
+use Rattle.numerals.specs.Numerals.{row}
 use Rattle.value_trees.specs.Trace.{of_places, register_lines, message_lines}
 use Rattle.value_trees.proofs.TraceLines.{round_more, finished}
 use Rattle.value_trees.proofs.trace.write_trace.Goals as goal

@@ -1,5 +1,5 @@
 use Rattle.std.proofs.Common.{◌≡◌, ◌++◌, replicate, string_bytes}
-use Rattle.value_trees.proofs.numbers.write_zeros.Given as goal
+use Rattle.numerals.proofs.rows.write_zeros.Given as goal
 
 -- the zeros so far are in the text
 abbrev pub invariant-zeros : goal.invariant-zeros

@@ -1,10 +1,10 @@
 ghost use Rattle.std.specs.Prelude.{◌≡◌, ◌++◌, OnOk, string_bytes};
-ghost use Rattle.value_trees.specs.Numerals.{numeral};
+ghost use Rattle.numerals.specs.Numerals.{numeral};
 
 use std::alloc::AllocError;
 use std::fmt::Write;
 
-/// The base in which values are written.
+/// The base in which numbers are written.
 #[derive(Clone, Copy, Debug, PartialEq, Eq)]
 pub enum Base {
     Ten,

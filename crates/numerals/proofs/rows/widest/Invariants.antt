@@ -1,6 +1,6 @@
 use Rattle.std.proofs.Common.{◌≡◌, max, drop}
-use Rattle.value_trees.specs.Numerals.{widest}
-use Rattle.value_trees.proofs.numbers.widest.Given as goal
+use Rattle.numerals.specs.Numerals.{widest}
+use Rattle.numerals.proofs.rows.widest.Given as goal
 
 -- the widest so far and the numbers that are left have the greatest width
 abbrev pub invariant-numbers : goal.invariant-numbers
