@@ -1,2 +1,2 @@
--- The definitions that the contracts of this crate cite: numbers in base ten or two, and rows of them.
+-- The definitions that the contracts of this crate cite: numbers in a base, and rows of them.
 pub mod Numerals

@@ -1,15 +1,22 @@
--- Numbers in base ten or two, and rows of them.
+-- Numbers in a base from two to ten, and rows of them.
 use Rattle.std.specs.Prelude.{ℕ, ◌-◌, max, List, [], ◌∷◌, ◌++◌, codes, false, length, replicate}
 use Rattle.std.specs.List.{flat_map}
 use Rattle.std.specs.Fmt.{digits}
 use Rattle.numerals.specs.declared.base.Base.{Base}
-use Rattle.numerals.specs.declared.base.Base.TheVariants.{Ten, Two}
+use Rattle.numerals.specs.declared.base.Base.TheVariants.{Two, Three, Four, Five, Six, Seven, Eight, Nine, Ten}
 use Rattle.numerals.specs.declared.rows.Form.{Form}
 
 -- the base as a number
 abbrev pub radix : Base → ℕ
-radix Ten = 10
 radix Two = 2
+radix Three = 3
+radix Four = 4
+radix Five = 5
+radix Six = 6
+radix Seven = 7
+radix Eight = 8
+radix Nine = 9
+radix Ten = 10
 
 -- the digits of a number in a base, without leading zeros
 abbrev pub numeral : Base → ℕ → List ℕ
@@ -24,11 +31,10 @@ abbrev pub widest : Base → List ℕ → ℕ
 widest b [] = 0
 widest b (n ∷ ns) = max (length (numeral b n)) (widest b ns)
 
--- the width of numbers that are written together: that of the widest in base two, while numbers in base ten have no leading
--- zeros
+-- the width of numbers that are written together: that of the widest, while numbers in base ten have no leading zeros
 abbrev pub common_width : Base → List ℕ → ℕ
 common_width Ten ns = 0
-common_width Two ns = widest Two ns
+common_width b ns = widest b ns
 
 -- the form of numbers that are written together
 abbrev pub form_of : Base → List ℕ → Form

@@ -1,4 +1,4 @@
-//! Numbers that are written together: in base two all of them are as wide as the widest.
+//! Numbers that are written together: in another base than ten all of them are as wide as the widest.
 
 ghost use Rattle.std.specs.Prelude.{◌≡◌, ◌++◌, ◌-◌, IfOk, OnOk, replicate, string_bytes};
 ghost use Rattle.numerals.specs.Numerals.{numeral, padded, widest as widest_of, form_of as form_in, row};
@@ -8,20 +8,20 @@ use std::alloc::{AllocError, Global};
 
 /// How a number is written: its base, and the number of digits that it has at least. Zeros stand
 /// before a number with fewer.
-#[derive(Clone, Copy, Debug, PartialEq, Eq)]
+#[derive(Clone, Copy)]
 pub struct Form {
     pub base: Base,
     pub width: usize,
 }
 
-/// Returns the form of numbers that are written together in this base. In base two they are as wide
-/// as the widest of them, in base ten they have no leading zeros. Fails if memory was refused.
+/// Returns the form of numbers that are written together in this base: they are as wide as the widest
+/// of them, but in base ten they have no leading zeros. Fails if memory was refused.
 pub fn form_of(alloc: Global, base: Base, numbers: &[u32]) -> Result<Form, AllocError>
     ensures { IfOk result (λ form. form ≡ form_in base numbers.now) }
 {
     let width = match base {
         Base::Ten => 0,
-        Base::Two => widest(alloc, base, numbers)?,
+        _ => widest(alloc, base, numbers)?,
     };
     Ok(Form { base, width })
 }

@@ -11,3 +11,9 @@ pub fn roots_are_traced()
     ensures right { law.RightIsSent }
     ensures finish { law.FinishIsChannel }
 {}
+
+/// An explanation shows them: in the first line of each tree, each register as a trace does, each
+/// message, and the channel as a run does.
+pub fn explanations_show_traces()
+    ensures { law.ExplanationsShowTraces }
+{}

@@ -8,5 +8,5 @@ mod trace;
 mod tree;
 
 pub use explanation::explanation_text;
-pub use laws::roots_are_traced;
+pub use laws::{explanations_show_traces, roots_are_traced};
 pub use trace::trace_text;
