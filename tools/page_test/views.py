@@ -99,7 +99,8 @@ def run(page):
     ring = "5,1,3,7"
     page.open(view="run", example="cv1.txt", ids="8", ring=ring)
     page.wait_ring("the ring of CV1", ring)
-    trace = [line.split() for line in nbhd(CV1, "trace", *IDS, "--ring", ring).splitlines()]
+    first, *trace = [line.split() for line in nbhd(CV1, "trace", *IDS, "--ring", ring).splitlines()]
+    STEPS.equal("the first line of a trace", first, ["ring", *ring.split(",")])
     STEPS.equal("its identifiers", page.texts(".ring .identifier"), ring.split(","))
     STEPS.equal("its channels", page.texts(".ring .badge-number"), trace[-1][1:])
     rows = page.value("[...document.querySelectorAll('.trace tbody tr')].map(r => [...r.children].map(c => c.textContent))")
@@ -606,7 +607,7 @@ def formats(page):
     STEPS.equal("refused words", found["line"], "invalid value '65' for '--ids <M>': 65 is no")
     no = page.call("view-judge.js", "m.readNo('no: ring 0 2 1 places 0 2 channels 0 1')")
     STEPS.equal("a no at distance two", no, {"ring": [0, 2, 1], "places": [0, 2], "channels": [0, 1]})
-    steps = page.call("trace.js", "m.stepsOf('start r0 1 2\\nfinish 1 2\\n')")
+    steps = page.call("trace.js", "m.stepsOf('ring 1 2\\nstart r0 1 2\\nfinish 1 2\\n')")
     STEPS.equal("a trace without rounds", [step["kind"] for step in steps], ["start", "finish"])
 
 
