@@ -2,7 +2,7 @@
 
 /**
  * The steps `{ kind, round, registers, left, right, channels }` of a trace: the start, a step that sends and one that assigns for
- * each round, and the finish. `registers[j][p]` is register `j` at place `p`.
+ * each round, and the finish. `registers[j][p]` is register `j` at place `p`. The line of the identifiers gives no step.
  */
 export function stepsOf(text) {
   const rows = text.trim().split("\n").map((line) => line.split(" "));

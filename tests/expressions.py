@@ -122,7 +122,7 @@ def checked(ids, rounds, bound, windows):
 
 def rows():
     for expression, value in VALUES:
-        yield "trace --ids 2 --ring 0,1", starting(expression), f"start r0 {value} {value}\nfinish 0 0\n", 0
+        yield "trace --ids 2 --ring 0,1", starting(expression), f"ring 0 1\nstart r0 {value} {value}\nfinish 0 0\n", 0
         yield "print", starting(expression), starting(expression), 0
     for expression, bound in BOUNDS:
         yield "check --ids 6", assigning(expression), *checked(6, 1, bound, 120)

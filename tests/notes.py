@@ -217,6 +217,7 @@ WINDOWS_AND_CHANNELS = [
 
 # Words, inputs and the notes.
 OTHERS = [
+    ("explain --ids 8 --ring 5,1,3,7 --place 4", CV1, "nbhd: the ring has no place 4; its places are 0 to 3\n"),
     ("run --ids 8 --ring 5,1,3,7 --segments 5", CV1, "nbhd: 5 segments are more than the 4 places of the ring\n"),
     (
         "judge --ids 8",

@@ -53,6 +53,12 @@ RINGS_REFUSED = [
     ("trace --ids 8 --ring 0,1,2,3,4,5,6,7,0", CV1, "ring fault G2\n", 4),
     ("trace --ids 8 --ring 0,1,8,0", CV1, "ring fault G3 place 2\n", 4),
     ("trace --ids 8 --ring 0,0,8,1", CV1, "ring fault G4 places 0 1\n", 4),
+    ("explain --ids 8 --ring 0,1,2 --place 3", CV1, "ring fault G1\n", 4),
+    ("explain --ids 8 --ring 0,1,2,3,4,5,6,7,0 --place 9", CV1, "ring fault G2\n", 4),
+    ("explain --ids 8 --ring 0,1,8,0 --place 4", CV1, "ring fault G3 place 2\n", 4),
+    ("explain --ids 8 --ring 0,1,2,0 --place 0", CV1, "ring fault G4 places 0 3\n", 4),
+    ("explain --ids 8 --ring 5,1,3,7 --place 4", CV1, "ring fault G5 place 4\n", 4),
+    ("explain --ids 8 --ring 5,1,3,7 --place 4294967295", CV1, "ring fault G5 place 4294967295\n", 4),
 ]
 
 RUNS = [
@@ -111,28 +117,56 @@ TRACES = [
     (
         "trace --ids 8 --ring 5,1,3,7",
         CV1,
-        "start r0 5 1 3 7\nround 1 left 0 0 0 0\nround 1 right 5 1 3 7\nround 1 r0 2 4 3 5\nfinish 2 4 3 5\n",
+        "ring 5 1 3 7\nstart r0 5 1 3 7\nround 1 left 0 0 0 0\nround 1 right 5 1 3 7\nround 1 r0 2 4 3 5\nfinish 2 4 3 5\n",
         0,
     ),
     (
+        "trace --ids 8 --ring 5,1,3,7 --base 2",
+        CV1,
+        "ring 101 001 011 111\nstart r0 101 001 011 111\nround 1 left 0 0 0 0\nround 1 right 101 001 011 111\n"
+        "round 1 r0 010 100 011 101\nfinish 010 100 011 101\n",
+        0,
+    ),
+    ("trace --ids 8 --ring 7,1 --base 3", OWN, "ring 21 01\nstart r0 21 01\nfinish 21 01\n", 0),
+    ("trace --ids 16 --ring 15,1 --base 10", OWN, "ring 15 1\nstart r0 15 1\nfinish 15 1\n", 0),
+    (
         "trace --ids 8 --ring 5,1,3,7,0,2,4,6",
         RED,
-        "start r0 5 1 3 7 0 2 4 6\n"
+        "ring 5 1 3 7 0 2 4 6\nstart r0 5 1 3 7 0 2 4 6\n"
         "round 1 left 0 0 0 0 0 0 0 0\nround 1 right 5 1 3 7 0 2 4 6\nround 1 r0 1 4 3 5 0 3 2 3\n"
         "round 2 left 1 4 3 5 0 3 2 3\nround 2 right 1 4 3 5 0 3 2 3\nround 2 r0 1 4 3 1 0 3 2 3\n"
         "round 3 left 1 4 3 1 0 3 2 3\nround 3 right 1 4 3 1 0 3 2 3\nround 3 r0 1 0 3 1 0 3 2 3\n"
         "finish 1 0 3 1 0 3 2 3\n",
         0,
     ),
-    ("trace --ids 2 --ring 0,1", ID0, "start r0 0 1\nfinish 0 1\n", 0),
-    ("trace --ids 2 --ring 1,0", ZERO, "start r0 1 0\nfinish 0 0\n", 0),
+    ("trace --ids 2 --ring 0,1", ID0, "ring 0 1\nstart r0 0 1\nfinish 0 1\n", 0),
+    ("trace --ids 2 --ring 1,0", ZERO, "ring 1 0\nstart r0 1 0\nfinish 0 0\n", 0),
     (
         "trace --ids 8 --ring 5,1,3,7",
         TWO_REGISTERS,
-        "start r0 5 1 3 7\nstart r1 0 0 0 0\nround 1 left 0 0 0 0\nround 1 right 5 1 3 7\n"
+        "ring 5 1 3 7\nstart r0 5 1 3 7\nstart r1 0 0 0 0\nround 1 left 0 0 0 0\nround 1 right 5 1 3 7\n"
         "round 1 r0 0 0 0 0\nround 1 r1 12 6 4 10\nfinish 12 6 4 10\n",
         0,
     ),
+]
+
+EXPLANATIONS = [
+    (
+        "explain --ids 8 --ring 5,1,3,7 --place 0",
+        CV1,
+        "start r0\n id 5\nround 1 left\n 0 0\nround 1 right\n r0 5\nround 1 r0\n add 2\n  shl 2\n   ldb 1\n    r0 5\n    L 7\n   1 1\n"
+        "  bit 0\n   r0 5\n   ldb 1\n    r0 5\n    L 7\nfinish\n r0 2\n",
+        0,
+    ),
+    (
+        "explain --ids 8 --ring 5,1,3,7 --place 0 --base 2",
+        CV1,
+        "start r0\n id 101\nround 1 left\n 0 0\nround 1 right\n r0 101\n"
+        "round 1 r0\n add 010\n  shl 010\n   ldb 001\n    r0 101\n    L 111\n   1 001\n"
+        "  bit 000\n   r0 101\n   ldb 001\n    r0 101\n    L 111\nfinish\n r0 10\n",
+        0,
+    ),
+    ("explain --ids 2 --ring 0,1 --place 1", ZERO, "start r0\n id 1\nfinish\n 0 0\n", 0),
 ]
 
 # A program is printed whether or not it is accepted.
@@ -201,7 +235,7 @@ CHECK_FAULTS = [
 ]
 
 # Tasks on a program for a number of identifiers.
-TASKS = ["check", "table", "judge", "run --ring 0,1 --segments 3", "trace --ring 0,1", "plan --ring 0,1"]
+TASKS = ["check", "table", "judge", "run --ring 0,1 --segments 3", "trace --ring 0,1", "explain --ring 0,1 --place 2", "plan --ring 0,1"]
 
 # Rings with the identifiers, and the sums of each and its left neighbour.
 HUNDRED = [37 * place % 100 for place in range(100)]
@@ -246,7 +280,7 @@ STEPPED = [
 
 def traced_by_hand():
     """The trace of the program of three rounds on a ring of ten places."""
-    nodes, lines = [(ident + 1, ident & 1) for ident in TEN], []
+    nodes, lines = [(ident + 1, ident & 1) for ident in TEN], [f"ring {line(TEN)}"]
 
     def tell(first, second, pairs):
         lines.append(f"{first} {line(a for a, _ in pairs)}{second} {line(b for _, b in pairs)}")
@@ -270,7 +304,7 @@ def refused():
 
 
 def rows():
-    yield from CHECKS + RINGS_REFUSED + RUNS + JUDGES + PLANS_AND_LARGE_TABLES + TRACES + PRINTS
+    yield from CHECKS + RINGS_REFUSED + RUNS + JUDGES + PLANS_AND_LARGE_TABLES + TRACES + EXPLANATIONS + PRINTS
     yield from (("print", text, None, 0) for text in PROGRAM_TEXTS)
     yield from refused()
     yield from runs_in_segments()

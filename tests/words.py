@@ -18,6 +18,7 @@ Commands:
   judge    Tells whether channels are far enough apart on every ring, by a program's table
   run      Runs a program by messages on a ring, and prints the channels
   trace    Runs a program on a ring, and prints what its nodes hold and send in each round
+  explain  Runs a program on a ring, and prints how one node computes each of its values
   plan     Prints the channels of a ring's places, looked up in the table
   audit    Tells whether channels are far enough apart on every ring, by a table text
   migrate  Prints a table text of any version in the newest one
@@ -95,11 +96,12 @@ Exit status:
         "trace --help",
         """Runs a program on a ring, and prints what its nodes hold and send in each round
 
-Usage: nbhd trace --ids <M> --ring <A,B,..>
+Usage: nbhd trace [OPTIONS] --ids <M> --ring <A,B,..>
 
 Options:
       --ids <M>        How many identifiers there are; they are 0 to M-1
       --ring <A,B,..>  The ring's identifiers, each followed by its right neighbour's
+      --base <B>       The base of the numbers that are printed, 2 to 10 [default: 10]
   -h, --help           Print help
 
 Standard input:  a program text
@@ -108,17 +110,58 @@ Standard output: lines with a number for each place of the ring, or one line: wh
 M is 2 to 1024 for 0 rounds, 4 to 162 for 1 round, 6 to 23 for 2, 8 to 12 for 3, 10 for 4 rounds.
 The ring has at least 2, 4, 6, 8 or 10 identifiers for 0 to 4 rounds, below M, no two the same.
 The lines are:
+  ring ..           the identifier of each place
   start r0 ..       what a register holds after the assignments of start; one line for each register
   round 1 left ..   what each place sends to its left neighbour in a round
   round 1 right ..  what each place sends to its right neighbour
   round 1 r0 ..     what a register holds after the round; one line for each register
   finish ..         the channels
 
+In another base than 10 all numbers of a line are as wide as the widest.
+
 Exit status:
   0  the lines are printed
   2  the words are refused
   3  the program is refused
   4  the ring is refused
+  5  reading or writing failed
+  6  memory was refused
+""",
+    ),
+    (
+        "explain --help",
+        """Runs a program on a ring, and prints how one node computes each of its values
+
+Usage: nbhd explain [OPTIONS] --ids <M> --ring <A,B,..> --place <P>
+
+Options:
+      --ids <M>        How many identifiers there are; they are 0 to M-1
+      --ring <A,B,..>  The ring's identifiers, each followed by its right neighbour's
+      --place <P>      The place of the node in the ring, counted from 0
+      --base <B>       The base of the numbers that are printed, 2 to 10 [default: 10]
+  -h, --help           Print help
+
+Standard input:  a program text
+Standard output: each expression of the program with its values, or one line: what is refused
+
+M is 2 to 1024 for 0 rounds, 4 to 162 for 1 round, 6 to 23 for 2, 8 to 12 for 3, 10 for 4 rounds.
+The ring has at least 2, 4, 6, 8 or 10 identifiers for 0 to 4 rounds, below M, no two the same.
+Each expression is below a line that says what it gives to the node:
+  start r0          what a register holds after the assignments of start
+  round 1 left      what the node sends to its left neighbour in a round
+  round 1 right     what it sends to its right neighbour
+  round 1 r0        what a register holds after the round
+  finish            the channel
+
+The expression follows as a tree: a line for each of its parts, with the value of the part. The
+operands of a part are below it, after one blank more. In another base than 10 all values of a tree
+are as wide as the widest.
+
+Exit status:
+  0  the lines are printed
+  2  the words are refused
+  3  the program is refused
+  4  the ring is refused, or it has no such place
   5  reading or writing failed
   6  memory was refused
 """,
@@ -240,7 +283,7 @@ Exit status:
 ]
 
 # The commands, each of which has three ways to ask for its help.
-COMMANDS = ["check", "print", "table", "judge", "run", "trace", "plan", "audit", "migrate", "formula", "refute"]
+COMMANDS = ["check", "print", "table", "judge", "run", "trace", "explain", "plan", "audit", "migrate", "formula", "refute"]
 
 # Other words that ask for help.
 HELP_WORDS = [
@@ -252,6 +295,7 @@ HELP_WORDS = [
     "help migrate",
     "help print",
     "help trace",
+    "help explain",
     "run --help",
     "run -h",
     "audit --help",
@@ -266,7 +310,7 @@ REFUSED = [
     (
         "",
         """error: 'nbhd' requires a subcommand but one was not provided
-  [subcommands: check, print, table, judge, run, trace, plan, audit, migrate, formula, refute, help]
+  [subcommands: check, print, table, judge, run, trace, explain, plan, audit, migrate, formula, refute, help]
 
 Usage: nbhd <COMMAND>
 
@@ -323,9 +367,14 @@ NO_COMMANDS = [
     "judge",
     "run",
     "trace",
+    "explain",
     "plan",
     "run --ids 8",
     "trace --ids 8",
+    "explain --ids 8 --ring 5,1,3,7",
+    "explain --ids 8 --place 0",
+    "explain --ids 8 --ring 5,1,3,7 --place",
+    "trace --ids 8 --ring 5,1,3,7 --base",
     "plan --ring 5,1,3,7",
     "check --ids",
     "run --ids --ring 5,1,3,7",
@@ -354,6 +403,10 @@ NO_COMMANDS = [
     "trace --ids 8 --ring 5 --segments 1",
     "trace --ids 8 --ring 5 --workers 1",
     "trace --ids 8 --ring 5 --far 0",
+    "trace --ids 8 --ring 5 --place 0",
+    "explain --ids 8 --ring 5 --place 0 --segments 1",
+    "run --ids 8 --ring 5 --base 2",
+    "plan --ids 8 --ring 5 --place 0",
     "audit --ids 8",
     "audit --workers 1",
     "migrate --ids 8",
@@ -364,7 +417,16 @@ NO_COMMANDS = [
     "run --ring 5,1 --ring 5,1 --ids 8",
     "table --ids 8 --workers 1 --workers 1",
     "run --ids 8 --ring 5,1,3,7 --segments 1 --segments=1",
+    "explain --ids 8 --ring 5 --place 0 --place 0",
+    "trace --ids 8 --ring 5 --base 2 --base 2",
     # numbers out of their range
+    "explain --ids 8 --ring 5,1,3,7 --place 4294967296",
+    "explain --ids 8 --ring 5,1,3,7 --place -1",
+    "explain --ids 8 --ring 5,1,3,7 --place 0 --base 1",
+    "explain --ids 8 --ring 5,1,3,7 --place 0 --base 11",
+    "trace --ids 8 --ring 5,1,3,7 --base 1",
+    "trace --ids 8 --ring 5,1,3,7 --base 11",
+    "trace --ids 8 --ring 5,1,3,7 --base two",
     "run --ids 4294967296 --ring 0",
     "check --ids 4294967296",
     "check --ids=-1",
@@ -434,6 +496,7 @@ BAD_RINGS = [
     "run --ids 8 --ring=",
     "run --ids 8 --ring=-5",
     "trace --ids 8 --ring 5,",
+    "explain --ids 8 --ring 5, --place 0",
     "plan --ids 8 --ring 5,a",
     *(["run", "--ids", "8", f"--ring={text}"] for text in ["5,,1", "4294967296", ",", "5,", ",5", "5, 1", "+5", "0x5", "5;1"]),
 ]
@@ -507,7 +570,16 @@ SAME_COMMANDS = [
             "run --ids 8 --segments 4 --ring 005,1,3,7",
         ],
     ),
-    (CV1, ["trace --ids 8 --ring 5,1,3,7", "trace --ring=05,01,3,7 --ids=+8"]),
+    (CV1, ["trace --ids 8 --ring 5,1,3,7", "trace --ring=05,01,3,7 --ids=+8", "trace --base 10 --ids 8 --ring 5,1,3,7"]),
+    (CV1, ["trace --ids 8 --ring 5,1,3,7 --base 2", "trace --base=02 --ring=05,01,3,7 --ids=+8"]),
+    (
+        CV1,
+        [
+            "explain --ids 8 --ring 5,1,3,7 --place 3",
+            "explain --place=03 --ring=05,01,3,7 --ids=+8",
+            "explain --base 10 --place +3 --ids 8 --ring 5,1,3,7",
+        ],
+    ),
     (CV1, ["plan --ids 8 --ring 5,1,3,7", "plan --ring 5,1,3,7 --ids 8", "plan --workers 64 --ring 5,1,3,7 --ids 8"]),
     (b"", ["formula --ids 5 --rounds 1 --channels 3", "formula --channels=03 --rounds=+1 --ids 005 --far=00 --near 1"]),
     (b"5 0 1 2 3 0", ["refute --ids 2 --rounds 0 --channels 1", "refute --channels=1 --near=01 --rounds 00 --ids 2"]),

@@ -101,7 +101,8 @@ def run(page):
     ring = "5,1,3,7"
     page.open(view="run", example="cv1.txt", ids="8", ring=ring)
     page.wait_ring("the ring of CV1", ring)
-    trace = [line.split() for line in nbhd(CV1, "trace", *IDS, "--ring", ring).splitlines() if not line.startswith("ring ")]
+    first, *trace = [line.split() for line in nbhd(CV1, "trace", *IDS, "--ring", ring).splitlines()]
+    STEPS.equal("the first line of a trace", first, ["ring", *ring.split(",")])
     STEPS.equal("its identifiers", page.texts(".ring .identifier"), ring.split(","))
     STEPS.equal("its channels", page.texts(".ring .badge-number"), trace[-1][1:])
     rows = page.value("[...document.querySelectorAll('.trace tbody tr')].map(r => [...r.children].map(c => c.textContent))")

@@ -1,4 +1,4 @@
--- The notes on a list that is not a ring, and on a number of segments.
+-- The notes on a list that is not a ring, on a place that a ring has not, and on a number of segments.
 use Rattle.std.specs.Prelude.{ℕ, ◌+◌, ◌-◌, ◌*◌, ◌==◌, ◌&&◌, nat_lt, ◌++◌, List, length, slice_index, codes, if◌then◌else◌}
 use Rattle.std.specs.Fmt.{decimal}
 use Rattle.node_program.specs.declared.limits.TheConstants.{MAX_THREADS}
@@ -19,6 +19,11 @@ ring_note m t x (ring.IdTooLarge place) =
     codes "nbhd: place " ++ (decimal place ++ (codes " has the identifier " ++ (decimal (slice_index x place) ++ (codes "; of " ++ (decimal m ++ (codes " identifiers the largest is " ++ (decimal (m - 1) ++ codes "\n")))))))
 ring_note m t x (ring.Repeated first second) =
     codes "nbhd: places " ++ (decimal first ++ (codes " and " ++ (decimal second ++ (codes " have the same identifier " ++ (decimal (slice_index x second) ++ note_end (length x) first second)))))
+
+-- the note on a place that a ring of so many places has not
+abbrev pub place_note : ℕ → ℕ → List ℕ
+place_note place places =
+    codes "nbhd: the ring has no place " ++ (decimal place ++ (codes "; its places are 0 to " ++ (decimal (places - 1) ++ codes "\n")))
 
 -- the note on a number of segments in which a ring of so many places can't be run: more than the places, or else none or
 -- too many for any ring

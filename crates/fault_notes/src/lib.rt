@@ -25,7 +25,7 @@ mod words;
 pub use laws::faults_have_wanted;
 pub use probe::wanted_after;
 pub use programs::{check_note, ids_note};
-pub use rings::{ring_note, segments_note};
+pub use rings::{place_note, ring_note, segments_note};
 pub use tables::{channel_note, form_note, long_note, window_note};
 pub use texts::text_note;
 pub use verdicts::verdict_note;

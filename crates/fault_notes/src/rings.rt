@@ -1,9 +1,9 @@
-//! The notes on a list that is not a ring, and on a number of segments.
+//! The notes on a list that is not a ring, on a place that a ring has not, and on a number of segments.
 
 ghost use Rattle.std.specs.Prelude.{◌≡◌, ◌+◌, ◌*◌, ◌<◌, ◌≤◌, ◌^◌, length, IfOk, string_bytes};
 ghost use Rattle.win_index.specs.declared.limits.TheConstants.{MAX_ROUNDS};
 ghost use Rattle.win_index.specs.RingFaults.{IsFirstFault};
-ghost use Rattle.fault_notes.specs.RingNotes.{ring_note, segments_note, note_end};
+ghost use Rattle.fault_notes.specs.RingNotes.{place_note, ring_note, segments_note, note_end};
 
 use node_program::MAX_THREADS;
 use std::alloc::{AllocError, Global};
@@ -73,6 +73,14 @@ fn note_end(count: usize, first: u32, second: u32) -> &'static str
         return "; a ring closes by itself\n";
     }
     "\n"
+}
+
+/// Returns the note on a place that a ring of `places` places has not. Fails if memory was refused.
+pub fn place_note(alloc: Global, place: u32, places: usize) -> Result<String, AllocError>
+    ensures { IfOk result (λ note. string_bytes note ≡ place_note place places) }
+{
+    let last = places.saturating_sub(1);
+    format!(in alloc; "nbhd: the ring has no place {place}; its places are 0 to {last}\n")
 }
 
 /// Returns the note on a ring of `places` places that cannot be run in `segments` segments: these

@@ -12,6 +12,17 @@ operation_name (Two o a b) = binary_name o
 operation_name (Choose c a b) = codes "if"
 operation_name _ = []
 
+-- the word that an expression is printed with, without its operands
+abbrev pub own_word : Term → List ℕ
+own_word (Literal n) = decimal n
+own_word Identifier = codes "id"
+own_word LeftMessage = codes "L"
+own_word RightMessage = codes "R"
+own_word (RegisterValue j) = codes "r" ++ decimal j
+own_word (One o a) = unary_name o
+own_word (Two o a b) = binary_name o
+own_word (Choose c a b) = codes "if"
+
 -- an expression: its operands are separated by a comma and one blank, with no other blanks in it
 abbrev pub printed_expression : Term → List ℕ
 printed_expression (Literal n) = decimal n

@@ -19,5 +19,5 @@ pub use node_program::{
     BinOp, Expr, MAX_CHANNELS, MAX_DEPTH, MAX_NODES, MAX_REGISTERS, MAX_ROUNDS, MAX_THREADS,
     OutOfMemory, Program, Round, UnOp,
 };
-pub use printing::print;
+pub use printing::{print, write_word};
 pub use text::parse;

@@ -2,7 +2,7 @@ ghost use Rattle.std.specs.Prelude.{◌≡◌, ◌++◌, length, map, IfOk, IfEr
 ghost use Rattle.std.specs.List.{flat_map};
 ghost use Rattle.node_lang.specs.declared.fault.FaultKind.TheVariants as kind;
 ghost use Rattle.node_program.specs.Term.{step_of, term_of};
-ghost use Rattle.node_lang.specs.Printed.{operation_name as name_of, printed_expression, assignment_lines, header_lines, round_lines, printed};
+ghost use Rattle.node_lang.specs.Printed.{operation_name as name_of, own_word, printed_expression, assignment_lines, header_lines, round_lines, printed};
 
 use crate::fault::TextFault;
 use crate::words::operation_name;
@@ -15,6 +15,22 @@ fn write_opening(text: &mut String, operation: &Expr) -> Result<(), AllocError>
     ensures { OnOk result (string_bytes text.new ≡ string_bytes text.old ++ (name_of (term_of operation.now) ++ codes "(")) }
 {
     write!(text, "{}(", operation_name(operation))
+}
+
+/// Appends the word that an expression is printed with, without its operands.
+pub fn write_word(text: &mut String, expression: &Expr) -> Result<(), AllocError>
+    ensures { OnOk result (string_bytes text.new ≡ string_bytes text.old ++ own_word (term_of expression.now)) }
+{
+    match expression {
+        Expr::Number(number) => write!(text, "{number}"),
+        Expr::Id => text.push_str("id"),
+        Expr::FromLeft => text.push_str("L"),
+        Expr::FromRight => text.push_str("R"),
+        Expr::Register(register) => write!(text, "r{register}"),
+        Expr::One(_, _) | Expr::Two(_, _, _) | Expr::Choose(_, _, _) => {
+            text.push_str(operation_name(expression))
+        }
+    }
 }
 
 #[cycle(expression)]

@@ -8,11 +8,12 @@ use Rattle.table_entries.specs.ProgramTables.{table_of}
 use Rattle.nbhd_check.specs.Laws.{WitnessesAreOnRings}
 use Rattle.channel_tables.specs.Tables.{ChannelTable}
 use Rattle.channel_tables.specs.declared.separation.Separation.{Separation}
+use Rattle.numerals.specs.declared.base.Base.{Base}
 use Rattle.task_words.specs.declared.task.Task.{Task}
-use Rattle.task_words.specs.declared.task.Task.TheVariants.{Check, Print, Table, Judge, Run, Trace, Plan, Audit, Migrate, Formula, Refute}
+use Rattle.task_words.specs.declared.task.Task.TheVariants.{Check, Print, Table, Judge, Run, Trace, Explain, Plan, Audit, Migrate, Formula, Refute}
 use Rattle.reports.specs.Causes.{Reason}
 use Rattle.reports.specs.Notes.{IsFound}
-use Rattle.reports.specs.Report.{Report, IsJudgement, good, bad, IsAnswerOnRing, ring_fault, on_ring, IsRunAnswer, out_of_range, ran, IsTextRefusal, text_refused, in_print, text_fault, check_fault, IsProgramReport, program_refused, answered, IsTableReport, table_refused, of_table}
+use Rattle.reports.specs.Report.{Report, IsJudgement, good, bad, IsAnswerOnRing, ring_fault, on_ring, IsRunAnswer, out_of_range, ran, IsExplainAnswer, no_place, explained, IsTextRefusal, text_refused, in_print, text_fault, check_fault, IsProgramReport, program_refused, answered, IsTableReport, table_refused, of_table}
 use Rattle.reports.specs.FormulaReports.{IsFormulaRefusal, no_formula, has_text, not_asked, refuted, not_refuted}
 use Rattle.table_formula.specs.Problems.{Problem}
 use Rattle.task_words.specs.Task.{IsRunnable}
@@ -46,6 +47,10 @@ in_list input m t places said r few on (on_ring is says) = on says
 in_run : (input : List ℕ) (p : ProgramTree) (places : List ℕ) (segments : ℕ) (r : Report) → IsRunAnswer p places segments r → IsOfInput input r
 in_run input p places segments r (out_of_range out says) = its_cause input r _ says.2 tt
 in_run input p places segments r (ran within says) = no_cause input r says.2
+
+in_explanation : (input : List ℕ) (b : Base) (p : ProgramTree) (places : List ℕ) (place : ℕ) (r : Report) → IsExplainAnswer b p places place r → IsOfInput input r
+in_explanation input b p places place r (no_place beyond says) = its_cause input r _ says.2 tt
+in_explanation input b p places place r (explained within says) = no_cause input r says.2
 
 in_text : (input : List ℕ) (r : Report) → IsTextRefusal input r → IsOfInput input r
 in_text input r refused = its_cause input r _ refused.says.2 refused.fault
@@ -83,8 +88,10 @@ found placed (Judge ids workers near far) able input r is =
     in_program ids _ input r (λ p few small said. in_table_of placed input p ids _ r few small said) is
 found placed (Run ids ring segments) able input r is =
     in_program ids _ input r (λ p few small said. in_list input _ _ _ _ r few (in_run input p ring.items segments r) said) is
-found placed (Trace ids ring) able input r is =
+found placed (Trace ids ring base) able input r is =
     in_program ids _ input r (λ p few small said. in_list input _ _ _ _ r few (λ says. no_cause input r says.2) said) is
+found placed (Explain ids ring place base) able input r is =
+    in_program ids _ input r (λ p few small said. in_list input _ _ _ _ r few (in_explanation input base p ring.items place r) said) is
 found placed (Plan ids ring workers) able input r is =
     in_program ids _ input r (λ p few small said. in_list input _ _ _ _ r few (λ says. no_cause input r says.2) said) is
 found placed Audit able input r is = in_table _ input r (λ t s few small said. in_judgement placed input t s r few small said) is

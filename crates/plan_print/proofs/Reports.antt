@@ -16,8 +16,10 @@ as_report (task.Judge m workers near far) ids input r on same is =
     subst (λ (k : ℕ). IsProgramReport k (IsAnswerTo (task.Judge m workers near far) k) input r) same is
 as_report (task.Run m places segments) ids input r on same is =
     subst (λ (k : ℕ). IsProgramReport k (IsAnswerTo (task.Run m places segments) k) input r) same is
-as_report (task.Trace m places) ids input r on same is =
-    subst (λ (k : ℕ). IsProgramReport k (IsAnswerTo (task.Trace m places) k) input r) same is
+as_report (task.Trace m places base) ids input r on same is =
+    subst (λ (k : ℕ). IsProgramReport k (IsAnswerTo (task.Trace m places base) k) input r) same is
+as_report (task.Explain m places place base) ids input r on same is =
+    subst (λ (k : ℕ). IsProgramReport k (IsAnswerTo (task.Explain m places place base) k) input r) same is
 as_report (task.Plan m places workers) ids input r on same is =
     subst (λ (k : ℕ). IsProgramReport k (IsAnswerTo (task.Plan m places workers) k) input r) same is
 as_report task.Print ids input r on same is = cc

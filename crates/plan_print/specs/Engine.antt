@@ -5,7 +5,7 @@ use Rattle.devices.specs.declared.fault.EngineFault.{EngineFault}
 use Rattle.devices.specs.declared.fault.EngineFault.TheVariants.{Read, Write}
 use Rattle.reports.specs.declared.status.Status.{Status}
 use Rattle.task_words.specs.declared.task.Task.{Task}
-use Rattle.task_words.specs.declared.task.Task.TheVariants.{Check, Print, Table, Judge, Run, Trace, Plan, Audit, Migrate, Formula, Refute}
+use Rattle.task_words.specs.declared.task.Task.TheVariants.{Check, Print, Table, Judge, Run, Trace, Explain, Plan, Audit, Migrate, Formula, Refute}
 use Rattle.node_lang.specs.declared.limits.TheConstants.{LONGEST_TEXT}
 use Rattle.table_text.specs.declared.limits.TheConstants.{LONGEST_TABLE_TEXT}
 use Rattle.refutation.specs.declared.limits.TheConstants.{LONGEST_REFUTATION}
@@ -25,7 +25,8 @@ max_read Print = LONGEST_TEXT + 1
 max_read (Table ids workers near far) = LONGEST_TEXT + 1
 max_read (Judge ids workers near far) = LONGEST_TEXT + 1
 max_read (Run ids ring segments) = LONGEST_TEXT + 1
-max_read (Trace ids ring) = LONGEST_TEXT + 1
+max_read (Trace ids ring base) = LONGEST_TEXT + 1
+max_read (Explain ids ring place base) = LONGEST_TEXT + 1
 max_read (Plan ids ring workers) = LONGEST_TEXT + 1
 max_read Audit = LONGEST_TABLE_TEXT + 1
 max_read Migrate = LONGEST_TABLE_TEXT + 1
@@ -72,7 +73,8 @@ thread_count_of Print = 0
 thread_count_of (Table ids workers near far) = workers
 thread_count_of (Judge ids workers near far) = workers
 thread_count_of (Run ids ring segments) = segments
-thread_count_of (Trace ids ring) = 0
+thread_count_of (Trace ids ring base) = 0
+thread_count_of (Explain ids ring place base) = 0
 thread_count_of (Plan ids ring workers) = workers
 thread_count_of Audit = 0
 thread_count_of Migrate = 0

@@ -2,12 +2,12 @@
 use Rattle.std.specs.Prelude.{ℕ, List, length}
 use Rattle.table_formula.specs.Problems.{Problem}
 use Rattle.table_entries.specs.ProgramTables.{table_of}
-use Rattle.reports.specs.Report.{Report, Says, accepted_line, place_lines, IsAnswerOnRing, IsJudgement, IsPrintReport, IsProgramReport, IsRunAnswer, IsTableReport, IsTableText}
+use Rattle.reports.specs.Report.{Report, Says, accepted_line, place_lines, IsAnswerOnRing, IsExplainAnswer, IsJudgement, IsPrintReport, IsProgramReport, IsRunAnswer, IsTableReport, IsTableText}
 use Rattle.reports.specs.FormulaReports.{IsFormulaReport, IsRefuteReport}
-use Rattle.reports.specs.Trace.{trace_lines}
 use Rattle.reports.specs.declared.status.Status.TheVariants.{Done}
+use Rattle.value_trees.specs.Trace.{trace_lines}
 use Rattle.task_words.specs.declared.task.Task.{Task}
-use Rattle.task_words.specs.declared.task.Task.TheVariants.{Check, Print, Table, Judge, Run, Trace, Plan, Audit, Migrate, Formula, Refute}
+use Rattle.task_words.specs.declared.task.Task.TheVariants.{Check, Print, Table, Judge, Run, Trace, Explain, Plan, Audit, Migrate, Formula, Refute}
 
 -- whether there is a table of so many identifiers, rounds and channels that keeps this separation
 abbrev pub problem : (ids rounds channels near far : ℕ) → Problem
@@ -23,8 +23,10 @@ IsReport (Table ids workers near far) input r = IsProgramReport ids (λ p. IsTab
 IsReport (Judge ids workers near far) input r = IsProgramReport ids (λ p. IsJudgement (table_of p ids) (record { near = near; far = far })) input r
 IsReport (Run ids places segments) input r =
     IsProgramReport ids (λ p. IsAnswerOnRing ids (length p.steps) places.items (IsRunAnswer p places.items segments)) input r
-IsReport (Trace ids places) input r =
-    IsProgramReport ids (λ p. IsAnswerOnRing ids (length p.steps) places.items (Says (trace_lines p places.items) Done)) input r
+IsReport (Trace ids places base) input r =
+    IsProgramReport ids (λ p. IsAnswerOnRing ids (length p.steps) places.items (Says (trace_lines base p places.items) Done)) input r
+IsReport (Explain ids places place base) input r =
+    IsProgramReport ids (λ p. IsAnswerOnRing ids (length p.steps) places.items (IsExplainAnswer base p places.items place)) input r
 IsReport (Plan ids places workers) input r =
     IsProgramReport ids (λ p. IsAnswerOnRing ids (length p.steps) places.items (Says (place_lines p places.items) Done)) input r
 IsReport Audit input r = IsTableReport IsJudgement input r

@@ -16,7 +16,7 @@ use nbhd_check::Separation;
 use reports::answer::Answer;
 use reports::formulas::{formula_report, refute_report};
 use reports::problem::ProblemNumbers;
-use reports::rings::trace_answer;
+use reports::rings::{explain_answer, trace_answer};
 use reports::texts::{audit_text_report, check_answer, migrate_report, plan_in, print_report};
 use std::alloc::Global;
 use std::sync::Wait;
@@ -154,7 +154,17 @@ fn ids_of(task: &Task) -> u32
             ring: _,
             segments: _,
         } => *ids,
-        Task::Trace { ids, ring: _ } => *ids,
+        Task::Trace {
+            ids,
+            ring: _,
+            base: _,
+        } => *ids,
+        Task::Explain {
+            ids,
+            ring: _,
+            place: _,
+            base: _,
+        } => *ids,
         Task::Plan {
             ids,
             ring: _,
@@ -195,7 +205,13 @@ fn program_answer<T: Threads + Wait + Sync>(
             ring,
             segments,
         } => run_answer(rt, alloc, plan, ring, segments),
-        Task::Trace { ids: _, ring } => trace_answer(alloc, plan, ring),
+        Task::Trace { ids: _, ring, base } => trace_answer(alloc, base, plan, ring),
+        Task::Explain {
+            ids: _,
+            ring,
+            place,
+            base,
+        } => explain_answer(alloc, base, plan, ring, place),
         Task::Plan {
             ids: _,
             ring,

@@ -1,5 +1,6 @@
 -- Each task has a report on each input.
-use Rattle.std.proofs.Common.{◌≢◌, ℕ, List, ◌∷◌, [], length, Some, None, inl, inr, refl}
+use Rattle.std.proofs.Common.{◌≢◌, ℕ, ◌<◌, ◌≤◌, List, ◌∷◌, [], length, Some, None, inl, inr, refl}
+use Rattle.std.proofs.lemmas.Bool.{cases_lt}
 use Rattle.std.specs.Prelude.{◌⊎◌}
 use Rattle.node_program.specs.Term.{ProgramTree}
 use Rattle.node_program.specs.GlobalRounds.{channels_of}
@@ -12,14 +13,16 @@ use Rattle.nbhd_check.specs.Apart.{tuples}
 use Rattle.table_entries.specs.ProgramTables.{table_of}
 use Rattle.table_text.specs.TableText.{table_text}
 use Rattle.task_words.specs.declared.task.Task.{Task}
-use Rattle.task_words.specs.declared.task.Task.TheVariants.{Check, Print, Table, Judge, Run, Trace, Plan, Audit, Migrate, Formula, Refute}
+use Rattle.task_words.specs.declared.task.Task.TheVariants.{Check, Print, Table, Judge, Run, Trace, Explain, Plan, Audit, Migrate, Formula, Refute}
 use Rattle.reports.specs.declared.status.Status.{Status}
 use Rattle.reports.specs.declared.status.Status.TheVariants.{Done, No, Words, Refused, RingRefused, FormulaRefused}
-use Rattle.reports.specs.Causes.{Reason, of_text, of_program, of_ring, of_segments, of_table_text, of_formula, of_refutation, of_no}
+use Rattle.reports.specs.Causes.{Reason, of_text, of_program, of_ring, of_place, of_segments, of_table_text, of_formula, of_refutation, of_no}
 use Rattle.reports.specs.Lines.{line, numbers_text}
-use Rattle.reports.specs.Trace.{trace_lines}
+use Rattle.numerals.specs.declared.base.Base.{Base}
+use Rattle.value_trees.specs.Explanation.{explanation}
+use Rattle.value_trees.specs.Trace.{trace_lines}
 use Rattle.reports.specs.Report as report
-use Rattle.reports.specs.Report.{Report, Says, IsJudgement, good, bad, IsAnswerOnRing, ring_fault, on_ring, IsRunAnswer, out_of_range, ran, text_refused, in_print, text_fault, check_fault, IsProgramReport, program_refused, answered, IsTableText, IsTableReport, table_refused, of_table}
+use Rattle.reports.specs.Report.{Report, Says, IsJudgement, good, bad, IsAnswerOnRing, ring_fault, on_ring, IsRunAnswer, out_of_range, ran, IsExplainAnswer, no_place, explained, text_refused, in_print, text_fault, check_fault, IsProgramReport, program_refused, answered, IsTableText, IsTableReport, table_refused, of_table}
 use Rattle.table_formula.specs.Problems.{Problem}
 use Rattle.table_formula.specs.Texts.{formula_text}
 use Rattle.refutation.specs.Laws.{EachTextHasAVerdict}
@@ -87,6 +90,11 @@ module _ (readable : ReadTextsAreReadable) (stops : ReadingStopsAtFirstFault) (n
   on_run p x segments (inr out) =
       (refuse report.segments_fault_line Words (of_segments segments (length x)), out_of_range out (refl, refl, refl))
 
+  on_place : (b : Base) (p : ProgramTree) (x : List ℕ) (place : ℕ) → (place < length x) ⊎ (length x ≤ place) → Some-report (IsExplainAnswer b p x place)
+  on_place b p x place (inl within) = let said = say (explanation b p x place) Done in (said.0, explained within said.1)
+  on_place b p x place (inr beyond) =
+      (refuse (report.place_fault_line place) RingRefused (of_place place (length x)), no_place beyond (refl, refl, refl))
+
   on_judgement : (t : ChannelTable) (s : Separation) → JudgeAnswer t s → Some-report (IsJudgement t s)
   on_judgement t s (apart is) = let said = say (report.good_line (length (tuples t s))) Done in (said.0, good is said.1)
   on_judgement t s (not_apart ring places channels is) =
@@ -133,9 +141,12 @@ module _ (readable : ReadTextsAreReadable) (stops : ReadingStopsAtFirstFault) (n
       go (Run m ring segments) =
           let x = ring.items in
           on_program m _ (λ p. on_list m (length p.steps) x _ (on_run p x segments (segments_answer segments (length x))) (ring_answer m (length p.steps) x)) input text
-      go (Trace m ring) =
+      go (Trace m ring base) =
           let x = ring.items in
-          on_program m _ (λ p. on_list m (length p.steps) x _ (say (trace_lines p x) Done) (ring_answer m (length p.steps) x)) input text
+          on_program m _ (λ p. on_list m (length p.steps) x _ (say (trace_lines base p x) Done) (ring_answer m (length p.steps) x)) input text
+      go (Explain m ring place base) =
+          let x = ring.items in
+          on_program m _ (λ p. on_list m (length p.steps) x _ (on_place base p x place (cases_lt place (length x))) (ring_answer m (length p.steps) x)) input text
       go (Plan m ring workers) =
           let x = ring.items in
           on_program m _ (λ p. on_list m (length p.steps) x _ (say (report.place_lines p x) Done) (ring_answer m (length p.steps) x)) input text

@@ -1,5 +1,5 @@
 -- A task has at most one report on an input.
-use Rattle.std.proofs.Common.{◌≡◌, ℕ, List, [], Option, Some, ap, subst, sym, ◌∙◌, refl, append-nil}
+use Rattle.std.proofs.Common.{◌≡◌, ℕ, ◌<◌, ◌≤◌, List, [], length, Option, Some, ap, subst, sym, ◌∙◌, refl, append-nil, arith}
 use Rattle.node_program.specs.Term.{ProgramTree}
 use Rattle.node_lang.specs.Laws.{OneReading, OneTextFault}
 use Rattle.win_index.specs.Laws.{OneRingFault, RingsHaveNoFault}
@@ -15,12 +15,13 @@ use Rattle.table_text.specs.Laws.{OneTableFault, TableTextsAreApart, TableTextsA
 use Rattle.lang_check.specs.Laws.{OneRefusal, AcceptedProgramsHaveNoRefusal}
 use Rattle.channel_tables.specs.declared.separation.Separation.{Separation}
 use Rattle.nbhd_check.specs.Laws.{OneWitness, ApartTablesHaveNoWitness}
+use Rattle.numerals.specs.declared.base.Base.{Base}
 use Rattle.task_words.specs.declared.task.Task.{Task}
-use Rattle.task_words.specs.declared.task.Task.TheVariants.{Check, Print, Table, Judge, Run, Trace, Plan, Audit, Migrate, Formula, Refute}
+use Rattle.task_words.specs.declared.task.Task.TheVariants.{Check, Print, Table, Judge, Run, Trace, Explain, Plan, Audit, Migrate, Formula, Refute}
 use Rattle.reports.specs.declared.status.Status.{Status}
 use Rattle.reports.specs.Causes.{Reason, of_text, of_program, of_ring, of_table_text, of_formula, of_refutation, of_no}
 use Rattle.reports.specs.Report as report
-use Rattle.reports.specs.Report.{Report, Says, Refuses, IsJudgement, good, bad, IsAnswerOnRing, ring_fault, on_ring, IsRunAnswer, out_of_range, ran, IsTableText, IsTextRefusal, IsPrintReport, text_refused, in_print, IsProgramRefusal, text_fault, check_fault, IsProgramReport, program_refused, answered, IsTableRefusal, IsTableReport, table_refused, of_table}
+use Rattle.reports.specs.Report.{Report, Says, Refuses, IsJudgement, good, bad, IsAnswerOnRing, ring_fault, on_ring, IsRunAnswer, out_of_range, ran, IsExplainAnswer, no_place, explained, IsTableText, IsTextRefusal, IsPrintReport, text_refused, in_print, IsProgramRefusal, text_fault, check_fault, IsProgramReport, program_refused, answered, IsTableRefusal, IsTableReport, table_refused, of_table}
 use Rattle.table_formula.specs.Problems.{Problem}
 use Rattle.refutation.specs.Laws.{OneRefutationFault, RefutationsAreRight}
 use Rattle.reports.specs.FormulaReports as formulas
@@ -68,6 +69,15 @@ one_run p x segments r s (out_of_range out says) (out_of_range out' says') = ref
 one_run p x segments r s (out_of_range out says) (ran within says') = absurd (out within)
 one_run p x segments r s (ran within says) (out_of_range out says') = absurd (out within)
 one_run p x segments r s (ran within says) (ran within' says') = said_once _ _ _ r s refl says says'
+
+no_such_place : (x : List ℕ) (place : ℕ) → length x ≤ place → place < length x → ⊥
+no_such_place x place beyond within = omega arith
+
+one_explanation : (b : Base) (p : ProgramTree) (x : List ℕ) (place : ℕ) (r s : Report) → IsExplainAnswer b p x place r → IsExplainAnswer b p x place s → r ≡ s
+one_explanation b p x place r s (no_place beyond says) (no_place beyond' says') = refused_once _ _ _ _ _ r s refl refl says says'
+one_explanation b p x place r s (no_place beyond says) (explained within says') = absurd (no_such_place x place beyond within)
+one_explanation b p x place r s (explained within says) (no_place beyond says') = absurd (no_such_place x place beyond within)
+one_explanation b p x place r s (explained within says) (explained within' says') = said_once _ _ _ r s refl says says'
 
 one_table_text : (t : ChannelTable) (d : Separation) (r s : Report) → IsTableText t d r → IsTableText t d s → r ≡ s
 one_table_text t d r s says says' = said_once _ _ _ r s refl says says'
@@ -214,7 +224,8 @@ one_report one_reading one_text_fault one_refusal no_refusal one_fault no_fault 
     go (Table ids workers near far) = of_program ids _ (λ p. one_table_text _ _)
     go (Judge ids workers near far) = of_program ids _ (λ p. judged_once _ _)
     go (Run ids ring segments) = of_program ids _ (λ p. one_on_ring one_fault no_fault _ _ _ _ (one_run p ring.items segments))
-    go (Trace ids ring) = of_program ids _ (λ p. one_on_ring one_fault no_fault _ _ _ _ (λ r s. said_once _ _ _ r s refl))
+    go (Trace ids ring base) = of_program ids _ (λ p. one_on_ring one_fault no_fault _ _ _ _ (λ r s. said_once _ _ _ r s refl))
+    go (Explain ids ring place base) = of_program ids _ (λ p. one_on_ring one_fault no_fault _ _ _ _ (one_explanation base p ring.items place))
     go (Plan ids ring workers) = of_program ids _ (λ p. one_on_ring one_fault no_fault _ _ _ _ (λ r s. said_once _ _ _ r s refl))
     go Audit = one_table_report one_table_fault apart read IsJudgement judged_once
     go Migrate = one_table_report one_table_fault apart read IsTableText one_table_text

@@ -1,9 +1,11 @@
 -- Reports and global rounds, and the report of a print.
-use Rattle.std.proofs.Common.{◌≡◌, ℕ, List, [], ◌∷◌, ◌++◌, codes, ap, append_assoc, subst, sym, ◌∙◌}
+use Rattle.std.proofs.Common.{◌≡◌, ℕ, ◌-◌, ◌<◌, List, [], ◌∷◌, ◌++◌, codes, replicate, ap, ap₂, append_assoc, arith, refl, subst, sym, ◌∙◌}
 use Rattle.std.specs.Prelude.{◌↔◌, length}
 use Rattle.std.specs.List.{flat_map, range_with_len}
+use Rattle.std.specs.Fmt.{decimal}
+use Rattle.std.proofs.lemmas.List.FromFn.{length-map-range_with_len}
 use Rattle.node_program.specs.Term.{ProgramTree}
-use Rattle.node_program.specs.GlobalRounds.{channels_of}
+use Rattle.node_program.specs.GlobalRounds.{channel_at, channels_of}
 use Rattle.node_lang.specs.Grammar.{Reads}
 use Rattle.node_lang.specs.Printed.{printed}
 use Rattle.node_lang.specs.Laws.{OneReading, PrintedIsRead}
@@ -19,9 +21,15 @@ use Rattle.headline.specs.Laws.{ProgramTablesAreApart}
 use Rattle.ring_segments.specs.SegmentCounts.{IsSegmentCount}
 use Rattle.reports.specs.declared.status.Status.TheVariants.{Done, No}
 use Rattle.reports.specs.Lines.{line, numbers_text}
-use Rattle.reports.specs.Trace.{register_lines, round_lines, row_line, trace_lines}
-use Rattle.reports.specs.Report.{Report, Says, IsJudgement, good, bad, IsAnswerOnRing, ring_fault, on_ring, IsRunAnswer, out_of_range, ran, text_refused, in_print, IsProgramReport, program_refused, answered}
-use Rattle.report_laws.specs.Laws.{IsAcceptedText, JudgeTellsRounds, RunTellsRounds, TraceTellsRounds, TraceEndsWithRun, PlanTellsRounds, TableTellsRounds, PrintsAreReadBack, SameForWorkers, SameForSegments}
+use Rattle.numerals.specs.Numerals.{form_of, padded, row, after_blanks}
+use Rattle.numerals.specs.declared.base.Base.{Base}
+use Rattle.numerals.specs.declared.base.Base.TheVariants.{Ten}
+use Rattle.value_trees.specs.Explanation.{explanation}
+use Rattle.value_trees.specs.Laws.{ShowsTrace, ExplanationsShowTraces}
+use Rattle.value_trees.specs.Trace.{register_lines, round_lines, row_line, trace_lines}
+use Rattle.reports.proofs.Joined.{joined_after}
+use Rattle.reports.specs.Report.{Report, Says, IsJudgement, good, bad, IsAnswerOnRing, ring_fault, on_ring, IsRunAnswer, out_of_range, ran, IsExplainAnswer, no_place, explained, text_refused, in_print, IsProgramReport, program_refused, answered}
+use Rattle.report_laws.specs.Laws.{IsAcceptedText, JudgeTellsRounds, RunTellsRounds, TraceTellsRounds, TraceEndsWithRun, ExplainTellsRounds, ExplainShowsTrace, PlanTellsRounds, TableTellsRounds, PrintsAreReadBack, SameForWorkers, SameForSegments}
 use Rattle.report_laws.proofs.OneReport.{accepted_or_refused}
 
 -- the report on an accepted program is that of the task on the program
@@ -66,24 +74,64 @@ run_tells one_reading no_refusal no_fault m segments ring input p r text is_ring
     (on_this_ring no_fault m (length p.steps) ring.items _ r is_ring (answer_on one_reading no_refusal m _ input p r text is))
 
 pub trace_tells : OneReading → AcceptedProgramsHaveNoRefusal → RingsHaveNoFault → TraceTellsRounds
-trace_tells one_reading no_refusal no_fault m ring input p r text is_ring is =
+trace_tells one_reading no_refusal no_fault m ring base input p r text is_ring is =
     on_this_ring no_fault m (length p.steps) ring.items _ r is_ring (answer_on one_reading no_refusal m _ input p r text is)
 
+-- at a place of the ring
+at_place : (b : Base) (p : ProgramTree) (x : List ℕ) (place : ℕ) (r : Report) → place < length x → IsExplainAnswer b p x place r
+    → Says (explanation b p x place) Done r
+at_place b p x place r within (no_place beyond says) = absurd (omega arith)
+at_place b p x place r within (explained is says) = says
+
+pub explain_tells : OneReading → AcceptedProgramsHaveNoRefusal → RingsHaveNoFault → ExplainTellsRounds
+explain_tells one_reading no_refusal no_fault m place ring base input p r text is_ring within is =
+    at_place base p ring.items place r within
+    (on_this_ring no_fault m (length p.steps) ring.items _ r is_ring (answer_on one_reading no_refusal m _ input p r text is))
+
+pub explain_shows : ExplanationsShowTraces → OneReading → AcceptedProgramsHaveNoRefusal → RingsHaveNoFault → ExplainShowsTrace
+explain_shows shown one_reading no_refusal no_fault m place ring base input p r text is_ring within is =
+    let says = explain_tells one_reading no_refusal no_fault m place ring base input p r text is_ring within is in
+    subst (ShowsTrace base p ring.items place) (sym says.0) (shown base p ring.items place within)
+
+-- a number in base ten has no leading zeros
+plain : (ns : List ℕ) (n : ℕ) → codes " " ++ padded (form_of Ten ns) n ≡ 32 ∷ decimal n
+plain ns n =
+    let none : 0 - length (decimal n) ≡ 0 = omega arith in
+    ap (λ k. 32 ∷ (replicate k 48 ++ decimal n)) none
+
+all_plain : (ms ns : List ℕ) → after_blanks (form_of Ten ms) ns ≡ flat_map (λ n. 32 ∷ decimal n) ns
+all_plain ms [] = refl
+all_plain ms (n ∷ ns) = ap₂ (λ a b. a ++ b) (plain ms n) (all_plain ms ns)
+
+-- a row in base ten is a blank and the line of its numbers
+row_is_line : (ns : List ℕ) → 0 < length ns → row Ten ns ≡ codes " " ++ line (numbers_text ns ∷ [])
+row_is_line [] some = absurd (omega arith)
+row_is_line (n ∷ ns) some = ap (λ l. l ++ codes "\n") (all_plain (n ∷ ns) (n ∷ ns) ∙ ap (λ l. 32 ∷ l) (joined_after decimal 32 n ns))
+
+some_channels : (p : ProgramTree) (x : List ℕ) → 0 < length x → 0 < length (channels_of p x)
+some_channels p x some = omega (arith, length-map-range_with_len (channel_at p x) 0 (length x))
+
 -- a trace is some lines followed by the line of its channels
-ends : (p : ProgramTree) (x : List ℕ)
-    → trace_lines p x
-    ≡ (register_lines p x 0 ++ flat_map (round_lines p x) (range_with_len 0 (length p.steps)))
+ends : (p : ProgramTree) (x : List ℕ) → 0 < length x
+    → trace_lines Ten p x
+    ≡ (row_line Ten (codes "ring") x ++ (register_lines Ten p x 0 ++ flat_map (round_lines Ten p x) (range_with_len 0 (length p.steps))))
     ++ (codes "finish " ++ line (numbers_text (channels_of p x) ∷ []))
-ends p x =
-    sym (append_assoc (register_lines p x 0) (flat_map (round_lines p x) (range_with_len 0 (length p.steps))) (row_line (codes "finish") (channels_of p x)))
+ends p x some =
+    let ring : List ℕ = row_line Ten (codes "ring") x in
+    let start : List ℕ = register_lines Ten p x 0 in
+    let rounds : List ℕ = flat_map (round_lines Ten p x) (range_with_len 0 (length p.steps)) in
+    let last : List ℕ = row_line Ten (codes "finish") (channels_of p x) in
+    ap (λ l. ring ++ l) (sym (append_assoc start rounds last)) ∙ sym (append_assoc ring (start ++ rounds) last)
+    ∙ ap (λ l. (ring ++ (start ++ rounds)) ++ (codes "finish" ++ l)) (row_is_line (channels_of p x) (some_channels p x some))
 
 pub trace_ends : OneReading → AcceptedProgramsHaveNoRefusal → RingsHaveNoFault → TraceEndsWithRun
 trace_ends one_reading no_refusal no_fault m segments ring input p r s text is_ring within trace run =
     let x = ring.items in
-    let lines = trace_tells one_reading no_refusal no_fault m ring input p r text is_ring trace in
+    let lines = trace_tells one_reading no_refusal no_fault m ring Ten input p r text is_ring trace in
     let channels = run_tells one_reading no_refusal no_fault m segments ring input p s text is_ring within run in
-    let front = register_lines p x 0 ++ flat_map (round_lines p x) (range_with_len 0 (length p.steps)) in
-    (front, lines.0 ∙ ends p x ∙ ap (λ l. front ++ (codes "finish " ++ l)) (sym channels.0))
+    let some : 0 < length x = omega (arith, is_ring.long) in
+    let front = row_line Ten (codes "ring") x ++ (register_lines Ten p x 0 ++ flat_map (round_lines Ten p x) (range_with_len 0 (length p.steps))) in
+    (front, lines.0 ∙ ends p x some ∙ ap (λ l. front ++ (codes "finish " ++ l)) (sym channels.0))
 
 pub print_tells : OneReading → PrintedIsRead → PrintsAreReadBack
 print_tells one_reading read input p r reads (text_refused refused) = absurd (refused.none p reads)

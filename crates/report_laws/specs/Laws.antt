@@ -15,15 +15,19 @@ use Rattle.channel_tables.specs.declared.separation.Separation.{Separation}
 use Rattle.nbhd_check.specs.Apart.{extra, IsApartEverywhere}
 use Rattle.nbhd_check.specs.Verdicts.{IsWitness}
 use Rattle.table_entries.specs.ProgramTables.{table_of}
+use Rattle.numerals.specs.declared.base.Base.{Base}
+use Rattle.numerals.specs.declared.base.Base.TheVariants.{Ten}
+use Rattle.value_trees.specs.Explanation.{explanation}
+use Rattle.value_trees.specs.Laws.{ShowsTrace}
+use Rattle.value_trees.specs.Trace.{trace_lines}
 use Rattle.ring_segments.specs.SegmentCounts.{IsSegmentCount}
 use Rattle.headline.specs.Headline.{ChannelsAreApart}
 use Rattle.table_text.specs.TableText.{table_text}
 use Rattle.task_words.specs.declared.task.Task.{Task}
-use Rattle.task_words.specs.declared.task.Task.TheVariants.{Print, Table, Judge, Run, Trace, Plan, Audit, Migrate, Refute}
+use Rattle.task_words.specs.declared.task.Task.TheVariants.{Print, Table, Judge, Run, Trace, Explain, Plan, Audit, Migrate, Refute}
 use Rattle.reports.specs.declared.status.Status.TheVariants.{Done, No}
 use Rattle.reports.specs.Lines.{line, numbers_text}
-use Rattle.reports.specs.Trace.{trace_lines}
-use Rattle.reports.specs.Causes.{Reason, of_ring, of_segments, of_refutation, of_no}
+use Rattle.reports.specs.Causes.{Reason, of_ring, of_place, of_segments, of_refutation, of_no}
 use Rattle.reports.specs.Notes.{IsNote}
 use Rattle.reports.specs.Report.{Report, Says, place_lines}
 use Rattle.plan_print.specs.TaskReport.{IsReport}
@@ -59,18 +63,35 @@ RunTellsRounds =
     → IsRing m (length p.steps) ring.items → IsSegmentCount segments (length ring.items) → IsReport (Run m ring segments) input r
     → Says (line (numbers_text (channels_of p ring.items) ∷ [])) Done r
 
--- the report of a trace on a ring is the lines of the registers and messages of its places in global rounds
+-- the report of a trace on a ring is the lines of the identifiers, the registers and the messages of its places in global
+-- rounds
 abbrev pub TraceTellsRounds : Type 0
 TraceTellsRounds =
-    (m : ℕ) (ring : Vec ℕ Global) (input : List ℕ) (p : ProgramTree) (r : Report) → IsAcceptedText input m p
-    → IsRing m (length p.steps) ring.items → IsReport (Trace m ring) input r → Says (trace_lines p ring.items) Done r
+    (m : ℕ) (ring : Vec ℕ Global) (base : Base) (input : List ℕ) (p : ProgramTree) (r : Report) → IsAcceptedText input m p
+    → IsRing m (length p.steps) ring.items → IsReport (Trace m ring base) input r → Says (trace_lines base p ring.items) Done r
 
--- its last line is a word, followed by the report of a run on the ring, in any number of segments in its range
+-- the report of an explanation on a ring is how the place computes in global rounds
+abbrev pub ExplainTellsRounds : Type 0
+ExplainTellsRounds =
+    (m place : ℕ) (ring : Vec ℕ Global) (base : Base) (input : List ℕ) (p : ProgramTree) (r : Report) → IsAcceptedText input m p
+    → IsRing m (length p.steps) ring.items → place < length ring.items → IsReport (Explain m ring place base) input r
+    → Says (explanation base p ring.items place) Done r
+
+-- so below each heading it has a tree whose first line has the number that the line of a trace has at the place, and below
+-- `finish` the one that a run has there
+abbrev pub ExplainShowsTrace : Type 0
+ExplainShowsTrace =
+    (m place : ℕ) (ring : Vec ℕ Global) (base : Base) (input : List ℕ) (p : ProgramTree) (r : Report) → IsAcceptedText input m p
+    → IsRing m (length p.steps) ring.items → place < length ring.items → IsReport (Explain m ring place base) input r
+    → ShowsTrace base p ring.items place r.bytes
+
+-- in base ten the last line of a trace is a word, followed by the report of a run on the ring, in any number of segments in
+-- its range
 abbrev pub TraceEndsWithRun : Type 0
 TraceEndsWithRun =
     (m segments : ℕ) (ring : Vec ℕ Global) (input : List ℕ) (p : ProgramTree) (r s : Report) → IsAcceptedText input m p
     → IsRing m (length p.steps) ring.items → IsSegmentCount segments (length ring.items)
-    → IsReport (Trace m ring) input r → IsReport (Run m ring segments) input s
+    → IsReport (Trace m ring Ten) input r → IsReport (Run m ring segments) input s
     → (lines : List ℕ) × (r.bytes ≡ lines ++ (codes "finish " ++ s.bytes))
 
 -- the report of a print on the text of a program is a text of the same program, and the print of that text
@@ -124,9 +145,11 @@ AuditOfTableIsJudge =
     (m v w near far : ℕ) (input : List ℕ) (r s : Report) → IsNear near → IsFar far → IsReport (Table m v near far) input r → r.status ≡ Done
     → IsReport Audit r.bytes s → IsReport (Judge m w near far) input s
 
--- the cause is a list that is no ring, a number of segments, a fault of a refutation, or a no: its note has no advice
+-- the cause is a list that is no ring, a place that a ring has not, a number of segments, a fault of a refutation, or a no:
+-- its note has no advice
 abbrev pub HasNoAdvice : Reason → Type 0
 HasNoAdvice (of_ring m t places f) = ⊤
+HasNoAdvice (of_place place places) = ⊤
 HasNoAdvice (of_segments segments places) = ⊤
 HasNoAdvice (of_refutation f) = ⊤
 HasNoAdvice (of_no t ring places channels) = ⊤

@@ -9,6 +9,7 @@ use node_lang::{first_fault, one_reading, one_text_fault, printed_is_read_back, 
 use refutation::{each_text_has_a_verdict, one_refutation_verdict, refutations_are_sound};
 use table_entries::{program_tables_are_tables, table_has_the_channels_of_rounds};
 use table_text::{one_table_fault, table_texts_are_apart, table_texts_are_read};
+use value_trees::explanations_show_traces;
 use win_index::{
     count_of_windows, number_of_window, one_ring_fault, places_of_arcs, rings_have_windows,
     window_of_number, windows_have_numbers,
@@ -48,13 +49,17 @@ pub fn each_task_has_a_report()
 /// The reports on an accepted program agree with synchronous rounds on rings (Linial 1992). The
 /// status of a judge says whether their channels are apart on every ring. The line of a run and the
 /// lines of a plan have their channels on the ring. The lines of a trace have the registers and the
-/// messages of the ring's places, and end with the report of a run. A table has their channels at
+/// messages of the ring's places, and end with the report of a run. An explanation has the value of
+/// each part of each expression at its place; that of a whole expression is the number that a trace
+/// has there, or the channel that a run has. A table has their channels at
 /// the windows of every ring.
 pub fn reports_tell_rounds()
     ensures judge { law.JudgeTellsRounds }
     ensures run { law.RunTellsRounds }
     ensures trace { law.TraceTellsRounds }
     ensures finish { law.TraceEndsWithRun }
+    ensures explain { law.ExplainTellsRounds }
+    ensures shows { law.ExplainShowsTrace }
     ensures plan { law.PlanTellsRounds }
     ensures table { law.TableTellsRounds }
 {
@@ -64,6 +69,7 @@ pub fn reports_tell_rounds()
     one_witness();
     table_has_the_channels_of_rounds();
     program_tables_are_apart();
+    explanations_show_traces();
 }
 
 /// The report of a print is a text of the same program, and the print of that text is the same
@@ -112,8 +118,8 @@ pub fn refuted_is_impossible()
     places_of_arcs();
 }
 
-/// The note on a list that is no ring, on a number of segments, on a fault of a refutation or on a no
-/// is one text.
+/// The note on a list that is no ring, on a place that a ring has not, on a number of segments, on a
+/// fault of a refutation or on a no is one text.
 #[tactic(auto, using(crate::proofs::OneNote::one_note))]
 pub fn one_note()
     ensures { law.OneNote }

@@ -1,5 +1,4 @@
-mod Joined
-mod TraceLines
+pub mod Joined
 pub mod Aligned
 mod SentMemo
 pub mod NotRing

@@ -11,13 +11,14 @@ use Rattle.reports.specs.declared.cause.Cause.{Cause}
 use Rattle.reports.specs.declared.cause.Cause.TheVariants as cause
 
 -- The cause of a report: the fault of a program text and its place; the refusal of a program for a number of
--- identifiers; the fault of a list of identifiers, for m identifiers and t rounds; a number of segments for a number of
--- places; the fault of a table text; why there is no formula of m identifiers and t rounds; the fault of a refutation; or,
+-- identifiers; the fault of a list of identifiers, for m identifiers and t rounds; a place, or a number of segments, for a
+-- number of places; the fault of a table text; why there is no formula of m identifiers and t rounds; the fault of a refutation; or,
 -- on a ring, two places and their channels, for t rounds.
 pub data Reason : Type 0 where
   of_text : (kind : FaultKind) (offset : ℕ) → Reason
   of_program : (p : ProgramTree) (ids : ℕ) (f : CheckFault) → Reason
   of_ring : (m t : ℕ) (places : List ℕ) (f : RingFault) → Reason
+  of_place : (place places : ℕ) → Reason
   of_segments : (segments places : ℕ) → Reason
   of_table_text : (f : TableFault) → Reason
   of_formula : (m t : ℕ) (f : ProblemFault) → Reason
@@ -28,6 +29,7 @@ abbrev pub reason_of : Cause → Reason
 reason_of (cause.Text f) = of_text f.kind f.offset
 reason_of (cause.Program p ids f) = of_program p ids f
 reason_of (cause.Ring rounds ids places f) = of_ring ids rounds places.items f
+reason_of (cause.Place place places) = of_place place places
 reason_of (cause.Segments segments places) = of_segments segments places
 reason_of (cause.TableText f) = of_table_text f
 reason_of (cause.Formula ids rounds f) = of_formula ids rounds f

@@ -1,8 +1,7 @@
--- The definitions that the contracts cite: exit statuses, printed lines and traces, the numbers of a problem, reports, their
+-- The definitions that the contracts cite: exit statuses, printed lines, the numbers of a problem, reports, their
 -- causes and the notes on these, reports before they are written, and what writing one leaves.
 pub mod StatusCodes
 pub mod Lines
-pub mod Trace
 pub mod Report
 pub mod ProblemFaults
 pub mod Causes

@@ -13,11 +13,11 @@ use Rattle.table_text.specs.declared.fault.TableFault.TheVariants as table
 use Rattle.table_text.specs.declared.limits.TheConstants.{LONGEST_TABLE_TEXT}
 use Rattle.fault_notes.specs.TextNotes.{IsTextNote, too_long_note}
 use Rattle.fault_notes.specs.ProgramNotes.{IsCheckNote}
-use Rattle.fault_notes.specs.RingNotes.{ring_note, segments_note}
+use Rattle.fault_notes.specs.RingNotes.{place_note, ring_note, segments_note}
 use Rattle.fault_notes.specs.TableNotes.{long_note, IsFormNote, IsWindowNote, channel_note}
 use Rattle.fault_notes.specs.VerdictNotes.{verdict_note}
 use Rattle.refutation.specs.declared.fault.RefuteError.TheVariants as refute
-use Rattle.reports.specs.Causes.{Reason, of_text, of_program, of_ring, of_segments, of_table_text, of_formula, of_refutation, of_no}
+use Rattle.reports.specs.Causes.{Reason, of_text, of_program, of_ring, of_place, of_segments, of_table_text, of_formula, of_refutation, of_no}
 use Rattle.reports.specs.FormulaNotes.{IsFormulaNote, refutation_note}
 
 -- the note on a fault of a table text; OutOfMemory is no fault of one
@@ -34,6 +34,7 @@ IsNote input (of_text k offset) note =
     (k ≡ kind.TooLong → note ≡ too_long_note) × (k ≢ kind.TooLong → IsTextNote input k offset note)
 IsNote input (of_program p ids f) note = IsCheckNote input p ids f note
 IsNote input (of_ring m t places f) note = note ≡ ring_note m t places f
+IsNote input (of_place place places) note = note ≡ place_note place places
 IsNote input (of_segments segments places) note = note ≡ segments_note segments places
 IsNote input (of_table_text f) note = IsTableNote input f note
 IsNote input (of_formula m t f) note = IsFormulaNote m t f note

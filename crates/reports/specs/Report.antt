@@ -1,5 +1,5 @@
 -- Reports: their bytes, their status and their cause, on a text, on a program, on a table or on a ring.
-use Rattle.std.specs.Prelude.{◌≡◌, ◌≢◌, ◌==◌, ◌&&◌, if◌then◌else◌, ℕ, ◌+◌, ◌*◌, List, [], ◌∷◌, Option, Some, None, length, slice_index, codes}
+use Rattle.std.specs.Prelude.{◌≡◌, ◌≢◌, ◌==◌, ◌&&◌, if◌then◌else◌, ℕ, ◌+◌, ◌*◌, ◌<◌, ◌≤◌, List, [], ◌∷◌, Option, Some, None, length, slice_index, codes}
 use Rattle.std.specs.List.{flat_map, range_with_len}
 use Rattle.std.specs.Fmt.{decimal}
 use Rattle.node_lang.specs.declared.fault.FaultKind.{FaultKind}
@@ -26,7 +26,9 @@ use Rattle.nbhd_check.specs.Verdicts.{IsWitness}
 use Rattle.ring_segments.specs.SegmentCounts.{IsSegmentCount}
 use Rattle.reports.specs.declared.status.Status.{Status}
 use Rattle.reports.specs.declared.status.Status.TheVariants.{Done, No, Words, Refused, RingRefused}
-use Rattle.reports.specs.Causes.{Reason, of_text, of_program, of_ring, of_segments, of_table_text, of_no}
+use Rattle.numerals.specs.declared.base.Base.{Base}
+use Rattle.value_trees.specs.Explanation.{explanation}
+use Rattle.reports.specs.Causes.{Reason, of_text, of_program, of_ring, of_place, of_segments, of_table_text, of_no}
 use Rattle.reports.specs.Lines.{line, numbers_text, right_aligned}
 use Rattle.table_text.specs.declared.fault.TableFault.{TableFault}
 use Rattle.table_text.specs.declared.fault.TableFault.TheVariants as table
@@ -77,6 +79,10 @@ ring_fault_line ring.TooShort = line (codes "ring fault G1" ∷ [])
 ring_fault_line ring.TooLong = line (codes "ring fault G2" ∷ [])
 ring_fault_line (ring.IdTooLarge place) = line (codes "ring fault G3 place " ∷ decimal place ∷ [])
 ring_fault_line (ring.Repeated first second) = line (codes "ring fault G4 places " ∷ decimal first ∷ codes " " ∷ decimal second ∷ [])
+
+-- the line of a place that the ring has not
+abbrev pub place_fault_line : ℕ → List ℕ
+place_fault_line place = line (codes "ring fault G5 place " ∷ decimal place ∷ [])
 
 -- the line of a ring that can't be run in the requested number of segments
 abbrev pub segments_fault_line : List ℕ
@@ -142,6 +148,11 @@ pub data IsAnswerOnRing (m t : ℕ) (places : List ℕ) (said : Report → Type 
 pub data IsRunAnswer (p : ProgramTree) (places : List ℕ) (segments : ℕ) (r : Report) : Type 0 where
   out_of_range : (¬ IsSegmentCount segments (length places)) → Refuses segments_fault_line Words (of_segments segments (length places)) r → IsRunAnswer p places segments r
   ran : IsSegmentCount segments (length places) → Says (line (numbers_text (channels_of p places) ∷ [])) Done r → IsRunAnswer p places segments r
+
+-- The report of an explanation on a ring: the ring has no such place, or how the place computes in global rounds.
+pub data IsExplainAnswer (b : Base) (p : ProgramTree) (places : List ℕ) (place : ℕ) (r : Report) : Type 0 where
+  no_place : length places ≤ place → Refuses (place_fault_line place) RingRefused (of_place place (length places)) r → IsExplainAnswer b p places place r
+  explained : place < length places → Says (explanation b p places place) Done r → IsExplainAnswer b p places place r
 
 -- the report with the text of a table and a separation
 abbrev pub IsTableText : ChannelTable → Separation → Report → Type 0

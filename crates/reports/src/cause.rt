@@ -25,6 +25,11 @@ pub enum Cause {
         places: Vec<u32>,
         fault: RingFault,
     },
+    /// A place that the ring has not, and the number of its places.
+    Place {
+        place: u32,
+        places: usize,
+    },
     /// A number of segments, and the number of places of the ring.
     Segments {
         segments: u32,

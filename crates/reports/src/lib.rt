@@ -1,4 +1,4 @@
-//! Reports: printed lines and traces, reports on texts, tables, rings and formulas, their causes and
+//! Reports: printed lines, reports on texts, tables, rings and formulas, their causes and
 //! their exit statuses, and how a report is written.
 #![tactic(auto)]
 
@@ -15,5 +15,4 @@ pub mod problem;
 pub mod rings;
 pub mod status;
 pub mod texts;
-mod trace;
 pub mod writing;

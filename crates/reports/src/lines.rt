@@ -91,6 +91,13 @@ pub(crate) fn ring_fault_line(alloc: Global, fault: RingFault) -> Result<String,
     }
 }
 
+// Returns the line of a place that a ring has not.
+pub(crate) fn place_fault_line(alloc: Global, place: u32) -> Result<String, AllocError>
+    ensures { IfOk result (λ text. string_bytes text ≡ report.place_fault_line place) }
+{
+    format!(in alloc; "ring fault G5 place {place}\n")
+}
+
 // Returns the line of a ring that can't be run in the requested number of segments.
 pub(crate) fn segments_fault_line(alloc: Global) -> Result<String, AllocError>
     ensures { IfOk result (λ text. string_bytes text ≡ report.segments_fault_line) }

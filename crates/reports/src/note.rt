@@ -8,8 +8,8 @@ ghost use Rattle.table_text.specs.Faults.{IsFault};
 use crate::cause::Cause;
 use crate::formula_notes::{formula_note, refutation_note};
 use fault_notes::{
-    channel_note, check_note, form_note, long_note, ring_note, segments_note, text_note,
-    verdict_note, window_note,
+    channel_note, check_note, form_note, long_note, place_note, ring_note, segments_note,
+    text_note, verdict_note, window_note,
 };
 use std::alloc::{AllocError, Global};
 use table_text::{LONGEST_TABLE_TEXT, TableFault};
@@ -32,6 +32,7 @@ pub fn note_on(alloc: Global, input: &[u8], cause: &Cause) -> Result<String, All
             places,
             fault,
         } => ring_note(alloc, *ids, *rounds, places, *fault),
+        Cause::Place { place, places } => place_note(alloc, *place, *places),
         Cause::Segments { segments, places } => segments_note(alloc, *segments, *places),
         Cause::TableText(fault) => table_note(alloc, input, *fault),
         Cause::Formula { ids, rounds, fault } => formula_note(alloc, *ids, *rounds, *fault),

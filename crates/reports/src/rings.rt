@@ -1,23 +1,24 @@
 //! Reports on rings, and on lists of identifiers that are not rings. Each call fails only with
 //! `Memory`, if memory was refused.
 
-ghost use Rattle.std.specs.Prelude.{◌≡◌, length, IfOk, IfErr};
+ghost use Rattle.std.specs.Prelude.{◌≡◌, ◌≤◌, length, IfOk, IfErr};
 ghost use Rattle.reports.specs.Answers.{report_in};
-ghost use Rattle.reports.specs.Causes.{of_ring, of_segments};
-ghost use Rattle.reports.specs.Trace.{trace_lines};
+ghost use Rattle.reports.specs.Causes.{of_place, of_ring, of_segments};
 ghost use Rattle.reports.specs.Report as report;
-ghost use Rattle.reports.specs.Report.{Says, Refuses, IsAnswerOnRing};
+ghost use Rattle.reports.specs.Report.{Says, Refuses, IsAnswerOnRing, IsExplainAnswer};
 ghost use Rattle.ring_segments.specs.SegmentCounts.{IsSegmentCount};
+ghost use Rattle.value_trees.specs.Trace.{trace_lines};
 ghost use Rattle.win_index.specs.RingFaults.{IsFirstFault};
 
 use crate::answer::Answer;
 use crate::cause::Cause;
-use crate::lines::{ring_fault_line, segments_fault_line};
+use crate::lines::{place_fault_line, ring_fault_line, segments_fault_line};
 use crate::status::Status;
-use crate::trace::trace_text;
 use devices::fault::EngineFault;
 use lang_check::Plan;
+use numerals::Base;
 use std::alloc::Global;
+use value_trees::{explanation_text, trace_text};
 use win_index::{Ring, RingFault, Shape};
 
 /// Returns the report on a list of identifiers that is not a ring of this shape.
@@ -57,14 +58,71 @@ pub fn segments_refusal(alloc: Global, segments: u32, ring: &Ring) -> Result<Ans
     Ok(Answer::Told(line, Status::Words, cause))
 }
 
-/// Returns the report of a trace of a list of identifiers.
-pub fn trace_answer(alloc: Global, plan: &Plan, ids: Vec<u32>) -> Result<Answer, EngineFault>
+// Returns the report on a place that the ring has not.
+fn place_refusal(alloc: Global, place: u32, ring: &Ring) -> Result<Answer, EngineFault>
+    requires { length ring.now.places ≤ place }
+    ensures answer { IfOk result (λ r. Refuses (report.place_fault_line place) Status.RingRefused
+        (of_place place (length ring.now.places)) (report_in r)) }
+    ensures fault { IfErr result (λ fault. fault ≡ EngineFault.Memory) }
+{
+    let line = place_fault_line(alloc, place)?;
+    let cause = Cause::Place {
+        place,
+        places: ring.len() as usize,
+    };
+    Ok(Answer::Told(line, Status::RingRefused, cause))
+}
+
+/// Returns the report of a trace of a list of identifiers, with its numbers in this base.
+pub fn trace_answer(
+    alloc: Global,
+    base: Base,
+    plan: &Plan,
+    ids: Vec<u32>,
+) -> Result<Answer, EngineFault>
     ensures answer { IfOk result (λ r. IsAnswerOnRing plan.now.ids (length plan.now.program.steps) ids.items
-        (Says (trace_lines plan.now.program ids.items) Status.Done) (report_in r)) }
+        (Says (trace_lines base plan.now.program ids.items) Status.Done) (report_in r)) }
     ensures fault { IfErr result (λ fault. fault ≡ EngineFault.Memory) }
 {
     match Ring::new(plan.shape(), ids) {
-        Ok(ring) => Ok(Answer::Text(trace_text(alloc, plan, &ring)?, Status::Done)),
+        Ok(ring) => Ok(Answer::Text(trace_text(alloc, base, plan, &ring)?, Status::Done)),
         Err((ids, fault)) => ring_refusal(alloc, plan.shape(), ids, fault),
     }
+}
+
+/// Returns the report of how a place of a list of identifiers computes, with its values in this base.
+pub fn explain_answer(
+    alloc: Global,
+    base: Base,
+    plan: &Plan,
+    ids: Vec<u32>,
+    place: u32,
+) -> Result<Answer, EngineFault>
+    ensures answer { IfOk result (λ r. IsAnswerOnRing plan.now.ids (length plan.now.program.steps) ids.items
+        (IsExplainAnswer base plan.now.program ids.items place) (report_in r)) }
+    ensures fault { IfErr result (λ fault. fault ≡ EngineFault.Memory) }
+{
+    match Ring::new(plan.shape(), ids) {
+        Ok(ring) => place_answer(alloc, base, plan, &ring, place),
+        Err((ids, fault)) => ring_refusal(alloc, plan.shape(), ids, fault),
+    }
+}
+
+// Returns the report of how a place of a ring computes.
+fn place_answer(
+    alloc: Global,
+    base: Base,
+    plan: &Plan,
+    ring: &Ring,
+    place: u32,
+) -> Result<Answer, EngineFault>
+    requires { ring.now.ids ≡ plan.now.ids }
+    ensures answer { IfOk result (λ r. IsExplainAnswer base plan.now.program ring.now.places place (report_in r)) }
+    ensures fault { IfErr result (λ fault. fault ≡ EngineFault.Memory) }
+{
+    if place >= ring.len() {
+        return place_refusal(alloc, place, ring);
+    }
+    let text = explanation_text(alloc, base, plan, ring, place)?;
+    Ok(Answer::Text(text, Status::Done))
 }

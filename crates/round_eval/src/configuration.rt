@@ -146,9 +146,9 @@ impl<'a> Configuration<'a> {
         }
     }
 
-    // Returns the registers of a place.
+    /// Returns the registers of a place.
     #[tactic(auto, using(std::proofs::lemmas::Nat::row_fits))]
-    fn held_by(&self, place: u32) -> &[u32]
+    pub fn held_by(&self, place: u32) -> &[u32]
         requires { place < length self.now.places }
         ensures value { result.now ≡ state self.now.program self.now.places self.now.round place }
         ensures size { length result.now ≡ length self.now.program.start }

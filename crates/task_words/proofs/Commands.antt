@@ -17,7 +17,7 @@ facts_more facts told items after item rows j d within same more pushed =
     ap (map facts) pushed ∙ map_push facts items item ∙ ap₂ (λ l x. l ++ x ∷ []) same more ∙ sym (map_more told rows j d within)
 
 -- equal lists have equal heads and equal tails
-parts_of : {A : Type 0} (x y : A) (xs ys : List A) → x ∷ xs ≡ y ∷ ys → (x ≡ y) × (xs ≡ ys)
+pub parts_of : {A : Type 0} (x y : A) (xs ys : List A) → x ∷ xs ≡ y ∷ ys → (x ≡ y) × (xs ≡ ys)
 parts_of x y xs ys same = (cc, cc)
 
 not_empty : {A X : Type 0} (x : A) (xs : List A) → x ∷ xs ≡ [] → X

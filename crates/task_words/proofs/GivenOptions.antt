@@ -1,21 +1,61 @@
 -- The values of the options of each command, if `clap` accepts the words.
-use Rattle.std.proofs.Common.{◌≡◌, ℕ, Bool, true, false, List, [], Option, Some, None, Result, inl, inr, refl, sym, ◌∙◌, ap, subst, arith, codes, ◌<◌, ◌≤◌, ◌^◌}
-use Rattle.std.specs.Prelude.{◌||◌}
+use Rattle.std.proofs.Common.{◌≡◌, ℕ, Bool, true, false, List, [], ◌∷◌, Option, Some, None, Result, inl, inr, map, pos, refl, sym, ◌∙◌, ap, subst, arith, codes, ◌<◌, ◌≤◌, ◌^◌}
+use Rattle.std.specs.Prelude.{◌||◌, if◌then◌else◌}
+use Rattle.std.proofs.lemmas.Option.{none-some, same_Some}
 use Rattle.std.specs.Option.{IsSomeAnd}
 use Rattle.std.specs.Str.{bytes_eq}
 use Rattle.std.specs.Str.Parse.{ParsesUnsigned, ExplainsUnsignedError, HasUnsignedDigitsIfOk}
 use Rattle.std.specs.declared.num.ParseIntError.{ParseIntError}
 use Rattle.clap.specs.declared.parser.matches.Found.{Found}
-use Rattle.clap.specs.Words.{ReadsOne, Row, Text, fault_of, one_text, rows_of, subcommand_of, without_minus}
+use Rattle.clap.specs.Words.{ReadsOne, Row, Rule, Shape, Text, fault_of, first_of, one_text, rows_of, subcommand_of, without_minus}
 use Rattle.clap.proofs.CallerReads.{signed_reads}
 use Rattle.clap.proofs.WalkLemmas.{one_text-rows}
-use Rattle.option_values.specs.OptionLines.{HasValue, IsOneOf, is_option_line}
+use Rattle.clap.specs.declared.builder.value_parser.ValueParser.TheVariants.{Signed}
+use Rattle.option_values.specs.OptionLines.{HasValue, HaveValues, IsOneOf, is_always_given, is_option_line}
 use Rattle.option_values.specs.Laws.{OptionsHaveValues}
-use Rattle.task_words.specs.CommandLine.{command_line, ids_rule, ring_rule, workers_rule, segments_rule, near_rule, far_rule, rounds_rule, channels_rule}
+use Rattle.task_words.specs.CommandLine.{command_line, option_rule, ids_rule, ring_rule, place_rule, base_rule, workers_rule, segments_rule, near_rule, far_rule, rounds_rule, channels_rule}
 use Rattle.task_words.specs.Counts.{IsCount, IsNear, IsFar, AreFormulaNumbers}
-use Rattle.task_words.specs.Options.{IsNumberGiven, IsTextGiven}
-use Rattle.task_words.specs.declared.limits.TheConstants.{MAX_CHANNELS, MAX_COUNT, MAX_DISTANCE, MAX_ROUNDS}
+use Rattle.task_words.specs.Options.{IsBaseGiven, IsNumberGiven, IsTextGiven}
+use Rattle.task_words.proofs.Commands.{parts_of}
+use Rattle.task_words.specs.declared.limits.TheConstants.{MAX_BASE, MAX_CHANNELS, MAX_COUNT, MAX_DISTANCE, MAX_ROUNDS, MIN_BASE}
 use Rattle.task_words.specs.Words.{HasNumber, IsRingName, IsFormulaName}
+
+-- ---- the value of an option
+
+-- the first rule with this id
+rule_named : Text → List Rule → Option Rule
+rule_named id [] = None
+rule_named id (rule ∷ rest) = if bytes_eq rule.id id then Some rule else rule_named id rest
+
+-- a rule among others that is always given has a value
+named_has : (id : Text) (rules : List Rule) (rule : Rule) (values : List Row) → rule_named id rules ≡ Some rule → is_always_given rule ≡ true
+    → HaveValues rules values → HasValue rule values
+unfolding rule_named
+named_has id [] rule values is always have = absurd (none-some rule is)
+named_has id (first ∷ rest) rule values is always have = go (bytes_eq first.id id) is (λ same. named_has id rest rule values same always have.1)
+  where
+    go : (b : Bool) → (if b then Some first else rule_named id rest) ≡ Some rule → (rule_named id rest ≡ Some rule → HasValue rule values) → HasValue rule values
+    go true is later =
+        let same : rule ≡ first = sym (same_Some first rule is) in
+        subst (λ r. HasValue r values) (sym same) (have.0 (ap is_always_given (sym same) ∙ always))
+    go false is later = later is
+
+-- the rule with this id of a command whose name passes a test, and this rule for each other command
+abbrev rule_for : (Text → Bool) → Text → Rule → Shape → Option Rule
+rule_for test id rule s = if test s.name then rule_named id s.rules else Some rule
+
+-- If each command whose name passes a test has this rule, and the rule is always given, it has a value in each call of such
+-- a command.
+given : (test : Text → Bool) (id : Text) (rule : Rule) (subs : List Shape) (name : Text) (values : List Row)
+    → map (rule_for test id rule) subs ≡ map (λ _. Some rule) subs → is_always_given rule ≡ true → IsOneOf subs name values → test name ≡ true
+    → HasValue rule values
+given test id rule [] name values all always one takes = absurd one
+given test id rule (s ∷ rest) name values all always (inl (is, have)) takes =
+    let first = (parts_of _ _ _ _ all).0 in
+    let passes : test s.name ≡ true = ap test (sym is) ∙ takes in
+    named_has id s.rules rule values (ap (λ b. if b then rule_named id s.rules else Some rule) (sym passes) ∙ first) always have
+given test id rule (s ∷ rest) name values all always (inr one) takes =
+    given test id rule rest name values (parts_of _ _ _ _ all).1 always one takes
 
 -- ---- the options of each command
 
@@ -32,169 +72,82 @@ takes_rounds name = is_named (codes "formula") name || is_named (codes "refute")
 abbrev pub takes_near : Text → Bool
 takes_near name = is_named (codes "table") name || (is_named (codes "judge") name || takes_rounds name)
 
+abbrev pub takes_base : Text → Bool
+takes_base name = is_named (codes "trace") name || is_named (codes "explain") name
+
 abbrev pub takes_ring : Text → Bool
-takes_ring name = is_named (codes "run") name || (is_named (codes "trace") name || is_named (codes "plan") name)
+takes_ring name = is_named (codes "run") name || (takes_base name || is_named (codes "plan") name)
 
 abbrev pub takes_ids : Text → Bool
 takes_ids name = is_named (codes "check") name || (takes_near name || takes_ring name)
 
--- a name that passes a test differs from one that fails it
-other_name : (test : Text → Bool) (name other : Text) → test other ≡ false → test name ≡ true → name ≡ other → ⊥
-other_name test name other fails passes is =
-    let bad : true ≡ false = sym passes ∙ (ap test is ∙ fails) in
-    cc
-
--- each name of a command with a ring passes a test that all three names pass
-pub ring_takes : (test : Text → Bool) (name : Text) → test (codes "run") ≡ true → test (codes "trace") ≡ true → test (codes "plan") ≡ true → IsRingName name → test name ≡ true
-ring_takes test name run trace plan (inl is) = ap test is ∙ run
-ring_takes test name run trace plan (inr (inl is)) = ap test is ∙ trace
-ring_takes test name run trace plan (inr (inr is)) = ap test is ∙ plan
+-- each name of a command with a ring passes a test that all four names pass
+pub ring_takes : (test : Text → Bool) (name : Text) → test (codes "run") ≡ true → test (codes "trace") ≡ true → test (codes "explain") ≡ true
+    → test (codes "plan") ≡ true → IsRingName name → test name ≡ true
+ring_takes test name run trace explain plan (inl is) = ap test is ∙ run
+ring_takes test name run trace explain plan (inr (inl is)) = ap test is ∙ trace
+ring_takes test name run trace explain plan (inr (inr (inl is))) = ap test is ∙ explain
+ring_takes test name run trace explain plan (inr (inr (inr is))) = ap test is ∙ plan
 
 -- and so does each name of a command on the formula
 pub formula_takes : (test : Text → Bool) (name : Text) → test (codes "formula") ≡ true → test (codes "refute") ≡ true → IsFormulaName name → test name ≡ true
 formula_takes test name formula refute (inl is) = ap test is ∙ formula
 formula_takes test name formula refute (inr is) = ap test is ∙ refute
 
-ids_of_value : (values : List Row) → HasValue ids_rule values → IsNumberGiven values (codes "ids") 0 4294967295
-ids_of_value values value = (value.0, value.2, value.3)
+-- the value of an option that takes a number
+number_of_value : (option : Text) (low high : ℕ) (values : List Row) → HasValue (record (option_rule option (Signed (pos low) (pos high))) { required = true }) values
+    → IsNumberGiven values option low high
+number_of_value option low high values value = (value.0, value.2, value.3)
 
-workers_of_value : (values : List Row) → HasValue workers_rule values → IsNumberGiven values (codes "workers") 1 MAX_COUNT
-workers_of_value values value = (value.0, value.2, value.3)
+-- the same if it has a default
+number_by_default : (option : Text) (low high : ℕ) (default : Text) (values : List Row)
+    → HasValue (record (option_rule option (Signed (pos low) (pos high))) { defaults = default ∷ [] }) values → IsNumberGiven values option low high
+number_by_default option low high default values value = (value.0, value.2, value.3)
 
-segments_of_value : (values : List Row) → HasValue segments_rule values → IsNumberGiven values (codes "segments") 1 MAX_COUNT
-segments_of_value values value = (value.0, value.2, value.3)
+module _ (name : Text) (values : List Row) (one : IsOneOf command_line.subs name values) where
+  pub ids_given : takes_ids name ≡ true → IsNumberGiven values (codes "ids") 0 4294967295
+  unfolding rule_named
+  ids_given takes = number_of_value _ _ _ values (given takes_ids (codes "ids") ids_rule command_line.subs name values refl refl one takes)
 
-near_of_value : (values : List Row) → HasValue near_rule values → IsNumberGiven values (codes "near") 1 MAX_DISTANCE
-near_of_value values value = (value.0, value.2, value.3)
+  pub workers_given : takes_workers name ≡ true → IsNumberGiven values (codes "workers") 1 MAX_COUNT
+  unfolding rule_named
+  workers_given takes = number_by_default _ _ _ (codes "1") values (given takes_workers (codes "workers") workers_rule command_line.subs name values refl refl one takes)
 
-far_of_value : (values : List Row) → HasValue far_rule values → IsNumberGiven values (codes "far") 0 MAX_DISTANCE
-far_of_value values value = (value.0, value.2, value.3)
+  pub segments_given : is_named (codes "run") name ≡ true → IsNumberGiven values (codes "segments") 1 MAX_COUNT
+  unfolding rule_named
+  segments_given takes =
+      number_by_default _ _ _ (codes "1") values (given (is_named (codes "run")) (codes "segments") segments_rule command_line.subs name values refl refl one takes)
 
-rounds_of_value : (values : List Row) → HasValue rounds_rule values → IsNumberGiven values (codes "rounds") 0 MAX_ROUNDS
-rounds_of_value values value = (value.0, value.2, value.3)
+  pub place_given : is_named (codes "explain") name ≡ true → IsNumberGiven values (codes "place") 0 4294967295
+  unfolding rule_named
+  place_given takes =
+      number_of_value _ _ _ values (given (is_named (codes "explain")) (codes "place") place_rule command_line.subs name values refl refl one takes)
 
-channels_of_value : (values : List Row) → HasValue channels_rule values → IsNumberGiven values (codes "channels") 1 MAX_CHANNELS
-channels_of_value values value = (value.0, value.2, value.3)
+  pub near_given : takes_near name ≡ true → IsNumberGiven values (codes "near") 1 MAX_DISTANCE
+  unfolding rule_named
+  near_given takes = number_by_default _ _ _ (codes "1") values (given takes_near (codes "near") near_rule command_line.subs name values refl refl one takes)
 
-ring_of_value : (values : List Row) → HasValue ring_rule values → IsTextGiven values (codes "ring")
-ring_of_value values value = (value.0, value.1)
+  pub far_given : takes_near name ≡ true → IsNumberGiven values (codes "far") 0 MAX_DISTANCE
+  unfolding rule_named
+  far_given takes = number_by_default _ _ _ (codes "0") values (given takes_near (codes "far") far_rule command_line.subs name values refl refl one takes)
 
-pub ids_given : (name : Text) (values : List Row) → IsOneOf command_line.subs name values → takes_ids name ≡ true → IsNumberGiven values (codes "ids") 0 4294967295
-ids_given name values (inl (is, (ids, rest))) takes = ids_of_value values (ids refl)
-ids_given name values (inr (inl (is, rest))) takes = absurd (other_name takes_ids name _ refl takes is)
-ids_given name values (inr (inr (inl (is, (ids, rest))))) takes = ids_of_value values (ids refl)
-ids_given name values (inr (inr (inr (inl (is, (ids, rest)))))) takes = ids_of_value values (ids refl)
-ids_given name values (inr (inr (inr (inr (inl (is, (ids, rest))))))) takes = ids_of_value values (ids refl)
-ids_given name values (inr (inr (inr (inr (inr (inl (is, (ids, rest)))))))) takes = ids_of_value values (ids refl)
-ids_given name values (inr (inr (inr (inr (inr (inr (inl (is, (ids, rest))))))))) takes = ids_of_value values (ids refl)
-ids_given name values (inr (inr (inr (inr (inr (inr (inr (inl (is, rest))))))))) takes = absurd (other_name takes_ids name _ refl takes is)
-ids_given name values (inr (inr (inr (inr (inr (inr (inr (inr (inl (is, rest)))))))))) takes = absurd (other_name takes_ids name _ refl takes is)
-ids_given name values (inr (inr (inr (inr (inr (inr (inr (inr (inr (inl (is, (ids, rest)))))))))))) takes = ids_of_value values (ids refl)
-ids_given name values (inr (inr (inr (inr (inr (inr (inr (inr (inr (inr (inl (is, (ids, rest))))))))))))) takes = ids_of_value values (ids refl)
-ids_given name values (inr (inr (inr (inr (inr (inr (inr (inr (inr (inr (inr none))))))))))) takes = absurd none
+  pub rounds_given : takes_rounds name ≡ true → IsNumberGiven values (codes "rounds") 0 MAX_ROUNDS
+  unfolding rule_named
+  rounds_given takes = number_of_value _ _ _ values (given takes_rounds (codes "rounds") rounds_rule command_line.subs name values refl refl one takes)
 
-pub workers_given : (name : Text) (values : List Row) → IsOneOf command_line.subs name values → takes_workers name ≡ true → IsNumberGiven values (codes "workers") 1 MAX_COUNT
-workers_given name values (inl (is, rest)) takes = absurd (other_name takes_workers name _ refl takes is)
-workers_given name values (inr (inl (is, rest))) takes = absurd (other_name takes_workers name _ refl takes is)
-workers_given name values (inr (inr (inl (is, (ids, (workers, rest)))))) takes = workers_of_value values (workers refl)
-workers_given name values (inr (inr (inr (inl (is, (ids, (workers, rest))))))) takes = workers_of_value values (workers refl)
-workers_given name values (inr (inr (inr (inr (inl (is, rest)))))) takes = absurd (other_name takes_workers name _ refl takes is)
-workers_given name values (inr (inr (inr (inr (inr (inl (is, rest))))))) takes = absurd (other_name takes_workers name _ refl takes is)
-workers_given name values (inr (inr (inr (inr (inr (inr (inl (is, (ids, (ring, (workers, rest))))))))))) takes = workers_of_value values (workers refl)
-workers_given name values (inr (inr (inr (inr (inr (inr (inr (inl (is, rest))))))))) takes = absurd (other_name takes_workers name _ refl takes is)
-workers_given name values (inr (inr (inr (inr (inr (inr (inr (inr (inl (is, rest)))))))))) takes = absurd (other_name takes_workers name _ refl takes is)
-workers_given name values (inr (inr (inr (inr (inr (inr (inr (inr (inr (inl (is, rest))))))))))) takes = absurd (other_name takes_workers name _ refl takes is)
-workers_given name values (inr (inr (inr (inr (inr (inr (inr (inr (inr (inr (inl (is, rest)))))))))))) takes = absurd (other_name takes_workers name _ refl takes is)
-workers_given name values (inr (inr (inr (inr (inr (inr (inr (inr (inr (inr (inr none))))))))))) takes = absurd none
+  pub channels_given : takes_rounds name ≡ true → IsNumberGiven values (codes "channels") 1 MAX_CHANNELS
+  unfolding rule_named
+  channels_given takes = number_of_value _ _ _ values (given takes_rounds (codes "channels") channels_rule command_line.subs name values refl refl one takes)
 
-pub segments_given : (name : Text) (values : List Row) → IsOneOf command_line.subs name values → is_named (codes "run") name ≡ true
-    → IsNumberGiven values (codes "segments") 1 MAX_COUNT
-segments_given name values (inl (is, rest)) takes = absurd (other_name (is_named (codes "run")) name _ refl takes is)
-segments_given name values (inr (inl (is, rest))) takes = absurd (other_name (is_named (codes "run")) name _ refl takes is)
-segments_given name values (inr (inr (inl (is, rest)))) takes = absurd (other_name (is_named (codes "run")) name _ refl takes is)
-segments_given name values (inr (inr (inr (inl (is, rest))))) takes = absurd (other_name (is_named (codes "run")) name _ refl takes is)
-segments_given name values (inr (inr (inr (inr (inl (is, (ids, (ring, (segments, rest))))))))) takes = segments_of_value values (segments refl)
-segments_given name values (inr (inr (inr (inr (inr (inl (is, rest))))))) takes = absurd (other_name (is_named (codes "run")) name _ refl takes is)
-segments_given name values (inr (inr (inr (inr (inr (inr (inl (is, rest)))))))) takes = absurd (other_name (is_named (codes "run")) name _ refl takes is)
-segments_given name values (inr (inr (inr (inr (inr (inr (inr (inl (is, rest))))))))) takes = absurd (other_name (is_named (codes "run")) name _ refl takes is)
-segments_given name values (inr (inr (inr (inr (inr (inr (inr (inr (inl (is, rest)))))))))) takes = absurd (other_name (is_named (codes "run")) name _ refl takes is)
-segments_given name values (inr (inr (inr (inr (inr (inr (inr (inr (inr (inl (is, rest))))))))))) takes = absurd (other_name (is_named (codes "run")) name _ refl takes is)
-segments_given name values (inr (inr (inr (inr (inr (inr (inr (inr (inr (inr (inl (is, rest)))))))))))) takes = absurd (other_name (is_named (codes "run")) name _ refl takes is)
-segments_given name values (inr (inr (inr (inr (inr (inr (inr (inr (inr (inr (inr none))))))))))) takes = absurd none
+  pub ring_given : takes_ring name ≡ true → IsTextGiven values (codes "ring")
+  unfolding rule_named
+  ring_given takes =
+      let value = given takes_ring (codes "ring") ring_rule command_line.subs name values refl refl one takes in
+      (value.0, value.1)
 
-pub ring_given : (name : Text) (values : List Row) → IsOneOf command_line.subs name values → takes_ring name ≡ true → IsTextGiven values (codes "ring")
-ring_given name values (inl (is, rest)) takes = absurd (other_name takes_ring name _ refl takes is)
-ring_given name values (inr (inl (is, rest))) takes = absurd (other_name takes_ring name _ refl takes is)
-ring_given name values (inr (inr (inl (is, rest)))) takes = absurd (other_name takes_ring name _ refl takes is)
-ring_given name values (inr (inr (inr (inl (is, rest))))) takes = absurd (other_name takes_ring name _ refl takes is)
-ring_given name values (inr (inr (inr (inr (inl (is, (ids, (ring, rest)))))))) takes = ring_of_value values (ring refl)
-ring_given name values (inr (inr (inr (inr (inr (inl (is, (ids, (ring, rest))))))))) takes = ring_of_value values (ring refl)
-ring_given name values (inr (inr (inr (inr (inr (inr (inl (is, (ids, (ring, rest)))))))))) takes = ring_of_value values (ring refl)
-ring_given name values (inr (inr (inr (inr (inr (inr (inr (inl (is, rest))))))))) takes = absurd (other_name takes_ring name _ refl takes is)
-ring_given name values (inr (inr (inr (inr (inr (inr (inr (inr (inl (is, rest)))))))))) takes = absurd (other_name takes_ring name _ refl takes is)
-ring_given name values (inr (inr (inr (inr (inr (inr (inr (inr (inr (inl (is, rest))))))))))) takes = absurd (other_name takes_ring name _ refl takes is)
-ring_given name values (inr (inr (inr (inr (inr (inr (inr (inr (inr (inr (inl (is, rest)))))))))))) takes = absurd (other_name takes_ring name _ refl takes is)
-ring_given name values (inr (inr (inr (inr (inr (inr (inr (inr (inr (inr (inr none))))))))))) takes = absurd none
-
-pub near_given : (name : Text) (values : List Row) → IsOneOf command_line.subs name values → takes_near name ≡ true
-    → IsNumberGiven values (codes "near") 1 MAX_DISTANCE
-near_given name values (inl (is, rest)) takes = absurd (other_name takes_near name _ refl takes is)
-near_given name values (inr (inl (is, rest))) takes = absurd (other_name takes_near name _ refl takes is)
-near_given name values (inr (inr (inl (is, (ids, (workers, (near, rest))))))) takes = near_of_value values (near refl)
-near_given name values (inr (inr (inr (inl (is, (ids, (workers, (near, rest)))))))) takes = near_of_value values (near refl)
-near_given name values (inr (inr (inr (inr (inl (is, rest)))))) takes = absurd (other_name takes_near name _ refl takes is)
-near_given name values (inr (inr (inr (inr (inr (inl (is, rest))))))) takes = absurd (other_name takes_near name _ refl takes is)
-near_given name values (inr (inr (inr (inr (inr (inr (inl (is, rest)))))))) takes = absurd (other_name takes_near name _ refl takes is)
-near_given name values (inr (inr (inr (inr (inr (inr (inr (inl (is, rest))))))))) takes = absurd (other_name takes_near name _ refl takes is)
-near_given name values (inr (inr (inr (inr (inr (inr (inr (inr (inl (is, rest)))))))))) takes = absurd (other_name takes_near name _ refl takes is)
-near_given name values (inr (inr (inr (inr (inr (inr (inr (inr (inr (inl (is, (ids, (rounds, (channels, (near, rest))))))))))))))) takes = near_of_value values (near refl)
-near_given name values (inr (inr (inr (inr (inr (inr (inr (inr (inr (inr (inl (is, (ids, (rounds, (channels, (near, rest)))))))))))))))) takes = near_of_value values (near refl)
-near_given name values (inr (inr (inr (inr (inr (inr (inr (inr (inr (inr (inr none))))))))))) takes = absurd none
-
-pub far_given : (name : Text) (values : List Row) → IsOneOf command_line.subs name values → takes_near name ≡ true
-    → IsNumberGiven values (codes "far") 0 MAX_DISTANCE
-far_given name values (inl (is, rest)) takes = absurd (other_name takes_near name _ refl takes is)
-far_given name values (inr (inl (is, rest))) takes = absurd (other_name takes_near name _ refl takes is)
-far_given name values (inr (inr (inl (is, (ids, (workers, (near, (far, rest)))))))) takes = far_of_value values (far refl)
-far_given name values (inr (inr (inr (inl (is, (ids, (workers, (near, (far, rest))))))))) takes = far_of_value values (far refl)
-far_given name values (inr (inr (inr (inr (inl (is, rest)))))) takes = absurd (other_name takes_near name _ refl takes is)
-far_given name values (inr (inr (inr (inr (inr (inl (is, rest))))))) takes = absurd (other_name takes_near name _ refl takes is)
-far_given name values (inr (inr (inr (inr (inr (inr (inl (is, rest)))))))) takes = absurd (other_name takes_near name _ refl takes is)
-far_given name values (inr (inr (inr (inr (inr (inr (inr (inl (is, rest))))))))) takes = absurd (other_name takes_near name _ refl takes is)
-far_given name values (inr (inr (inr (inr (inr (inr (inr (inr (inl (is, rest)))))))))) takes = absurd (other_name takes_near name _ refl takes is)
-far_given name values (inr (inr (inr (inr (inr (inr (inr (inr (inr (inl (is, (ids, (rounds, (channels, (near, (far, rest)))))))))))))))) takes = far_of_value values (far refl)
-far_given name values (inr (inr (inr (inr (inr (inr (inr (inr (inr (inr (inl (is, (ids, (rounds, (channels, (near, (far, rest))))))))))))))))) takes = far_of_value values (far refl)
-far_given name values (inr (inr (inr (inr (inr (inr (inr (inr (inr (inr (inr none))))))))))) takes = absurd none
-
-pub rounds_given : (name : Text) (values : List Row) → IsOneOf command_line.subs name values → takes_rounds name ≡ true
-    → IsNumberGiven values (codes "rounds") 0 MAX_ROUNDS
-rounds_given name values (inl (is, rest)) takes = absurd (other_name takes_rounds name _ refl takes is)
-rounds_given name values (inr (inl (is, rest))) takes = absurd (other_name takes_rounds name _ refl takes is)
-rounds_given name values (inr (inr (inl (is, rest)))) takes = absurd (other_name takes_rounds name _ refl takes is)
-rounds_given name values (inr (inr (inr (inl (is, rest))))) takes = absurd (other_name takes_rounds name _ refl takes is)
-rounds_given name values (inr (inr (inr (inr (inl (is, rest)))))) takes = absurd (other_name takes_rounds name _ refl takes is)
-rounds_given name values (inr (inr (inr (inr (inr (inl (is, rest))))))) takes = absurd (other_name takes_rounds name _ refl takes is)
-rounds_given name values (inr (inr (inr (inr (inr (inr (inl (is, rest)))))))) takes = absurd (other_name takes_rounds name _ refl takes is)
-rounds_given name values (inr (inr (inr (inr (inr (inr (inr (inl (is, rest))))))))) takes = absurd (other_name takes_rounds name _ refl takes is)
-rounds_given name values (inr (inr (inr (inr (inr (inr (inr (inr (inl (is, rest)))))))))) takes = absurd (other_name takes_rounds name _ refl takes is)
-rounds_given name values (inr (inr (inr (inr (inr (inr (inr (inr (inr (inl (is, (ids, (rounds, rest))))))))))))) takes = rounds_of_value values (rounds refl)
-rounds_given name values (inr (inr (inr (inr (inr (inr (inr (inr (inr (inr (inl (is, (ids, (rounds, rest)))))))))))))) takes = rounds_of_value values (rounds refl)
-rounds_given name values (inr (inr (inr (inr (inr (inr (inr (inr (inr (inr (inr none))))))))))) takes = absurd none
-
-pub channels_given : (name : Text) (values : List Row) → IsOneOf command_line.subs name values → takes_rounds name ≡ true
-    → IsNumberGiven values (codes "channels") 1 MAX_CHANNELS
-channels_given name values (inl (is, rest)) takes = absurd (other_name takes_rounds name _ refl takes is)
-channels_given name values (inr (inl (is, rest))) takes = absurd (other_name takes_rounds name _ refl takes is)
-channels_given name values (inr (inr (inl (is, rest)))) takes = absurd (other_name takes_rounds name _ refl takes is)
-channels_given name values (inr (inr (inr (inl (is, rest))))) takes = absurd (other_name takes_rounds name _ refl takes is)
-channels_given name values (inr (inr (inr (inr (inl (is, rest)))))) takes = absurd (other_name takes_rounds name _ refl takes is)
-channels_given name values (inr (inr (inr (inr (inr (inl (is, rest))))))) takes = absurd (other_name takes_rounds name _ refl takes is)
-channels_given name values (inr (inr (inr (inr (inr (inr (inl (is, rest)))))))) takes = absurd (other_name takes_rounds name _ refl takes is)
-channels_given name values (inr (inr (inr (inr (inr (inr (inr (inl (is, rest))))))))) takes = absurd (other_name takes_rounds name _ refl takes is)
-channels_given name values (inr (inr (inr (inr (inr (inr (inr (inr (inl (is, rest)))))))))) takes = absurd (other_name takes_rounds name _ refl takes is)
-channels_given name values (inr (inr (inr (inr (inr (inr (inr (inr (inr (inl (is, (ids, (rounds, (channels, rest)))))))))))))) takes = channels_of_value values (channels refl)
-channels_given name values (inr (inr (inr (inr (inr (inr (inr (inr (inr (inr (inl (is, (ids, (rounds, (channels, rest))))))))))))))) takes = channels_of_value values (channels refl)
-channels_given name values (inr (inr (inr (inr (inr (inr (inr (inr (inr (inr (inr none))))))))))) takes = absurd none
+  pub base_given : takes_base name ≡ true → IsBaseGiven values
+  unfolding rule_named
+  base_given takes = number_by_default _ _ _ (codes "10") values (given takes_base (codes "base") base_rule command_line.subs name values refl refl one takes)
 
 -- ---- the number that a value is
 

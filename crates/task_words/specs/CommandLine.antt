@@ -1,4 +1,4 @@
--- The command line of the program, as `clap` reads it: one of eleven commands, then its options in any order, each with
+-- The command line of the program, as `clap` reads it: one of twelve commands, then its options in any order, each with
 -- one value.
 use Rattle.std.specs.Prelude.{◌≡◌, ℕ, List, [], ◌∷◌, ◌++◌, Some, true, false, codes, pos}
 use Rattle.clap.specs.Words.{App, Rule, Shape, new_app, new_rule, shape_of}
@@ -7,7 +7,7 @@ use Rattle.clap.specs.declared.builder.command.Command.TheViews.{out-Command}
 use Rattle.clap.specs.declared.builder.action.ArgAction.TheVariants.{Set}
 use Rattle.clap.specs.declared.builder.value_parser.ValueParser.{ValueParser}
 use Rattle.clap.specs.declared.builder.value_parser.ValueParser.TheVariants.{String, Signed}
-use Rattle.task_words.specs.declared.limits.TheConstants.{MAX_CHANNELS, MAX_COUNT, MAX_DISTANCE, MAX_ROUNDS}
+use Rattle.task_words.specs.declared.limits.TheConstants.{MAX_BASE, MAX_CHANNELS, MAX_COUNT, MAX_DISTANCE, MAX_ROUNDS, MIN_BASE}
 
 -- the option `--NAME`, given at most once, with one value, which has one name in the help and is accepted by this
 -- parser
@@ -34,6 +34,14 @@ ids_rule = required_rule (codes "ids") (Signed (pos 0) (pos 4294967295))
 -- `--ring A,B,..`: any text
 abbrev pub ring_rule : Rule
 ring_rule = required_rule (codes "ring") String
+
+-- `--place P`: a number from 0 to 4294967295
+abbrev pub place_rule : Rule
+place_rule = required_rule (codes "place") (Signed (pos 0) (pos 4294967295))
+
+-- `--base B`: a number from MIN_BASE to MAX_BASE, 10 by default
+abbrev pub base_rule : Rule
+base_rule = record (option_rule (codes "base") (Signed (pos MIN_BASE) (pos MAX_BASE))) { defaults = codes "10" ∷ [] }
 
 -- `--workers W`
 abbrev pub workers_rule : Rule
@@ -87,9 +95,13 @@ judge_command = command_of (codes "judge") (ids_rule ∷ workers_rule ∷ near_r
 abbrev pub run_command : Shape
 run_command = command_of (codes "run") (ids_rule ∷ ring_rule ∷ segments_rule ∷ [])
 
--- `trace --ids M --ring A,B,..`
+-- `trace --ids M --ring A,B,.. [--base B]`
 abbrev pub trace_command : Shape
-trace_command = command_of (codes "trace") (ids_rule ∷ ring_rule ∷ [])
+trace_command = command_of (codes "trace") (ids_rule ∷ ring_rule ∷ base_rule ∷ [])
+
+-- `explain --ids M --ring A,B,.. --place P [--base B]`
+abbrev pub explain_command : Shape
+explain_command = command_of (codes "explain") (ids_rule ∷ ring_rule ∷ place_rule ∷ base_rule ∷ [])
 
 -- `plan --ids M --ring A,B,.. [--workers W]`
 abbrev pub plan_command : Shape
@@ -128,7 +140,7 @@ program_commands = text_commands ++ table_command ∷ judge_command ∷ []
 
 -- the commands that run a program on a ring
 abbrev pub running_commands : List Shape
-running_commands = run_command ∷ trace_command ∷ []
+running_commands = run_command ∷ trace_command ∷ explain_command ∷ []
 
 -- the commands that read a program and take a ring
 abbrev pub ring_commands : List Shape
@@ -146,6 +158,6 @@ table_commands = audit_command ∷ migrate_command ∷ []
 abbrev pub formula_commands : List Shape
 formula_commands = formula_command ∷ refute_command ∷ []
 
--- the words after the program's name: the name of one of the eleven commands, and its options
+-- the words after the program's name: the name of one of the twelve commands, and its options
 abbrev pub command_line : App
 command_line = line_of (program_commands ++ (ring_commands ++ (table_commands ++ formula_commands)))

@@ -1,9 +1,10 @@
 -- The results of a parse that `clap` accepts or refuses. No public contract cites this file.
-use Rattle.std.specs.Prelude.{◌≡◌, ◌≢◌, ◌<◌, ◌^◌, ℕ, List, Some, ⊤, pos}
+use Rattle.std.specs.Prelude.{◌≡◌, ◌≢◌, ◌<◌, ◌^◌, ℕ, List, Some, ⊤, codes, pos}
 use Rattle.clap.specs.Words.{IsSignedIn, Row, Text, first_of, one_of, without_minus}
 use Rattle.clap.specs.declared.error.kind.ErrorKind.{ErrorKind}
 use Rattle.clap.specs.declared.error.kind.ErrorKind.TheVariants as kind
 use Rattle.task_words.specs.Words.{AsksForHelp, IsRefused}
+use Rattle.task_words.specs.declared.limits.TheConstants.{MAX_BASE, MIN_BASE}
 use Rattle.task_words.specs.declared.words.WordsFault.{WordsFault}
 use Rattle.task_words.specs.declared.words.WordsFault.TheVariants.{Usage, BadRing, OutOfMemory, Help}
 
@@ -18,6 +19,10 @@ IsSomeNumberGiven values option = (low : ℕ) × (high : ℕ) × (high < 2 ^ 32)
 -- the option has a value
 abbrev pub IsTextGiven : List Row → Text → Type 0
 IsTextGiven values option = (text : Text) × (first_of option values ≡ Some text)
+
+-- `--base` has a value, which is the number of a base
+abbrev pub IsBaseGiven : List Row → Type 0
+IsBaseGiven values = IsNumberGiven values (codes "base") MIN_BASE MAX_BASE
 
 -- the fault of the words for an error of this kind
 abbrev pub IsRefusalOf : ErrorKind → WordsFault → Type 0

@@ -1,7 +1,7 @@
 -- Properties of a task.
 use Rattle.std.specs.Prelude.{ℕ, ⊤}
 use Rattle.task_words.specs.declared.task.Task.{Task}
-use Rattle.task_words.specs.declared.task.Task.TheVariants.{Check, Print, Table, Judge, Run, Trace, Plan, Audit, Migrate, Formula, Refute}
+use Rattle.task_words.specs.declared.task.Task.TheVariants.{Check, Print, Table, Judge, Run, Trace, Explain, Plan, Audit, Migrate, Formula, Refute}
 use Rattle.task_words.specs.Counts.{IsCount, IsNear, IsFar, AreFormulaNumbers}
 
 -- the number of segments in which its ring is run, 1 if the task has no such number
@@ -11,7 +11,8 @@ segments_of Print = 1
 segments_of (Table ids workers near far) = 1
 segments_of (Judge ids workers near far) = 1
 segments_of (Run ids ring segments) = segments
-segments_of (Trace ids ring) = 1
+segments_of (Trace ids ring base) = 1
+segments_of (Explain ids ring place base) = 1
 segments_of (Plan ids ring workers) = 1
 segments_of Audit = 1
 segments_of Migrate = 1
@@ -26,7 +27,8 @@ IsRunnable Print = ⊤
 IsRunnable (Table ids workers near far) = IsCount workers × IsNear near × IsFar far
 IsRunnable (Judge ids workers near far) = IsCount workers × IsNear near × IsFar far
 IsRunnable (Run ids ring segments) = ⊤
-IsRunnable (Trace ids ring) = ⊤
+IsRunnable (Trace ids ring base) = ⊤
+IsRunnable (Explain ids ring place base) = ⊤
 IsRunnable (Plan ids ring workers) = IsCount workers
 IsRunnable Audit = ⊤
 IsRunnable Migrate = ⊤

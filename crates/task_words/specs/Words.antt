@@ -4,11 +4,13 @@ use Rattle.std.specs.Str.Parse.{without_leading_plus}
 use Rattle.clap.specs.Words.{IsAmong, Row, Text, fault_of, first_of, one_of, subcommand_of}
 use Rattle.clap.specs.declared.error.kind.ErrorKind.{ErrorKind}
 use Rattle.clap.specs.declared.error.kind.ErrorKind.TheVariants as kind
+use Rattle.numerals.specs.declared.base.Base.{Base}
+use Rattle.numerals.specs.Numerals.{radix}
 use Rattle.task_words.specs.CommandLine.{command_line}
 use Rattle.task_words.specs.Decimal.{IsNumber, number_in}
 use Rattle.task_words.specs.RingText.{IsRingText, ring_in}
 use Rattle.task_words.specs.declared.task.Task.{Task}
-use Rattle.task_words.specs.declared.task.Task.TheVariants.{Check, Print, Table, Judge, Run, Trace, Plan, Audit, Migrate, Formula, Refute}
+use Rattle.task_words.specs.declared.task.Task.TheVariants.{Check, Print, Table, Judge, Run, Trace, Explain, Plan, Audit, Migrate, Formula, Refute}
 
 -- `clap` accepts the words: they have no fault of any kind
 abbrev pub IsCommand : List Text → Type 0
@@ -36,9 +38,13 @@ HasNumber values option number = (text : Text) × (one_of option values ≡ Some
 abbrev pub HasRing : List Row → List ℕ → Type 0
 HasRing values ring = (text : Text) × (first_of (codes "ring") values ≡ Some text) × IsRingText text × (ring ≡ ring_in text)
 
+-- the value of `--base` is this base
+abbrev pub HasBase : List Row → Base → Type 0
+HasBase values base = HasNumber values (codes "base") (radix base)
+
 -- the commands that take a ring
 abbrev pub IsRingName : Text → Type 0
-IsRingName name = (name ≡ codes "run") ⊎ (name ≡ codes "trace") ⊎ (name ≡ codes "plan")
+IsRingName name = (name ≡ codes "run") ⊎ (name ≡ codes "trace") ⊎ (name ≡ codes "explain") ⊎ (name ≡ codes "plan")
 
 -- the commands on the formula of all tables
 abbrev pub IsFormulaName : Text → Type 0
@@ -72,7 +78,10 @@ IsTaskFor name values (Judge ids workers near far) =
     × HasNumber values (codes "near") near × HasNumber values (codes "far") far
 IsTaskFor name values (Run ids ring segments) = (name ≡ codes "run") × HasNumber values (codes "ids") ids
     × HasRing values ring.items × HasNumber values (codes "segments") segments
-IsTaskFor name values (Trace ids ring) = (name ≡ codes "trace") × HasNumber values (codes "ids") ids × HasRing values ring.items
+IsTaskFor name values (Trace ids ring base) = (name ≡ codes "trace") × HasNumber values (codes "ids") ids
+    × HasRing values ring.items × HasBase values base
+IsTaskFor name values (Explain ids ring place base) = (name ≡ codes "explain") × HasNumber values (codes "ids") ids
+    × HasRing values ring.items × HasNumber values (codes "place") place × HasBase values base
 IsTaskFor name values (Plan ids ring workers) = (name ≡ codes "plan") × HasNumber values (codes "ids") ids
     × HasRing values ring.items × HasNumber values (codes "workers") workers
 IsTaskFor name values Audit = name ≡ codes "audit"

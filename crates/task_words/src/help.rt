@@ -56,6 +56,9 @@ pub(crate) const RUN: &str = "Runs a program by messages on a ring, and prints t
 pub(crate) const TRACE: &str =
     "Runs a program on a ring, and prints what its nodes hold and send in each round";
 
+pub(crate) const EXPLAIN: &str =
+    "Runs a program on a ring, and prints how one node computes each of its values";
+
 pub(crate) const PLAN: &str = "Prints the channels of a ring's places, looked up in the table";
 
 pub(crate) const AUDIT: &str =
@@ -71,6 +74,10 @@ pub(crate) const REFUTE: &str = "Checks a solver's refutation: there is no table
 pub(crate) const IDS: &str = "How many identifiers there are; they are 0 to M-1";
 
 pub(crate) const RING: &str = "The ring's identifiers, each followed by its right neighbour's";
+
+pub(crate) const PLACE: &str = "The place of the node in the ring, counted from 0";
+
+pub(crate) const BASE: &str = "The base of the numbers that are printed, 2 to 10";
 
 pub(crate) const ROUNDS: &str = "How many rounds nodes communicate, 0 to 4";
 
@@ -172,17 +179,46 @@ Standard output: lines with a number for each place of the ring, or one line: wh
 
 ",
     "The lines are:
+  ring ..           the identifier of each place
   start r0 ..       what a register holds after the assignments of start; one line for each register
   round 1 left ..   what each place sends to its left neighbour in a round
   round 1 right ..  what each place sends to its right neighbour
   round 1 r0 ..     what a register holds after the round; one line for each register
   finish ..         the channels
 
+In another base than 10 all numbers of a line are as wide as the widest.
+
 Exit status:
   0  the lines are printed
   2  the words are refused
   3  the program is refused
   4  the ring is refused
+  5  reading or writing failed
+  6  memory was refused"
+);
+
+/// The input, output and exit statuses of `explain`.
+pub(crate) const EXPLAIN_DETAILS: &str = details!(
+    ring: "Standard input:  a program text
+Standard output: each expression of the program with its values, or one line: what is refused
+
+",
+    "Each expression is below a line that says what it gives to the node:
+  start r0          what a register holds after the assignments of start
+  round 1 left      what the node sends to its left neighbour in a round
+  round 1 right     what it sends to its right neighbour
+  round 1 r0        what a register holds after the round
+  finish            the channel
+
+The expression follows as a tree: a line for each of its parts, with the value of the part. The
+operands of a part are below it, after one blank more. In another base than 10 all values of a tree
+are as wide as the widest.
+
+Exit status:
+  0  the lines are printed
+  2  the words are refused
+  3  the program is refused
+  4  the ring is refused, or it has no such place
   5  reading or writing failed
   6  memory was refused"
 );

@@ -5,15 +5,16 @@ ghost use Rattle.clap.specs.Words.{found_of, rows_of};
 ghost use Rattle.option_values.specs.OptionLines.{IsOneOf};
 ghost use Rattle.task_words.specs.CommandLine.{command_line};
 ghost use Rattle.task_words.specs.Counts.{IsCount};
-ghost use Rattle.task_words.specs.Options.{IsNumberGiven, IsSomeNumberGiven, IsTextGiven};
+ghost use Rattle.task_words.specs.Options.{IsBaseGiven, IsNumberGiven, IsSomeNumberGiven, IsTextGiven};
 ghost use Rattle.task_words.specs.Task.{IsInRange, IsRunnable, segments_of};
-ghost use Rattle.task_words.specs.Words.{HasNumber, HasRing, IsFormulaName, IsRingBad, IsRingName, IsTaskFor};
+ghost use Rattle.task_words.specs.Words.{HasBase, HasNumber, HasRing, IsFormulaName, IsRingBad, IsRingName, IsTaskFor};
 ghost use Rattle.task_words.specs.declared.words.WordsFault.TheVariants.{BadRing, OutOfMemory};
 
 use crate::ring_text::ring_of;
 use crate::task::Task;
 use crate::words::WordsFault;
 use clap::ArgMatches;
+use numerals::Base;
 use std::alloc::Global;
 
 // Returns the task of the command with this name and these values of its options.
@@ -39,7 +40,7 @@ pub(crate) fn task_in(
 fn takes_ring(name: &str) -> bool
     ensures { IsTrue result ↔ IsRingName name.now }
 {
-    matches!(name, "run" | "trace" | "plan")
+    matches!(name, "run" | "trace" | "explain" | "plan")
 }
 
 // Returns the task of a command that takes a ring.
@@ -60,7 +61,17 @@ fn ring_task(alloc: Global, name: &str, options: &ArgMatches<'_>) -> Result<Task
             ring,
             segments: number_in(options, "segments"),
         }),
-        "trace" => Ok(Task::Trace { ids, ring }),
+        "trace" => Ok(Task::Trace {
+            ids,
+            ring,
+            base: base_in(options),
+        }),
+        "explain" => Ok(Task::Explain {
+            ids,
+            ring,
+            place: number_in(options, "place"),
+            base: base_in(options),
+        }),
         "plan" => Ok(Task::Plan {
             ids,
             ring,
@@ -144,6 +155,14 @@ fn number_in(options: &ArgMatches<'_>, option: &str) -> u32
         unreachable!()
     };
     number
+}
+
+// Returns the base that is the value of `--base`.
+fn base_in(options: &ArgMatches<'_>) -> Base
+    requires { IsBaseGiven (rows_of (found_of options.now)) }
+    ensures { HasBase (rows_of (found_of options.now)) result }
+{
+    Base::of(number_in(options, "base"))
 }
 
 // Returns the identifiers of the ring's places. Fails with `BadRing` if the text is not a ring

@@ -1,7 +1,7 @@
 //! The commands and their options, in tables.
 
 use crate::help;
-use crate::limits::{MAX_CHANNELS, MAX_COUNT, MAX_DISTANCE, MAX_ROUNDS};
+use crate::limits::{MAX_BASE, MAX_CHANNELS, MAX_COUNT, MAX_DISTANCE, MAX_ROUNDS, MIN_BASE};
 
 // The values that an option takes.
 #[derive(Clone, Copy)]
@@ -48,6 +48,22 @@ const RING: OptionRow = OptionRow {
     help: help::RING,
     values: Values::Text,
     default: None,
+};
+
+const PLACE: OptionRow = OptionRow {
+    name: "place",
+    value_name: "P",
+    help: help::PLACE,
+    values: Values::Numbers(0, u32::MAX),
+    default: None,
+};
+
+const BASE: OptionRow = OptionRow {
+    name: "base",
+    value_name: "B",
+    help: help::BASE,
+    values: Values::Numbers(MIN_BASE, MAX_BASE),
+    default: Some("10"),
 };
 
 const WORKERS: OptionRow = OptionRow {
@@ -99,7 +115,7 @@ const CHANNELS: OptionRow = OptionRow {
 };
 
 // The commands, in the order of the help of the program.
-pub(crate) const COMMANDS: [CommandRow; 11] = [
+pub(crate) const COMMANDS: [CommandRow; 12] = [
     // `check --ids M`
     CommandRow {
         name: "check",
@@ -135,12 +151,19 @@ pub(crate) const COMMANDS: [CommandRow; 11] = [
         details: help::RUN_DETAILS,
         options: &[IDS, RING, SEGMENTS],
     },
-    // `trace --ids M --ring A,B,..`
+    // `trace --ids M --ring A,B,.. [--base B]`
     CommandRow {
         name: "trace",
         about: help::TRACE,
         details: help::TRACE_DETAILS,
-        options: &[IDS, RING],
+        options: &[IDS, RING, BASE],
+    },
+    // `explain --ids M --ring A,B,.. --place P [--base B]`
+    CommandRow {
+        name: "explain",
+        about: help::EXPLAIN,
+        details: help::EXPLAIN_DETAILS,
+        options: &[IDS, RING, PLACE, BASE],
     },
     // `plan --ids M --ring A,B,.. [--workers W]`
     CommandRow {

@@ -4,6 +4,7 @@ ghost use Rattle.std.specs.Prelude.{◌↔◌, IsTrue};
 ghost use Rattle.task_words.specs.Counts.{IsCount, IsNear, AreFormulaNumbers};
 
 use crate::limits::{MAX_CHANNELS, MAX_COUNT, MAX_DISTANCE, MAX_ROUNDS};
+use numerals::Base;
 
 /// A task that the words of a command request.
 #[derive(Drop)]
@@ -56,6 +57,20 @@ pub enum Task {
         ids: u32,
         /// The identifiers of the ring's places, from place 0 on.
         ring: Vec<u32>,
+        /// The base of all numbers in the lines.
+        base: Base,
+    },
+    /// Reports how one place of a ring computes by the program text of the input: the value of each
+    /// part of each expression, for identifiers below `ids`.
+    Explain {
+        /// The number of identifiers.
+        ids: u32,
+        /// The identifiers of the ring's places, from place 0 on.
+        ring: Vec<u32>,
+        /// The place. The task is reported as refused if the ring has no such place.
+        place: u32,
+        /// The base of all values.
+        base: Base,
     },
     /// Looks up the channels of a ring's places in the table of the program text of the input, for
     /// identifiers below `ids`.

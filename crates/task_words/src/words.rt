@@ -94,16 +94,18 @@ pub fn words_fault(alloc: Global, error: io::Error) -> Result<WordsFault, AllocE
 /// - `table --ids M [--workers W] [--near P] [--far Q]`
 /// - `judge --ids M [--workers W] [--near P] [--far Q]`
 /// - `run --ids M --ring A,B,.. [--segments S]`
-/// - `trace --ids M --ring A,B,..`
+/// - `trace --ids M --ring A,B,.. [--base B]`
+/// - `explain --ids M --ring A,B,.. --place P [--base B]`
 /// - `plan --ids M --ring A,B,.. [--workers W]`
 /// - `audit`
 /// - `migrate`
 /// - `formula --ids M --rounds T --channels C [--near P] [--far Q]`
 /// - `refute --ids M --rounds T --channels C [--near P] [--far Q]`
 ///
-/// `M` is a decimal number up to 4294967295. `W` and `S` are such numbers from 1 to `MAX_COUNT`, 1
-/// by default. `P` is one from 1 to `MAX_DISTANCE`, 1 by default, and `Q` one from 0 to
-/// `MAX_DISTANCE`, 0 by default. `T` is one up to `MAX_ROUNDS`, and `C` one from 1 to `MAX_CHANNELS`.
+/// `M` is a decimal number up to 4294967295, and so is the place `P` of `explain`. `W` and `S` are
+/// such numbers from 1 to `MAX_COUNT`, 1 by default. The `P` of `--near` is one from 1 to
+/// `MAX_DISTANCE`, 1 by default, and `Q` one from 0 to `MAX_DISTANCE`, 0 by default. `B` is one
+/// from `MIN_BASE` to `MAX_BASE`, 10 by default. `T` is one up to `MAX_ROUNDS`, and `C` one from 1 to `MAX_CHANNELS`.
 /// The value of `--ring` is a ring text.
 ///
 /// Fails with `Usage` if `clap` refuses the words, with `BadRing` if it accepts them but the value

@@ -24,6 +24,9 @@ returns-in-Run-clause-fault g c = rw c.in-Run.is c.run_answer.ensures.fault
 pub returns-in-Trace-clause-answer : goal.returns-in-Trace-clause-answer
 returns-in-Trace-clause-answer g c = rw c.in-Trace.is c.trace_answer.ensures.answer
 
+pub returns-in-Explain-clause-answer : goal.returns-in-Explain-clause-answer
+returns-in-Explain-clause-answer g c = rw c.in-Explain.is c.explain_answer.ensures.answer
+
 pub returns-in-Plan-clause-answer : goal.returns-in-Plan-clause-answer
 returns-in-Plan-clause-answer g c = rw c.in-Plan.is c.plan_answer.ensures.answer
 

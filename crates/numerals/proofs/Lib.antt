@@ -1,0 +1,2 @@
+-- Lemmas on the digits of a number.
+pub mod Digits

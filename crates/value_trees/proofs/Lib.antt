@@ -1,0 +1,5 @@
+-- Lemmas that several proofs share.
+mod Small
+mod Roots
+mod Shown
+mod TraceLines

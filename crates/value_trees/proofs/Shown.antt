@@ -1,0 +1,170 @@
+-- An explanation has the tree of each expression, with its value at the root.
+use Rattle.std.proofs.Common.{◌≡◌, ℕ, zero, suc, ◌+◌, ◌<◌, List, [], ◌∷◌, ◌++◌, codes, length, refl, sym, ap, subst, ◌∙◌, append_assoc, append-nil, arith}
+use Rattle.std.specs.Prelude.{Some, slice_get, slice_index}
+use Rattle.std.specs.Fmt.{decimal}
+use Rattle.std.proofs.lemmas.Option.{none-some, same_Some}
+use Rattle.node_program.specs.Term.{Term, Round, ProgramTree}
+use Rattle.node_program.specs.Node.{knowing_id, to_left, to_right}
+use Rattle.node_program.specs.GlobalRounds.{state, channels_of}
+use Rattle.node_program.specs.Value.{Env, value}
+use Rattle.numerals.specs.Numerals.{padded}
+use Rattle.numerals.specs.declared.base.Base.{Base}
+use Rattle.node_lang.specs.Printed.{own_word}
+use Rattle.value_trees.specs.Trees.{form_in, tree_lines}
+use Rattle.value_trees.specs.Explanation.{headed, phase, assigned_lines, round_trees, rounds_trees, explanation, before_messages, with_messages}
+use Rattle.value_trees.specs.Laws.{Shows, ExplanationsShowTraces}
+use Rattle.value_trees.proofs.Roots.{first, starts, assigned, left_is_sent, right_is_sent, finished}
+
+-- a text with a piece in it
+record Has (piece text : List ℕ) : Type 0 where
+  before : List ℕ
+  after : List ℕ
+  whole : text ≡ before ++ (piece ++ after)
+
+itself : (t : List ℕ) → Has t t
+itself t = record { before = []; after = []; whole = sym (append-nil t) }
+
+on_left : (piece t u : List ℕ) → Has piece t → Has piece (t ++ u)
+on_left piece t u has = record {
+  before = has.before;
+  after = has.after ++ u;
+  whole = ap (λ l. l ++ u) has.whole ∙ append_assoc has.before (piece ++ has.after) u ∙ ap (λ l. has.before ++ l) (append_assoc piece has.after u);
+}
+
+on_right : (piece t u : List ℕ) → Has piece u → Has piece (t ++ u)
+on_right piece t u has = record {
+  before = t ++ has.before;
+  after = has.after;
+  whole = ap (λ l. t ++ l) has.whole ∙ sym (append_assoc t has.before (piece ++ has.after));
+}
+
+inside : (piece t u : List ℕ) → Has piece t → Has t u → Has piece u
+inside piece t u own has =
+    let more : Has piece (t ++ has.after) = on_left piece t has.after own in
+    subst (Has piece) (sym has.whole) (on_right piece has.before (t ++ has.after) more)
+
+-- what stands below a heading begins with the value of the whole expression
+shown : (b : Base) (env : Env) (heading : List ℕ) (e : Term) (n : ℕ) (text : List ℕ) → value e env ≡ n → Has (headed heading b env e) text → Shows b heading e n text
+shown b env heading e n text is has =
+    let root = first b env e in
+    let form = form_in b env e in
+    let rest : List ℕ = root.others ++ has.after in
+    let number : List ℕ = padded form (value e env) in
+    let tree : tree_lines b env e ++ has.after ≡ 32 ∷ (own_word e ++ (codes " " ++ (number ++ (codes "\n" ++ rest)))) =
+    ap (λ l. l ++ has.after) root.whole ∙ simp append_assoc refl in
+    record {
+      form = form;
+      in_base = refl;
+      before = has.before;
+      others = rest;
+      whole = has.whole ∙ ap (λ l. has.before ++ l) (append_assoc heading (10 ∷ tree_lines b env e) has.after ∙ ap (λ l. heading ++ (10 ∷ l)) tree)
+          ∙ ap (λ m. has.before ++ (heading ++ (codes "\n " ++ (own_word e ++ (codes " " ++ (padded form m ++ (codes "\n" ++ rest))))))) is;
+    }
+
+assigned_has : (r : ℕ) (b : Base) (env : Env) (k : ℕ) (es : List Term) (j : ℕ) (e : Term) → slice_get es j ≡ Some e
+    → Has (headed (phase r ++ (codes " r" ++ decimal (k + j))) b env e) (assigned_lines r b env k es)
+assigned_has r b env k [] j e is = absurd (none-some e is)
+assigned_has r b env k (d ∷ ds) zero e is =
+    let own = headed (phase r ++ (codes " r" ++ decimal k)) b env d in
+    let has : Has own (assigned_lines r b env k (d ∷ ds)) = on_left own own (assigned_lines r b env (k + 1) ds) (itself own) in
+    let same : k ≡ k + 0 = omega arith in
+    subst (λ h. Has h (assigned_lines r b env k (d ∷ ds)))
+    (λ i. headed (phase r ++ (codes " r" ++ decimal (same i))) b env (same_Some d e is i)) has
+assigned_has r b env k (d ∷ ds) (suc j) e is =
+    let next : k + 1 + j ≡ k + suc j = omega arith in
+    let own = headed (phase r ++ (codes " r" ++ decimal k)) b env d in
+    on_right _ own (assigned_lines r b env (k + 1) ds)
+    (subst (λ m. Has (headed (phase r ++ (codes " r" ++ decimal m)) b env e) (assigned_lines r b env (k + 1) ds)) next (assigned_has r b env (k + 1) ds j e is))
+
+rounds_has : (b : Base) (p : ProgramTree) (x : List ℕ) (i k : ℕ) (ss : List Round) (r : ℕ) (s : Round) → slice_get ss r ≡ Some s
+    → Has (round_trees b p x i (k + r) s) (rounds_trees b p x i k ss)
+rounds_has b p x i k [] r s is = absurd (none-some s is)
+rounds_has b p x i k (d ∷ ds) zero s is =
+    let own = round_trees b p x i k d in
+    let has : Has own (rounds_trees b p x i k (d ∷ ds)) = on_left own own (rounds_trees b p x i (k + 1) ds) (itself own) in
+    let same : k ≡ k + 0 = omega arith in
+    subst (λ h. Has h (rounds_trees b p x i k (d ∷ ds))) (λ q. round_trees b p x i (same q) (same_Some d s is q)) has
+rounds_has b p x i k (d ∷ ds) (suc r) s is =
+    let next : k + 1 + r ≡ k + suc r = omega arith in
+    on_right _ (round_trees b p x i k d) (rounds_trees b p x i (k + 1) ds)
+    (subst (λ m. Has (round_trees b p x i m s) (rounds_trees b p x i (k + 1) ds)) next (rounds_has b p x i (k + 1) ds r s is))
+
+-- the same from the first on
+register_has : (r : ℕ) (b : Base) (env : Env) (es : List Term) (j : ℕ) (e : Term) → slice_get es j ≡ Some e
+    → Has (headed (phase r ++ (codes " r" ++ decimal j)) b env e) (assigned_lines r b env 0 es)
+register_has r b env es j e is =
+    let same : 0 + j ≡ j = omega arith in
+    subst (λ m. Has (headed (phase r ++ (codes " r" ++ decimal m)) b env e) (assigned_lines r b env 0 es)) same (assigned_has r b env 0 es j e is)
+
+step_has : (b : Base) (p : ProgramTree) (x : List ℕ) (i : ℕ) (ss : List Round) (r : ℕ) (s : Round) → slice_get ss r ≡ Some s
+    → Has (round_trees b p x i r s) (rounds_trees b p x i 0 ss)
+step_has b p x i ss r s is =
+    let same : 0 + r ≡ r = omega arith in
+    subst (λ m. Has (round_trees b p x i m s) (rounds_trees b p x i 0 ss)) same (rounds_has b p x i 0 ss r s is)
+
+-- the parts of an explanation
+module _ (b : Base) (p : ProgramTree) (x : List ℕ) (i : ℕ) where
+  abbrev begin : List ℕ
+  begin = assigned_lines 0 b (knowing_id (slice_index x i)) 0 p.start
+
+  abbrev middle : List ℕ
+  middle = rounds_trees b p x i 0 p.steps
+
+  abbrev end : List ℕ
+  end = headed (codes "finish") b (before_messages p x i (length p.steps)) p.finish
+
+  round_has : (r : ℕ) (s : Round) → slice_get p.steps r ≡ Some s → Has (round_trees b p x i r s) (explanation b p x i)
+  round_has r s is = on_right _ begin (middle ++ end) (on_left _ middle end (step_has b p x i p.steps r s is))
+
+  start_shown : (j : ℕ) (e : Term) → slice_get p.start j ≡ Some e
+      → Shows b (phase 0 ++ (codes " r" ++ decimal j)) e (slice_index (state p x 0 i) j) (explanation b p x i)
+  start_shown j e is =
+      shown b (knowing_id (slice_index x i)) _ e _ _ (starts p x i j e is)
+      (on_left _ begin (middle ++ end) (register_has 0 b (knowing_id (slice_index x i)) p.start j e is))
+
+  register_shown : (r j : ℕ) (s : Round) (e : Term) → slice_get p.steps r ≡ Some s → slice_get s.next j ≡ Some e
+      → Shows b (phase (r + 1) ++ (codes " r" ++ decimal j)) e (slice_index (state p x (r + 1) i) j) (explanation b p x i)
+  register_shown r j s e round is =
+      let env = with_messages p x i r in
+      let left = headed (phase (r + 1) ++ codes " left") b (before_messages p x i r) s.left in
+      let right = headed (phase (r + 1) ++ codes " right") b (before_messages p x i r) s.right in
+      let lines = assigned_lines (r + 1) b env 0 s.next in
+      shown b env _ e _ _ (assigned p x i r j s e round is)
+      (inside _ (round_trees b p x i r s) (explanation b p x i)
+      (on_right _ left (right ++ lines) (on_right _ right lines (register_has (r + 1) b env s.next j e is)))
+      (round_has r s round))
+
+  left_shown : (r : ℕ) (s : Round) → slice_get p.steps r ≡ Some s
+      → Shows b (phase (r + 1) ++ codes " left") s.left (to_left p r (state p x r i)) (explanation b p x i)
+  left_shown r s round =
+      let env = before_messages p x i r in
+      let left = headed (phase (r + 1) ++ codes " left") b env s.left in
+      let right = headed (phase (r + 1) ++ codes " right") b env s.right in
+      let lines = assigned_lines (r + 1) b (with_messages p x i r) 0 s.next in
+      shown b env _ s.left _ _ (left_is_sent p x i r s round)
+      (inside left (round_trees b p x i r s) (explanation b p x i) (on_left left left (right ++ lines) (itself left)) (round_has r s round))
+
+  right_shown : (r : ℕ) (s : Round) → slice_get p.steps r ≡ Some s
+      → Shows b (phase (r + 1) ++ codes " right") s.right (to_right p r (state p x r i)) (explanation b p x i)
+  right_shown r s round =
+      let env = before_messages p x i r in
+      let left = headed (phase (r + 1) ++ codes " left") b env s.left in
+      let right = headed (phase (r + 1) ++ codes " right") b env s.right in
+      let lines = assigned_lines (r + 1) b (with_messages p x i r) 0 s.next in
+      shown b env _ s.right _ _ (right_is_sent p x i r s round)
+      (inside right (round_trees b p x i r s) (explanation b p x i) (on_right right left (right ++ lines) (on_left right right lines (itself right)))
+      (round_has r s round))
+
+  channel_shown : i < length x → Shows b (codes "finish") p.finish (slice_index (channels_of p x) i) (explanation b p x i)
+  channel_shown within =
+      shown b (before_messages p x i (length p.steps)) _ p.finish _ _ (finished p x i within)
+      (on_right end begin (middle ++ end) (on_right end middle end (itself end)))
+
+pub traces_shown : ExplanationsShowTraces
+traces_shown b p x i within = record {
+  starts = start_shown b p x i;
+  registers = register_shown b p x i;
+  left = left_shown b p x i;
+  right = right_shown b p x i;
+  channel = channel_shown b p x i within;
+}

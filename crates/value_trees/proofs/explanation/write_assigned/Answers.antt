@@ -1,0 +1,19 @@
+use Rattle.std.proofs.Common.{append_assoc}
+use Rattle.node_program.specs.Limits.{IsSmall}
+use Rattle.node_program.specs.Term.{term_of}
+use Rattle.node_lang.proofs.Writing.{next_item}
+use Rattle.value_trees.proofs.Small.{all_at}
+use Rattle.value_trees.proofs.explanation.write_assigned.Goals as goal
+
+pub registers-preserved : goal.registers-preserved
+registers-preserved c =
+    let e = c.index-expressions-register in
+    let next = next_item term_of c.args.expressions.now c.registers.register-counter e.result c.registers-test.true e.is in
+    let left = rw next at c.registers.invariant in
+    rw (c.in_ok-write_under.ensures, c.in_ok-write.ensures.bytes, c.in_ok-write_phase.ensures) (simp append_assoc (simp append_assoc at left))
+
+pub write_under-requires : goal.write_under-requires
+write_under-requires c =
+    let e = c.index-expressions-register in
+    let small : IsSmall (term_of e.result) = all_at IsSmall term_of c.args.expressions.now c.registers.register-counter e.result c.registers-test.true e.is c.requires in
+    small.depth

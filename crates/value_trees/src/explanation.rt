@@ -1,0 +1,211 @@
+ghost use Rattle.std.specs.Prelude.{◌≡◌, ◌+◌, ◌++◌, ◌<◌, ◌≤◌, All, IfOk, OnOk, codes, length, map, string_bytes};
+ghost use Rattle.node_program.specs.Term.{depth, term_of, step_of, terms_of_step};
+ghost use Rattle.node_program.specs.Limits.{IsSmall, IsWithinLimits};
+ghost use Rattle.node_program.specs.Value.{env_of};
+ghost use Rattle.node_program.specs.Node as node;
+ghost use Rattle.node_program.specs.GlobalRounds.{left_of, right_of, state};
+ghost use Rattle.value_trees.specs.Trees.{tree_lines};
+ghost use Rattle.value_trees.specs.Explanation.{phase, assigned_lines, round_trees, rounds_trees, explanation};
+
+use crate::tree::write_tree;
+use lang_check::Plan;
+use node_program::{Env, Expr, MAX_DEPTH, OutOfMemory, Round};
+use numerals::Base;
+use round_eval::{Configuration, Told};
+use std::alloc::{AllocError, Global};
+use std::fmt::Write;
+use win_index::Ring;
+
+/// Returns how a place of a ring computes by a plan: each expression of the program in the order of
+/// the text, under a heading, as a tree with the value of every part. The ring must have the plan's
+/// number of identifiers. Fails with `OutOfMemory` if memory was refused.
+pub fn explanation_text(
+    alloc: Global,
+    base: Base,
+    plan: &Plan,
+    ring: &Ring,
+    place: u32,
+) -> Result<String, OutOfMemory>
+    requires ids { ring.now.ids ≡ plan.now.ids }
+    requires place { place < length ring.now.places }
+    ensures { IfOk result (λ text. string_bytes text ≡ explanation base plan.now.program ring.now.places place) }
+{
+    let mut text = String::new(alloc);
+    let mut places = Configuration::new(alloc, plan, ring)?;
+    let program = plan.program();
+    write_assigned(
+        alloc,
+        &mut text,
+        base,
+        knowing(ring.id(place)),
+        0,
+        program.start(),
+    )?;
+    write_rounds(alloc, &mut text, base, program.steps(), &mut places, place)?;
+    text.push_str("finish")?;
+    let last = places.held_by(place);
+    write_under(
+        alloc,
+        &mut text,
+        base,
+        reading(last, 0, 0),
+        program.finish(),
+    )?;
+    Ok(text)
+}
+
+// What an expression reads before the first round: the identifier alone.
+fn knowing(id: u32) -> Env<'static>
+    ensures { env_of result ≡ node.knowing_id id }
+{
+    Env {
+        id,
+        left: 0,
+        right: 0,
+        registers: &[],
+    }
+}
+
+// What an expression reads during and after the rounds: the registers and both messages.
+fn reading(registers: &[u32], left: u32, right: u32) -> Env<'_>
+    ensures { env_of result ≡ node.reading_messages registers.now left right }
+{
+    Env {
+        id: 0,
+        left,
+        right,
+        registers,
+    }
+}
+
+// Ends the line of a heading, and appends the tree of an expression under it.
+fn write_under(
+    alloc: Global,
+    text: &mut String,
+    base: Base,
+    env: Env<'_>,
+    expression: &Expr,
+) -> Result<(), AllocError>
+    requires { depth (term_of expression.now) ≤ MAX_DEPTH }
+    ensures { OnOk result (string_bytes text.new
+        ≡ string_bytes text.old ++ (codes "\n" ++ tree_lines base (env_of env.entry) (term_of expression.now))) }
+{
+    text.push_str("\n")?;
+    write_tree(alloc, text, base, env, expression)
+}
+
+// Appends the heading of what gives the registers after this many rounds.
+pub(crate) fn write_phase(text: &mut String, rounds: u32) -> Result<(), AllocError>
+    ensures { OnOk result (string_bytes text.new ≡ string_bytes text.old ++ phase rounds) }
+{
+    if rounds == 0 {
+        text.push_str("start")
+    } else {
+        write!(text, "round {rounds}")
+    }
+}
+
+// Appends the assignments that give the registers after this many rounds.
+fn write_assigned(
+    alloc: Global,
+    text: &mut String,
+    base: Base,
+    env: Env<'_>,
+    rounds: u32,
+    expressions: &[Expr],
+) -> Result<(), AllocError>
+    requires { All IsSmall (map term_of expressions.now) }
+    ensures { OnOk result (string_bytes text.new
+        ≡ string_bytes text.old ++ assigned_lines rounds base (env_of env.entry) 0 (map term_of expressions.now)) }
+{
+    'registers: for (register, expression) in expressions.iter().enumerate() {
+        write_phase(text, rounds)?;
+        write!(text, " r{register}")?;
+        write_under(alloc, text, base, env, expression)?;
+    }
+    Ok(())
+}
+
+// Returns the message to a place from its left neighbour in the next round.
+fn from_left(places: &Configuration<'_>, place: u32) -> u32
+    requires place { place < length places.now.places }
+    requires more { places.now.round < length places.now.program.steps }
+    ensures { result ≡ node.to_right places.now.program places.now.round
+        (state places.now.program places.now.places places.now.round (left_of places.now.places place)) }
+{
+    let count = u64::from(places.places());
+    let left = (u64::from(place) + count - 1) % count;
+    places.told(Told::Right, left as u32)
+}
+
+// Returns the message to a place from its right neighbour in the next round.
+fn from_right(places: &Configuration<'_>, place: u32) -> u32
+    requires place { place < length places.now.places }
+    requires more { places.now.round < length places.now.program.steps }
+    ensures { result ≡ node.to_left places.now.program places.now.round
+        (state places.now.program places.now.places places.now.round (right_of places.now.places place)) }
+{
+    let count = u64::from(places.places());
+    let right = (u64::from(place) + 1) % count;
+    places.told(Told::Left, right as u32)
+}
+
+// Appends the next round of a place, whose number is `number`.
+fn write_round(
+    alloc: Global,
+    text: &mut String,
+    base: Base,
+    round: &Round,
+    number: u32,
+    places: &Configuration<'_>,
+    place: u32,
+) -> Result<(), AllocError>
+    requires small { All IsSmall (terms_of_step (step_of round.now)) }
+    requires number { number ≡ places.now.round + 1 }
+    requires more { places.now.round < length places.now.program.steps }
+    requires place { place < length places.now.places }
+    ensures { OnOk result (string_bytes text.new ≡ string_bytes text.old
+        ++ round_trees base places.now.program places.now.places place places.now.round (step_of round.now)) }
+{
+    let own = places.held_by(place);
+    write_phase(text, number)?;
+    text.push_str(" left")?;
+    write_under(alloc, text, base, reading(own, 0, 0), &round.left)?;
+    write_phase(text, number)?;
+    text.push_str(" right")?;
+    write_under(alloc, text, base, reading(own, 0, 0), &round.right)?;
+    let left = from_left(places, place);
+    let right = from_right(places, place);
+    write_assigned(
+        alloc,
+        text,
+        base,
+        reading(own, left, right),
+        number,
+        &round.next,
+    )
+}
+
+// Appends all rounds of a place, and does them.
+fn write_rounds(
+    alloc: Global,
+    text: &mut String,
+    base: Base,
+    rounds: &[Round],
+    places: &mut Configuration<'_>,
+    place: u32,
+) -> Result<(), AllocError>
+    requires limits { IsWithinLimits places.old.program }
+    requires rounds { map step_of rounds.now ≡ places.old.program.steps }
+    requires start { places.old.round ≡ 0 }
+    requires place { place < length places.old.places }
+    ensures text { OnOk result (string_bytes text.new ≡ string_bytes text.old
+        ++ rounds_trees base places.old.program places.old.places place 0 places.old.program.steps) }
+    ensures done { OnOk result (places.new ≡ record places.old { round = length places.old.program.steps }) }
+{
+    'rounds: for (done, round) in rounds.iter().enumerate() {
+        write_round(alloc, text, base, round, done as u32 + 1, places, place)?;
+        places.advance();
+    }
+    Ok(())
+}

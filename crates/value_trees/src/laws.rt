@@ -1,0 +1,19 @@
+ghost use Rattle.value_trees.specs.Laws as law;
+
+/// The first line of a tree has the value of its whole expression. That is the register which is
+/// traced, the message which is sent, and the channel which a run prints.
+#[tactic(auto, using(crate::proofs::Roots::first, crate::proofs::Roots::starts, crate::proofs::Roots::assigned, crate::proofs::Roots::left_is_sent, crate::proofs::Roots::right_is_sent, crate::proofs::Roots::finished))]
+pub fn roots_are_traced()
+    ensures first { law.RootsAreFirst }
+    ensures starts { law.StartsAreHeld }
+    ensures assigned { law.AssignedAreHeld }
+    ensures left { law.LeftIsSent }
+    ensures right { law.RightIsSent }
+    ensures finish { law.FinishIsChannel }
+{}
+
+/// An explanation shows them: in the first line of each tree, each register as a trace does, each
+/// message, and the channel as a run does.
+pub fn explanations_show_traces()
+    ensures { law.ExplanationsShowTraces }
+{}

@@ -1,0 +1,124 @@
+//! The trace of a ring: its identifiers, and the registers and the messages of its places, round by round.
+
+ghost use Rattle.std.specs.Prelude.{◌≡◌, ◌+◌, ◌++◌, ◌<◌, length, IfOk, OnOk, string_bytes};
+ghost use Rattle.round_eval.specs.Configuration.{told, CanTell};
+ghost use Rattle.numerals.specs.Numerals.{row};
+ghost use Rattle.value_trees.specs.Trace.{of_places, register_lines, message_lines, later_lines, trace_lines};
+
+use crate::explanation::write_phase;
+use lang_check::Plan;
+use node_program::OutOfMemory;
+use numerals::{Base, write_row};
+use round_eval::{Configuration, Told};
+use std::alloc::{AllocError, Global};
+use std::fmt::Write;
+use win_index::Ring;
+
+/// Returns the trace of a ring by a plan, with its numbers in this base. Fails with `OutOfMemory` if
+/// memory was refused.
+pub fn trace_text(
+    alloc: Global,
+    base: Base,
+    plan: &Plan,
+    ring: &Ring,
+) -> Result<String, OutOfMemory>
+    requires { ring.now.ids ≡ plan.now.ids }
+    ensures { IfOk result (λ text. string_bytes text ≡ trace_lines base plan.now.program ring.now.places) }
+{
+    let mut text = String::new(alloc);
+    let mut places = Configuration::new(alloc, plan, ring)?;
+    text.push_str("ring")?;
+    write_row(alloc, &mut text, base, ring.ids())?;
+    write_trace(alloc, &mut text, base, &mut places, plan.shape().rounds())?;
+    Ok(text)
+}
+
+// Writes the registers of a ring before its first round, all rounds and the channels. Does the rounds.
+fn write_trace(
+    alloc: Global,
+    text: &mut String,
+    base: Base,
+    places: &mut Configuration<'_>,
+    rounds: u32,
+) -> Result<(), AllocError>
+    requires start { places.old.round ≡ 0 }
+    requires rounds { rounds ≡ length places.old.program.steps }
+    ensures { OnOk result (string_bytes text.new ≡ (string_bytes text.old ++ register_lines base places.old.program places.old.places 0)
+        ++ later_lines base places.old.program places.old.places) }
+{
+    write_registers(alloc, text, base, places)?;
+    for round in 0..rounds {
+        write_messages(alloc, text, base, places, round + 1)?;
+        places.advance();
+        write_registers(alloc, text, base, places)?;
+    }
+    text.push_str("finish")?;
+    write_told(alloc, text, base, places, Told::Channel)
+}
+
+// Writes a line for each register, with its value at each place.
+fn write_registers(
+    alloc: Global,
+    text: &mut String,
+    base: Base,
+    places: &Configuration<'_>,
+) -> Result<(), AllocError>
+    ensures { OnOk result (string_bytes text.new
+        ≡ string_bytes text.old ++ register_lines base places.now.program places.now.places places.now.round) }
+{
+    for register in 0..places.registers() {
+        write_phase(text, places.round())?;
+        write!(text, " r{register}")?;
+        write_told(alloc, text, base, places, Told::Register(register))?;
+    }
+    Ok(())
+}
+
+// Writes the two lines of the messages of the next round, whose number is `round`.
+fn write_messages(
+    alloc: Global,
+    text: &mut String,
+    base: Base,
+    places: &Configuration<'_>,
+    round: u32,
+) -> Result<(), AllocError>
+    requires more { places.now.round < length places.now.program.steps }
+    requires number { round ≡ places.now.round + 1 }
+    ensures { OnOk result (string_bytes text.new
+        ≡ string_bytes text.old ++ message_lines base places.now.program places.now.places places.now.round) }
+{
+    write_phase(text, round)?;
+    text.push_str(" left")?;
+    write_told(alloc, text, base, places, Told::Left)?;
+    write_phase(text, round)?;
+    text.push_str(" right")?;
+    write_told(alloc, text, base, places, Told::Right)
+}
+
+// Writes the number `what` of each place, and ends the line.
+fn write_told(
+    alloc: Global,
+    text: &mut String,
+    base: Base,
+    places: &Configuration<'_>,
+    what: Told,
+) -> Result<(), AllocError>
+    requires { CanTell places.now what }
+    ensures { OnOk result (string_bytes text.new
+        ≡ string_bytes text.old ++ row base (of_places places.now.places (told places.now what))) }
+{
+    let numbers = numbers_of(alloc, places, what)?;
+    write_row(alloc, text, base, &numbers)
+}
+
+// Returns the number `what` of each place.
+fn numbers_of(alloc: Global, places: &Configuration<'_>, what: Told) -> Result<Vec<u32>, AllocError>
+    requires { CanTell places.now what }
+    ensures { IfOk result (λ numbers. numbers.items ≡ of_places places.now.places (told places.now what)) }
+{
+    let mut numbers = Vec::new(alloc);
+    for place in 0..places.places() {
+        numbers.push(places.told(what, place))?;
+    }
+    Ok(numbers)
+}

@@ -1,0 +1,105 @@
+//! The tree of an expression: a line for each of its parts, with the value of the part.
+
+ghost use Rattle.std.specs.Prelude.{◌≡◌, ◌+◌, ◌≤◌, ◌++◌, ◌<◌, ◌^◌, OnOk, string_bytes, replicate};
+ghost use Rattle.node_program.specs.Term.{depth, term_of};
+ghost use Rattle.node_program.specs.Value.{env_of};
+ghost use Rattle.value_trees.specs.Trees.{part_values, part_line, part_lines, tree_lines};
+
+use node_lang::write_word;
+use node_program::{Env, Expr, MAX_DEPTH};
+use numerals::{Base, Form, form_of, write_number};
+use round_eval::value_of;
+use std::alloc::{AllocError, Global};
+
+// Appends the tree of an expression in this base, below a heading.
+pub(crate) fn write_tree(
+    alloc: Global,
+    text: &mut String,
+    base: Base,
+    env: Env<'_>,
+    expression: &Expr,
+) -> Result<(), AllocError>
+    requires { depth (term_of expression.now) ≤ MAX_DEPTH }
+    ensures { OnOk result (string_bytes text.new ≡ string_bytes text.old ++ tree_lines base (env_of env.entry) (term_of expression.now)) }
+{
+    let mut values = Vec::new(alloc);
+    push_values(&mut values, env, expression)?;
+    let form = form_of(alloc, base, &values)?;
+    write_parts(alloc, text, form, env, 1, expression)
+}
+
+// Appends the values of the parts of an expression.
+fn push_values(values: &mut Vec<u32>, env: Env<'_>, expression: &Expr) -> Result<(), AllocError>
+    ensures { OnOk result (values.new.items ≡ values.old.items ++ part_values (env_of env.entry) (term_of expression.now)) }
+{
+    values.push(value_of(expression, env))?;
+    match expression {
+        Expr::Number(_) | Expr::Id | Expr::FromLeft | Expr::FromRight | Expr::Register(_) => Ok(()),
+        Expr::One(_, a) => push_values(values, env, a),
+        Expr::Two(_, a, b) => {
+            push_values(values, env, a)?;
+            push_values(values, env, b)
+        }
+        Expr::Choose(c, a, b) => {
+            push_values(values, env, c)?;
+            push_values(values, env, a)?;
+            push_values(values, env, b)
+        }
+    }
+}
+
+// Appends the lines of an expression and of its operands, whose levels stay below 2^32.
+fn write_parts(
+    alloc: Global,
+    text: &mut String,
+    form: Form,
+    env: Env<'_>,
+    level: u32,
+    expression: &Expr,
+) -> Result<(), AllocError>
+    requires { level + depth (term_of expression.now) < 2 ^ 32 }
+    ensures { OnOk result (string_bytes text.new ≡ string_bytes text.old ++ part_lines form (env_of env.entry) level (term_of expression.now)) }
+{
+    write_part(alloc, text, form, env, level, expression)?;
+    match expression {
+        Expr::Number(_) | Expr::Id | Expr::FromLeft | Expr::FromRight | Expr::Register(_) => Ok(()),
+        Expr::One(_, a) => write_parts(alloc, text, form, env, level + 1, a),
+        Expr::Two(_, a, b) => {
+            write_parts(alloc, text, form, env, level + 1, a)?;
+            write_parts(alloc, text, form, env, level + 1, b)
+        }
+        Expr::Choose(c, a, b) => {
+            write_parts(alloc, text, form, env, level + 1, c)?;
+            write_parts(alloc, text, form, env, level + 1, a)?;
+            write_parts(alloc, text, form, env, level + 1, b)
+        }
+    }
+}
+
+// Appends the line of an expression itself, at a level of its tree.
+fn write_part(
+    alloc: Global,
+    text: &mut String,
+    form: Form,
+    env: Env<'_>,
+    level: u32,
+    expression: &Expr,
+) -> Result<(), AllocError>
+    ensures { OnOk result (string_bytes text.new ≡ string_bytes text.old ++ part_line form (env_of env.entry) level (term_of expression.now)) }
+{
+    write_blanks(text, level)?;
+    write_word(text, expression)?;
+    text.push_str(" ")?;
+    write_number(alloc, text, form, value_of(expression, env))?;
+    text.push_str("\n")
+}
+
+// Appends blanks.
+fn write_blanks(text: &mut String, count: u32) -> Result<(), AllocError>
+    ensures { OnOk result (string_bytes text.new ≡ string_bytes text.old ++ replicate count 32) }
+{
+    'blanks: for _blank in 0..count {
+        text.push_str(" ")?;
+    }
+    Ok(())
+}
