@@ -1,9 +1,9 @@
 -- Cells in rows and columns.
-use Rattle.std.proofs.Common.{◌≡◌, ◌≢◌, ℕ, ◌+◌, ◌-◌, ◌*◌, ◌<◌, ◌≤◌, Bool, true, false, ◌&&◌, cond, eqb, ltb, List, length, get_or, set, sym, ap, ◌∙◌, arith, refl, ⊎_elim, zero, suc, replicate, subst}
+use Rattle.std.proofs.Common.{◌≡◌, ◌≢◌, ℕ, ◌+◌, ◌-◌, ◌*◌, ◌<◌, ◌≤◌, Bool, true, false, ◌&&◌, cond, eqb, ltb, List, length, get_or, set, sym, ap, ◌∙◌, arith, refl, ⊎_elim, zero, suc, replicate}
 use Rattle.std.proofs.Math.Nat.{mul-le-mul_right, add-mul, one-mul, add-zero}
 use Rattle.std.proofs.lemmas.Bool.{cases_eq, cases_lt, lt-ltb, le-ltb, ne_eqb}
 use Rattle.std.proofs.lemmas.Bool.Decides.{eqb_tells}
-use Rattle.std.proofs.lemmas.List.{get_or-set_same, get_or-set_other, set_past}
+use Rattle.std.proofs.lemmas.List.{get_or-set_same, get_or-set_other}
 use Rattle.std.proofs.lemmas.Nat.{same_from_place}
 
 pub row_more : (row wide : ℕ) → (row + 1) * wide ≡ row * wide + wide
@@ -39,20 +39,6 @@ pub zeros : (n i : ℕ) → ◌≡◌ {A = ℕ} (get_or (replicate n 0) i 0) 0
 zeros zero i = refl
 zeros (suc n) zero = refl
 zeros (suc n) (suc i) = zeros n i
-
--- a test of each cell and its index, after a write to one
-pub each_set : (P : ℕ → ℕ → Type 0) (cells : List ℕ) (i new : ℕ) → ((k : ℕ) → P k (get_or cells k 0)) → P i new → (k : ℕ) → P k (get_or (set cells i new) k 0)
-each_set P cells i new before here k =
-    ⊎_elim
-    (λ (same : k ≡ i).
-    ⊎_elim
-    (λ (lt : i < length cells).
-    let read : get_or (set cells i new) k 0 ≡ new = ap (λ j. get_or (set cells i new) j 0) same ∙ get_or-set_same cells i new 0 lt in
-    subst (P k) (sym read) (subst (λ j. P j new) (sym same) here))
-    (λ (past : length cells ≤ i). subst (λ l. P k (get_or l k 0)) (sym (set_past cells i new past)) (before k))
-    (cases_lt i (length cells)))
-    (λ (other : k ≢ i). subst (P k) (sym (get_or-set_other cells i k new 0 other)) (before k))
-    (cases_eq k i)
 
 pub cond_one : (b : Bool) → cond b 1 0 ≤ 1
 cond_one true = omega arith

@@ -1,5 +1,5 @@
 -- Channels that are close, and channels that are apart.
-use Rattle.std.proofs.Common.{◌≡◌, ℕ, ◌<◌, Option, Some, None, IsSome, subst, ap, arith, refl, ltb, sym, IsTrue, ◌↔◌}
+use Rattle.std.proofs.Common.{◌≤◌, ◌≡◌, ℕ, ◌<◌, Option, Some, None, IsSome, subst, ap, arith, refl, ltb, sym, IsTrue, ◌↔◌}
 use Rattle.std.proofs.lemmas.Bool.{false≢true, ltb-true, lt-ltb}
 use Rattle.std.specs.Int.{abs_diff}
 use Rattle.nbhd_check.specs.Apart.{AreClose, AreApart}
@@ -51,3 +51,9 @@ close_by_test distance c d n a b n_is a_is b_is = (
   λ is. subst (λ o. AreClose distance o b) (sym a_is) (subst (AreClose distance (Some c)) (sym b_is) (subst (λ m. m < distance) n_is (ltb-true n distance is))),
   λ close. lt-ltb n distance (subst (λ m. m < distance) (sym n_is) (subst (AreClose distance (Some c)) b_is (subst (λ o. AreClose distance o b) a_is close))),
 )
+
+-- channels that are closer than a distance are closer than a greater one
+pub closer : (less distance : ℕ) (a b : Option ℕ) → less ≤ distance → AreClose less a b → AreClose distance a b
+closer less distance (Some c) (Some d) le close = omega (arith, le, close)
+closer less distance (Some c) None le close = absurd close
+closer less distance None b le close = absurd close

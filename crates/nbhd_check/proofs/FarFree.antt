@@ -1,5 +1,5 @@
 -- Windows that begin no tuple with a close third window, and the blocks of these third windows.
-use Rattle.std.proofs.Common.{◌≡◌, ℕ, ◌+◌, ◌-◌, ◌*◌, ◌/◌, ◌<◌, ◌≤◌, ◌⊎◌, List, [], ◌∷◌, length, get_or, take, drop, slice_get, Some, subst, sym, ap, ◌∙◌, arith, refl, inl, inr, ⊎_elim, min}
+use Rattle.std.proofs.Common.{◌≡◌, ℕ, ◌+◌, ◌-◌, ◌*◌, ◌/◌, ◌<◌, ◌≤◌, ◌⊎◌, List, [], ◌∷◌, length, get_or, take, drop, slice_get, Some, subst, sym, ap, ◌∙◌, arith, refl, inl, inr, ⊎_elim}
 use Rattle.std.proofs.Math.Nat.{mul-div_cancel_left, one-mul}
 use Rattle.std.proofs.lemmas.Bool.{cases_lt}
 use Rattle.std.proofs.lemmas.Option.{same_Some, slice_get_within}
@@ -9,13 +9,13 @@ use Rattle.win_index.specs.Laws.{CountOfWindows, WindowsAreInOrder}
 use Rattle.win_index.specs.Windows.{windows, IsWindow}
 use Rattle.channel_tables.specs.Tables.{ChannelTable, windows_of}
 use Rattle.nbhd_check.specs.Counts.{shared_len, shared_lists, IsBlock}
-use Rattle.nbhd_check.specs.FarSearch.{AreFarFree, AreFarFreeIn, HasBlockIn, blocks_per_part}
+use Rattle.nbhd_check.specs.FarSearch.{AreFarFreeIn, HasBlockIn}
+use Rattle.nbhd_check.specs.Runs.{AreFree, BeginsFarTuple}
 use Rattle.nbhd_check.specs.Laws.{WindowsAreNumbered}
 use Rattle.nbhd_check.proofs.Cells.{row_more}
 use Rattle.nbhd_check.proofs.Ends.{by_first}
 use Rattle.nbhd_check.proofs.Prefixes.{number_of_window, one_number, window_at, window_drop, in_longer_run, one_run}
 use Rattle.nbhd_check.proofs.RunLengths.{falling-add}
-use Rattle.nbhd_check.specs.declared.far_parts.TheConstants.{MAX_FAR_PARTS}
 
 -- windows that pass one test or the other
 pub free_in_two :
@@ -27,47 +27,6 @@ free_in_two t distance a b less first second both le_a le_b split free_a free_b 
     (λ (is : first window). free_a number window (omega arith) item is)
     (λ (is : second window). free_b number window (omega arith) item is)
     (split number window item own)
-
--- the blocks from low on and below middle, and those from there on
-pub more_blocks :
-    (t : ChannelTable) (distance a b less low middle high end : ℕ) → less ≤ a → less ≤ b → end ≤ high
-    → AreFarFreeIn t distance a (HasBlockIn t low middle) → AreFarFreeIn t distance b (HasBlockIn t middle high)
-    → AreFarFreeIn t distance less (HasBlockIn t low end)
-more_blocks t distance a b less low middle high end le_a le_b le =
-    free_in_two t distance a b less (HasBlockIn t low middle) (HasBlockIn t middle high) (HasBlockIn t low end) le_a le_b (λ number window item own.
-    ⊎_elim
-    (λ (lt : own.0 < middle). inl (own.0, own.1, lt, own.3))
-    (λ (ge : middle ≤ own.0). inr (own.0, ge, omega (arith, own.2), own.3))
-    (cases_lt own.0 middle))
-
--- one more block, that of z
-pub one_more_block :
-    (t : ChannelTable) (distance least less low block : ℕ) (z : List ℕ) → less ≤ least → slice_get (shared_lists t) block ≡ Some z
-    → AreFarFreeIn t distance least (HasBlockIn t low block) → AreFarFreeIn t distance less (λ window. drop 2 window ≡ z)
-    → AreFarFreeIn t distance less (HasBlockIn t low (block + 1))
-one_more_block t distance least less low block z le here =
-    free_in_two t distance least less less (HasBlockIn t low block) (λ window. drop 2 window ≡ z) (HasBlockIn t low (block + 1)) le (omega arith) (λ number window item own.
-    ⊎_elim
-    (λ (lt : own.0 < block). inl (own.0, own.1, lt, own.3))
-    (λ (ge : block ≤ own.0).
-    let same : own.0 ≡ block = omega (arith, own.2) in
-    inr (same_Some (drop 2 window) z (sym own.3 ∙ ap (slice_get (shared_lists t)) same ∙ here)))
-    (cases_lt own.0 block))
-
--- the blocks of a part, as the code bounds them
-pub all_of_part :
-    (t : ChannelTable) (distance least part blocks low end block : ℕ) → blocks ≡ length (shared_lists t)
-    → low ≡ min (part * (blocks / MAX_FAR_PARTS + 1)) blocks → end ≡ min (low + (blocks / MAX_FAR_PARTS + 1)) blocks → end ≤ block
-    → AreFarFreeIn t distance least (HasBlockIn t low block)
-    → AreFarFreeIn t distance least (HasBlockIn t (part * blocks_per_part t) (part * blocks_per_part t + blocks_per_part t))
-all_of_part t distance least part blocks low end block blocks_is low_is end_is le free number window below item own =
-    let each : ℕ = blocks / MAX_FAR_PARTS + 1 in
-    let each_is : each ≡ blocks_per_part t = ap (λ n. n / MAX_FAR_PARTS + 1) blocks_is in
-    let start_is : part * each ≡ part * blocks_per_part t = ap (λ n. part * n) each_is in
-    let within = slice_get_within (shared_lists t) own.0 (drop 2 window) own.3 in
-    let from : part * blocks_per_part t ≤ own.0 = own.1 in
-    let to : own.0 < part * blocks_per_part t + blocks_per_part t = own.2 in
-    free number window below item (own.0, omega arith, omega arith, own.3)
 
 module _ (laws : WindowsAreNumbered) where
   -- the windows that begin with a list of shared identifiers
@@ -137,8 +96,8 @@ module _ (laws : WindowsAreNumbered) where
   -- every window has a block
   pub all_blocks :
       (t : ChannelTable) (distance least end : ℕ) → 1 ≤ t.rounds → length (shared_lists t) ≤ end
-      → AreFarFreeIn t distance least (HasBlockIn t 0 end) → AreFarFree t distance least
-  all_blocks t distance least end some le free number window below item =
+      → AreFarFreeIn t distance least (HasBlockIn t 0 end) → AreFree t (BeginsFarTuple t distance) 0 least
+  all_blocks t distance least end some le free number window from below item =
       let is = window_at laws (2 * t.rounds + 1) t.ids number window item in
       let size : 2 * t.rounds + 1 ≡ 2 + shared_len t = omega arith in
       let rest = window_drop (shared_len t) t.ids 2 window (subst (λ k. IsWindow k t.ids window) size is) in

@@ -1,5 +1,5 @@
 -- Channels that are apart by a separation are apart by a smaller one.
-use Rattle.std.proofs.Common.{◌≡◌, ℕ, suc, ◌+◌, ◌-◌, ◌*◌, ◌<◌, ◌≤◌, ◌++◌, ◌∷◌, [], List, Option, Some, None, IsSome, length, get_or, take, drop, refl, sym, ap, subst, ◌∙◌, arith, inl, inr, ⊎_elim}
+use Rattle.std.proofs.Common.{◌≡◌, ℕ, suc, ◌+◌, ◌-◌, ◌*◌, ◌<◌, ◌≤◌, ◌++◌, ◌∷◌, [], List, Option, IsSome, length, get_or, take, drop, refl, sym, ap, subst, ◌∙◌, arith, inl, inr, ⊎_elim}
 use Rattle.std.proofs.lemmas.Bool.{not-true, cases_lt}
 use Rattle.std.proofs.lemmas.List.{take-append-le, drop-append-le, length-drop}
 use Rattle.std.proofs.lemmas.Option.{slice_get-get_or, slice_get_within, get_or_from_slice_get}
@@ -13,14 +13,8 @@ use Rattle.channel_tables.specs.Tables.{ChannelTable, channel_of}
 use Rattle.channel_tables.specs.declared.separation.Separation.{Separation}
 use Rattle.nbhd_check.specs.Apart.{extra, tuples, AreClose, IsBad, IsApart}
 use Rattle.nbhd_check.specs.Laws.{TuplesSuffice, LessIsApart}
-use Rattle.nbhd_check.proofs.Close.{close_along, some_distance}
+use Rattle.nbhd_check.proofs.Close.{closer, close_along, some_distance}
 use Rattle.nbhd_check.proofs.Prefixes.{some_number}
-
--- channels that are closer than a distance are closer than a greater one
-closer : (less distance : ℕ) (a b : Option ℕ) → less ≤ distance → AreClose less a b → AreClose distance a b
-closer less distance (Some c) (Some d) le close = omega (arith, le, close)
-closer less distance (Some c) None le close = absurd close
-closer less distance None b le close = absurd close
 
 -- a tuple that is bad for the smaller separation is bad for the greater one
 still_bad : (t : ChannelTable) (s less : Separation) (tuple : List ℕ) → less.near ≤ s.near → less.far ≤ s.far → IsBad t less tuple → IsBad t s tuple

@@ -10,7 +10,7 @@ use Rattle.nbhd_check.specs.Laws.{OneApartIsProper, OneApartIsGood}
 use Rattle.nbhd_check.specs.Proper.{IsProper, IsGoodEverywhere}
 use Rattle.nbhd_check.proofs.Close.{apart_not_close, apart_of_not_close, some_distance, same_of_close, close_of_same, some_of_apart}
 use Rattle.nbhd_check.proofs.Prefixes.{window_take}
-use Rattle.nbhd_check.proofs.Tuples.{channel_some}
+use Rattle.nbhd_check.proofs.Witnesses.{channel_some}
 
 -- no channels are closer than 0
 none_closer : (a b : Option ℕ) → ¬ AreClose 0 a b

@@ -7,11 +7,15 @@ use Rattle.std.proofs.lemmas.List.Elements.{All-take, All-drop, All-push}
 use Rattle.std.proofs.lemmas.List.Quantifiers.{all_pairs_push}
 use Rattle.std.proofs.lemmas.Option.{same_Some, slice_get_within}
 use Rattle.win_index.specs.Falling.{falling}
-use Rattle.win_index.specs.Windows.{windows, number_of, IsWindow}
+use Rattle.win_index.specs.Windows.{unused, windows, number_of, IsWindow}
 use Rattle.nbhd_check.specs.Laws.{WindowsAreNumbered}
-use Rattle.nbhd_check.specs.Runs.{place_of_last}
+use Rattle.win_index.specs.Runs.{IsReplacedByRun}
 use Rattle.win_index.specs.Successor.{IsReplaced}
 use Rattle.channel_tables.specs.Tables.{ChannelTable, windows_of}
+
+-- the index of identifier k of a list among the identifiers that are not among the k before it
+abbrev pub place_of_last : ℕ → List ℕ → ℕ
+place_of_last k list = length (unused (get_or list k 0) (take k list))
 
 -- a list with a number
 pub some_number : (o : Option ℕ) → IsSome o → (n : ℕ) × (o ≡ Some n)
@@ -193,13 +197,14 @@ pub window_of_shape : (t : ChannelTable) (rounds ids : ℕ) (window : List ℕ) 
 window_of_shape t rounds ids window rounds_is ids_is is =
     subst (λ m. IsWindow (2 * rounds + 1) m window) (sym ids_is) (subst (λ r. IsWindow (2 * r + 1) t.ids window) (sym rounds_is) is)
 
-pub shape_of_window : (t : ChannelTable) (rounds ids : ℕ) (window : List ℕ) → rounds ≡ t.rounds → ids ≡ t.ids
-    → IsWindow (2 * rounds + 1) ids window → IsWindow (2 * t.rounds + 1) t.ids window
-shape_of_window t rounds ids window rounds_is ids_is is =
-    subst (λ m. IsWindow (2 * t.rounds + 1) m window) ids_is (subst (λ r. IsWindow (2 * r + 1) ids window) rounds_is is)
-
 -- the step to the next window, at the numbers of the shape
 pub step_of_shape : (t : ChannelTable) (rounds ids : ℕ) (replaced : Bool) (old new : List ℕ) → rounds ≡ t.rounds → ids ≡ t.ids
     → IsReplaced (2 * rounds + 1) ids replaced old new → IsReplaced (2 * t.rounds + 1) t.ids replaced old new
 step_of_shape t rounds ids replaced old new rounds_is ids_is is =
     subst (λ m. IsReplaced (2 * t.rounds + 1) m replaced old new) ids_is (subst (λ r. IsReplaced (2 * r + 1) ids replaced old new) rounds_is is)
+
+-- the step to the next run, at the numbers of the shape
+pub step_of_run : (t : ChannelTable) (rounds ids : ℕ) (replaced : Bool) (old new : List ℕ) → rounds ≡ t.rounds → ids ≡ t.ids
+    → IsReplacedByRun (2 * rounds + 1) ids replaced old new → IsReplacedByRun (2 * t.rounds + 1) t.ids replaced old new
+step_of_run t rounds ids replaced old new rounds_is ids_is is =
+    subst (λ m. IsReplacedByRun (2 * t.rounds + 1) m replaced old new) ids_is (subst (λ r. IsReplacedByRun (2 * r + 1) ids replaced old new) rounds_is is)

@@ -1,9 +1,8 @@
 -- The tuples that begin with one window, and their later windows.
-use Rattle.std.proofs.Common.{◌≡◌, ◌≢◌, ℕ, suc, ◌+◌, ◌-◌, ◌*◌, ◌<◌, ◌≤◌, Option, List, [], ◌∷◌, ◌++◌, length, get_or, take, drop, slice_get, slice_index, option_map, Contains, Some, subst, sym, ap, ◌∙◌, arith, refl, inl, ⊎_elim, length-drop}
+use Rattle.std.proofs.Common.{◌≡◌, ◌≢◌, ℕ, suc, ◌+◌, ◌-◌, ◌*◌, ◌<◌, ◌≤◌, Option, List, [], ◌∷◌, ◌++◌, length, get_or, take, drop, slice_get, slice_index, option_map, Some, subst, sym, ap, ◌∙◌, arith, refl, inl, ⊎_elim, length-drop, None}
 use Rattle.std.proofs.Math.Nat.{mul-le-mul_right, suc-mul}
 use Rattle.std.proofs.lemmas.Bool.{cases_lt}
-use Rattle.std.proofs.lemmas.List.{get_or-take, get_or-drop, get_or_default, length-take-le, get_or_push, take_at, take_all, take-take, take_more, drop-take}
-use Rattle.std.proofs.lemmas.Option.{same_Some, slice_get-get_or, slice_get_within}
+use Rattle.std.proofs.lemmas.List.{get_or-take, get_or-drop, length-take-le, get_or_push, take_at, take-take, drop-take}
 use Rattle.std.specs.Int.{abs_diff}
 use Rattle.win_index.specs.Arcs.{part_at}
 use Rattle.win_index.specs.Runs.{IsRunStart}
@@ -11,12 +10,23 @@ use Rattle.win_index.specs.Windows.{unused, windows, IsWindow}
 use Rattle.channel_tables.specs.Tables.{ChannelTable, channel_of, windows_of}
 use Rattle.channel_tables.specs.declared.separation.Separation.{Separation}
 use Rattle.nbhd_check.specs.Laws.{WindowsAreNumbered}
-use Rattle.nbhd_check.specs.Apart.{extra, tuples, AreClose, IsBad, NoneIsBad}
-use Rattle.nbhd_check.specs.FarSearch.{AreFarFree}
-use Rattle.nbhd_check.specs.Runs.{run_len, AreFree, BeginsBadTuple, BeginsFarTuple, NoneCloseAfter, AreChannelsAfter, HasCloseOutside, place_of_last}
+use Rattle.nbhd_check.specs.Apart.{extra, AreClose, IsBad, NoneIsBad}
+use Rattle.nbhd_check.specs.Runs.{run_len, AreFree, BeginsBadTuple, BeginsFarTuple, HasCloseOutside}
 use Rattle.nbhd_check.proofs.Close.{close_along}
-use Rattle.nbhd_check.proofs.Tuples.{two_of_far}
-use Rattle.nbhd_check.proofs.Prefixes.{number_of_window, one_number, window_take, window_drop, window_turned, one_run, in_run, in_longer_run, same_from_place, window_at}
+use Rattle.nbhd_check.proofs.Witnesses.{two_of_far}
+use Rattle.nbhd_check.proofs.Prefixes.{place_of_last, number_of_window, one_number, window_take, window_drop, window_turned, in_run, in_longer_run, same_from_place, window_at}
+
+-- no list that extends the window by one identifier has a second window that is closer than the distance to the channel
+abbrev pub NoneCloseNext : ChannelTable → List ℕ → ℕ → ℕ → Type 0
+NoneCloseNext t window distance channel =
+    (longer : List ℕ) → IsWindow (2 * t.rounds + 1 + 1) t.ids longer → take (2 * t.rounds + 1) longer ≡ window
+    → ¬ AreClose distance (Some channel) (channel_of t (part_at t.rounds 1 longer))
+
+-- the channels of the windows that begin with the 2t identifiers `front`, in the order of their last identifiers
+pub record AreChannelsAfter (t : ChannelTable) (front channels : List ℕ) : Type 0 where
+  pub each : (window : List ℕ) → IsWindow (2 * t.rounds + 1) t.ids window → take (2 * t.rounds) window ≡ front
+      → let place = place_of_last (2 * t.rounds) window in
+      (place < length channels) × (channel_of t window ≡ Some (slice_index channels place))
 
 -- the identifiers of a list without the first ones, followed by one of these
 turned_front : (k m offset i : ℕ) (list : List ℕ) → IsWindow (k + offset) m list → take k (drop offset list ++ get_or list i 0 ∷ []) ≡ drop offset list
@@ -44,10 +54,6 @@ stands_in_run :
 stands_in_run k m start front window run is begins =
     ap (λ l. slice_get (windows (k + 1) m) (start + length (unused (get_or window k 0) l))) begins ∙ run.each window is begins
 
--- the gaps are the indices of the first identifiers among those that the others lack
-pub record AreGaps (k offset : ℕ) (list gaps : List ℕ) : Type 0 where
-  pub each : (gap : ℕ) → Contains gaps gap → (i : ℕ) × (i < offset) × (gap ≡ length (unused (get_or list i 0) (drop offset list)))
-
 -- a gap is an index of the run
 pub gap_inside :
     (t : ChannelTable) (list channels : List ℕ) (offset i : ℕ) → IsWindow (2 * t.rounds + offset) t.ids list → i < offset
@@ -59,101 +65,44 @@ gap_inside t list channels offset i is lt after =
     let short = found.0 in
     omega (arith, turned_place k t.ids offset i list is)
 
--- the identifiers of a list without the first ones, as the code slices them
-pub cut_front : (offset : ℕ) (list : List ℕ) → take (length list - offset) (drop offset list) ≡ drop offset list
-cut_front offset list = take_all (length list - offset) (drop offset list) (omega (arith, length-drop offset list))
-
-pub front_window :
-    (k m offset : ℕ) (list : List ℕ) (j ids : ℕ) → IsWindow (k + offset) m list → j ≡ k → ids ≡ m
-    → IsWindow j ids (take (length list - offset) (drop offset list))
-front_window k m offset list j ids is j_is ids_is =
-    let swapped : k + offset ≡ offset + k = omega arith in
-    rw (j_is, ids_is, cut_front offset list) (window_drop k m offset list (subst (λ n. IsWindow n m list) swapped is))
-
 module _ (laws : WindowsAreNumbered) where
-  -- different first identifiers have different gaps
-  pub gaps_differ :
-      (k m offset i j : ℕ) (list : List ℕ) → IsWindow (k + offset) m list → i < j → j < offset
-      → length (unused (get_or list i 0) (drop offset list)) ≢ length (unused (get_or list j 0) (drop offset list))
-  gaps_differ k m offset i j list is lt within same =
-      let one = drop offset list ++ get_or list i 0 ∷ [] in
-      let other = drop offset list ++ get_or list j 0 ∷ [] in
-      let size = is.size in
-      let equal : one ≡ other = same_from_place laws k m one other (window_turned k m offset i list is (omega arith)) (window_turned k m offset j list is within)
-      (turned_front k m offset i list is ∙ sym (turned_front k m offset j list is))
-      (turned_place k m offset i list is ∙ same ∙ sym (turned_place k m offset j list is)) in
-      is.distinct i j 0 lt (omega arith)
-      (sym (turned_last k m offset i list is) ∙ ap (λ l. get_or l k 0) equal ∙ turned_last k m offset j list is)
-
-  -- if no close channel is outside the gaps, none is close
+  -- if no close channel is outside the gap, no second window is close
   pub none_close_after :
-      (t : ChannelTable) (list channels gaps : List ℕ) (offset distance channel : ℕ) → IsWindow (2 * t.rounds + offset) t.ids list
-      → AreChannelsAfter t (drop offset list) channels → AreGaps (2 * t.rounds) offset list gaps
-      → ¬ HasCloseOutside channels gaps distance channel → NoneCloseAfter t list offset distance channel
-  none_close_after t list channels gaps offset distance channel is after are none longer is_longer begins close =
+      (t : ChannelTable) (window channels : List ℕ) (gap distance channel : ℕ) → IsWindow (2 * t.rounds + 1) t.ids window
+      → AreChannelsAfter t (drop 1 window) channels → gap ≡ length (unused (get_or window 0 0) (drop 1 window))
+      → ¬ HasCloseOutside channels gap distance channel → NoneCloseNext t window distance channel
+  none_close_after t window channels gap distance channel is after gap_is none longer is_longer begins close =
       let k = 2 * t.rounds in
       let size = is.size in
       let size_longer = is_longer.size in
-      let parted : k + offset + 1 ≡ offset + (k + 1) = omega arith in
-      let swapped : offset + k ≡ k + offset = omega arith in
-      let second = part_at t.rounds offset longer in
-      let rest = window_drop (k + 1) t.ids offset longer (subst (λ n. IsWindow n t.ids longer) parted is_longer) in
-      let own : IsWindow (k + 1) t.ids second = window_take (k + 1) t.ids (k + 1) (drop offset longer) (omega arith) rest in
-      let front : take k second ≡ drop offset list =
-      take-take k (k + 1) (drop offset longer) (omega arith) ∙ sym (drop-take offset k longer) ∙ ap (λ n. drop offset (take n longer)) swapped
-      ∙ ap (drop offset) begins in
+      let parted : k + 1 + 1 ≡ 1 + (k + 1) = omega arith in
+      let swapped : 1 + k ≡ k + 1 = omega arith in
+      let second = part_at t.rounds 1 longer in
+      let rest = window_drop (k + 1) t.ids 1 longer (subst (λ n. IsWindow n t.ids longer) parted is_longer) in
+      let own : IsWindow (k + 1) t.ids second = window_take (k + 1) t.ids (k + 1) (drop 1 longer) (omega arith) rest in
+      let front : take k second ≡ drop 1 window =
+      take-take k (k + 1) (drop 1 longer) (omega arith) ∙ sym (drop-take 1 k longer) ∙ ap (λ n. drop 1 (take n longer)) swapped
+      ∙ ap (drop 1) begins in
       let found = after.each second own front in
       let place : ℕ = place_of_last k second in
       let near : abs_diff channel (slice_index channels place) < distance =
       close_along distance (Some channel) (channel_of t second) (Some channel) (Some (slice_index channels place)) refl found.1 close in
-      let outside : ¬ Contains gaps place = λ at'.
-      let gap = are.each place at' in
-      let i : ℕ = gap.0 in
-      let lt : i < offset = gap.1 in
-      let other = drop offset list ++ get_or list i 0 ∷ [] in
-      let equal : second ≡ other = same_from_place laws k t.ids second other own (window_turned k t.ids offset i list is lt)
-      (front ∙ sym (turned_front k t.ids offset i list is)) (gap.2 ∙ sym (turned_place k t.ids offset i list is)) in
-      let last : get_or second k 0 ≡ get_or longer (offset + k) 0 =
-      get_or-take (k + 1) (drop offset longer) k 0 (omega arith) ∙ get_or-drop offset longer k 0 in
-      let first : get_or list i 0 ≡ get_or longer i 0 =
-      ap (λ l. get_or l i 0) (sym begins) ∙ get_or-take (k + offset) longer i 0 (omega arith) in
-      is_longer.distinct i (offset + k) 0 (omega arith) (omega arith)
-      (sym first ∙ sym (turned_last k t.ids offset i list is) ∙ ap (λ l. get_or l k 0) (sym equal) ∙ last) in
+      let outside : place ≢ gap = λ same.
+      let other = drop 1 window ++ get_or window 0 0 ∷ [] in
+      let equal : second ≡ other = same_from_place laws k t.ids second other own (window_turned k t.ids 1 0 window is (omega arith))
+      (front ∙ sym (turned_front k t.ids 1 0 window is)) (same ∙ gap_is ∙ sym (turned_place k t.ids 1 0 window is)) in
+      let last : get_or second k 0 ≡ get_or longer (1 + k) 0 =
+      get_or-take (k + 1) (drop 1 longer) k 0 (omega arith) ∙ get_or-drop 1 longer k 0 in
+      let first : get_or window 0 0 ≡ get_or longer 0 0 =
+      ap (λ l. get_or l 0 0) (sym begins) ∙ get_or-take (k + 1) longer 0 0 (omega arith) in
+      is_longer.distinct 0 (1 + k) 0 (omega arith) (omega arith)
+      (sym first ∙ sym (turned_last k t.ids 1 0 window is) ∙ ap (λ l. get_or l k 0) (sym equal) ∙ last) in
       none (place, found.0, outside, near)
-
-  -- if no third window is close after any identifier, no tuple that begins with the window has a close one
-  pub none_begins_far :
-      (t : ChannelTable) (distance channel : ℕ) (window : List ℕ) → channel_of t window ≡ Some channel
-      → ((id : ℕ) → id < t.ids → ¬ Contains window id → NoneCloseAfter t (window ++ id ∷ []) 2 distance channel)
-      → ¬ BeginsFarTuple t distance window
-  unfolding BeginsFarTuple
-  none_begins_far t distance channel window here after far =
-      let k = 2 * t.rounds in
-      let tuple = far.0 in
-      let is = far.1 in
-      let size = is.size in
-      let begins : take (k + 1) tuple ≡ window = far.2 in
-      let part : ℕ → Option ℕ = λ step. channel_of t (part_at t.rounds step tuple) in
-      let first : part 0 ≡ Some channel = ap (channel_of t) far.2 ∙ here in
-      let exact : k + 3 ≡ k + 2 + 1 = omega arith in
-      let longer : IsWindow (k + 2 + 1) t.ids tuple = subst (λ n. IsWindow n t.ids tuple) exact is in
-      let id : ℕ = get_or tuple (k + 1) 0 in
-      let turn : k + 2 ≡ k + 1 + 1 = omega arith in
-      let front : take (k + 2) tuple ≡ window ++ id ∷ [] =
-      ap (λ n. take n tuple) turn ∙ take_more tuple (k + 1) 0 (omega arith) ∙ ap (λ l. l ++ id ∷ []) begins in
-      let other : ¬ Contains window id = λ at'.
-      let i : ℕ = at'.0 in
-      let short : length window ≡ k + 1 = ap length (sym begins) ∙ length-take-le (k + 1) tuple (omega arith) in
-      let within : i < k + 1 = omega (arith, at'.1) in
-      is.distinct i (k + 1) 0 within (omega arith)
-      (sym (get_or-take (k + 1) tuple i 0 within) ∙ ap (λ l. get_or l i 0) begins ∙ get_or_default window i 0 id at'.1 ∙ at'.2) in
-      after id (is.below (k + 1) 0 (omega arith)) other tuple longer front
-      (close_along distance (part 0) (part 2) (Some channel) (part 2) first refl far.3)
 
   -- if no second window and no third one is close, no tuple that begins with the window is bad
   pub none_begins :
       (t : ChannelTable) (s : Separation) (window : List ℕ) (channel : ℕ) → channel_of t window ≡ Some channel
-      → NoneCloseAfter t window 1 s.near channel → ¬ BeginsFarTuple t s.far window → ¬ BeginsBadTuple t s window
+      → NoneCloseNext t window s.near channel → ¬ BeginsFarTuple t s.far window → ¬ BeginsBadTuple t s window
   unfolding IsBad BeginsFarTuple
   none_begins t s window channel here next far bad =
       let k = 2 * t.rounds in
@@ -198,81 +147,41 @@ module _ (laws : WindowsAreNumbered) where
       let long : length channels ≡ c = length-take-le c (drop start t.entries) (omega (arith, length-drop start t.entries)) in
       let read : (p : ℕ) → p < c → slice_index channels p ≡ slice_index t.entries (start + p) =
       λ p lt. get_or-take c (drop start t.entries) p 0 lt ∙ get_or-drop start t.entries p 0 in
-      let other = drop offset list ++ get_or list 0 0 ∷ [] in
-      let own = in_run laws k t.ids (start + place_of_last k other) other
-      (stands_in_run k t.ids start (drop offset list) other run (window_turned k t.ids offset 0 list is (omega arith)) (turned_front k t.ids offset 0 list is)) in
-      let own_number = own.number_is in
-      let begins : start ≡ own.number * c = omega arith in
       record {
         each = λ w is_w front.
             let at' = stands_in_run k t.ids start (drop offset list) w run is_w front in
             let numbered = in_run laws k t.ids (start + place_of_last k w) w at' in
             let inside = numbered.inside in
             (omega arith, channel_at t (start + place_of_last k w) w at' ∙ ap Some (sym (read (place_of_last k w) inside)));
-        all = λ p lt.
-            let w = get_or (windows_of t) (start + p) [] in
-            let at' = slice_get-get_or (windows_of t) (start + p) [] (omega arith) in
-            let numbered = in_run laws k t.ids (start + p) w at' in
-            let inside = numbered.inside in
-            let number = numbered.number_is in
-            let same = one_run c numbered.number (place_of_last k w) own.number (start + p) inside number (omega arith) (omega arith) in
-            let multiples : numbered.number * c ≡ own.number * c = ap (λ n. n * c) same in
-            let front : take k w ≡ drop offset list =
-            same_Some (take k w) (drop offset list) (sym numbered.front_at ∙ ap (slice_get (windows k t.ids)) same ∙ own.front_at
-            ∙ ap Some (turned_front k t.ids offset 0 list is)) in
-            (w, numbered.is, front, omega arith);
       }
 
-  pub entries_after :
-      (t : ChannelTable) (list front entries : List ℕ) (offset level ids start count : ℕ) → 1 ≤ offset → IsWindow (2 * t.rounds + offset) t.ids list
-      → front ≡ drop offset list → level ≡ t.rounds → ids ≡ t.ids → entries ≡ t.entries → count ≡ ids - 2 * t.rounds
-      → IsRunStart (2 * level) ids front start → length t.entries ≡ length (windows_of t)
-      → AreChannelsAfter t (drop offset list) (take count (drop start entries))
-  entries_after t list front entries offset level ids start count some is front_is level_is ids_is entries_are count_is run full =
-      let starts : IsRunStart (2 * t.rounds) t.ids (drop offset list) start = rw (level_is, ids_is, front_is) at run in
-      let wide : count ≡ t.ids - 2 * t.rounds = omega arith in
-      rw (entries_are, wide) (channels_after t list offset start some is starts full)
-
-  -- no tuple of a run is bad if none that begins with its window is
-  pub none_in_run :
-      (t : ChannelTable) (s : Separation) (window : List ℕ) (number from to : ℕ) → slice_get (windows_of t) number ≡ Some window
-      → ¬ BeginsBadTuple t s window → number * run_len t s ≤ from → to ≤ number * run_len t s + run_len t s → NoneIsBad t s from to
-  none_in_run t s window number from to at' none begins ends n tuple low high item bad =
-      let k = 2 * t.rounds + 1 in
-      let run = in_longer_run laws k t.ids (extra s) n tuple item in
-      let inside = run.inside in
-      let number_is = run.number_is in
-      let same = one_run (run_len t s) run.number run.rest number n inside number_is (omega arith) (omega arith) in
-      let front : take k tuple ≡ window =
-      same_Some (take k tuple) window (sym run.front_at ∙ ap (slice_get (windows k t.ids)) same ∙ at') in
-      none (tuple, window_at laws (k + extra s) t.ids n tuple item, front, bad)
-
-  -- no window begins a bad tuple if none is bad
+  -- no window begins a bad tuple if none of its tuples is bad
   pub free_of_none :
-      (t : ChannelTable) (s : Separation) (n count : ℕ) → NoneIsBad t s 0 n
-      → ((m : ℕ) → m < length (tuples t s) → m < count * run_len t s → m < n) → AreFree t s count
-  free_of_none t s n count none few number window below item bad =
+      (t : ChannelTable) (s : Separation) (low count to : ℕ) → NoneIsBad t s (low * run_len t s) to → count * run_len t s ≤ to
+      → AreFree t (BeginsBadTuple t s) low count
+  free_of_none t s low count to none le number window from below item bad =
       let k = 2 * t.rounds + 1 in
+      let len : ℕ = run_len t s in
       let tuple = bad.0 in
       let numbered = number_of_window laws (k + extra s) t.ids tuple bad.1 in
       let run = in_longer_run laws k t.ids (extra s) numbered.0 tuple numbered.1 in
       let inside = run.inside in
       let own = run.number_is in
       let same : run.number ≡ number = one_number laws k t.ids run.number number window (run.front_at ∙ ap Some bad.2) item in
-      let le : suc run.number ≤ count = omega arith in
-      let within = slice_get_within (tuples t s) numbered.0 tuple numbered.1 in
-      none numbered.0 tuple (omega arith)
-      (few numbered.0 within (omega (arith, mul-le-mul_right (run_len t s) le, suc-mul run.number (run_len t s)))) numbered.1 bad.3
+      let number_is : numbered.0 ≡ number * len + run.rest = own ∙ ap (λ n. n * len + run.rest) same in
+      let next : suc number ≤ count = omega arith in
+      none numbered.0 tuple (omega (arith, number_is, mul-le-mul_right len from))
+      (omega (arith, number_is, inside, le, mul-le-mul_right len next, suc-mul number len)) numbered.1 bad.3
 
   -- no tuple is bad that begins with one of the first windows, if these begin none
   pub none_of_free :
-      (t : ChannelTable) (s : Separation) (n count : ℕ) → AreFree t s count → n ≤ count * run_len t s → NoneIsBad t s 0 n
+      (t : ChannelTable) (s : Separation) (n count : ℕ) → AreFree t (BeginsBadTuple t s) 0 count → n ≤ count * run_len t s → NoneIsBad t s 0 n
   none_of_free t s n count free le m tuple ge lt item bad =
       let k = 2 * t.rounds + 1 in
       let run = in_longer_run laws k t.ids (extra s) m tuple item in
       let own = run.number_is in
       ⊎_elim
-      (λ (below : run.number < count). free run.number (take k tuple) below run.front_at
+      (λ (below : run.number < count). free run.number (take k tuple) (omega arith) below run.front_at
       (tuple, window_at laws (k + extra s) t.ids m tuple item, refl, bad))
       (λ (past : count ≤ run.number). absurd (omega (arith, mul-le-mul_right (run_len t s) past)))
       (cases_lt run.number count)
@@ -280,7 +189,7 @@ module _ (laws : WindowsAreNumbered) where
   -- no second window is close if no tuple without a third window is bad
   next_of_free :
       (t : ChannelTable) (near channel : ℕ) (window : List ℕ) → channel_of t window ≡ Some channel
-      → ¬ BeginsBadTuple t (record { near = near; far = 0 }) window → NoneCloseAfter t window 1 near channel
+      → ¬ BeginsBadTuple t (record { near = near; far = 0 }) window → NoneCloseNext t window near channel
   unfolding IsBad
   next_of_free t near channel window here free longer is begins close =
       let k = 2 * t.rounds in
@@ -295,10 +204,23 @@ module _ (laws : WindowsAreNumbered) where
 
   -- windows that begin no tuple that is bad by near, and none that is bad by far
   pub free_of_both :
-      (t : ChannelTable) (s : Separation) (a b less : ℕ) → length t.entries ≡ length (windows_of t) → AreFree t (record { near = s.near; far = 0 }) a
-      → AreFarFree t s.far b → less ≤ a → less ≤ b → AreFree t s less
-  free_of_both t s a b less full near far le_a le_b number window below item =
+      (t : ChannelTable) (s : Separation) (a b less : ℕ) → AreFree t (BeginsBadTuple t (record { near = s.near; far = 0 })) 0 a
+      → AreFree t (BeginsFarTuple t s.far) 0 b → less ≤ a → less ≤ b → AreFree t (BeginsBadTuple t s) 0 less
+  free_of_both t s a b less near far le_a le_b number window from below item =
       let channel : ℕ = slice_index t.entries number in
       let here = channel_at t number window item in
       none_begins t s window channel here
-      (next_of_free t s.near channel window here (near number window (omega arith) item)) (far number window (omega arith) item)
+      (next_of_free t s.near channel window here (near number window from (omega arith) item)) (far number window from (omega arith) item)
+
+  -- no tuple with two windows only has a third one that is close
+  pub none_begins_near :
+      (t : ChannelTable) (near channel : ℕ) (window : List ℕ) → channel_of t window ≡ Some channel
+      → NoneCloseNext t window near channel → ¬ BeginsBadTuple t (record { near = near; far = 0 }) window
+  unfolding BeginsFarTuple
+  none_begins_near t near channel window here next =
+      none_begins t (record { near = near; far = 0 }) window channel here next (λ far. never (channel_of t (part_at t.rounds 0 far.0)) (channel_of t (part_at t.rounds 2 far.0)) far.3)
+    where
+      never : (a b : Option ℕ) → ¬ AreClose 0 a b
+      never (Some c) (Some d) close = omega (arith, close)
+      never (Some c) None close = close
+      never None b close = close

@@ -1,5 +1,5 @@
 -- Counts of third windows: those that begin with the same identifiers, all but two, have one block of numbers.
-use Rattle.std.specs.Prelude.{◌≡◌, ◌==◌, ℕ, ◌+◌, ◌-◌, ◌*◌, ◌<◌, ◌≤◌, Bool, ◌&&◌, ◌||◌, nat_lt, List, [], length, take, drop, slice_get, slice_index, slice_index_or, count_by, IsTrue, All, Some}
+use Rattle.std.specs.Prelude.{◌≡◌, ◌==◌, ℕ, ◌+◌, ◌-◌, ◌*◌, ◌<◌, ◌≤◌, Bool, ◌&&◌, ◌||◌, nat_lt, List, [], length, take, slice_get, slice_index, slice_index_or, count_by, All, Some}
 use Rattle.std.specs.List.{range_with_len}
 use Rattle.win_index.specs.Windows.{windows, IsWindow}
 use Rattle.channel_tables.specs.Tables.{ChannelTable, windows_of}
@@ -13,10 +13,6 @@ shared_len t = 2 * (t.rounds - 1) + 1
 -- the lists that a first and a third window can share, in order; each has one block of third windows
 abbrev pub shared_lists : ChannelTable → List (List ℕ)
 shared_lists t = windows (shared_len t) t.ids
-
--- the identifiers of the window at the start of a list, without its first two
-abbrev pub middle_of : ChannelTable → List ℕ → List ℕ
-middle_of t list = drop 2 (take (2 * t.rounds + 1) list)
 
 -- whether the window with this number holds the identifier among its last two; the number of identifiers, which is not
 -- an identifier, counts as held by every window
@@ -57,6 +53,6 @@ pub record CountsFit (t : ChannelTable) (counts : Counts) : Type 0 where
 abbrev pub AreCountsOf : ChannelTable → List ℕ → Counts → Type 0
 AreCountsOf t z counts = (first : ℕ) × ((count : ℕ) × (IsBlock t z first count × AreSums t first count counts.cells.items))
 
--- counts of a block that was counted are those of the block of z
-abbrev pub AreCountsOnceMade : ChannelTable → List ℕ → Counts → Type 0
-AreCountsOnceMade t z counts = IsTrue counts.are_made → AreCountsOf t z counts
+-- the number of windows of a block, those that begin with one of these lists
+abbrev pub block_len : ChannelTable → ℕ
+block_len t = (t.ids - shared_len t) * (t.ids - shared_len t - 1)

@@ -1,17 +1,12 @@
 -- The search for windows that begin a tuple with a close third window, block by block.
-use Rattle.std.specs.Prelude.{◌≡◌, ℕ, ◌+◌, ◌*◌, ◌/◌, ◌<◌, ◌≤◌, List, length, drop, slice_get, slice_index, Some}
+use Rattle.std.specs.Prelude.{◌≡◌, ℕ, ◌+◌, ◌-◌, ◌*◌, ◌<◌, ◌≤◌, List, take, drop, slice_get, Some}
+use Rattle.win_index.specs.Runs.{IsAtPlace, IsRunStart}
+use Rattle.win_index.specs.declared.series.RunPlaces.{RunPlaces}
 use Rattle.channel_tables.specs.Tables.{ChannelTable, windows_of}
-use Rattle.nbhd_check.specs.declared.far_parts.Searcher.{Searcher}
-use Rattle.nbhd_check.specs.declared.far_parts.TheConstants.{MAX_FAR_PARTS}
-use Rattle.nbhd_check.specs.Counts.{shared_lists, CountsFit}
+use Rattle.nbhd_check.specs.Counts.{shared_lists}
 use Rattle.nbhd_check.specs.Runs.{BeginsFarTuple}
 
--- none of the first `count` windows begins a tuple whose third window is closer than the distance
-abbrev pub AreFarFree : ChannelTable → ℕ → ℕ → Type 0
-AreFarFree t distance count =
-    (number : ℕ) (window : List ℕ) → number < count → slice_get (windows_of t) number ≡ Some window → ¬ BeginsFarTuple t distance window
-
--- none of the first `count` windows that pass begins such a tuple
+-- none of the windows below this number that pass begins a tuple whose third window is closer than the distance
 abbrev pub AreFarFreeIn : ChannelTable → ℕ → ℕ → (List ℕ → Type 0) → Type 0
 AreFarFreeIn t distance count passes =
     (number : ℕ) (window : List ℕ) → number < count → slice_get (windows_of t) number ≡ Some window → passes window
@@ -22,13 +17,9 @@ abbrev pub HasBlockIn : ChannelTable → ℕ → ℕ → List ℕ → Type 0
 HasBlockIn t low high window =
     (block : ℕ) × (low ≤ block) × (block < high) × (slice_get (shared_lists t) block ≡ Some (drop 2 window))
 
--- the number of blocks of a part: all blocks are in MAX_FAR_PARTS parts, of which the last can have fewer or none
-abbrev pub blocks_per_part : ChannelTable → ℕ
-blocks_per_part t = length (shared_lists t) / MAX_FAR_PARTS + 1
-
--- a searcher's counts fit the table; for each part, none of the windows below its number there that have a block in the
--- part begins a tuple whose third window is closer than the distance
-pub record IsSearcherOf (t : ChannelTable) (distance : ℕ) (s : Searcher) : Type 0 where
-  pub fit : CountsFit t s.counts
-  pub free : (part : ℕ) → AreFarFreeIn t distance (slice_index s.free part)
-      (HasBlockIn t (part * blocks_per_part t) (part * blocks_per_part t + blocks_per_part t))
+-- the window has this number and its suffix this position, and the third windows after the window at position p of its
+-- run have block first + p
+pub record IsAtBlock (t : ChannelTable) (number : ℕ) (window : List ℕ) (first : ℕ) (places : RunPlaces) (place : ℕ) : Type 0 where
+  pub item : slice_get (windows_of t) number ≡ Some window
+  pub at_place : IsAtPlace (2 * (t.rounds - 1) + 1) t.ids places window place
+  pub starts : IsRunStart (2 * (t.rounds - 1)) t.ids (drop 2 (take (2 * t.rounds) window)) first

@@ -1,12 +1,13 @@
 -- Runs: the tuples that begin with one window, and the channels of their later windows.
-use Rattle.std.specs.Prelude.{◌≡◌, ℕ, ◌+◌, ◌-◌, ◌*◌, ◌<◌, List, length, take, Contains, slice_get, slice_index, Some}
+use Rattle.std.specs.Prelude.{◌≡◌, ◌≢◌, ℕ, ◌+◌, ◌-◌, ◌*◌, ◌<◌, ◌≤◌, cond, nat_lt, Option, MatchOption, List, length, drop, slice_get, slice_index, Some}
 use Rattle.std.specs.Int.{abs_diff}
 use Rattle.win_index.specs.Arcs.{part_at}
 use Rattle.win_index.specs.Falling.{falling}
-use Rattle.win_index.specs.Windows.{unused, IsWindow}
+use Rattle.win_index.specs.Windows.{unused, windows, IsWindow}
 use Rattle.channel_tables.specs.Tables.{ChannelTable, channel_of, windows_of}
 use Rattle.channel_tables.specs.declared.separation.Separation.{Separation}
 use Rattle.nbhd_check.specs.Apart.{extra, AreClose, IsBad}
+use Rattle.nbhd_check.specs.declared.near.SecondRuns.{SecondRuns}
 
 -- the number of tuples that begin with one window
 abbrev pub run_len : ChannelTable → Separation → ℕ
@@ -23,36 +24,43 @@ BeginsFarTuple t distance window =
     (tuple : List ℕ) × IsWindow (2 * t.rounds + 3) t.ids tuple × (part_at t.rounds 0 tuple ≡ window)
     × AreClose distance (channel_of t (part_at t.rounds 0 tuple)) (channel_of t (part_at t.rounds 2 tuple))
 
--- none of the first `count` windows begins a bad tuple
-abbrev pub AreFree : ChannelTable → Separation → ℕ → Type 0
-AreFree t s count =
-    (number : ℕ) (window : List ℕ) → number < count → slice_get (windows_of t) number ≡ Some window → ¬ BeginsBadTuple t s window
+-- the number of windows of a run, the windows that begin with the same 2t identifiers
+abbrev pub wide : ChannelTable → ℕ
+wide t = t.ids - 2 * t.rounds
 
--- no list that extends this one by one identifier has a window at this offset that is closer than the distance to the
--- channel
-abbrev pub NoneCloseAfter : ChannelTable → List ℕ → ℕ → ℕ → ℕ → Type 0
-NoneCloseAfter t list offset distance channel =
-    (longer : List ℕ) → IsWindow (2 * t.rounds + offset + 1) t.ids longer → take (2 * t.rounds + offset) longer ≡ list
-    → ¬ AreClose distance (Some channel) (channel_of t (part_at t.rounds offset longer))
+-- no window with a number from low on and below high is bad
+abbrev pub AreFree : ChannelTable → (List ℕ → Type 0) → ℕ → ℕ → Type 0
+AreFree t bad low high =
+    (number : ℕ) (window : List ℕ) → low ≤ number → number < high → slice_get (windows_of t) number ≡ Some window → ¬ bad window
 
--- the index of identifier k of a list among the identifiers that are not among the k before it
-abbrev pub place_of_last : ℕ → List ℕ → ℕ
-place_of_last k list = length (unused (slice_index list k) (take k list))
-
--- the channels of the windows that begin with the 2t identifiers `front`, in the order of their last identifiers
-pub record AreChannelsAfter (t : ChannelTable) (front channels : List ℕ) : Type 0 where
-  pub each : (window : List ℕ) → IsWindow (2 * t.rounds + 1) t.ids window → take (2 * t.rounds) window ≡ front
-      → let place = place_of_last (2 * t.rounds) window in
-      (place < length channels) × (channel_of t window ≡ Some (slice_index channels place))
-  pub all : (place : ℕ) → place < length channels
-      → (window : List ℕ) × IsWindow (2 * t.rounds + 1) t.ids window × (take (2 * t.rounds) window ≡ front)
-      × (place_of_last (2 * t.rounds) window ≡ place)
+-- no window with a number from low on is bad before the one that was found, or below high if none was
+abbrev pub AreFreeUntil : ChannelTable → (List ℕ → Type 0) → ℕ → ℕ → Option ℕ → Type 0
+AreFreeUntil t bad low high found = MatchOption found (AreFree t bad low high) (AreFree t bad low)
 
 -- a channel of the list differs from this one by less than the distance
 abbrev pub HasClose : List ℕ → ℕ → ℕ → Type 0
 HasClose list distance channel = (place : ℕ) × (place < length list) × (abs_diff channel (slice_index list place) < distance)
 
--- the list has such a channel at an index that is not a gap
-abbrev pub HasCloseOutside : List ℕ → List ℕ → ℕ → ℕ → Type 0
-HasCloseOutside list gaps distance channel =
-    (place : ℕ) × (place < length list) × (¬ Contains gaps place) × (abs_diff channel (slice_index list place) < distance)
+-- the list has such a channel at another index than the gap
+abbrev pub HasCloseOutside : List ℕ → ℕ → ℕ → ℕ → Type 0
+HasCloseOutside list gap distance channel =
+    (place : ℕ) × (place < length list) × (place ≢ gap) × (abs_diff channel (slice_index list place) < distance)
+
+-- the run of the second windows after the window at this place of a run
+abbrev pub second_run : SecondRuns → ℕ → ℕ
+second_run runs place = runs.first + place + cond (nat_lt place runs.gap) 0 1
+
+-- the place in that run of the window that would end in the first identifier of the run
+abbrev pub second_gap : SecondRuns → ℕ → ℕ
+second_gap runs place = runs.gap - cond (nat_lt place runs.gap) 1 0
+
+-- where the second windows of a run are: its windows begin with 2t identifiers, of which all but the first have a number
+-- as a list, and the first one a place among the identifiers that the others lack
+pub record SecondRunsOf (t : ChannelTable) (runs : SecondRuns) : Type 0 where
+  pub some : 1 ≤ t.rounds
+  pub front : List ℕ
+  pub front_at : slice_get (windows (2 * t.rounds) t.ids) runs.run ≡ Some front
+  pub number : ℕ
+  pub number_at : slice_get (windows (2 * (t.rounds - 1) + 1) t.ids) number ≡ Some (drop 1 front)
+  pub first_is : runs.first ≡ number * (t.ids - (2 * (t.rounds - 1) + 1))
+  pub gap_is : runs.gap ≡ length (unused (slice_index front 0) (drop 1 front))

@@ -7,7 +7,7 @@ ghost use Rattle.channel_tables.specs.Tables.{windows_of};
 ghost use Rattle.nbhd_check.specs.Counts.{held_count, shared_len, AreCells, AreCountsOf, AreSums, CountsFit, IsBlock};
 
 use crate::laws::numbers_of_windows;
-use crate::part::window_count;
+use crate::search::window_count;
 use channel_tables::Table;
 use node_program::OutOfMemory;
 use std::alloc::Global;
@@ -20,8 +20,6 @@ pub(crate) struct Counts {
     pub(crate) cells: Vec<u32>,
     /// The number of the last row. All channels are below it.
     pub(crate) limit: u32,
-    /// Whether the current block was counted.
-    pub(crate) are_made: bool,
 }
 
 impl Counts {
@@ -34,11 +32,7 @@ impl Counts {
     {
         let len = (limit as usize + 1) * (table.shape().ids() as usize + 1);
         let cells = vec![in alloc; 0u32; len]?;
-        Ok(Counts {
-            cells,
-            limit,
-            are_made: false,
-        })
+        Ok(Counts { cells, limit })
     }
 }
 
@@ -81,12 +75,10 @@ fn add_row_before(cells: &mut [u32], wide: usize, row: usize)
 // Counts each window of the block in the row after that of its channel. `window` is the block's
 // first window, and is advanced in place.
 fn count_windows(table: &Table, first: u32, count: u32, window: &mut [u32], cells: &mut [u32])
-    requires some { 1 ≤ table.now.rounds }
     requires rows { All (λ channel. (channel + 2) * (table.now.ids + 1) ≤ length cells.old) table.now.entries }
     requires empty { AreCells (λ v x. 0) (table.now.ids + 1) cells.old }
-    requires within { first + count ≤ length (windows_of table.now) }
-    requires item { slice_get (windows_of table.now) first ≡ Some window.old }
-    requires window { IsWindow (2 * table.now.rounds + 1) table.now.ids window.old }
+    requires within { (1 ≤ table.now.rounds) × (first + count ≤ length (windows_of table.now)) }
+    requires window { (slice_get (windows_of table.now) first ≡ Some window.old) × IsWindow (2 * table.now.rounds + 1) table.now.ids window.old }
     ensures { AreCells (λ v x. held_count table.now first count x (λ channel. v == channel + 1)) (table.now.ids + 1) cells.new }
 {
     let shape = table.shape();
@@ -123,7 +115,6 @@ pub(crate) fn count_block(table: &Table, shared: &[u32], counts: &mut Counts)
     ensures counts { AreCountsOf table.now shared.now counts.new }
 {
     count_cells(table, shared, counts.limit, &mut counts.cells);
-    counts.are_made = true;
 }
 
 // Like `count_block`, for the cells and the limit of some counts.

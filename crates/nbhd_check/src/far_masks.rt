@@ -1,93 +1,73 @@
-// Masks of the channels of blocks. They often show that no tuple has a third window that is too
-// close.
-ghost use Rattle.std.specs.Prelude.{◌≡◌, ℕ, ◌+◌, ◌*◌, ◌<◌, ◌≤◌, Some, length, slice_get};
-ghost use Rattle.std.specs.Bool.{OnTrue, OnFalse};
-ghost use Rattle.win_index.specs.Windows.{IsWindow};
-ghost use Rattle.channel_tables.specs.Tables.{windows_of};
-ghost use Rattle.nbhd_check.specs.FarSearch.{AreFarFree};
-ghost use Rattle.nbhd_check.specs.declared.masks.TheConstants.{MAX_DISTANCE};
-ghost use Rattle.nbhd_check.specs.Masks.{AreBlockMasks, CoversThird, IsFirstBlock};
-ghost use Rattle.nbhd_check.specs.Runs.{BeginsFarTuple};
+//! Windows that may begin a tuple whose third window is too close, by masks of blocks. A block is the
+//! windows that begin with the same `2t-1` identifiers; the third windows of the tuples that begin
+//! with a window are in one block.
+ghost use Rattle.std.specs.Prelude.{◌≡◌, ℕ, List, ◌+◌, ◌-◌, ◌*◌, ◌<◌, ◌≤◌, Some, drop, take, length, slice_get};
+ghost use Rattle.win_index.specs.Runs.{IsAtPlace, IsRunStart};
+ghost use Rattle.win_index.specs.declared.series.RunPlaces.{RunPlaces};
+ghost use Rattle.channel_tables.specs.Tables.{ChannelTable, windows_of};
+ghost use Rattle.nbhd_check.specs.Counts.{block_len};
+ghost use Rattle.nbhd_check.specs.FarSearch.{IsAtBlock};
+ghost use Rattle.nbhd_check.specs.Masks.{AreMasks};
+ghost use Rattle.nbhd_check.specs.Runs.{AreFreeUntil, BeginsFarTuple, wide};
 
 use crate::laws::numbers_of_windows;
-use crate::masks::{MAX_DISTANCE, first_block, fresh_block_masks, has_bit, mask_of_third};
+use crate::masks::Masks;
+use crate::search::{Search, windows_per_run};
 use channel_tables::Table;
-use std::alloc::Global;
-use win_index::MAX_WINDOW_LEN;
+use win_index::{RunPlaces, count_of_windows};
 
-/// Returns `true` only if none of the first `count` windows begins a tuple whose third window is
+/// The search for windows of which masks do not show that they begin no tuple whose third window is
 /// closer than `distance`.
-pub(crate) fn are_far_free(alloc: Global, table: &Table, distance: u32, count: u32) -> bool
-    requires some { 1 ≤ table.now.rounds }
-    ensures { OnTrue result (AreFarFree table.now distance count) }
-{
-    numbers_of_windows();
-    if distance > MAX_DISTANCE {
-        return false;
-    }
-    let mut masks = fresh_block_masks(alloc, table, distance);
-    if masks.len() == 0 {
-        return false;
-    }
-    let shape = table.shape();
-    let level = shape.rounds();
-    let all = shape.count(level);
-    let mut cells = [0; MAX_WINDOW_LEN];
-    let window = &mut cells[..2 * level as usize + 1];
-    shape.window(level, 0, window);
-    scan_far(table, &mut masks, distance, window, count.min(all))
+#[derive(Drop)]
+pub(crate) struct FarMasks<'a> {
+    pub(crate) table: &'a Table,
+    pub(crate) distance: u32,
+    pub(crate) masks: Masks,
+    pub(crate) ghost some: { 1 ≤ table.now.rounds },
+    pub(crate) ghost cover: { AreMasks table.now.entries (block_len table.now) distance masks.per_group masks.words.items },
 }
 
-// Like `are_far_free`. `window` is the first window, and is advanced in place.
-fn scan_far(table: &Table, masks: &mut [u64], distance: u32, window: &mut [u32], count: u32) -> bool
-    requires some { 1 ≤ table.now.rounds }
-    requires few { distance ≤ MAX_DISTANCE }
-    requires within { count ≤ length (windows_of table.now) }
-    requires window { IsWindow (2 * table.now.rounds + 1) table.now.ids window.old }
-    requires item { slice_get (windows_of table.now) 0 ≡ Some window.old }
-    requires masks { AreBlockMasks table.now distance masks.old }
-    ensures { OnTrue result (AreFarFree table.now distance count) }
-{
-    let mut block = first_block(table, window);
-    for number in 0..count {
-        let mask = mask_of_third(table, masks, distance, window, block);
-        if may_begin_far_tuple(table, distance, window, number, mask) {
-            return false;
+impl<'a> Search for FarMasks<'a> {
+    ghost searched = { λ s. s.table.now };
+
+    ghost Bad = { λ s. BeginsFarTuple s.table.now s.distance };
+
+    fn table(&self) -> &Table {
+        self.table
+    }
+
+    fn first_in_run(&self, window: &[u32], run: u32) -> Option<u32> {
+        numbers_of_windows();
+        let shape = self.table.shape();
+        let below = shape.rounds() - 1;
+        let first = shape.run_start(below, &window[2..2 * below as usize + 2]) as usize;
+        let places = shape.run_places(below, window);
+        self.first_from(run, first, places, shape.place_in_run(below, window))
+    }
+}
+
+impl<'a> FarMasks<'a> {
+    // Like `first_in_run`. The third windows after the window at position `p` of the run have block
+    // `first + p`.
+    fn first_from(&self, run: u32, first: usize, places: RunPlaces, place: u32) -> Option<u32>
+        requires { (window : List ℕ) × IsAtBlock self.now.table.now (run * wide self.now.table.now) window first places place }
+        ensures { AreFreeUntil self.now.table.now (BeginsFarTuple self.now.table.now self.now.distance)
+            (run * wide self.now.table.now) (run * wide self.now.table.now + wide self.now.table.now) result }
+    {
+        numbers_of_windows();
+        count_of_windows();
+        let entries = self.table.entries();
+        let each = windows_per_run(self.table) as u32;
+        let mut place = place;
+        for number in run * each..run * each + each {
+            if self
+                .masks
+                .may_hold(first + place as usize, entries[number as usize])
+            {
+                return Some(number);
+            }
+            place = places.after(place).unwrap_or(place);
         }
-        block = advance(table, window, block);
+        None
     }
-    true
-}
-
-// Returns `false` only if no tuple that begins with this window has a third window closer than
-// `distance`. The mask covers the channels of its third windows.
-fn may_begin_far_tuple(table: &Table, distance: u32, window: &[u32], number: u32, mask: u64) -> bool
-    requires some { 1 ≤ table.now.rounds }
-    requires item { slice_get (windows_of table.now) number ≡ Some window.now }
-    requires mask { CoversThird table.now distance window.now mask }
-    ensures { OnFalse result (¬ BeginsFarTuple table.now distance window.now) }
-{
-    numbers_of_windows();
-    let channel = table.entries()[number as usize];
-    has_bit(mask, channel)
-}
-
-// Replaces a window by the next one, unless it is the last. Returns the `first_block` of the new
-// one; `first` is that of the old one.
-fn advance(table: &Table, window: &mut [u32], first: usize) -> usize
-    requires some { 1 ≤ table.now.rounds }
-    requires window { IsWindow (2 * table.now.rounds + 1) table.now.ids window.old }
-    requires first { IsFirstBlock table.now window.old first }
-    ensures window { IsWindow (2 * table.now.rounds + 1) table.now.ids window.new }
-    ensures next { (number : ℕ) → number + 1 < length (windows_of table.now)
-        → slice_get (windows_of table.now) number ≡ Some window.old → slice_get (windows_of table.now) (number + 1) ≡ Some window.new }
-    ensures first { IsFirstBlock table.now window.new result }
-{
-    let shape = table.shape();
-    let level = shape.rounds();
-    if shape.next_in_run(level, window) {
-        return first;
-    }
-    shape.next_window(level, window);
-    first_block(table, window)
 }

@@ -1,22 +1,14 @@
-// Close channels in a list, outside some gaps.
-ghost use Rattle.std.specs.Prelude.{◌<◌, ◌↔◌, IsTrue, length, All, AllPairs, Contains};
+//! Close channels in a list, outside a gap.
+ghost use Rattle.std.specs.Prelude.{◌<◌, ◌↔◌, IsTrue, length, Contains};
 ghost use Rattle.nbhd_check.specs.Runs.{HasClose, HasCloseOutside};
 
-// Returns whether the list has a channel outside the gaps that differs from `channel` by less than
-// `distance`. The gaps are indices in ascending order.
-pub(crate) fn has_close_outside(list: &[u16], gaps: &[usize], distance: u32, channel: u16) -> bool
-    requires rising { AllPairs (λ a b. a < b) gaps.now }
-    requires inside { All (λ gap. gap < length list.now) gaps.now }
-    ensures { IsTrue result ↔ HasCloseOutside list.now gaps.now distance channel }
+/// Returns whether the list has a channel, at another index than the gap, that differs from
+/// `channel` by less than `distance`.
+pub(crate) fn has_close_outside(list: &[u16], gap: usize, distance: u32, channel: u16) -> bool
+    requires { gap < length list.now }
+    ensures { IsTrue result ↔ HasCloseOutside list.now gap distance channel }
 {
-    let mut from = 0;
-    for gap in gaps {
-        if has_close(&list[from..*gap], distance, channel) {
-            return true;
-        }
-        from = *gap + 1;
-    }
-    has_close(&list[from..], distance, channel)
+    has_close(&list[..gap], distance, channel) || has_close(&list[gap + 1..], distance, channel)
 }
 
 // Returns whether the list has a channel that differs from `channel` by less than `distance`. At

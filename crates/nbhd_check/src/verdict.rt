@@ -1,6 +1,6 @@
 use crate::laws::tuples_suffice;
 use crate::least::least_of_all;
-use crate::tuple::{channel_from, is_close_next, tuple_len, write_tuple};
+use crate::tuples::Tuples;
 use channel_tables::{Separation, Table};
 use node_program::OutOfMemory;
 use rayon::current_num_threads;
@@ -69,35 +69,31 @@ pub fn judge_with_workers<R: Threads + Sync>(
     ensures memory { OnErr result (¬ IsApartEverywhere table.now separation) }
 {
     tuples_suffice();
-    match least_of_all(rt, alloc, table, separation, u64::from(workers)) {
+    let tuples = Tuples { table, separation };
+    match least_of_all(rt, alloc, tuples, workers) {
         None => Ok(Verdict::Yes),
-        Some(number) => no(alloc, table, separation, number),
+        Some(number) => no(alloc, tuples, number),
     }
 }
 
 // Returns the verdict on a table whose least bad tuple has this number.
-#[tactic(auto, using(crate::proofs::Tuples::bad_is_not_apart))]
-fn no(
-    alloc: Global,
-    table: &Table,
-    separation: Separation,
-    number: u64,
-) -> Result<Verdict, OutOfMemory>
-    requires { (tuple : List ℕ) × IsLeastBad table.now separation 0 number tuple }
-    ensures verdict { IfOk result (IsVerdict table.now separation) }
-    ensures yes { IfOk result (λ verdict. (verdict ≡ Verdict.Yes) ↔ IsApartEverywhere table.now separation) }
-    ensures memory { OnErr result (¬ IsApartEverywhere table.now separation) }
+#[tactic(auto, using(crate::proofs::Witnesses::bad_is_not_apart))]
+fn no(alloc: Global, tuples: Tuples, number: u64) -> Result<Verdict, OutOfMemory>
+    requires { (tuple : List ℕ) × IsLeastBad tuples.table.now tuples.separation 0 number tuple }
+    ensures verdict { IfOk result (IsVerdict tuples.entry.table.now tuples.entry.separation) }
+    ensures yes { IfOk result (λ verdict. (verdict ≡ Verdict.Yes) ↔ IsApartEverywhere tuples.entry.table.now tuples.entry.separation) }
+    ensures memory { OnErr result (¬ IsApartEverywhere tuples.entry.table.now tuples.entry.separation) }
 {
     tuples_suffice();
     tuples_are_rings();
     let mut cells = [0; MAX_TUPLE_LEN];
-    let tuple = &mut cells[..tuple_len(table, separation)];
-    write_tuple(table, separation, number, tuple);
-    let step = broken_step(table, separation, tuple);
-    let first = channel_from(table, separation, tuple, 0);
-    let second = channel_from(table, separation, tuple, step as usize);
+    let tuple = &mut cells[..tuples.len()];
+    tuples.write(number, tuple);
+    let step = broken_step(tuples, tuple);
+    let first = tuples.channel_from(tuple, 0);
+    let second = tuples.channel_from(tuple, step as usize);
     let ring = tuple.to_vec(alloc)?;
-    let place = table.shape().rounds();
+    let place = tuples.table.shape().rounds();
     Ok(Verdict::No {
         ring,
         places: (place, place + step),
@@ -107,17 +103,13 @@ fn no(
 
 // Returns the distance of the two places at which a bad tuple is too close: 1 if neighbours are,
 // else 2.
-fn broken_step(table: &Table, separation: Separation, tuple: &[u32]) -> u32
-    requires tuple { IsWindow (2 * table.now.rounds + 1 + extra separation) table.now.ids tuple.now }
-    requires bad { IsBad table.now separation tuple.now }
-    ensures step { let channel_at : ℕ → Option ℕ = λ step. channel_of table.now (part_at table.now.rounds step tuple.now) in
-        let close = AreClose separation.near (channel_at 0) (channel_at 1) in
+fn broken_step(tuples: Tuples, tuple: &[u32]) -> u32
+    requires tuple { IsWindow (2 * tuples.table.now.rounds + 1 + extra tuples.separation) tuples.table.now.ids tuple.now }
+    requires bad { IsBad tuples.table.now tuples.separation tuple.now }
+    ensures step { let channel_at : ℕ → Option ℕ = λ step. channel_of tuples.entry.table.now (part_at tuples.entry.table.now.rounds step tuple.now) in
+        let close = AreClose tuples.entry.separation.near (channel_at 0) (channel_at 1) in
         (close × (result ≡ 1)) ⊎ ((¬ close) × (result ≡ 2)) }
-    ensures few { result ≤ extra separation }
+    ensures few { result ≤ extra tuples.entry.separation }
 {
-    if is_close_next(table, separation, tuple) {
-        1
-    } else {
-        2
-    }
+    if tuples.is_close_next(tuple) { 1 } else { 2 }
 }

@@ -100,12 +100,13 @@ count_windows-requires c =
     let d = (goal.at.count_windows-requires c).After-window_number in
     let ids_is : c.shape-shape.result.ids ≡ t.ids = c.shape-shape.ensures.ids in
     let rounds_is : c.rounds-2.result ≡ t.rounds = c.rounds-2.ensures ∙ c.shape-shape.ensures.rounds in record {
-      some = c.requires.some;
       rows = λ k e lt. row_for _ c.args.limit t.ids (length c.fill.new.self) (c.requires.limit k e lt) (c.fill.ensures.len ∙ c.requires.room);
       empty = λ v x lt in_row.
           ap (λ cells. slice_index cells (v * (t.ids + 1) + x)) (c.fill.ensures.after (λ y same. same)) ∙ zeros (length c.args.cells.now) (v * (t.ids + 1) + x);
-      within = within d;
-      item = sym (λ q. slice_get (windows (2 * rounds_is q + 1) (ids_is q)) (c.window_number.result * count d)) ∙ c.window.ensures.item;
-      window = subst (λ m. IsWindow (2 * t.rounds + 1) m c.window.new.out) ids_is
-          (subst (λ r. IsWindow (2 * r + 1) c.shape-shape.result.ids c.window.new.out) rounds_is c.window.ensures.window);
+      within = (c.requires.some, within d);
+      window = (
+        sym (λ q. slice_get (windows (2 * rounds_is q + 1) (ids_is q)) (c.window_number.result * count d)) ∙ c.window.ensures.item,
+        subst (λ m. IsWindow (2 * t.rounds + 1) m c.window.new.out) ids_is
+            (subst (λ r. IsWindow (2 * r + 1) c.shape-shape.result.ids c.window.new.out) rounds_is c.window.ensures.window),
+      );
     }

@@ -21,7 +21,7 @@ module _ (c : After-entry) where
 
   inside : c.loop-number.number < length table.entries
   inside =
-      in_table c.loop-number.number (c.args.first + c.args.count) (length (windows_of table)) (length table.entries) c.loop-number-test.true c.requires.within
+      in_table c.loop-number.number (c.args.first + c.args.count) (length (windows_of table)) (length table.entries) c.loop-number-test.true c.requires.within.1
       c.entry.ensures.table.size
 
   within : (row + 1) * (c.ids.result + 1) ≤ length c.loop-number.cells
@@ -31,7 +31,7 @@ module _ (c : After-entry) where
 
   column : (at : ℕ) → at ≤ 2 * (c.rounds.result - 1) + 2 → get_or c.loop-number.window at 0 < c.ids.result + 1
   column at le =
-      in_columns table c.rounds.result c.ids.result at c.loop-number.window c.loop-number.invariant.1 c.requires.some
+      in_columns table c.rounds.result c.ids.result at c.loop-number.window c.loop-number.invariant.1 c.requires.within.0
       (c.rounds.ensures ∙ c.shape-shape.ensures.rounds) (c.ids.ensures ∙ c.shape-shape.ensures.ids) le
 
   few : (x : ℕ) → x < c.ids.result + 1 → get_or c.loop-number.cells (row * (c.ids.result + 1) + x) 0 < 4294967290
@@ -85,7 +85,7 @@ loop-number-preserved c =
     let rounds_is : c.rounds.result ≡ t.rounds = c.rounds.ensures ∙ c.shape-shape.ensures.rounds in
     let is = c.loop-number.invariant.1 in
     let size = is.size in
-    let one = c.requires.some in
+    let one = c.requires.within.0 in
     let ids_is : c.ids.result ≡ t.ids = c.ids.ensures ∙ c.shape-shape.ensures.ids in
     let last : c.ids.result + 1 - 1 ≡ t.ids = omega arith in
     let more : number + 1 - c.args.first ≡ n + 1 = omega arith in
@@ -93,7 +93,7 @@ loop-number-preserved c =
     let step = step_of_shape t c.rounds-in-loop-number.result c.shape-shape.result.ids c.next_window.result window c.next_window.new.window
     (c.rounds-in-loop-number.ensures ∙ c.shape-shape.ensures.rounds) c.shape-shape.ensures.ids c.next_window.ensures in (
       λ next. next_item t number c.next_window.result window c.next_window.new.window step (c.loop-number.invariant.0 c.loop-number-test.true)
-          (in_table (number + 1) (c.args.first + c.args.count) (length (windows_of t)) (length (windows_of t)) next c.requires.within refl),
+          (in_table (number + 1) (c.args.first + c.args.count) (length (windows_of t)) (length (windows_of t)) next c.requires.within.1 refl),
       step.window,
       λ v x lt within.
           let in_wide : x < c.ids.result + 1 = omega arith in

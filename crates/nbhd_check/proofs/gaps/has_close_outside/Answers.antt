@@ -1,43 +1,58 @@
-use Rattle.std.proofs.Common.{◌-◌, ◌≤◌, length, get_or, take, drop, sym, ◌∙◌, arith, refl}
-use Rattle.std.proofs.lemmas.Bool.{false≢true}
-use Rattle.nbhd_check.specs.Runs.{HasClose}
-use Rattle.nbhd_check.proofs.GapPlaces.{ArePassed, passed_more, found_before_gap, found_between, none_between, none_at_gap, found_after}
+use Rattle.std.proofs.Common.{◌≡◌, ℕ, ◌+◌, ◌-◌, ◌<◌, ◌≤◌, length, get_or, take, drop, subst, sym, ap, ◌∙◌, arith, ⊎_elim, length-drop}
+use Rattle.std.proofs.lemmas.Bool.{false≢true, cases_lt}
+use Rattle.std.proofs.lemmas.List.{get_or-take, get_or-drop, length-take-le}
+use Rattle.std.specs.Int.{abs_diff}
 use Rattle.nbhd_check.proofs.gaps.has_close_outside.Goals as goal
 
-pub loop-gap-preserved : goal.loop-gap-preserved
-loop-gap-preserved c =
+pub returns-then-has_close : goal.returns-then-has_close
+returns-then-has_close c =
     let list = c.args.list.now in
-    let gaps = c.args.gaps.now in
-    let distance = c.args.distance in
-    let index = c.loop-gap.gap-index in
-    let from = c.loop-gap.from in
-    let gap = get_or gaps index 0 in
-    let passed : ArePassed gaps index from = c.loop-gap.invariant.1 in
-    let within = c.requires.inside index 0 c.loop-gap-test.true in
-    let none : ¬ HasClose (take (gap - from) (drop from list)) distance c.args.channel =
-    λ found. false≢true (sym c.if-has_close.false ∙ c.has_close.ensures.1 found) in
-    let order : from ≤ gap = passed.after index (omega arith) c.loop-gap-test.true in (
-      omega arith,
-      passed_more gaps index from c.requires.rising c.loop-gap-test.true passed,
-      none_at_gap list gaps distance c.args.channel index c.loop-gap-test.true
-          (none_between list gaps distance c.args.channel from gap (omega arith) order c.loop-gap.invariant.2 none),
+    let gap : ℕ = c.args.gap in
+    let short = length-take-le gap list (omega (arith, c.requires)) in (
+      λ is.
+          let found = c.has_close.ensures.0 is in
+          let lt : found.0 < gap = omega (arith, found.1, short) in (
+            found.0,
+            omega (arith, lt, c.requires),
+            λ e. omega (arith, lt, e),
+            subst (λ v. abs_diff c.args.channel v < c.args.distance) (get_or-take gap list found.0 0 lt) found.2,
+          ),
+      λ outside. c.if-has_close.true,
     )
 
-pub returns-then-has_close : goal.returns-then-has_close
-returns-then-has_close c = (
-  λ is. found_before_gap c.args.list.now c.args.gaps.now c.args.distance c.args.channel c.loop-gap.gap-index c.loop-gap.from c.requires.rising
-      c.requires.inside c.loop-gap-test.true c.loop-gap.invariant.1 (c.has_close.ensures.0 c.if-has_close.true),
-  λ outside. refl,
-)
-
-pub returns : goal.returns
-returns c =
+pub returns-else-has_close : goal.returns-else-has_close
+returns-else-has_close c =
     let list = c.args.list.now in
-    let gaps = c.args.gaps.now in
-    let index = c.loop-gap.gap-index in
-    let from = c.loop-gap.from in
-    let passed : ArePassed gaps index from = c.loop-gap.invariant.1 in (
-      λ is. found_between list gaps c.args.distance c.args.channel index from (length list) (omega arith) c.loop-gap.invariant.0 passed
-          (λ i le lt. absurd (omega arith)) (c.has_close-2.ensures.0 is),
-      λ outside. c.has_close-2.ensures.1 (found_after list gaps c.args.distance c.args.channel from c.loop-gap.invariant.2 outside),
+    let gap : ℕ = c.args.gap in
+    let from : ℕ = gap + 1 in
+    let short = length-take-le gap list (omega (arith, c.requires)) in
+    let rest = drop from list in
+    let long = length-take-le (length list - from) rest (omega (arith, length-drop from list)) in
+    let read : (i : ℕ) → i < length list - from → get_or (take (length list - from) rest) i 0 ≡ get_or list (from + i) 0 = λ i lt.
+    get_or-take (length list - from) rest i 0 lt ∙ get_or-drop from list i 0 in (
+      λ is.
+          let found = c.has_close-else-has_close.ensures.0 is in
+          let lt : found.0 < length list - from = omega (arith, found.1, long) in (
+            from + found.0,
+            omega (arith, lt),
+            λ e. omega (arith, e),
+            subst (λ v. abs_diff c.args.channel v < c.args.distance) (read found.0 lt) found.2,
+          ),
+      λ outside.
+          let place : ℕ = outside.0 in
+          ⊎_elim
+          (λ (before : place < gap). absurd (false≢true (sym c.if-has_close.false ∙ c.has_close.ensures.1 (
+            place,
+            omega (arith, before, short),
+            subst (λ v. abs_diff c.args.channel v < c.args.distance) (sym (get_or-take gap list place 0 before)) outside.3,
+          ))))
+          (λ (after : gap ≤ place).
+          let i : ℕ = place - from in
+          let at' : from + i ≡ place = omega (arith, after, outside.2) in
+          c.has_close-else-has_close.ensures.1 (
+            i,
+            omega (arith, long, at', outside.1),
+            subst (λ v. abs_diff c.args.channel v < c.args.distance) (sym (read i (omega (arith, at', outside.1)) ∙ ap (λ k. get_or list k 0) at')) outside.3,
+          ))
+          (cases_lt place gap),
     )

@@ -1,4 +1,4 @@
-use Rattle.nbhd_check.proofs.Tuples.{one_witness, no_witness, witness_on_ring}
+use Rattle.nbhd_check.proofs.Witnesses.{one_witness, no_witness, witness_on_ring}
 use Rattle.nbhd_check.proofs.laws.one_witness.Goals as goal
 
 pub returns-clause-one : goal.returns-clause-one

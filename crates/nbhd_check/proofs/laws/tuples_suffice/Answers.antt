@@ -1,4 +1,4 @@
-use Rattle.nbhd_check.proofs.Tuples.{bad_ring, suffice}
+use Rattle.nbhd_check.proofs.Witnesses.{bad_ring, suffice}
 use Rattle.nbhd_check.proofs.laws.tuples_suffice.Goals as goal
 
 pub returns-clause-exact : goal.returns-clause-exact

@@ -1,0 +1,36 @@
+use Rattle.std.proofs.Common.{ℕ, ◌+◌, ◌*◌, ◌<◌, ◌≤◌, ap, ◌∙◌, arith, ⊎_elim}
+use Rattle.std.proofs.lemmas.Bool.{cases_lt}
+use Rattle.std.proofs.Math.Nat.{mul-le-mul_right}
+use Rattle.nbhd_check.specs.Runs.{wide}
+use Rattle.nbhd_check.proofs.Cells.{row_more}
+use Rattle.nbhd_check.proofs.Prefixes.{window_at, window_of_shape, step_of_run}
+use Rattle.nbhd_check.proofs.RunSteps.{next_first}
+use Rattle.nbhd_check.proofs.search.scan_runs.Goals as goal
+
+pub next_run-requires-clause-window : goal.next_run-requires-clause-window
+next_run-requires-clause-window g c =
+    let t = g.S.Search.searched c.args.search.now in
+    let table_is = c.table-table.ensures in
+    let item = c.loop-run.invariant.0 c.loop-run-test.true in
+    window_of_shape t c.rounds.result c.shape-shape.result.ids c.loop-run.window (c.rounds.ensures ∙ c.shape-shape.ensures.rounds ∙ ap (λ x. x.rounds) table_is)
+    (c.shape-shape.ensures.ids ∙ ap (λ x. x.ids) table_is) (window_at c.numbers_of_windows.ensures (2 * t.rounds + 1) t.ids _ c.loop-run.window item)
+
+pub loop-run-preserved : goal.loop-run-preserved
+loop-run-preserved g c =
+    let t = g.S.Search.searched c.args.search.now in
+    let table_is = c.table-table.ensures in
+    let run : ℕ = c.loop-run.run in
+    let more = row_more run (wide t) in
+    let item = c.loop-run.invariant.0 c.loop-run-test.true in
+    let step = step_of_run t c.rounds.result c.shape-shape.result.ids c.next_run.result c.loop-run.window c.next_run.new.window
+    (c.rounds.ensures ∙ c.shape-shape.ensures.rounds ∙ ap (λ x. x.rounds) table_is) (c.shape-shape.ensures.ids ∙ ap (λ x. x.ids) table_is) c.next_run.ensures in
+    let some : 1 ≤ wide t = omega (arith, c.windows_per_run-each.ensures.some, c.windows_per_run-each.ensures.value, ap wide table_is) in (
+      λ lt.
+          let all : (run + 1 + 1) * wide t ≤ c.args.high * wide t = mul-le-mul_right (wide t) (omega arith) in
+          next_first c.numbers_of_windows.ensures t run c.loop-run.window item c.next_run.result c.next_run.new.window step
+          (omega (arith, all, row_more (run + 1) (wide t), c.requires.within)),
+      λ number window low high at'. ⊎_elim
+          (λ (before : number < run * wide t). c.loop-run.invariant.1 number window low before at')
+          (λ (own : run * wide t ≤ number). c.in_default.ensures number window own (omega arith) at')
+          (cases_lt number (run * wide t)),
+    )

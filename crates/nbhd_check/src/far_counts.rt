@@ -1,0 +1,272 @@
+//! Windows that begin a tuple whose third window is too close, found by counts, block by block. For
+//! a list `z` of `2t-1` identifiers, the third windows of the tuples that begin with `(a, b, z)` are
+//! the windows that begin with `z` and hold neither `a` nor `b`.
+ghost use Rattle.std.specs.Prelude.{◌≡◌, ◌≢◌, ℕ, ◌+◌, ◌-◌, ◌*◌, ◌^◌, ◌<◌, ◌≤◌, ◌↔◌, [], ◌∷◌, ◌++◌, All, List, Some, IsTrue, length, drop, slice_get, slice_index};
+ghost use Rattle.std.specs.Bool.{OnFalse};
+ghost use Rattle.std.specs.Int.{abs_diff};
+ghost use Rattle.win_index.specs.Windows.{IsWindow};
+ghost use Rattle.channel_tables.specs.Tables.{windows_of, channel_of};
+ghost use Rattle.nbhd_check.specs.Counts.{shared_len, shared_lists, AreCountsOf, CountsFit};
+ghost use Rattle.nbhd_check.specs.FarSearch.{AreFarFreeIn, HasBlockIn};
+ghost use Rattle.nbhd_check.specs.Runs.{AreFree, BeginsFarTuple};
+
+use crate::counts::{Counts, close_count, count_block};
+use crate::laws::numbers_of_windows;
+use crate::parallel::{least_of_parts, part_count};
+use crate::search::window_count;
+use crate::tuples::{channel_of_window, contains};
+use channel_tables::Table;
+use std::alloc::Global;
+use std::sync::atomic::{AtomicU32, Ordering};
+use std::thread::Threads;
+use win_index::{MAX_WINDOW_LEN, count_of_windows, windows_are_in_order};
+
+/// The search for windows that begin a tuple whose third window is closer than `distance`, which is
+/// at least 1. All channels are below `limit`.
+#[derive(Clone, Copy)]
+pub(crate) struct FarCounts<'a> {
+    pub(crate) table: &'a Table,
+    pub(crate) distance: u32,
+    pub(crate) limit: u32,
+    pub(crate) ghost some: { (1 ≤ table.now.rounds) × (1 ≤ distance) },
+    pub(crate) ghost below: { All (λ channel. channel < limit) table.now.entries },
+    pub(crate) ghost few: { limit < 2 ^ 17 },
+}
+
+impl<'a> FarCounts<'a> {
+    /// Returns a number of windows, at most `most`, such that none of the windows below it begins
+    /// such a tuple. It is 0 if memory for counts was refused. At most `threads` threads search.
+    pub(crate) fn free_windows<R: Threads + Sync>(
+        self,
+        rt: &R,
+        alloc: Global,
+        most: u32,
+        threads: u32,
+    ) -> u32
+        ensures less { result ≤ most }
+        ensures free { AreFree self.entry.table.now (BeginsFarTuple self.entry.table.now self.entry.distance) 0 result }
+    {
+        numbers_of_windows();
+        count_of_windows();
+        let blocks = block_count(self.table);
+        let parts = part_count(window_count(self.table), threads);
+        let each = blocks.div_ceil(parts);
+        let best = AtomicU32::new(most);
+        let least = least_of_parts(
+            rt,
+            parts,
+            |part: u32| -> u32
+                requires { (part * each + each < 2 ^ 32) × (blocks ≡ length (shared_lists self.table.now)) }
+                ensures { AreFarFreeIn self.entry.table.now self.entry.distance result (HasBlockIn self.entry.table.now (part * each) (part * each + each)) }
+            {
+                let low = part * each;
+                self.free_in_blocks(alloc, low.min(blocks), (low + each).min(blocks), &best)
+            },
+        );
+        least.min(most)
+    }
+
+    // Returns a number of windows such that none of the windows below it with a block from `low` on
+    // and below `high` begins such a tuple. `best` is the least such number that any thread has
+    // found.
+    fn free_in_blocks(self, alloc: Global, low: u32, high: u32, best: &AtomicU32) -> u32
+        requires { high ≤ length (shared_lists self.table.now) }
+        ensures { AreFarFreeIn self.entry.table.now self.entry.distance result (HasBlockIn self.entry.table.now low high) }
+    {
+        let Ok(mut counts) = Counts::new(alloc, self.table, self.limit) else {
+            return 0;
+        };
+        let shape = self.table.shape();
+        let below = shape.rounds() - 1;
+        let mut cells = [0; MAX_WINDOW_LEN];
+        let shared = &mut cells[..2 * below as usize + 1];
+        let mut least = best.load(Ordering::SeqCst);
+        for number in low..high {
+            shape.window(below, number, shared);
+            count_block(self.table, shared, &mut counts);
+            let block = Block {
+                table: self.table,
+                distance: self.distance,
+                shared,
+                counts: &counts,
+            };
+            least = block.free(least.min(best.load(Ordering::SeqCst)));
+            best.fetch_min(least, Ordering::SeqCst);
+        }
+        least
+    }
+}
+
+// Returns the number of blocks.
+fn block_count(table: &Table) -> u32
+    requires { 1 ≤ table.now.rounds }
+    ensures { result ≡ length (shared_lists table.now) }
+{
+    let shape = table.shape();
+    shape.count(shape.rounds() - 1)
+}
+
+// The third windows that begin with the identifiers `shared`, with their counts, and a distance.
+#[derive(Clone, Copy)]
+struct Block<'b> {
+    table: &'b Table,
+    distance: u32,
+    shared: &'b [u32],
+    counts: &'b Counts,
+    ghost some: { (1 ≤ table.now.rounds) × (1 ≤ distance) },
+    ghost window: { IsWindow (shared_len table.now) table.now.ids shared.now },
+    ghost fit: { CountsFit table.now counts.now },
+}
+
+impl<'b> Block<'b> {
+    // Returns a number of windows, at most `least`, such that none of the windows below it that end
+    // in the shared identifiers begins a tuple whose third window is closer than the distance.
+    fn free(self, least: u32) -> u32
+        requires { AreCountsOf self.table.now self.shared.now self.counts.now }
+        ensures less { result ≤ least }
+        ensures free { AreFarFreeIn self.entry.table.now self.entry.distance result (λ window. drop 2 window ≡ self.entry.shared.now) }
+    {
+        numbers_of_windows();
+        let mut least = least;
+        for first in 0..self.table.shape().ids() {
+            if start_of(self.table, first) >= u64::from(least) {
+                return least;
+            }
+            least = self.free_with_first(first, least);
+        }
+        least
+    }
+
+    // Like `free`, for the windows that also begin with this identifier.
+    fn free_with_first(self, first: u32, least: u32) -> u32
+        requires counted { AreCountsOf self.table.now self.shared.now self.counts.now }
+        requires first { first < self.table.now.ids }
+        ensures less { result ≤ least }
+        ensures free { AreFarFreeIn self.entry.table.now self.entry.distance result (λ window. (slice_index window 0 ≡ first) × (drop 2 window ≡ self.entry.shared.now)) }
+    {
+        numbers_of_windows();
+        let mut least = least;
+        for second in 0..self.table.shape().ids() {
+            if self.follow(first, second) {
+                least = self.free_with_both(first, second, least);
+            }
+        }
+        least
+    }
+
+    // Returns whether the two identifiers and the shared ones are a window.
+    fn follow(self, first: u32, second: u32) -> bool
+        requires { (first < self.table.now.ids) × (second < self.table.now.ids) }
+        ensures { IsTrue result ↔ IsWindow (2 * self.entry.table.now.rounds + 1) self.entry.table.now.ids (first ∷ second ∷ self.entry.shared.now) }
+    {
+        if first == second {
+            return false;
+        }
+        if contains(self.shared, first) {
+            return false;
+        }
+        !contains(self.shared, second)
+    }
+
+    // Like `free`, for the window of these two identifiers and the shared ones.
+    fn free_with_both(self, first: u32, second: u32, least: u32) -> u32
+        requires counted { AreCountsOf self.table.now self.shared.now self.counts.now }
+        requires window { IsWindow (2 * self.table.now.rounds + 1) self.table.now.ids (first ∷ second ∷ self.shared.now) }
+        ensures less { result ≤ least }
+        ensures free { AreFarFreeIn self.entry.table.now self.entry.distance result (λ window. window ≡ first ∷ second ∷ self.entry.shared.now) }
+    {
+        numbers_of_windows();
+        let shape = self.table.shape();
+        let level = shape.rounds();
+        let mut cells = [0; MAX_WINDOW_LEN];
+        let window = &mut cells[..2 * level as usize + 1];
+        write_before(window, first, second, self.shared);
+        let number = shape.window_number(level, window);
+        if number < least && self.may_begin_far_tuple(first, second, self.table.entry(number)) {
+            number
+        } else {
+            least
+        }
+    }
+
+    // Returns `false` only if the window of these two identifiers and the shared ones begins no tuple
+    // whose third window is closer than the distance to `channel`, the channel of the window.
+    fn may_begin_far_tuple(self, first: u32, second: u32, channel: u32) -> bool
+        requires counted { AreCountsOf self.table.now self.shared.now self.counts.now }
+        requires window { IsWindow (2 * self.table.now.rounds + 1) self.table.now.ids (first ∷ second ∷ self.shared.now) }
+        requires channel { channel_of self.table.now (first ∷ second ∷ self.shared.now) ≡ Some channel }
+        requires limit { channel < self.counts.now.limit }
+        ensures { OnFalse result (¬ BeginsFarTuple self.entry.table.now self.entry.distance (first ∷ second ∷ self.entry.shared.now)) }
+    {
+        numbers_of_windows();
+        let Block {
+            table,
+            distance,
+            counts,
+            ..
+        } = self;
+        let all = close_count(table, counts, table.shape().ids(), channel, distance);
+        let with_first = close_count(table, counts, first, channel, distance);
+        let with_second = close_count(table, counts, second, channel, distance);
+        let all = u64::from(all);
+        let held = u64::from(with_first) + u64::from(with_second);
+        let one = self.close_one(first, second, channel, all + 2 > held);
+        let other = self.close_one(second, first, channel, all + one + 1 > held);
+        all + one + other > held
+    }
+
+    // Returns 1 if the channel of the window that ends in these two identifiers is closer than the
+    // distance to `channel`, else 0. Returns 1 without a look at the window unless it `decides`.
+    fn close_one(self, one: u32, other: u32, channel: u32, decides: bool) -> u64
+        requires { IsWindow (2 * self.table.now.rounds + 1) self.table.now.ids (self.shared.now ++ one ∷ other ∷ []) }
+        ensures few { result ≤ 1 }
+        ensures close { (number : ℕ) → slice_get (windows_of self.entry.table.now) number ≡ Some (self.entry.shared.now ++ one ∷ other ∷ [])
+            → abs_diff channel (slice_index self.entry.table.now.entries number) < self.entry.distance → 1 ≤ result }
+    {
+        numbers_of_windows();
+        if !decides {
+            return 1;
+        }
+        let level = self.table.shape().rounds();
+        let mut cells = [0; MAX_WINDOW_LEN];
+        let window = &mut cells[..2 * level as usize + 1];
+        write_after(window, self.shared, one, other);
+        u64::from(channel.abs_diff(channel_of_window(self.table, window)) < self.distance)
+    }
+}
+
+// Returns the number of the first window that begins with this identifier. No window that begins
+// with it or with a greater one has a lower number.
+fn start_of(table: &Table, first: u32) -> u64
+    requires { first < table.now.ids }
+    ensures { (number : ℕ) (window : List ℕ) → slice_get (windows_of table.now) number ≡ Some window
+        → first ≤ slice_index window 0 → result ≤ number }
+{
+    numbers_of_windows();
+    count_of_windows();
+    windows_are_in_order();
+    let shape = table.shape();
+    let each = window_count(table) / shape.ids();
+    u64::from(shape.window_number(0, &[first])) * u64::from(each)
+}
+
+// Writes two identifiers and then the others.
+fn write_before(out: &mut [u32], first: u32, second: u32, others: &[u32])
+    requires { length out.old ≡ length others.now + 2 }
+    ensures { out.new ≡ first ∷ second ∷ others.now }
+{
+    out[0] = first;
+    out[1] = second;
+    out[2..].copy_from_slice(others);
+}
+
+// Writes the others and then two identifiers.
+fn write_after(out: &mut [u32], others: &[u32], one: u32, other: u32)
+    requires { length out.old ≡ length others.now + 2 }
+    ensures { out.new ≡ others.now ++ one ∷ other ∷ [] }
+{
+    let len = others.len();
+    out[..len].copy_from_slice(others);
+    out[len] = one;
+    out[len + 1] = other;
+}

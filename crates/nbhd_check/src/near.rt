@@ -1,0 +1,183 @@
+//! Windows that begin a tuple whose second window is too close. The second windows after a window
+//! are a run, but for the one that would end in the window's first identifier.
+ghost use Rattle.std.specs.Prelude.{◌≡◌, ℕ, ◌+◌, ◌-◌, ◌*◌, ◌^◌, ◌<◌, ◌≤◌, Some, length, take, drop, slice_get, slice_index};
+ghost use Rattle.std.specs.Bool.{OnFalse};
+ghost use Rattle.channel_tables.specs.Tables.{windows_of};
+ghost use Rattle.nbhd_check.specs.Masks.{AreMasks};
+ghost use Rattle.nbhd_check.specs.Runs.{AreFree, AreFreeUntil, BeginsBadTuple, SecondRunsOf, wide};
+
+use crate::gaps::has_close_outside;
+use crate::laws::numbers_of_windows;
+use crate::masks::{Masks, run_masks};
+use crate::search::{Search, free_windows, window_count, windows_per_run};
+use channel_tables::Table;
+use std::alloc::Global;
+use std::thread::Threads;
+use win_index::{count_of_windows, place_among_unused};
+
+// The number of windows that are searched before masks are made, so that an early no does not pay
+// for them.
+const FIRST_WINDOWS: u32 = 1 << 12;
+
+/// Returns a number of windows such that none of the windows below it begins a tuple whose second
+/// window is closer than `distance`. At most `threads` threads search.
+pub(crate) fn near_free_windows<R: Threads + Sync>(
+    rt: &R,
+    alloc: Global,
+    table: &Table,
+    distance: u32,
+    threads: u32,
+) -> u32
+    requires some { 1 ≤ table.now.rounds }
+    ensures few { result ≤ length (windows_of table.now) }
+    ensures free { AreFree table.now (BeginsBadTuple table.now (record { near = distance; far = 0 })) 0 result }
+{
+    let count = window_count(table);
+    let most = count.min(FIRST_WINDOWS);
+    let masks = Masks::none(alloc);
+    let search = NearSearch {
+        table,
+        distance,
+        masks,
+    };
+    let first = free_windows(rt, &search, most, 1);
+    if first < most || most == count {
+        return first;
+    }
+    let masks = run_masks(alloc, table, distance);
+    let search = NearSearch {
+        table,
+        distance,
+        masks,
+    };
+    free_windows(rt, &search, count, threads)
+}
+
+// The search for windows that begin a tuple whose second window is closer than `distance`.
+#[derive(Drop)]
+struct NearSearch<'a> {
+    table: &'a Table,
+    distance: u32,
+    masks: Masks,
+    ghost some: { 1 ≤ table.now.rounds },
+    ghost cover: { AreMasks table.now.entries (wide table.now) distance masks.per_group masks.words.items },
+}
+
+// Where the second windows after the windows of a run are: those after the window at place `i` of
+// the run are run `first + i`, or run `first + i + 1` if `i` is not below the gap. The window that
+// would end in the first identifier of the run is at place `gap - 1` or `gap` there.
+#[derive(Clone, Copy)]
+pub(crate) struct SecondRuns {
+    run: usize,
+    first: usize,
+    gap: usize,
+}
+
+impl SecondRuns {
+    ghost use Rattle.nbhd_check.specs.Runs.{second_run, second_gap};
+
+    // Returns the run of the second windows after the window at this place.
+    fn run_at(self, place: usize) -> usize
+        requires { self.first + place < 2 ^ 32 }
+        ensures { result ≡ second_run self place }
+    {
+        if place < self.gap {
+            self.first + place
+        } else {
+            self.first + place + 1
+        }
+    }
+
+    // Returns the place in that run of the window that is none of them.
+    fn gap_at(self, place: usize) -> usize
+        ensures { result ≡ second_gap self place }
+    {
+        if place < self.gap {
+            self.gap - 1
+        } else {
+            self.gap
+        }
+    }
+}
+
+impl<'a> Search for NearSearch<'a> {
+    ghost searched = { λ s. s.table.now };
+
+    ghost Bad = { λ s. BeginsBadTuple s.table.now (record { near = s.distance; far = 0 }) };
+
+    fn table(&self) -> &Table {
+        self.table
+    }
+
+    fn first_in_run(&self, window: &[u32], run: u32) -> Option<u32> {
+        self.first_close(second_runs(self.table, window, run as usize))
+    }
+}
+
+impl<'a> NearSearch<'a> {
+    // Like `first_in_run`.
+    fn first_close(&self, runs: SecondRuns) -> Option<u32>
+        requires { SecondRunsOf self.now.table.now runs }
+        ensures { AreFreeUntil self.now.table.now (BeginsBadTuple self.now.table.now (record { near = self.now.distance; far = 0 }))
+            (runs.run * wide self.now.table.now) (runs.run * wide self.now.table.now + wide self.now.table.now) result }
+    {
+        count_of_windows();
+        let each = windows_per_run(self.table);
+        for place in 0..each {
+            if self.may_be_close(runs, place) {
+                return Some((runs.run * each + place) as u32);
+            }
+        }
+        None
+    }
+
+    // Returns `false` only if the window at this place of the run begins no such tuple.
+    fn may_be_close(&self, runs: SecondRuns, place: usize) -> bool
+        requires runs { SecondRunsOf self.now.table.now runs }
+        requires place { place < wide self.now.table.now }
+        ensures { OnFalse result (AreFree self.now.table.now (BeginsBadTuple self.now.table.now (record { near = self.now.distance; far = 0 }))
+            (runs.run * wide self.now.table.now + place) (runs.run * wide self.now.table.now + place + 1)) }
+    {
+        numbers_of_windows();
+        count_of_windows();
+        let each = windows_per_run(self.table);
+        let channel = self.table.entries()[runs.run * each + place];
+        let next = runs.run_at(place);
+        if !self.masks.may_hold(next, channel) {
+            return false;
+        }
+        let gap = runs.gap_at(place);
+        has_close_outside(channels_of(self.table, next), gap, self.distance, channel)
+    }
+}
+
+// Returns where the second windows after the windows of a run are. `window` is the first window of
+// the run.
+fn second_runs(table: &Table, window: &[u32], run: usize) -> SecondRuns
+    requires some { 1 ≤ table.now.rounds }
+    requires window { slice_get (windows_of table.now) (run * wide table.now) ≡ Some window.now }
+    ensures runs { SecondRunsOf table.now result }
+    ensures run { result.run ≡ run }
+{
+    numbers_of_windows();
+    count_of_windows();
+    let shape = table.shape();
+    let level = shape.rounds();
+    let shared = &window[1..2 * level as usize];
+    let number = shape.window_number(level - 1, shared) as usize;
+    SecondRuns {
+        run,
+        first: number * (shape.ids() as usize - shared.len()),
+        gap: place_among_unused(shared, window[0]) as usize,
+    }
+}
+
+// Returns the channels of a run.
+fn channels_of(table: &Table, run: usize) -> &[u16]
+    requires { run * wide table.now + wide table.now ≤ length table.now.entries }
+    ensures { result.now ≡ take (wide table.now) (drop (run * wide table.now) table.now.entries) }
+{
+    let each = windows_per_run(table);
+    let start = run * each;
+    &table.entries()[start..start + each]
+}

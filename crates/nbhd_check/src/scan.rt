@@ -1,0 +1,36 @@
+//! Windows that begin a bad tuple, by a test of each tuple.
+ghost use Rattle.std.specs.Prelude.{◌+◌, ◌*◌, ◌≤◌, length};
+ghost use Rattle.channel_tables.specs.Tables.{windows_of};
+ghost use Rattle.nbhd_check.specs.Runs.{AreFreeUntil, BeginsBadTuple, wide};
+
+use crate::laws::numbers_of_windows;
+use crate::search::{Search, windows_per_run};
+use crate::tuples::Tuples;
+use channel_tables::Table;
+use win_index::count_of_windows;
+
+/// The search for windows that begin a bad tuple.
+#[derive(Clone, Copy)]
+pub(crate) struct TupleScan<'a> {
+    pub(crate) tuples: Tuples<'a>,
+}
+
+impl<'a> Search for TupleScan<'a> {
+    ghost searched = { λ s. s.tuples.table.now };
+
+    ghost Bad = { λ s. BeginsBadTuple s.tuples.table.now s.tuples.separation };
+
+    fn table(&self) -> &Table {
+        self.tuples.table
+    }
+
+    fn first_in_run(&self, window: &[u32], run: u32) -> Option<u32> {
+        numbers_of_windows();
+        count_of_windows();
+        let each = self.tuples.per_window();
+        let windows = windows_per_run(self.tuples.table) as u64;
+        let low = u64::from(run) * windows * each;
+        let number = self.tuples.least_bad(low, low + windows * each)?;
+        Some((number / each) as u32)
+    }
+}
