@@ -1,5 +1,6 @@
-"""Verdicts on 2,000 pseudo-random tables of all shapes up to 9 identifiers, compared with a walk over all tuples. Channels are
-often equal modulo 64, as the judge's masks see them. A row has the words, the input, the standard output and the exit status."""
+"""Verdicts on 2,000 pseudo-random tables of all shapes up to 9 identifiers, and on wider ones at neighbours, compared with a walk
+over all tuples. Channels are often equal modulo 64, as the judge's masks see them. A row has the words, the input, the standard
+output and the exit status."""
 
 from functools import cache
 from itertools import permutations
@@ -8,9 +9,11 @@ from random import Random
 from verdicts import no, of_identifiers, of_windows, tuples, yes
 
 # Identifiers and rounds, and the number of tables of each shape: few of the largest one, whose texts have 3 MB.
-SHAPES = [(ids, rounds) for rounds in range(4) for ids in range(2 * rounds + 2, 10)]
+# The wider ones have so many windows that masks are made for their runs.
+WIDER = [(18, 1), (24, 1)]
+SHAPES = [(ids, rounds) for rounds in range(4) for ids in range(2 * rounds + 2, 10)] + WIDER
 LARGEST = (9, 3)
-OF_LARGEST, OF_OTHERS = 24, 104
+OF_LARGEST, OF_WIDER, OF_OTHERS = 24, 48, 104
 
 WORKERS = [1, 4]
 
@@ -76,8 +79,9 @@ def rows(ids, rounds):
     """Tables of a shape. One in four has any channels. Each other window has the channel of its middle, but for up to three."""
     numbers = Random(100 * ids + rounds)
     windows = windows_of(ids, rounds)
-    for table in range(OF_LARGEST if (ids, rounds) == LARGEST else OF_OTHERS):
-        count, near, far = numbers.randrange(1, 201), numbers.randrange(1, 5), numbers.randrange(4)
+    is_wider = (ids, rounds) in WIDER
+    for table in range(OF_LARGEST if (ids, rounds) == LARGEST else OF_WIDER if is_wider else OF_OTHERS):
+        count, near, far = numbers.randrange(1, 201), numbers.randrange(1, 5), 0 if is_wider else numbers.randrange(4)
         middles = of_middles(numbers, ids, count, max(near, far))
         others = some_windows(numbers, windows, middles, count)
         channels = [others.get(window, middles[window[rounds]]) for window in windows]
