@@ -8,7 +8,7 @@ use Rattle.std.proofs.lemmas.Option.{slice_get-get_or, get_or_from_slice_get}
 use Rattle.win_index.specs.Arcs.{part_at}
 use Rattle.win_index.specs.Windows.{IsWindow}
 use Rattle.channel_tables.specs.Tables.{ChannelTable, windows_of, channel_of}
-use Rattle.nbhd_check.specs.Counts.{shared_len, is_held, held_count, IsBlock}
+use Rattle.nbhd_check.specs.Counts.{shared_len, is_held, held_count, IsFamily}
 use Rattle.nbhd_check.specs.Laws.{WindowsAreNumbered}
 use Rattle.nbhd_check.specs.Runs.{BeginsFarTuple}
 use Rattle.nbhd_check.proofs.Close.{close_along}
@@ -48,20 +48,20 @@ held_at t x k window item below is =
     (or_cases (eqb x one) (eqb x two) held)
 
 module _ (laws : WindowsAreNumbered) where
-  -- a window of the block that holds two identifiers has them in one of the two orders
+  -- a window of the family that holds two identifiers has them in one of the two orders
   two_orders :
-      (t : ChannelTable) (z : List ℕ) (a b first n i j : ℕ) → 1 ≤ t.rounds → IsBlock t z first n → a ≢ t.ids → b ≢ t.ids → a ≢ b
+      (t : ChannelTable) (z : List ℕ) (a b first n i j : ℕ) → 1 ≤ t.rounds → IsFamily t z first n → a ≢ t.ids → b ≢ t.ids → a ≢ b
       → slice_get (windows_of t) i ≡ Some (z ++ a ∷ b ∷ []) → slice_get (windows_of t) j ≡ Some (z ++ b ∷ a ∷ [])
       → (k : ℕ) → first ≤ k → k < first + n → is_held t a k ≡ true → is_held t b k ≡ true → (k ≡ i) ⊎ (k ≡ j)
-  two_orders t z a b first n i j some block in_a in_b other at_i at_j k from to has_a has_b =
-      let within = block.within in
+  two_orders t z a b first n i j some family in_a in_b other at_i at_j k from to has_a has_b =
+      let within = family.within in
       let shared : ℕ = shared_len t in
       let window = get_or (windows_of t) k [] in
       let item = slice_get-get_or (windows_of t) k [] (omega arith) in
       let is = window_at laws (2 * t.rounds + 1) t.ids k window item in
       let own = is.size in
       let size : length window ≡ shared + 2 = omega arith in
-      let begins = block.begins k window from to item in
+      let begins = family.begins k window from to item in
       let one : ℕ = get_or window shared 0 in
       let two : ℕ = get_or window (shared + 1) 0 in
       let parted : window ≡ z ++ one ∷ two ∷ [] = by_last shared window size ∙ ap (λ front. front ++ one ∷ two ∷ []) begins in
@@ -86,7 +86,7 @@ module _ (laws : WindowsAreNumbered) where
   -- most two.
   pub none_far :
       (t : ChannelTable) (distance channel first n i j most_i most_j : ℕ) (window : List ℕ) → 1 ≤ t.rounds
-      → IsWindow (2 * t.rounds + 1) t.ids window → channel_of t window ≡ Some channel → IsBlock t (drop 2 window) first n
+      → IsWindow (2 * t.rounds + 1) t.ids window → channel_of t window ≡ Some channel → IsFamily t (drop 2 window) first n
       → slice_get (windows_of t) i ≡ Some (drop 2 window ++ get_or window 0 0 ∷ get_or window 1 0 ∷ [])
       → slice_get (windows_of t) j ≡ Some (drop 2 window ++ get_or window 1 0 ∷ get_or window 0 0 ∷ [])
       → (abs_diff channel (get_or t.entries i 0) < distance → 1 ≤ most_i) → (abs_diff channel (get_or t.entries j 0) < distance → 1 ≤ most_j)
@@ -94,7 +94,7 @@ module _ (laws : WindowsAreNumbered) where
       count t.ids + (most_i + most_j) ≤ count (get_or window 0 0) + count (get_or window 1 0))
       → ¬ BeginsFarTuple t distance window
   unfolding BeginsFarTuple
-  none_far t distance channel first n i j most_i most_j window some is here block at_i at_j of_i of_j few far =
+  none_far t distance channel first n i j most_i most_j window some is here family at_i at_j of_i of_j few far =
       let a : ℕ = get_or window 0 0 in
       let b : ℕ = get_or window 1 0 in
       let z : List ℕ = drop 2 window in
@@ -116,7 +116,7 @@ module _ (laws : WindowsAreNumbered) where
       ap (λ list. get_or list l 0) (sym begins) ∙ get_or-take len tuple l 0 lt in
       let same_front : take shared third ≡ z =
       take-take shared len (drop 2 tuple) (omega arith) ∙ sym (drop-take 2 shared tuple) ∙ ap (λ l. drop 2 (take l tuple)) (sym len_is) ∙ ap (drop 2) begins in
-      let found = block.stands third is_third same_front in
+      let found = family.stands third is_third same_front in
       let k : ℕ = found.0 in
       let item = found.3 in
       let close : abs_diff channel (get_or t.entries k 0) < distance =
@@ -149,7 +149,7 @@ module _ (laws : WindowsAreNumbered) where
       (λ l from to passed.
       let parts = and_parts (passes l) (is_held t a l && is_held t b l) passed in
       let held = and_parts (is_held t a l) (is_held t b l) parts.1 in
-      two_orders t z a b first n i j some block in_a in_b other at_i at_j l from to held.0 held.1)
+      two_orders t z a b first n i j some family in_a in_b other at_i at_j l from to held.0 held.1)
       (λ passed. of_i (ltb-true (abs_diff channel (get_or t.entries i 0)) distance (and_parts (passes i) (is_held t a i && is_held t b i) passed).0))
       (λ passed. of_j (ltb-true (abs_diff channel (get_or t.entries j 0)) distance (and_parts (passes j) (is_held t a j && is_held t b j) passed).0))
       fewer found.1 found.2 own

@@ -1,4 +1,4 @@
--- Windows that begin no tuple with a close third window, and the blocks of these third windows.
+-- Windows that begin no tuple with a close third window, and the families of these third windows.
 use Rattle.std.proofs.Common.{◌≡◌, ℕ, ◌+◌, ◌-◌, ◌*◌, ◌/◌, ◌<◌, ◌≤◌, ◌⊎◌, List, [], ◌∷◌, length, get_or, take, drop, slice_get, Some, subst, sym, ap, ◌∙◌, arith, refl, inl, inr, ⊎_elim}
 use Rattle.std.proofs.Math.Nat.{mul-div_cancel_left, one-mul}
 use Rattle.std.proofs.lemmas.Bool.{cases_lt}
@@ -8,8 +8,8 @@ use Rattle.win_index.specs.Falling.{falling}
 use Rattle.win_index.specs.Laws.{CountOfWindows, WindowsAreInOrder}
 use Rattle.win_index.specs.Windows.{windows, IsWindow}
 use Rattle.channel_tables.specs.Tables.{ChannelTable, windows_of}
-use Rattle.nbhd_check.specs.Counts.{shared_len, shared_lists, IsBlock}
-use Rattle.nbhd_check.specs.FarSearch.{AreFarFreeIn, HasBlockIn}
+use Rattle.nbhd_check.specs.Counts.{shared_len, shared_lists, IsFamily}
+use Rattle.nbhd_check.specs.FarSearch.{AreFarFreeIn, HasFamilyIn}
 use Rattle.nbhd_check.specs.Runs.{AreFree, BeginsFarTuple}
 use Rattle.nbhd_check.specs.Laws.{WindowsAreNumbered}
 use Rattle.nbhd_check.proofs.Cells.{row_more}
@@ -30,9 +30,9 @@ free_in_two t distance a b less first second both le_a le_b split free_a free_b 
 
 module _ (laws : WindowsAreNumbered) where
   -- the windows that begin with a list of shared identifiers
-  pub block_is : (t : ChannelTable) (z : List ℕ) (number count : ℕ) → 1 ≤ t.rounds → slice_get (shared_lists t) number ≡ Some z
-      → count ≡ falling (t.ids - shared_len t) 2 → number * count + count ≤ length (windows_of t) → IsBlock t z (number * count) count
-  block_is t z number count some item count_is within =
+  pub family_is : (t : ChannelTable) (z : List ℕ) (number count : ℕ) → 1 ≤ t.rounds → slice_get (shared_lists t) number ≡ Some z
+      → count ≡ falling (t.ids - shared_len t) 2 → number * count + count ≤ length (windows_of t) → IsFamily t z (number * count) count
+  family_is t z number count some item count_is within =
       let shared : ℕ = shared_len t in
       let size : 2 * t.rounds + 1 ≡ shared + 2 = omega arith in
       record {
@@ -93,17 +93,17 @@ module _ (laws : WindowsAreNumbered) where
       let size = is.size in
       free number window below item (omega (arith, is.below 0 0 (omega arith)), own)
 
-  -- every window has a block
-  pub all_blocks :
+  -- every window has a family
+  pub all_families :
       (t : ChannelTable) (distance least end : ℕ) → 1 ≤ t.rounds → length (shared_lists t) ≤ end
-      → AreFarFreeIn t distance least (HasBlockIn t 0 end) → AreFree t (BeginsFarTuple t distance) 0 least
-  all_blocks t distance least end some le free number window from below item =
+      → AreFarFreeIn t distance least (HasFamilyIn t 0 end) → AreFree t (BeginsFarTuple t distance) 0 least
+  all_families t distance least end some le free number window from below item =
       let is = window_at laws (2 * t.rounds + 1) t.ids number window item in
       let size : 2 * t.rounds + 1 ≡ 2 + shared_len t = omega arith in
       let rest = window_drop (shared_len t) t.ids 2 window (subst (λ k. IsWindow k t.ids window) size is) in
-      let block = number_of_window laws (shared_len t) t.ids (drop 2 window) rest in
-      let within = slice_get_within (shared_lists t) block.0 (drop 2 window) block.1 in
-      free number window below item (block.0, omega arith, omega arith, block.1)
+      let family = number_of_window laws (shared_len t) t.ids (drop 2 window) rest in
+      let within = slice_get_within (shared_lists t) family.0 (drop 2 window) family.1 in
+      free number window below item (family.0, omega arith, omega arith, family.1)
 
   -- the windows that begin with an identifier or a greater one
   pub from_start :
@@ -135,10 +135,10 @@ module _ (laws : WindowsAreNumbered) where
       first_of [] size = absurd (omega arith)
       first_of (x ∷ window) size = refl
 
--- the windows of a block are numbered within those of the table
-pub block_within : (t : ChannelTable) (number count : ℕ) → CountOfWindows → 1 ≤ t.rounds → count ≡ falling (t.ids - shared_len t) 2
+-- the windows of a family are numbered within those of the table
+pub family_within : (t : ChannelTable) (number count : ℕ) → CountOfWindows → 1 ≤ t.rounds → count ≡ falling (t.ids - shared_len t) 2
     → number < length (shared_lists t) → number * count + count ≤ length (windows_of t)
-block_within t number count counts some count_is below =
+family_within t number count counts some count_is below =
     let shared : ℕ = shared_len t in
     let size : 2 * t.rounds + 1 ≡ shared + 2 = omega arith in
     let all : length (windows_of t) ≡ length (shared_lists t) * count =

@@ -17,6 +17,6 @@ pub mod RunSteps
 pub mod SecondRuns
 pub mod SingleWindows
 pub mod OneApart
-pub mod ThirdBlocks
+pub mod ThirdFamilies
 pub mod Witnesses
 pub mod Less

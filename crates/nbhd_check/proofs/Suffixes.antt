@@ -10,9 +10,9 @@ use Rattle.win_index.specs.Windows.{unused, windows, IsWindow}
 use Rattle.channel_tables.specs.Tables.{ChannelTable, windows_of}
 use Rattle.nbhd_check.specs.Laws.{WindowsAreNumbered}
 use Rattle.nbhd_check.specs.Runs.{wide}
-use Rattle.nbhd_check.specs.Counts.{shared_len, shared_lists, block_len}
+use Rattle.nbhd_check.specs.Counts.{shared_len, shared_lists, family_len}
 use Rattle.nbhd_check.proofs.Prefixes.{window_take, window_drop}
-use Rattle.nbhd_check.proofs.FarFree.{block_within}
+use Rattle.nbhd_check.proofs.FarFree.{family_within}
 use Rattle.nbhd_check.proofs.RunLengths.{two_more}
 
 -- the identifiers of a window without its first and its last, as the code slices them
@@ -54,13 +54,13 @@ front_two t rounds ids window rounds_is ids_is some is =
     (subst (λ n. IsWindow n t.ids (take (2 * rounds - 2) (drop 2 window))) same
     (subst (λ n. IsWindow k t.ids (take n (drop 2 window))) len part))
 
--- the entries of a block are those of a table
-pub block_in :
-    (counts : CountOfWindows) (t : ChannelTable) (block : ℕ) (list : List ℕ) → 1 ≤ t.rounds → length t.entries ≡ length (windows_of t)
-    → slice_get (shared_lists t) block ≡ Some list → block * block_len t + block_len t ≤ length t.entries
-block_in counts t block list some full at' =
-    let within = block_within t block (block_len t) counts some (sym (two_more (t.ids - shared_len t) 2 (t.ids - shared_len t) refl refl))
-    (slice_get_within (shared_lists t) block list at') in
+-- the entries of a family are those of a table
+pub family_in :
+    (counts : CountOfWindows) (t : ChannelTable) (family : ℕ) (list : List ℕ) → 1 ≤ t.rounds → length t.entries ≡ length (windows_of t)
+    → slice_get (shared_lists t) family ≡ Some list → family * family_len t + family_len t ≤ length t.entries
+family_in counts t family list some full at' =
+    let within = family_within t family (family_len t) counts some (sym (two_more (t.ids - shared_len t) 2 (t.ids - shared_len t) refl refl))
+    (slice_get_within (shared_lists t) family list at') in
     omega (arith, within, full)
 
 -- the identifiers of a window without its first two and its last, as the code slices them

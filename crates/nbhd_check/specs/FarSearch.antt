@@ -1,4 +1,4 @@
--- The search for windows that begin a tuple with a close third window, block by block.
+-- The search for windows that begin a tuple with a close third window, family by family.
 use Rattle.std.specs.Prelude.{◌≡◌, ℕ, ◌+◌, ◌-◌, ◌*◌, ◌<◌, ◌≤◌, List, take, drop, slice_get, Some}
 use Rattle.win_index.specs.Runs.{IsAtPlace, IsRunStart}
 use Rattle.win_index.specs.declared.series.RunPlaces.{RunPlaces}
@@ -12,14 +12,14 @@ AreFarFreeIn t distance count passes =
     (number : ℕ) (window : List ℕ) → number < count → slice_get (windows_of t) number ≡ Some window → passes window
     → ¬ BeginsFarTuple t distance window
 
--- the block of the window's third windows has a number from low on and below high
-abbrev pub HasBlockIn : ChannelTable → ℕ → ℕ → List ℕ → Type 0
-HasBlockIn t low high window =
-    (block : ℕ) × (low ≤ block) × (block < high) × (slice_get (shared_lists t) block ≡ Some (drop 2 window))
+-- the family of the window's third windows has a number from low on and below high
+abbrev pub HasFamilyIn : ChannelTable → ℕ → ℕ → List ℕ → Type 0
+HasFamilyIn t low high window =
+    (family : ℕ) × (low ≤ family) × (family < high) × (slice_get (shared_lists t) family ≡ Some (drop 2 window))
 
 -- the window has this number and its suffix this position, and the third windows after the window at position p of its
--- run have block first + p
-pub record IsAtBlock (t : ChannelTable) (number : ℕ) (window : List ℕ) (first : ℕ) (places : RunPlaces) (place : ℕ) : Type 0 where
+-- run have family first + p
+pub record IsAtFamily (t : ChannelTable) (number : ℕ) (window : List ℕ) (first : ℕ) (places : RunPlaces) (place : ℕ) : Type 0 where
   pub item : slice_get (windows_of t) number ≡ Some window
   pub at_place : IsAtPlace (2 * (t.rounds - 1) + 1) t.ids places window place
   pub starts : IsRunStart (2 * (t.rounds - 1)) t.ids (drop 2 (take (2 * t.rounds) window)) first

@@ -4,7 +4,7 @@ ghost use Rattle.std.specs.Prelude.{◌≡◌, ◌==◌, ℕ, List, ◌+◌, ◌
 ghost use Rattle.std.specs.Int.{abs_diff};
 ghost use Rattle.win_index.specs.Windows.{IsWindow};
 ghost use Rattle.channel_tables.specs.Tables.{windows_of};
-ghost use Rattle.nbhd_check.specs.Counts.{held_count, shared_len, AreCells, AreCountsOf, AreSums, CountsFit, IsBlock};
+ghost use Rattle.nbhd_check.specs.Counts.{held_count, shared_len, AreCells, AreCountsOf, AreSums, CountsFit, IsFamily};
 
 use crate::laws::numbers_of_windows;
 use crate::search::window_count;
@@ -13,7 +13,7 @@ use node_program::OutOfMemory;
 use std::alloc::Global;
 use win_index::{MAX_WINDOW_LEN, count_of_windows};
 
-/// The counts of one block: of the windows that begin with the same identifiers, all but two.
+/// The counts of one family: of the windows that begin with the same identifiers, all but two.
 #[derive(Drop)]
 pub(crate) struct Counts {
     /// The rows, one after another.
@@ -23,7 +23,7 @@ pub(crate) struct Counts {
 }
 
 impl Counts {
-    /// Allocates counts for the blocks of a table whose channels are below `limit`. Fails with
+    /// Allocates counts for the families of a table whose channels are below `limit`. Fails with
     /// `OutOfMemory` if memory was refused.
     pub(crate) fn new(alloc: Global, table: &Table, limit: u32) -> Result<Counts, OutOfMemory>
         requires limit { All (λ channel. channel < limit) table.now.entries }
@@ -72,7 +72,7 @@ fn add_row_before(cells: &mut [u32], wide: usize, row: usize)
     }
 }
 
-// Counts each window of the block in the row after that of its channel. `window` is the block's
+// Counts each window of the family in the row after that of its channel. `window` is the family's
 // first window, and is advanced in place.
 fn count_windows(table: &Table, first: u32, count: u32, window: &mut [u32], cells: &mut [u32])
     requires rows { All (λ channel. (channel + 2) * (table.now.ids + 1) ≤ length cells.old) table.now.entries }
@@ -107,7 +107,7 @@ fn add_rows(table: &Table, first: u32, count: u32, limit: u32, cells: &mut [u32]
 }
 
 /// Counts the windows that begin with the identifiers `shared`, which are all but two of a window.
-pub(crate) fn count_block(table: &Table, shared: &[u32], counts: &mut Counts)
+pub(crate) fn count_family(table: &Table, shared: &[u32], counts: &mut Counts)
     requires some { 1 ≤ table.now.rounds }
     requires shared { IsWindow (shared_len table.now) table.now.ids shared.now }
     requires fit { CountsFit table.now counts.old }
@@ -117,13 +117,13 @@ pub(crate) fn count_block(table: &Table, shared: &[u32], counts: &mut Counts)
     count_cells(table, shared, counts.limit, &mut counts.cells);
 }
 
-// Like `count_block`, for the cells and the limit of some counts.
+// Like `count_family`, for the cells and the limit of some counts.
 fn count_cells(table: &Table, shared: &[u32], limit: u32, cells: &mut [u32])
     requires some { 1 ≤ table.now.rounds }
     requires shared { IsWindow (shared_len table.now) table.now.ids shared.now }
     requires room { length cells.old ≡ (limit + 1) * (table.now.ids + 1) }
     requires limit { All (λ channel. channel < limit) table.now.entries }
-    ensures { (first : ℕ) × ((count : ℕ) × (IsBlock table.now shared.now first count × AreSums table.now first count cells.new)) }
+    ensures { (first : ℕ) × ((count : ℕ) × (IsFamily table.now shared.now first count × AreSums table.now first count cells.new)) }
 {
     numbers_of_windows();
     count_of_windows();
@@ -139,7 +139,7 @@ fn count_cells(table: &Table, shared: &[u32], limit: u32, cells: &mut [u32])
     add_rows(table, first, count, limit, cells);
 }
 
-/// Returns the number of windows of the block that hold `x` and have a channel that differs from
+/// Returns the number of windows of the family that hold `x` and have a channel that differs from
 /// `channel` by less than `distance`. The number of identifiers as `x` stands for all windows.
 pub(crate) fn close_count(
     table: &Table,

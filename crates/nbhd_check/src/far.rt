@@ -7,7 +7,7 @@ use crate::counts::channel_limit;
 use crate::far_counts::FarCounts;
 use crate::far_masks::FarMasks;
 use crate::laws::numbers_of_windows;
-use crate::masks::{block_masks, windows_per_block};
+use crate::masks::{family_masks, windows_per_family};
 use crate::scan::TupleScan;
 use crate::search::{free_windows, window_count};
 use crate::tuples::Tuples;
@@ -39,7 +39,7 @@ pub(crate) fn far_free_windows<R: Threads + Sync>(
     if !is_long_search(table, most) {
         return free_windows(rt, &TupleScan { tuples }, most, threads);
     }
-    let masks = block_masks(alloc, table, distance);
+    let masks = family_masks(alloc, table, distance);
     let search = FarMasks {
         table,
         distance,
@@ -98,17 +98,17 @@ fn begins_bad_tuple(tuples: Tuples, number: u32) -> bool
 fn is_long_search(table: &Table, most: u32) -> bool
     requires { 1 ≤ table.now.rounds }
 {
-    let block = windows_per_block(table) as u64;
-    4 * u64::from(most) * block > u64::from(window_count(table))
+    let family = windows_per_family(table) as u64;
+    4 * u64::from(most) * family > u64::from(window_count(table))
 }
 
-// Estimates whether counting a block takes less time than testing the tuples with third windows in
+// Estimates whether counting a family takes less time than testing the tuples with third windows in
 // it, one by one.
 fn are_worth_counting(table: &Table, limit: u32) -> bool
     requires some { 1 ≤ table.now.rounds }
     requires few { limit < 2 ^ 17 }
 {
-    let block = windows_per_block(table) as u64;
+    let family = windows_per_family(table) as u64;
     let cells = u64::from(limit) * (u64::from(table.shape().ids()) + 1);
-    8 * block * block > 4 * block + cells
+    8 * family * family > 4 * family + cells
 }

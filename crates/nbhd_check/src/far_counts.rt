@@ -1,4 +1,4 @@
-//! Windows that begin a tuple whose third window is too close, found by counts, block by block. For
+//! Windows that begin a tuple whose third window is too close, found by counts, family by family. For
 //! a list `z` of `2t-1` identifiers, the third windows of the tuples that begin with `(a, b, z)` are
 //! the windows that begin with `z` and hold neither `a` nor `b`.
 ghost use Rattle.std.specs.Prelude.{◌≡◌, ◌≢◌, ℕ, ◌+◌, ◌-◌, ◌*◌, ◌^◌, ◌<◌, ◌≤◌, ◌↔◌, [], ◌∷◌, ◌++◌, All, List, Some, IsTrue, length, drop, slice_get, slice_index};
@@ -7,10 +7,10 @@ ghost use Rattle.std.specs.Int.{abs_diff};
 ghost use Rattle.win_index.specs.Windows.{IsWindow};
 ghost use Rattle.channel_tables.specs.Tables.{windows_of, channel_of};
 ghost use Rattle.nbhd_check.specs.Counts.{shared_len, shared_lists, AreCountsOf, CountsFit};
-ghost use Rattle.nbhd_check.specs.FarSearch.{AreFarFreeIn, HasBlockIn};
+ghost use Rattle.nbhd_check.specs.FarSearch.{AreFarFreeIn, HasFamilyIn};
 ghost use Rattle.nbhd_check.specs.Runs.{AreFree, BeginsFarTuple};
 
-use crate::counts::{Counts, close_count, count_block};
+use crate::counts::{Counts, close_count, count_family};
 use crate::laws::numbers_of_windows;
 use crate::parallel::{least_of_parts, part_count};
 use crate::search::window_count;
@@ -48,30 +48,30 @@ impl<'a> FarCounts<'a> {
     {
         numbers_of_windows();
         count_of_windows();
-        let blocks = block_count(self.table);
+        let families = family_count(self.table);
         let parts = part_count(window_count(self.table), threads);
-        let each = blocks.div_ceil(parts);
+        let each = families.div_ceil(parts);
         let best = AtomicU32::new(most);
         let least = least_of_parts(
             rt,
             parts,
             |part: u32| -> u32
-                requires { (part * each + each < 2 ^ 32) × (blocks ≡ length (shared_lists self.table.now)) }
-                ensures { AreFarFreeIn self.entry.table.now self.entry.distance result (HasBlockIn self.entry.table.now (part * each) (part * each + each)) }
+                requires { (part * each + each < 2 ^ 32) × (families ≡ length (shared_lists self.table.now)) }
+                ensures { AreFarFreeIn self.entry.table.now self.entry.distance result (HasFamilyIn self.entry.table.now (part * each) (part * each + each)) }
             {
                 let low = part * each;
-                self.free_in_blocks(alloc, low.min(blocks), (low + each).min(blocks), &best)
+                self.free_in_families(alloc, low.min(families), (low + each).min(families), &best)
             },
         );
         least.min(most)
     }
 
-    // Returns a number of windows such that none of the windows below it with a block from `low` on
+    // Returns a number of windows such that none of the windows below it with a family from `low` on
     // and below `high` begins such a tuple. `best` is the least such number that any thread has
     // found.
-    fn free_in_blocks(self, alloc: Global, low: u32, high: u32, best: &AtomicU32) -> u32
+    fn free_in_families(self, alloc: Global, low: u32, high: u32, best: &AtomicU32) -> u32
         requires { high ≤ length (shared_lists self.table.now) }
-        ensures { AreFarFreeIn self.entry.table.now self.entry.distance result (HasBlockIn self.entry.table.now low high) }
+        ensures { AreFarFreeIn self.entry.table.now self.entry.distance result (HasFamilyIn self.entry.table.now low high) }
     {
         let Ok(mut counts) = Counts::new(alloc, self.table, self.limit) else {
             return 0;
@@ -83,22 +83,22 @@ impl<'a> FarCounts<'a> {
         let mut least = best.load(Ordering::SeqCst);
         for number in low..high {
             shape.window(below, number, shared);
-            count_block(self.table, shared, &mut counts);
-            let block = Block {
+            count_family(self.table, shared, &mut counts);
+            let family = Family {
                 table: self.table,
                 distance: self.distance,
                 shared,
                 counts: &counts,
             };
-            least = block.free(least.min(best.load(Ordering::SeqCst)));
+            least = family.free(least.min(best.load(Ordering::SeqCst)));
             best.fetch_min(least, Ordering::SeqCst);
         }
         least
     }
 }
 
-// Returns the number of blocks.
-fn block_count(table: &Table) -> u32
+// Returns the number of families.
+fn family_count(table: &Table) -> u32
     requires { 1 ≤ table.now.rounds }
     ensures { result ≡ length (shared_lists table.now) }
 {
@@ -108,7 +108,7 @@ fn block_count(table: &Table) -> u32
 
 // The third windows that begin with the identifiers `shared`, with their counts, and a distance.
 #[derive(Clone, Copy)]
-struct Block<'b> {
+struct Family<'b> {
     table: &'b Table,
     distance: u32,
     shared: &'b [u32],
@@ -118,7 +118,7 @@ struct Block<'b> {
     ghost fit: { CountsFit table.now counts.now },
 }
 
-impl<'b> Block<'b> {
+impl<'b> Family<'b> {
     // Returns a number of windows, at most `least`, such that none of the windows below it that end
     // in the shared identifiers begins a tuple whose third window is closer than the distance.
     fn free(self, least: u32) -> u32
@@ -199,7 +199,7 @@ impl<'b> Block<'b> {
         ensures { OnFalse result (¬ BeginsFarTuple self.entry.table.now self.entry.distance (first ∷ second ∷ self.entry.shared.now)) }
     {
         numbers_of_windows();
-        let Block {
+        let Family {
             table,
             distance,
             counts,

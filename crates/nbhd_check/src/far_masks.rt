@@ -1,12 +1,12 @@
-//! Windows that may begin a tuple whose third window is too close, by masks of blocks. A block is the
-//! windows that begin with the same `2t-1` identifiers; the third windows of the tuples that begin
-//! with a window are in one block.
+//! Windows that may begin a tuple whose third window is too close, by masks of families. A family is
+//! the windows that begin with the same `2t-1` identifiers; the third windows of the tuples that
+//! begin with a window are in one family.
 ghost use Rattle.std.specs.Prelude.{◌≡◌, ℕ, List, ◌+◌, ◌-◌, ◌*◌, ◌<◌, ◌≤◌, Some, drop, take, length, slice_get};
 ghost use Rattle.win_index.specs.Runs.{IsAtPlace, IsRunStart};
 ghost use Rattle.win_index.specs.declared.series.RunPlaces.{RunPlaces};
 ghost use Rattle.channel_tables.specs.Tables.{ChannelTable, windows_of};
-ghost use Rattle.nbhd_check.specs.Counts.{block_len};
-ghost use Rattle.nbhd_check.specs.FarSearch.{IsAtBlock};
+ghost use Rattle.nbhd_check.specs.Counts.{family_len};
+ghost use Rattle.nbhd_check.specs.FarSearch.{IsAtFamily};
 ghost use Rattle.nbhd_check.specs.Masks.{AreMasks};
 ghost use Rattle.nbhd_check.specs.Runs.{AreFreeUntil, BeginsFarTuple, wide};
 
@@ -24,7 +24,7 @@ pub(crate) struct FarMasks<'a> {
     pub(crate) distance: u32,
     pub(crate) masks: Masks,
     pub(crate) ghost some: { 1 ≤ table.now.rounds },
-    pub(crate) ghost cover: { AreMasks table.now.entries (block_len table.now) distance masks.per_group masks.words.items },
+    pub(crate) ghost cover: { AreMasks table.now.entries (family_len table.now) distance masks.per_group masks.words.items },
 }
 
 impl<'a> Search for FarMasks<'a> {
@@ -47,10 +47,10 @@ impl<'a> Search for FarMasks<'a> {
 }
 
 impl<'a> FarMasks<'a> {
-    // Like `first_in_run`. The third windows after the window at position `p` of the run have block
-    // `first + p`.
+    // Like `first_in_run`. The third windows after the window at position `p` of the run have the
+    // family `first + p`.
     fn first_from(&self, run: u32, first: usize, places: RunPlaces, place: u32) -> Option<u32>
-        requires { (window : List ℕ) × IsAtBlock self.now.table.now (run * wide self.now.table.now) window first places place }
+        requires { (window : List ℕ) × IsAtFamily self.now.table.now (run * wide self.now.table.now) window first places place }
         ensures { AreFreeUntil self.now.table.now (BeginsFarTuple self.now.table.now self.now.distance)
             (run * wide self.now.table.now) (run * wide self.now.table.now + wide self.now.table.now) result }
     {

@@ -4,7 +4,7 @@ ghost use Rattle.std.specs.Prelude.{◌≡◌, ℕ, List, ◌+◌, ◌-◌, ◌*
 ghost use Rattle.std.specs.Bool.{OnFalse};
 ghost use Rattle.channel_tables.specs.Tables.{IsTable};
 ghost use Rattle.nbhd_check.specs.declared.masks.TheConstants.{MAX_DISTANCE};
-ghost use Rattle.nbhd_check.specs.Counts.{block_len};
+ghost use Rattle.nbhd_check.specs.Counts.{family_len};
 ghost use Rattle.nbhd_check.specs.Masks.{AreMasks, AreMore, Covers, HasBit, NoneClose};
 ghost use Rattle.nbhd_check.specs.Runs.{wide};
 
@@ -66,19 +66,19 @@ pub(crate) fn run_masks(alloc: Global, table: &Table, distance: u32) -> Masks
     group_masks(alloc, table, windows_per_run(table), distance)
 }
 
-/// Returns the masks of the blocks of a table, for this distance. Returns none if they do not help,
-/// or if memory was refused.
-pub(crate) fn block_masks(alloc: Global, table: &Table, distance: u32) -> Masks
+/// Returns the masks of the families of a table, for this distance. Returns none if they do not
+/// help, or if memory was refused.
+pub(crate) fn family_masks(alloc: Global, table: &Table, distance: u32) -> Masks
     requires { 1 ≤ table.now.rounds }
-    ensures { AreMasks table.now.entries (block_len table.now) distance result.per_group result.words.items }
+    ensures { AreMasks table.now.entries (family_len table.now) distance result.per_group result.words.items }
 {
-    group_masks(alloc, table, windows_per_block(table), distance)
+    group_masks(alloc, table, windows_per_family(table), distance)
 }
 
-/// Returns the number of windows of a block.
-pub(crate) fn windows_per_block(table: &Table) -> usize
+/// Returns the number of windows of a family.
+pub(crate) fn windows_per_family(table: &Table) -> usize
     requires some { 1 ≤ table.now.rounds }
-    ensures value { result ≡ block_len table.now }
+    ensures value { result ≡ family_len table.now }
     ensures table { IsTable table.now }
 {
     let shape = table.shape();

@@ -4,7 +4,7 @@ use Rattle.win_index.specs.Falling.{falling}
 use Rattle.win_index.specs.Windows.{windows, IsWindow}
 use Rattle.channel_tables.specs.Tables.{ChannelTable, windows_of}
 use Rattle.nbhd_check.specs.Counts.{shared_len, shared_lists}
-use Rattle.nbhd_check.proofs.FarFree.{block_is, block_within, some_product}
+use Rattle.nbhd_check.proofs.FarFree.{family_is, family_within, some_product}
 use Rattle.nbhd_check.proofs.RunLengths.{two_more}
 use Rattle.nbhd_check.proofs.Cells.{row_for, zeros}
 use Rattle.win_index.specs.declared.limits.TheConstants.{MAX_WINDOWS}
@@ -16,10 +16,10 @@ numbered : (t : ChannelTable) (rounds ids number : ℕ) (list : List ℕ) → ro
     → slice_get (windows (2 * (rounds - 1) + 1) ids) number ≡ Some list → slice_get (shared_lists t) number ≡ Some list
 numbered t rounds ids number list rounds_is ids_is item = rw (rounds_is, ids_is) at item
 
-few_of_block : (number count all : ℕ) → number * count + count ≤ all → all ≤ MAX_WINDOWS → count < 2147483648
-few_of_block number count all within few = omega arith
+few_of_family : (number count all : ℕ) → number * count + count ≤ all → all ≤ MAX_WINDOWS → count < 2147483648
+few_of_family number count all within few = omega arith
 
--- the block of the windows with these shared identifiers, once their number is known
+-- the family of the windows with these shared identifiers, once their number is known
 module _ (c : After-window_number) where
   abbrev count : ℕ
   count = (c.ids.result - length c.args.shared.now) * (c.ids.result - length c.args.shared.now - 1)
@@ -37,7 +37,7 @@ module _ (c : After-window_number) where
 
   within : c.window_number.result * count + count ≤ length (windows_of c.args.table.now)
   within =
-      block_within c.args.table.now c.window_number.result count c.count_of_windows.ensures c.requires.some count_is
+      family_within c.args.table.now c.window_number.result count c.count_of_windows.ensures c.requires.some count_is
       (slice_get_within (shared_lists c.args.table.now) c.window_number.result c.args.shared.now item)
 
 pub overflow_mul-first : goal.overflow_mul-first
@@ -63,7 +63,7 @@ returns c =
       (
         count d,
         (
-          block_is c.numbers_of_windows.ensures c.args.table.now c.args.shared.now c.window_number.result (count d) c.requires.some (item d) (count_is d) (within d),
+          family_is c.numbers_of_windows.ensures c.args.table.now c.args.shared.now c.window_number.result (count d) c.requires.some (item d) (count_is d) (within d),
           c.add_rows.ensures,
         ),
       ),
@@ -72,7 +72,7 @@ returns c =
 pub add_rows-requires-clause-few : goal.add_rows-requires-clause-few
 add_rows-requires-clause-few c =
     let d = (goal.at.add_rows-requires-clause-few c).After-window_number in
-    few_of_block c.window_number.result (count d) _ (within d) c.shape-shape.ensures.table.begun.shape.few_windows
+    few_of_family c.window_number.result (count d) _ (within d) c.shape-shape.ensures.table.begun.shape.few_windows
 
 pub add_rows-requires-clause-counted : goal.add_rows-requires-clause-counted
 add_rows-requires-clause-counted c = c.count_windows.ensures

@@ -2,29 +2,29 @@ use Rattle.std.proofs.Common.{◌≡◌, ℕ, List, ◌+◌, ◌*◌, ◌^◌, �
 use Rattle.std.proofs.lemmas.Bool.{cases_lt, OnFalse_at}
 use Rattle.std.proofs.lemmas.Option.{same_Some, slice_get_within}
 use Rattle.channel_tables.specs.Tables.{windows_of}
-use Rattle.nbhd_check.specs.Counts.{block_len}
-use Rattle.nbhd_check.specs.FarSearch.{IsAtBlock}
+use Rattle.nbhd_check.specs.Counts.{family_len}
+use Rattle.nbhd_check.specs.FarSearch.{IsAtFamily}
 use Rattle.nbhd_check.specs.Masks.{NoneClose}
 use Rattle.nbhd_check.specs.Runs.{BeginsFarTuple, wide}
 use Rattle.nbhd_check.proofs.RunSteps.{run_end}
-use Rattle.nbhd_check.proofs.ThirdBlocks.{block_at, block_few, free_in_block, next_block, place_inside}
+use Rattle.nbhd_check.proofs.ThirdFamilies.{family_at, family_few, free_in_family, next_family, place_inside}
 use Rattle.nbhd_check.proofs.far_masks.FarMasks.first_from.Goals.{In-loop-number}
 use Rattle.nbhd_check.proofs.far_masks.FarMasks.first_from.Goals as goal
 
--- the next window of the run, and the block of its third windows
+-- the next window of the run, and the family of its third windows
 module _ (c : In-loop-number) where
   in_run : c.loop-number.number < c.args.run * wide c.args.self.now.table.now + wide c.args.self.now.table.now
   in_run = rw (← c.windows_per_run-each.ensures.value) c.loop-number-test.true
 
-  own : (window : List ℕ) × IsAtBlock c.args.self.now.table.now c.loop-number.number window c.args.first c.args.places c.loop-number.place
+  own : (window : List ℕ) × IsAtFamily c.args.self.now.table.now c.loop-number.number window c.args.first c.args.places c.loop-number.place
   own = c.loop-number.invariant.0 in_run
 
   few : c.args.first + c.loop-number.place < length c.args.self.now.table.now.entries
   few =
       let t = c.args.self.now.table.now in
-      block_few c.count_of_windows.ensures t (c.args.first + c.loop-number.place) (drop 2 own.0) c.args.self.now.some
+      family_few c.count_of_windows.ensures t (c.args.first + c.loop-number.place) (drop 2 own.0) c.args.self.now.some
       c.windows_per_run-each.ensures.table.begun.shape.ids.enough c.windows_per_run-each.ensures.table.size
-      (block_at c.numbers_of_windows.ensures t c.loop-number.number own.0 c.args.first c.args.places c.loop-number.place c.args.self.now.some own.1)
+      (family_at c.numbers_of_windows.ensures t c.loop-number.number own.0 c.args.first c.args.places c.loop-number.place c.args.self.now.some own.1)
 
   small : c.args.first + c.loop-number.place < 2 ^ 32
   small = omega (arith, few, c.windows_per_run-each.ensures.table.size, c.windows_per_run-each.ensures.table.begun.shape.few_windows)
@@ -54,14 +54,14 @@ loop-number-preserved c =
     let d = (goal.at.loop-number-preserved c).In-loop-number in
     let number : ℕ = c.loop-number.number in
     let here = own d in
-    let block : ℕ = c.args.first + c.loop-number.place in
+    let family : ℕ = c.args.first + c.loop-number.place in
     let some = c.args.self.now.some in
     let within = run_end laws counts t c.args.run c.requires.0 c.requires.1.item in
     let from : c.args.run * wide t ≤ number = rw (← c.windows_per_run-each.ensures.value) c.loop-number.auto.number in
-    let none : NoneClose t.entries (block_len t) c.args.self.now.distance block (get_or t.entries number 0) =
-    subst (λ l. NoneClose t.entries (block_len t) c.args.self.now.distance block (get_or l number 0)) c.entries-entries.ensures.value
-    (OnFalse_at c.if-may_hold.false (c.may_hold.ensures t.entries (block_len t) c.args.self.now.distance c.args.self.now.cover)) in (
-      λ lt. next_block laws t number here.0 c.args.first c.args.places c.loop-number.place some here.1 c.args.run c.unwrap_or-place.result c.after.result
+    let none : NoneClose t.entries (family_len t) c.args.self.now.distance family (get_or t.entries number 0) =
+    subst (λ l. NoneClose t.entries (family_len t) c.args.self.now.distance family (get_or l number 0)) c.entries-entries.ensures.value
+    (OnFalse_at c.if-may_hold.false (c.may_hold.ensures t.entries (family_len t) c.args.self.now.distance c.args.self.now.cover)) in (
+      λ lt. next_family laws t number here.0 c.args.first c.args.places c.loop-number.place some here.1 c.args.run c.unwrap_or-place.result c.after.result
           c.unwrap_or-place.ensures from lt within c.after.ensures.next c.after.ensures.last,
       λ n window low high item. ⊎_elim
           (λ (before : n < number). c.loop-number.invariant.1 n window low before item)
@@ -69,7 +69,7 @@ loop-number-preserved c =
           let same : n ≡ number = omega (arith, ge, high) in
           let is : window ≡ here.0 = same_Some window here.0 (sym item ∙ ap (slice_get (windows_of t)) same ∙ here.1.item) in
           subst (λ w. ¬ BeginsFarTuple t c.args.self.now.distance w) (sym is)
-          (free_in_block laws counts t c.args.self.now.distance block number here.0 some here.1.item
-          (block_at laws t number here.0 c.args.first c.args.places c.loop-number.place some here.1) none))
+          (free_in_family laws counts t c.args.self.now.distance family number here.0 some here.1.item
+          (family_at laws t number here.0 c.args.first c.args.places c.loop-number.place some here.1) none))
           (cases_lt n number),
     )

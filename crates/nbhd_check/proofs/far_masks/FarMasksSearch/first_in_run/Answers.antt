@@ -4,7 +4,7 @@ use Rattle.channel_tables.specs.Tables.{ChannelTable}
 use Rattle.nbhd_check.specs.Runs.{wide}
 use Rattle.nbhd_check.proofs.Prefixes.{window_at}
 use Rattle.nbhd_check.proofs.Suffixes.{front_two}
-use Rattle.nbhd_check.proofs.ThirdBlocks.{at_block}
+use Rattle.nbhd_check.proofs.ThirdFamilies.{at_family}
 use Rattle.nbhd_check.proofs.far_masks.FarMasksSearch.first_in_run.Goals as goal
 
 -- a window of the table, at the level that is computed
@@ -45,7 +45,7 @@ pub first_from-requires : goal.first_from-requires
 first_from-requires c =
     let t = c.args.self.now.table.now in (
       c.args.window.now,
-      at_block t (c.args.run * wide t) c.args.window.now c.rounds-below.result c.shape-shape.result.ids c.run_start-first.result c.run_places-places.result
+      at_family t (c.args.run * wide t) c.args.window.now c.rounds-below.result c.shape-shape.result.ids c.run_start-first.result c.run_places-places.result
           c.place_in_run.result (c.rounds-below.ensures ∙ c.shape-shape.ensures.rounds) c.shape-shape.ensures.ids c.args.self.now.some c.requires
           (window_at c.numbers_of_windows.ensures (2 * t.rounds + 1) t.ids _ c.args.window.now c.requires) c.run_start-first.ensures c.run_places-places.ensures
           c.place_in_run.ensures.value,

@@ -1,6 +1,6 @@
 use Rattle.std.proofs.Common.{◌≡◌, ◌<◌, ◌≤◌, drop, get_or}
 use Rattle.nbhd_check.specs.FarSearch.{AreFarFreeIn}
-use Rattle.nbhd_check.proofs.far_counts.Block.free_with_first.Given as goal
+use Rattle.nbhd_check.proofs.far_counts.Family.free_with_first.Given as goal
 
 -- the windows with a second identifier before this one are searched
 abbrev pub invariant-loop-second : goal.invariant-loop-second

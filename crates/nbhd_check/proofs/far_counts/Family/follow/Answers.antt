@@ -2,16 +2,16 @@ use Rattle.std.proofs.Common.{◌≡◌, ◌≢◌, ℕ, ◌+◌, ◌*◌, ◌�
 use Rattle.std.proofs.lemmas.Bool.{false≢true}
 use Rattle.win_index.specs.Windows.{IsWindow}
 use Rattle.nbhd_check.specs.Counts.{shared_len}
-use Rattle.nbhd_check.specs.declared.far_counts.Block.{Block}
+use Rattle.nbhd_check.specs.declared.far_counts.Family.{Family}
 use Rattle.nbhd_check.proofs.Ends.{window_before, before_window}
-use Rattle.nbhd_check.proofs.far_counts.Block.follow.Goals as goal
+use Rattle.nbhd_check.proofs.far_counts.Family.follow.Goals as goal
 
 -- a window's first two identifiers differ and are not among the shared ones
-apart : (block : Block) (first second : ℕ) → IsWindow (2 * block.table.now.rounds + 1) block.table.now.ids (first ∷ second ∷ block.shared.now)
-    → (first ≢ second) × (¬ Contains block.shared.now first) × (¬ Contains block.shared.now second)
-apart block first second is =
-    let size : 2 * block.table.now.rounds + 1 ≡ shared_len block.table.now + 2 = omega (arith, block.some.0) in
-    before_window (shared_len block.table.now) block.table.now.ids first second block.shared.now (subst (λ k. IsWindow k block.table.now.ids (first ∷ second ∷ block.shared.now)) size is)
+apart : (family : Family) (first second : ℕ) → IsWindow (2 * family.table.now.rounds + 1) family.table.now.ids (first ∷ second ∷ family.shared.now)
+    → (first ≢ second) × (¬ Contains family.shared.now first) × (¬ Contains family.shared.now second)
+apart family first second is =
+    let size : 2 * family.table.now.rounds + 1 ≡ shared_len family.table.now + 2 = omega (arith, family.some.0) in
+    before_window (shared_len family.table.now) family.table.now.ids first second family.shared.now (subst (λ k. IsWindow k family.table.now.ids (first ∷ second ∷ family.shared.now)) size is)
 
 pub returns-then-first-second : goal.returns-then-first-second
 returns-then-first-second c = (

@@ -1,4 +1,4 @@
--- The blocks of the third windows after the windows of a run.
+-- The families of the third windows after the windows of a run.
 use Rattle.std.proofs.Common.{◌≡◌, ℕ, ◌+◌, ◌-◌, ◌*◌, ◌<◌, ◌≤◌, Option, Some, None, List, [], ◌∷◌, ◌++◌, length, get_or, set, take, drop, slice_get, slice_index, subst, sym, ap, ◌∙◌, arith, refl, ⊎_elim, length-drop, length-set}
 use Rattle.std.proofs.Math.Nat.{mul-le-mul_left}
 use Rattle.std.proofs.lemmas.Bool.{cases_lt}
@@ -13,26 +13,26 @@ use Rattle.win_index.specs.Successor.{IsNext}
 use Rattle.win_index.specs.Windows.{unused, windows, IsWindow}
 use Rattle.win_index.specs.declared.series.RunPlaces.{RunPlaces}
 use Rattle.channel_tables.specs.Tables.{ChannelTable, channel_of, windows_of}
-use Rattle.nbhd_check.specs.Counts.{shared_len, shared_lists, block_len}
-use Rattle.nbhd_check.specs.FarSearch.{IsAtBlock}
+use Rattle.nbhd_check.specs.Counts.{shared_len, shared_lists, family_len}
+use Rattle.nbhd_check.specs.FarSearch.{IsAtFamily}
 use Rattle.nbhd_check.specs.Laws.{WindowsAreNumbered}
 use Rattle.nbhd_check.specs.Masks.{NoneClose}
 use Rattle.nbhd_check.specs.Runs.{BeginsFarTuple, wide}
 use Rattle.nbhd_check.proofs.Close.{close_along}
-use Rattle.nbhd_check.proofs.FarFree.{block_is, block_within, some_product}
+use Rattle.nbhd_check.proofs.FarFree.{family_is, family_within, some_product}
 use Rattle.nbhd_check.proofs.Prefixes.{place_of_last, in_run, one_run, window_at, window_take, window_drop}
 use Rattle.nbhd_check.proofs.Ranks.{rank, lacks, rank_mono, rank_rises}
 use Rattle.nbhd_check.proofs.RunLengths.{two_more}
 use Rattle.nbhd_check.proofs.Runs.{channel_at}
-use Rattle.nbhd_check.proofs.Suffixes.{block_in, number_of_third, shared_cut_two}
+use Rattle.nbhd_check.proofs.Suffixes.{family_in, number_of_third, shared_cut_two}
 
--- no third window is close to the channel of a window if none of their block is
-pub free_in_block :
-    (laws : WindowsAreNumbered) (counts : CountOfWindows) (t : ChannelTable) (distance block number : ℕ) (window : List ℕ) → 1 ≤ t.rounds
-    → slice_get (windows_of t) number ≡ Some window → slice_get (shared_lists t) block ≡ Some (drop 2 window)
-    → NoneClose t.entries (block_len t) distance block (get_or t.entries number 0) → ¬ BeginsFarTuple t distance window
+-- no third window is close to the channel of a window if none of their family is
+pub free_in_family :
+    (laws : WindowsAreNumbered) (counts : CountOfWindows) (t : ChannelTable) (distance family number : ℕ) (window : List ℕ) → 1 ≤ t.rounds
+    → slice_get (windows_of t) number ≡ Some window → slice_get (shared_lists t) family ≡ Some (drop 2 window)
+    → NoneClose t.entries (family_len t) distance family (get_or t.entries number 0) → ¬ BeginsFarTuple t distance window
 unfolding BeginsFarTuple
-free_in_block laws counts t distance block number window some item at' none far =
+free_in_family laws counts t distance family number window some item at' none far =
     let len : ℕ = 2 * t.rounds + 1 in
     let shared : ℕ = shared_len t in
     let channel : ℕ = get_or t.entries number 0 in
@@ -46,20 +46,20 @@ free_in_block laws counts t distance block number window some item at' none far 
     let front : take shared third ≡ drop 2 window =
     take-take shared len (drop 2 tuple) (omega arith) ∙ sym (drop-take 2 shared tuple) ∙ ap (λ l. drop 2 (take l tuple)) (sym len_is) ∙ ap (drop 2) begins in
     let size = sym (two_more (t.ids - shared) 2 (t.ids - shared) refl refl) in
-    let within = block_within t block (block_len t) counts some size (slice_get_within (shared_lists t) block (drop 2 window) at') in
-    let found = (block_is laws t (drop 2 window) block (block_len t) some at' size within).stands third is_third front in
+    let within = family_within t family (family_len t) counts some size (slice_get_within (shared_lists t) family (drop 2 window) at') in
+    let found = (family_is laws t (drop 2 window) family (family_len t) some at' size within).stands third is_third front in
     let n : ℕ = found.0 in
-    let place : ℕ = n - block * block_len t in
-    let number_is : block * block_len t + place ≡ n = omega (arith, found.1) in
+    let place : ℕ = n - family * family_len t in
+    let number_is : family * family_len t + place ≡ n = omega (arith, found.1) in
     let near : abs_diff channel (get_or t.entries n 0) < distance =
     close_along distance (channel_of t (part_at t.rounds 0 tuple)) (channel_of t third) (Some channel) (Some (get_or t.entries n 0))
     (ap (channel_of t) far.2 ∙ channel_at laws t number window item) (channel_at laws t n third found.3) far.3 in
     none place (omega (arith, found.2)) (subst (λ i. abs_diff channel (get_or t.entries i 0) < distance) (sym number_is) near)
 
-module _ (laws : WindowsAreNumbered) (t : ChannelTable) (number : ℕ) (window : List ℕ) (first : ℕ) (places : RunPlaces) (place : ℕ) (some : 1 ≤ t.rounds) (own : IsAtBlock t number window first places place) where
-  -- the block of the window's third windows
-  pub block_at : slice_get (shared_lists t) (first + place) ≡ Some (drop 2 window)
-  block_at =
+module _ (laws : WindowsAreNumbered) (t : ChannelTable) (number : ℕ) (window : List ℕ) (first : ℕ) (places : RunPlaces) (place : ℕ) (some : 1 ≤ t.rounds) (own : IsAtFamily t number window first places place) where
+  -- the family of the window's third windows
+  pub family_at : slice_get (shared_lists t) (first + place) ≡ Some (drop 2 window)
+  family_at =
       let k : ℕ = shared_len t in
       let last : k + 1 ≡ 2 * t.rounds = omega arith in
       number_of_third t window first place some (window_at laws (2 * t.rounds + 1) t.ids number window own.item) own.starts
@@ -81,13 +81,13 @@ module _ (laws : WindowsAreNumbered) (t : ChannelTable) (number : ℕ) (window :
       omega (arith, rises, own.at_place.place_is, own.at_place.run_has.end)
 
   -- the same for the next window of the run
-  pub next_block : (run next : ℕ) (found : Option ℕ) → next ≡ unwrap_or found place → run * wide t ≤ number → number + 1 < run * wide t + wide t
+  pub next_family : (run next : ℕ) (found : Option ℕ) → next ≡ unwrap_or found place → run * wide t ≤ number → number + 1 < run * wide t + wide t
       → run * wide t + wide t ≤ length (windows_of t)
       → IfSome found (λ next. (k m : ℕ) (window : List ℕ) → 1 ≤ k → IsAtPlace k m places window place
       → (later : List ℕ) × IsAtPlace k m places later next × (take (k + 1) later ≡ take (k + 1) window) × IsNext (k + 2) m window later)
       → IfNone found ((k m : ℕ) (window : List ℕ) → 1 ≤ k → IsAtPlace k m places window place → IsLastOfRun (k + 2) m window)
-      → (later : List ℕ) × IsAtBlock t (number + 1) later first places next
-  next_block run next (Some found) next_is from lt within after none =
+      → (later : List ℕ) × IsAtFamily t (number + 1) later first places next
+  next_family run next (Some found) next_is from lt within after none =
       let k : ℕ = shared_len t in
       let len : k + 2 ≡ 2 * t.rounds + 1 = omega arith in
       let front : k + 1 ≡ 2 * t.rounds = omega arith in
@@ -101,7 +101,7 @@ module _ (laws : WindowsAreNumbered) (t : ChannelTable) (number : ℕ) (window :
           starts = subst (λ l. IsRunStart (2 * (t.rounds - 1)) t.ids (drop 2 l) first) (sym same) own.starts;
         },
       )
-  next_block run next None next_is from lt within after none =
+  next_family run next None next_is from lt within after none =
       let k : ℕ = 2 * t.rounds in
       let m = t.ids in
       let len : shared_len t + 2 ≡ k + 1 = omega arith in
@@ -134,21 +134,21 @@ module _ (laws : WindowsAreNumbered) (t : ChannelTable) (number : ℕ) (window :
       let same : place_of_last k later ≡ rank (take k window) x = ap (λ l. rank l x) front in
       absurd (omega (arith, mono, same, here_number, there_number, ap (λ r. r * wide t) same_here, ap (λ r. r * wide t) same_there))
 
--- a block has a small number
-pub block_few : (counts : CountOfWindows) (t : ChannelTable) (block : ℕ) (list : List ℕ) → 1 ≤ t.rounds → 2 * t.rounds + 2 ≤ t.ids
-    → length t.entries ≡ length (windows_of t) → slice_get (shared_lists t) block ≡ Some list → block < length t.entries
-block_few counts t block list some enough full at' =
+-- a family has a small number
+pub family_few : (counts : CountOfWindows) (t : ChannelTable) (family : ℕ) (list : List ℕ) → 1 ≤ t.rounds → 2 * t.rounds + 2 ≤ t.ids
+    → length t.entries ≡ length (windows_of t) → slice_get (shared_lists t) family ≡ Some list → family < length t.entries
+family_few counts t family list some enough full at' =
     let wide : ℕ = t.ids - shared_len t in
-    let len : 1 ≤ block_len t = some_product wide (wide - 1) (omega arith) (omega arith) in
-    omega (arith, block_in counts t block list some full at', mul-le-mul_left block len)
+    let len : 1 ≤ family_len t = some_product wide (wide - 1) (omega arith) (omega arith) in
+    omega (arith, family_in counts t family list some full at', mul-le-mul_left family len)
 
--- the block of a run's first window, as the code numbers it
-pub at_block : (t : ChannelTable) (number : ℕ) (window : List ℕ) (rounds ids first : ℕ) (places : RunPlaces) (place : ℕ) → rounds ≡ t.rounds → ids ≡ t.ids
+-- the family of a run's first window, as the code numbers it
+pub at_family : (t : ChannelTable) (number : ℕ) (window : List ℕ) (rounds ids first : ℕ) (places : RunPlaces) (place : ℕ) → rounds ≡ t.rounds → ids ≡ t.ids
     → 1 ≤ t.rounds → slice_get (windows_of t) number ≡ Some window → IsWindow (2 * t.rounds + 1) t.ids window
     → IsRunStart (2 * (rounds - 1)) ids (take (2 * (rounds - 1) + 2 - 2) (drop 2 window)) first
     → HasPlaces (2 * (rounds - 1) + 1) ids window places
-    → place ≡ place_in_run (2 * (rounds - 1) + 1) window (slice_index window (2 * (rounds - 1) + 2)) → IsAtBlock t number window first places place
-at_block t number window rounds ids first places place rounds_is ids_is some item is run has place_is =
+    → place ≡ place_in_run (2 * (rounds - 1) + 1) window (slice_index window (2 * (rounds - 1) + 2)) → IsAtFamily t number window first places place
+at_family t number window rounds ids first places place rounds_is ids_is some item is run has place_is =
     let k : ℕ = shared_len t in
     let starts : IsRunStart (2 * (t.rounds - 1)) t.ids (take (2 * (t.rounds - 1) + 2 - 2) (drop 2 window)) first = rw (rounds_is, ids_is) at run in
     let own : HasPlaces k t.ids window places = rw (rounds_is, ids_is) at has in
@@ -167,14 +167,14 @@ at_block t number window rounds ids first places place rounds_is ids_is some ite
           (ap (λ n. take n (drop 2 window)) back ∙ shared_cut_two t t.rounds window refl some) starts;
     }
 
-pub blocks_few : (counts : CountOfWindows) (t : ChannelTable) → 1 ≤ t.rounds → 2 * t.rounds + 2 ≤ t.ids → length (shared_lists t) ≤ length (windows_of t)
-blocks_few counts t some enough =
+pub families_few : (counts : CountOfWindows) (t : ChannelTable) → 1 ≤ t.rounds → 2 * t.rounds + 2 ≤ t.ids → length (shared_lists t) ≤ length (windows_of t)
+families_few counts t some enough =
     let wide : ℕ = t.ids - shared_len t in
-    let len : 1 ≤ block_len t = some_product wide (wide - 1) (omega arith) (omega arith) in
+    let len : 1 ≤ family_len t = some_product wide (wide - 1) (omega arith) (omega arith) in
     ⊎_elim
     (λ (is : 0 < length (shared_lists t)).
     let last : ℕ = length (shared_lists t) - 1 in
-    let within = block_within t last (block_len t) counts some (sym (two_more (t.ids - shared_len t) 2 (t.ids - shared_len t) refl refl)) (omega arith) in
+    let within = family_within t last (family_len t) counts some (sym (two_more (t.ids - shared_len t) 2 (t.ids - shared_len t) refl refl)) (omega arith) in
     omega (arith, within, mul-le-mul_left last len))
     (λ (none : length (shared_lists t) ≤ 0). omega arith)
     (cases_lt 0 (length (shared_lists t)))

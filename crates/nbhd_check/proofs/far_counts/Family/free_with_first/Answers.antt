@@ -2,8 +2,8 @@ use Rattle.std.proofs.Common.{◌≡◌, ℕ, ◌+◌, ◌∷◌, ◌<◌, drop,
 use Rattle.std.proofs.lemmas.Bool.{false≢true}
 use Rattle.nbhd_check.specs.FarSearch.{AreFarFreeIn}
 use Rattle.nbhd_check.proofs.FarFree.{more_seconds, all_seconds, none_at}
-use Rattle.nbhd_check.proofs.far_counts.Block.free_with_first.Goals.{then-follow, else-follow}
-use Rattle.nbhd_check.proofs.far_counts.Block.free_with_first.Goals as goal
+use Rattle.nbhd_check.proofs.far_counts.Family.free_with_first.Goals.{then-follow, else-follow}
+use Rattle.nbhd_check.proofs.far_counts.Family.free_with_first.Goals as goal
 
 pub loop-second-preserved : goal.loop-second-preserved
 loop-second-preserved c =

@@ -1,7 +1,7 @@
 use Rattle.std.proofs.Common.{length, drop, subst, sym, ap, ◌∙◌}
 use Rattle.std.proofs.lemmas.List.{take_at}
 use Rattle.nbhd_check.specs.Counts.{AreSums}
-use Rattle.nbhd_check.proofs.counts.count_block.Goals as goal
+use Rattle.nbhd_check.proofs.counts.count_family.Goals as goal
 
 pub returns-clause-counts : goal.returns-clause-counts
 returns-clause-counts c =

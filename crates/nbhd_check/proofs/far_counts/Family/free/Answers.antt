@@ -1,7 +1,7 @@
 use Rattle.std.proofs.Common.{◌<◌, ◌≤◌, get_or, arith, inl, inr, ⊎_elim}
 use Rattle.std.proofs.lemmas.Bool.{cases_lt}
 use Rattle.nbhd_check.proofs.FarFree.{free_in_two, all_firsts}
-use Rattle.nbhd_check.proofs.far_counts.Block.free.Goals as goal
+use Rattle.nbhd_check.proofs.far_counts.Family.free.Goals as goal
 
 pub returns-then-start_of-from-clause-free : goal.returns-then-start_of-from-clause-free
 returns-then-start_of-from-clause-free c = λ number window below item own.

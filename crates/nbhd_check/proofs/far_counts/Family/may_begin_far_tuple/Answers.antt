@@ -4,20 +4,20 @@ use Rattle.std.proofs.lemmas.Bool.{OnFalse_from, ltb-false}
 use Rattle.win_index.specs.Windows.{IsWindow}
 use Rattle.nbhd_check.specs.Counts.{held_count, shared_len}
 use Rattle.nbhd_check.specs.Runs.{BeginsFarTuple}
-use Rattle.nbhd_check.specs.declared.far_counts.Block.{Block}
+use Rattle.nbhd_check.specs.declared.far_counts.Family.{Family}
 use Rattle.nbhd_check.proofs.Ends.{window_moved}
 use Rattle.nbhd_check.proofs.FarCounts.{none_far}
 use Rattle.nbhd_check.proofs.Prefixes.{number_of_window}
-use Rattle.nbhd_check.proofs.far_counts.Block.may_begin_far_tuple.Goals as goal
+use Rattle.nbhd_check.proofs.far_counts.Family.may_begin_far_tuple.Goals as goal
 
 -- the shared identifiers followed by the two, in either order
-moved : (block : Block) (first second i j : ℕ) → IsWindow (2 * block.table.now.rounds + 1) block.table.now.ids (first ∷ second ∷ block.shared.now) → i < 2 → j < 2 → i ≢ j
-    → IsWindow (2 * block.table.now.rounds + 1) block.table.now.ids (block.shared.now ++ get_or (first ∷ second ∷ block.shared.now) i 0 ∷ get_or (first ∷ second ∷ block.shared.now) j 0 ∷ [])
-moved block first second i j is in_i in_j other =
-    let t = block.table.now in
-    let window = first ∷ second ∷ block.shared.now in
-    let size : 2 * t.rounds + 1 ≡ shared_len t + 2 = omega (arith, block.some.0) in
-    subst (λ k. IsWindow k t.ids (block.shared.now ++ get_or window i 0 ∷ get_or window j 0 ∷ [])) (sym size)
+moved : (family : Family) (first second i j : ℕ) → IsWindow (2 * family.table.now.rounds + 1) family.table.now.ids (first ∷ second ∷ family.shared.now) → i < 2 → j < 2 → i ≢ j
+    → IsWindow (2 * family.table.now.rounds + 1) family.table.now.ids (family.shared.now ++ get_or (first ∷ second ∷ family.shared.now) i 0 ∷ get_or (first ∷ second ∷ family.shared.now) j 0 ∷ [])
+moved family first second i j is in_i in_j other =
+    let t = family.table.now in
+    let window = first ∷ second ∷ family.shared.now in
+    let size : 2 * t.rounds + 1 ≡ shared_len t + 2 = omega (arith, family.some.0) in
+    subst (λ k. IsWindow k t.ids (family.shared.now ++ get_or window i 0 ∷ get_or window j 0 ∷ [])) (sym size)
     (window_moved (shared_len t) t.ids i j window (subst (λ k. IsWindow k t.ids window) size is) in_i in_j other)
 
 pub close_count-with_first-requires-clause-x : goal.close_count-with_first-requires-clause-x
@@ -45,7 +45,7 @@ returns c =
     let second = number_of_window laws len t.ids (z ++ b ∷ a ∷ []) (moved c.args.self a b 1 0 c.requires.window (omega arith) (omega arith) (λ e. omega (arith, e))) in
     let low = c.requires.counted.0 in
     let n = c.requires.counted.1.0 in
-    let block = c.requires.counted.1.1.0 in
+    let family = c.requires.counted.1.1.0 in
     let sums = c.requires.counted.1.1.1 in
     let count : ℕ → ℕ = λ x. held_count t low n x (λ other. nat_lt (abs_diff c.args.channel other) c.args.self.distance) in
     let ids_is : c.ids.result ≡ t.ids = c.ids.ensures ∙ c.shape.ensures.ids in
@@ -55,5 +55,5 @@ returns c =
     OnFalse_from (nat_lt held close) (¬ BeginsFarTuple t c.args.self.distance window)
     (λ no.
     none_far laws t c.args.self.distance c.args.channel low n first.0 second.0 c.close_one-one.result c.close_one-other.result window c.args.self.some.0 c.requires.window
-    c.requires.channel block first.1 second.1 (c.close_one-one.ensures.close first.0 first.1) (c.close_one-other.ensures.close second.0 second.1)
+    c.requires.channel family first.1 second.1 (c.close_one-one.ensures.close first.0 first.1) (c.close_one-other.ensures.close second.0 second.1)
     (omega (arith, ltb-false held close no, all_is, c.close_count-with_first.ensures low n sums, c.close_count-with_second.ensures low n sums)))

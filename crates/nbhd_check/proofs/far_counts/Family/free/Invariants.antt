@@ -1,6 +1,6 @@
 use Rattle.std.proofs.Common.{◌≡◌, ◌<◌, ◌≤◌, drop, get_or}
 use Rattle.nbhd_check.specs.FarSearch.{AreFarFreeIn}
-use Rattle.nbhd_check.proofs.far_counts.Block.free.Given as goal
+use Rattle.nbhd_check.proofs.far_counts.Family.free.Given as goal
 
 -- the windows with a first identifier before this one are searched
 abbrev pub invariant-loop-first : goal.invariant-loop-first
