@@ -512,7 +512,8 @@ DASH = "nbhd: the name of an option has two minus signs before it, and no dash, 
 CAPITAL = "nbhd: the names of options have small letters, as in `--ids 8`\n"
 OTHER_IDS = "nbhd: the number of identifiers is given by `--ids`\n"
 NO_NUMBER = (
-    "nbhd: numbers are in digits: `--ids` 2 to 1024, `--near` 1 to 4096, `--far` 0 to 4096, `--workers` and `--segments` 1 to 64\n"
+    "nbhd: numbers are in digits: `--ids` 2 to 1024, `--rounds` 0 to 4, `--channels` and `--near` 1 to 4096, `--far` 0 to 4096, "
+    "`--workers` and `--segments` 1 to 64, `--place` from 0 on, `--base` 2 to 10\n"
 )
 NO_TIP = "For more information, try '--help'.\n"
 TIPS = [
@@ -529,6 +530,10 @@ TIPS = [
     ("judge --ids eight", NO_NUMBER),
     ("judge --ids 8 --near none", NO_NUMBER),
     ("table --ids 8 --workers all", NO_NUMBER),
+    ("explain --ids 8 --ring 5,1,3,7 --place first", NO_NUMBER),
+    ("trace --ids 8 --ring 5,1,3,7 --base two", NO_NUMBER),
+    ("formula --ids 8 --rounds one --channels 3", NO_NUMBER),
+    ("refute --ids 8 --rounds 1 --channels three", NO_NUMBER),
     ("audit cv1.table.txt", TABLE_NAME),
     ("migrate old.table", TABLE_NAME),
     ("judge -ids 8", ONE_MINUS),

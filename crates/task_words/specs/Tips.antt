@@ -51,8 +51,9 @@ is_other_ids word = bytes_eq word (codes "--n") || (bytes_eq word (codes "--m") 
 
 -- whether a word is an option that takes a number
 abbrev pub takes_number : List ℕ → Bool
-takes_number word = bytes_eq word (codes "--ids") || (bytes_eq word (codes "--near") || (bytes_eq word (codes "--far")
-    || (bytes_eq word (codes "--workers") || bytes_eq word (codes "--segments"))))
+takes_number word = bytes_eq word (codes "--ids") || (bytes_eq word (codes "--rounds") || (bytes_eq word (codes "--channels")
+    || (bytes_eq word (codes "--near") || (bytes_eq word (codes "--far") || (bytes_eq word (codes "--workers")
+    || (bytes_eq word (codes "--segments") || (bytes_eq word (codes "--place") || bytes_eq word (codes "--base"))))))))
 
 -- whether a word begins neither with a digit nor with a minus sign
 abbrev pub is_no_number : List ℕ → Bool

@@ -37,7 +37,7 @@ pub enum Tip {
     #[error("nbhd: the number of identifiers is given by `--ids`")]
     OtherIds,
     /// A word that is no number, as the value of an option that takes one.
-    #[error("nbhd: numbers are in digits: `--ids` 2 to 1024, `--near` 1 to 4096, `--far` 0 to 4096, `--workers` and `--segments` 1 to 64")]
+    #[error("nbhd: numbers are in digits: `--ids` 2 to 1024, `--rounds` 0 to 4, `--channels` and `--near` 1 to 4096, `--far` 0 to 4096, `--workers` and `--segments` 1 to 64, `--place` from 0 on, `--base` 2 to 10")]
     NoNumber,
 }
 
@@ -154,10 +154,14 @@ fn takes_number(word: &str) -> bool
     ensures { result ≡ tips.takes_number word.now }
 {
     word == "--ids"
+        || word == "--rounds"
+        || word == "--channels"
         || word == "--near"
         || word == "--far"
         || word == "--workers"
         || word == "--segments"
+        || word == "--place"
+        || word == "--base"
 }
 
 // Returns whether a word begins neither with a digit nor with a minus sign.
