@@ -1,3 +1,5 @@
+//! How a place of a ring computes, round by round: each expression of the program as a tree.
+
 ghost use Rattle.std.specs.Prelude.{◌≡◌, ◌+◌, ◌++◌, ◌<◌, ◌≤◌, All, IfOk, OnOk, codes, length, map, string_bytes};
 ghost use Rattle.node_program.specs.Term.{depth, term_of, step_of, terms_of_step};
 ghost use Rattle.node_program.specs.Limits.{IsSmall, IsWithinLimits};
@@ -16,6 +18,14 @@ use std::alloc::{AllocError, Global};
 use std::fmt::Write;
 use win_index::Ring;
 
+// A place that is explained, the base of its numbers, and the memory that they take.
+#[derive(Clone, Copy)]
+struct Explained {
+    alloc: Global,
+    base: Base,
+    place: u32,
+}
+
 /// Returns how a place of a ring computes by a plan: each expression of the program in the order of
 /// the text, under a heading, as a tree with the value of every part. The ring must have the plan's
 /// number of identifiers. Fails with `OutOfMemory` if memory was refused.
@@ -30,18 +40,13 @@ pub fn explanation_text(
     requires place { place < length ring.now.places }
     ensures { IfOk result (λ text. string_bytes text ≡ explanation base plan.now.program ring.now.places place) }
 {
+    let explained = Explained { alloc, base, place };
     let mut text = String::new(alloc);
     let mut places = Configuration::new(alloc, plan, ring)?;
     let program = plan.program();
-    write_assigned(
-        alloc,
-        &mut text,
-        base,
-        knowing(ring.id(place)),
-        0,
-        program.start(),
-    )?;
-    write_rounds(alloc, &mut text, base, program.steps(), &mut places, place)?;
+    let known = knowing(ring.id(place));
+    write_assigned(&mut text, explained, known, 0, program.start())?;
+    write_rounds(&mut text, explained, program.steps(), &mut places)?;
     text.push_str("finish")?;
     let last = places.held_by(place);
     write_under(
@@ -107,21 +112,20 @@ pub(crate) fn write_phase(text: &mut String, rounds: u32) -> Result<(), AllocErr
 
 // Appends the assignments that give the registers after this many rounds.
 fn write_assigned(
-    alloc: Global,
     text: &mut String,
-    base: Base,
+    explained: Explained,
     env: Env<'_>,
     rounds: u32,
     expressions: &[Expr],
 ) -> Result<(), AllocError>
     requires { All IsSmall (map term_of expressions.now) }
     ensures { OnOk result (string_bytes text.new
-        ≡ string_bytes text.old ++ assigned_lines rounds base (env_of env.entry) 0 (map term_of expressions.now)) }
+        ≡ string_bytes text.old ++ assigned_lines rounds explained.base (env_of env.entry) 0 (map term_of expressions.now)) }
 {
     'registers: for (register, expression) in expressions.iter().enumerate() {
         write_phase(text, rounds)?;
         write!(text, " r{register}")?;
-        write_under(alloc, text, base, env, expression)?;
+        write_under(explained.alloc, text, explained.base, env, expression)?;
     }
     Ok(())
 }
@@ -152,21 +156,20 @@ fn from_right(places: &Configuration<'_>, place: u32) -> u32
 
 // Appends the next round of a place, whose number is `number`.
 fn write_round(
-    alloc: Global,
     text: &mut String,
-    base: Base,
+    explained: Explained,
     round: &Round,
     number: u32,
     places: &Configuration<'_>,
-    place: u32,
 ) -> Result<(), AllocError>
     requires small { All IsSmall (terms_of_step (step_of round.now)) }
     requires number { number ≡ places.now.round + 1 }
     requires more { places.now.round < length places.now.program.steps }
-    requires place { place < length places.now.places }
+    requires place { explained.place < length places.now.places }
     ensures { OnOk result (string_bytes text.new ≡ string_bytes text.old
-        ++ round_trees base places.now.program places.now.places place places.now.round (step_of round.now)) }
+        ++ round_trees explained.base places.now.program places.now.places explained.place places.now.round (step_of round.now)) }
 {
+    let Explained { alloc, base, place } = explained;
     let own = places.held_by(place);
     write_phase(text, number)?;
     text.push_str(" left")?;
@@ -176,35 +179,27 @@ fn write_round(
     write_under(alloc, text, base, reading(own, 0, 0), &round.right)?;
     let left = from_left(places, place);
     let right = from_right(places, place);
-    write_assigned(
-        alloc,
-        text,
-        base,
-        reading(own, left, right),
-        number,
-        &round.next,
-    )
+    let read = reading(own, left, right);
+    write_assigned(text, explained, read, number, &round.next)
 }
 
 // Appends all rounds of a place, and does them.
 fn write_rounds(
-    alloc: Global,
     text: &mut String,
-    base: Base,
+    explained: Explained,
     rounds: &[Round],
     places: &mut Configuration<'_>,
-    place: u32,
 ) -> Result<(), AllocError>
     requires limits { IsWithinLimits places.old.program }
     requires rounds { map step_of rounds.now ≡ places.old.program.steps }
     requires start { places.old.round ≡ 0 }
-    requires place { place < length places.old.places }
+    requires place { explained.place < length places.old.places }
     ensures text { OnOk result (string_bytes text.new ≡ string_bytes text.old
-        ++ rounds_trees base places.old.program places.old.places place 0 places.old.program.steps) }
+        ++ rounds_trees explained.base places.old.program places.old.places explained.place 0 places.old.program.steps) }
     ensures done { OnOk result (places.new ≡ record places.old { round = length places.old.program.steps }) }
 {
     'rounds: for (done, round) in rounds.iter().enumerate() {
-        write_round(alloc, text, base, round, done as u32 + 1, places, place)?;
+        write_round(text, explained, round, done as u32 + 1, places)?;
         places.advance();
     }
     Ok(())

@@ -11,6 +11,13 @@ use numerals::{Base, Form, form_of, write_number};
 use round_eval::value_of;
 use std::alloc::{AllocError, Global};
 
+// What the parts of a tree share: the form of their values, and what they read.
+#[derive(Clone, Copy)]
+struct Shared<'a> {
+    form: Form,
+    env: Env<'a>,
+}
+
 // Appends the tree of an expression in this base, below a heading.
 pub(crate) fn write_tree(
     alloc: Global,
@@ -25,7 +32,7 @@ pub(crate) fn write_tree(
     let mut values = Vec::new(alloc);
     push_values(&mut values, env, expression)?;
     let form = form_of(alloc, base, &values)?;
-    write_parts(alloc, text, form, env, 1, expression)
+    write_parts(alloc, text, Shared { form, env }, 1, expression)
 }
 
 // Appends the values of the parts of an expression.
@@ -52,26 +59,25 @@ fn push_values(values: &mut Vec<u32>, env: Env<'_>, expression: &Expr) -> Result
 fn write_parts(
     alloc: Global,
     text: &mut String,
-    form: Form,
-    env: Env<'_>,
+    shared: Shared<'_>,
     level: u32,
     expression: &Expr,
 ) -> Result<(), AllocError>
     requires { level + depth (term_of expression.now) < 2 ^ 32 }
-    ensures { OnOk result (string_bytes text.new ≡ string_bytes text.old ++ part_lines form (env_of env.entry) level (term_of expression.now)) }
+    ensures { OnOk result (string_bytes text.new ≡ string_bytes text.old ++ part_lines shared.entry.form (env_of shared.entry.env) level (term_of expression.now)) }
 {
-    write_part(alloc, text, form, env, level, expression)?;
+    write_part(alloc, text, shared, level, expression)?;
     match expression {
         Expr::Number(_) | Expr::Id | Expr::FromLeft | Expr::FromRight | Expr::Register(_) => Ok(()),
-        Expr::One(_, a) => write_parts(alloc, text, form, env, level + 1, a),
+        Expr::One(_, a) => write_parts(alloc, text, shared, level + 1, a),
         Expr::Two(_, a, b) => {
-            write_parts(alloc, text, form, env, level + 1, a)?;
-            write_parts(alloc, text, form, env, level + 1, b)
+            write_parts(alloc, text, shared, level + 1, a)?;
+            write_parts(alloc, text, shared, level + 1, b)
         }
         Expr::Choose(c, a, b) => {
-            write_parts(alloc, text, form, env, level + 1, c)?;
-            write_parts(alloc, text, form, env, level + 1, a)?;
-            write_parts(alloc, text, form, env, level + 1, b)
+            write_parts(alloc, text, shared, level + 1, c)?;
+            write_parts(alloc, text, shared, level + 1, a)?;
+            write_parts(alloc, text, shared, level + 1, b)
         }
     }
 }
@@ -80,17 +86,16 @@ fn write_parts(
 fn write_part(
     alloc: Global,
     text: &mut String,
-    form: Form,
-    env: Env<'_>,
+    shared: Shared<'_>,
     level: u32,
     expression: &Expr,
 ) -> Result<(), AllocError>
-    ensures { OnOk result (string_bytes text.new ≡ string_bytes text.old ++ part_line form (env_of env.entry) level (term_of expression.now)) }
+    ensures { OnOk result (string_bytes text.new ≡ string_bytes text.old ++ part_line shared.entry.form (env_of shared.entry.env) level (term_of expression.now)) }
 {
     write_blanks(text, level)?;
     write_word(text, expression)?;
     text.push_str(" ")?;
-    write_number(alloc, text, form, value_of(expression, env))?;
+    write_number(alloc, text, shared.form, value_of(expression, shared.env))?;
     text.push_str("\n")
 }
 

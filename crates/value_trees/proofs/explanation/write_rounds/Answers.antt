@@ -15,10 +15,10 @@ write_round-requires-clause-small c =
 -- One more round was written and done.
 pub rounds-preserved : goal.rounds-preserved
 rounds-preserved c =
-    let b = c.args.base in
+    let b = c.args.explained.base in
     let p = c.args.places.now.program in
     let x = c.args.places.now.places in
-    let i = c.args.place in
+    let i = c.args.explained.place in
     let e = c.index-rounds-done in
     let was = c.rounds.invariant.done in
     let before : List ℕ = string_bytes c.rounds.text in

@@ -7,6 +7,6 @@ use Rattle.value_trees.proofs.explanation.write_rounds.Given as goal
 abbrev pub invariant-rounds : goal.invariant-rounds
 invariant-rounds l = record {
   done : l.places ≡ record l.fn.places { round = l.done };
-  text : string_bytes l.text ++ rounds_trees l.base l.fn.places.program l.fn.places.places l.place l.done (drop l.done (map step_of l.rounds))
-      ≡ string_bytes l.initial.text ++ rounds_trees l.base l.fn.places.program l.fn.places.places l.place 0 (map step_of l.rounds);
+  text : string_bytes l.text ++ rounds_trees l.explained.base l.fn.places.program l.fn.places.places l.explained.place l.done (drop l.done (map step_of l.rounds))
+      ≡ string_bytes l.initial.text ++ rounds_trees l.explained.base l.fn.places.program l.fn.places.places l.explained.place 0 (map step_of l.rounds);
 }
