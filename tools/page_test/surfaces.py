@@ -76,6 +76,8 @@ def touch(page):
         spot = page.middle(".node[data-place='2'] .disc")
         page.browser.swipe(spot)
         STEPS.equal("a node that is touched shows its window", page.count(".window.known"), 1)
+        page.wait("it shows its value too", f"{ITEMS}.length")
+        page.click("#why-close")
         chip = page.middle(".chip[aria-label='Add 6']")
         stage = page.middle("#stage svg")
         page.browser.swipe(chip, (chip[0], chip[1] - 20), (stage[0] + 60, stage[1] - 70))
@@ -237,7 +239,8 @@ def paper(page):
         print("page-test: not run: the text of the printed page, as there is no pdftotext")
         return
     long = "rounds 0\nchannels 8\nregisters 1\nstart\n" + "".join(f"# line {n} {'and more ' * 20}\n" for n in range(150)) + "r0 = id\nfinish r0\n"
-    trace = nbhd(CV1, "trace", "--ids", "8", "--ring", "5,1,3,7")
+    # The table of a trace calls the identifiers nodes.
+    trace = nbhd(CV1, "trace", "--ids", "8", "--ring", "5,1,3,7").replace("ring", "node", 1)
     runs = {"a run": ({}, CV1, trace), "a long program": ({"text": long}, long, "start r0 5 1 3 7")}
     runs["a no"] = ({"view": "judge", "example": "ldb.txt"}, LDB, "On the ring 0 1 2 3 the nodes 1 and 2 are neighbours and both have channel 0.")
     runs["a yes"] = ({"view": "judge"}, CV1, "On every ring of 4 to 8 distinct identifiers below 8, neighbours’ channels differ.")
@@ -284,9 +287,6 @@ ITEMS = "[...document.querySelectorAll('[role=treeitem]')]"
 
 def why(page):
     """The tree of a node, by mouse, finger and keys, in both bases and at each kind of step."""
-    if "explain" not in nbhd("", "--help"):
-        print("page-test: not run: why, as nbhd has no explain")
-        return
     lines = nbhd(CV1, "explain", "--ids", "8", "--ring", "5,1,3,7", "--place", "1").splitlines()
     heads = [number for number, line in enumerate(lines) if not line.startswith(" ")]
     trees = {lines[a]: lines[a + 1 : b] for a, b in zip(heads, [*heads[1:], len(lines)])}

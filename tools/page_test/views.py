@@ -598,7 +598,7 @@ def long_programs(page):
             page.browser.type(key)
             page.value("document.querySelector('.ink').offsetHeight")
             spent = page.browser.spent() - before
-            STEPS.check(f"{name}: the key {key!r} takes less than 0.15 s of the processor", spent < 150, spent)
+            STEPS.check(f"{name}: the key {key!r} takes less than 0.3 s of the processor", spent < 300, spent)
         STEPS.check(f"{name}: the copy has the same text", page.value(copied))
         page.value("(e => { e.scrollTop = e.scrollHeight / 2; })(document.querySelector('#editor'))")
         sight = "document.elementsFromPoint(...(r => [r.x + 80, r.y + 100])(document.querySelector('#editor').getBoundingClientRect()))"
