@@ -1,29 +1,22 @@
 """The steps of tools/page-test: how many passed, and which did not."""
 
-import os
 import re
 import subprocess
-import threading
-from pathlib import Path
 
-ROOT = Path(__file__).resolve().parent.parent.parent
-PROGRAM = Path(os.environ.get("NBHD") or ROOT / "crates/nbhd/out/nbhd").resolve()
+from common import ROOT, Checks, program_path
+
+PROGRAM = program_path()
 CV1 = (ROOT / "examples/cv1.txt").read_text(encoding="ascii")
 LDB = (ROOT / "programs/ldb.txt").read_text(encoding="ascii")
 
 
 class Steps:
     def __init__(self):
-        self.passed, self.failed, self.lock = 0, 0, threading.Lock()
+        self.checks = Checks()
 
     def check(self, name, good, seen=""):
         """Counts a step, and prints what was seen where it failed."""
-        with self.lock:
-            if good:
-                self.passed += 1
-            else:
-                self.failed += 1
-                print(f"page-test: failed: {name} {str(seen)[:400]}", flush=True)
+        self.checks.check(good, f"page-test: failed: {name} {str(seen)[:400]}")
 
     def run(self, part, *arguments):
         """Runs a part of the test. One that breaks off counts as a failed step."""

@@ -4,7 +4,6 @@ import json
 import re
 import shutil
 import subprocess
-import time
 
 from steps import CV1, LDB, ROOT, STEPS, nbhd
 
