@@ -1,2 +1,3 @@
 pub mod Assigned
+pub mod Small
 mod LowestDifference

@@ -1,7 +1,7 @@
 ghost use Rattle.std.specs.Prelude.{◌≡◌, ◌≤◌, length, map, All};
 ghost use Rattle.node_program.specs.Term.{ProgramTree, program_tree, term_of, step_of};
 ghost use Rattle.node_program.specs.Code.{program_code};
-ghost use Rattle.node_program.specs.Limits.{IsWithinLimits};
+ghost use Rattle.node_program.specs.Limits.{IsSmall, AreSmall, IsSmallRound, IsWithinLimits};
 
 use crate::tree::{Expr, Round};
 use std::marker::Model;
@@ -69,6 +69,7 @@ impl Program {
     /// Returns the expression of each register before the first round.
     pub fn start(&self) -> &[Expr]
         ensures value { map term_of result.now ≡ self.now.start }
+        ensures small { AreSmall result.now }
         ensures limits { IsWithinLimits self.now }
     {
         &self.start
@@ -79,14 +80,17 @@ impl Program {
     pub fn steps(&self) -> &[Round]
         ensures value { map step_of result.now ≡ self.now.steps }
         ensures each { All (λ round. length round.next.items ≡ length self.now.start) result.now }
+        ensures small { All IsSmallRound result.now }
         ensures limits { IsWithinLimits self.now }
     {
         &self.steps
     }
 
     /// Returns the expression of the channel.
+    #[tactic(auto, using(crate::proofs::Small::finish_small))]
     pub fn finish(&self) -> &Expr
         ensures value { term_of result.now ≡ self.now.finish }
+        ensures small { IsSmall (term_of result.now) }
         ensures limits { IsWithinLimits self.now }
     {
         &self.finish

@@ -1,8 +1,9 @@
 //! How a place of a ring computes, round by round: each expression of the program as a tree.
 
 ghost use Rattle.std.specs.Prelude.{◌≡◌, ◌+◌, ◌++◌, ◌<◌, ◌≤◌, All, IfOk, OnOk, codes, length, map, string_bytes};
-ghost use Rattle.node_program.specs.Term.{depth, term_of, step_of, terms_of_step};
-ghost use Rattle.node_program.specs.Limits.{IsSmall, IsWithinLimits};
+ghost use Rattle.node_program.specs.Term.{depth, term_of, step_of};
+ghost use Rattle.node_program.specs.Limits.{AreSmall, IsSmallRound};
+ghost use Rattle.node_program.specs.declared.limits.TheConstants.{MAX_ROUNDS};
 ghost use Rattle.node_program.specs.Value.{env_of};
 ghost use Rattle.node_program.specs.Node as node;
 ghost use Rattle.node_program.specs.GlobalRounds.{left_of, right_of, state};
@@ -118,7 +119,7 @@ fn write_assigned(
     rounds: u32,
     expressions: &[Expr],
 ) -> Result<(), AllocError>
-    requires { All IsSmall (map term_of expressions.now) }
+    requires { AreSmall expressions.now }
     ensures { OnOk result (string_bytes text.new
         ≡ string_bytes text.old ++ assigned_lines rounds explained.base (env_of env.entry) 0 (map term_of expressions.now)) }
 {
@@ -162,7 +163,7 @@ fn write_round(
     number: u32,
     places: &Configuration<'_>,
 ) -> Result<(), AllocError>
-    requires small { All IsSmall (terms_of_step (step_of round.now)) }
+    requires small { IsSmallRound round.now }
     requires number { number ≡ places.now.round + 1 }
     requires more { places.now.round < length places.now.program.steps }
     requires place { explained.place < length places.now.places }
@@ -190,7 +191,7 @@ fn write_rounds(
     rounds: &[Round],
     places: &mut Configuration<'_>,
 ) -> Result<(), AllocError>
-    requires limits { IsWithinLimits places.old.program }
+    requires small { All IsSmallRound rounds.now × (length rounds.now ≤ MAX_ROUNDS) }
     requires rounds { map step_of rounds.now ≡ places.old.program.steps }
     requires start { places.old.round ≡ 0 }
     requires place { explained.place < length places.old.places }

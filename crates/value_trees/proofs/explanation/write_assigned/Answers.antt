@@ -1,8 +1,7 @@
-use Rattle.std.proofs.Common.{append_assoc}
+use Rattle.std.proofs.Common.{append_assoc, subst, sym}
 use Rattle.node_program.specs.Limits.{IsSmall}
 use Rattle.node_program.specs.Term.{term_of}
 use Rattle.node_lang.proofs.Writing.{next_item}
-use Rattle.value_trees.proofs.Small.{all_at}
 use Rattle.value_trees.proofs.explanation.write_assigned.Goals as goal
 
 pub registers-preserved : goal.registers-preserved
@@ -15,5 +14,6 @@ registers-preserved c =
 pub write_under-requires : goal.write_under-requires
 write_under-requires c =
     let e = c.index-expressions-register in
-    let small : IsSmall (term_of e.result) = all_at IsSmall term_of c.args.expressions.now c.registers.register-counter e.result c.registers-test.true e.is c.requires in
+    let small : IsSmall (term_of e.result) =
+    subst (λ x. IsSmall (term_of x)) (sym e.is) (c.requires c.registers.register-counter e.result c.registers-test.true) in
     small.depth

@@ -1,16 +1,15 @@
-use Rattle.std.proofs.Common.{◌+◌, ◌++◌, List, map, drop, string_bytes, append_assoc, sym, ap, ◌∙◌, ℕ}
+use Rattle.std.proofs.Common.{◌+◌, ◌++◌, List, map, drop, string_bytes, append_assoc, sym, ap, subst, ◌∙◌, ℕ}
 use Rattle.node_program.specs.Term.{Round, step_of}
 use Rattle.node_lang.proofs.Writing.{next_item}
 use Rattle.round_eval.specs.Configuration.{RingConfiguration}
 use Rattle.value_trees.specs.Explanation.{round_trees, rounds_trees}
-use Rattle.value_trees.proofs.Small.{step_small, steps_small}
+use Rattle.node_program.specs.Limits.{IsSmallRound}
 use Rattle.value_trees.proofs.explanation.write_rounds.Goals as goal
 
 pub write_round-requires-clause-small : goal.write_round-requires-clause-small
 write_round-requires-clause-small c =
     let e = c.index-rounds-done in
-    step_small step_of c.args.rounds.now c.rounds.done e.result c.rounds-test.true e.is
-    (rw c.requires.rounds (steps_small c.args.places.now.program c.requires.limits))
+    subst IsSmallRound (sym e.is) (c.requires.small.0 c.rounds.done e.result c.rounds-test.true)
 
 -- One more round was written and done.
 pub rounds-preserved : goal.rounds-preserved
