@@ -9,7 +9,7 @@ export function readRing(text) {
   return parts.every((part) => /^[0-9]{1,10}$/.test(part)) ? parts.map(Number) : null;
 }
 
-/** Why nbhd is not asked about a text: it is empty, or a part of it is no number. Else `null`. */
+/** Why nbhd is not asked about a text: it is empty, or a part of it is not a number. Else `null`. */
 export function whyNoRing(text) {
   if (text === "") return "Write a ring, or take a random one.";
   const part = text.split(",").find((each) => !/^[0-9]+$/.test(each));

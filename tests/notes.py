@@ -4,44 +4,44 @@ from programs import CV1, ID0_OF_4, LDB, SHIFT4
 
 # Parts of `CV1`, their replacements, and the starts of the notes on the text.
 MARKS_AND_ORDER = [
-    ("L), 1)", "L) 1)", "nbhd: line 9, column 25: `1` cannot stand here; wanted `,`"),
-    ("L)))", "L))", "nbhd: line 10, column 1: `finish` cannot stand here; wanted `)`; a bracket is open"),
-    ("L)))", "L))))", "nbhd: line 9, column 50: `)` cannot stand here; wanted `finish`; this bracket closes nothing"),
-    ("left 0\nsend right r0", "right r0\nsend left 0", "nbhd: line 7, column 6: `right` cannot stand here; wanted `left`"),
-    ("send left 0\n", "", "nbhd: line 7, column 6: `right` cannot stand here; wanted `left`"),
-    ("send right r0\n", "", "nbhd: line 8, column 1: `r0` cannot stand here; wanted `send`"),
-    ("registers 1\n", "", "nbhd: line 3, column 1: `start` cannot stand here; wanted `registers`"),
-    ("start\n", "", "nbhd: line 4, column 1: `r0` cannot stand here; wanted `start`"),
-    ("finish r0\n", "", "nbhd: line 10, column 1: the text ends here; wanted `finish`"),
-    ("rounds 1\nchannels 6", "channels 6\nrounds 1", "nbhd: line 1, column 1: `channels` cannot stand here; wanted `rounds`"),
-    ("round\n", "round 1\n", "nbhd: line 6, column 7: `1` cannot stand here; wanted `send`"),
-    ("finish r0", "finish r0 = r0", "nbhd: line 10, column 11: `=` cannot stand here; wanted the end of the text"),
-    ("left 0", "left = 0", "nbhd: line 7, column 11: `=` cannot stand here; wanted an expression"),
-    ("rounds 1", "rounds = 1", "nbhd: line 1, column 8: `=` cannot stand here; wanted a number"),
+    ("L), 1)", "L) 1)", "nbhd: line 9, column 25: unexpected `1`; expected `,`"),
+    ("L)))", "L))", "nbhd: line 10, column 1: unexpected `finish`; expected `)`; a bracket is open"),
+    ("L)))", "L))))", "nbhd: line 9, column 50: unexpected `)`; expected `finish`; this bracket closes nothing"),
+    ("left 0\nsend right r0", "right r0\nsend left 0", "nbhd: line 7, column 6: unexpected `right`; expected `left`"),
+    ("send left 0\n", "", "nbhd: line 7, column 6: unexpected `right`; expected `left`"),
+    ("send right r0\n", "", "nbhd: line 8, column 1: unexpected `r0`; expected `send`"),
+    ("registers 1\n", "", "nbhd: line 3, column 1: unexpected `start`; expected `registers`"),
+    ("start\n", "", "nbhd: line 4, column 1: unexpected `r0`; expected `start`"),
+    ("finish r0\n", "", "nbhd: line 10, column 1: unexpected end of the text; expected `finish`"),
+    ("rounds 1\nchannels 6", "channels 6\nrounds 1", "nbhd: line 1, column 1: unexpected `channels`; expected `rounds`"),
+    ("round\n", "round 1\n", "nbhd: line 6, column 7: unexpected `1`; expected `send`"),
+    ("finish r0", "finish r0 = r0", "nbhd: line 10, column 11: unexpected `=`; expected the end of the text"),
+    ("left 0", "left = 0", "nbhd: line 7, column 11: unexpected `=`; expected an expression"),
+    ("rounds 1", "rounds = 1", "nbhd: line 1, column 8: unexpected `=`; expected a number"),
 ]
 
 REGISTERS_AND_ROUNDS = [
     (
         "registers 1\nstart\nr0 = id",
         "registers 2\nstart\nr0 = id r1 = 0",
-        "nbhd: line 10, column 1: `finish` cannot stand here; wanted the assignment of r1",
+        "nbhd: line 10, column 1: unexpected `finish`; expected the assignment of r1",
     ),
     (
         "rounds 1",
         "rounds 2",
-        "nbhd: line 10, column 1: `finish` cannot stand here; wanted `round`; there are as many rounds as `rounds` says",
+        "nbhd: line 10, column 1: unexpected `finish`; expected `round`; there are as many rounds as `rounds` says",
     ),
     (
         "finish r0",
         "round\nsend left 0\nsend right r0\nr0 = r0\nfinish r0",
-        "nbhd: line 10, column 1: `round` cannot stand here; wanted `finish`; there are as many rounds as `rounds` says",
+        "nbhd: line 10, column 1: unexpected `round`; expected `finish`; there are as many rounds as `rounds` says",
     ),
     (
         "finish r0",
         "r0 = r0\nfinish r0",
-        "nbhd: line 10, column 1: `r0` cannot stand here; wanted `finish`; each register is assigned once",
+        "nbhd: line 10, column 1: unexpected `r0`; expected `finish`; each register is assigned once",
     ),
-    ("r0 = id", "r1 = id", "nbhd: line 5, column 1: `r1` cannot stand here; wanted the assignment of r0"),
+    ("r0 = id", "r1 = id", "nbhd: line 5, column 1: unexpected `r1`; expected the assignment of r0"),
     ("rounds 1", "rounds 5", "nbhd: line 1, column 8: a number out of its range: `rounds` is 0 to 4"),
     ("channels 6", "channels 0", "nbhd: line 2, column 10: a number out of its range: `rounds` is 0 to 4, `channels` 1 to 4096"),
     (
@@ -61,61 +61,61 @@ OPERANDS = [
     (
         "finish r0",
         "finish if r0 then 1 else 2",
-        "nbhd: line 10, column 11: `r0` cannot stand here; wanted `(`; the operands of an operation stand in brackets, as in `if(c, a, b)`",
+        "nbhd: line 10, column 11: unexpected `r0`; expected `(`; the operands of an operation are written in brackets, as in `if(c, a, b)`",
     ),
-    ("finish r0", "finish if(r0, 1)", "nbhd: line 10, column 16: `)` cannot stand here; wanted `,`; `if` takes 3 operands"),
-    ("finish r0", "finish not(r0, 1)", "nbhd: line 10, column 14: `,` cannot stand here; wanted `)`; `not` takes 1 operand"),
-    (", bit(r0, ldb(r0, L)))", ")", "nbhd: line 9, column 28: `)` cannot stand here; wanted `,`; `add` takes 2 operands"),
-    ("finish r0", "finish min(r0, 1, 2)", "nbhd: line 10, column 17: `,` cannot stand here; wanted `)`; `min` takes 2 operands"),
+    ("finish r0", "finish if(r0, 1)", "nbhd: line 10, column 16: unexpected `)`; expected `,`; `if` takes 3 operands"),
+    ("finish r0", "finish not(r0, 1)", "nbhd: line 10, column 14: unexpected `,`; expected `)`; `not` takes 1 operand"),
+    (", bit(r0, ldb(r0, L)))", ")", "nbhd: line 9, column 28: unexpected `)`; expected `,`; `add` takes 2 operands"),
+    ("finish r0", "finish min(r0, 1, 2)", "nbhd: line 10, column 17: unexpected `,`; expected `)`; `min` takes 2 operands"),
     (
         "finish r0",
         "finish if(r0 == 1, 0, 1)",
-        "nbhd: line 10, column 14: `=` cannot stand here; wanted `,`; write `eq(a, b)` to compare",
+        "nbhd: line 10, column 14: unexpected `=`; expected `,`; write `eq(a, b)` to compare",
     ),
 ]
 
 WORDS_OF_OTHER_LANGUAGES = [
-    ("rounds", "Rounds", "nbhd: line 1, column 1: `Rounds` is no word of the language; write `rounds`"),
-    ("L)", "l)", "nbhd: line 9, column 22: `l` is no word of the language; the message from the left is `L`"),
-    ("r0 = id", "r10 = id", "nbhd: line 5, column 1: `r10` is no word of the language; registers are `r0` to `r7`"),
-    ("finish r0", "finish R0", "nbhd: line 10, column 8: `R0` is no word of the language; registers are `r0` to `r7`"),
-    ("finish r0", "finish r0 + 1", "nbhd: line 10, column 11: `+` is no word of the language; write `add(a, b)`"),
-    ("r0 = id", "r0 = 2*id", "nbhd: line 5, column 7: `*` is no word of the language; there is no product"),
-    ("r0 = id", "r0 = mul(2, id)", "nbhd: line 5, column 6: `mul` is no word of the language; there is no product"),
+    ("rounds", "Rounds", "nbhd: line 1, column 1: unknown word `Rounds`; write `rounds`"),
+    ("L)", "l)", "nbhd: line 9, column 22: unknown word `l`; the message from the left is `L`"),
+    ("r0 = id", "r10 = id", "nbhd: line 5, column 1: unknown word `r10`; registers are `r0` to `r7`"),
+    ("finish r0", "finish R0", "nbhd: line 10, column 8: unknown word `R0`; registers are `r0` to `r7`"),
+    ("finish r0", "finish r0 + 1", "nbhd: line 10, column 11: unknown word `+`; write `add(a, b)`"),
+    ("r0 = id", "r0 = 2*id", "nbhd: line 5, column 7: unknown word `*`; there is no product"),
+    ("r0 = id", "r0 = mul(2, id)", "nbhd: line 5, column 6: unknown word `mul`; there is no product"),
     (
         "r0 = id",
         "r0 = mod(id, 2)",
-        "nbhd: line 5, column 6: `mod` is no word of the language; there is no remainder: that of 2 is `and(x, 1)`",
+        "nbhd: line 5, column 6: unknown word `mod`; there is no remainder: that of 2 is `and(x, 1)`",
     ),
-    ("ldb(r0, L), 1", "gt(r0, L), 1", "nbhd: line 9, column 14: `gt` is no word of the language; write `lt(b, a)` for a > b"),
-    ("finish r0", "finish -1", "nbhd: line 10, column 8: `-` is no word of the language; write `sub(a, b)`, which stops at 0"),
-    ("finish r0", "finish 0x5", "nbhd: line 10, column 8: `0x5` is no word of the language; numbers are decimal"),
-    ("r0 = id", "r0 := id", "nbhd: line 5, column 4: `:` is no word of the language; an assignment is written `r0 = ..`"),
-    ("rounds 1", "rounds 1;", "nbhd: line 1, column 9: `;` is no word of the language; lines end without a mark"),
+    ("ldb(r0, L), 1", "gt(r0, L), 1", "nbhd: line 9, column 14: unknown word `gt`; write `lt(b, a)` for a > b"),
+    ("finish r0", "finish -1", "nbhd: line 10, column 8: unknown word `-`; write `sub(a, b)`, which stops at 0"),
+    ("finish r0", "finish 0x5", "nbhd: line 10, column 8: unknown word `0x5`; numbers are decimal"),
+    ("r0 = id", "r0 := id", "nbhd: line 5, column 4: unknown word `:`; an assignment is written `r0 = ..`"),
+    ("rounds 1", "rounds 1;", "nbhd: line 1, column 9: unknown word `;`; lines end without a mark"),
     (
         "r0 = id",
         "colour = id",
-        "nbhd: line 5, column 1: `colour` is no word of the language; registers are `r0` to `r7`, and have no other names",
+        "nbhd: line 5, column 1: unknown word `colour`; registers are `r0` to `r7`, and have no other names",
     ),
-    ("finish r0", "return r0", "nbhd: line 10, column 1: `return` is no word of the language; the last line is `finish`"),
+    ("finish r0", "return r0", "nbhd: line 10, column 1: unknown word `return`; the last line is `finish`"),
     (
         "left 0\nsend right r0",
         "both r0",
-        "nbhd: line 7, column 6: `both` is no word of the language; write `send left` and `send right`",
+        "nbhd: line 7, column 6: unknown word `both`; write `send left` and `send right`",
     ),
-    ("finish r0", "finish \"r0\"", "nbhd: line 10, column 8: `\"` is no word of the language; there are no texts in programs"),
+    ("finish r0", "finish \"r0\"", "nbhd: line 10, column 8: unknown word `\"`; there are no texts in programs"),
     (
         "finish r0\n",
         "finish r0\nend\n",
-        "nbhd: line 11, column 1: `end` is no word of the language; the expression of `finish` ends the program",
+        "nbhd: line 11, column 1: unknown word `end`; the expression of `finish` ends the program",
     ),
-    ("finish r0\n", "finish r0\nrounds 1\n", "nbhd: line 11, column 1: `rounds` cannot stand here; wanted the end of the text"),
+    ("finish r0\n", "finish r0\nrounds 1\n", "nbhd: line 11, column 1: unexpected `rounds`; expected the end of the text"),
 ]
 
 # Texts that are no programs, and the starts of the notes.
 OTHER_FILES = [
-    (b"// a program", "nbhd: line 1, column 1: `/` is no word of the language; a comment begins with `#`"),
-    (b"/* a program */", "nbhd: line 1, column 1: `/` is no word of the language; a comment begins with `#`"),
+    (b"// a program", "nbhd: line 1, column 1: unknown word `/`; a comment begins with `#`"),
+    (b"/* a program */", "nbhd: line 1, column 1: unknown word `/`; a comment begins with `#`"),
     (
         b"# the node\xe2\x80\x99s\nrounds 1",
         "nbhd: line 1, column 11: a byte over 127; a program text is ASCII, in its comments too",
@@ -132,20 +132,20 @@ OTHER_FILES = [
         b"rounds\xc2\xa01",
         "nbhd: line 1, column 7: a byte over 127; a program text is ASCII, in its comments too; this is a blank that does not break",
     ),
-    (b"", "nbhd: line 1, column 1: the text ends here; wanted `rounds`; the text is empty, so no file was given"),
+    (b"", "nbhd: line 1, column 1: unexpected end of the text; expected `rounds`; the text is empty, so no file was given"),
     (
         b"# Pighvani\n\nPighvani compiles",
-        "nbhd: line 3, column 1: `Pighvani` is no word of the language; a program begins with `rounds`",
+        "nbhd: line 3, column 1: unknown word `Pighvani`; a program begins with `rounds`",
     ),
-    (b"nbhd-table 2\n", "nbhd: line 1, column 1: `nbhd` is no word of the language; the text of a table is for `nbhd audit`"),
+    (b"nbhd-table 2\n", "nbhd: line 1, column 1: unknown word `nbhd`; the text of a table is for `nbhd audit`"),
     (
         b"text fault N3 at 0\n",
-        "nbhd: line 1, column 1: `text` is no word of the language; this is what `nbhd` printed, and no program",
+        "nbhd: line 1, column 1: unknown word `text`; this is output of `nbhd`, not a program",
     ),
-    (b"rounds 1\r\n\tchanels 6", "nbhd: line 2, column 2: `chanels` is no word of the language"),
+    (b"rounds 1\r\n\tchanels 6", "nbhd: line 2, column 2: unknown word `chanels`"),
     (
         b"rounds 0 channels 8 registers 2 start r1 = id r0 = 0 finish r1",
-        "nbhd: line 1, column 39: `r1` cannot stand here; wanted the assignment of r0",
+        "nbhd: line 1, column 39: unexpected `r1`; expected the assignment of r0",
     ),
 ]
 
@@ -153,7 +153,7 @@ OTHER_FILES = [
 MARKED_LINES = [
     (
         CV1.replace(b"left 0", b"lift 0"),
-        "nbhd: line 7, column 6: `lift` is no word of the language; `left` is wanted here\n  send lift 0\n       ^\n",
+        "nbhd: line 7, column 6: unknown word `lift`; expected `left`\n  send lift 0\n       ^\n",
     ),
     (b"\xef\xbb\xbfrounds 1\n", "\n  \\xef\\xbb\\xbfrounds 1\n  ^\n"),
     (b"rounds\t1\xff", "\n  rounds 1\\xff\n          ^\n"),
@@ -192,9 +192,9 @@ TABLE_TEXTS = [
     (b"nbhd-table\t1\n", "1", "; its first line is `nbhd-table` and the version"),
     (b"nbhd-table 1\nrounds 2 ids 4 channels 6\n", "2", "; the numbers of this line do not fit one another"),
     (b"nbhd-table 1\nrounds 0 ids 2 channels 2\n# mine\n", "3", "; there are no comments in tables"),
-    (b"nbhd-table 1\nrounds 0 ids 2 channels 2\n0 : 0 \n", "3", "; a blank stands at its end"),
+    (b"nbhd-table 1\nrounds 0 ids 2 channels 2\n0 : 0 \n", "3", "; it ends with a blank"),
     (b"nbhd-table 1\nrounds 0 ids 2 channels 2\n0,:,0\n", "3", "; numbers are parted by single blanks"),
-    (b"nbhd-table 1\nrounds 0 ids 2 channels 2\n0 : -1\n", "3", "; a number has digits alone"),
+    (b"nbhd-table 1\nrounds 0 ids 2 channels 2\n0 : -1\n", "3", "; a number has only digits"),
     (b"nbhd-table 1\nrounds 0 ids 2 channels 2\n0 : 0\n1 : 1\n", "5", "; the text stops before its end"),
     (b"nbhd-table 1\nrounds 0 ids 2 channels 2\n0 : 0\n1 : 1\nend", "5", "; the last line has no line end"),
     (b"nbhd-table 1\nrounds 0 ids 2 channels 2\n0 : 0\n1 : 1\nend\n\n", "6", "; the line is blank"),
@@ -247,7 +247,7 @@ def starts():
     for old, new, ids, note in PROGRAMS:
         yield f"check --ids {ids}", edited(old, new), note
     for text, number, advice in TABLE_TEXTS:
-        yield "audit", text, f"nbhd: line {number}, column 1: this line has not the form that `nbhd table` writes{advice}"
+        yield "audit", text, f"nbhd: line {number}, column 1: this line does not have the form that `nbhd table` writes{advice}"
 
 
 def ends():

@@ -99,7 +99,7 @@ def bodies(server):
         ("without a type", {"Content-Type": None}, 415),
         ("without a length", {**JSON, "Content-Length": None}, 411),
         ("with a length below 0", {**JSON, "Content-Length": "-1"}, 411),
-        ("with a length that is no number", {**JSON, "Content-Length": "1e3"}, 411),
+        ("with a length that is not a number", {**JSON, "Content-Length": "1e3"}, 411),
         ("with an endless length", {**JSON, "Content-Length": "9" * 30}, 411),
         ("in chunks", {**JSON, "Transfer-Encoding": "chunked"}, 411),
         ("that is too long", {**JSON, "Content-Length": "200001"}, 413),

@@ -22,7 +22,7 @@ const TRACE = "start r0 5 1 3 7\nround 1 left 0 0 0 0\nround 1 right 5 1 3 7\nro
 test("refusal: a note with a place", () => {
   const index = FAULTY.indexOf("lift");
   const line = `text fault N3 at ${index}`;
-  const note = "`lift` is no word of the language";
+  const note = "unknown word `lift`";
   const found = readRefusal({ out: `${line}\n`, note: `nbhd: line 7, column 8: ${note}\n    send lift 0\n         ^\n` }, FAULTY);
   assert.deepEqual(found, { code: "N3", line, note, at: { row: 7, column: 8, index } });
   assert.deepEqual(readRefusal({ out: `${line}\n`, note: "" }, FAULTY).at, found.at);
@@ -45,7 +45,7 @@ test("refusal: a place of a program that is not accepted", () => {
 test("refusal: refused words", () => {
   const line = (note) => readRefusal({ out: "", note }, FAULTY).line;
   assert.equal(line("nbhd: bad ring\n"), "bad ring");
-  assert.equal(line("nbhd: bad ring\nnbhd: part 2, ` 1`, is no number\n"), "bad ring – part 2, ` 1`, is no number");
+  assert.equal(line("nbhd: bad ring\nnbhd: part 2, ` 1`, is not a number\n"), "bad ring – part 2, ` 1`, is not a number");
   const words = "invalid value '65' for '--ids <M>': 65 is no";
   assert.equal(line(`error: ${words}\n\nFor more information, try '--help'.\n`), words);
   assert.equal(readRefusal({ refused: "four runs are under way already" }, FAULTY).line, "four runs are under way already");

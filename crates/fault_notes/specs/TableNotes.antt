@@ -13,7 +13,7 @@ long_note = codes "nbhd: the text of a table has at most 134217728 bytes\n"
 -- a line that does not have its form; advice can follow
 pub record IsFormNote (text : List ℕ) (offset : ℕ) (note : List ℕ) : Type 0 where
   pub advice : List ℕ
-  pub is : note ≡ place_head text offset ++ (codes "this line has not the form that `nbhd table` writes" ++ (advice ++ 10 ∷ marked_line text offset))
+  pub is : note ≡ place_head text offset ++ (codes "this line does not have the form that `nbhd table` writes" ++ (advice ++ 10 ∷ marked_line text offset))
 
 -- a line that should have this window
 abbrev pub line_note : ℕ → List ℕ → List ℕ

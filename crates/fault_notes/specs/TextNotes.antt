@@ -22,13 +22,13 @@ quoted word = codes "`" ++ (shown word ++ codes "`")
 abbrev pub cause_of : FaultKind → List ℕ → Option Wanted → List ℕ
 cause_of kind.TooLong word w = []
 cause_of kind.NotAscii word w = codes "a byte over 127; a program text is ASCII, in its comments too"
-cause_of kind.BadWord word w = quoted word ++ codes " is no word of the language"
+cause_of kind.BadWord word w = codes "unknown word " ++ quoted word
 cause_of kind.NumberTooLarge word w = codes "a number is at most 4294967295"
 cause_of kind.HeaderRange word w = codes "a number out of its range: `rounds` is 0 to 4, `channels` 1 to 4096, `registers` 1 to 8"
-cause_of kind.Unexpected word w = quoted word ++ (codes " cannot stand here" ++ wanted_part w)
+cause_of kind.Unexpected word w = codes "unexpected " ++ (quoted word ++ wanted_part w)
 cause_of kind.TooDeep word w = codes "an expression is at most 64 deep"
 cause_of kind.TooManyNodes word w = codes "the expressions of a program have at most 4096 numbers, words and operations"
-cause_of kind.EndOfText word w = codes "the text ends here" ++ wanted_part w
+cause_of kind.EndOfText word w = codes "unexpected end of the text" ++ wanted_part w
 cause_of kind.OutOfMemory word w = []
 
 -- The note on this fault has its place and its cause, with what can follow the text before the place, perhaps followed

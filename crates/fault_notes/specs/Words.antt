@@ -29,7 +29,7 @@ wanted_text wanted.End = codes "the end of the text"
 -- the part of a note for what can follow, if it is known
 abbrev pub wanted_part : Option Wanted → List ℕ
 wanted_part None = []
-wanted_part (Some w) = codes "; wanted " ++ wanted_text w
+wanted_part (Some w) = codes "; expected " ++ wanted_text w
 
 -- the word at the start of a text, or its first byte if it does not begin with a word
 abbrev pub first_word : List ℕ → List ℕ

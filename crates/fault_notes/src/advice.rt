@@ -6,15 +6,16 @@ use crate::signs::{comment_advice, mark_advice};
 use crate::wanted::Wanted;
 use crate::words::{advice_in, is_word_byte};
 
-const INFIX: &str = "; an operation stands before its operands, as in `add(a, b)`";
+const INFIX: &str = "; an operation is written before its operands, as in `add(a, b)`";
 
 const UNEQUAL: &str = "; write `ne(a, b)`, or `eq(x, 0)` where x is to be 0";
 
 const ASSIGNED: &str = "; an assignment is written `r0 = ..`";
 
-const DIGITS: &str = "; a number in digits is wanted here";
+const DIGITS: &str = "; write a number in digits";
 
-const BRACKETED: &str = "; the operands of an operation stand in brackets, as in `if(c, a, b)`";
+const BRACKETED: &str =
+    "; the operands of an operation are written in brackets, as in `if(c, a, b)`";
 
 const OPEN: &str = "; a bracket is open";
 
@@ -73,7 +74,7 @@ const WORDS: [(&[u8], &str); 31] = [
     ),
     (
         b"accepted yes no text check ring table",
-        "; this is what `nbhd` printed, and no program",
+        "; this is output of `nbhd`, not a program",
     ),
     // Words with a capital.
     (b"ID Id", "; write `id`"),
@@ -119,7 +120,7 @@ fn letters_advice(word: &[u8], rest: &[u8], wanted: Wanted) -> &'static str {
 fn unknown_advice(word: &[u8], wanted: Wanted) -> &'static str {
     match wanted {
         Wanted::Expression | Wanted::Register(_) => spelling_advice(word),
-        Wanted::Comma => "; operands are parted by commas",
+        Wanted::Comma => "; operands are separated by commas",
         Wanted::Close => OPEN,
         _ => missing_word(wanted),
     }
@@ -129,14 +130,14 @@ fn unknown_advice(word: &[u8], wanted: Wanted) -> &'static str {
 fn missing_word(wanted: Wanted) -> &'static str {
     match wanted {
         Wanted::Rounds => "; a program begins with `rounds`",
-        Wanted::Channels => "; `channels` is wanted here",
-        Wanted::Registers => "; `registers` is wanted here",
-        Wanted::Start => "; `start` is wanted here",
-        Wanted::Round => "; `round` is wanted here",
-        Wanted::Send => "; `send` is wanted here",
-        Wanted::Left => "; `left` is wanted here",
-        Wanted::Right => "; `right` is wanted here",
-        Wanted::Finish => "; `finish` is wanted here",
+        Wanted::Channels => "; expected `channels`",
+        Wanted::Registers => "; expected `registers`",
+        Wanted::Start => "; expected `start`",
+        Wanted::Round => "; expected `round`",
+        Wanted::Send => "; expected `send`",
+        Wanted::Left => "; expected `left`",
+        Wanted::Right => "; expected `right`",
+        Wanted::Finish => "; expected `finish`",
         Wanted::Open => BRACKETED,
         Wanted::Equals => ASSIGNED,
         Wanted::Number => DIGITS,
@@ -149,7 +150,7 @@ fn missing_word(wanted: Wanted) -> &'static str {
 fn spelling_advice(word: &[u8]) -> &'static str {
     match word {
         [b'0', b'x' | b'X' | b'b' | b'B' | b'o', ..] => "; numbers are decimal",
-        [b'0'..=b'9', ..] => "; a number has digits alone",
+        [b'0'..=b'9', ..] => "; a number has only digits",
         [b'r' | b'R', b'0'..=b'9', ..] => "; registers are `r0` to `r7`",
         _ => "; registers are `r0` to `r7`, and have no other names",
     }
@@ -178,7 +179,7 @@ fn equals_advice(rest: &[u8], wanted: Wanted) -> &'static str {
     match wanted {
         Wanted::Comma | Wanted::Close => "; write `eq(a, b)` to compare",
         _ if rest.starts_with(b"==") => "; write `eq(a, b)` to compare",
-        _ => "; `=` stands only behind the register of an assignment",
+        _ => "; `=` is only written after the register of an assignment",
     }
 }
 
@@ -186,11 +187,11 @@ fn equals_advice(rest: &[u8], wanted: Wanted) -> &'static str {
 fn open_advice(rest: &[u8], wanted: Wanted) -> &'static str {
     match wanted {
         Wanted::Rounds => comment_advice(rest),
-        Wanted::Expression => "; an expression stands without brackets around it",
-        Wanted::Number => "; a number in digits is wanted here, without brackets",
+        Wanted::Expression => "; an expression has no brackets around it",
+        Wanted::Number => "; write a number in digits, without brackets",
         Wanted::Left => "; write `send left ..`, without brackets",
         Wanted::Right => "; write `send right ..`, without brackets",
-        _ => "; no brackets stand here",
+        _ => "; no brackets are allowed here",
     }
 }
 
@@ -208,7 +209,7 @@ fn close_advice(before: &[u8], wanted: Wanted) -> &'static str {
 fn comma_advice(before: &[u8]) -> &'static str {
     let advice = operands_advice(before);
     if advice.is_empty() {
-        return "; commas stand between operands alone";
+        return "; commas only separate operands";
     }
     advice
 }
@@ -268,7 +269,7 @@ pub(crate) fn end_advice(text: &[u8], wanted: Option<Wanted>) -> &'static str {
         return "; a comment goes up to a line feed, and this text has none";
     }
     match wanted {
-        Some(Wanted::Rounds) => "; the text has blanks and comments alone",
+        Some(Wanted::Rounds) => "; the text has only blanks and comments",
         _ => "",
     }
 }

@@ -9,7 +9,7 @@ const PRODUCT: &str = "; there is no product: twice x is `shl(x, 1)`";
 
 const ASSIGNED: &str = "; an assignment is written `r0 = ..`";
 
-const PATCH: &str = "; this is a patch and no program";
+const PATCH: &str = "; this is a patch, not a program";
 
 const PROMPT: &str = "; leave out the prompt before each line";
 
@@ -21,7 +21,7 @@ const WHOLE: &str = "; numbers are whole";
 
 const SIGN: &str = "; numbers have no sign";
 
-const OPERANDS: &str = "; operands stand in `(` and `)`";
+const OPERANDS: &str = "; operands are written in `(` and `)`";
 
 const UNBRACKETED: &str = "; leave this bracket out";
 
@@ -61,7 +61,7 @@ const FIRST: [(&[u8], &str); 16] = [
 const BEFORE_NUMBERS: [(&[u8], &str); 5] = [
     (b"-", SIGN),
     (b"+", SIGN),
-    (b":", "; no mark stands before a number"),
+    (b":", "; a number has no mark before it"),
     (b"[", UNBRACKETED),
     (b"{", UNBRACKETED),
 ];
@@ -70,14 +70,14 @@ const BEFORE_NUMBERS: [(&[u8], &str); 5] = [
 const BEFORE_EXPRESSIONS: [(&[u8], &str); 5] = [
     (b"+", SIGN),
     (b".", WHOLE),
-    (b":", "; no mark stands before an expression"),
+    (b":", "; an expression has no mark before it"),
     (b"[", UNBRACKETED),
     (b"{", UNBRACKETED),
 ];
 
 // Marks where a comma or a closing bracket is wanted.
 const BETWEEN_OPERANDS: [(&[u8], &str); 3] = [
-    (b";", "; operands are parted by commas"),
+    (b";", "; operands are separated by commas"),
     (b"]", OPERANDS),
     (b"}", OPERANDS),
 ];
@@ -140,7 +140,7 @@ const MARKS: [(&[u8], &str); 39] = [
     (b"_", "; numbers and registers have no `_`"),
     (
         b".",
-        "; numbers are whole, and an operation stands before its operands, as in `bit(a, i)`",
+        "; numbers are whole, and an operation is written before its operands, as in `bit(a, i)`",
     ),
     (b"$", NO_NAMES),
     (b"@", NO_NAMES),
@@ -187,7 +187,7 @@ const BYTES: [(&[u8], &str); 19] = [
 // `wanted` can follow.
 pub(crate) fn mark_advice(rest: &[u8], wanted: Option<Wanted>) -> &'static str {
     match (rest, placed_advice(rest, wanted)) {
-        ([0..=31 | 127, ..], _) => "; this byte is of no text",
+        ([0..=31 | 127, ..], _) => "; this byte does not belong in a text",
         ([b'.', b'0'..=b'9', ..], _) => WHOLE,
         (_, Some(advice)) => advice,
         _ => advice_at_start(&MARKS, rest).unwrap_or(""),

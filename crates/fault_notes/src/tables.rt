@@ -63,7 +63,7 @@ pub fn form_note(alloc: Global, text: &[u8], offset: usize) -> Result<String, Al
 {
     let mut note = String::new(alloc);
     write_head(&mut note, text, offset)?;
-    note.push_str("this line has not the form that `nbhd table` writes")?;
+    note.push_str("this line does not have the form that `nbhd table` writes")?;
     note.push_str(form_advice(text, offset))?;
     note.push_str("\n")?;
     write_marked_line(&mut note, text, offset)?;
@@ -144,12 +144,12 @@ fn bytes_advice(line: &[u8]) -> &'static str {
     match line {
         b"END" | b"End" => "; the last line is `end`",
         [.., b':'] | [.., b':', b' '] => "; its channel is missing",
-        [.., b' '] => "; a blank stands at its end",
+        [.., b' '] => "; it ends with a blank",
         [b'0', b'0'..=b'9', ..] => "; numbers have no zeros before them",
         _ if line.contains(&b',') || line.contains(&b'\t') => {
             "; numbers are parted by single blanks"
         }
-        _ if line.contains(&b'-') || line.contains(&b'.') => "; a number has digits alone",
+        _ if line.contains(&b'-') || line.contains(&b'.') => "; a number has only digits",
         _ => "; a line is the identifiers of a window, ` : ` and a channel",
     }
 }

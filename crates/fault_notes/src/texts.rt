@@ -131,24 +131,24 @@ fn write_cause(
 {
     match fault {
         FaultKind::BadWord => {
-            write_quoted(out, word)?;
-            out.push_str(" is no word of the language")
+            out.push_str("unknown word ")?;
+            write_quoted(out, word)
         }
         FaultKind::Unexpected => write_unexpected(out, word, wanted),
         FaultKind::EndOfText => {
-            out.push_str("the text ends here")?;
+            out.push_str("unexpected end of the text")?;
             write_wanted_part(out, wanted)
         }
         _ => out.push_str(fixed_cause(fault)),
     }
 }
 
-// Writes that a word cannot stand at its place.
+// Writes that a word is not expected at its place.
 fn write_unexpected(out: &mut String, word: &[u8], wanted: Option<Wanted>) -> Result<(), AllocError>
-    ensures { OnOk result (string_bytes out.new ≡ string_bytes out.old ++ (quoted word.now ++ (codes " cannot stand here" ++ wanted_part wanted))) }
+    ensures { OnOk result (string_bytes out.new ≡ string_bytes out.old ++ (codes "unexpected " ++ (quoted word.now ++ wanted_part wanted))) }
 {
+    out.push_str("unexpected ")?;
     write_quoted(out, word)?;
-    out.push_str(" cannot stand here")?;
     write_wanted_part(out, wanted)
 }
 

@@ -126,6 +126,6 @@ pub(crate) fn write_wanted_part(out: &mut String, wanted: Option<Wanted>) -> Res
     let Some(wanted) = wanted else {
         return Ok(());
     };
-    out.push_str("; wanted ")?;
+    out.push_str("; expected ")?;
     write_wanted(out, wanted)
 }

@@ -25,7 +25,7 @@ IsFormulaNote m t problem.TooManyClauses note = note ≡ clauses_note
 -- what is wrong with a line of a refutation
 abbrev pub line_cause : LineFault → List ℕ
 line_cause line_fault.Form =
-    codes "this line is no step, as `5 -1 2 0 3 4 0`, no deletion, as `5 d 3 4 0`, and no comment; `tools/lrat` adds the hints that a proof in DRAT lacks"
+    codes "this line is not a step, as `5 -1 2 0 3 4 0`, a deletion, as `5 d 3 4 0`, or a comment; `tools/lrat` adds the hints that a proof in DRAT lacks"
 line_cause line_fault.NumberNotAscending = codes "the number of this step is not above those of the formula's clauses and of the steps before it"
 line_cause line_fault.UnknownVariable = codes "this clause has a variable that the formula lacks; the numbers may be those of another formula"
 line_cause line_fault.UnknownHint = codes "a hint names no clause: there is none of its number yet, or it was deleted"

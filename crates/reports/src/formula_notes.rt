@@ -58,7 +58,7 @@ fn line_cause(fault: LineFault) -> &'static str
 {
     match fault {
         LineFault::Form => {
-            "this line is no step, as `5 -1 2 0 3 4 0`, no deletion, as `5 d 3 4 0`, and no comment; `tools/lrat` adds the hints that a proof in DRAT lacks"
+            "this line is not a step, as `5 -1 2 0 3 4 0`, a deletion, as `5 d 3 4 0`, or a comment; `tools/lrat` adds the hints that a proof in DRAT lacks"
         }
         LineFault::NumberNotAscending => {
             "the number of this step is not above those of the formula's clauses and of the steps before it"

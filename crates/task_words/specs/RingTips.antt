@@ -5,18 +5,18 @@ use Rattle.std.specs.Fmt.{decimal}
 use Rattle.task_words.specs.Decimal.{IsNumber}
 use Rattle.task_words.specs.RingText.{parts_of}
 
--- the part with this index is no number, and those before it are
+-- the part with this index is not a number, and those before it are
 pub record IsFirstBad (parts : List (List ℕ)) (index : ℕ) (part : List ℕ) : Type 0 where
   pub item : slice_get parts index ≡ Some part
   pub bad : ¬ IsNumber part
   pub before : (k : ℕ) (other : List ℕ) → k < index → slice_get parts k ≡ Some other → IsNumber other
 
--- the tip names the first part that is no number; parts are counted from 1
+-- the tip names the first part that is not a number; parts are counted from 1
 pub record IsRingTip (text tip : List ℕ) : Type 0 where
   pub index : ℕ
   pub part : List ℕ
   pub first : IsFirstBad (parts_of text) index part
-  pub is : tip ≡ codes "nbhd: part " ++ (decimal (index + 1) ++ (codes " of the ring text, `" ++ (part ++ codes "`, is no number from 0 to 4294967295; a ring is numbers with single commas, as 5,1,3,7")))
+  pub is : tip ≡ codes "nbhd: part " ++ (decimal (index + 1) ++ (codes " of the ring text, `" ++ (part ++ codes "`, is not a number from 0 to 4294967295; a ring is numbers with single commas, as 5,1,3,7")))
 
 -- the value of `--ring` that a word is or has, by the word before it: after `--ring` the word, or what follows `--ring=` in it
 abbrev pub ring_value : List ℕ → List ℕ → Option (List ℕ)

@@ -10,7 +10,7 @@ use crate::decimal::number_of;
 use crate::ring_text::parts;
 use std::alloc::{AllocError, Global};
 
-/// Returns a line that names the first part of a text that is no number, or `None` if it is a ring
+/// Returns a line that names the first part of a text that is not a number, or `None` if it is a ring
 /// text. Fails if memory was refused.
 pub fn ring_tip(alloc: Global, text: &str) -> Result<Option<String>, AllocError>
     ensures tip { IfOk result (λ found. IfSome found (λ tip. IsRingTip text.now (string_bytes tip))) }
@@ -22,12 +22,12 @@ pub fn ring_tip(alloc: Global, text: &str) -> Result<Option<String>, AllocError>
     };
     let number = index + 1;
     let tip = format!(in alloc;
-        "nbhd: part {number} of the ring text, `{part}`, is no number from 0 to 4294967295; a ring is numbers with single commas, as 5,1,3,7"
+        "nbhd: part {number} of the ring text, `{part}`, is not a number from 0 to 4294967295; a ring is numbers with single commas, as 5,1,3,7"
     )?;
     Ok(Some(tip))
 }
 
-// Returns the first part that is no number, with its index.
+// Returns the first part that is not a number, with its index.
 fn first_bad<'a>(parts: &[&'a str]) -> Option<(usize, &'a str)>
     ensures some { IfSome result (λ found. IsFirstBad (map (λ part. part.now) parts.now) found.0 found.1.now) }
     ensures none { IfNone result (All IsNumber (map (λ part. part.now) parts.now)) }

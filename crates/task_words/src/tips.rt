@@ -36,7 +36,7 @@ pub enum Tip {
     /// Another name for the number of identifiers.
     #[error("nbhd: the number of identifiers is given by `--ids`")]
     OtherIds,
-    /// A word that is no number, as the value of an option that takes one.
+    /// A word that is not a number, as the value of an option that takes one.
     #[error("nbhd: numbers are in digits: `--ids` 2 to 1024, `--rounds` 0 to 4, `--channels` and `--near` 1 to 4096, `--far` 0 to 4096, `--workers` and `--segments` 1 to 64, `--place` from 0 on, `--base` 2 to 10")]
     NoNumber,
 }

@@ -9,7 +9,7 @@ pub returns : goal.returns
 returns c =
     let start = string_bytes c.args.out.now in
     let word = quoted c.args.word.now in
-    let here = codes " cannot stand here" in
+    let unexpected = codes "unexpected " in
     IfOk-equal c.write_wanted_part.result _ _ _ c.write_wanted_part.ensures
-    (ap (λ x. x ++ wanted_part c.args.wanted) (c.in_ok-push_str.ensures.bytes ∙ ap (λ x. x ++ here) c.in_ok-write_quoted.ensures)
-    ∙ append_assoc (start ++ word) here (wanted_part c.args.wanted) ∙ append_assoc start word (here ++ wanted_part c.args.wanted))
+    (ap (λ x. x ++ wanted_part c.args.wanted) (c.in_ok-write_quoted.ensures ∙ ap (λ x. x ++ word) c.in_ok-push_str.ensures.bytes)
+    ∙ append_assoc (start ++ unexpected) word (wanted_part c.args.wanted) ∙ append_assoc start unexpected (word ++ wanted_part c.args.wanted))
