@@ -1,16 +1,15 @@
--- The first lexeme that is the cause of a refusal, by the kinds of the lexemes before it.
-use Rattle.std.proofs.Common.{◌≡◌, ℕ, ◌-◌, ◌≤◌, true, false, cond, List, [], ◌∷◌, map, length, refl, sym, ap, ◌∙◌, arith, Option, Some, None}
+-- The first token that is the cause of a refusal, as the tokens are read one by one.
+use Rattle.std.proofs.Common.{◌≡◌, ℕ, ◌-◌, ◌≤◌, true, false, cond, List, [], ◌∷◌, length, refl, sym, ap, ◌∙◌, arith, Option, Some, None}
 use Rattle.node_lang.specs.declared.token.Token.{Token}
 use Rattle.node_lang.specs.declared.token.Token.TheVariants as token
 use Rattle.node_lang.specs.Lexemes.{Lexeme, lexemes_of}
 use Rattle.lang_check.specs.declared.acceptance.CheckFault.{CheckFault}
 use Rattle.lang_check.specs.declared.acceptance.CheckFault.TheVariants as check
-use Rattle.fault_notes.specs.declared.kinds.Kind.{Kind}
 use Rattle.fault_notes.specs.declared.scanning.Place.{Place}
 use Rattle.fault_notes.specs.FaultTokens.{is_cause, first_cause, offset_in, place_of_cause}
-use Rattle.fault_notes.specs.Kinds.{Mark, kind_of, mark_of, marks_of, place_after, next_place, is_cause_at, cause_from, offset_from}
+use Rattle.fault_notes.specs.CausePlaces.{place_after, next_place, is_cause_at, cause_from, offset_from}
 
-next_same : (before : List Token) (t : Token) → next_place (place_after before) (kind_of t) ≡ place_after (t ∷ before)
+next_same : (before : List Token) (t : Token) → next_place (place_after before) t ≡ place_after (t ∷ before)
 next_same before token.Start = refl
 next_same before token.Round = refl
 next_same before token.Finish = refl
@@ -18,7 +17,7 @@ next_same before token.Send = refl
 next_same before token.Equals = refl
 next_same before _ = refl
 
-cause_same : (f : CheckFault) (before : List Token) (t : Token) → is_cause_at f (place_after before) (kind_of t) ≡ is_cause f before t
+cause_same : (f : CheckFault) (before : List Token) (t : Token) → is_cause_at f (place_after before) t ≡ is_cause f before t
 cause_same (check.RegisterOutOfRange j) before (token.Register k) = refl
 cause_same (check.RegisterOutOfRange j) before _ = refl
 cause_same check.IdOutsideStart before token.Id = refl
@@ -29,40 +28,39 @@ cause_same check.MessageOutsideStep before _ = refl
 cause_same _ before _ = refl
 
 finds : (text : List ℕ) (f : CheckFault) (before : List Token) (ls : List Lexeme) →
-    offset_from text (cause_from f (place_after before) (map mark_of ls)) ≡ offset_in text (first_cause f before ls)
+    offset_from text (cause_from f (place_after before) ls) ≡ offset_in text (first_cause f before ls)
 finds text f before [] = refl
 finds text f before (l ∷ ls) =
-    (λ i. offset_from text (cond (cause_same f before l.token i) (Some l.from) (cause_from f (next_same before l.token i) (map mark_of ls))))
-    ∙ elim (is_cause f before l.token) as (λ c. offset_from text (cond c (Some l.from) (cause_from f (place_after (l.token ∷ before)) (map mark_of ls)))
+    (λ i. offset_from text (cond (cause_same f before l.token i) (Some l.from) (cause_from f (next_same before l.token i) ls)))
+    ∙ elim (is_cause f before l.token) as (λ c. offset_from text (cond c (Some l.from) (cause_from f (place_after (l.token ∷ before)) ls))
     ≡ offset_in text (cond c (Some l) (first_cause f (l.token ∷ before) ls))) [
       | true ↦ refl
       | false ↦ finds text f (l.token ∷ before) ls
     ]
 
--- before the first lexeme
-pub found : (text : List ℕ) (f : CheckFault) → offset_from text (cause_from f (place_after []) (marks_of text)) ≡ place_of_cause text f
-unfolding marks_of
+-- before the first token
+pub found : (text : List ℕ) (f : CheckFault) → offset_from text (cause_from f (place_after []) (lexemes_of text)) ≡ place_of_cause text f
 found text f = finds text f [] (lexemes_of text)
 
--- the next lexeme is the cause
-pub found_here : (text : List ℕ) (f : CheckFault) (p : Place) (start : ℕ) (k : Kind) (left ms : List Mark) (place : Option ℕ) →
-    offset_from text (cause_from f p left) ≡ place → left ≡ record { from = length text - start; kind = k } ∷ ms → start ≤ length text →
-    is_cause_at f p k ≡ true → Some start ≡ place
-found_here text f p start k left ms place is next within cause =
+-- the next token is the cause
+pub found_here : (text : List ℕ) (f : CheckFault) (p : Place) (start : ℕ) (t : Token) (left ls : List Lexeme) (place : Option ℕ) →
+    offset_from text (cause_from f p left) ≡ place → left ≡ record { from = length text - start; token = t } ∷ ls → start ≤ length text →
+    is_cause_at f p t ≡ true → Some start ≡ place
+found_here text f p start t left ls place is next within cause =
     let same : length text - (length text - start) ≡ start = omega (arith, within) in
     ap Some (sym same)
-    ∙ sym (λ i. offset_from text (cond (cause i) (Some (length text - start)) (cause_from f (next_place p k) ms)))
+    ∙ sym (λ i. offset_from text (cond (cause i) (Some (length text - start)) (cause_from f (next_place p t) ls)))
     ∙ sym (λ i. offset_from text (cause_from f p (next i))) ∙ is
 
--- the next lexeme is not the cause
-pub found_later : (text : List ℕ) (f : CheckFault) (p : Place) (from : ℕ) (k : Kind) (left ms : List Mark) (place : Option ℕ) →
-    offset_from text (cause_from f p left) ≡ place → left ≡ record { from = from; kind = k } ∷ ms →
-    is_cause_at f p k ≡ false → offset_from text (cause_from f (next_place p k) ms) ≡ place
-found_later text f p from k left ms place is next other =
-    sym (λ i. offset_from text (cond (other i) (Some from) (cause_from f (next_place p k) ms)))
+-- the next token is not the cause
+pub found_later : (text : List ℕ) (f : CheckFault) (p : Place) (from : ℕ) (t : Token) (left ls : List Lexeme) (place : Option ℕ) →
+    offset_from text (cause_from f p left) ≡ place → left ≡ record { from = from; token = t } ∷ ls →
+    is_cause_at f p t ≡ false → offset_from text (cause_from f (next_place p t) ls) ≡ place
+found_later text f p from t left ls place is next other =
+    sym (λ i. offset_from text (cond (other i) (Some from) (cause_from f (next_place p t) ls)))
     ∙ sym (λ i. offset_from text (cause_from f p (next i))) ∙ is
 
--- no lexeme is left
-pub found_nowhere : (text : List ℕ) (f : CheckFault) (p : Place) (left : List Mark) (place : Option ℕ) →
+-- no token is left
+pub found_nowhere : (text : List ℕ) (f : CheckFault) (p : Place) (left : List Lexeme) (place : Option ℕ) →
     offset_from text (cause_from f p left) ≡ place → left ≡ [] → None ≡ place
 found_nowhere text f p left place is none = sym (λ i. offset_from text (cause_from f p (none i))) ∙ is

@@ -1,6 +1,4 @@
 pub mod Joined
-pub mod Marks
-pub mod WordKinds
 pub mod Causes
 pub mod Shapes
 pub mod Appended

@@ -3,7 +3,7 @@ pub mod Words
 pub mod TextNotes
 pub mod Placed
 pub mod FaultTokens
-pub mod Kinds
+pub mod CausePlaces
 pub mod BoundNotes
 pub mod ProgramNotes
 pub mod RingNotes

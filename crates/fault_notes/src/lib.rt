@@ -4,9 +4,7 @@
 mod advice;
 mod bounds;
 mod headers;
-mod kinds;
 mod laws;
-mod lexemes;
 mod numbers;
 mod operands;
 mod placed;

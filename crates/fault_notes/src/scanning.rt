@@ -1,14 +1,13 @@
-//! The place of the lexeme that is the cause of a refusal.
+//! The place of the token that is the cause of a refusal.
 
 ghost use Rattle.std.specs.Prelude.{◌≡◌, ◌<◌, length, IfSome};
 ghost use Rattle.fault_notes.specs.FaultTokens.{place_of_cause};
-ghost use Rattle.fault_notes.specs.Kinds.{next_place, is_cause_at};
+ghost use Rattle.fault_notes.specs.CausePlaces.{next_place, is_cause_at};
 
-use crate::kinds::Kind;
-use crate::lexemes::lexeme_from;
 use lang_check::CheckFault;
+use node_lang::{Token, token_from};
 
-// Where a lexeme of a program text stands, by the lexemes before it.
+// Where a token of a program text is, by the tokens before it.
 #[derive(Clone, Copy)]
 struct Place {
     // The last of `start`, `round` and `finish` is `start`.
@@ -19,38 +18,38 @@ struct Place {
     in_assignment: bool,
 }
 
-// Returns the place after one more lexeme of this kind.
-fn next_place(place: Place, kind: Kind) -> Place
-    ensures { result ≡ next_place place kind }
+// Returns the place after one more token.
+fn next_place(place: Place, token: Token) -> Place
+    ensures { result ≡ next_place place token }
 {
     let mut next = place;
-    match kind {
-        Kind::Start | Kind::Round | Kind::Finish => {
-            next.in_start = matches!(kind, Kind::Start);
-            next.in_round = matches!(kind, Kind::Round);
+    match token {
+        Token::Start | Token::Round | Token::Finish => {
+            next.in_start = token == Token::Start;
+            next.in_round = token == Token::Round;
         }
-        Kind::Send => next.in_assignment = false,
-        Kind::Equals => next.in_assignment = true,
+        Token::Send => next.in_assignment = false,
+        Token::Equals => next.in_assignment = true,
         _ => {}
     }
     next
 }
 
-// Returns whether a lexeme of this kind at this place is the cause of a refusal.
-fn is_cause(fault: CheckFault, place: Place, kind: Kind) -> bool
-    ensures { result ≡ is_cause_at fault place kind }
+// Returns whether a token at this place is the cause of a refusal.
+fn is_cause(fault: CheckFault, place: Place, token: Token) -> bool
+    ensures { result ≡ is_cause_at fault place token }
 {
-    match (fault, kind) {
-        (CheckFault::RegisterOutOfRange(wanted), Kind::Register(register)) => register == wanted,
-        (CheckFault::IdOutsideStart, Kind::Id) => !place.in_start,
-        (CheckFault::MessageOutsideStep, Kind::Message) => {
+    match (fault, token) {
+        (CheckFault::RegisterOutOfRange(wanted), Token::Register(register)) => register == wanted,
+        (CheckFault::IdOutsideStart, Token::Id) => !place.in_start,
+        (CheckFault::MessageOutsideStep, Token::FromLeft | Token::FromRight) => {
             !(place.in_round && place.in_assignment)
         }
         _ => false,
     }
 }
 
-// Returns the offset of the first lexeme of a program text that is the cause of a refusal.
+// Returns the offset of the first token of a program text that is the cause of a refusal.
 pub(crate) fn place_of(text: &[u8], fault: CheckFault) -> Option<usize>
     ensures exact { result ≡ place_of_cause text.now fault }
     ensures within { IfSome result (λ offset. offset < length text.now) }
@@ -61,12 +60,12 @@ pub(crate) fn place_of(text: &[u8], fault: CheckFault) -> Option<usize>
         in_assignment: false,
     };
     let mut at = 0;
-    'lexemes: while let Some(lexeme) = lexeme_from(text, at) {
-        if is_cause(fault, place, lexeme.kind) {
-            return Some(lexeme.start);
+    'tokens: while let Some(placed) = token_from(text, at) {
+        if is_cause(fault, place, placed.token) {
+            return Some(placed.start);
         }
-        place = next_place(place, lexeme.kind);
-        at = lexeme.end;
+        place = next_place(place, placed.token);
+        at = placed.end;
     }
     None
 }

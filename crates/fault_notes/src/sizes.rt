@@ -7,7 +7,7 @@ ghost use Rattle.win_index.specs.declared.limits.TheConstants.{MAX_ROUNDS};
 ghost use Rattle.win_index.specs.ShapeRange.{IsShape};
 ghost use Rattle.fault_notes.specs.TableSizes.{sizes_then, HasShape};
 
-use crate::lexemes::front_len;
+use crate::words::front_len;
 use decimal_texts::field;
 use win_index::{MAX_ROUNDS, Shape};
 

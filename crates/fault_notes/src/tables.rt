@@ -6,11 +6,10 @@ ghost use Rattle.fault_notes.specs.TableSizes.{IsDue};
 ghost use Rattle.fault_notes.specs.TableNotes.{long_note, IsFormNote, IsWindowNote, line_note, channel_note};
 
 use crate::headers::header_advice;
-use crate::lexemes::front_len;
 use crate::numbers::write_joined;
 use crate::sizes::shape_of;
 use crate::texts::write_head;
-use crate::words::advice_at_start;
+use crate::words::{advice_at_start, front_len};
 use decimal_texts::field;
 use source_places::write_marked_line;
 use std::alloc::{AllocError, Global};

@@ -1,11 +1,10 @@
 //! The texts of notes for the word at a place, and for what can follow there.
 
-ghost use Rattle.std.specs.Prelude.{◌≡◌, ◌≢◌, ℕ, ◌≤◌, ◌++◌, length, take, OnOk, string_bytes};
+ghost use Rattle.std.specs.Prelude.{◌≡◌, ◌≢◌, ◌==◌, not, ℕ, ◌≤◌, ◌++◌, length, take, OnOk, string_bytes};
 ghost use Rattle.std.specs.List.{prefix_len};
 ghost use Rattle.node_lang.specs.Words.{is_word_byte as word_byte};
 ghost use Rattle.fault_notes.specs.Words.{wanted_text, wanted_part, first_word as first};
 
-use crate::lexemes::front_len;
 use crate::wanted::Wanted;
 use std::alloc::AllocError;
 use std::fmt::Write;
@@ -15,6 +14,14 @@ pub(crate) fn is_word_byte(byte: u8) -> bool
     ensures { result ≡ word_byte byte }
 {
     matches!(byte, b'0'..=b'9' | b'A'..=b'Z' | b'a'..=b'z')
+}
+
+// Returns the number of bytes before the first byte of this value, or before the end.
+pub(crate) fn front_len(text: &[u8], end: u8) -> usize
+    ensures value { result ≡ prefix_len (λ b. not (b == end)) text.now }
+    ensures within { result ≤ length text.now }
+{
+    text.iter().take_while(|byte| **byte != end).count()
 }
 
 // Returns the number of letters and digits at the start.

@@ -7,12 +7,12 @@ ghost use Rattle.node_lang.specs.Parsing.{lexemes_left};
 use crate::token::Token;
 use crate::words::{is_blank, is_word_byte, mark_token, token_of};
 
-// A token with its start and end offsets.
+/// A token, with the offsets at which it starts and ends in its text.
 #[derive(Clone, Copy)]
-pub(crate) struct Placed {
-    pub(crate) token: Token,
-    pub(crate) start: usize,
-    pub(crate) end: usize,
+pub struct Placed {
+    pub token: Token,
+    pub start: usize,
+    pub end: usize,
 }
 
 // The length of the word at the start of the text; 0 if there is none.
@@ -91,14 +91,14 @@ fn first_token(text: &[u8]) -> Option<Placed>
     })
 }
 
-// The first token at or after `at`, with offsets in the whole text.
+/// Returns the first token of a text from the offset `at` on, or `None` if only blanks and comments
+/// are left. A byte or a word that is not a token is `Token::Unknown`.
 #[tactic(auto, using(crate::proofs::Placing::placed_after, crate::proofs::Placing::none_after))]
-pub(crate) fn token_from(text: &[u8], at: usize) -> Option<Placed>
+pub fn token_from(text: &[u8], at: usize) -> Option<Placed>
     requires { at ≤ length text.now }
     ensures token { IfSome result (λ f. lexemes_left text.now at
         ≡ record { from = length text.now - f.start; token = f.token } ∷ lexemes_left text.now f.end) }
-    ensures order { IfSome result (λ f. f.start < f.end) }
-    ensures within { IfSome result (λ f. f.end ≤ length text.now) }
+    ensures place { IfSome result (λ f. (at ≤ f.start) × (f.start < f.end) × (f.end ≤ length text.now)) }
     ensures none { IfNone result (lexemes_left text.now at ≡ []) }
 {
     let placed = first_token(&text[at..])?;

@@ -14,6 +14,7 @@ mod words;
 
 pub use fault::{FaultKind, TextFault};
 pub use laws::{first_fault, one_reading, one_text_fault, printed_is_read_back, reading_is_exact};
+pub use lexer::{Placed, token_from};
 pub use limits::LONGEST_TEXT;
 pub use node_program::{
     BinOp, Expr, MAX_CHANNELS, MAX_DEPTH, MAX_NODES, MAX_REGISTERS, MAX_ROUNDS, MAX_THREADS,
@@ -21,3 +22,4 @@ pub use node_program::{
 };
 pub use printing::{print, write_word};
 pub use text::parse;
+pub use token::Token;
