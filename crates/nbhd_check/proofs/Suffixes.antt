@@ -15,13 +15,13 @@ use Rattle.nbhd_check.proofs.Prefixes.{window_take, window_drop}
 use Rattle.nbhd_check.proofs.FarFree.{family_within}
 use Rattle.nbhd_check.proofs.RunLengths.{two_more}
 
--- the identifiers of a window without its first and its last, as the code slices them
-pub shared_cut : (t : ChannelTable) (rounds : ℕ) (window : List ℕ) → rounds ≡ t.rounds → 1 ≤ t.rounds
-    → take (2 * rounds - 1) (drop 1 window) ≡ drop 1 (take (2 * t.rounds) window)
-shared_cut t rounds window rounds_is some =
-    let len : 2 * rounds - 1 ≡ 2 * t.rounds - 1 = omega arith in
-    let turn : 1 + (2 * t.rounds - 1) ≡ 2 * t.rounds = omega arith in
-    ap (λ k. take k (drop 1 window)) len ∙ sym (drop-take 1 (2 * t.rounds - 1) window) ∙ ap (λ k. drop 1 (take k window)) turn
+-- the identifiers of a window without its first ones and its last, as the code slices them
+pub shared_cut : (by : ℕ) (t : ChannelTable) (rounds : ℕ) (window : List ℕ) → rounds ≡ t.rounds → by ≤ 2 * t.rounds
+    → take (2 * rounds - by) (drop by window) ≡ drop by (take (2 * t.rounds) window)
+shared_cut by t rounds window rounds_is few =
+    let len : 2 * rounds - by ≡ 2 * t.rounds - by = omega arith in
+    let turn : by + (2 * t.rounds - by) ≡ 2 * t.rounds = omega arith in
+    ap (λ k. take k (drop by window)) len ∙ sym (drop-take by (2 * t.rounds - by) window) ∙ ap (λ k. drop by (take k window)) turn
 
 -- the windows of k+1 identifiers that begin with one of k are within all
 pub all_within : (counts : CountOfWindows) (k m run : ℕ) → run < length (windows k m) → run * (m - k) + (m - k) ≤ length (windows (k + 1) m)
@@ -62,14 +62,6 @@ family_in counts t family list some full at' =
     let within = family_within t family (family_len t) counts some (sym (two_more (t.ids - shared_len t) 2 (t.ids - shared_len t) refl refl))
     (slice_get_within (shared_lists t) family list at') in
     omega (arith, within, full)
-
--- the identifiers of a window without its first two and its last, as the code slices them
-pub shared_cut_two : (t : ChannelTable) (rounds : ℕ) (window : List ℕ) → rounds ≡ t.rounds → 1 ≤ t.rounds
-    → take (2 * rounds - 2) (drop 2 window) ≡ drop 2 (take (2 * t.rounds) window)
-shared_cut_two t rounds window rounds_is some =
-    let len : 2 * rounds - 2 ≡ 2 * t.rounds - 2 = omega arith in
-    let turn : 2 + (2 * t.rounds - 2) ≡ 2 * t.rounds = omega arith in
-    ap (λ k. take k (drop 2 window)) len ∙ sym (drop-take 2 (2 * t.rounds - 2) window) ∙ ap (λ k. drop 2 (take k window)) turn
 
 -- the number of a window's identifiers without the first two
 pub number_of_third :

@@ -24,7 +24,7 @@ use Rattle.nbhd_check.proofs.Prefixes.{place_of_last, in_run, one_run, window_at
 use Rattle.nbhd_check.proofs.Ranks.{rank, lacks, rank_mono, rank_rises}
 use Rattle.nbhd_check.proofs.RunLengths.{two_more}
 use Rattle.nbhd_check.proofs.Runs.{channel_at}
-use Rattle.nbhd_check.proofs.Suffixes.{family_in, number_of_third, shared_cut_two}
+use Rattle.nbhd_check.proofs.Suffixes.{family_in, number_of_third, shared_cut}
 
 -- no third window is close to the channel of a window if none of their family is
 pub free_in_family :
@@ -164,7 +164,7 @@ at_family t number window rounds ids first places place rounds_is ids_is some it
         place_is = sym (here ∙ ap (λ n. place_in_run k window (slice_index window n)) last);
       };
       starts = subst (λ l. IsRunStart (2 * (t.rounds - 1)) t.ids l first)
-          (ap (λ n. take n (drop 2 window)) back ∙ shared_cut_two t t.rounds window refl some) starts;
+          (ap (λ n. take n (drop 2 window)) back ∙ shared_cut 2 t t.rounds window refl (omega (arith, some))) starts;
     }
 
 pub families_few : (counts : CountOfWindows) (t : ChannelTable) → 1 ≤ t.rounds → 2 * t.rounds + 2 ≤ t.ids → length (shared_lists t) ≤ length (windows_of t)

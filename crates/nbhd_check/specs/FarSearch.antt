@@ -1,10 +1,17 @@
 -- The search for windows that begin a tuple with a close third window, family by family.
-use Rattle.std.specs.Prelude.{◌≡◌, ℕ, ◌+◌, ◌-◌, ◌*◌, ◌<◌, ◌≤◌, List, take, drop, slice_get, Some}
+use Rattle.std.specs.Prelude.{◌≡◌, ℕ, ◌+◌, ◌-◌, ◌*◌, ◌<◌, ◌≤◌, List, length, take, drop, slice_get, Some}
 use Rattle.win_index.specs.Runs.{IsAtPlace, IsRunStart}
 use Rattle.win_index.specs.declared.series.RunPlaces.{RunPlaces}
 use Rattle.channel_tables.specs.Tables.{ChannelTable, windows_of}
+use Rattle.channel_tables.specs.declared.separation.Separation.{Separation}
 use Rattle.nbhd_check.specs.Counts.{shared_lists}
-use Rattle.nbhd_check.specs.Runs.{BeginsFarTuple}
+use Rattle.nbhd_check.specs.Runs.{AreFree, BeginsBadTuple, BeginsFarTuple}
+
+-- Distance two counts, and none of the first `most` windows begins a tuple whose second window is too close.
+pub record IsFarSearch (t : ChannelTable) (s : Separation) (most : ℕ) : Type 0 where
+  pub some : (1 ≤ t.rounds) × (1 ≤ s.far)
+  pub few : most ≤ length (windows_of t)
+  pub near : AreFree t (BeginsBadTuple t (record { near = s.near; far = 0 })) 0 most
 
 -- none of the windows below this number that pass begins a tuple whose third window is closer than the distance
 abbrev pub AreFarFreeIn : ChannelTable → ℕ → ℕ → (List ℕ → Type 0) → Type 0

@@ -2,6 +2,7 @@
 ghost use Rattle.std.specs.Prelude.{◌≡◌, ◌+◌, ◌*◌, ◌^◌, ◌<◌, ◌≤◌, length};
 ghost use Rattle.channel_tables.specs.Tables.{windows_of};
 ghost use Rattle.nbhd_check.specs.Runs.{AreFree, BeginsBadTuple};
+ghost use Rattle.nbhd_check.specs.FarSearch.{IsFarSearch};
 
 use crate::counts::channel_limit;
 use crate::far_counts::FarCounts;
@@ -28,9 +29,7 @@ pub(crate) fn far_free_windows<R: Threads + Sync>(
     most: u32,
     threads: u32,
 ) -> u32
-    requires some { (1 ≤ tuples.table.now.rounds) × (1 ≤ tuples.separation.far) }
-    requires few { most ≤ length (windows_of tuples.table.now) }
-    requires near { AreFree tuples.table.now (BeginsBadTuple tuples.table.now (record { near = tuples.separation.near; far = 0 })) 0 most }
+    requires { IsFarSearch tuples.table.now tuples.separation most }
     ensures { AreFree tuples.entry.table.now (BeginsBadTuple tuples.entry.table.now tuples.entry.separation) 0 result }
 {
     numbers_of_windows();
@@ -60,9 +59,7 @@ fn free_by_counts<R: Threads + Sync>(
     most: u32,
     threads: u32,
 ) -> u32
-    requires some { (1 ≤ tuples.table.now.rounds) × (1 ≤ tuples.separation.far) }
-    requires few { most ≤ length (windows_of tuples.table.now) }
-    requires near { AreFree tuples.table.now (BeginsBadTuple tuples.table.now (record { near = tuples.separation.near; far = 0 })) 0 most }
+    requires { IsFarSearch tuples.table.now tuples.separation most }
     ensures { AreFree tuples.entry.table.now (BeginsBadTuple tuples.entry.table.now tuples.entry.separation) 0 result }
 {
     numbers_of_windows();

@@ -39,7 +39,7 @@ returns-clause-runs c =
     let same = one_run (wide t) own.number (place_of_last k window) c.args.run (c.args.run * wide t) inside number (omega arith) (omega arith) in
     let rounds_is : c.rounds-level.result ≡ t.rounds = c.rounds-level.ensures ∙ c.shape-shape.ensures.rounds in
     let ids_is : c.shape-shape.result.ids ≡ t.ids = c.shape-shape.ensures.ids in
-    let shared = shared_cut t c.rounds-level.result window rounds_is c.requires.some in
+    let shared = shared_cut 1 t c.rounds-level.result window rounds_is (omega (arith, c.requires.some)) in
     let short : length (take (2 * c.rounds-level.result - 1) (drop 1 window)) ≡ 2 * (t.rounds - 1) + 1 =
     length-take-le (2 * c.rounds-level.result - 1) (drop 1 window) (omega (arith, length-drop 1 window)) ∙ omega (arith, rounds_is, c.requires.some) in
     let n : ℕ = c.window_number-number.result in
