@@ -63,7 +63,8 @@ loaded-stored (One Not a) = ap (One Not) (loaded-stored a)
 loaded-stored (Two o a b) = λ i. Two (operation_at-number_of o i) (loaded-stored a i) (loaded-stored b i)
 loaded-stored (Choose c a b) = λ i. Choose (loaded-stored c i) (loaded-stored a i) (loaded-stored b i)
 
-abbrev term_code : Coded Term
+-- an injective code of expressions
+abbrev pub term_code : Coded Term
 term_code = record { code = stored; inj = λ x y e. sym (loaded-stored x) ∙ ap loaded e ∙ loaded-stored y }
 
 abbrev step_code : Coded Round

@@ -74,8 +74,8 @@ impl<'a> Segment<'a> {
         let first = index * places / segments;
         let end = (index + 1) * places / segments;
         let cells = (end - first) as usize * width_of(plan);
-        let mut states = zeros(alloc, cells)?;
-        let spare = zeros(alloc, cells)?;
+        let mut states = vec![in alloc; 0; cells]?;
+        let spare = vec![in alloc; 0; cells]?;
         let ids = ring.ids();
         start_of_row(plan, &ids[first as usize..end as usize], &mut states);
         Ok(Segment {
@@ -178,10 +178,4 @@ impl<'a> Segment<'a> {
         self.round += 1;
         Ok(())
     }
-}
-
-fn zeros(alloc: Global, len: usize) -> Result<Vec<u32>, OutOfMemory>
-    ensures { IfOk result (λ cells. length cells.items ≡ len) }
-{
-    Ok(vec![in alloc; 0; len]?)
 }

@@ -4,7 +4,6 @@ ghost use Rattle.std.specs.Prelude.{◌≡◌, IfOk, length};
 
 use crate::laws::stretches_are_rows;
 use crate::node::{channel, sent_to_left, sent_to_right};
-use crate::rounds::zeros;
 use crate::row::{round_of_row, row_at, start_of_row, width_of};
 use lang_check::Plan;
 use node_program::OutOfMemory;
@@ -70,8 +69,8 @@ impl<'a> Configuration<'a> {
     {
         let ids = ring.ids();
         let cells = ids.len() * width_of(plan);
-        let mut states = zeros(alloc, cells)?;
-        let spare = zeros(alloc, cells)?;
+        let mut states = vec![in alloc; 0; cells]?;
+        let spare = vec![in alloc; 0; cells]?;
         start_of_row(plan, ids, &mut states);
         Ok(Configuration {
             plan,

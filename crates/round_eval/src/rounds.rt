@@ -19,18 +19,11 @@ pub fn plain_run(alloc: Global, plan: &Plan, ring: &Ring) -> Result<Vec<u32>, Ou
 {
     let ids = ring.ids();
     let cells = ids.len() * width_of(plan);
-    let mut states = zeros(alloc, cells)?;
-    let mut next = zeros(alloc, cells)?;
-    let mut channels = zeros(alloc, ids.len())?;
+    let mut states = vec![in alloc; 0; cells]?;
+    let mut next = vec![in alloc; 0; cells]?;
+    let mut channels = vec![in alloc; 0; ids.len()]?;
     run_rounds(plan, ids, &mut states, &mut next, &mut channels);
     Ok(channels)
-}
-
-// Returns a list of `len` zeros.
-pub(crate) fn zeros(alloc: Global, len: usize) -> Result<Vec<u32>, OutOfMemory>
-    ensures { IfOk result (λ cells. length cells.items ≡ len) }
-{
-    Ok(vec![in alloc; 0; len]?)
 }
 
 // Writes the channels of a ring after all rounds. `states` and `next` are scratch, with a row of
