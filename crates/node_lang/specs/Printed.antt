@@ -19,22 +19,16 @@ own_word Identifier = codes "id"
 own_word LeftMessage = codes "L"
 own_word RightMessage = codes "R"
 own_word (RegisterValue j) = codes "r" ++ decimal j
-own_word (One o a) = unary_name o
-own_word (Two o a b) = binary_name o
-own_word (Choose c a b) = codes "if"
+own_word operation = operation_name operation
 
 -- an expression: its operands are separated by a comma and one blank, with no other blanks in it
 abbrev pub printed_expression : Term → List ℕ
-printed_expression (Literal n) = decimal n
-printed_expression Identifier = codes "id"
-printed_expression LeftMessage = codes "L"
-printed_expression RightMessage = codes "R"
-printed_expression (RegisterValue j) = codes "r" ++ decimal j
 printed_expression (One o a) = unary_name o ++ (codes "(" ++ (printed_expression a ++ codes ")"))
 printed_expression (Two o a b) =
     binary_name o ++ (codes "(" ++ (printed_expression a ++ (codes ", " ++ (printed_expression b ++ codes ")"))))
 printed_expression (Choose c a b) = codes "if" ++ (codes "(" ++ (printed_expression c
     ++ (codes ", " ++ (printed_expression a ++ (codes ", " ++ (printed_expression b ++ codes ")"))))))
+printed_expression leaf = own_word leaf
 
 -- the assignment of an expression to register j
 abbrev pub assignment_line : ℕ → Term → List ℕ

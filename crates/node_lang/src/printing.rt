@@ -38,11 +38,9 @@ fn write_expression(text: &mut String, expression: &Expr) -> Result<(), AllocErr
     ensures { OnOk result (string_bytes text.new ≡ string_bytes text.old ++ printed_expression (term_of expression.now)) }
 {
     match expression {
-        Expr::Number(number) => write!(text, "{number}"),
-        Expr::Id => text.push_str("id"),
-        Expr::FromLeft => text.push_str("L"),
-        Expr::FromRight => text.push_str("R"),
-        Expr::Register(register) => write!(text, "r{register}"),
+        Expr::Number(_) | Expr::Id | Expr::FromLeft | Expr::FromRight | Expr::Register(_) => {
+            write_word(text, expression)
+        }
         Expr::One(_, a) => {
             write_opening(text, expression)?;
             write_operand(text, a, ")")
