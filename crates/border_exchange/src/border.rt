@@ -1,9 +1,8 @@
-// The link between two neighbours.
+//! The link between two neighbours.
 ghost use Rattle.std.specs.Prelude.{◌≡◌, ◌+◌, ◌^◌, ◌<◌, OnOk, OnErr, IfErr, IfOk, IfSome, length};
 ghost use Rattle.border_exchange.specs.InRounds.{AreInRounds};
-ghost use Rattle.border_exchange.specs.SeatState.{IsNext};
+ghost use Rattle.border_exchange.specs.SeatState.{IsNext, IsPutFault};
 ghost use Rattle.border_exchange.specs.declared.Side.TheVariants.{Rightward, Leftward};
-ghost use Rattle.border_exchange.specs.declared.fault.PutFault.TheVariants.{Misplaced, OutOfMemory as NoRoom};
 
 use crate::lists::Lists;
 use crate::seat::Seat;
@@ -64,10 +63,8 @@ impl<M: Dated + Copy, R: Ledger, L: Ledger> Border<M, R, L> {
         requires { seat.old.puts < 2 ^ 24 }
         ensures put { OnOk result (seat.new ≡ record seat.old { puts = seat.old.puts + 1 }) }
         ensures placed { OnOk result (IsNext M.side_of M.round_of seat.old message) }
-        ensures refused { IfErr result (λ e. e.0 ≡ message) }
         ensures unchanged { OnErr result (seat.new ≡ seat.old) }
-        ensures misplaced { IfErr result (λ e. e.1 ≡ Misplaced → ¬ IsNext M.side_of M.round_of seat.old message) }
-        ensures no_room { IfErr result (λ e. e.1 ≡ NoRoom → IsNext M.side_of M.round_of seat.old message) }
+        ensures refused { IfErr result (λ e. (e.0 ≡ message) × IsPutFault M.side_of M.round_of seat.old message e.1) }
     {
         let outcome = self.lists.lock(rt).put(seat, message);
         self.moved.notify_all();

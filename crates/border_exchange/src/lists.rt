@@ -1,10 +1,10 @@
-// The content of a border under its lock.
+//! The content of a border under its lock.
 ghost use Rattle.std.specs.Prelude.{◌≡◌, ◌+◌, ◌^◌, ◌<◌, ◌≤◌, ◌↔◌, [], IsTrue, true, false, Err, OnOk, OnErr, IfErr, IfOk, IfSome, length, slice_get};
 ghost use Rattle.border_exchange.specs.InRounds.{AreInRounds};
 ghost use Rattle.border_exchange.specs.BorderContents.{messages_of, with_message};
-ghost use Rattle.border_exchange.specs.SeatState.{IsNext};
+ghost use Rattle.border_exchange.specs.SeatState.{IsNext, IsPutFault};
 ghost use Rattle.border_exchange.specs.declared.Side.TheVariants.{Rightward, Leftward};
-ghost use Rattle.border_exchange.specs.declared.fault.PutFault.TheVariants.{Closed, Misplaced, OutOfMemory as NoRoom};
+ghost use Rattle.border_exchange.specs.declared.fault.PutFault.TheVariants.{Closed};
 
 use crate::seat::Seat;
 use crate::side_list::SideList;
@@ -17,8 +17,8 @@ use std::sync::ledger::{Book, Ledger};
 /// The lists of both sides, and whether the border was closed.
 #[derive(Drop)]
 pub(crate) struct Lists<M: Dated, R: Ledger, L: Ledger> {
-    rightward: SideList<M, R>,
-    leftward: SideList<M, L>,
+    pub(crate) rightward: SideList<M, R>,
+    pub(crate) leftward: SideList<M, L>,
     closed: bool,
 }
 
@@ -89,23 +89,20 @@ impl<M: Dated + Copy, R: Ledger, L: Ledger> Lists<M, R, L> {
     /// Appends to the list of the seat's side, as `Border::put` does.
     pub(crate) fn put(&mut self, seat: &mut Seat<R, L>, message: M) -> Result<(), (M, PutFault)>
         requires { seat.old.puts < 2 ^ 24 }
-        ensures put { OnOk result (seat.new ≡ record seat.old { puts = seat.old.puts + 1 }) }
-        ensures appended { OnOk result (self.new ≡ with_message self.old seat.old.side message) }
-        ensures placed { OnOk result (IsNext M.side_of M.round_of seat.old message) }
-        ensures refused { IfErr result (λ e. e.0 ≡ message) }
+        ensures put { OnOk result ((seat.new ≡ record seat.old { puts = seat.old.puts + 1 })
+            × (self.new ≡ with_message self.old seat.old.side message) × IsNext M.side_of M.round_of seat.old message) }
         ensures unchanged { OnErr result ((self.new ≡ self.old) × (seat.new ≡ seat.old)) }
+        ensures refused { IfErr result (λ e. (e.0 ≡ message) × IsPutFault M.side_of M.round_of seat.old message e.1) }
         ensures closed { (result ≡ Err (message, Closed)) ↔ (self.old.closed ≡ true) }
-        ensures misplaced { IfErr result (λ e. e.1 ≡ Misplaced → ¬ IsNext M.side_of M.round_of seat.old message) }
-        ensures no_room { IfErr result (λ e. e.1 ≡ NoRoom → IsNext M.side_of M.round_of seat.old message) }
     {
         if self.closed {
             return Err((message, PutFault::Closed));
         }
-        seat.audit(&mut self.rightward, &mut self.leftward);
+        seat.audit(self);
         if message.side() != seat.side() || message.round() != seat.puts() {
             return Err((message, PutFault::Misplaced));
         }
-        match seat.append(&mut self.rightward, &mut self.leftward, message) {
+        match seat.append(self, message) {
             Ok(()) => Ok(()),
             Err(message) => Err((message, PutFault::OutOfMemory)),
         }

@@ -1,7 +1,7 @@
-// The right to put on one side of a border.
+//! The right to put on one side of a border.
 ghost use Rattle.std.specs.Prelude.{◌≡◌, ◌+◌, ◌^◌, ◌<◌, ◌∷◌, ◌++◌, [], OnOk, OnErr, IfErr, length};
 
-use crate::side_list::SideList;
+use crate::lists::Lists;
 use crate::{Dated, Side};
 use std::marker::Model;
 use std::sync::ledger::{Ledger, Share};
@@ -35,6 +35,8 @@ impl<R: Ledger, L: Ledger> Model for Seat<R, L> {
 
 impl<R: Ledger, L: Ledger> Seat<R, L> {
     ghost use Rattle.border_exchange.specs.declared.Side.TheVariants.{Rightward, Leftward};
+    ghost use Rattle.border_exchange.specs.BorderContents.{messages_of, with_message};
+    ghost use Rattle.border_exchange.specs.SeatState.{IsNext};
 
     pub(crate) fn rightward(share: Share<R>) -> Seat<R, L>
         requires { (share.parts ≡ 1) × (share.amount ≡ 0) }
@@ -74,48 +76,33 @@ impl<R: Ledger, L: Ledger> Seat<R, L> {
     }
 
     /// Proves that the seat has put as many messages as there are on its side.
-    pub(crate) fn audit<M: Dated + Copy>(
-        &mut self,
-        rightward: &mut SideList<M, R>,
-        leftward: &mut SideList<M, L>,
-    )
-        ensures seat { self.new ≡ self.old }
-        ensures lists { (rightward.new ≡ rightward.old) × (leftward.new ≡ leftward.old) }
-        ensures right { self.old.side ≡ Rightward → self.old.puts ≡ length rightward.old.messages }
-        ensures left { self.old.side ≡ Leftward → self.old.puts ≡ length leftward.old.messages }
+    pub(crate) fn audit<M: Dated + Copy>(&mut self, lists: &mut Lists<M, R, L>)
+        ensures unchanged { (self.new ≡ self.old) × (lists.new ≡ lists.old) }
+        ensures counted { self.old.puts ≡ length (messages_of lists.old self.old.side) }
     {
         match &mut self.share {
-            SideShare::Rightward(share) => rightward.audit(share),
-            SideShare::Leftward(share) => leftward.audit(share),
+            SideShare::Rightward(share) => lists.rightward.audit(share),
+            SideShare::Leftward(share) => lists.leftward.audit(share),
         }
     }
 
     /// Appends the message to the list of the seat's side and counts it. If the list can't grow,
-    /// the message is returned and the seat is unchanged.
+    /// the message is returned and nothing else changes.
     pub(crate) fn append<M: Dated + Copy>(
         &mut self,
-        rightward: &mut SideList<M, R>,
-        leftward: &mut SideList<M, L>,
+        lists: &mut Lists<M, R, L>,
         message: M,
     ) -> Result<(), M>
-        requires sides { (rightward.old.side ≡ Rightward) × (leftward.old.side ≡ Leftward) }
-        requires side { M.side_of message ≡ self.old.side }
-        requires right { self.old.side ≡ Rightward → M.round_of message ≡ length rightward.old.messages }
-        requires left { self.old.side ≡ Leftward → M.round_of message ≡ length leftward.old.messages }
-        requires room { self.old.puts < 2 ^ 24 }
-        ensures appended { OnOk result (self.new ≡ record self.old { puts = self.old.puts + 1 }) }
+        requires next { IsNext M.side_of M.round_of self.old message × (self.old.puts < 2 ^ 24) }
+        requires counted { self.old.puts ≡ length (messages_of lists.old self.old.side) }
+        ensures put { OnOk result ((self.new ≡ record self.old { puts = self.old.puts + 1 })
+            × (lists.new ≡ with_message lists.old self.old.side message)) }
         ensures refused { IfErr result (λ m. m ≡ message) }
-        ensures unchanged { OnErr result (self.new ≡ self.old) }
-        ensures sides { (rightward.new.side ≡ Rightward) × (leftward.new.side ≡ Leftward) }
-        ensures to_the_right { OnOk result (self.old.side ≡ Rightward → (rightward.new.messages ≡ rightward.old.messages ++ message ∷ [])
-            × (leftward.new.messages ≡ leftward.old.messages)) }
-        ensures to_the_left { OnOk result (self.old.side ≡ Leftward → (rightward.new.messages ≡ rightward.old.messages)
-            × (leftward.new.messages ≡ leftward.old.messages ++ message ∷ [])) }
-        ensures kept { OnErr result ((rightward.new ≡ rightward.old) × (leftward.new ≡ leftward.old)) }
+        ensures unchanged { OnErr result ((self.new ≡ self.old) × (lists.new ≡ lists.old)) }
     {
         match &mut self.share {
-            SideShare::Rightward(share) => rightward.append(share, message)?,
-            SideShare::Leftward(share) => leftward.append(share, message)?,
+            SideShare::Rightward(share) => lists.rightward.append(share, message)?,
+            SideShare::Leftward(share) => lists.leftward.append(share, message)?,
         }
         self.puts += 1;
         Ok(())

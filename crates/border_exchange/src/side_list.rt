@@ -1,4 +1,4 @@
-// The message list of one side.
+//! The message list of one side.
 ghost use Rattle.std.specs.Prelude.{◌≡◌, ◌+◌, ◌<◌, [], ◌∷◌, ◌++◌, length, Some, OnOk, OnErr, IfErr, IfOk, IfSome, slice_get};
 ghost use Rattle.border_exchange.specs.InRounds.{AreInRounds};
 
@@ -74,10 +74,9 @@ impl<M: Dated + Copy, L: Ledger> SideList<M, L> {
     /// message is returned and nothing else changes.
     pub(crate) fn append(&mut self, share: &mut Share<L>, message: M) -> Result<(), M>
         requires parts { 0 < share.old.parts }
-        requires side { M.side_of message ≡ self.old.side }
-        requires round { M.round_of message ≡ length self.old.messages }
-        ensures appended { OnOk result (self.new ≡ record self.old { messages = self.old.messages ++ message ∷ [] }) }
-        ensures counted { OnOk result (share.new.amount ≡ share.old.amount + 1) }
+        requires next { (M.side_of message ≡ self.old.side) × (M.round_of message ≡ length self.old.messages) }
+        ensures appended { OnOk result ((self.new ≡ record self.old { messages = self.old.messages ++ message ∷ [] })
+            × (share.new.amount ≡ share.old.amount + 1)) }
         ensures parts { share.new.parts ≡ share.old.parts }
         ensures refused { IfErr result (λ m. m ≡ message) }
         ensures unchanged { OnErr result ((self.new ≡ self.old) × (share.new ≡ share.old)) }
