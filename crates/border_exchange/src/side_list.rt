@@ -73,8 +73,7 @@ impl<M: Dated + Copy, L: Ledger> SideList<M, L> {
     /// Appends a message, and counts it in the book and in the share. If the list can't grow, the
     /// message is returned and nothing else changes.
     pub(crate) fn append(&mut self, share: &mut Share<L>, message: M) -> Result<(), M>
-        requires parts { 0 < share.old.parts }
-        requires next { (M.side_of message ≡ self.old.side) × (M.round_of message ≡ length self.old.messages) }
+        requires { (0 < share.old.parts) × (M.side_of message ≡ self.old.side) × (M.round_of message ≡ length self.old.messages) }
         ensures appended { OnOk result ((self.new ≡ record self.old { messages = self.old.messages ++ message ∷ [] })
             × (share.new.amount ≡ share.old.amount + 1)) }
         ensures parts { share.new.parts ≡ share.old.parts }

@@ -60,8 +60,7 @@ fn token_at(text: &[u8]) -> (Token, usize)
     requires no_blank { blank (slice_index text.now 0) ≡ false }
     requires no_comment { slice_index text.now 0 ≡ 35 → ⊥ }
     ensures token { lexemes_of text.now ≡ record { from = length text.now; token = result.0 } ∷ lexemes_of (drop result.1 text.now) }
-    ensures some { 0 < result.1 }
-    ensures within { result.1 ≤ length text.now }
+    ensures len { (0 < result.1) × (result.1 ≤ length text.now) }
 {
     let len = word_len(text);
     if len == 0 {

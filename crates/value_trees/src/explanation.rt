@@ -193,8 +193,7 @@ fn write_rounds(
 ) -> Result<(), AllocError>
     requires small { All IsSmallRound rounds.now × (length rounds.now ≤ MAX_ROUNDS) }
     requires rounds { map step_of rounds.now ≡ places.old.program.steps }
-    requires start { places.old.round ≡ 0 }
-    requires place { explained.place < length places.old.places }
+    requires start { (places.old.round ≡ 0) × (explained.place < length places.old.places) }
     ensures text { OnOk result (string_bytes text.new ≡ string_bytes text.old
         ++ rounds_trees explained.base places.old.program places.old.places explained.place 0 places.old.program.steps) }
     ensures done { OnOk result (places.new ≡ record places.old { round = length places.old.program.steps }) }
