@@ -1,7 +1,7 @@
 -- The positions of a run's windows, from their prefix and their last identifiers.
 use Rattle.std.proofs.Common.{◌≡◌, ◌≢◌, ℕ, suc, ◌+◌, ◌-◌, ◌<◌, ◌≤◌, false, List, [], ◌∷◌, ◌++◌, length, get_or, take, drop, slice_get, sym, ap, subst, ◌∙◌, arith}
 use Rattle.std.proofs.Math.Seq.{take-append_seam, get_or-append_seam}
-use Rattle.std.proofs.lemmas.List.{take_all, take_more, length-drop, get_or-take, get_or-drop}
+use Rattle.std.proofs.lemmas.List.{take_all, take_more, length-drop, length-take-le, get_or-take, get_or-drop}
 use Rattle.std.proofs.lemmas.List.Elements.{All-tail}
 use Rattle.std.proofs.lemmas.Option.{slice_get_within, same_Some}
 use Rattle.win_index.specs.Runs.{IsAtPlace, place_in_run}
@@ -141,6 +141,9 @@ last_inside k m window some is =
     (three_places (k + 1) m (get_or window (k + 1) 0) (take (k + 1) window) (omega arith) (window_front k m window is) (is.below (k + 1) 0 inside)
     (free_at window (k + 1) is.distinct inside)).inside
 
+pub place_inside : (k m place : ℕ) (places : RunPlaces) (window : List ℕ) → 1 ≤ k → IsAtPlace k m places window place → place < places.end
+place_inside k m place places window some is = omega (arith, last_inside k m window some is.window_is, is.place_is, is.run_has.end)
+
 pub places_end : (k m : ℕ) (window : List ℕ) → 1 ≤ k → IsWindow (k + 2) m window → place_in_run k window m + (k - 1) ≡ m
 places_end k m window some is =
     let front = window_front k m window is in
@@ -155,3 +158,20 @@ rest_distinct k m window is =
     let rest = length-drop 2 (take (k + 1) window) in
     rw (get_or-drop 2 (take (k + 1) window) i e, get_or-drop 2 (take (k + 1) window) j e)
     (front.distinct (2 + i) (2 + j) e (omega arith) (omega arith))
+
+-- consecutive numbers of a window are a window
+pub slice_window : (m n d len : ℕ) (w : List ℕ) → IsWindow n m w → d + len ≤ n → IsWindow len m (take len (drop d w))
+slice_window m n d len w is fits =
+    let size = is.size in
+    let many = length-drop d w in
+    let long : length (take len (drop d w)) ≡ len = length-take-le len (drop d w) (omega arith) in
+    record {
+      size = long;
+      below = λ i e lt.
+          let short : i < len = omega arith in
+          rw (get_or-take len (drop d w) i e short, get_or-drop d w i e) (is.below (d + i) e (omega arith));
+      distinct = λ i j e lt within.
+          let short : j < len = omega arith in
+          let before : i < len = omega arith in
+          rw (get_or-take len (drop d w) i e before, get_or-take len (drop d w) j e short, get_or-drop d w i e, get_or-drop d w j e) (is.distinct (d + i) (d + j) e (omega arith) (omega arith));
+    }

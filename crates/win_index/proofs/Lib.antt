@@ -12,6 +12,8 @@ pub mod RunStarts
 pub mod FrontPlaces
 pub mod SeriesPlaces
 pub mod LaterPlaces
+pub mod RunPrefixNumbers
+pub mod RunPrefixSteps
 pub mod Arcs
 pub mod Tuples
 pub mod Order

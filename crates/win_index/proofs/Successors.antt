@@ -93,7 +93,7 @@ at_end k m n x front none at' =
     }
 
 -- the next prefix, with the least number that it lacks
-next_front :
+pub next_front :
     (k m x y : ℕ) (front later : List ℕ) → first_lacked m front (x + 1) ≡ None → IsNext k m front later
     → slice_get (unused m later) 0 ≡ Some y → IsNext (suc k) m (front ++ x ∷ []) (later ++ y ∷ [])
 next_front k m x y front later none next least n at' =
@@ -102,7 +102,7 @@ next_front k m x y front later none next least n at' =
     rw number at (window_from_parts k m (end.place + 1) 0 y later (next end.place end.front_at) least)
 
 -- there is no next prefix
-last_of_all :
+pub last_of_all :
     (k m x : ℕ) (front : List ℕ) → first_lacked m front (x + 1) ≡ None → IsLast k m front → IsLast (suc k) m (front ++ x ∷ [])
 last_of_all k m x front none last n at' =
     let end = at_end k m n x front none at' in

@@ -1,9 +1,10 @@
 -- The numbers below a bound that a list of distinct numbers lacks.
-use Rattle.std.proofs.Common.{◌≡◌, ◌≢◌, ◌⊎◌, ℕ, zero, suc, ◌+◌, ◌-◌, ◌<◌, ◌≤◌, Bool, true, false, not, cond, nat_lt, eqb, List, [], ◌∷◌, length, get_or, count_by, slice_get, Some, All, AllPairs, refl, sym, ap, ◌∙◌, arith, length-append, ⊎_elim}
+use Rattle.std.proofs.Common.{◌≡◌, ◌≢◌, ◌⊎◌, ℕ, zero, suc, ◌+◌, ◌-◌, ◌<◌, ◌≤◌, Bool, true, false, not, cond, nat_lt, eqb, List, [], ◌∷◌, ◌++◌, length, get_or, count_by, slice_get, Some, All, AllPairs, refl, sym, ap, subst, ◌∙◌, arith, length-append, ⊎_elim}
 use Rattle.std.proofs.lemmas.Bool.{cases_lt, cases_order, lt-ltb, le-ltb, eq-eqb, ne_eqb, false≢true, not_from_false}
 use Rattle.std.proofs.lemmas.Grind.{get_or_default_zero}
 use Rattle.std.proofs.lemmas.List.Elements.{All-head, All-tail}
 use Rattle.std.proofs.lemmas.List.Folds.{list_any_none, list_any_at}
+use Rattle.std.proofs.lemmas.List.Quantifiers.{all_pairs_push}
 use Rattle.std.proofs.lemmas.List.Recursion.{is_count_by}
 use Rattle.win_index.specs.Windows.{is_used, unused}
 use Rattle.win_index.proofs.Kept.{kept, kept_suc, kept_more, kept_own, kept_rises}
@@ -51,6 +52,18 @@ rank_all (y ∷ list) m below =
     let lt : nat_lt y m ≡ true = lt-ltb y m (All-head (λ x. x < m) y list below) in
     let rest = rank_all list m (All-tail (λ x. x < m) y list below) in
     rw lt (omega (arith, rest))
+
+rank_push : (list : List ℕ) (x y : ℕ) → rank (list ++ x ∷ []) y ≡ rank list y + cond (nat_lt x y) 1 0
+rank_push [] x y = elim (nat_lt x y) as (λ b. cond b (1 + 0) 0 ≡ 0 + cond b 1 0) [
+  | true ↦ refl
+  | false ↦ refl
+]
+rank_push (z ∷ list) x y =
+    let rest = rank_push list x y in
+    elim (nat_lt z y) as (λ b. cond b (1 + rank (list ++ x ∷ []) y) (rank (list ++ x ∷ []) y) ≡ cond b (1 + rank list y) (rank list y) + cond (nat_lt x y) 1 0) [
+      | true ↦ omega (arith, rest)
+      | false ↦ omega (arith, rest)
+    ]
 
 -- one more is counted if it is in the list
 rank_suc : (list : List ℕ) (x : ℕ) → IsDistinct list → rank list (suc x) ≡ rank list x + cond (is_used list x) 1 0
@@ -190,3 +203,21 @@ unused_in_front y x list distinct =
       | true ↦ λ sum. omega (arith, sum, shorter)
       | false ↦ λ sum. omega (arith, sum, shorter)
     ] longer
+
+-- a number at the end of a list is one that it no longer lacks
+pub unused_at_end :
+    (y x : ℕ) (list : List ℕ) → IsDistinct list → is_used list x ≡ false → length (unused y (list ++ x ∷ [])) + cond (nat_lt x y) 1 0 ≡ length (unused y list)
+unused_at_end y x list distinct free =
+    let longer = length-unused_rank (list ++ x ∷ []) y (all_pairs_push (λ a b. a ≢ b) list x distinct (lacks_differs list x free)) in
+    omega (arith, longer, length-unused_rank list y distinct, rank_push list x y)
+
+-- the empty list lacks each number
+pub unused_all : (x : ℕ) → length (unused x []) ≡ x
+unused_all x = omega (arith, length-unused_rank [] x (λ i j d lt within. absurd (omega (arith, within))))
+
+-- a list lacks at most x numbers below x
+pub unused_at_most : (list : List ℕ) (x : ℕ) → length (unused x list) ≤ x
+unused_at_most list x =
+    let none : length (unused 0 list) ≡ 0 = refl in
+    let sum : 0 + x ≡ x = omega arith in
+    omega (arith, subst (λ n. length (unused n list) ≤ length (unused 0 list) + x) sum (unused_few list 0 x), none)

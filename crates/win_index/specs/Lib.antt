@@ -6,6 +6,7 @@ pub mod Falling
 pub mod Lexicographic
 pub mod Successor
 pub mod Runs
+pub mod RunPrefixes
 pub mod ShapeRange
 pub mod Blocks
 pub mod Jobs

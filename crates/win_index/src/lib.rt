@@ -5,7 +5,9 @@ mod arrangement;
 mod jobs;
 mod laws;
 mod limits;
+mod prefixes;
 mod ring;
+mod run_prefix;
 mod series;
 mod shape;
 
@@ -19,5 +21,6 @@ pub use limits::{
     MAX_WINDOWS,
 };
 pub use ring::{Ring, RingFault};
+pub use run_prefix::RunPrefix;
 pub use series::RunPlaces;
 pub use shape::{Shape, ShapeFault, place_among_unused};

@@ -51,8 +51,9 @@ impl Shape {
 
 impl RunPlaces {
     ghost use Rattle.std.specs.Prelude.{◌≡◌, ◌≢◌, ◌⊎◌, ℕ, List, ◌+◌, ◌<◌, ◌≤◌, take, IfSome, IfNone};
-    ghost use Rattle.win_index.specs.Runs.{IsAtPlace, IsSeries, IsLastOfRun};
+    ghost use Rattle.win_index.specs.Runs.{HasPlaces, IsAtPlace, IsFirstOfRun, IsSeries, IsLastOfRun};
     ghost use Rattle.win_index.specs.Successor.{IsNext};
+    ghost use Rattle.win_index.specs.Windows.{IsWindow};
 
     /// Returns the number of positions from this one to the end, gaps included.
     pub fn rest(self, place: u32) -> u32
@@ -74,6 +75,16 @@ impl RunPlaces {
         ensures whole { (k m : ℕ) (first : List ℕ) → 1 ≤ k → IsAtPlace k m self first place → result < most → IsSeries k m first (result + 1) → ⊥ }
     {
         (self.clear_end(place) - place).min(most)
+    }
+
+    /// Returns the position of the first window in the run.
+    pub fn first(self) -> u32
+        ensures place { (k m : ℕ) (window : List ℕ) → 1 ≤ k → IsWindow (k + 2) m window → HasPlaces k m window self
+            → IsFirstOfRun (k + 1) m window → IsAtPlace k m self window result }
+        ensures inside { (k m : ℕ) (window : List ℕ) → 1 ≤ k → IsWindow (k + 2) m window → HasPlaces k m window self
+            → IsFirstOfRun (k + 1) m window → result < self.end }
+    {
+        self.past_gap(self.past_gap(0))
     }
 
     /// Returns the position of the next window in the run, or `None` if this is the last one.

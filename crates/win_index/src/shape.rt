@@ -211,7 +211,7 @@ impl Shape {
     }
 
     // The prefixes of the windows of this level, all identifiers but the last.
-    fn fronts(&self, level: u32) -> Lists
+    pub(crate) fn fronts(&self, level: u32) -> Lists
         requires { level ≤ self.now.rounds }
         ensures ids { result.ids ≡ self.now.ids }
         ensures len { result.len ≡ 2 * level }

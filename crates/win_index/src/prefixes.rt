@@ -1,0 +1,211 @@
+//! The prefixes of runs, by numbers from which those of the parts of their windows follow. A prefix is stepped to the next
+//! one, so that no list is numbered anew.
+ghost use Rattle.std.specs.Prelude.{◌≡◌, ℕ, List, ◌+◌, ◌-◌, ◌<◌, ◌≤◌, take, nat_lt, if◌then◌else◌, length, slice_index, IfSome, IfNone};
+ghost use Rattle.win_index.specs.declared.limits.TheConstants.{MAX_IDS, MAX_WINDOWS};
+ghost use Rattle.win_index.specs.Falling.{falling};
+ghost use Rattle.win_index.specs.RunPrefixes.{HasNumbers, IsLonger, IsPrefix, IsNextPrefix, IsLastPrefix};
+
+use crate::arrangement::Lists;
+use crate::run_prefix::RunPrefix;
+use crate::series::RunPlaces;
+use crate::shape::Shape;
+
+// The lists of one length, at least two, that are prefixes of runs.
+#[derive(Clone, Copy)]
+pub(crate) struct Prefixes {
+    pub(crate) ids: u32,
+    pub(crate) len: u32,
+    pub(crate) ghost some: { 2 ≤ len },
+    pub(crate) ghost short: { len < ids },
+    pub(crate) ghost few_ids: { ids ≤ MAX_IDS },
+    pub(crate) ghost few: { falling ids len ≤ MAX_WINDOWS },
+}
+
+impl Prefixes {
+    // The lists that are one identifier shorter.
+    fn shorter(self) -> Prefixes
+        requires { 3 ≤ self.len }
+        ensures ids { result.ids ≡ self.ids }
+        ensures len { result.len + 1 ≡ self.len }
+    {
+        Prefixes {
+            ids: self.ids,
+            len: self.len - 1,
+        }
+    }
+
+    // The positions for the lists that are one identifier longer than this one.
+    pub(crate) fn places(self, prefix: RunPrefix) -> RunPlaces
+        ensures first { result.first_gap ≡ prefix.first_gap }
+        ensures second { result.second_gap ≡ prefix.second_gap }
+        ensures end { result.end + self.len ≡ self.ids + 2 }
+    {
+        RunPlaces {
+            first_gap: prefix.first_gap,
+            second_gap: prefix.second_gap,
+            end: self.ids - (self.len - 2),
+        }
+    }
+
+    // The prefix with one identifier more, which has this position.
+    fn longer(self, prefix: RunPrefix, place: u32) -> RunPrefix
+        requires { (window : List ℕ) × IsLonger self.len self.ids prefix place window }
+        ensures { (window : List ℕ) → IsLonger self.len self.ids prefix place window → HasNumbers (self.len + 1) self.ids window result }
+    {
+        let free = self.ids - self.len;
+        RunPrefix {
+            middle: prefix.middle * (free + 1) + (place - one_if_below(prefix.second_gap, place)),
+            last: prefix.last * (free + 2) + place,
+            first_gap: prefix.first_gap - one_if_below(place, prefix.first_gap),
+            second_gap: prefix.second_gap - one_if_below(place, prefix.second_gap),
+        }
+    }
+
+    // The prefix without its last identifier, and the position of that one.
+    fn without_last(self, prefix: RunPrefix) -> (RunPrefix, u32)
+        requires { IsPrefix (self.len + 1) self.ids prefix }
+        ensures { (window : List ℕ) → HasNumbers (self.len + 1) self.ids window prefix → IsLonger self.len self.ids result.0 result.1 window }
+    {
+        let free = self.ids - self.len;
+        let place = prefix.last % (free + 2);
+        let shorter = RunPrefix {
+            middle: prefix.middle / (free + 1),
+            last: prefix.last / (free + 2),
+            first_gap: prefix.first_gap + one_if_below(place, prefix.first_gap + 1),
+            second_gap: prefix.second_gap + one_if_below(place, prefix.second_gap + 1),
+        };
+        (shorter, place)
+    }
+
+    // The next prefix, or `None` if this is the last one.
+    pub(crate) fn next(self, prefix: RunPrefix) -> Option<RunPrefix>
+        requires { IsPrefix self.len self.ids prefix }
+        ensures next { IfSome result (IsNextPrefix self.len self.ids prefix) }
+        ensures last { IfNone result (IsLastPrefix self.len self.ids prefix) }
+    {
+        if self.len == 2 {
+            return next_pair(self.ids, prefix);
+        }
+        let shorter = self.shorter();
+        let (front, place) = shorter.without_last(prefix);
+        if let Some(next) = shorter.places(front).after(place) {
+            return Some(shorter.longer(front, next));
+        }
+        let Some(later) = shorter.next(front) else {
+            return None;
+        };
+        Some(shorter.longer(later, shorter.places(later).first()))
+    }
+}
+
+// The next prefix of two identifiers, or `None` if this is the last one.
+fn next_pair(ids: u32, prefix: RunPrefix) -> Option<RunPrefix>
+    requires ids { 2 < ids × ids ≤ MAX_IDS }
+    requires prefix { IsPrefix 2 ids prefix }
+    ensures next { IfSome result (IsNextPrefix 2 ids prefix) }
+    ensures last { IfNone result (IsLastPrefix 2 ids prefix) }
+{
+    let mut pair = [prefix.first_gap, prefix.second_gap];
+    let pairs = Lists { ids, len: 2 };
+    if !pairs.write_next(&mut pair) {
+        return None;
+    }
+    Some(RunPrefix {
+        middle: pair[1],
+        last: 0,
+        first_gap: pair[0],
+        second_gap: pair[1],
+    })
+}
+
+// 1 if `low` is below `high`, else 0.
+fn one_if_below(low: u32, high: u32) -> u32
+    ensures few { result ≤ 1 }
+    ensures value { result ≡ (if nat_lt low high then 1 else 0) }
+{
+    u32::from(low < high)
+}
+
+impl Shape {
+    ghost use Rattle.std.specs.Prelude.{◌≡◌, ℕ, List, ◌+◌, ◌*◌, ◌<◌, take, drop, length, slice_get, Some, IfSome, IfNone};
+    ghost use Rattle.win_index.specs.RunPrefixes.{HasNumbers, IsPrefix, IsPrefixOfNextRun, IsPrefixOfLastRun};
+    ghost use Rattle.win_index.specs.Runs.{HasPlaces, IsRunStart};
+    ghost use Rattle.win_index.specs.Windows.{windows, IsWindow};
+
+    /// Returns the prefix of the run of a window one level above `below`, by its numbers.
+    pub fn run_prefix(&self, below: u32, window: &[u32]) -> RunPrefix
+        requires below { below < self.now.rounds }
+        requires window { IsWindow (2 * below + 3) self.now.ids window.now }
+        ensures { HasNumbers (2 * below + 2) self.now.ids (take (2 * below + 2) window.now) result }
+    {
+        let len = 2 * below as usize + 2;
+        let places = self.run_places(below, window);
+        RunPrefix {
+            middle: self.window_number(below, &window[1..len]),
+            last: self.front_number(below, &window[2..len]),
+            first_gap: places.first_gap,
+            second_gap: places.second_gap,
+        }
+    }
+
+    /// Returns the prefix of the next run one level above `below`, or `None` if this is the prefix of the
+    /// last one.
+    pub fn next_run_prefix(&self, below: u32, prefix: RunPrefix) -> Option<RunPrefix>
+        requires below { below < self.now.rounds }
+        requires prefix { IsPrefix (2 * below + 2) self.now.ids prefix }
+        ensures next { IfSome result (IsPrefixOfNextRun (2 * below + 2) self.now.ids prefix) }
+        ensures last { IfNone result (IsPrefixOfLastRun (2 * below + 2) self.now.ids prefix) }
+    {
+        self.run_prefixes(below).next(prefix)
+    }
+
+    /// Returns the positions for the run with this prefix one level above `below`.
+    pub fn prefix_places(&self, below: u32, prefix: RunPrefix) -> RunPlaces
+        requires below { below < self.now.rounds }
+        ensures { (window : List ℕ) → IsWindow (2 * below + 3) self.now.ids window
+            → HasNumbers (2 * below + 2) self.now.ids (take (2 * below + 2) window) prefix → HasPlaces (2 * below + 1) self.now.ids window result }
+    {
+        self.run_prefixes(below).places(prefix)
+    }
+
+    /// Returns the number of the first window in the run of the last parts of the windows with this prefix,
+    /// which are one level above `below`.
+    pub fn last_run_start(&self, below: u32, prefix: RunPrefix) -> u32
+        requires below { below < self.now.rounds }
+        requires prefix { IsPrefix (2 * below + 2) self.now.ids prefix }
+        ensures { (list : List ℕ) → HasNumbers (2 * below + 2) self.now.ids list prefix → IsRunStart (2 * below) self.now.ids (drop 2 list) result }
+    {
+        prefix.last * (self.ids - 2 * below)
+    }
+
+    /// Returns the number of the first part of the window with this number one level above `below`.
+    pub fn first_part_number(&self, below: u32, number: u32) -> u32
+        requires below { below < self.now.rounds }
+        requires number { number < length (windows (2 * below + 3) self.now.ids) }
+        ensures { (window : List ℕ) → slice_get (windows (2 * below + 3) self.now.ids) number ≡ Some window
+            → slice_get (windows (2 * below + 1) self.now.ids) result ≡ Some (take (2 * below + 1) window) }
+    {
+        number / (self.ids - 2 * below - 2) / (self.ids - 2 * below - 1)
+    }
+
+    // The number of a prefix of a window of this level, all its identifiers but the last.
+    fn front_number(&self, level: u32, front: &[u32]) -> u32
+        requires level { level ≤ self.now.rounds }
+        requires front { IsWindow (2 * level) self.now.ids front.now }
+        ensures { slice_get (windows (2 * level) self.now.ids) result ≡ Some front.now }
+    {
+        self.fronts(level).number(front) as u32
+    }
+
+    // The prefixes of the runs one level above `below`.
+    fn run_prefixes(&self, below: u32) -> Prefixes
+        requires { below < self.now.rounds }
+        ensures ids { result.ids ≡ self.now.ids }
+        ensures len { result.len ≡ 2 * below + 2 }
+    {
+        Prefixes {
+            ids: self.ids,
+            len: 2 * below + 2,
+        }
+    }
+}
