@@ -1,14 +1,15 @@
 -- The blocks that a source knows while it is asked.
-use Rattle.std.proofs.Common.{◌≡◌, ◌∙◌, ℕ, zero, suc, ◌+◌, ◌*◌, ◌/◌, ◌<◌, ◌≤◌, Option, Some, None, IsSome, IfSome, List, [], slice_get, refl, arith}
+use Rattle.std.proofs.Common.{◌≡◌, ◌∙◌, ℕ, zero, suc, ◌+◌, ◌*◌, ◌/◌, ◌<◌, ◌≤◌, Option, Some, None, IsSome, IfSome, List, [], slice_get, refl, sym, ap, arith}
 use Rattle.std.proofs.lemmas.Bool.{false≢true}
-use Rattle.std.proofs.lemmas.Option.{get_or_from_slice_get}
+use Rattle.std.proofs.lemmas.Option.{get_or_from_slice_get, same_Some}
 use Rattle.win_index.specs.Windows.{windows, number_of}
 use Rattle.unroll.specs.Below.{part}
-use Rattle.window_states.specs.BlockStates.{MadeBlock, window_numbered, block_len}
+use Rattle.window_states.specs.BlockStates.{MadeBlock, window_numbered, block_len, block_state}
+use Rattle.window_states.specs.Line.{middle_state}
 use Rattle.lang_check.specs.Plans.{ProgramForIds}
-use Rattle.window_states.specs.Entries.{Entries, Grows, Asked}
+use Rattle.window_states.specs.Entries.{Entries, Grows, Asked, IsEntry}
 use Rattle.unroll.specs.MakeFaults.{KnowsAllBelow, IsMissingBelow, IsMakeFault}
-use Rattle.unroll.specs.Parts.{KnowsPart, KnowsParts, KnowsBelow, IsMissingPart, IsMissingBlock}
+use Rattle.unroll.specs.Parts.{HoldsWindow, KnowsPart, KnowsParts, KnowsBelow, IsMissingBlock}
 use Rattle.unroll.specs.declared.fault.MakeFault.{MakeFault}
 use Rattle.unroll.specs.declared.fault.MakeFault.TheVariants.{Missing, OutOfMemory}
 use Rattle.win_index.specs.declared.limits.TheConstants.{BLOCK_WINDOWS}
@@ -50,41 +51,34 @@ module _ (entries : Entries) (m low : ℕ) (w : List ℕ) where
 pub window_at : (m r n : ℕ) (window : List ℕ) → slice_get (windows (2 * r + 1) m) n ≡ Some window → window_numbered m r n ≡ window
 window_at m r n window at' = get_or_from_slice_get (windows (2 * r + 1) m) n window [] at'
 
--- a block that is missing for a window is missing for the window's block
-pub fault_of_block :
-    (entries : Entries) (m r b place : ℕ) (window : List ℕ) (fault : MakeFault) → place < block_len m r b
-    → window_numbered m r (BLOCK_WINDOWS * b + place) ≡ window → IsMissingPart entries m r window fault → IsMissingBelow entries m r b fault
-fault_of_block entries m r b place window (Missing low c) lt own missing = (
-  record {
-    one_lower = missing.0;
-    place = place;
-    inside = lt;
-    number = missing.1.0;
-    is_part = rw own missing.1.1;
-    block_is = missing.1.2;
-  },
-  missing.2,
-)
-fault_of_block entries m r b place window OutOfMemory lt own missing = absurd missing
-
--- a block that is missing for the last part of a window is missing for the window's block
-pub fault_of_last :
-    (entries : Entries) (m low b place number : ℕ) (window : List ℕ) (fault : MakeFault) → place < block_len m (low + 1) b
-    → window_numbered m (low + 1) (BLOCK_WINDOWS * b + place) ≡ window → number_of (2 * low + 1) m (part window low 2) ≡ Some number
+-- a block that is missing for a part of a window is missing for the window's block
+pub fault_of_part :
+    (entries : Entries) (m low b place number d : ℕ) (window : List ℕ) (fault : MakeFault) → d ≤ 2 → place < block_len m (low + 1) b
+    → window_numbered m (low + 1) (BLOCK_WINDOWS * b + place) ≡ window → number_of (2 * low + 1) m (part window low d) ≡ Some number
     → IsMissingBlock entries low (number / BLOCK_WINDOWS) fault → IsMissingBelow entries m (low + 1) b fault
-fault_of_last entries m low b place number window (Missing l c) lt own is missing =
+fault_of_part entries m low b place number d window (Missing l c) three lt own is missing =
     rw (missing.0, missing.1) (
       record {
         one_lower = refl;
         place = place;
         inside = lt;
         number = number;
-        is_part = rw own (record { offset = 2; three = omega arith; number_is = is });
+        is_part = rw own (record { offset = d; three = three; number_is = is });
         block_is = refl;
       },
       missing.2,
     )
-fault_of_last entries m low b place number window OutOfMemory lt own is missing = absurd missing
+fault_of_part entries m low b place number d window OutOfMemory three lt own is missing = absurd missing
+
+-- a known block stays known
+pub entry_grows : (plan : ProgramForIds) (old new : Entries) (level n : ℕ) (b : MadeBlock) → Grows old new → IsEntry plan old level n b → IsEntry plan new level n b
+entry_grows plan old new level n b grows is =
+    record { known = grows.kept level n b is.known; plan_is = is.plan_is; level_is = is.level_is; number_is = is.number_is }
+
+-- a known block is known by its own number
+pub own_entry : (plan : ProgramForIds) (entries : Entries) (level n : ℕ) (b : MadeBlock) → IsEntry plan entries level n b → IsEntry plan entries level b.number b
+own_entry plan entries level n b is =
+    record { known = ap (entries level) is.number_is ∙ is.known; plan_is = is.plan_is; level_is = is.level_is; number_is = refl }
 
 -- a property of an option's value, or of another if it has none
 pub if_some_more : {A : Type 0} (P Q : A → Type 0) (o : Option A) → ((a : A) → P a → Q a) → IfSome o P → IfSome o Q
@@ -103,3 +97,19 @@ pub missing_is_fault :
     → IsMakeFault entries old new m r b fault
 missing_is_fault entries old new m r b (Missing low c) missing = missing
 missing_is_fault entries old new m r b OutOfMemory missing = absurd missing
+
+-- the window with this number, in the block that holds it
+pub state_held :
+    (plan : ProgramForIds) (entries : Entries) (low n index : ℕ) (b : MadeBlock) (v : List ℕ) → HoldsWindow plan entries low n b index
+    → slice_get (windows (2 * low + 1) plan.ids) n ≡ Some v → block_state plan low b.number index ≡ middle_state plan.program low v
+state_held plan entries low n index b v holds at' =
+    let number : BLOCK_WINDOWS * b.number + index ≡ n = omega (arith, holds.place, holds.block.number_is) in
+    ap (middle_state plan.program low) (ap (window_numbered plan.ids low) number ∙ window_at plan.ids low n v at')
+
+-- the block of a part is known if it holds the window with the part's number
+pub part_known :
+    (plan : ProgramForIds) (entries : Entries) (low n index d : ℕ) (b : MadeBlock) (w : List ℕ) → HoldsWindow plan entries low n b index
+    → number_of (2 * low + 1) plan.ids (part w low d) ≡ Some n → KnowsPart entries plan.ids low w d
+part_known plan entries low n index d b w holds number = λ k is.
+    let same : k ≡ n = same_Some k n (sym is ∙ number) in
+    rw (same, holds.block.known) refl

@@ -1,6 +1,8 @@
 -- Lemmas that several proofs share.
 pub mod Known
 pub mod SameRun
+pub mod PrefixParts
+pub mod NextRuns
 pub mod ColumnStates
 pub mod SomeWritten
 pub mod SeriesStates

@@ -1,8 +1,10 @@
 -- The windows of a run share what `Run` holds.
-use Rattle.std.proofs.Common.{◌≡◌, ℕ, ◌+◌, ◌-◌, ◌*◌, ◌/◌, ◌<◌, ◌≤◌, List, length, get_or, take, drop, sym, ap, ◌∙◌, arith, subst}
+use Rattle.std.proofs.Common.{◌≡◌, ℕ, ◌+◌, ◌-◌, ◌*◌, ◌/◌, ◌<◌, ◌≤◌, List, length, get_or, take, drop, Some, sym, ap, ◌∙◌, arith, subst}
 use Rattle.std.proofs.lemmas.List.{drop-take, take-take, length-take-le, get_or-take, get_or-drop, length-drop}
+use Rattle.std.proofs.lemmas.Option.{same_Some}
+use Rattle.win_index.specs.Laws.{NumberOfWindow}
 use Rattle.win_index.specs.Runs.{HasPlaces}
-use Rattle.win_index.specs.Windows.{number_of, IsWindow}
+use Rattle.win_index.specs.Windows.{IsWindow}
 use Rattle.win_index.specs.declared.series.RunPlaces.{RunPlaces}
 use Rattle.lang_check.specs.Plans.{ProgramForIds}
 use Rattle.node_program.specs.Node.{to_right}
@@ -12,7 +14,7 @@ use Rattle.window_states.specs.Line.{middle_state}
 use Rattle.unroll.specs.Parts.{KnowsPart, IsFirstPart, IsRun}
 use Rattle.unroll.specs.declared.run.FirstPart.{FirstPart}
 use Rattle.unroll.specs.declared.run.Run.{Run}
-use Rattle.unroll.proofs.Known.{still_known}
+use Rattle.unroll.proofs.Known.{still_known, entry_grows, window_at}
 use Rattle.win_index.specs.declared.limits.TheConstants.{BLOCK_WINDOWS}
 
 -- identifiers before the last one of a prefix
@@ -50,8 +52,9 @@ same_run plan entries low w v run same is =
     record {
       start_is = rw rest at is.start_is;
       places_are = same_places plan.ids low w v run.places same is.places_are;
-      first_ids = is.first_ids ∙ left;
+      first_number = is.first_number ∙ ap Some left;
       first_is = is.first_is;
+      middle_is = is.middle_is;
       own_is = rw middle at is.own_is;
       own_cells = is.own_cells;
       own_known = rw middle at is.own_known;
@@ -61,15 +64,18 @@ same_run plan entries low w v run same is =
 pub first_grows :
     (plan : ProgramForIds) (old new : Entries) (low : ℕ) (first : FirstPart) → Grows old new → IsFirstPart plan old low first
     → IsFirstPart plan new low first
-first_grows plan old new low first grows is = (is.0, λ n number. still_known old new low (n / BLOCK_WINDOWS) grows (is.1 n number))
+first_grows plan old new low first grows is =
+    record { sent_is = is.sent_is; known = still_known old new low (first.number / BLOCK_WINDOWS) grows is.known }
 
 -- the first parts of a run's windows
 module _ (plan : ProgramForIds) (entries : Entries) (low : ℕ) (w : List ℕ) (run : Run) (is : IsRun plan entries low w run) where
   pub left_is : run.first.sent ≡ to_right plan.program low (middle_state plan.program low (part w low 0))
-  left_is = is.first_is.0 ∙ ap (λ ids. to_right plan.program low (middle_state plan.program low ids)) is.first_ids
+  left_is = is.first_is.sent_is ∙ ap (λ v. to_right plan.program low (middle_state plan.program low v)) (window_at plan.ids low run.first.number (part w low 0) is.first_number)
 
-  pub left_known : KnowsPart entries plan.ids low w 0
-  left_known = λ n number. is.first_is.1 n (ap (number_of (2 * low + 1) plan.ids) is.first_ids ∙ number)
+  pub left_known : NumberOfWindow → KnowsPart entries plan.ids low w 0
+  left_known number_of_window = λ n number.
+      let own = number_of_window (2 * low + 1) plan.ids run.first.number (part w low 0) is.first_number in
+      rw (same_Some n run.first.number (sym number ∙ own)) is.first_is.known
 
 -- a run stays one when the source knows more
 pub run_grows :
@@ -78,8 +84,9 @@ run_grows plan old new low w run grows is =
     record {
       start_is = is.start_is;
       places_are = is.places_are;
-      first_ids = is.first_ids;
+      first_number = is.first_number;
       first_is = first_grows plan old new low run.first grows is.first_is;
+      middle_is = entry_grows plan old new low _ _ grows is.middle_is;
       own_is = is.own_is;
       own_cells = is.own_cells;
       own_known = λ n number. still_known old new low (n / BLOCK_WINDOWS) grows (is.own_known n number);

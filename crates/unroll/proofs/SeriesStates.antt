@@ -131,7 +131,7 @@ module _ (number_of_window : NumberOfWindow) (windows_have_numbers : WindowsHave
       → SeriesAt plan entries low b place c index i w run → KnowsParts entries plan.ids low (window_numbered plan.ids (low + 1) (BLOCK_WINDOWS * b + (place + i)))
   series_known plan entries low b place c index i w run known small stands =
       subst (KnowsParts entries plan.ids low) (sym stands.numbered)
-      (knows_three entries plan.ids low stands.next (left_known plan entries low stands.next run stands.run_is) stands.run_is.own_known
+      (knows_three entries plan.ids low stands.next (left_known plan entries low stands.next run stands.run_is number_of_window) stands.run_is.own_known
       (λ number is.
       let own = number_of_window (2 * low + 1) plan.ids (BLOCK_WINDOWS * c + (index + i)) (part stands.next low 2) stands.right_at in
       let same : number ≡ BLOCK_WINDOWS * c + (index + i) = same_Some number (BLOCK_WINDOWS * c + (index + i)) (sym is ∙ own) in

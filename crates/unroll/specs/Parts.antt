@@ -1,16 +1,19 @@
 -- What the functions that make a block say of the source, for one window at a time.
-use Rattle.std.specs.Prelude.{◌≡◌, ℕ, ◌+◌, ◌*◌, ◌/◌, ◌%◌, ◌<◌, List, take, drop, length, slice_get, Some, None, IsSome, IfSome}
+use Rattle.std.specs.Prelude.{◌≡◌, ℕ, ◌+◌, ◌*◌, ◌/◌, ◌%◌, ◌<◌, List, take, drop, length, slice_index, slice_get, Some, None, IsSome, IfSome}
 use Rattle.lang_check.specs.Plans.{ProgramForIds}
 use Rattle.node_program.specs.Node.{to_right}
-use Rattle.win_index.specs.Runs.{IsRunStart, HasPlaces, IsEndOfSame}
+use Rattle.win_index.specs.RunPrefixes.{HasNumbers}
+use Rattle.win_index.specs.Runs.{IsRunStart, HasPlaces, IsEndOfSame, place_in_run}
 use Rattle.win_index.specs.Windows.{windows, number_of, IsWindow}
 use Rattle.window_states.specs.Line.{middle_state}
 use Rattle.unroll.specs.Below.{part, IsPartNumber}
-use Rattle.window_states.specs.BlockStates.{MadeBlock, window_numbered, block_len, block_state}
+use Rattle.window_states.specs.BlockStates.{MadeBlock, window_numbered, block_len}
 use Rattle.window_states.specs.Entries.{Entries, IsEntry}
 use Rattle.unroll.specs.declared.run.Reached.{Reached}
+use Rattle.win_index.specs.declared.run_prefix.RunPrefix.{RunPrefix}
 use Rattle.unroll.specs.declared.upper_block.UpperBlock.{UpperBlock}
 use Rattle.unroll.specs.declared.run.FirstPart.{FirstPart}
+use Rattle.unroll.specs.declared.run.Near.{Near}
 use Rattle.unroll.specs.declared.run.Run.{Run}
 use Rattle.unroll.specs.declared.fault.MakeFault.{MakeFault}
 use Rattle.unroll.specs.declared.fault.MakeFault.TheVariants.{Missing, OutOfMemory}
@@ -21,9 +24,20 @@ pub record IsFirstWindow (m r b : ℕ) (w : List ℕ) : Type 0 where
   pub here : slice_get (windows (2 * r + 1) m) (BLOCK_WINDOWS * b) ≡ Some w
   pub window : IsWindow (2 * r + 1) m w
 
--- w is a window one level above low, which is below the last level
-abbrev pub IsWindowAbove : ProgramForIds → ℕ → List ℕ → Type 0
-IsWindowAbove plan low w = (low < length plan.program.steps) × IsWindow (2 * low + 3) plan.ids w
+-- the window at an index of an upper block
+abbrev pub window_in : UpperBlock → ℕ → List ℕ
+window_in block index = window_numbered block.plan.now.ids (block.below + 1) (BLOCK_WINDOWS * block.number + index)
+
+-- an upper block has a window at this index
+pub record IsWindowIn (block : UpperBlock) (index : ℕ) : Type 0 where
+  pub inside : index < block_len block.plan.now.ids (block.below + 1) block.number
+  pub here : slice_get (windows (2 * (block.below + 1) + 1) block.plan.now.ids) (BLOCK_WINDOWS * block.number + index) ≡ Some (window_in block index)
+  pub window : IsWindow (2 * block.below + 3) block.plan.now.ids (window_in block index)
+
+-- the prefix of this window has these numbers
+pub record IsAtIndex (block : UpperBlock) (index : ℕ) (prefix : RunPrefix) : Type 0 where
+  pub is : IsWindowIn block index
+  pub has : HasNumbers (2 * block.below + 2) block.plan.now.ids (take (2 * block.below + 2) (window_in block index)) prefix
 
 -- the blocks of the level low that hold the three parts of the window w are known
 abbrev pub KnowsParts : Entries → ℕ → ℕ → List ℕ → Type 0
@@ -39,18 +53,20 @@ pub record HoldsWindow (plan : ProgramForIds) (entries : Entries) (level number 
   pub place : index ≡ number % BLOCK_WINDOWS
   pub inside : index < block_len plan.ids level (number / BLOCK_WINDOWS)
 
--- item `index` of a known block of the level low is the part of the window w at offset d
-pub record HoldsPart (plan : ProgramForIds) (entries : Entries) (low : ℕ) (w : List ℕ) (d : ℕ) (b : MadeBlock) (index : ℕ) : Type 0 where
-  pub block : IsEntry plan entries low b.number b
-  pub inside : index < block_len plan.ids low b.number
-  pub state : block_state plan low b.number index ≡ middle_state plan.program low (part w low d)
-  pub known : KnowsPart entries plan.ids low w d
-
 -- the first part of a window: the message of its node to the right after `low` rounds. Its block is known
-abbrev pub IsFirstPart : ProgramForIds → Entries → ℕ → FirstPart → Type 0
-IsFirstPart plan entries low first =
-    (first.sent ≡ to_right plan.program low (middle_state plan.program low (take (2 * low + 1) first.ids)))
-    × ((n : ℕ) → number_of (2 * low + 1) plan.ids (take (2 * low + 1) first.ids) ≡ Some n → IsSome (entries low (n / BLOCK_WINDOWS)))
+pub record IsFirstPart (plan : ProgramForIds) (entries : Entries) (low : ℕ) (first : FirstPart) : Type 0 where
+  pub sent_is : first.sent ≡ to_right plan.program low (middle_state plan.program low (window_numbered plan.ids low first.number))
+  pub known : IsSome (entries low (first.number / BLOCK_WINDOWS))
+
+-- a known block of the level low, by its own number
+abbrev pub IsKnownBlock : ProgramForIds → Entries → ℕ → MadeBlock → Type 0
+IsKnownBlock plan entries low b = IsEntry plan entries low b.number b
+
+-- a first part, and known blocks, if there are some
+pub record IsNear (plan : ProgramForIds) (entries : Entries) (low : ℕ) (near : Near) : Type 0 where
+  pub first : IfSome near.first (IsFirstPart plan entries low)
+  pub middle : IfSome near.middle (λ b. IsKnownBlock plan entries low b.now)
+  pub last : IfSome near.last (λ b. IsKnownBlock plan entries low b.now)
 
 -- What the windows of the run of w share, one level above low: the number of the first window in the run of their last
 -- parts, the positions of these, their first part, and the state of their middle part. The blocks of the first and the
@@ -58,8 +74,9 @@ IsFirstPart plan entries low first =
 pub record IsRun (plan : ProgramForIds) (entries : Entries) (low : ℕ) (w : List ℕ) (run : Run) : Type 0 where
   pub start_is : IsRunStart (2 * low) plan.ids (take (2 * low) (drop 2 w)) run.start
   pub places_are : HasPlaces (2 * low + 1) plan.ids w run.places
-  pub first_ids : take (2 * low + 1) run.first.ids ≡ part w low 0
+  pub first_number : slice_get (windows (2 * low + 1) plan.ids) run.first.number ≡ Some (part w low 0)
   pub first_is : IsFirstPart plan entries low run.first
+  pub middle_is : IsKnownBlock plan entries low run.middle.now
   pub own_is : run.own.now ≡ middle_state plan.program low (part w low 1)
   pub own_cells : length run.own.now ≡ length plan.program.start
   pub own_known : KnowsPart entries plan.ids low w 1
@@ -68,12 +85,6 @@ pub record IsRun (plan : ProgramForIds) (entries : Entries) (low : ℕ) (w : Lis
 abbrev pub KnowsBelow : Entries → ℕ → ℕ → ℕ → ℕ → Type 0
 KnowsBelow entries m r b count =
     (low place : ℕ) → r ≡ low + 1 → place < count → KnowsParts entries m low (window_numbered m r (BLOCK_WINDOWS * b + place))
-
--- the fault is that a block is missing which holds a part of the window w of level r
-abbrev pub IsMissingPart : Entries → ℕ → ℕ → List ℕ → MakeFault → Type 0
-IsMissingPart entries m r w (Missing low c) =
-    (r ≡ low + 1) × ((n : ℕ) × IsPartNumber m low w n × (c ≡ n / BLOCK_WINDOWS)) × (entries low c ≡ None)
-IsMissingPart entries m r w OutOfMemory = ⊥
 
 -- the fault is that the block of this level with this number is missing
 abbrev pub IsMissingBlock : Entries → ℕ → ℕ → MakeFault → Type 0
@@ -84,11 +95,11 @@ IsMissingBlock entries level number OutOfMemory = ⊥
 abbrev pub EndsAt : ℕ → ℕ → List ℕ → ℕ → Type 0
 EndsAt m r w n = (last : List ℕ) × (slice_get (windows (2 * r + 1) m) n ≡ Some last) × IsEndOfSame (2 * r + 1) m w last
 
--- a place among the windows of an upper block: the index of a window, its identifiers, its run, and a known block that
--- may hold the last part of another window
+-- a place among the windows of an upper block: the index of a window, the position of its last part, its run, and a known
+-- block that may hold the last part of another window
 pub record IsReached (entries : Entries) (block : UpperBlock) (reached : Reached) : Type 0 where
-  pub inside : reached.index < block_len block.plan.now.ids (block.below + 1) block.number
-  pub here : slice_get (windows (2 * (block.below + 1) + 1) block.plan.now.ids) (BLOCK_WINDOWS * block.number + reached.index) ≡ Some reached.window.now
-  pub window : IsWindow (2 * block.below + 3) block.plan.now.ids reached.window.now
-  pub run : IsRun block.plan.now entries block.below reached.window.now reached.run
-  pub last : IfSome reached.last (λ b. IsEntry block.plan.now entries block.below b.now.number b.now)
+  pub is : IsWindowIn block reached.index
+  pub run : IsRun block.plan.now entries block.below (window_in block reached.index) reached.run
+  pub place : place_in_run (2 * block.below + 1) (window_in block reached.index) (slice_index (window_in block reached.index) (2 * block.below + 2)) ≡ reached.place
+  pub inside : reached.place < reached.run.places.end
+  pub last : IfSome reached.last (λ b. IsKnownBlock block.plan.now entries block.below b.now)

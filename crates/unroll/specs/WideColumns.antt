@@ -9,11 +9,10 @@ use Rattle.column_machine.specs.StackNeed.{most_columns}
 use Rattle.unroll.specs.Below.{part}
 use Rattle.window_states.specs.BlockStates.{MadeBlock, window_numbered, block_len}
 use Rattle.window_states.specs.Line.{middle_state}
-use Rattle.window_states.specs.Entries.{Entries, IsEntry}
-use Rattle.unroll.specs.Parts.{KnowsBelow, EndsAt}
+use Rattle.window_states.specs.Entries.{Entries}
+use Rattle.unroll.specs.Parts.{window_in, IsKnownBlock, KnowsBelow, EndsAt}
 use Rattle.unroll.specs.declared.part_columns.PartColumns.{PartColumns}
 use Rattle.unroll.specs.declared.part_columns.Scratch.{Scratch}
-use Rattle.unroll.specs.declared.run.Reached.{Reached}
 use Rattle.unroll.specs.declared.upper_block.UpperBlock.{UpperBlock}
 
 -- columns for the registers of the plan at BLOCK_WINDOWS windows
@@ -42,14 +41,14 @@ pub record AreGathered (entries : Entries) (block : UpperBlock) (count : ℕ) (p
   pub states : HoldParts block.plan.now block.below block.number count parts
   pub known : KnowsBelow entries block.plan.now.ids (block.below + 1) block.number count
 
--- the same up to the index `end`, where the run of the place that was reached ends, or the block; the known block
+-- the same up to the index `end`, where the run of the window at the index `from` ends, or the block; the known block
 -- `last` holds the last part of the window before
-pub record IsRunGathered (entries : Entries) (block : UpperBlock) (reached : Reached) (end : ℕ) (last : MadeBlock) (parts : PartColumns) : Type 0 where
-  pub later : reached.index < end
+pub record IsRunGathered (entries : Entries) (block : UpperBlock) (from end : ℕ) (last : MadeBlock) (parts : PartColumns) : Type 0 where
+  pub later : from < end
   pub within : end ≤ block_len block.plan.now.ids (block.below + 1) block.number
   pub ended : end < block_len block.plan.now.ids (block.below + 1) block.number
-      → EndsAt block.plan.now.ids (block.below + 1) reached.window.now (BLOCK_WINDOWS * block.number + (end - 1))
-  pub last_is : IsEntry block.plan.now entries block.below last.number last
+      → EndsAt block.plan.now.ids (block.below + 1) (window_in block from) (BLOCK_WINDOWS * block.number + (end - 1))
+  pub last_is : IsKnownBlock block.plan.now entries block.below last
   pub gathered : AreGathered entries block end parts
 
 -- the `count` items from a place on are these now, and the items before them are unchanged

@@ -1,4 +1,4 @@
-// The states of a block's windows, from the states of their parts in blocks one level lower.
+//! The states of a block's windows, from the states of their parts in blocks one level lower.
 ghost use Rattle.std.specs.Prelude.{◌≡◌, ℕ, ◌+◌, ◌-◌, ◌*◌, ◌<◌, ◌≤◌, [], ◌∷◌, length, take, slice_index, IfOk, IfErr, OnOk};
 ghost use Rattle.window_states.specs.BlockStates.{IsKey, block_len, window_numbered};
 ghost use Rattle.window_states.specs.Entries.{Asked};
@@ -11,22 +11,21 @@ ghost use Rattle.win_index.specs.Blocks.{block_count};
 use crate::fault::MakeFault;
 use crate::part_columns::{PartColumns, Scratch};
 use crate::parts::numbered_block;
-use crate::run::{Reached, next_run, start_run};
+use crate::run::{Near, Reached, start_run};
 use crate::upper_block::UpperBlock;
 use round_columns::{Code, next_columns, start_columns, to_left_columns, to_right_columns};
 use win_index::{BLOCK_WINDOWS, MAX_WINDOW_LEN, Shape, number_of_window, windows_have_numbers};
 use window_states::{Block, Source, block_len, first_number, states_from_parts};
 
-// Gathers the parts of each window of a block. `window` is the block's first window, and is
-// advanced in place.
+// Gathers the parts of each window of a block, whose first window is `window`.
 pub(crate) fn gather<'s, S: Source<'s>>(
     upper: UpperBlock<'_>,
     source: &mut S,
-    window: &mut [u32],
+    window: &[u32],
     parts: &mut PartColumns,
 ) -> Result<(), MakeFault>
     requires plan { S.plan source.old ≡ upper.plan.now }
-    requires window { IsFirstWindow upper.plan.now.ids (upper.below + 1) upper.number window.old }
+    requires window { IsFirstWindow upper.plan.now.ids (upper.below + 1) upper.number window.now }
     requires wide { AreWide upper.plan.now parts.old }
     ensures asked { Asked S.plan S.fixed S.entries source.old source.new }
     ensures wide { AreWide upper.entry.plan.now parts.new }
@@ -34,28 +33,40 @@ pub(crate) fn gather<'s, S: Source<'s>>(
         (block_len upper.entry.plan.now.ids (upper.entry.below + 1) upper.entry.number) parts.new) }
     ensures missing { IfErr result (IsMissingBelow (S.entries source.new) upper.entry.plan.now.ids (upper.entry.below + 1) upper.entry.number) }
 {
-    let plan = upper.plan;
-    let shape = plan.shape();
-    let len = block_len(shape, upper.below + 1, upper.number);
+    let shape = upper.plan.shape();
+    let below = upper.below;
+    let len = block_len(shape, below + 1, upper.number);
+    let mut prefix = shape.run_prefix(below, window);
+    let mut place = shape.place_in_run(below, window);
     let mut index = 0;
-    let mut first = None;
-    let mut last = None;
+    let mut near = Near {
+        first: None,
+        middle: None,
+        last: None,
+    };
     loop {
-        let run = start_run(plan, source, upper.below, window, first)?;
+        let run = start_run(upper, source, index, prefix, near)?;
         let reached = Reached {
             index,
-            window,
+            place,
             run,
-            last,
+            last: near.last,
         };
         let (after, block) = gather_run(upper, source, reached, parts)?;
         if after == len {
             return Ok(());
         }
+        let Some(next) = shape.next_run_prefix(below, prefix) else {
+            unreachable!()
+        };
+        prefix = next;
+        place = shape.prefix_places(below, prefix).first();
         index = after;
-        first = Some(run.first);
-        last = Some(block);
-        next_run(shape, upper.below, window);
+        near = Near {
+            first: Some(run.first),
+            middle: Some(run.middle),
+            last: Some(block),
+        };
     }
 }
 
@@ -64,7 +75,7 @@ pub(crate) fn gather<'s, S: Source<'s>>(
 fn gather_run<'s, S: Source<'s>>(
     upper: UpperBlock<'_>,
     source: &mut S,
-    reached: Reached<'_, 's>,
+    reached: Reached<'s>,
     parts: &mut PartColumns,
 ) -> Result<(u32, &'s Block<'s>), MakeFault>
     requires plan { S.plan source.old ≡ upper.plan.now }
@@ -73,7 +84,7 @@ fn gather_run<'s, S: Source<'s>>(
     requires gathered { AreGathered (S.entries source.old) upper reached.index parts.old }
     ensures asked { Asked S.plan S.fixed S.entries source.old source.new }
     ensures wide { AreWide upper.entry.plan.now parts.new }
-    ensures gathered { IfOk result (λ r. IsRunGathered (S.entries source.new) upper.entry reached.entry r.0 r.1.now parts.new) }
+    ensures gathered { IfOk result (λ r. IsRunGathered (S.entries source.new) upper.entry reached.entry.index r.0 r.1.now parts.new) }
     ensures missing { IfErr result (IsMissingBelow (S.entries source.new) upper.entry.plan.now.ids (upper.entry.below + 1) upper.entry.number) }
 {
     number_of_window();
@@ -84,11 +95,10 @@ fn gather_run<'s, S: Source<'s>>(
     let len = block_len(shape, upper.below + 1, upper.number);
     let Reached {
         index: from,
-        window,
+        place: mut at,
         run,
         mut last,
     } = reached;
-    let mut at = shape.place_in_run(upper.below, window);
     let most = (len - from).min(run.places.rest(at));
     parts.put_fronts(from as usize, most as usize, run.first.sent, run.own);
     let mut place = from;

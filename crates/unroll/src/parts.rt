@@ -1,37 +1,15 @@
-// The parts of a window: its first, its middle and its last identifiers, which are windows one
-// level lower. They are at the offsets 0, 1 and 2.
-ghost use Rattle.std.specs.Prelude.{◌≡◌, ◌+◌, ◌*◌, ◌/◌, ◌<◌, ◌≤◌, length, Some, None, IfSome, IfNone, IfOk, IfErr};
-ghost use Rattle.unroll.specs.Below.{part};
+//! The blocks that hold the parts of windows: the first, the middle and the last identifiers of a window,
+//! which are windows one level lower. They are at the offsets 0, 1 and 2.
+ghost use Rattle.std.specs.Prelude.{◌≡◌, ◌/◌, ◌<◌, ◌≤◌, length, None, IfSome, IfNone, IfOk, IfErr};
 ghost use Rattle.window_states.specs.BlockStates.{IsKey};
 ghost use Rattle.window_states.specs.Entries.{Asked, IsEntry};
-ghost use Rattle.unroll.specs.Parts.{HoldsPart, HoldsWindow, IsMissingPart, IsMissingBlock, IsWindowAbove};
+ghost use Rattle.unroll.specs.Parts.{HoldsWindow, IsMissingBlock};
 ghost use Rattle.win_index.specs.Blocks.{window_count};
 
 use crate::fault::MakeFault;
 use lang_check::Plan;
 use win_index::BLOCK_WINDOWS;
 use window_states::{Block, Source};
-
-// The block that holds the part of a window at this offset, and the index of the part in it.
-pub(crate) fn part_below<'s, S: Source<'s>>(
-    plan: &Plan,
-    source: &mut S,
-    below: u32,
-    window: &[u32],
-    offset: usize,
-) -> Result<(&'s Block<'s>, u32), MakeFault>
-    requires plan { S.plan source.old ≡ plan.now }
-    requires window { IsWindowAbove plan.now below window.now }
-    requires offset { offset ≤ 2 }
-    ensures asked { Asked S.plan S.fixed S.entries source.old source.new }
-    ensures part { IfOk result (λ r. HoldsPart plan.now (S.entries source.new) below window.now offset r.0.now r.1) }
-    ensures fault { IfErr result (IsMissingPart (S.entries source.new) plan.now.ids (below + 1) window.now) }
-{
-    let number = plan
-        .shape()
-        .window_number(below, part_of(window, below, offset));
-    numbered_block(plan, source, below, number, None)
-}
 
 // The block that holds the window of a level with this number, and the index of the window in it.
 // `last` can be any block of the level.
@@ -76,12 +54,4 @@ fn known_block<'s, S: Source<'s>>(
         Some(block) if block.number() == number => Some(block),
         _ => source.block(level, number),
     }
-}
-
-// The identifiers of a window from an offset on, as many as a window of this level has.
-fn part_of(window: &[u32], level: u32, offset: usize) -> &[u32]
-    requires { offset + (2 * level + 1) ≤ length window.now }
-    ensures { result.now ≡ part window.now level offset }
-{
-    &window[offset..offset + (2 * level as usize + 1)]
 }

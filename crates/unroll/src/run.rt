@@ -1,138 +1,114 @@
-// Runs: the windows with a common prefix, all identifiers but the last.
-ghost use Rattle.std.specs.Prelude.{◌≡◌, ◌↔◌, IsTrue, ℕ, List, ◌+◌, ◌*◌, ◌<◌, length, take, drop, slice_get, Some, IfSome, IfOk, IfErr};
-ghost use Rattle.unroll.specs.Below.{part};
+//! Runs: the windows with a common prefix, all identifiers but the last.
+ghost use Rattle.std.specs.Prelude.{◌≡◌, ◌+◌, ◌*◌, length, slice_get, Some, IfSome, IfOk, IfErr};
 ghost use Rattle.window_states.specs.Entries.{Asked};
-ghost use Rattle.unroll.specs.Parts.{IsFirstPart, IsRun, IsMissingPart, IsWindowAbove};
-ghost use Rattle.win_index.specs.Runs.{IsRunStart, IsEndOfSame};
-ghost use Rattle.win_index.specs.Windows.{windows, IsWindow};
+ghost use Rattle.unroll.specs.Below.{part};
+ghost use Rattle.unroll.specs.MakeFaults.{IsMissingBelow};
+ghost use Rattle.unroll.specs.Parts.{window_in, IsWindowIn, IsAtIndex, IsFirstPart, IsNear, IsRun};
+ghost use Rattle.win_index.specs.Windows.{windows};
 
 use crate::fault::MakeFault;
-use crate::parts::part_below;
-use lang_check::Plan;
-use win_index::{MAX_WINDOW_LEN, RunPlaces, Shape};
-use window_states::{Block, Source};
+use crate::parts::numbered_block;
+use crate::upper_block::UpperBlock;
+use win_index::{RunPlaces, RunPrefix, number_of_window};
+use window_states::{Block, Source, first_number};
 
-// The first part of a window: its identifiers, and the message of its node to the right in the next
+// The first part of a window: its number, and the message of its node to the right in the next
 // round.
 #[derive(Clone, Copy)]
 pub(crate) struct FirstPart {
-    pub(crate) ids: [u32; MAX_WINDOW_LEN],
+    pub(crate) number: u32,
     pub(crate) sent: u32,
 }
 
 // What the windows of a run share: the number of the first window in the run of their last parts,
-// the positions of these, their first part, and the registers of their middle part's node.
+// the positions of these, their first part, and their middle part: its block, and the registers of
+// its node.
 #[derive(Clone, Copy)]
 pub(crate) struct Run<'s> {
     pub(crate) start: u32,
     pub(crate) places: RunPlaces,
     pub(crate) first: FirstPart,
+    pub(crate) middle: &'s Block<'s>,
     pub(crate) own: &'s [u32],
 }
 
-// A place that a gathering has reached: the index of a window in its block, its identifiers, its
-// run, and the block that held the last part before, if there was one.
+// What was read last: a first part, and the blocks of a middle and of a last part. The parts of the
+// next window are often the same or in the same blocks.
 #[derive(Clone, Copy)]
-pub(crate) struct Reached<'w, 's> {
+pub(crate) struct Near<'s> {
+    pub(crate) first: Option<FirstPart>,
+    pub(crate) middle: Option<&'s Block<'s>>,
+    pub(crate) last: Option<&'s Block<'s>>,
+}
+
+// A place that a gathering has reached: the index of a window in its block, the position of its last
+// part, its run, and the block that held the last part before, if there was one.
+#[derive(Clone, Copy)]
+pub(crate) struct Reached<'s> {
     pub(crate) index: u32,
-    pub(crate) window: &'w [u32],
+    pub(crate) place: u32,
     pub(crate) run: Run<'s>,
     pub(crate) last: Option<&'s Block<'s>>,
 }
 
-// Starts the run of a window one level above `below`, from its first two parts. `given` can be the
-// first part of another window.
+// Starts the run of the window at an index of an upper block, from its first two parts.
 pub(crate) fn start_run<'s, S: Source<'s>>(
-    plan: &Plan,
+    upper: UpperBlock<'_>,
     source: &mut S,
-    below: u32,
-    window: &[u32],
-    given: Option<FirstPart>,
+    index: u32,
+    prefix: RunPrefix,
+    near: Near<'s>,
 ) -> Result<Run<'s>, MakeFault>
-    requires plan { S.plan source.old ≡ plan.now }
-    requires window { IsWindowAbove plan.now below window.now }
-    requires given { IfSome given (IsFirstPart plan.now (S.entries source.old) below) }
+    requires plan { S.plan source.old ≡ upper.plan.now }
+    requires here { IsAtIndex upper index prefix }
+    requires near { IsNear upper.plan.now (S.entries source.old) upper.below near }
     ensures asked { Asked S.plan S.fixed S.entries source.old source.new }
-    ensures run { IfOk result (λ run. IsRun plan.now (S.entries source.new) below window.now run) }
-    ensures fault { IfErr result (IsMissingPart (S.entries source.new) plan.now.ids (below + 1) window.now) }
+    ensures run { IfOk result (IsRun upper.entry.plan.now (S.entries source.new) upper.entry.below (window_in upper.entry index)) }
+    ensures missing { IfErr result (IsMissingBelow (S.entries source.new) upper.entry.plan.now.ids (upper.entry.below + 1) upper.entry.number) }
 {
-    let first = first_part(plan, source, below, window, given)?;
-    let (middle, index) = part_below(plan, source, below, window, 1)?;
-    let start = last_start(plan, below, window);
-    let places = plan.shape().run_places(below, window);
+    number_of_window();
+    let shape = upper.plan.shape();
+    let below = upper.below;
+    let first = first_part(upper, source, index, near.first)?;
+    let (middle, at) = numbered_block(upper.plan, source, below, prefix.middle, near.middle)?;
     Ok(Run {
-        start,
-        places,
+        start: shape.last_run_start(below, prefix),
+        places: shape.prefix_places(below, prefix),
         first,
-        own: middle.state(index),
+        middle,
+        own: middle.state(at),
     })
 }
 
-// The first part of a window one level above `below`: `given` if it has the same identifiers, else
-// from the source.
+// The first part of the window at an index of an upper block: `given` if it has the same number,
+// else from the source.
 fn first_part<'s, S: Source<'s>>(
-    plan: &Plan,
+    upper: UpperBlock<'_>,
     source: &mut S,
-    below: u32,
-    window: &[u32],
+    index: u32,
     given: Option<FirstPart>,
 ) -> Result<FirstPart, MakeFault>
-    requires plan { S.plan source.old ≡ plan.now }
-    requires window { IsWindowAbove plan.now below window.now }
-    requires given { IfSome given (IsFirstPart plan.now (S.entries source.old) below) }
+    requires plan { S.plan source.old ≡ upper.plan.now }
+    requires here { IsWindowIn upper index }
+    requires given { IfSome given (IsFirstPart upper.plan.now (S.entries source.old) upper.below) }
     ensures asked { Asked S.plan S.fixed S.entries source.old source.new }
-    ensures first { IfOk result (λ first. (take (2 * below + 1) first.ids ≡ part window.now below 0)
-        × IsFirstPart plan.now (S.entries source.new) below first) }
-    ensures fault { IfErr result (IsMissingPart (S.entries source.new) plan.now.ids (below + 1) window.now) }
+    ensures first { IfOk result (λ first. (slice_get (windows (2 * upper.entry.below + 1) upper.entry.plan.now.ids) first.number ≡ Some (part (window_in upper.entry index) upper.entry.below 0))
+        × IsFirstPart upper.entry.plan.now (S.entries source.new) upper.entry.below first) }
+    ensures missing { IfErr result (IsMissingBelow (S.entries source.new) upper.entry.plan.now.ids (upper.entry.below + 1) upper.entry.number) }
 {
-    // The proof takes the limits of the shape from this call.
-    let _shape = plan.shape();
-    let len = 2 * below as usize + 1;
+    number_of_window();
+    let shape = upper.plan.shape();
+    let below = upper.below;
+    let window = first_number(shape, below + 1, upper.number) + index;
+    let number = shape.first_part_number(below, window);
     if let Some(first) = given
-        && are_same(&first.ids[..len], &window[..len])
+        && first.number == number
     {
         return Ok(first);
     }
-    let (block, index) = part_below(plan, source, below, window, 0)?;
-    let mut ids = [0; MAX_WINDOW_LEN];
-    ids[..len].copy_from_slice(&window[..len]);
+    let (block, at) = numbered_block(upper.plan, source, below, number, None)?;
     Ok(FirstPart {
-        ids,
-        sent: block.to_right(index),
+        number,
+        sent: block.to_right(at),
     })
-}
-
-// Whether two short lists of the same length are equal.
-fn are_same(a: &[u32], b: &[u32]) -> bool
-    requires { length a.now ≡ length b.now }
-    ensures { IsTrue result ↔ (a.now ≡ b.now) }
-{
-    for i in 0..a.len() {
-        if a[i] != b[i] {
-            return false;
-        }
-    }
-    true
-}
-
-// Advances a window one level above `below` to the first one after its run.
-pub(crate) fn next_run(shape: Shape, below: u32, window: &mut [u32])
-    requires below { below < shape.rounds }
-    requires window { IsWindow (2 * below + 3) shape.ids window.old }
-    ensures next { (n : ℕ) (last : List ℕ) → slice_get (windows (2 * (below + 1) + 1) shape.ids) n ≡ Some last
-        → IsEndOfSame (2 * (below + 1) + 1) shape.ids window.old last
-        → n + 1 < length (windows (2 * (below + 1) + 1) shape.ids)
-        → slice_get (windows (2 * (below + 1) + 1) shape.ids) (n + 1) ≡ Some window.new }
-    ensures window { IsWindow (2 * below + 3) shape.ids window.new }
-{
-    shape.next_run(below + 1, window);
-}
-
-// The number of the first window in the run of a window's last part.
-fn last_start(plan: &Plan, below: u32, window: &[u32]) -> u32
-    requires { IsWindowAbove plan.now below window.now }
-    ensures { IsRunStart (2 * below) plan.now.ids (take (2 * below) (drop 2 window.now)) result }
-{
-    plan.shape()
-        .run_start(below, &window[2..2 + 2 * below as usize])
 }

@@ -1,27 +1,51 @@
-use Rattle.std.proofs.Common.{◌≡◌, ◌+◌, ◌-◌, ◌*◌, ◌/◌, ◌<◌, refl, ◌∙◌, arith, subst}
-use Rattle.std.proofs.lemmas.Result.{err_from_is_err_and}
-use Rattle.window_states.specs.BlockStates.{block_len}
-use Rattle.window_states.specs.Entries.{IsEntry}
+use Rattle.std.proofs.Common.{◌≡◌, ◌+◌, ◌*◌, ◌/◌, ◌<◌, slice_get, Some, refl, sym, ap, ◌∙◌, arith, subst}
+use Rattle.win_index.specs.Windows.{windows, IsWindow}
+use Rattle.win_index.specs.declared.limits.TheConstants.{BLOCK_WINDOWS}
+use Rattle.window_states.specs.BlockStates.{block_len, window_numbered}
+use Rattle.unroll.specs.Parts.{window_in, IsKnownBlock}
 use Rattle.unroll.specs.WideColumns.{AreGathered}
-use Rattle.unroll.proofs.Known.{still_known, window_at, asked_both, fault_of_block, if_some_more}
+use Rattle.unroll.proofs.Known.{still_known, window_at, asked_both, entry_grows, if_some_more}
+use Rattle.unroll.proofs.NextRuns.{next_run, some_run_follows, first_place}
 use Rattle.unroll.proofs.SameRun.{first_grows}
 use Rattle.unroll.proofs.gathering.gather.Goals as goal
-use Rattle.win_index.specs.declared.limits.TheConstants.{BLOCK_WINDOWS}
+
+pub loop-run-init : goal.loop-run-init
+loop-run-init g c =
+    let upper = c.args.upper in
+    let m = upper.plan.now.ids in
+    let low = upper.below in
+    let w = c.args.window.now in
+    let first = c.requires.window in
+    let zero : BLOCK_WINDOWS * upper.number + 0 ≡ BLOCK_WINDOWS * upper.number = omega arith in
+    let own : window_in upper 0 ≡ w = ap (window_numbered m (low + 1)) zero ∙ window_at m (low + 1) (BLOCK_WINDOWS * upper.number) w first.here in
+    let long : 2 * (low + 1) + 1 ≡ 2 * low + 3 = omega arith in
+    record {
+      asked = record { same_plan = refl; same_fixed = refl; grows = record { kept = λ level n block known. known } };
+      here = record {
+        is = record {
+          inside = omega (arith, upper.inside);
+          here = subst (λ n. slice_get (windows (2 * (low + 1) + 1) m) n ≡ Some w) (sym zero) first.here ∙ ap Some (sym own);
+          window = rw own (subst (λ k. IsWindow k m w) long first.window);
+        };
+        has = rw (own, ← c.shape-shape.ensures.ids) c.run_prefix-prefix.ensures;
+      };
+      place = rw own (sym c.place_in_run-place.ensures.value);
+      inside = rw (own, ← c.shape-shape.ensures.ids) c.place_in_run-place.ensures.inside;
+      near = record { first = tt; middle = tt; last = tt };
+      wide = c.requires.wide;
+      gathered = record {
+        states = record {
+          sizes = λ i lt. absurd (omega (arith, lt));
+          left = λ i lt. absurd (omega (arith, lt));
+          own = λ i lt. absurd (omega (arith, lt));
+          right = λ i lt. absurd (omega (arith, lt));
+        };
+        known = λ lower j one lt. absurd (omega (arith, lt));
+      };
+    }
 
 pub returns-in_err-run-clause-asked : goal.returns-in_err-run-clause-asked
 returns-in_err-run-clause-asked g c = asked_both c.loop-run.invariant.asked c.in_err-run.ensures.asked
-
-pub returns-in_err-run-clause-missing : goal.returns-in_err-run-clause-missing
-returns-in_err-run-clause-missing g c =
-    let m = c.args.upper.plan.now.ids in
-    let low = c.args.upper.below in
-    let b = c.args.upper.number in
-    let window = c.loop-run.window in
-    let own = window_at m (low + 1) (BLOCK_WINDOWS * b + c.loop-run.index) window c.loop-run.invariant.here in
-    let p = err_from_is_err_and c.from_residual.result c.from_residual.ensures.1 in
-    rw (p.1, p.2)
-    (fault_of_block (g.S.Source.entries c.start_run.new.source) m (low + 1) b c.loop-run.index window c.in_err-run.field-0.0 c.loop-run.invariant.within
-    own c.in_err-run.ensures.fault)
 
 pub gather_run-requires : goal.gather_run-requires
 gather_run-requires g c κs =
@@ -38,13 +62,12 @@ gather_run-requires g c κs =
         (asked_both before.asked answer.asked).same_plan ∙ c.requires.plan,
         (
           record {
-            inside = before.within;
-            here = before.here;
-            window = before.window;
+            is = before.here.is;
             run = answer.run;
-            last = if_some_more (λ b. IsEntry plan old low b.now.number b.now) (λ b. IsEntry plan new low b.now.number b.now) c.loop-run.last
-                (λ b is. record { known = grows.kept low b.now.number b.now is.known; plan_is = is.plan_is; level_is = is.level_is; number_is = is.number_is })
-                before.last;
+            place = before.place;
+            inside = omega (arith, before.inside, answer.run.places_are.end);
+            last = if_some_more (λ b. IsKnownBlock plan old low b.now) (λ b. IsKnownBlock plan new low b.now) c.loop-run.near.last
+                (λ b is. entry_grows plan old new low b.now.number b.now grows is) before.near.last;
           },
           (
             before.wide,
@@ -73,12 +96,20 @@ returns-then-after-len-clause-gathered g c =
     let entries = g.S.Source.entries c.gather_run.new.source in
     subst (λ count. AreGathered entries upper count c.gather_run.new.parts) done c.in_ok-after.ensures.gathered.gathered
 
+pub unreachable-requires : goal.unreachable-requires
+unreachable-requires g c =
+    let upper = c.args.upper in
+    let run = c.in_ok-after.ensures.gathered in
+    let len = rw c.shape-shape.ensures.ids at c.block_len-len.ensures.value in
+    let within : c.in_ok-after.after < block_len upper.plan.now.ids (upper.below + 1) upper.number = omega (arith, len, run.within, c.if-after-len.false) in
+    some_run_follows upper c.loop-run.index c.in_ok-after.after c.loop-run.prefix (omega (arith, run.later)) within (run.ended within)
+    c.loop-run.invariant.here.has (rw c.shape-shape.ensures.ids at c.in_default.ensures.last)
+
 pub loop-run-preserved : goal.loop-run-preserved
 loop-run-preserved g c =
-    let plan = c.args.upper.plan.now in
-    let m = plan.ids in
-    let low = c.args.upper.below in
-    let b = c.args.upper.number in
+    let upper = c.args.upper in
+    let plan = upper.plan.now in
+    let low = upper.below in
     let after = c.in_ok-after.after in
     let entries = g.S.Source.entries in
     let before = c.loop-run.invariant in
@@ -86,17 +117,21 @@ loop-run-preserved g c =
     let went = c.in_ok-after.ensures in
     let run = went.gathered in
     let len = rw c.shape-shape.ensures.ids at c.block_len-len.ensures.value in
-    let within : after < block_len m (low + 1) b = omega (arith, len, run.within, c.if-after-len.false) in
-    let end = run.ended within in
-    let sum : BLOCK_WINDOWS * b + (after - 1) + 1 ≡ BLOCK_WINDOWS * b + after = omega (arith, run.later) in
-    let next = rw c.shape-shape.ensures.ids at c.next_run.ensures.next in
+    let within : after < block_len plan.ids (low + 1) upper.number = omega (arith, len, run.within, c.if-after-len.false) in
+    let next = next_run upper c.loop-run.index after c.loop-run.prefix c.in-Some.next (omega (arith, run.later)) within (run.ended within)
+    before.here.has (rw c.shape-shape.ensures.ids at c.in-Some.ensures.next) in
+    let places = rw c.shape-shape.ensures.ids at (c.prefix_places.ensures (window_in upper after) (rw c.shape-shape.ensures.ids next.at'.is.window) (rw c.shape-shape.ensures.ids next.at'.has)) in
+    let first = first_place upper after c.first-place.result c.in-Some.next c.prefix_places.result next places c.first-place.ensures.place c.first-place.ensures.inside in
     record {
-      within = within;
       asked = asked_both (asked_both before.asked asked.asked) went.asked;
-      window = rw c.shape-shape.ensures.ids at c.next_run.ensures.window;
-      here = rw sum at (next (BLOCK_WINDOWS * b + (after - 1)) end.0 end.1 end.2 (omega (arith, within, sum)));
-      first = first_grows plan (entries c.start_run.new.source) (entries c.gather_run.new.source) low _ went.asked.grows asked.run.first_is;
-      last = run.last_is;
+      here = next.at';
+      place = first.place_is;
+      inside = first.inside;
+      near = record {
+        first = first_grows plan (entries c.start_run.new.source) (entries c.gather_run.new.source) low _ went.asked.grows asked.run.first_is;
+        middle = entry_grows plan (entries c.start_run.new.source) (entries c.gather_run.new.source) low _ _ went.asked.grows asked.run.middle_is;
+        last = run.last_is;
+      };
       wide = went.wide;
       gathered = run.gathered;
     }

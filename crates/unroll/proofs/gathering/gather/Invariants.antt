@@ -1,21 +1,18 @@
-use Rattle.std.proofs.Common.{◌≡◌, ◌+◌, ◌-◌, ◌*◌, ◌<◌, slice_get, Some, IfSome}
-use Rattle.win_index.specs.Windows.{windows, IsWindow}
-use Rattle.window_states.specs.BlockStates.{block_len}
-use Rattle.window_states.specs.Entries.{Asked, IsEntry}
-use Rattle.unroll.specs.Parts.{IsFirstPart}
+use Rattle.std.proofs.Common.{◌≡◌, ◌+◌, ◌-◌, ◌*◌, ◌<◌, slice_index}
+use Rattle.win_index.specs.Runs.{place_in_run}
+use Rattle.window_states.specs.Entries.{Asked}
+use Rattle.unroll.specs.Parts.{window_in, IsAtIndex, IsNear}
 use Rattle.unroll.specs.WideColumns.{AreWide, AreGathered}
 use Rattle.unroll.proofs.gathering.gather.Given as goal
-use Rattle.win_index.specs.declared.limits.TheConstants.{BLOCK_WINDOWS}
 
 abbrev pub invariant-loop-run : goal.invariant-loop-run
 invariant-loop-run g l =
     record {
-      within : l.index < block_len l.upper.plan.now.ids (l.upper.below + 1) l.upper.number;
       asked : Asked g.S.Source.plan g.S.Source.fixed g.S.Source.entries l.fn.source l.source;
-      window : IsWindow (2 * l.upper.below + 3) l.upper.plan.now.ids l.window;
-      here : slice_get (windows (2 * (l.upper.below + 1) + 1) l.upper.plan.now.ids) (BLOCK_WINDOWS * l.upper.number + l.index) ≡ Some l.window;
-      first : IfSome l.first (IsFirstPart l.upper.plan.now (g.S.Source.entries l.source) l.upper.below);
-      last : IfSome l.last (λ b. IsEntry l.upper.plan.now (g.S.Source.entries l.source) l.upper.below b.now.number b.now);
+      here : IsAtIndex l.upper l.index l.prefix;
+      place : place_in_run (2 * l.below + 1) (window_in l.upper l.index) (slice_index (window_in l.upper l.index) (2 * l.below + 2)) ≡ l.place;
+      inside : l.place < place_in_run (2 * l.below + 1) (window_in l.upper l.index) l.upper.plan.now.ids;
+      near : IsNear l.upper.plan.now (g.S.Source.entries l.source) l.below l.near;
       wide : AreWide l.upper.plan.now l.parts;
       gathered : AreGathered (g.S.Source.entries l.source) l.upper l.index l.parts;
     }

@@ -6,9 +6,9 @@ use Rattle.win_index.specs.Windows.{windows, IsWindow}
 use Rattle.unroll.specs.Below.{part}
 use Rattle.window_states.specs.BlockStates.{block_len}
 use Rattle.window_states.specs.Entries.{IsEntry}
-use Rattle.unroll.specs.Parts.{EndsAt}
+use Rattle.unroll.specs.Parts.{window_in, EndsAt}
 use Rattle.unroll.specs.WideColumns.{AreGathered, AreWide}
-use Rattle.unroll.proofs.Known.{window_at, asked_both, fault_of_last}
+use Rattle.unroll.proofs.Known.{window_at, asked_both, fault_of_part, own_entry}
 use Rattle.unroll.proofs.SeriesStates.{SeriesAt, series_at, series_known, hold_series, knows_series, still_written, still_hold, written_same, run_of_prefix, last_part_here, further_place, later_window}
 use Rattle.unroll.proofs.gathering.gather_run.Given.{Over}
 use Rattle.unroll.proofs.gathering.gather_run.Goals.{After-put_lasts}
@@ -30,9 +30,9 @@ module _ (g : Over) (c : After-put_lasts g) where
       let after = entries c.numbered_block.new.source in
       let w = before.here.0 in
       let grows = (asked_both before.asked answer.asked).grows in
-      let run_is = run_of_prefix plan (entries c.args.source.now) after low c.args.reached.window.now w run grows c.requires.reached.run before.here.2 in
+      let run_is = run_of_prefix plan (entries c.args.source.now) after low (window_in c.args.upper c.args.reached.index) w run grows c.requires.reached.run before.here.2 in
       let start : run.start + c.loop-block.at ≡ BLOCK_WINDOWS * block.number + c.in_ok-block.index = omega (arith, answer.window.place, answer.window.block.number_is) in
-      let right = rw start at (last_part_here plan (entries c.args.source.now) after low c.loop-block.at c.args.reached.window.now w run grows c.requires.reached.run before.here.2 before.here.3) in
+      let right = rw start at (last_part_here plan (entries c.args.source.now) after low c.loop-block.at (window_in c.args.upper c.args.reached.index) w run grows c.requires.reached.run before.here.2 before.here.3) in
       let size = before.here.3.window_is.size in
       series_at c.number_of_window.ensures c.windows_have_numbers.ensures plan after low c.args.upper.number c.loop-block.place block.number c.in_ok-block.index c.series-count.result w run
       (omega (arith, size)) before.here.1 right (c.series-count.ensures.series (2 * low + 1) plan.ids w (omega arith) before.here.3) run_is
@@ -41,7 +41,7 @@ module _ (g : Over) (c : After-put_lasts g) where
   within : c.loop-block.place + c.series-count.result ≤ c.args.reached.index + c.min-most.result
   within =
       let before = c.loop-block.invariant in
-      omega (arith, c.min-most.ensures, c.rest.ensures, c.place_in_run-at.ensures.value, before.along, before.after, c.series-count.ensures.inside, c.series-count.ensures.few, c.min.ensures)
+      omega (arith, c.min-most.ensures, c.rest.ensures, before.along, before.after, c.series-count.ensures.inside, c.series-count.ensures.few, c.min.ensures)
 
   -- the parts of the windows up to their end are gathered
   gathered : AreGathered (g.S.Source.entries c.numbered_block.new.source) c.args.upper (c.loop-block.place + c.series-count.result) c.put_lasts.new.self
@@ -116,9 +116,7 @@ module _ (g : Over) (c : After-put_lasts g) where
   inside = omega (arith, len_is, c.series-count.ensures.few, c.min.ensures, c.loop-block.invariant.within)
 
   last_is : IsEntry c.args.upper.plan.now (g.S.Source.entries c.numbered_block.new.source) c.args.upper.below c.in_ok-block.block.now.number c.in_ok-block.block.now
-  last_is =
-      let is = c.in_ok-block.ensures.window.block in
-      record { known = ap (g.S.Source.entries c.numbered_block.new.source c.args.upper.below) is.number_is ∙ is.known; plan_is = is.plan_is; level_is = is.level_is; number_is = refl }
+  last_is = own_entry _ _ _ _ _ c.in_ok-block.ensures.window.block
 
 pub returns-in_err-block-clause-asked : goal.returns-in_err-block-clause-asked
 returns-in_err-block-clause-asked g c = asked_both c.loop-block.invariant.asked c.in_err-block.ensures.asked
@@ -153,10 +151,10 @@ returns-in_default-clause-gathered g c =
     let long : 2 * low + 1 + 2 ≡ 2 * (low + 1) + 1 = omega arith in
     let sum : BLOCK_WINDOWS * c.args.upper.number + (c.loop-block.place + (c.series-count.result - 1)) ≡ BLOCK_WINDOWS * c.args.upper.number + (c.loop-block.place + c.series-count.result - 1) = omega (arith, some) in
     let front : 2 * low + 2 ≡ 2 * (low + 1) + 1 - 1 = omega arith in
-    let end : EndsAt m (low + 1) c.args.reached.window.now (BLOCK_WINDOWS * c.args.upper.number + (c.loop-block.place + c.series-count.result - 1)) = (
+    let end : EndsAt m (low + 1) (window_in c.args.upper c.args.reached.index) (BLOCK_WINDOWS * c.args.upper.number + (c.loop-block.place + c.series-count.result - 1)) = (
       last.next,
       rw sum at last.next_at,
-      record { last_is = last.window; same = subst (λ k. take k last.next ≡ take k c.args.reached.window.now) front (sym last.begins ∙ c.loop-block.invariant.here.2); none_larger = rw long at ends },
+      record { last_is = last.window; same = subst (λ k. take k last.next ≡ take k (window_in c.args.upper c.args.reached.index)) front (sym last.begins ∙ c.loop-block.invariant.here.2); none_larger = rw long at ends },
     ) in
     record {
       later = later g d;
@@ -174,7 +172,7 @@ overflow_add-run g c =
     let before = c.loop-block.invariant in
     let w = before.here.0 in
     let run = c.args.reached.run in
-    let right = last_part_here plan (entries c.args.source.now) (entries c.loop-block.source) low c.loop-block.at c.args.reached.window.now w run before.asked.grows c.requires.reached.run before.here.2 before.here.3 in
+    let right = last_part_here plan (entries c.args.source.now) (entries c.loop-block.source) low c.loop-block.at (window_in c.args.upper c.args.reached.index) w run before.asked.grows c.requires.reached.run before.here.2 before.here.3 in
     let inside = slice_get_within (windows (2 * low + 1) plan.ids) (run.start + c.loop-block.at) (part w low 2) right in
     let few = c.count-windows.type_inv in
     omega (arith, inside, rw c.shape-shape.ensures.ids at c.count-windows.ensures.value, few)
@@ -187,7 +185,7 @@ numbered_block-requires g c κs =
     let before = c.loop-block.invariant in
     let w = before.here.0 in
     let run = c.args.reached.run in
-    let right = last_part_here plan (entries c.args.source.now) (entries c.loop-block.source) low c.loop-block.at c.args.reached.window.now w run before.asked.grows c.requires.reached.run before.here.2 before.here.3 in
+    let right = last_part_here plan (entries c.args.source.now) (entries c.loop-block.source) low c.loop-block.at (window_in c.args.upper c.args.reached.index) w run before.asked.grows c.requires.reached.run before.here.2 before.here.3 in
     let inside = slice_get_within (windows (2 * low + 1) plan.ids) (run.start + c.loop-block.at) (part w low 2) right in
     let above = c.args.upper.above in
     ((refl, tt), (before.asked.same_plan ∙ c.requires.plan, (omega (arith, above), (inside, before.last))))
@@ -202,13 +200,13 @@ returns-in_err-block-clause-missing g c =
     let before = c.loop-block.invariant in
     let w = before.here.0 in
     let run = c.args.reached.run in
-    let right = last_part_here plan (entries c.args.source.now) (entries c.loop-block.source) low c.loop-block.at c.args.reached.window.now w run before.asked.grows c.requires.reached.run before.here.2 before.here.3 in
+    let right = last_part_here plan (entries c.args.source.now) (entries c.loop-block.source) low c.loop-block.at (window_in c.args.upper c.args.reached.index) w run before.asked.grows c.requires.reached.run before.here.2 before.here.3 in
     let own = window_at m (low + 1) (BLOCK_WINDOWS * b + c.loop-block.place) w before.here.1 in
     let number = c.number_of_window.ensures (2 * low + 1) m (run.start + c.loop-block.at) (part w low 2) right in
     let len = rw c.shape-shape.ensures.ids at c.block_len-len.ensures.value in
     let p = err_from_is_err_and c.from_residual.result c.from_residual.ensures.1 in
     rw (p.1, p.2)
-    (fault_of_last (entries c.numbered_block.new.source) m low b c.loop-block.place (run.start + c.loop-block.at) w c.in_err-block.field-0.0
+    (fault_of_part (entries c.numbered_block.new.source) m low b c.loop-block.place (run.start + c.loop-block.at) 2 w c.in_err-block.field-0.0 (omega arith)
     (rw len at before.within) own number c.in_err-block.ensures.fault)
 
 pub loop-block-init : goal.loop-block-init
@@ -217,28 +215,27 @@ loop-block-init g c =
     let low = c.args.upper.below in
     let b = c.args.upper.number in
     let run = c.args.reached.run in
-    let window = c.args.reached.window.now in
+    let window = window_in c.args.upper c.args.reached.index in
     let reached = c.requires.reached in
     let three : 2 * low + 3 ≡ 2 * low + 1 + 2 = omega arith in
     let last : 2 * low + 2 ≡ 2 * low + 1 + 1 = omega arith in
-    let place = subst (λ i. c.place_in_run-at.result ≡ place_in_run (2 * low + 1) window (get_or window i 0)) last c.place_in_run-at.ensures.value in
-    let at_inside = rw c.shape-shape.ensures.ids at c.place_in_run-at.ensures.inside in
+    let place = subst (λ i. place_in_run (2 * low + 1) window (get_or window i 0) ≡ c.args.reached.place) last reached.place in
     let len = rw c.shape-shape.ensures.ids at c.block_len-len.ensures.value in
     let put = c.put_fronts.ensures in
     record {
       after = omega arith;
-      within = omega (arith, len, reached.inside);
-      at_inside = omega (arith, at_inside, reached.run.places_are.end);
-      along = omega (arith, c.place_in_run-at.ensures.value);
+      within = omega (arith, len, reached.is.inside);
+      at_inside = reached.inside;
+      along = omega arith;
       asked = record { same_plan = refl; same_fixed = refl; grows = record { kept = λ level n block known. known } };
       here = (
         window,
-        reached.here,
+        reached.is.here,
         refl,
         record {
-          window_is = subst (λ k. IsWindow k plan.ids window) three reached.window;
+          window_is = subst (λ k. IsWindow k plan.ids window) three reached.is.window;
           run_has = reached.run.places_are;
-          place_is = sym place;
+          place_is = place;
         },
       );
       last = reached.last;
@@ -271,7 +268,7 @@ loop-block-preserved g c =
     let last = stands g d (c.series-count.result - 1) (omega (arith, some)) in
     let next = c.in-Some.ensures in
     let later = next.next (2 * low + 1) m last.next (omega arith) (last_place g d) in
-    let follows = later_window m low c.args.upper.number c.loop-block.place c.series-count.result c.args.reached.window.now before.here.0 last.next later.0 some last.next_at
+    let follows = later_window m low c.args.upper.number c.loop-block.place c.series-count.result (window_in c.args.upper c.args.reached.index) before.here.0 last.next later.0 some last.next_at
     last.begins before.here.2 later.2 later.3 in
     record {
       after = omega (arith, before.after);

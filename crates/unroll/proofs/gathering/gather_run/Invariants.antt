@@ -1,7 +1,8 @@
-use Rattle.std.proofs.Common.{◌≡◌, ℕ, ◌+◌, ◌-◌, ◌*◌, ◌<◌, ◌≤◌, List, [], take, slice_index, slice_get, Some, IfSome}
-use Rattle.win_index.specs.Runs.{IsAtPlace, place_in_run}
+use Rattle.std.proofs.Common.{◌≡◌, ℕ, ◌+◌, ◌-◌, ◌*◌, ◌<◌, ◌≤◌, List, [], take, slice_get, Some, IfSome}
+use Rattle.win_index.specs.Runs.{IsAtPlace}
 use Rattle.win_index.specs.Windows.{windows}
 use Rattle.window_states.specs.Entries.{Asked, IsEntry}
+use Rattle.unroll.specs.Parts.{window_in}
 use Rattle.unroll.specs.WideColumns.{AreWide, AreWritten, AreGathered}
 use Rattle.unroll.proofs.gathering.gather_run.Given as goal
 use Rattle.win_index.specs.declared.limits.TheConstants.{BLOCK_WINDOWS}
@@ -12,10 +13,10 @@ invariant-loop-block g l =
       after : l.from ≤ l.place;
       within : l.place < l.len;
       at_inside : l.at < l.run.places.end;
-      along : l.place + place_in_run (2 * l.upper.below + 1) l.reached.window.now (slice_index l.reached.window.now (2 * l.upper.below + 2)) ≤ l.from + l.at;
+      along : l.place + l.reached.place ≤ l.from + l.at;
       asked : Asked g.S.Source.plan g.S.Source.fixed g.S.Source.entries l.fn.source l.source;
       here : (w : List ℕ) × (slice_get (windows (2 * (l.upper.below + 1) + 1) l.upper.plan.now.ids) (BLOCK_WINDOWS * l.upper.number + l.place) ≡ Some w)
-          × (take (2 * l.upper.below + 2) w ≡ take (2 * l.upper.below + 2) l.reached.window.now)
+          × (take (2 * l.upper.below + 2) w ≡ take (2 * l.upper.below + 2) (window_in l.upper l.reached.index))
           × IsAtPlace (2 * l.upper.below + 1) l.upper.plan.now.ids l.run.places w l.at;
       last : IfSome l.last (λ b. IsEntry l.upper.plan.now (g.S.Source.entries l.source) l.upper.below b.now.number b.now);
       wide : AreWide l.upper.plan.now l.parts;

@@ -1,0 +1,107 @@
+-- The window after the last one of a run, in an upper block.
+use Rattle.std.proofs.Common.{◌≡◌, ℕ, ◌+◌, ◌-◌, ◌*◌, ◌<◌, ◌≤◌, List, length, get_or, take, slice_get, Some, sym, ap, subst, ◌∙◌, arith}
+use Rattle.win_index.specs.RunPrefixes.{HasNumbers, IsPrefixOfNextRun, IsPrefixOfLastRun}
+use Rattle.win_index.specs.Runs.{HasPlaces, IsAtPlace, IsFirstOfRun, IsLastOfRun, IsEndOfSame, place_in_run}
+use Rattle.win_index.specs.Windows.{windows, IsWindow}
+use Rattle.win_index.specs.declared.limits.TheConstants.{BLOCK_WINDOWS}
+use Rattle.win_index.specs.declared.run_prefix.RunPrefix.{RunPrefix}
+use Rattle.win_index.specs.declared.series.RunPlaces.{RunPlaces}
+use Rattle.window_states.specs.BlockStates.{block_len}
+use Rattle.unroll.specs.Parts.{window_in, EndsAt, IsAtIndex}
+use Rattle.unroll.specs.declared.upper_block.UpperBlock.{UpperBlock}
+use Rattle.unroll.proofs.Known.{window_at}
+
+-- the last window of a run, with the numbers of its prefix
+pub record RunEnd (k m : ℕ) (prefix : RunPrefix) (last : List ℕ) : Type 0 where
+  pub is : IsWindow (k + 1) m last
+  pub greatest : IsLastOfRun (k + 1) m last
+  pub has : HasNumbers k m (take k last) prefix
+
+run_end :
+    (low m : ℕ) (w last : List ℕ) (prefix : RunPrefix) → IsEndOfSame (2 * (low + 1) + 1) m w last → HasNumbers (2 * low + 2) m (take (2 * low + 2) w) prefix
+    → RunEnd (2 * low + 2) m prefix last
+run_end low m w last prefix ends has =
+    let long : 2 * (low + 1) + 1 ≡ 2 * low + 2 + 1 = omega arith in
+    let front : 2 * (low + 1) + 1 - 1 ≡ 2 * low + 2 = omega arith in
+    let same : take (2 * low + 2) last ≡ take (2 * low + 2) w = subst (λ k. take k last ≡ take k w) front ends.same in
+    record {
+      is = subst (λ k. IsWindow k m last) long ends.last_is;
+      greatest = subst (λ k. IsLastOfRun k m last) long ends.none_larger;
+      has = rw same has;
+    }
+
+-- the next run begins at the next index
+pub record NextRun (block : UpperBlock) (index : ℕ) (prefix : RunPrefix) : Type 0 where
+  pub at' : IsAtIndex block index prefix
+  pub first : IsFirstOfRun (2 * block.below + 2) block.plan.now.ids (window_in block index)
+
+pub next_run :
+    (block : UpperBlock) (from after : ℕ) (prefix next : RunPrefix) → 1 ≤ after → after < block_len block.plan.now.ids (block.below + 1) block.number
+    → EndsAt block.plan.now.ids (block.below + 1) (window_in block from) (BLOCK_WINDOWS * block.number + (after - 1))
+    → HasNumbers (2 * block.below + 2) block.plan.now.ids (take (2 * block.below + 2) (window_in block from)) prefix
+    → IsPrefixOfNextRun (2 * block.below + 2) block.plan.now.ids prefix next → NextRun block after next
+next_run block from after prefix next some inside end has steps =
+    let m = block.plan.now.ids in
+    let low = block.below in
+    let n : ℕ = BLOCK_WINDOWS * block.number + (after - 1) in
+    let last = run_end low m (window_in block from) end.0 prefix end.2 has in
+    let begins = steps end.0 last.is last.greatest last.has in
+    let long : 2 * (low + 1) + 1 ≡ 2 * low + 2 + 1 = omega arith in
+    let three : 2 * low + 2 + 1 ≡ 2 * low + 3 = omega arith in
+    let sum : n + 1 ≡ BLOCK_WINDOWS * block.number + after = omega (arith, some) in
+    let at_end = subst (λ k. slice_get (windows k m) n ≡ Some end.0) long end.1 in
+    let follows = subst (λ k. slice_get (windows k m) (n + 1) ≡ Some begins.window) (sym long) (begins.follows n at_end) in
+    let here = subst (λ i. slice_get (windows (2 * (low + 1) + 1) m) i ≡ Some begins.window) sum follows in
+    let own : window_in block after ≡ begins.window = window_at m (low + 1) (BLOCK_WINDOWS * block.number + after) begins.window here in
+    record {
+      at' = record {
+        is = record {
+          inside = inside;
+          here = here ∙ ap Some (sym own);
+          window = rw own (subst (λ k. IsWindow k m begins.window) three begins.window_is);
+        };
+        has = rw own begins.has;
+      };
+      first = rw own begins.first;
+    }
+
+-- there is a next run if the block goes on
+pub some_run_follows :
+    (block : UpperBlock) (from after : ℕ) (prefix : RunPrefix) → 1 ≤ after → after < block_len block.plan.now.ids (block.below + 1) block.number
+    → EndsAt block.plan.now.ids (block.below + 1) (window_in block from) (BLOCK_WINDOWS * block.number + (after - 1))
+    → HasNumbers (2 * block.below + 2) block.plan.now.ids (take (2 * block.below + 2) (window_in block from)) prefix
+    → IsPrefixOfLastRun (2 * block.below + 2) block.plan.now.ids prefix → ⊥
+some_run_follows block from after prefix some inside end has ends =
+    let m = block.plan.now.ids in
+    let low = block.below in
+    let n : ℕ = BLOCK_WINDOWS * block.number + (after - 1) in
+    let last = run_end low m (window_in block from) end.0 prefix end.2 has in
+    let long : 2 * (low + 1) + 1 ≡ 2 * low + 2 + 1 = omega arith in
+    let all = ends end.0 last.is last.greatest last.has n (subst (λ k. slice_get (windows k m) n ≡ Some end.0) long end.1) in
+    let whole : n + 1 ≡ length (windows (2 * (low + 1) + 1) m) = subst (λ k. n + 1 ≡ length (windows k m)) (sym long) all in
+    omega (arith, whole, inside, some)
+
+-- the position of its first window
+pub record FirstPlace (block : UpperBlock) (index place : ℕ) : Type 0 where
+  pub place_is : place_in_run (2 * block.below + 1) (window_in block index) (get_or (window_in block index) (2 * block.below + 2) 0) ≡ place
+  pub inside : place < place_in_run (2 * block.below + 1) (window_in block index) block.plan.now.ids
+
+pub first_place :
+    (block : UpperBlock) (index place : ℕ) (prefix : RunPrefix) (places : RunPlaces) → NextRun block index prefix
+    → HasPlaces (2 * block.below + 1) block.plan.now.ids (window_in block index) places
+    → ((k m : ℕ) (window : List ℕ) → 1 ≤ k → IsWindow (k + 2) m window → HasPlaces k m window places → IsFirstOfRun (k + 1) m window → IsAtPlace k m places window place)
+    → ((k m : ℕ) (window : List ℕ) → 1 ≤ k → IsWindow (k + 2) m window → HasPlaces k m window places → IsFirstOfRun (k + 1) m window → place < places.end)
+    → FirstPlace block index place
+first_place block index place prefix places run has at_first within =
+    let m = block.plan.now.ids in
+    let low = block.below in
+    let w = window_in block index in
+    let three : 2 * low + 3 ≡ 2 * low + 1 + 2 = omega arith in
+    let two : 2 * low + 2 ≡ 2 * low + 1 + 1 = omega arith in
+    let window = subst (λ k. IsWindow k m w) three run.at'.is.window in
+    let first = subst (λ k. IsFirstOfRun k m w) two run.first in
+    let here = at_first (2 * low + 1) m w (omega arith) window has first in
+    record {
+      place_is = subst (λ i. place_in_run (2 * low + 1) w (get_or w i 0) ≡ place) (sym two) here.place_is;
+      inside = omega (arith, within (2 * low + 1) m w (omega arith) window has first, has.end);
+    }
