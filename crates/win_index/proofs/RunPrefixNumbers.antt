@@ -1,12 +1,14 @@
 -- The numbers of a prefix with one identifier more, and with one fewer.
-use Rattle.std.proofs.Common.{◌≡◌, ◌≢◌, ℕ, suc, ◌+◌, ◌-◌, ◌*◌, ◌/◌, ◌%◌, ◌<◌, ◌≤◌, false, nat_lt, cond, List, [], ◌∷◌, ◌++◌, length, get_or, take, drop, slice_get, Some, refl, sym, ap, subst, ◌∙◌, arith, ⊎_elim}
+use Rattle.std.proofs.Common.{◌≡◌, ◌≢◌, ℕ, zero, suc, ◌+◌, ◌-◌, ◌*◌, ◌/◌, ◌%◌, ◌<◌, ◌≤◌, false, nat_lt, cond, List, [], ◌∷◌, ◌++◌, length, get_or, take, drop, slice_get, Some, refl, sym, ap, subst, ◌∙◌, arith, ⊎_elim}
 use Rattle.std.proofs.Math.Seq.{get_or-append_seam}
+use Rattle.std.proofs.Math.Nat.{div-div-eq-div-mul, div-one, mul_comm}
 use Rattle.std.proofs.lemmas.Bool.{cases_lt, cases_order, lt-ltb, le-ltb}
-use Rattle.std.proofs.lemmas.List.{take_all, take_more, drop-take, get_or-take, get_or-drop}
+use Rattle.std.proofs.lemmas.List.{take_all, take_more, take-take, drop-take, get_or-take, get_or-drop}
 use Rattle.std.proofs.lemmas.Nat.{div-mul-add, mod-mul-add}
 use Rattle.std.proofs.lemmas.Option.{slice_get_within}
 use Rattle.win_index.specs.RunPrefixes.{HasNumbers, IsLonger}
 use Rattle.win_index.specs.Runs.{HasPlaces}
+use Rattle.win_index.specs.Falling.{falling}
 use Rattle.win_index.specs.Windows.{is_used, unused, windows, IsWindow}
 use Rattle.win_index.specs.declared.run_prefix.RunPrefix.{RunPrefix}
 use Rattle.win_index.specs.declared.series.RunPlaces.{RunPlaces}
@@ -39,6 +41,22 @@ shorter_number k m n list at' =
     let took : take k list ≡ parts.front = ap (take k) parts.whole ∙ take_front k parts.front parts.last size in
     let last : get_or list k 0 ≡ parts.last = ap (λ l. get_or l k 0) parts.whole ∙ subst (λ i. get_or (parts.front ++ parts.last ∷ []) i 0 ≡ parts.last) size (get_or-append_seam parts.front parts.last [] 0) in
     (rw (place, took) parts.front_at, rw (rest, took, last) (sym own.before))
+
+-- the number of a prefix of a window
+pub prefix_number :
+    (k j m n : ℕ) (window : List ℕ) → slice_get (windows (k + j) m) n ≡ Some window → slice_get (windows k m) (n / falling (m - k) j) ≡ Some (take k window)
+prefix_number k zero m n window at' =
+    let same : k + zero ≡ k = omega arith in
+    let own : slice_get (windows k m) n ≡ Some window = rw same at at' in
+    rw (div-one n, take_all k window (omega (arith, (windows_all k m n window own).size))) own
+prefix_number k (suc j) m n window at' =
+    let more : k + suc j ≡ suc (k + j) = omega arith in
+    let free : m - (k + j) ≡ m - k - j = omega arith in
+    let shorter = rw free at (shorter_number (k + j) m n window (rw more at at')).0 in
+    let prefix = prefix_number k j m (n / (m - k - j)) (take (k + j) window) shorter in
+    let number : n / (m - k - j) / falling (m - k) j ≡ n / (falling (m - k) j * (m - k - j)) =
+    div-div-eq-div-mul n (m - k - j) (falling (m - k) j) ∙ ap (λ d. n / d) (mul_comm (m - k - j) (falling (m - k) j)) in
+    rw (number, take-take k (k + j) window (omega arith)) at prefix
 
 -- two numbers that a list lacks are in the order of their positions
 pub same_order :

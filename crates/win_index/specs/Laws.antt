@@ -1,5 +1,5 @@
 -- The statements of the laws of this crate, one definition each.
-use Rattle.std.specs.Prelude.{◌≡◌, ℕ, ◌+◌, ◌-◌, ◌*◌, ◌%◌, ◌<◌, ◌≤◌, ◌↔◌, List, length, take, slice_get, slice_index, slice_index_or, Some, IsSome}
+use Rattle.std.specs.Prelude.{◌≡◌, ℕ, ◌+◌, ◌-◌, ◌*◌, ◌/◌, ◌%◌, ◌<◌, ◌≤◌, ◌↔◌, List, length, take, slice_get, slice_index, slice_index_or, Some, IsSome}
 use Rattle.win_index.specs.declared.limits.TheConstants.{MAX_BLOCKS}
 use Rattle.win_index.specs.declared.ring.RingFault.{RingFault}
 use Rattle.win_index.specs.Arcs.{arc, window_around, part_at}
@@ -40,6 +40,13 @@ LongerWindowsHaveNumbers =
     (k m n : ℕ) (longer : List ℕ) → IsWindow (k + 1) m longer → slice_get (windows k m) n ≡ Some (take k longer)
     → let place = length (unused (slice_index longer k) (take k longer)) in
     (place < m - k) × (slice_get (windows (k + 1) m) (n * (m - k) + place) ≡ Some longer)
+
+-- the windows of k+j identifiers with the same prefix of k identifiers are consecutive, as many for each prefix: the
+-- prefix of window n has number n / (m-k)(m-k-1) .. (m-k-j+1), a product of j numbers
+abbrev pub PrefixesHaveNumbers : Type 0
+PrefixesHaveNumbers =
+    (k j m n : ℕ) (window : List ℕ) → slice_get (windows (k + j) m) n ≡ Some window
+    → slice_get (windows k m) (n / falling (m - k) j) ≡ Some (take k window)
 
 -- the windows of a level of a shape fill at most MAX_BLOCKS blocks
 abbrev pub BlocksAreFew : Type 0

@@ -13,8 +13,9 @@ mod shape;
 
 pub use laws::{
     blocks_are_few, count_of_windows, jobs_have_numbers, longer_windows_have_numbers,
-    number_of_window, one_ring_fault, places_of_arcs, rings_have_tuples, rings_have_windows,
-    tuples_are_rings, window_of_number, windows_are_in_order, windows_have_numbers,
+    number_of_window, one_ring_fault, places_of_arcs, prefixes_have_numbers, rings_have_tuples,
+    rings_have_windows, tuples_are_rings, window_of_number, windows_are_in_order,
+    windows_have_numbers,
 };
 pub use limits::{
     BLOCK_WINDOWS, MAX_BLOCKS, MAX_EXTRA, MAX_IDS, MAX_ROUNDS, MAX_TUPLE_LEN, MAX_WINDOW_LEN,

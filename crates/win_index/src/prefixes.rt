@@ -185,7 +185,8 @@ impl Shape {
         ensures { (window : List ℕ) → slice_get (windows (2 * below + 3) self.now.ids) number ≡ Some window
             → slice_get (windows (2 * below + 1) self.now.ids) result ≡ Some (take (2 * below + 1) window) }
     {
-        number / (self.ids - 2 * below - 2) / (self.ids - 2 * below - 1)
+        let free = self.ids - 2 * below - 1;
+        number / (free * (free - 1))
     }
 
     // The number of a prefix of a window of this level, all its identifiers but the last.
