@@ -35,7 +35,7 @@ pub(crate) fn gather<'s, S: Source<'s>>(
 {
     let shape = upper.plan.shape();
     let below = upper.below;
-    let len = block_len(shape, below + 1, upper.number);
+    let len = upper.len;
     let mut prefix = shape.run_prefix(below, window);
     let mut place = shape.place_in_run(below, window);
     let mut index = 0;
@@ -89,10 +89,7 @@ fn gather_run<'s, S: Source<'s>>(
 {
     number_of_window();
     windows_have_numbers();
-    let shape = upper.plan.shape();
-    // The proof takes the limit of the number of windows from this call.
-    let _windows = shape.count(upper.below);
-    let len = block_len(shape, upper.below + 1, upper.number);
+    let len = upper.len;
     let Reached {
         index: from,
         place: mut at,
@@ -153,11 +150,7 @@ pub(crate) fn write_states<'s, S: Source<'s>>(
         start_states(code, number, window, scratch);
         return Ok(());
     }
-    let block = UpperBlock {
-        plan,
-        below: level - 1,
-        number,
-    };
+    let block = UpperBlock::new(plan, level - 1, number);
     gather(block, source, window, &mut scratch.parts)?;
     step_parts(code, level - 1, scratch);
     Ok(())

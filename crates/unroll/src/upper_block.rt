@@ -1,14 +1,42 @@
-ghost use Rattle.std.specs.Prelude.{◌+◌, ◌<◌, length};
-ghost use Rattle.win_index.specs.Blocks.{block_count};
+//! Blocks above level 0, which are made from those one level below.
+ghost use Rattle.std.specs.Prelude.{◌≡◌, ◌+◌, ◌<◌, ◌^◌, length};
+ghost use Rattle.win_index.specs.Blocks.{block_count, window_count};
+ghost use Rattle.window_states.specs.BlockStates.{block_len};
 
 use lang_check::Plan;
+use window_states::block_len;
 
-// A block above level 0 that is to be made: its plan, the level one below its own, and its number.
+// A block above level 0 that is to be made: its plan, the level one below its own, its number, and
+// the number of its windows.
 #[derive(Clone, Copy)]
 pub(crate) struct UpperBlock<'p> {
     pub(crate) plan: &'p Plan,
     pub(crate) below: u32,
     pub(crate) number: u32,
+    pub(crate) len: u32,
     pub(crate) ghost above: { below < length plan.now.program.steps },
     pub(crate) ghost inside: { number < block_count plan.now.ids (below + 1) },
+    pub(crate) ghost len_is: { len ≡ block_len plan.now.ids (below + 1) number },
+    pub(crate) ghost few: { window_count plan.now.ids below < 2 ^ 32 },
+}
+
+impl<'p> UpperBlock<'p> {
+    // The block one level above `below` with this number.
+    pub(crate) fn new(plan: &'p Plan, below: u32, number: u32) -> UpperBlock<'p>
+        requires below { below < length plan.now.program.steps }
+        requires number { number < block_count plan.now.ids (below + 1) }
+        ensures plan { result.plan.now ≡ plan.entry.now }
+        ensures below { result.below ≡ below }
+        ensures number { result.number ≡ number }
+    {
+        let shape = plan.shape();
+        // The proof takes the limit of the number of windows from this call.
+        let _windows = shape.count(below);
+        UpperBlock {
+            plan,
+            below,
+            number,
+            len: block_len(shape, below + 1, number),
+        }
+    }
 }

@@ -91,7 +91,7 @@ returns-then-after-len-clause-asked g c =
 pub returns-then-after-len-clause-gathered : goal.returns-then-after-len-clause-gathered
 returns-then-after-len-clause-gathered g c =
     let upper = c.args.upper in
-    let len = rw c.shape-shape.ensures.ids at c.block_len-len.ensures.value in
+    let len = c.args.upper.len_is in
     let done : c.in_ok-after.after ≡ block_len upper.plan.now.ids (upper.below + 1) upper.number = omega (arith, len, c.if-after-len.true) in
     let entries = g.S.Source.entries c.gather_run.new.source in
     subst (λ count. AreGathered entries upper count c.gather_run.new.parts) done c.in_ok-after.ensures.gathered.gathered
@@ -100,7 +100,7 @@ pub unreachable-requires : goal.unreachable-requires
 unreachable-requires g c =
     let upper = c.args.upper in
     let run = c.in_ok-after.ensures.gathered in
-    let len = rw c.shape-shape.ensures.ids at c.block_len-len.ensures.value in
+    let len = c.args.upper.len_is in
     let within : c.in_ok-after.after < block_len upper.plan.now.ids (upper.below + 1) upper.number = omega (arith, len, run.within, c.if-after-len.false) in
     some_run_follows upper c.loop-run.index c.in_ok-after.after c.loop-run.prefix (omega (arith, run.later)) within (run.ended within)
     c.loop-run.invariant.here.has (rw c.shape-shape.ensures.ids at c.in_default.ensures.last)
@@ -116,7 +116,7 @@ loop-run-preserved g c =
     let asked = c.in_ok-run.ensures in
     let went = c.in_ok-after.ensures in
     let run = went.gathered in
-    let len = rw c.shape-shape.ensures.ids at c.block_len-len.ensures.value in
+    let len = c.args.upper.len_is in
     let within : after < block_len plan.ids (low + 1) upper.number = omega (arith, len, run.within, c.if-after-len.false) in
     let next = next_run upper c.loop-run.index after c.loop-run.prefix c.in-Some.next (omega (arith, run.later)) within (run.ended within)
     before.here.has (rw c.shape-shape.ensures.ids at c.in-Some.ensures.next) in

@@ -105,8 +105,8 @@ module _ (g : Over) (c : After-put_lasts g) where
       rw from at (further_place c.number_of_window.ensures c.windows_have_numbers.ensures plan (g.S.Source.entries c.numbered_block.new.source) low
       c.args.upper.number c.loop-block.place block.number index (count - 1) c.loop-block.at c.loop-block.invariant.here.0 run last start)
 
-  len_is : c.block_len-len.result ≡ block_len c.args.upper.plan.now.ids (c.args.upper.below + 1) c.args.upper.number
-  len_is = rw c.shape-shape.ensures.ids at c.block_len-len.ensures.value
+  len_is : c.args.upper.len ≡ block_len c.args.upper.plan.now.ids (c.args.upper.below + 1) c.args.upper.number
+  len_is = c.args.upper.len_is
 
   -- the end of these windows is behind the place that was reached, and inside the block
   later : c.args.reached.index < c.loop-block.place + c.series-count.result
@@ -174,8 +174,7 @@ overflow_add-run g c =
     let run = c.args.reached.run in
     let right = last_part_here plan (entries c.args.source.now) (entries c.loop-block.source) low c.loop-block.at (window_in c.args.upper c.args.reached.index) w run before.asked.grows c.requires.reached.run before.here.2 before.here.3 in
     let inside = slice_get_within (windows (2 * low + 1) plan.ids) (run.start + c.loop-block.at) (part w low 2) right in
-    let few = c.count-windows.type_inv in
-    omega (arith, inside, rw c.shape-shape.ensures.ids at c.count-windows.ensures.value, few)
+    omega (arith, inside, c.args.upper.few)
 
 pub numbered_block-requires : goal.numbered_block-requires
 numbered_block-requires g c κs =
@@ -203,7 +202,7 @@ returns-in_err-block-clause-missing g c =
     let right = last_part_here plan (entries c.args.source.now) (entries c.loop-block.source) low c.loop-block.at (window_in c.args.upper c.args.reached.index) w run before.asked.grows c.requires.reached.run before.here.2 before.here.3 in
     let own = window_at m (low + 1) (BLOCK_WINDOWS * b + c.loop-block.place) w before.here.1 in
     let number = c.number_of_window.ensures (2 * low + 1) m (run.start + c.loop-block.at) (part w low 2) right in
-    let len = rw c.shape-shape.ensures.ids at c.block_len-len.ensures.value in
+    let len = c.args.upper.len_is in
     let p = err_from_is_err_and c.from_residual.result c.from_residual.ensures.1 in
     rw (p.1, p.2)
     (fault_of_part (entries c.numbered_block.new.source) m low b c.loop-block.place (run.start + c.loop-block.at) 2 w c.in_err-block.field-0.0 (omega arith)
@@ -220,7 +219,7 @@ loop-block-init g c =
     let three : 2 * low + 3 ≡ 2 * low + 1 + 2 = omega arith in
     let last : 2 * low + 2 ≡ 2 * low + 1 + 1 = omega arith in
     let place = subst (λ i. place_in_run (2 * low + 1) window (get_or window i 0) ≡ c.args.reached.place) last reached.place in
-    let len = rw c.shape-shape.ensures.ids at c.block_len-len.ensures.value in
+    let len = c.args.upper.len_is in
     let put = c.put_fronts.ensures in
     record {
       after = omega arith;
