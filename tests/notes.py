@@ -1,6 +1,6 @@
 """Common mistakes of newcomers, each with the note on its cause, which is on the standard error."""
 
-from programs import CV1, ID0_OF_4, LDB, SHIFT4
+from programs import CV1, ID0, ID0_OF_4, LDB, SHIFT4
 
 # Parts of `CV1`, their replacements, and the starts of the notes on the text.
 MARKS_AND_ORDER = [
@@ -215,6 +215,10 @@ WINDOWS_AND_CHANNELS = [
     ),
 ]
 
+# The note on a yes over no tuples: rings that count have three nodes or more, and there are two identifiers.
+NO_RING = "nbhd: no ring was judged: 2 identifiers are too few for a ring of at least 3 nodes\n"
+TABLE_OF_2 = b"nbhd-table 2\nrounds 0 ids 2 channels 2 near 1 far %d\n0 : 0\n1 : 1\nend\n"
+
 # Words, inputs and the notes.
 OTHERS = [
     ("explain --ids 8 --ring 5,1,3,7 --place 4", CV1, "nbhd: the ring has no place 4; its places are 0 to 3\n"),
@@ -229,6 +233,10 @@ OTHERS = [
         ID0_OF_4,
         "nbhd: on the ring 0,2,1 the nodes at distance two 0 and 1 (places 0 and 2) have channels 0 and 1; their windows are 0 and 1\n",
     ),
+    ("judge --ids 2 --far 1", ID0, NO_RING),
+    ("judge --ids 2 --far 1 --workers 3", ID0, NO_RING),
+    ("judge --ids 4 --far 1", CV1, "nbhd: no ring was judged: 4 identifiers are too few for a ring of at least 5 nodes\n"),
+    ("audit", TABLE_OF_2 % 1, NO_RING),
     (
         "judge --ids 10",
         SHIFT4.replace(b"finish r0", b"finish 0"),
@@ -259,6 +267,13 @@ def ends():
     for text, note in WINDOWS_AND_CHANNELS:
         yield "audit", text, note
     yield from OTHERS
+
+
+def silent():
+    """Words and inputs without a note: a yes over tuples is about rings."""
+    yield "judge --ids 2", ID0, ""
+    yield "judge --ids 5 --far 1", ID0_OF_4.replace(b"channels 4", b"channels 5"), ""
+    yield "audit", TABLE_OF_2 % 0, ""
 
 
 def edited(old, new):

@@ -1,4 +1,4 @@
--- The note on a no of the judge.
+-- The notes on a no of the judge, and on a yes about no ring.
 use Rattle.std.specs.Prelude.{ℕ, ◌+◌, ◌==◌, ◌++◌, List, [], ◌∷◌, slice_index, codes, if◌then◌else◌}
 use Rattle.std.specs.List.{flat_map}
 use Rattle.std.specs.Fmt.{decimal}
@@ -31,3 +31,8 @@ windows_text t ring places =
 abbrev pub verdict_note : ℕ → List ℕ → ℕ × ℕ → ℕ × ℕ → List ℕ
 verdict_note t ring places channels =
     codes "nbhd: on the ring " ++ (joined (codes ",") ring ++ (distance_text places ++ (pair_text ring places ++ (channels_text channels ++ windows_text t ring places))))
+
+-- the note on a yes about no ring: so many identifiers are too few for a ring of so many nodes, the least that is judged
+abbrev pub no_tuples_note : (nodes ids : ℕ) → List ℕ
+no_tuples_note nodes ids = codes "nbhd: no ring was judged: " ++ (decimal ids
+    ++ (codes " identifiers are too few for a ring of at least " ++ (decimal nodes ++ codes " nodes\n")))

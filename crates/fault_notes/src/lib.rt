@@ -26,5 +26,5 @@ pub use programs::{check_note, ids_note};
 pub use rings::{place_note, ring_note, segments_note};
 pub use tables::{channel_note, form_note, long_note, window_note};
 pub use texts::text_note;
-pub use verdicts::verdict_note;
+pub use verdicts::{no_tuples_note, verdict_note};
 pub use wanted::Wanted;

@@ -1,13 +1,23 @@
-//! The note on a no of the judge.
+//! The notes on a no of the judge, and on a yes about no ring.
 
 ghost use Rattle.std.specs.Prelude.{◌≡◌, ◌++◌, ◌<◌, ◌≤◌, length, codes, IfOk, OnOk, string_bytes};
 ghost use Rattle.win_index.specs.Arcs.{window_around};
 ghost use Rattle.win_index.specs.declared.limits.TheConstants.{MAX_IDS, MAX_ROUNDS};
-ghost use Rattle.fault_notes.specs.VerdictNotes.{joined, distance_text, pair_text, channels_text, windows_text, verdict_note};
+ghost use Rattle.fault_notes.specs.VerdictNotes.{joined, distance_text, pair_text, channels_text, no_tuples_note, windows_text, verdict_note};
 
 use crate::numbers::write_joined;
 use std::alloc::{AllocError, Global};
 use std::fmt::Write;
+
+/// Returns the note on a yes of the judge about no ring: `ids` identifiers are too few for a ring of
+/// `nodes` nodes, the least that is judged. Fails if memory was refused.
+pub fn no_tuples_note(alloc: Global, nodes: usize, ids: u32) -> Result<String, AllocError>
+    ensures { IfOk result (λ note. string_bytes note ≡ no_tuples_note nodes ids) }
+{
+    format!(in alloc;
+        "nbhd: no ring was judged: {ids} identifiers are too few for a ring of at least {nodes} nodes\n"
+    )
+}
 
 /// Returns the note on a no of the judge for `rounds` rounds: the ring, the nodes at the two
 /// places, their channels and their windows. Fails if memory was refused.

@@ -1,10 +1,11 @@
 -- The cause of a report is found in its input.
-use Rattle.std.proofs.Common.{◌≡◌, ℕ, ◌≤◌, List, length, Option, Some, None, sym, subst, arith}
+use Rattle.std.proofs.Common.{◌≡◌, ℕ, zero, suc, ◌≤◌, List, length, Option, Some, None, sym, subst, arith}
 use Rattle.std.specs.Prelude.{IfSome}
 use Rattle.node_program.specs.declared.limits.TheConstants.{MAX_ROUNDS}
 use Rattle.node_program.specs.Term.{ProgramTree}
 use Rattle.win_index.specs.declared.limits.TheConstants.{MAX_IDS}
 use Rattle.table_entries.specs.ProgramTables.{table_of}
+use Rattle.nbhd_check.specs.Apart.{tuples}
 use Rattle.nbhd_check.specs.Laws.{WitnessesAreOnRings}
 use Rattle.channel_tables.specs.Tables.{ChannelTable}
 use Rattle.channel_tables.specs.declared.separation.Separation.{Separation}
@@ -13,7 +14,7 @@ use Rattle.task_words.specs.declared.task.Task.{Task}
 use Rattle.task_words.specs.declared.task.Task.TheVariants.{Check, Print, Table, Judge, Run, Trace, Explain, Plan, Audit, Migrate, Formula, Refute}
 use Rattle.reports.specs.Causes.{Reason}
 use Rattle.reports.specs.Notes.{IsFound}
-use Rattle.reports.specs.Report.{Report, IsJudgement, good, bad, IsAnswerOnRing, ring_fault, on_ring, IsRunAnswer, out_of_range, ran, IsExplainAnswer, no_place, explained, IsTextRefusal, text_refused, in_print, text_fault, check_fault, IsProgramReport, program_refused, answered, IsTableReport, table_refused, of_table}
+use Rattle.reports.specs.Report.{Report, yes_cause, IsJudgement, good, bad, IsAnswerOnRing, ring_fault, on_ring, IsRunAnswer, out_of_range, ran, IsExplainAnswer, no_place, explained, IsTextRefusal, text_refused, in_print, text_fault, check_fault, IsProgramReport, program_refused, answered, IsTableReport, table_refused, of_table}
 use Rattle.reports.specs.FormulaReports.{IsFormulaRefusal, no_formula, has_text, not_asked, refuted, not_refuted}
 use Rattle.table_formula.specs.Problems.{Problem}
 use Rattle.task_words.specs.Task.{IsRunnable}
@@ -29,10 +30,15 @@ no_cause input r none = subst (λ (o : Option Reason). IfSome o (IsFound input))
 its_cause : (input : List ℕ) (r : Report) (cause : Reason) → r.cause ≡ Some cause → IsFound input cause → IsOfInput input r
 its_cause input r cause is found = subst (λ (o : Option Reason). IfSome o (IsFound input)) (sym is) found
 
+-- a yes over no tuples has its cause in no input
+in_yes : (input : List ℕ) (t : ChannelTable) (s : Separation) (count : ℕ) (r : Report) → r.cause ≡ yes_cause t s count → IsOfInput input r
+in_yes input t s zero r is = its_cause input r _ is tt
+in_yes input t s (suc n) r is = no_cause input r is
+
 -- the places of a witness are places of its ring, which is short
 in_judgement : WitnessesAreOnRings → (input : List ℕ) (t : ChannelTable) (s : Separation) (r : Report) → t.rounds ≤ MAX_ROUNDS → t.ids ≤ MAX_IDS
     → IsJudgement t s r → IsOfInput input r
-in_judgement placed input t s r few ids (good apart says) = no_cause input r says.2
+in_judgement placed input t s r few ids (good apart says) = in_yes input t s (length (tuples t s)) r says.2
 in_judgement placed input t s r few ids (bad ring places channels witness says) =
     let is = placed t s ring places channels witness in
     let long = is.0.long in

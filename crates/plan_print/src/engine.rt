@@ -70,13 +70,13 @@ pub fn engine<T: Threads + Wait + Sync, R: Read, W: Write>(
 #[derive(Drop)]
 pub struct Told {
     pub status: Status,
-    /// `None` if the report has no cause, since it is neither a refusal nor a no. Without memory for
-    /// the note it is an error.
+    /// `None` if the report has no cause, since it is neither a refusal nor a no nor a yes over no
+    /// tuples. Without memory for the note it is an error.
     pub note: Option<Result<String, OutOfMemory>>,
 }
 
-/// Does the same as `engine`, and returns the note on a report that is a refusal or a no. The note
-/// is not written.
+/// Does the same as `engine`, and returns the note on the report's cause, if it has one. The note is
+/// not written.
 pub fn engine_with_note<T: Threads + Wait + Sync, R: Read, W: Write>(
     rt: &T,
     alloc: Global,

@@ -96,7 +96,9 @@ module _ (readable : ReadTextsAreReadable) (stops : ReadingStopsAtFirstFault) (n
       (refuse (report.place_fault_line place) RingRefused (of_place place (length x)), no_place beyond (refl, refl, refl))
 
   on_judgement : (t : ChannelTable) (s : Separation) → JudgeAnswer t s → Some-report (IsJudgement t s)
-  on_judgement t s (apart is) = let said = say (report.good_line (length (tuples t s))) Done in (said.0, good is said.1)
+  on_judgement t s (apart is) =
+      let count = length (tuples t s) in
+      (record { bytes = report.good_line count; status = Done; cause = report.yes_cause t s count }, good is (refl, refl, refl))
   on_judgement t s (not_apart ring places channels is) =
       (refuse (report.no_line s ring places channels) No (of_no t.rounds ring places channels), bad ring places channels is (refl, refl, refl))
 

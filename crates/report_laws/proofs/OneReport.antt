@@ -47,7 +47,7 @@ refused_once bytes other status cause why r s same alike says says' = told_once 
 
 one_judgement : OneWitness → ApartTablesHaveNoWitness → (t : ChannelTable) (d : Separation) (r s : Report)
     → IsJudgement t d r → IsJudgement t d s → r ≡ s
-one_judgement one no_witness t d r s (good is says) (good is' says') = said_once _ _ _ r s refl says says'
+one_judgement one no_witness t d r s (good is says) (good is' says') = told_once _ _ _ _ _ r s refl refl says says'
 one_judgement one no_witness t d r s (good is says) (bad ring i c witness says') = absurd (no_witness t d ring i c is witness)
 one_judgement one no_witness t d r s (bad ring i c witness says) (good is says') = absurd (no_witness t d ring i c is witness)
 one_judgement one no_witness t d r s (bad ring i c witness says) (bad other j e witness' says') =

@@ -119,7 +119,7 @@ pub fn refuted_is_impossible()
 }
 
 /// The note on a list that is no ring, on a place that a ring has not, on a number of segments, on a
-/// fault of a refutation or on a no is one text.
+/// fault of a refutation, on a no or on a yes over no tuples is one text.
 #[tactic(auto, using(crate::proofs::OneNote::one_note))]
 pub fn one_note()
     ensures { law.OneNote }

@@ -1,4 +1,5 @@
 pub mod Joined
 pub mod Aligned
 mod SentMemo
+pub mod Yes
 pub mod NotRing

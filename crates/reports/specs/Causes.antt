@@ -1,4 +1,4 @@
--- The cause of a report that is a refusal or a no.
+-- The cause of a report that is a refusal, a no, or a yes over no tuples.
 use Rattle.std.specs.Prelude.{ℕ, List, Option, Some, None}
 use Rattle.node_program.specs.Term.{ProgramTree}
 use Rattle.node_lang.specs.declared.fault.FaultKind.{FaultKind}
@@ -13,7 +13,8 @@ use Rattle.reports.specs.declared.cause.Cause.TheVariants as cause
 -- The cause of a report: the fault of a program text and its place; the refusal of a program for a number of
 -- identifiers; the fault of a list of identifiers, for m identifiers and t rounds; a place, or a number of segments, for a
 -- number of places; the fault of a table text; why there is no formula of m identifiers and t rounds; the fault of a refutation; or,
--- on a ring, two places and their channels, for t rounds.
+-- on a ring, two places and their channels, for t rounds; or, for a yes over no tuples, the least number of nodes of a ring
+-- that is judged and the number of identifiers.
 pub data Reason : Type 0 where
   of_text : (kind : FaultKind) (offset : ℕ) → Reason
   of_program : (p : ProgramTree) (ids : ℕ) (f : CheckFault) → Reason
@@ -24,6 +25,7 @@ pub data Reason : Type 0 where
   of_formula : (m t : ℕ) (f : ProblemFault) → Reason
   of_refutation : (f : RefuteError) → Reason
   of_no : (t : ℕ) (ring : List ℕ) (places channels : ℕ × ℕ) → Reason
+  of_no_tuples : (nodes ids : ℕ) → Reason
 
 abbrev pub reason_of : Cause → Reason
 reason_of (cause.Text f) = of_text f.kind f.offset
@@ -35,6 +37,7 @@ reason_of (cause.TableText f) = of_table_text f
 reason_of (cause.Formula ids rounds f) = of_formula ids rounds f
 reason_of (cause.Refutation f) = of_refutation f
 reason_of (cause.No rounds ring places channels) = of_no rounds ring.items places channels
+reason_of (cause.NoTuples nodes ids) = of_no_tuples nodes ids
 
 abbrev pub reason_in : Option Cause → Option Reason
 reason_in (Some cause) = Some (reason_of cause)

@@ -1,4 +1,4 @@
--- The note on the cause of a report that is a refusal or a no.
+-- The note on the cause of a report.
 use Rattle.std.specs.Prelude.{◌≡◌, ◌≢◌, ℕ, ◌<◌, ◌≤◌, List, Option, Some, None, Result, Ok, Err, String, ⊤, length, string_bytes}
 use Rattle.std.specs.declared.alloc.Global.{Global}
 use Rattle.node_program.specs.declared.limits.TheConstants.{MAX_ROUNDS}
@@ -15,9 +15,9 @@ use Rattle.fault_notes.specs.TextNotes.{IsTextNote, too_long_note}
 use Rattle.fault_notes.specs.ProgramNotes.{IsCheckNote}
 use Rattle.fault_notes.specs.RingNotes.{place_note, ring_note, segments_note}
 use Rattle.fault_notes.specs.TableNotes.{long_note, IsFormNote, IsWindowNote, channel_note}
-use Rattle.fault_notes.specs.VerdictNotes.{verdict_note}
+use Rattle.fault_notes.specs.VerdictNotes.{no_tuples_note, verdict_note}
 use Rattle.refutation.specs.declared.fault.RefuteError.TheVariants as refute
-use Rattle.reports.specs.Causes.{Reason, of_text, of_program, of_ring, of_place, of_segments, of_table_text, of_formula, of_refutation, of_no}
+use Rattle.reports.specs.Causes.{Reason, of_text, of_program, of_ring, of_place, of_segments, of_table_text, of_formula, of_refutation, of_no, of_no_tuples}
 use Rattle.reports.specs.FormulaNotes.{IsFormulaNote, refutation_note}
 
 -- the note on a fault of a table text; OutOfMemory is no fault of one
@@ -40,6 +40,7 @@ IsNote input (of_table_text f) note = IsTableNote input f note
 IsNote input (of_formula m t f) note = IsFormulaNote m t f note
 IsNote input (of_refutation f) note = note ≡ refutation_note f
 IsNote input (of_no t ring places channels) note = note ≡ verdict_note t ring places channels
+IsNote input (of_no_tuples nodes ids) note = note ≡ no_tuples_note nodes ids
 
 -- the note of a report: without a cause there is none, else it is on the cause, unless memory for it was refused
 abbrev pub IsNoteOn : List ℕ → Option Reason → Option (Result (String Global) OutOfMemory) → Type 0

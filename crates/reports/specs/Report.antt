@@ -1,5 +1,5 @@
 -- Reports: their bytes, their status and their cause, on a text, on a program, on a table or on a ring.
-use Rattle.std.specs.Prelude.{◌≡◌, ◌≢◌, ◌==◌, ◌&&◌, if◌then◌else◌, ℕ, ◌+◌, ◌*◌, ◌<◌, ◌≤◌, List, [], ◌∷◌, Option, Some, None, length, slice_index, codes}
+use Rattle.std.specs.Prelude.{◌≡◌, ◌≢◌, ◌==◌, ◌&&◌, if◌then◌else◌, ℕ, zero, suc, ◌+◌, ◌*◌, ◌<◌, ◌≤◌, List, [], ◌∷◌, Option, Some, None, length, slice_index, codes}
 use Rattle.std.specs.List.{flat_map, range_with_len}
 use Rattle.std.specs.Fmt.{decimal}
 use Rattle.node_lang.specs.declared.fault.FaultKind.{FaultKind}
@@ -21,14 +21,14 @@ use Rattle.win_index.specs.RingFaults.{IsFirstFault}
 use Rattle.win_index.specs.Windows.{windows}
 use Rattle.channel_tables.specs.Tables.{ChannelTable}
 use Rattle.channel_tables.specs.declared.separation.Separation.{Separation}
-use Rattle.nbhd_check.specs.Apart.{tuples, IsApartEverywhere}
+use Rattle.nbhd_check.specs.Apart.{extra, tuples, IsApartEverywhere}
 use Rattle.nbhd_check.specs.Verdicts.{IsWitness}
 use Rattle.ring_segments.specs.SegmentCounts.{IsSegmentCount}
 use Rattle.reports.specs.declared.status.Status.{Status}
 use Rattle.reports.specs.declared.status.Status.TheVariants.{Done, No, Words, Refused, RingRefused}
 use Rattle.numerals.specs.declared.base.Base.{Base}
 use Rattle.value_trees.specs.Explanation.{explanation}
-use Rattle.reports.specs.Causes.{Reason, of_text, of_program, of_ring, of_place, of_segments, of_table_text, of_no}
+use Rattle.reports.specs.Causes.{Reason, of_text, of_program, of_ring, of_place, of_segments, of_table_text, of_no, of_no_tuples}
 use Rattle.reports.specs.Lines.{line, numbers_text, right_aligned}
 use Rattle.table_text.specs.declared.fault.TableFault.{TableFault}
 use Rattle.table_text.specs.declared.fault.TableFault.TheVariants as table
@@ -39,16 +39,20 @@ use Rattle.table_text.specs.Faults.{IsFault}
 pub record Report : Type 0 where
   pub bytes : List ℕ
   pub status : Status
-  -- that of a refusal or a no
+  -- that of a refusal, a no, or a yes over no tuples
   pub cause : Option Reason
+
+-- the report has these bytes, this status and this cause, if any
+abbrev pub Tells : List ℕ → Status → Option Reason → Report → Type 0
+Tells bytes status cause r = (r.bytes ≡ bytes) × (r.status ≡ status) × (r.cause ≡ cause)
 
 -- the report has these bytes and this status, and no cause
 abbrev pub Says : List ℕ → Status → Report → Type 0
-Says bytes status r = (r.bytes ≡ bytes) × (r.status ≡ status) × (r.cause ≡ None)
+Says bytes status = Tells bytes status None
 
 -- the report is a refusal or a no: it has these bytes, this status and this cause
 abbrev pub Refuses : List ℕ → Status → Reason → Report → Type 0
-Refuses bytes status cause r = (r.bytes ≡ bytes) × (r.status ≡ status) × (r.cause ≡ Some cause)
+Refuses bytes status cause = Tells bytes status (Some cause)
 
 -- the number of a kind of text fault
 abbrev pub kind_number : FaultKind → ℕ
@@ -133,9 +137,19 @@ abbrev pub place_lines : ProgramTree → List ℕ → List ℕ
 place_lines p places =
     flat_map (λ place. place_line place (slice_index places place) (channel_at p places place)) (range_with_len 0 (length places))
 
+-- the cause of a yes over this number of tuples: without tuples no ring is judged, since a ring has at least as many nodes
+-- as a tuple has identifiers; with tuples there is none
+abbrev pub yes_cause : ChannelTable → Separation → ℕ → Option Reason
+yes_cause t s zero = Some (of_no_tuples (2 * t.rounds + 1 + extra s) t.ids)
+yes_cause t s (suc n) = None
+
+-- the report of a yes over this number of tuples
+abbrev pub IsYes : ChannelTable → Separation → ℕ → Report → Type 0
+IsYes t s count = Tells (good_line count) Done (yes_cause t s count)
+
 -- The report of the judge: the channels are apart everywhere as the separation requires, or not on this ring.
 pub data IsJudgement (t : ChannelTable) (s : Separation) (r : Report) : Type 0 where
-  good : IsApartEverywhere t s → Says (good_line (length (tuples t s))) Done r → IsJudgement t s r
+  good : IsApartEverywhere t s → IsYes t s (length (tuples t s)) r → IsJudgement t s r
   bad : (ring : List ℕ) (places channels : ℕ × ℕ) → IsWitness t s ring places channels → Refuses (no_line s ring places channels) No (of_no t.rounds ring places channels) r → IsJudgement t s r
 
 -- The report on a list of identifiers, for m identifiers and t rounds: the first fault of a list that is not a ring, or

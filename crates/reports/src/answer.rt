@@ -21,7 +21,7 @@ pub struct TableReport {
 pub enum Answer {
     /// Its text and its status.
     Text(String, Status),
-    /// Its text and its status, with its cause: it is a refusal or a no.
+    /// Its text and its status, with its cause: it is a refusal, a no, or a yes over no tuples.
     Told(String, Status, Cause),
     /// The table and the separation whose text it is.
     Table(TableReport),

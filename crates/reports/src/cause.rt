@@ -1,4 +1,4 @@
-//! The cause of a report that is a refusal or a no.
+//! The cause of a report that is a refusal, a no, or a yes over no tuples.
 
 use crate::problem::ProblemFault;
 use lang_check::CheckFault;
@@ -7,7 +7,7 @@ use refutation::RefuteError;
 use table_text::TableFault;
 use win_index::RingFault;
 
-/// The cause of a report that is a refusal or a no.
+/// The cause of a report that is a refusal, a no, or a yes over no tuples.
 #[derive(Drop)]
 pub enum Cause {
     /// The fault of a program text.
@@ -51,5 +51,11 @@ pub enum Cause {
         ring: Vec<u32>,
         places: (u32, u32),
         channels: (u32, u32),
+    },
+    /// A yes about no ring: there are fewer identifiers than a ring that is judged has nodes. This is
+    /// the least number of its nodes.
+    NoTuples {
+        nodes: usize,
+        ids: u32,
     },
 }

@@ -1,6 +1,7 @@
 //! The report of the judge on a table. Each call fails only with `Memory`, if memory was refused.
 
 ghost use Rattle.std.specs.Prelude.{◌≡◌, IfOk, IfErr};
+ghost use Rattle.nbhd_check.specs.Apart.{IsApartEverywhere};
 ghost use Rattle.nbhd_check.specs.Verdicts.{IsVerdict};
 ghost use Rattle.reports.specs.Answers.{report_in};
 ghost use Rattle.reports.specs.Report.{IsJudgement};
@@ -11,7 +12,7 @@ use crate::lines::{good_line, no_line};
 use crate::status::Status;
 use channel_tables::Table;
 use devices::fault::EngineFault;
-use nbhd_check::{Separation, Verdict, judge, tuple_count};
+use nbhd_check::{Separation, Verdict, judge, tuple_count, tuple_len};
 use std::alloc::Global;
 use std::thread::Threads;
 
@@ -27,10 +28,7 @@ pub fn verdict_answer(
     ensures fault { IfErr result (λ fault. fault ≡ EngineFault.Memory) }
 {
     match verdict {
-        Verdict::Yes => Ok(Answer::Text(
-            good_line(alloc, tuple_count(table, separation))?,
-            Status::Done,
-        )),
+        Verdict::Yes => yes_answer(alloc, table, separation),
         Verdict::No {
             ring,
             places,
@@ -46,6 +44,24 @@ pub fn verdict_answer(
             Ok(Answer::Told(line, Status::No, cause))
         }
     }
+}
+
+// Returns the report of a yes on the table.
+fn yes_answer(alloc: Global, table: &Table, separation: Separation) -> Result<Answer, EngineFault>
+    requires { IsApartEverywhere table.now separation }
+    ensures answer { IfOk result (λ r. IsJudgement table.now separation (report_in r)) }
+    ensures fault { IfErr result (λ fault. fault ≡ EngineFault.Memory) }
+{
+    let count = tuple_count(table, separation);
+    let line = good_line(alloc, count)?;
+    if count > 0 {
+        return Ok(Answer::Text(line, Status::Done));
+    }
+    let cause = Cause::NoTuples {
+        nodes: tuple_len(table, separation),
+        ids: table.shape().ids(),
+    };
+    Ok(Answer::Told(line, Status::Done, cause))
 }
 
 // Returns the report of the judge on a table, by at most as many threads as there are processors.

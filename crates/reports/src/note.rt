@@ -1,4 +1,4 @@
-//! The note on the cause of a report that is a refusal or a no.
+//! The note on the cause of a report.
 
 ghost use Rattle.std.specs.Prelude.{◌≢◌, IfOk, string_bytes};
 ghost use Rattle.reports.specs.Causes.{reason_of};
@@ -8,8 +8,8 @@ ghost use Rattle.table_text.specs.Faults.{IsFault};
 use crate::cause::Cause;
 use crate::formula_notes::{formula_note, refutation_note};
 use fault_notes::{
-    channel_note, check_note, form_note, long_note, place_note, ring_note, segments_note,
-    text_note, verdict_note, window_note,
+    channel_note, check_note, form_note, long_note, no_tuples_note, place_note, ring_note,
+    segments_note, text_note, verdict_note, window_note,
 };
 use std::alloc::{AllocError, Global};
 use table_text::{LONGEST_TABLE_TEXT, TableFault};
@@ -43,6 +43,7 @@ pub fn note_on(alloc: Global, input: &[u8], cause: &Cause) -> Result<String, All
             places,
             channels,
         } => verdict_note(alloc, *rounds, ring, *places, *channels),
+        Cause::NoTuples { nodes, ids } => no_tuples_note(alloc, *nodes, *ids),
     }
 }
 

@@ -22,7 +22,7 @@ use std::io::Write;
 use table_formula::{Formula, write_formula};
 use table_text::write_table;
 
-/// Writes a report. Returns its status, and its cause if it is a refusal or a no.
+/// Writes a report. Returns its status, and its cause if it has one.
 ///
 /// Fails with `Write` exactly if a write failed or took no byte, and a prefix of the report was
 /// written then; with `Memory` if memory was refused, and nothing was written then.
