@@ -115,6 +115,19 @@ TableTellsRounds =
     × ((ring : List ℕ) (place : ℕ) → IsRing m (length p.steps) ring → place < length ring
     → channel_of (table_of p m) (window_around ring (length p.steps) place) ≡ Some (channel_at p ring place))
 
+-- The reports on an accepted program agree with global rounds: the status of a judge, the line of a run, the lines of a
+-- trace, which end with those of a run, those of an explanation, which shows what a trace and a run have, those of a plan,
+-- and the text of a table.
+pub record ReportsTellRounds : Type 0 where
+  pub judge : JudgeTellsRounds
+  pub run : RunTellsRounds
+  pub trace : TraceTellsRounds
+  pub finish : TraceEndsWithRun
+  pub explain : ExplainTellsRounds
+  pub shows : ExplainShowsTrace
+  pub plan : PlanTellsRounds
+  pub table : TableTellsRounds
+
 -- a report is the same for every number of workers
 abbrev pub SameForWorkers : Type 0
 SameForWorkers =

@@ -54,14 +54,7 @@ pub fn each_task_has_a_report()
 /// has there, or the channel that a run has. A table has their channels at
 /// the windows of every ring.
 pub fn reports_tell_rounds()
-    ensures judge { law.JudgeTellsRounds }
-    ensures run { law.RunTellsRounds }
-    ensures trace { law.TraceTellsRounds }
-    ensures finish { law.TraceEndsWithRun }
-    ensures explain { law.ExplainTellsRounds }
-    ensures shows { law.ExplainShowsTrace }
-    ensures plan { law.PlanTellsRounds }
-    ensures table { law.TableTellsRounds }
+    ensures { law.ReportsTellRounds }
 {
     one_reading();
     one_refusal();

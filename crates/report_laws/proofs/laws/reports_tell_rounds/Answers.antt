@@ -1,28 +1,18 @@
 use Rattle.report_laws.proofs.ToldRounds.{judge_tells, run_tells, trace_tells, trace_ends, explain_tells, explain_shows, plan_tells, table_tells}
 use Rattle.report_laws.proofs.laws.reports_tell_rounds.Goals as goal
 
-pub returns-clause-judge : goal.returns-clause-judge
-returns-clause-judge c =
-    judge_tells c.one_reading.ensures c.one_refusal.ensures.none c.one_witness.ensures.none c.program_tables_are_apart.ensures
-
-pub returns-clause-run : goal.returns-clause-run
-returns-clause-run c = run_tells c.one_reading.ensures c.one_refusal.ensures.none c.one_ring_fault.ensures.none
-
-pub returns-clause-trace : goal.returns-clause-trace
-returns-clause-trace c = trace_tells c.one_reading.ensures c.one_refusal.ensures.none c.one_ring_fault.ensures.none
-
-pub returns-clause-finish : goal.returns-clause-finish
-returns-clause-finish c = trace_ends c.one_reading.ensures c.one_refusal.ensures.none c.one_ring_fault.ensures.none
-
-pub returns-clause-explain : goal.returns-clause-explain
-returns-clause-explain c = explain_tells c.one_reading.ensures c.one_refusal.ensures.none c.one_ring_fault.ensures.none
-
-pub returns-clause-shows : goal.returns-clause-shows
-returns-clause-shows c =
-    explain_shows c.explanations_show_traces.ensures c.one_reading.ensures c.one_refusal.ensures.none c.one_ring_fault.ensures.none
-
-pub returns-clause-plan : goal.returns-clause-plan
-returns-clause-plan c = plan_tells c.one_reading.ensures c.one_refusal.ensures.none c.one_ring_fault.ensures.none
-
-pub returns-clause-table : goal.returns-clause-table
-returns-clause-table c = table_tells c.one_reading.ensures c.one_refusal.ensures.none c.table_has_the_channels_of_rounds.ensures
+pub returns : goal.returns
+returns c =
+    let reading = c.one_reading.ensures in
+    let accepted = c.one_refusal.ensures.none in
+    let ring = c.one_ring_fault.ensures.none in
+    record {
+      judge = judge_tells reading accepted c.one_witness.ensures.none c.program_tables_are_apart.ensures;
+      run = run_tells reading accepted ring;
+      trace = trace_tells reading accepted ring;
+      finish = trace_ends reading accepted ring;
+      explain = explain_tells reading accepted ring;
+      shows = explain_shows c.explanations_show_traces.ensures reading accepted ring;
+      plan = plan_tells reading accepted ring;
+      table = table_tells reading accepted c.table_has_the_channels_of_rounds.ensures;
+    }
