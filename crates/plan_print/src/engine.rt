@@ -1,13 +1,11 @@
 //! Doing a task: reading the whole input, then writing its report.
 
-ghost use Rattle.std.specs.Prelude.{◌≡◌, ◌+◌, ◌≤◌, false, IfOk, IfErr, IfSome, OnErr};
+ghost use Rattle.std.specs.Prelude.{◌≡◌, false, IfSome};
 ghost use Rattle.task_words.specs.Task.{IsRunnable};
-ghost use Rattle.devices.specs.Input.{TakesFront};
-ghost use Rattle.devices.specs.Watched.{device_of, has_failed, calls_of};
+ghost use Rattle.devices.specs.Watched.{has_failed};
 ghost use Rattle.reports.specs.Notes.{IsNoteOn, IsFound};
 ghost use Rattle.reports.specs.Causes.{reason_in};
-ghost use Rattle.reports.specs.Written.{MayHave};
-ghost use Rattle.plan_print.specs.Engine.{max_read, WritesReport, TellsReport, LeavesOutput, TellsFailures, thread_count_of};
+ghost use Rattle.plan_print.specs.Engine.{max_read, streams_of, DoesTask, WritesReport, TellsReport};
 
 use crate::report::report_of;
 use devices::fault::EngineFault;
@@ -49,16 +47,7 @@ pub fn engine<T: Threads + Wait + Sync, R: Read, W: Write>(
     requires runnable { IsRunnable task }
     requires reads { has_failed reader.old ≡ false }
     requires writes { has_failed writer.old ≡ false }
-    ensures report { IfOk result (λ status. WritesReport task
-        (R.remaining (device_of reader.old)) (R.remaining (device_of reader.new))
-        (W.contents (device_of writer.old)) (W.contents (device_of writer.new)) status) }
-    ensures left { IfErr result (LeavesOutput task
-        (R.remaining (device_of reader.old)) (R.remaining (device_of reader.new))
-        (W.contents (device_of writer.old)) (W.contents (device_of writer.new))) }
-    ensures taken { OnErr result (TakesFront (R.remaining (device_of reader.old)) (R.remaining (device_of reader.new)) (max_read task)) }
-    ensures asked { calls_of reader.new ≤ calls_of reader.old + max_read task }
-    ensures threads { IfErr result (MayHave (thread_count_of task)) }
-    ensures failed { TellsFailures result (has_failed reader.new) (has_failed writer.new) }
+    ensures { DoesTask task (streams_of R.remaining W.contents reader.old reader.new writer.old writer.new) WritesReport result }
 {
     match engine_with_note(rt, alloc, task, reader, writer) {
         Ok(told) => Ok(told.status),
@@ -87,16 +76,7 @@ pub fn engine_with_note<T: Threads + Wait + Sync, R: Read, W: Write>(
     requires runnable { IsRunnable task }
     requires reads { has_failed reader.old ≡ false }
     requires writes { has_failed writer.old ≡ false }
-    ensures report { IfOk result (λ told. TellsReport task
-        (R.remaining (device_of reader.old)) (R.remaining (device_of reader.new))
-        (W.contents (device_of writer.old)) (W.contents (device_of writer.new)) told) }
-    ensures left { IfErr result (LeavesOutput task
-        (R.remaining (device_of reader.old)) (R.remaining (device_of reader.new))
-        (W.contents (device_of writer.old)) (W.contents (device_of writer.new))) }
-    ensures taken { OnErr result (TakesFront (R.remaining (device_of reader.old)) (R.remaining (device_of reader.new)) (max_read task)) }
-    ensures asked { calls_of reader.new ≤ calls_of reader.old + max_read task }
-    ensures threads { IfErr result (MayHave (thread_count_of task)) }
-    ensures failed { TellsFailures result (has_failed reader.new) (has_failed writer.new) }
+    ensures { DoesTask task (streams_of R.remaining W.contents reader.old reader.new writer.old writer.new) TellsReport result }
 {
     one_witness();
     let input = read_input(alloc, reader, max_read(&task))?;
@@ -126,20 +106,8 @@ fn max_read(task: &Task) -> usize
 {
     match task {
         Task::Audit | Task::Migrate => LONGEST_TABLE_TEXT + 1,
-        Task::Formula {
-            ids: _,
-            rounds: _,
-            channels: _,
-            near: _,
-            far: _,
-        } => 0,
-        Task::Refute {
-            ids: _,
-            rounds: _,
-            channels: _,
-            near: _,
-            far: _,
-        } => LONGEST_REFUTATION + 1,
+        Task::Formula { .. } => 0,
+        Task::Refute { .. } => LONGEST_REFUTATION + 1,
         _ => LONGEST_TEXT + 1,
     }
 }

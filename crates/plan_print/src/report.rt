@@ -1,18 +1,20 @@
 //! The report of a task. The task is done on the program of a program text, if the program is
 //! accepted, on the table and the separation of a table text, or on a formula.
 
-ghost use Rattle.std.specs.Prelude.{◌≡◌, true, false, IfOk, IfErr};
-ghost use Rattle.plan_print.specs.Answers.{ids_of, is_on_program, IsAnswerTo};
+ghost use Rattle.std.specs.Prelude.{◌≡◌, IfOk, IfErr};
+ghost use Rattle.plan_print.specs.Answers.{IsAnswerTo, IsAskable, workers_of};
 ghost use Rattle.plan_print.specs.Engine.{thread_count_of, IsTaskFault};
 ghost use Rattle.plan_print.specs.TaskReport.{problem, IsReport};
 ghost use Rattle.reports.specs.Answers.{report_in};
 ghost use Rattle.reports.specs.ProblemFaults.{problem_of};
+ghost use Rattle.reports.specs.Report.{IsProgramReport};
 ghost use Rattle.task_words.specs.Task.{IsRunnable};
 
 use crate::answer::{judge_report, plan_answer, run_answer, table_answer};
 use devices::fault::EngineFault;
 use lang_check::Plan;
 use nbhd_check::Separation;
+use numerals::Base;
 use reports::answer::Answer;
 use reports::formulas::{formula_report, refute_report};
 use reports::problem::ProblemNumbers;
@@ -22,6 +24,22 @@ use std::alloc::Global;
 use std::sync::Wait;
 use std::thread::Threads;
 use task_words::task::Task;
+
+// What a task asks of an accepted program.
+#[derive(Drop)]
+enum Question {
+    Check,
+    // A separation, and the number of workers.
+    Table(Separation, u32),
+    Judge(Separation, u32),
+    // A list of identifiers, and the number of segments.
+    Run(Vec<u32>, u32),
+    Trace(Vec<u32>, Base),
+    // A list of identifiers, a place, and the base of its values.
+    Explain(Vec<u32>, u32, Base),
+    // A list of identifiers, and the number of workers.
+    Plan(Vec<u32>, u32),
+}
 
 // Returns the report of a task on an input.
 pub(crate) fn report_of<T: Threads + Wait + Sync>(
@@ -34,26 +52,44 @@ pub(crate) fn report_of<T: Threads + Wait + Sync>(
     ensures report { IfOk result (λ r. IsReport task input.now (report_in r)) }
     ensures fault { IfErr result (IsTaskFault (thread_count_of task)) }
 {
-    if is_on_program(&task) {
-        return program_report(rt, alloc, task, input);
-    }
-    other_report(rt, alloc, task, input)
-}
-
-// Returns the report of a task that is not on an accepted program.
-fn other_report<T: Threads + Sync>(
-    rt: &T,
-    alloc: Global,
-    task: Task,
-    input: &[u8],
-) -> Result<Answer, EngineFault>
-    requires runnable { IsRunnable task }
-    requires other { is_on_program task ≡ false }
-    ensures report { IfOk result (λ r. IsReport task input.now (report_in r)) }
-    ensures fault { IfErr result (IsTaskFault (thread_count_of task)) }
-{
     match task {
+        Task::Check { ids } => program_report(rt, alloc, input, ids, Question::Check),
         Task::Print => print_report(alloc, input),
+        Task::Table {
+            ids,
+            workers,
+            near,
+            far,
+        } => {
+            let question = Question::Table(Separation { near, far }, workers);
+            program_report(rt, alloc, input, ids, question)
+        }
+        Task::Judge {
+            ids,
+            workers,
+            near,
+            far,
+        } => {
+            let question = Question::Judge(Separation { near, far }, workers);
+            program_report(rt, alloc, input, ids, question)
+        }
+        Task::Run {
+            ids,
+            ring,
+            segments,
+        } => program_report(rt, alloc, input, ids, Question::Run(ring, segments)),
+        Task::Trace { ids, ring, base } => {
+            program_report(rt, alloc, input, ids, Question::Trace(ring, base))
+        }
+        Task::Explain {
+            ids,
+            ring,
+            place,
+            base,
+        } => program_report(rt, alloc, input, ids, Question::Explain(ring, place, base)),
+        Task::Plan { ids, ring, workers } => {
+            program_report(rt, alloc, input, ids, Question::Plan(ring, workers))
+        }
         Task::Audit => audit_text_report(rt, alloc, input),
         Task::Migrate => migrate_report(alloc, input),
         Task::Formula {
@@ -70,7 +106,6 @@ fn other_report<T: Threads + Sync>(
             near,
             far,
         } => refute_report(alloc, numbers_of(ids, rounds, channels, near, far), input),
-        _ => unreachable!(),
     }
 }
 
@@ -87,136 +122,43 @@ fn numbers_of(ids: u32, rounds: u32, channels: u32, near: u32, far: u32) -> Prob
     }
 }
 
-// Returns whether a task is on an accepted program.
-fn is_on_program(task: &Task) -> bool
-    ensures { result ≡ is_on_program task.now }
-{
-    match task {
-        Task::Print
-        | Task::Audit
-        | Task::Migrate
-        | Task::Formula {
-            ids: _,
-            rounds: _,
-            channels: _,
-            near: _,
-            far: _,
-        }
-        | Task::Refute {
-            ids: _,
-            rounds: _,
-            channels: _,
-            near: _,
-            far: _,
-        } => false,
-        _ => true,
-    }
-}
-
-// Returns the report of a task on an accepted program.
+// Returns the report on a program text for `ids` identifiers: its refusal, or the answer to a
+// question.
 fn program_report<T: Threads + Wait + Sync>(
     rt: &T,
     alloc: Global,
-    task: Task,
     input: &[u8],
+    ids: u32,
+    question: Question,
 ) -> Result<Answer, EngineFault>
-    requires runnable { IsRunnable task }
-    requires on_program { is_on_program task ≡ true }
-    ensures report { IfOk result (λ r. IsReport task input.now (report_in r)) }
-    ensures fault { IfErr result (IsTaskFault (thread_count_of task)) }
+    requires { IsAskable question }
+    ensures report { IfOk result (λ r. IsProgramReport ids (IsAnswerTo question ids) input.now (report_in r)) }
+    ensures fault { IfErr result (IsTaskFault (workers_of question)) }
 {
-    match plan_in(alloc, input, ids_of(&task))? {
-        Ok(plan) => program_answer(rt, alloc, task, &plan),
+    match plan_in(alloc, input, ids)? {
+        Ok(plan) => program_answer(rt, alloc, question, &plan),
         Err(refusal) => Ok(refusal),
     }
 }
 
-// Returns the number of identifiers of a task on an accepted program, 0 for other tasks.
-fn ids_of(task: &Task) -> u32
-    ensures { result ≡ ids_of task.now }
-{
-    match task {
-        Task::Check { ids } => *ids,
-        Task::Table {
-            ids,
-            workers: _,
-            near: _,
-            far: _,
-        } => *ids,
-        Task::Judge {
-            ids,
-            workers: _,
-            near: _,
-            far: _,
-        } => *ids,
-        Task::Run {
-            ids,
-            ring: _,
-            segments: _,
-        } => *ids,
-        Task::Trace {
-            ids,
-            ring: _,
-            base: _,
-        } => *ids,
-        Task::Explain {
-            ids,
-            ring: _,
-            place: _,
-            base: _,
-        } => *ids,
-        Task::Plan {
-            ids,
-            ring: _,
-            workers: _,
-        } => *ids,
-        _ => 0,
-    }
-}
-
-// Returns the answer to a task on an accepted program, by its plan.
+// Returns the answer to a question on an accepted program, by its plan.
 fn program_answer<T: Threads + Wait + Sync>(
     rt: &T,
     alloc: Global,
-    task: Task,
+    question: Question,
     plan: &Plan,
 ) -> Result<Answer, EngineFault>
-    requires runnable { IsRunnable task }
-    requires on_program { is_on_program task ≡ true }
-    ensures answer { IfOk result (λ r. IsAnswerTo task plan.now.ids plan.now.program (report_in r)) }
-    ensures fault { IfErr result (IsTaskFault (thread_count_of task)) }
+    requires { IsAskable question }
+    ensures answer { IfOk result (λ r. IsAnswerTo question plan.now.ids plan.now.program (report_in r)) }
+    ensures fault { IfErr result (IsTaskFault (workers_of question)) }
 {
-    match task {
-        Task::Check { ids: _ } => check_answer(alloc, plan),
-        Task::Table {
-            ids: _,
-            workers,
-            near,
-            far,
-        } => table_answer(rt, alloc, plan, Separation { near, far }, workers),
-        Task::Judge {
-            ids: _,
-            workers,
-            near,
-            far,
-        } => judge_report(rt, alloc, plan, Separation { near, far }, workers),
-        Task::Run {
-            ids: _,
-            ring,
-            segments,
-        } => run_answer(rt, alloc, plan, ring, segments),
-        Task::Trace { ids: _, ring, base } => trace_answer(alloc, base, plan, ring),
-        Task::Explain {
-            ids: _,
-            ring,
-            place,
-            base,
-        } => explain_answer(alloc, base, plan, ring, place),
-        Task::Plan {
-            ids: _,
-            ring,
-            workers,
-        } => plan_answer(rt, alloc, plan, ring, workers),
-        _ => unreachable!(),
+    match question {
+        Question::Check => check_answer(alloc, plan),
+        Question::Table(separation, workers) => table_answer(rt, alloc, plan, separation, workers),
+        Question::Judge(separation, workers) => judge_report(rt, alloc, plan, separation, workers),
+        Question::Run(ring, segments) => run_answer(rt, alloc, plan, ring, segments),
+        Question::Trace(ring, base) => trace_answer(alloc, base, plan, ring),
+        Question::Explain(ring, place, base) => explain_answer(alloc, base, plan, ring, place),
+        Question::Plan(ring, workers) => plan_answer(rt, alloc, plan, ring, workers),
     }
 }

@@ -1,6 +1,6 @@
 -- The values of the options of each command, if `clap` accepts the words.
-use Rattle.std.proofs.Common.{◌≡◌, ℕ, Bool, true, false, List, [], ◌∷◌, Option, Some, None, Result, inl, inr, map, pos, refl, sym, ◌∙◌, ap, subst, arith, codes, ◌<◌, ◌≤◌, ◌^◌}
-use Rattle.std.specs.Prelude.{◌||◌, if◌then◌else◌}
+use Rattle.std.proofs.Common.{◌≡◌, ℕ, Bool, true, false, List, [], ◌∷◌, Option, Some, None, Result, Ok, Err, ◌⊎◌, inl, inr, map, pos, refl, sym, ◌∙◌, ap, subst, arith, codes, ◌<◌, ◌≤◌, ◌^◌}
+use Rattle.std.specs.Prelude.{◌||◌, if◌then◌else◌, IfErr}
 use Rattle.std.proofs.lemmas.Option.{none-some, same_Some}
 use Rattle.std.specs.Option.{IsSomeAnd}
 use Rattle.std.specs.Str.{bytes_eq}
@@ -18,7 +18,14 @@ use Rattle.task_words.specs.Counts.{IsCount, IsNear, IsFar, AreFormulaNumbers}
 use Rattle.task_words.specs.Options.{IsBaseGiven, IsNumberGiven, IsTextGiven}
 use Rattle.task_words.proofs.Commands.{parts_of}
 use Rattle.task_words.specs.declared.limits.TheConstants.{MAX_BASE, MAX_CHANNELS, MAX_COUNT, MAX_DISTANCE, MAX_ROUNDS, MIN_BASE}
-use Rattle.task_words.specs.Words.{HasNumber, IsRingName, IsFormulaName}
+use Rattle.task_words.specs.CommandNames.{formula_name, ring_name}
+use Rattle.task_words.specs.Words.{HasNumber, IsRingBad, IsRingName}
+use Rattle.task_words.specs.declared.rows.FormulaCommand.{FormulaCommand}
+use Rattle.task_words.specs.declared.rows.FormulaCommand.TheVariants as formula
+use Rattle.task_words.specs.declared.rows.RingCommand.{RingCommand}
+use Rattle.task_words.specs.declared.rows.RingCommand.TheVariants as ring
+use Rattle.task_words.specs.declared.words.WordsFault.{WordsFault}
+use Rattle.task_words.specs.declared.words.WordsFault.TheVariants.{BadRing, OutOfMemory}
 
 -- ---- the value of an option
 
@@ -82,17 +89,32 @@ abbrev pub takes_ids : Text → Bool
 takes_ids name = is_named (codes "check") name || (takes_near name || takes_ring name)
 
 -- each name of a command with a ring passes a test that all four names pass
-pub ring_takes : (test : Text → Bool) (name : Text) → test (codes "run") ≡ true → test (codes "trace") ≡ true → test (codes "explain") ≡ true
-    → test (codes "plan") ≡ true → IsRingName name → test name ≡ true
-ring_takes test name run trace explain plan (inl is) = ap test is ∙ run
-ring_takes test name run trace explain plan (inr (inl is)) = ap test is ∙ trace
-ring_takes test name run trace explain plan (inr (inr (inl is))) = ap test is ∙ explain
-ring_takes test name run trace explain plan (inr (inr (inr is))) = ap test is ∙ plan
+pub ring_takes : (test : Text → Bool) (command : RingCommand) → test (codes "run") ≡ true → test (codes "trace") ≡ true → test (codes "explain") ≡ true
+    → test (codes "plan") ≡ true → test (ring_name command) ≡ true
+ring_takes test ring.Run run trace explain plan = run
+ring_takes test ring.Trace run trace explain plan = trace
+ring_takes test ring.Explain run trace explain plan = explain
+ring_takes test ring.Plan run trace explain plan = plan
 
--- and so does each name of a command on the formula
-pub formula_takes : (test : Text → Bool) (name : Text) → test (codes "formula") ≡ true → test (codes "refute") ≡ true → IsFormulaName name → test name ≡ true
-formula_takes test name formula refute (inl is) = ap test is ∙ formula
-formula_takes test name formula refute (inr is) = ap test is ∙ refute
+pub is_ring_name : (command : RingCommand) → IsRingName (ring_name command)
+is_ring_name ring.Run = inl refl
+is_ring_name ring.Trace = inr (inl refl)
+is_ring_name ring.Explain = inr (inr (inl refl))
+is_ring_name ring.Plan = inr (inr (inr refl))
+
+-- a fault of a command with a ring is one of its name
+pub refused_ring : {T : Type 0} (r : Result T WordsFault) (name : Text) (values : List Row) → IsRingName name
+    → IfErr r (λ fault. (fault ≡ OutOfMemory) ⊎ ((fault ≡ BadRing) × IsRingBad values))
+    → IfErr r (λ fault. (fault ≡ OutOfMemory) ⊎ ((fault ≡ BadRing) × IsRingName name × IsRingBad values))
+refused_ring (Ok task) name values is told = tt
+refused_ring (Err fault) name values is (inl memory) = inl memory
+refused_ring (Err fault) name values is (inr bad) = inr (bad.0, is, bad.1)
+
+-- each name of a command on the formula passes a test that both names pass
+pub formula_takes : (test : Text → Bool) (command : FormulaCommand) → test (codes "formula") ≡ true → test (codes "refute") ≡ true
+    → test (formula_name command) ≡ true
+formula_takes test formula.Formula first second = first
+formula_takes test formula.Refute first second = second
 
 -- the value of an option that takes a number
 number_of_value : (option : Text) (low high : ℕ) (values : List Row) → HasValue (record (option_rule option (Signed (pos low) (pos high))) { required = true }) values
@@ -195,12 +217,13 @@ all_in_range name values workers near far one is_filled is_judged w n f = (
 )
 
 -- the numbers of a command on the formula are in their ranges
-pub formula_in_range : (name : Text) (values : List Row) (rounds channels near far : ℕ) → IsOneOf command_line.subs name values → IsFormulaName name
+pub formula_in_range : (command : FormulaCommand) (values : List Row) (rounds channels near far : ℕ) → IsOneOf command_line.subs (formula_name command) values
     → IsRanged values (codes "rounds") rounds → IsRanged values (codes "channels") channels → IsRanged values (codes "near") near → IsRanged values (codes "far") far
     → AreFormulaNumbers rounds channels near far
-formula_in_range name values rounds channels near far one is r c n f =
-    let takes = formula_takes takes_rounds name refl refl is in
-    let judged = formula_takes takes_near name refl refl is in
+formula_in_range command values rounds channels near far one r c n f =
+    let name = formula_name command in
+    let takes = formula_takes takes_rounds command refl refl in
+    let judged = formula_takes takes_near command refl refl in
     let rounds_range = r 0 MAX_ROUNDS (omega arith) (rounds_given name values one takes) in
     let channels_range = c 1 MAX_CHANNELS (omega arith) (channels_given name values one takes) in
     record {

@@ -1,5 +1,5 @@
 -- The definitions that the contracts cite: numbers and ring texts, numbers of workers and segments, tasks, the command
--- line, the tasks of words, faults of words, the rows of the tables, tips on words, and what the process gets.
+-- line, the tasks of words, faults of words, the commands and the rows of the tables, tips on words, and what the process gets.
 pub mod Decimal
 pub mod RingText
 pub mod Counts
@@ -8,6 +8,7 @@ pub mod CommandLine
 pub mod Words
 pub mod Options
 pub mod WordsFault
+pub mod CommandNames
 pub mod Rows
 pub mod RingTips
 pub mod Tips

@@ -46,10 +46,6 @@ HasBase values base = HasNumber values (codes "base") (radix base)
 abbrev pub IsRingName : Text → Type 0
 IsRingName name = (name ≡ codes "run") ⊎ (name ≡ codes "trace") ⊎ (name ≡ codes "explain") ⊎ (name ≡ codes "plan")
 
--- the commands on the formula of all tables
-abbrev pub IsFormulaName : Text → Type 0
-IsFormulaName name = (name ≡ codes "formula") ⊎ (name ≡ codes "refute")
-
 -- the value of `--ring` is not a ring text
 abbrev pub IsRingBad : List Row → Type 0
 IsRingBad values = (text : Text) × (first_of (codes "ring") values ≡ Some text) × ¬ IsRingText text

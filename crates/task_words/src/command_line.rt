@@ -54,7 +54,7 @@ fn command<'a>(alloc: Global, row: &CommandRow) -> Result<Command<'a>, AllocErro
     ensures { IfOk result (IsCommandOf (command_in row.now)) }
 {
     let options = options(alloc, row.options)?;
-    described(alloc, row.name, row.about, row.details).args(options)
+    described(alloc, row.command.name(), row.about, row.details).args(options)
 }
 
 // Returns a command with the texts of its help.

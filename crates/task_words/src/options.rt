@@ -1,16 +1,17 @@
 //! The task of a command, from the values of its options.
 
-ghost use Rattle.std.specs.Prelude.{◌≡◌, ◌⊎◌, ◌↔◌, ◌<◌, ◌≤◌, ◌^◌, ℕ, codes, IfOk, IfErr, IsTrue};
+ghost use Rattle.std.specs.Prelude.{◌≡◌, ◌⊎◌, ◌<◌, ◌≤◌, ◌^◌, ℕ, codes, IfOk, IfErr};
 ghost use Rattle.clap.specs.Words.{found_of, rows_of};
 ghost use Rattle.option_values.specs.OptionLines.{IsOneOf};
 ghost use Rattle.task_words.specs.CommandLine.{command_line};
-ghost use Rattle.task_words.specs.Counts.{IsCount};
+ghost use Rattle.task_words.specs.CommandNames.{formula_name, ring_name, text_name};
 ghost use Rattle.task_words.specs.Options.{IsBaseGiven, IsNumberGiven, IsSomeNumberGiven, IsTextGiven};
-ghost use Rattle.task_words.specs.Task.{IsInRange, IsRunnable, segments_of};
-ghost use Rattle.task_words.specs.Words.{HasBase, HasNumber, HasRing, IsFormulaName, IsRingBad, IsRingName, IsTaskFor};
+ghost use Rattle.task_words.specs.Task.{IsInRange};
+ghost use Rattle.task_words.specs.Words.{HasBase, HasNumber, HasRing, IsRingBad, IsRingName, IsTaskFor};
 ghost use Rattle.task_words.specs.declared.words.WordsFault.TheVariants.{BadRing, OutOfMemory};
 
 use crate::ring_text::ring_of;
+use crate::rows::{Command, FormulaCommand, RingCommand, TextCommand, command_named};
 use crate::task::Task;
 use crate::words::WordsFault;
 use clap::ArgMatches;
@@ -30,24 +31,50 @@ pub(crate) fn task_in(
     ensures refused { IfErr result (λ fault. (fault ≡ OutOfMemory)
         ⊎ ((fault ≡ BadRing) × IsRingName name.now × IsRingBad (rows_of (found_of options.now)))) }
 {
-    if takes_ring(name) {
-        return ring_task(alloc, name, options);
+    match command_named(name) {
+        Some(Command::OnText(command)) => Ok(text_task(command, options)),
+        Some(Command::OnRing(command)) => ring_task(alloc, command, options),
+        Some(Command::OnFormula(command)) => Ok(formula_task(command, options)),
+        None => unreachable!(),
     }
-    Ok(ringless_task(name, options))
 }
 
-// Returns whether the command with this name takes a ring.
-fn takes_ring(name: &str) -> bool
-    ensures { IsTrue result ↔ IsRingName name.now }
+// Returns the task of a command on a program or a table.
+fn text_task(command: TextCommand, options: &ArgMatches<'_>) -> Task
+    requires { IsOneOf command_line.subs (text_name command) (rows_of (found_of options.now)) }
+    ensures task { IsTaskFor (text_name command) (rows_of (found_of options.now)) result }
+    ensures range { IsInRange result }
 {
-    matches!(name, "run" | "trace" | "explain" | "plan")
+    match command {
+        TextCommand::Check => Task::Check {
+            ids: number_in(options, "ids"),
+        },
+        TextCommand::Print => Task::Print,
+        TextCommand::Table => Task::Table {
+            ids: number_in(options, "ids"),
+            workers: number_in(options, "workers"),
+            near: number_in(options, "near"),
+            far: number_in(options, "far"),
+        },
+        TextCommand::Judge => Task::Judge {
+            ids: number_in(options, "ids"),
+            workers: number_in(options, "workers"),
+            near: number_in(options, "near"),
+            far: number_in(options, "far"),
+        },
+        TextCommand::Audit => Task::Audit,
+        TextCommand::Migrate => Task::Migrate,
+    }
 }
 
-// Returns the task of a command that takes a ring.
-fn ring_task(alloc: Global, name: &str, options: &ArgMatches<'_>) -> Result<Task, WordsFault>
-    requires one { IsOneOf command_line.subs name.now (rows_of (found_of options.now)) }
-    requires ring { IsRingName name.now }
-    ensures task { IfOk result (IsTaskFor name.now (rows_of (found_of options.now))) }
+// Returns the task of a command on a ring.
+fn ring_task(
+    alloc: Global,
+    command: RingCommand,
+    options: &ArgMatches<'_>,
+) -> Result<Task, WordsFault>
+    requires { IsOneOf command_line.subs (ring_name command) (rows_of (found_of options.now)) }
+    ensures task { IfOk result (IsTaskFor (ring_name command) (rows_of (found_of options.now))) }
     ensures range { IfOk result IsInRange }
     ensures good { IfOk result (λ _. ¬ IsRingBad (rows_of (found_of options.now))) }
     ensures refused { IfErr result (λ fault. (fault ≡ OutOfMemory)
@@ -55,92 +82,57 @@ fn ring_task(alloc: Global, name: &str, options: &ArgMatches<'_>) -> Result<Task
 {
     let ids = number_in(options, "ids");
     let ring = ring_in(alloc, options)?;
-    match name {
-        "run" => Ok(Task::Run {
+    match command {
+        RingCommand::Run => Ok(Task::Run {
             ids,
             ring,
             segments: number_in(options, "segments"),
         }),
-        "trace" => Ok(Task::Trace {
+        RingCommand::Trace => Ok(Task::Trace {
             ids,
             ring,
             base: base_in(options),
         }),
-        "explain" => Ok(Task::Explain {
+        RingCommand::Explain => Ok(Task::Explain {
             ids,
             ring,
             place: number_in(options, "place"),
             base: base_in(options),
         }),
-        "plan" => Ok(Task::Plan {
+        RingCommand::Plan => Ok(Task::Plan {
             ids,
             ring,
             workers: number_in(options, "workers"),
         }),
-        _ => unreachable!(),
-    }
-}
-
-// Returns the task of a command that takes no ring.
-fn ringless_task(name: &str, options: &ArgMatches<'_>) -> Task
-    requires one { IsOneOf command_line.subs name.now (rows_of (found_of options.now)) }
-    requires ringless { ¬ IsRingName name.now }
-    ensures task { IsTaskFor name.now (rows_of (found_of options.now)) result }
-    ensures runnable { IsRunnable result }
-    ensures segments { IsCount (segments_of result) }
-{
-    match name {
-        "check" => Task::Check {
-            ids: number_in(options, "ids"),
-        },
-        "print" => Task::Print,
-        "table" => Task::Table {
-            ids: number_in(options, "ids"),
-            workers: number_in(options, "workers"),
-            near: number_in(options, "near"),
-            far: number_in(options, "far"),
-        },
-        "judge" => Task::Judge {
-            ids: number_in(options, "ids"),
-            workers: number_in(options, "workers"),
-            near: number_in(options, "near"),
-            far: number_in(options, "far"),
-        },
-        "audit" => Task::Audit,
-        "migrate" => Task::Migrate,
-        _ => formula_task(name, options),
     }
 }
 
 // Returns the task of a command on the formula of all tables.
-fn formula_task(name: &str, options: &ArgMatches<'_>) -> Task
-    requires one { IsOneOf command_line.subs name.now (rows_of (found_of options.now)) }
-    requires name { IsFormulaName name.now }
-    ensures task { IsTaskFor name.now (rows_of (found_of options.now)) result }
-    ensures runnable { IsRunnable result }
-    ensures segments { IsCount (segments_of result) }
+fn formula_task(command: FormulaCommand, options: &ArgMatches<'_>) -> Task
+    requires { IsOneOf command_line.subs (formula_name command) (rows_of (found_of options.now)) }
+    ensures task { IsTaskFor (formula_name command) (rows_of (found_of options.now)) result }
+    ensures range { IsInRange result }
 {
     let ids = number_in(options, "ids");
     let rounds = number_in(options, "rounds");
     let channels = number_in(options, "channels");
     let near = number_in(options, "near");
     let far = number_in(options, "far");
-    match name {
-        "formula" => Task::Formula {
+    match command {
+        FormulaCommand::Formula => Task::Formula {
             ids,
             rounds,
             channels,
             near,
             far,
         },
-        "refute" => Task::Refute {
+        FormulaCommand::Refute => Task::Refute {
             ids,
             rounds,
             channels,
             near,
             far,
         },
-        _ => unreachable!(),
     }
 }
 

@@ -1,7 +1,102 @@
 //! The commands and their options, in tables.
 
+ghost use Rattle.std.specs.Prelude.{◌≡◌, IfSome, IfNone, map};
+ghost use Rattle.task_words.specs.CommandLine.{command_line};
+ghost use Rattle.task_words.specs.CommandNames.{name_of, ring_name, text_name, formula_name};
+ghost use Rattle.task_words.specs.Rows.{command_in, IsNoName};
+
 use crate::help;
 use crate::limits::{MAX_BASE, MAX_CHANNELS, MAX_COUNT, MAX_DISTANCE, MAX_ROUNDS, MIN_BASE};
+
+// A command.
+#[derive(Clone, Copy)]
+pub(crate) enum Command {
+    OnText(TextCommand),
+    OnRing(RingCommand),
+    OnFormula(FormulaCommand),
+}
+
+// A command on a program or a table, without a ring.
+#[derive(Clone, Copy)]
+pub(crate) enum TextCommand {
+    Check,
+    Print,
+    Table,
+    Judge,
+    Audit,
+    Migrate,
+}
+
+// A command on a program and a ring.
+#[derive(Clone, Copy)]
+pub(crate) enum RingCommand {
+    Run,
+    Trace,
+    Explain,
+    Plan,
+}
+
+// A command on the formula of all tables.
+#[derive(Clone, Copy)]
+pub(crate) enum FormulaCommand {
+    Formula,
+    Refute,
+}
+
+impl Command {
+    // Returns the name of the command.
+    pub(crate) fn name(self) -> &'static str
+        ensures { result.now ≡ name_of self }
+    {
+        match self {
+            Command::OnText(command) => command.name(),
+            Command::OnRing(command) => command.name(),
+            Command::OnFormula(command) => command.name(),
+        }
+    }
+}
+
+impl TextCommand {
+    // Returns the name of the command.
+    fn name(self) -> &'static str
+        ensures { result.now ≡ text_name self }
+    {
+        match self {
+            TextCommand::Check => "check",
+            TextCommand::Print => "print",
+            TextCommand::Table => "table",
+            TextCommand::Judge => "judge",
+            TextCommand::Audit => "audit",
+            TextCommand::Migrate => "migrate",
+        }
+    }
+}
+
+impl RingCommand {
+    // Returns the name of the command.
+    fn name(self) -> &'static str
+        ensures { result.now ≡ ring_name self }
+    {
+        match self {
+            RingCommand::Run => "run",
+            RingCommand::Trace => "trace",
+            RingCommand::Explain => "explain",
+            RingCommand::Plan => "plan",
+        }
+    }
+}
+
+impl FormulaCommand {
+    // Returns the name of the command.
+    fn name(self) -> &'static str
+        ensures { result.now ≡ formula_name self }
+    {
+        match self {
+            FormulaCommand::Formula => "formula",
+            FormulaCommand::Refute => "refute",
+        }
+    }
+}
 
 // The values that an option takes.
 #[derive(Clone, Copy)]
@@ -25,7 +120,7 @@ pub(crate) struct OptionRow {
 // A command. `about` is its line in the help of the program, and `details` ends its own help.
 #[derive(Clone, Copy)]
 pub(crate) struct CommandRow {
-    pub(crate) name: &'static str,
+    pub(crate) command: Command,
     pub(crate) about: &'static str,
     pub(crate) details: &'static str,
     pub(crate) options: &'static [OptionRow],
@@ -118,86 +213,107 @@ const CHANNELS: OptionRow = OptionRow {
 pub(crate) const COMMANDS: [CommandRow; 12] = [
     // `check --ids M`
     CommandRow {
-        name: "check",
+        command: Command::OnText(TextCommand::Check),
         about: help::CHECK,
         details: help::CHECK_DETAILS,
         options: &[IDS],
     },
     // `print`
     CommandRow {
-        name: "print",
+        command: Command::OnText(TextCommand::Print),
         about: help::PRINT,
         details: help::PRINT_DETAILS,
         options: &[],
     },
     // `table --ids M [--workers W] [--near P] [--far Q]`
     CommandRow {
-        name: "table",
+        command: Command::OnText(TextCommand::Table),
         about: help::TABLE,
         details: help::TABLE_DETAILS,
         options: &[IDS, WORKERS, NEAR, FAR],
     },
     // `judge --ids M [--workers W] [--near P] [--far Q]`
     CommandRow {
-        name: "judge",
+        command: Command::OnText(TextCommand::Judge),
         about: help::JUDGE,
         details: help::JUDGE_DETAILS,
         options: &[IDS, WORKERS, NEAR, FAR],
     },
     // `run --ids M --ring A,B,.. [--segments S]`
     CommandRow {
-        name: "run",
+        command: Command::OnRing(RingCommand::Run),
         about: help::RUN,
         details: help::RUN_DETAILS,
         options: &[IDS, RING, SEGMENTS],
     },
     // `trace --ids M --ring A,B,.. [--base B]`
     CommandRow {
-        name: "trace",
+        command: Command::OnRing(RingCommand::Trace),
         about: help::TRACE,
         details: help::TRACE_DETAILS,
         options: &[IDS, RING, BASE],
     },
     // `explain --ids M --ring A,B,.. --place P [--base B]`
     CommandRow {
-        name: "explain",
+        command: Command::OnRing(RingCommand::Explain),
         about: help::EXPLAIN,
         details: help::EXPLAIN_DETAILS,
         options: &[IDS, RING, PLACE, BASE],
     },
     // `plan --ids M --ring A,B,.. [--workers W]`
     CommandRow {
-        name: "plan",
+        command: Command::OnRing(RingCommand::Plan),
         about: help::PLAN,
         details: help::PLAN_DETAILS,
         options: &[IDS, RING, WORKERS],
     },
     // `audit`
     CommandRow {
-        name: "audit",
+        command: Command::OnText(TextCommand::Audit),
         about: help::AUDIT,
         details: help::AUDIT_DETAILS,
         options: &[],
     },
     // `migrate`
     CommandRow {
-        name: "migrate",
+        command: Command::OnText(TextCommand::Migrate),
         about: help::MIGRATE,
         details: help::MIGRATE_DETAILS,
         options: &[],
     },
     // `formula --ids M --rounds T --channels C [--near P] [--far Q]`
     CommandRow {
-        name: "formula",
+        command: Command::OnFormula(FormulaCommand::Formula),
         about: help::FORMULA,
         details: help::FORMULA_DETAILS,
         options: &[IDS, ROUNDS, CHANNELS, NEAR, FAR],
     },
     // `refute --ids M --rounds T --channels C [--near P] [--far Q]`
     CommandRow {
-        name: "refute",
+        command: Command::OnFormula(FormulaCommand::Refute),
         about: help::REFUTE,
         details: help::REFUTE_DETAILS,
         options: &[IDS, ROUNDS, CHANNELS, NEAR, FAR],
     },
 ];
+
+// Returns the command with this name.
+pub(crate) fn command_named(name: &str) -> Option<Command>
+    ensures some { IfSome result (λ command. name.now ≡ name_of command) }
+    ensures none { IfNone result (IsNoName command_line.subs name.now) }
+{
+    command_in(&COMMANDS, name)
+}
+
+// Returns the command of these rows with this name.
+fn command_in(rows: &[CommandRow], name: &str) -> Option<Command>
+    ensures some { IfSome result (λ command. name.now ≡ name_of command) }
+    ensures none { IfNone result (IsNoName (map command_in rows.now) name.now) }
+{
+    'rows: for row in rows {
+        if row.command.name() == name {
+            return Some(row.command);
+        }
+    }
+    None
+}

@@ -129,35 +129,31 @@ impl Task {
     {
         match self {
             Task::Table {
-                ids: _,
                 workers,
                 near,
                 far,
+                ..
             }
             | Task::Judge {
-                ids: _,
                 workers,
                 near,
                 far,
+                ..
             } => is_count(*workers) && is_near(*near) && *far <= MAX_DISTANCE,
-            Task::Plan {
-                ids: _,
-                ring: _,
-                workers,
-            } => is_count(*workers),
+            Task::Plan { workers, .. } => is_count(*workers),
             Task::Formula {
-                ids: _,
                 rounds,
                 channels,
                 near,
                 far,
+                ..
             }
             | Task::Refute {
-                ids: _,
                 rounds,
                 channels,
                 near,
                 far,
+                ..
             } => are_formula_numbers(*rounds, *channels, *near, *far),
             _ => true,
         }
@@ -168,11 +164,7 @@ impl Task {
         ensures { result ≡ segments_of self.now }
     {
         match self {
-            Task::Run {
-                ids: _,
-                ring: _,
-                segments,
-            } => *segments,
+            Task::Run { segments, .. } => *segments,
             _ => 1,
         }
     }

@@ -11,22 +11,29 @@ use Rattle.plan_print.proofs.Found.{found}
 use Rattle.plan_print.proofs.engine.engine_with_note.Goals as goal
 
 -- The report and the note are on the input that was read.
-pub returns-clause-report : goal.returns-clause-report
-returns-clause-report g c =
+pub returns : goal.returns
+returns g c =
     let input : List ℕ = c.in_ok-input.input.items in
     let report = report_in c.in_ok-answer.answer in
     let read : GivesInput (g.R.Read.remaining (device_of c.args.reader.now)) (g.R.Read.remaining (device_of c.read_input.new.reader)) (max_read c.args.task) input = search rules in
     let note = subst (λ (input : List ℕ). IsNoteOn input (reason_in c.in_ok-status.cause) c.note_of-note.result) c.deref-2.ensures.value c.note_of-note.ensures in
     record {
       report = record {
-        input = input;
-        read = read;
-        report = report;
-        is_report = subst (λ (input : List ℕ). IsReport c.args.task input report) c.deref.ensures.value c.in_ok-answer.ensures.report;
-        written = c.in_ok-status.ensures.report.0;
-        status_is = c.in_ok-status.ensures.report.1;
+        report = record {
+          input = input;
+          read = read;
+          report = report;
+          is_report = subst (λ (input : List ℕ). IsReport c.args.task input report) c.deref.ensures.value c.in_ok-answer.ensures.report;
+          written = c.in_ok-status.ensures.report.0;
+          status_is = c.in_ok-status.ensures.report.1;
+        };
+        note = subst (λ (cause : Option Reason). IsNoteOn input cause c.note_of-note.result) c.in_ok-status.ensures.report.2 note;
       };
-      note = subst (λ (cause : Option Reason). IsNoteOn input cause c.note_of-note.result) c.in_ok-status.ensures.report.2 note;
+      left = tt;
+      taken = tt;
+      asked = search rules;
+      threads = tt;
+      failed = search rules;
     }
 
 -- The cause of the report is found in the input.

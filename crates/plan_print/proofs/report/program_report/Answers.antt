@@ -4,21 +4,17 @@ use Rattle.node_lang.specs.Grammar.{Reads}
 use Rattle.lang_check.specs.Acceptance.{IsAccepted}
 use Rattle.reports.specs.Answers.{report_in}
 use Rattle.reports.specs.Report.{IsProgramRefusal, answered, program_refused}
-use Rattle.plan_print.proofs.Reports.{as_report}
 use Rattle.plan_print.proofs.report.program_report.Goals as goal
 
 pub returns-in-Ok-clause-report : goal.returns-in-Ok-clause-report
 returns-in-Ok-clause-report g c =
     let p = c.in-Ok.plan.program in
-    let ids : c.in-Ok.plan.ids ≡ c.ids_of.result = search rules in
+    let ids : c.in-Ok.plan.ids ≡ c.args.ids = search rules in
     let reads : Reads c.args.input.now p = search rules in
-    let accepted : IsAccepted c.ids_of.result p = search rules in
-    IfOk-weaker c.program_answer.result _ _
-    (λ r said. as_report c.args.task c.ids_of.result c.args.input.now (report_in r) c.requires.on_program c.ids_of.ensures
-    (answered p reads accepted (rw ids at said))) c.program_answer.ensures.answer
+    let accepted : IsAccepted c.args.ids p = search rules in
+    IfOk-weaker c.program_answer.result _ _ (λ r said. answered p reads accepted (rw ids at said)) c.program_answer.ensures.answer
 
 pub returns-in-Err-clause-report : goal.returns-in-Err-clause-report
 returns-in-Err-clause-report g c =
-    let refused : IsProgramRefusal c.ids_of.result c.args.input.now (report_in c.in-Err.refusal) = rw c.in-Err.is at c.in_ok-plan.ensures.refusal in
-    as_report c.args.task c.ids_of.result c.args.input.now (report_in c.in-Err.refusal) c.requires.on_program c.ids_of.ensures
-    (program_refused refused)
+    let refused : IsProgramRefusal c.args.ids c.args.input.now (report_in c.in-Err.refusal) = rw c.in-Err.is at c.in_ok-plan.ensures.refusal in
+    program_refused refused
