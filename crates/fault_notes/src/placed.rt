@@ -7,8 +7,9 @@ ghost use Rattle.fault_notes.specs.Placed.{placed_note};
 use crate::scanning::place_of;
 use crate::texts::write_head;
 use lang_check::CheckFault;
+use node_program::OutOfMemory;
 use source_places::write_marked_line;
-use std::alloc::{AllocError, Global};
+use std::alloc::Global;
 
 // Returns the note on the cause of a refusal, with the place of the first lexeme that is the cause.
 pub(crate) fn placed_note(
@@ -16,11 +17,11 @@ pub(crate) fn placed_note(
     text: &[u8],
     fault: CheckFault,
     cause: &str,
-) -> Result<String, AllocError>
+) -> Result<String, OutOfMemory>
     ensures { IfOk result (λ note. string_bytes note ≡ placed_note text.now cause.now (place_of_cause text.now fault)) }
 {
     let Some(offset) = place_of(text, fault) else {
-        return format!(in alloc; "nbhd: {cause}\n");
+        return Ok(format!(in alloc; "nbhd: {cause}\n")?);
     };
     let mut note = String::new(alloc);
     write_head(&mut note, text, offset)?;

@@ -91,9 +91,7 @@ fn can_follow(alloc: Global, text: &[u8], wanted: Wanted) -> Result<bool, OutOfM
     requires probe { IsProbe wanted }
     ensures { IfOk result (λ can. IsTrue can ↔ IsViable (tokens_of text.now ++ probe_of wanted ∷ [])) }
 {
-    let Ok(longer) = with_word(alloc, text, probe_word(wanted)) else {
-        return Err(OutOfMemory);
-    };
+    let longer = with_word(alloc, text, probe_word(wanted))?;
     match parse(alloc, &longer) {
         Ok(_) => Ok(true),
         Err(fault) => match fault.kind {

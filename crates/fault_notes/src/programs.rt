@@ -15,6 +15,7 @@ use crate::bounds::write_growth;
 use crate::placed::placed_note;
 use lang_check::CheckFault;
 use node_lang::{MAX_CHANNELS, Program};
+use node_program::OutOfMemory;
 use std::alloc::{AllocError, Global};
 use win_index::{MAX_IDS, MAX_ROUNDS, Shape, count_of_windows};
 
@@ -28,7 +29,7 @@ pub fn check_note(
     program: &Program,
     ids: u32,
     fault: CheckFault,
-) -> Result<String, AllocError>
+) -> Result<String, OutOfMemory>
     ensures { IfOk result (λ note. IsCheckNote text.now program.now ids fault (string_bytes note)) }
 {
     match fault {
@@ -94,20 +95,20 @@ fn ids_range(alloc: Global, least: u32, most: u32) -> Result<String, AllocError>
 
 /// Returns the note on a number of identifiers that makes no shape with a number of rounds: the
 /// possible numbers. Fails if memory was refused.
-pub fn ids_note(alloc: Global, rounds: u32, ids: u32) -> Result<String, AllocError>
+pub fn ids_note(alloc: Global, rounds: u32, ids: u32) -> Result<String, OutOfMemory>
     requires { rounds ≤ MAX_ROUNDS }
     ensures { IfOk result (λ note. IsIdsNote rounds ids (string_bytes note)) }
 {
     let Some(most) = most_ids(rounds) else {
-        return format!(in alloc; "nbhd: so many rounds take no number of identifiers\n");
+        return Ok(format!(in alloc; "nbhd: so many rounds take no number of identifiers\n")?);
     };
     let take = rounds_take(rounds);
     let range = ids_range(alloc, 2 * rounds + 2, most)?;
-    format!(in alloc; "nbhd: {rounds}{take}{range} identifiers, not {ids}\n")
+    Ok(format!(in alloc; "nbhd: {rounds}{take}{range} identifiers, not {ids}\n")?)
 }
 
 // Returns the note on a register that the program does not have.
-fn register_note(alloc: Global, text: &[u8], register: u32) -> Result<String, AllocError>
+fn register_note(alloc: Global, text: &[u8], register: u32) -> Result<String, OutOfMemory>
     ensures { IfOk result (λ note. string_bytes note ≡ placed_note text.now (register_cause register)
         (place_of_cause text.now (check.RegisterOutOfRange register))) }
 {
@@ -123,7 +124,7 @@ fn register_note(alloc: Global, text: &[u8], register: u32) -> Result<String, Al
 }
 
 // Returns the note on channels that could be too large, and on the register that makes them so.
-fn bound_note(alloc: Global, program: &Program, ids: u32, bound: u32) -> Result<String, AllocError>
+fn bound_note(alloc: Global, program: &Program, ids: u32, bound: u32) -> Result<String, OutOfMemory>
     ensures { IfOk result (λ note. string_bytes note ≡ notes.bound_note bound ++ growth_text program.now ids) }
 {
     let mut note = channels_note(alloc, bound)?;

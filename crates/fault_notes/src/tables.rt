@@ -11,6 +11,7 @@ use crate::sizes::shape_of;
 use crate::texts::write_head;
 use crate::words::{advice_at_start, front_len};
 use decimal_texts::field;
+use node_program::OutOfMemory;
 use source_places::write_marked_line;
 use std::alloc::{AllocError, Global};
 use std::fmt::Write;
@@ -48,15 +49,15 @@ const LINES: [(&[u8], &str); 3] = [
 ];
 
 /// Returns the note on a text that is too long. Fails if memory was refused.
-pub fn long_note(alloc: Global) -> Result<String, AllocError>
+pub fn long_note(alloc: Global) -> Result<String, OutOfMemory>
     ensures { IfOk result (λ note. string_bytes note ≡ long_note) }
 {
-    format!(in alloc; "nbhd: the text of a table has at most 134217728 bytes\n")
+    Ok(format!(in alloc; "nbhd: the text of a table has at most 134217728 bytes\n")?)
 }
 
 /// Returns the note on the line at this offset, which does not have its form. Fails if memory was
 /// refused.
-pub fn form_note(alloc: Global, text: &[u8], offset: usize) -> Result<String, AllocError>
+pub fn form_note(alloc: Global, text: &[u8], offset: usize) -> Result<String, OutOfMemory>
     requires { offset ≤ length text.now }
     ensures { IfOk result (λ note. IsFormNote text.now offset (string_bytes note)) }
 {
@@ -183,20 +184,20 @@ fn due_window(alloc: Global, text: &[u8], line: u32) -> Result<Option<Vec<u32>>,
 
 /// Returns the note on a line of a table text that does not have its window, which follows from the
 /// second line. Lines are counted from 1. Fails if memory was refused.
-pub fn window_note(alloc: Global, text: &[u8], line: u32) -> Result<String, AllocError>
+pub fn window_note(alloc: Global, text: &[u8], line: u32) -> Result<String, OutOfMemory>
     ensures { IfOk result (λ note. IsWindowNote text.now line (string_bytes note)) }
 {
     let due = due_window(alloc, text, line)?;
     match due {
         Some(window) => line_note(alloc, line, &window),
-        None => format!(in alloc;
+        None => Ok(format!(in alloc;
             "nbhd: line {line} is not the line of the window that follows there\n"
-        ),
+        )?),
     }
 }
 
 // Returns the note on the line that should have this window.
-fn line_note(alloc: Global, line: u32, window: &[u32]) -> Result<String, AllocError>
+fn line_note(alloc: Global, line: u32, window: &[u32]) -> Result<String, OutOfMemory>
     ensures { IfOk result (λ note. string_bytes note ≡ line_note line window.now) }
 {
     let mut note = String::new(alloc);
@@ -208,10 +209,10 @@ fn line_note(alloc: Global, line: u32, window: &[u32]) -> Result<String, AllocEr
 
 /// Returns the note on a line whose channel is too large. Lines are counted from 1. Fails if memory
 /// was refused.
-pub fn channel_note(alloc: Global, line: u32) -> Result<String, AllocError>
+pub fn channel_note(alloc: Global, line: u32) -> Result<String, OutOfMemory>
     ensures { IfOk result (λ note. string_bytes note ≡ channel_note line) }
 {
-    format!(in alloc;
+    Ok(format!(in alloc;
         "nbhd: line {line} has a channel that is not below the number of channels of line 2\n"
-    )
+    )?)
 }

@@ -14,6 +14,7 @@ use crate::signs::byte_advice;
 use crate::wanted::Wanted;
 use crate::words::{first_word, write_wanted_part};
 use node_lang::{FaultKind, TextFault};
+use node_program::OutOfMemory;
 use source_places::{column_of, line_of, write_marked_line, write_shown};
 use std::alloc::{AllocError, Global};
 use std::fmt::Write;
@@ -21,13 +22,13 @@ use std::fmt::Write;
 /// Returns the note on a fault of a program text: its line and its column, the cause and what can
 /// follow there, advice, and the line with a mark below the place. The note on a text that is too
 /// long has no place. Fails if memory was refused.
-pub fn text_note(alloc: Global, text: &[u8], fault: TextFault) -> Result<String, AllocError>
+pub fn text_note(alloc: Global, text: &[u8], fault: TextFault) -> Result<String, OutOfMemory>
     requires { fault.offset ≤ length text.now }
     ensures too_long { fault.kind ≡ kind.TooLong → IfOk result (λ note. string_bytes note ≡ too_long_note) }
     ensures note { fault.kind ≢ kind.TooLong → IfOk result (λ note. IsTextNote text.now fault.kind fault.offset (string_bytes note)) }
 {
     if fault.kind == FaultKind::TooLong {
-        return format!(in alloc; "nbhd: a program text has at most 65536 bytes\n");
+        return Ok(format!(in alloc; "nbhd: a program text has at most 65536 bytes\n")?);
     }
     let wanted = wanted_at(alloc, text, fault)?;
     let mut note = String::new(alloc);
@@ -64,7 +65,7 @@ fn word_at(text: &[u8], offset: usize) -> &[u8]
 }
 
 // Returns what can follow at the place of a fault, `None` for a byte above 127.
-fn wanted_at(alloc: Global, text: &[u8], fault: TextFault) -> Result<Option<Wanted>, AllocError>
+fn wanted_at(alloc: Global, text: &[u8], fault: TextFault) -> Result<Option<Wanted>, OutOfMemory>
     requires { fault.offset ≤ length text.now }
     ensures exact { IfOk result (λ found. IfSome found (IsWanted (tokens_of (take fault.offset text.now)))) }
     ensures silent { IfOk result (λ found. fault.kind ≡ kind.Unexpected → IfNone found (SaysNothing (take fault.offset text.now))) }
@@ -73,10 +74,7 @@ fn wanted_at(alloc: Global, text: &[u8], fault: TextFault) -> Result<Option<Want
     if fault.kind == FaultKind::NotAscii {
         return Ok(None);
     }
-    match wanted_after(alloc, &text[..fault.offset]) {
-        Ok(found) => Ok(found),
-        Err(_) => Err(AllocError),
-    }
+    wanted_after(alloc, &text[..fault.offset])
 }
 
 // Writes the line and the column of an offset.

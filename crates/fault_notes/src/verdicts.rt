@@ -6,17 +6,19 @@ ghost use Rattle.win_index.specs.declared.limits.TheConstants.{MAX_IDS, MAX_ROUN
 ghost use Rattle.fault_notes.specs.VerdictNotes.{joined, distance_text, pair_text, channels_text, no_tuples_note, windows_text, verdict_note};
 
 use crate::numbers::write_joined;
+use node_program::OutOfMemory;
 use std::alloc::{AllocError, Global};
 use std::fmt::Write;
 
 /// Returns the note on a yes of the judge about no ring: `ids` identifiers are too few for a ring of
 /// `nodes` nodes, the least that is judged. Fails if memory was refused.
-pub fn no_tuples_note(alloc: Global, nodes: usize, ids: u32) -> Result<String, AllocError>
+pub fn no_tuples_note(alloc: Global, nodes: usize, ids: u32) -> Result<String, OutOfMemory>
     ensures { IfOk result (λ note. string_bytes note ≡ no_tuples_note nodes ids) }
 {
-    format!(in alloc;
+    let note = format!(in alloc;
         "nbhd: no ring was judged: {ids} identifiers are too few for a ring of at least {nodes} nodes\n"
-    )
+    )?;
+    Ok(note)
 }
 
 /// Returns the note on a no of the judge for `rounds` rounds: the ring, the nodes at the two
@@ -27,7 +29,7 @@ pub fn verdict_note(
     ring: &[u32],
     places: (u32, u32),
     channels: (u32, u32),
-) -> Result<String, AllocError>
+) -> Result<String, OutOfMemory>
     requires rounds { rounds ≤ MAX_ROUNDS }
     requires long { rounds ≤ length ring.now }
     requires few { length ring.now ≤ MAX_IDS }

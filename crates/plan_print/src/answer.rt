@@ -20,7 +20,7 @@ use reports::answer::{Answer, TableReport};
 use reports::judgement::verdict_answer;
 use reports::judging::verdict_and_drop;
 use reports::lines::numbers_line;
-use reports::rings::{ring_refusal, segments_refusal};
+use reports::rings::{ring_in, segments_refusal};
 use reports::status::Status;
 use ring_exec::{RunFault, run};
 use round_eval::OpenGate;
@@ -61,9 +61,9 @@ pub(crate) fn run_answer<T: Threads + Wait + Sync>(
         (IsRunAnswer plan.now.program ids.items segments) (report_in r)) }
     ensures fault { IfErr result (IsTaskFault segments) }
 {
-    match Ring::new(plan.shape(), ids) {
+    match ring_in(alloc, plan, ids) {
         Ok(ring) => channels_answer(rt, alloc, plan, &ring, segments),
-        Err((ids, fault)) => ring_refusal(alloc, plan.shape(), ids, fault),
+        Err(refusal) => Ok(refusal.report()?),
     }
 }
 
@@ -84,7 +84,7 @@ fn channels_answer<T: Threads + Wait + Sync>(
         Ok(channels) => Ok(Answer::Text(numbers_line(alloc, &channels)?, Status::Done)),
         Err(fault) => match fault_of_run(fault) {
             Some(fault) => Err(fault),
-            None => segments_refusal(alloc, segments, ring),
+            None => Ok(segments_refusal(alloc, segments, ring)?),
         },
     }
 }
@@ -114,12 +114,12 @@ pub(crate) fn plan_answer<T: Threads + Wait + Sync>(
         (Says (report.place_lines plan.now.program ids.items) Status.Done) (report_in r)) }
     ensures fault { IfErr result (IsTaskFault workers) }
 {
-    match Ring::new(plan.shape(), ids) {
+    match ring_in(alloc, plan, ids) {
         Ok(ring) => {
             let table = compile_table(rt, alloc, plan, workers)?;
             Ok(Answer::Text(places_text(alloc, plan, &table, &ring)?, Status::Done))
         }
-        Err((ids, fault)) => ring_refusal(alloc, plan.shape(), ids, fault),
+        Err(refusal) => Ok(refusal.report()?),
     }
 }
 
@@ -139,7 +139,7 @@ pub(crate) fn judge_report<T: Threads + Wait + Sync>(
     let memo = Memo::new(alloc, plan)?;
     let table = table_by(rt, alloc, plan, &memo, workers)?;
     let verdict = verdict_and_drop(rt, alloc, &table, separation, workers, memo)?;
-    verdict_answer(alloc, &table, separation, verdict)
+    Ok(verdict_answer(alloc, &table, separation, verdict)?)
 }
 
 // Returns the table of an accepted program, filled by this many workers. The memo is dropped before

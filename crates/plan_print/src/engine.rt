@@ -91,12 +91,9 @@ fn note_of(alloc: Global, input: &[u8], cause: Option<Cause>) -> Option<Result<S
     requires { IfSome (reason_in cause) (IsFound input.now) }
     ensures { IsNoteOn input.now (reason_in cause) result }
 {
-    let Some(cause) = cause else {
-        return None;
-    };
-    match note_on(alloc, input, &cause) {
-        Ok(note) => Some(Ok(note)),
-        Err(_) => Some(Err(OutOfMemory)),
+    match cause {
+        Some(cause) => Some(note_on(alloc, input, &cause)),
+        None => None,
     }
 }
 

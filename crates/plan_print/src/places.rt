@@ -7,8 +7,9 @@ ghost use Rattle.reports.specs.Report.{place_lines};
 
 use channel_tables::Table;
 use lang_check::Plan;
+use node_program::OutOfMemory;
 use reports::lines::write_place;
-use std::alloc::{AllocError, Global};
+use std::alloc::Global;
 use table_entries::table_has_the_channels_of_rounds;
 use win_index::{MAX_WINDOW_LEN, Ring};
 
@@ -18,7 +19,7 @@ pub(crate) fn places_text(
     plan: &Plan,
     table: &Table,
     ring: &Ring,
-) -> Result<String, AllocError>
+) -> Result<String, OutOfMemory>
     requires table { table.now ≡ table_of plan.now.program plan.now.ids }
     requires ids { ring.now.ids ≡ plan.now.ids }
     requires rounds { ring.now.rounds ≡ length plan.now.program.steps }

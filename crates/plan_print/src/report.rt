@@ -54,7 +54,7 @@ pub(crate) fn report_of<T: Threads + Wait + Sync>(
 {
     match task {
         Task::Check { ids } => program_report(rt, alloc, input, ids, Question::Check),
-        Task::Print => print_report(alloc, input),
+        Task::Print => Ok(print_report(alloc, input)?),
         Task::Table {
             ids,
             workers,
@@ -90,22 +90,28 @@ pub(crate) fn report_of<T: Threads + Wait + Sync>(
         Task::Plan { ids, ring, workers } => {
             program_report(rt, alloc, input, ids, Question::Plan(ring, workers))
         }
-        Task::Audit => audit_text_report(rt, alloc, input),
-        Task::Migrate => migrate_report(alloc, input),
+        Task::Audit => Ok(audit_text_report(rt, alloc, input)?),
+        Task::Migrate => Ok(migrate_report(alloc, input)?),
         Task::Formula {
             ids,
             rounds,
             channels,
             near,
             far,
-        } => formula_report(alloc, numbers_of(ids, rounds, channels, near, far)),
+        } => {
+            let numbers = numbers_of(ids, rounds, channels, near, far);
+            Ok(formula_report(alloc, numbers)?)
+        }
         Task::Refute {
             ids,
             rounds,
             channels,
             near,
             far,
-        } => refute_report(alloc, numbers_of(ids, rounds, channels, near, far), input),
+        } => {
+            let numbers = numbers_of(ids, rounds, channels, near, far);
+            Ok(refute_report(alloc, numbers, input)?)
+        }
     }
 }
 
@@ -135,9 +141,9 @@ fn program_report<T: Threads + Wait + Sync>(
     ensures report { IfOk result (λ r. IsProgramReport ids (IsAnswerTo question ids) input.now (report_in r)) }
     ensures fault { IfErr result (IsTaskFault (workers_of question)) }
 {
-    match plan_in(alloc, input, ids)? {
+    match plan_in(alloc, input, ids) {
         Ok(plan) => program_answer(rt, alloc, question, &plan),
-        Err(refusal) => Ok(refusal),
+        Err(refusal) => Ok(refusal.report()?),
     }
 }
 
@@ -153,12 +159,14 @@ fn program_answer<T: Threads + Wait + Sync>(
     ensures fault { IfErr result (IsTaskFault (workers_of question)) }
 {
     match question {
-        Question::Check => check_answer(alloc, plan),
+        Question::Check => Ok(check_answer(alloc, plan)?),
         Question::Table(separation, workers) => table_answer(rt, alloc, plan, separation, workers),
         Question::Judge(separation, workers) => judge_report(rt, alloc, plan, separation, workers),
         Question::Run(ring, segments) => run_answer(rt, alloc, plan, ring, segments),
-        Question::Trace(ring, base) => trace_answer(alloc, base, plan, ring),
-        Question::Explain(ring, place, base) => explain_answer(alloc, base, plan, ring, place),
+        Question::Trace(ring, base) => Ok(trace_answer(alloc, base, plan, ring)?),
+        Question::Explain(ring, place, base) => {
+            Ok(explain_answer(alloc, base, plan, ring, place)?)
+        }
         Question::Plan(ring, workers) => plan_answer(rt, alloc, plan, ring, workers),
     }
 }

@@ -3,3 +3,4 @@ pub mod Aligned
 mod SentMemo
 pub mod Yes
 pub mod NotRing
+pub mod Refused

@@ -1,5 +1,5 @@
 -- The numbers of a problem, and why there is no formula of them.
-use Rattle.std.specs.Prelude.{ℕ}
+use Rattle.std.specs.Prelude.{ℕ, ⊤}
 use Rattle.win_index.specs.ShapeRange.{IsShape}
 use Rattle.win_index.specs.ShapeFaults.{IsFirstShapeFault}
 use Rattle.win_index.specs.declared.shape.ShapeFault.TheVariants as shape
@@ -10,6 +10,8 @@ use Rattle.table_formula.specs.declared.formula.FormulaFault.TheVariants as form
 use Rattle.reports.specs.declared.problem.ProblemFault.{ProblemFault}
 use Rattle.reports.specs.declared.problem.ProblemFault.TheVariants.{IdsOutOfRange, TooManyWindows, TooManyVariables, TooManyClauses}
 use Rattle.reports.specs.declared.problem.ProblemNumbers.{ProblemNumbers}
+use Rattle.reports.specs.declared.formulas.NoFormula.{NoFormula}
+use Rattle.reports.specs.declared.formulas.NoFormula.TheVariants as none
 
 -- the problem of these numbers
 abbrev pub problem_of : ProblemNumbers → Problem
@@ -26,3 +28,8 @@ IsProblemFault p IdsOutOfRange = IsFirstShapeFault p.ids p.rounds shape.IdsOutOf
 IsProblemFault p TooManyWindows = IsFirstShapeFault p.ids p.rounds shape.TooManyWindows
 IsProblemFault p TooManyVariables = IsShape p.ids p.rounds × IsFormulaFault p formula.TooManyVariables
 IsProblemFault p TooManyClauses = IsShape p.ids p.rounds × IsFormulaFault p formula.TooManyClauses
+
+-- why there is no formula of the problem, unless memory was refused
+abbrev pub IsNoFormula : Problem → NoFormula → Type 0
+IsNoFormula p (none.Fault fault) = IsProblemFault p fault
+IsNoFormula p none.OutOfMemory = ⊤

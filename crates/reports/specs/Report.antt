@@ -158,6 +158,10 @@ pub data IsAnswerOnRing (m t : ℕ) (places : List ℕ) (said : Report → Type 
   ring_fault : (f : RingFault) → IsFirstFault m t places f → Refuses (ring_fault_line f) RingRefused (of_ring m t places f) r → IsAnswerOnRing m t places said r
   on_ring : IsRing m t places → said r → IsAnswerOnRing m t places said r
 
+-- the report on a list of identifiers that is no ring
+abbrev pub IsNoRing : ℕ → ℕ → List ℕ → Report → Type 0
+IsNoRing m t places = IsAnswerOnRing m t places (λ r. ⊥)
+
 -- The report of a run on a ring: the ring can't be run in this number of segments, or its channels in global rounds.
 pub data IsRunAnswer (p : ProgramTree) (places : List ℕ) (segments : ℕ) (r : Report) : Type 0 where
   out_of_range : (¬ IsSegmentCount segments (length places)) → Refuses segments_fault_line Words (of_segments segments (length places)) r → IsRunAnswer p places segments r

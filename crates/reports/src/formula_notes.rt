@@ -7,8 +7,9 @@ ghost use Rattle.reports.specs.FormulaNotes as notes;
 
 use crate::problem::ProblemFault;
 use fault_notes::ids_note;
+use node_program::OutOfMemory;
 use refutation::{LineFault, RefuteError};
-use std::alloc::{AllocError, Global};
+use std::alloc::Global;
 
 // Returns the note on numbers of identifiers and rounds of which there is no formula.
 pub(crate) fn formula_note(
@@ -16,37 +17,35 @@ pub(crate) fn formula_note(
     ids: u32,
     rounds: u32,
     fault: ProblemFault,
-) -> Result<String, AllocError>
+) -> Result<String, OutOfMemory>
     requires { rounds ≤ MAX_ROUNDS }
     ensures { IfOk result (λ note. notes.IsFormulaNote ids rounds fault (string_bytes note)) }
 {
     match fault {
         ProblemFault::IdsOutOfRange | ProblemFault::TooManyWindows => ids_note(alloc, rounds, ids),
-        ProblemFault::TooManyVariables => String::from_str(
+        ProblemFault::TooManyVariables => Ok(String::from_str(
             alloc,
             "nbhd: a formula has a variable for each window and channel, and at most 4194304 of them\n",
-        ),
-        ProblemFault::TooManyClauses => String::from_str(
+        )?),
+        ProblemFault::TooManyClauses => Ok(String::from_str(
             alloc,
             "nbhd: a formula has at most 16777216 clauses, and a table of this size would need more\n",
-        ),
+        )?),
     }
 }
 
 // Returns the note on a text that is no refutation, an empty one for `OutOfMemory`.
-pub(crate) fn refutation_note(alloc: Global, fault: RefuteError) -> Result<String, AllocError>
+pub(crate) fn refutation_note(alloc: Global, fault: RefuteError) -> Result<String, OutOfMemory>
     ensures { IfOk result (λ note. string_bytes note ≡ notes.refutation_note fault) }
 {
     match fault {
-        RefuteError::TooLong => {
-            String::from_str(
-                alloc,
-                "nbhd: the text of a refutation has at most 134217728 bytes\n",
-            )
-        }
+        RefuteError::TooLong => Ok(String::from_str(
+            alloc,
+            "nbhd: the text of a refutation has at most 134217728 bytes\n",
+        )?),
         RefuteError::At { line, fault } => {
             let cause = line_cause(fault);
-            format!(in alloc; "nbhd: line {line}: {cause}\n")
+            Ok(format!(in alloc; "nbhd: line {line}: {cause}\n")?)
         }
         RefuteError::OutOfMemory => Ok(String::new(alloc)),
     }

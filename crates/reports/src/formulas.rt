@@ -1,32 +1,32 @@
-//! Reports on the formula of all tables of some size, and on its refutations. Each call fails only
-//! with `Memory`, if memory was refused.
+//! Reports on the formula of all tables of some size, and on its refutations. Each call fails only if
+//! memory was refused.
 
 ghost use Rattle.std.specs.Prelude.{◌≡◌, ◌≤◌, IfOk, IfErr, OnOk};
 ghost use Rattle.win_index.specs.declared.limits.TheConstants.{MAX_ROUNDS};
-ghost use Rattle.reports.specs.Answers.{report_in};
+ghost use Rattle.reports.specs.Answers.{report_in, IsRefusedBy};
 ghost use Rattle.reports.specs.FormulaReports.{IsFormulaRefusal, IsFormulaReport, IsRefuteReport};
-ghost use Rattle.reports.specs.ProblemFaults.{problem_of, HasFormula, IsProblemFault};
+ghost use Rattle.reports.specs.ProblemFaults.{problem_of, HasFormula, IsNoFormula};
 
 use crate::answer::Answer;
 use crate::cause::Cause;
 use crate::formula_lines::{formula_fault_line, refutation_fault_line, refuted_line};
 use crate::problem::{ProblemFault, ProblemNumbers};
+use crate::refusal::Refusal;
 use crate::status::Status;
-use devices::fault::EngineFault;
+use node_program::OutOfMemory;
 use refutation::{RefuteError, refute};
 use std::alloc::Global;
 use table_formula::{Formula, FormulaFault};
 use win_index::{Shape, ShapeFault};
 
 /// Returns the report with the formula of these numbers.
-pub fn formula_report(alloc: Global, numbers: ProblemNumbers) -> Result<Answer, EngineFault>
+pub fn formula_report(alloc: Global, numbers: ProblemNumbers) -> Result<Answer, OutOfMemory>
     requires { numbers.rounds ≤ MAX_ROUNDS }
-    ensures report { IfOk result (λ r. IsFormulaReport (problem_of numbers) (report_in r)) }
-    ensures fault { IfErr result (λ fault. fault ≡ EngineFault.Memory) }
+    ensures { IfOk result (λ r. IsFormulaReport (problem_of numbers) (report_in r)) }
 {
-    match formula_in(alloc, numbers)? {
+    match formula_in(alloc, numbers) {
         Ok(formula) => Ok(Answer::Formula(formula)),
-        Err(refusal) => Ok(refusal),
+        Err(refusal) => refusal.report(),
     }
 }
 
@@ -35,14 +35,13 @@ pub fn refute_report(
     alloc: Global,
     numbers: ProblemNumbers,
     input: &[u8],
-) -> Result<Answer, EngineFault>
+) -> Result<Answer, OutOfMemory>
     requires { numbers.rounds ≤ MAX_ROUNDS }
-    ensures report { IfOk result (λ r. IsRefuteReport (problem_of numbers) input.now (report_in r)) }
-    ensures fault { IfErr result (λ fault. fault ≡ EngineFault.Memory) }
+    ensures { IfOk result (λ r. IsRefuteReport (problem_of numbers) input.now (report_in r)) }
 {
-    match formula_in(alloc, numbers)? {
+    match formula_in(alloc, numbers) {
         Ok(formula) => refute_answer(alloc, numbers, &formula, input),
-        Err(refusal) => Ok(refusal),
+        Err(refusal) => refusal.report(),
     }
 }
 
@@ -52,15 +51,14 @@ fn refute_answer(
     numbers: ProblemNumbers,
     formula: &Formula,
     input: &[u8],
-) -> Result<Answer, EngineFault>
+) -> Result<Answer, OutOfMemory>
     requires formula { formula.now ≡ problem_of numbers }
     requires has { HasFormula (problem_of numbers) }
-    ensures report { IfOk result (λ r. IsRefuteReport (problem_of numbers) input.now (report_in r)) }
-    ensures fault { IfErr result (λ fault. fault ≡ EngineFault.Memory) }
+    ensures { IfOk result (λ r. IsRefuteReport (problem_of numbers) input.now (report_in r)) }
 {
     match refute(alloc, formula, input) {
         Ok(()) => Ok(Answer::Text(refuted_line(alloc, numbers)?, Status::Done)),
-        Err(RefuteError::OutOfMemory) => Err(EngineFault::Memory),
+        Err(RefuteError::OutOfMemory) => Err(OutOfMemory),
         Err(fault) => {
             let line = refutation_fault_line(alloc, fault)?;
             Ok(Answer::Told(line, Status::Refused, Cause::Refutation(fault)))
@@ -68,51 +66,55 @@ fn refute_answer(
     }
 }
 
-// Returns the formula of these numbers, or the report of their refusal.
-fn formula_in(
-    alloc: Global,
-    numbers: ProblemNumbers,
-) -> Result<Result<Formula, Answer>, EngineFault>
+// Returns the formula of these numbers.
+fn formula_in(alloc: Global, numbers: ProblemNumbers) -> Result<Formula, Refusal>
     requires { numbers.rounds ≤ MAX_ROUNDS }
-    ensures formula { IfOk result (λ told. IfOk told (λ formula. formula ≡ problem_of numbers)) }
-    ensures has { IfOk result (λ told. OnOk told (HasFormula (problem_of numbers))) }
-    ensures refusal { IfOk result (λ told. IfErr told (λ r. IsFormulaRefusal (problem_of numbers) (report_in r))) }
-    ensures fault { IfErr result (λ fault. fault ≡ EngineFault.Memory) }
+    ensures formula { IfOk result (λ formula. formula ≡ problem_of numbers) }
+    ensures has { OnOk result (HasFormula (problem_of numbers)) }
+    ensures refusal { IfErr result (IsRefusedBy (IsFormulaRefusal (problem_of numbers))) }
 {
-    match formula_of(alloc, numbers)? {
-        Ok(formula) => Ok(Ok(formula)),
-        Err(fault) => {
+    match formula_of(alloc, numbers) {
+        Ok(formula) => Ok(formula),
+        Err(NoFormula::Fault(fault)) => {
             let line = formula_fault_line(alloc, fault)?;
             let cause = Cause::Formula {
                 ids: numbers.ids,
                 rounds: numbers.rounds,
                 fault,
             };
-            Ok(Err(Answer::Told(line, Status::FormulaRefused, cause)))
+            let told = Answer::Told(line, Status::FormulaRefused, cause);
+            Err(Refusal::Told(told))
         }
+        Err(NoFormula::OutOfMemory) => Err(Refusal::OutOfMemory),
     }
 }
 
+// Why there is no formula: a fault of its numbers, or memory was refused.
+enum NoFormula {
+    Fault(ProblemFault),
+    OutOfMemory,
+}
+
 // Returns the formula of these numbers, or why there is none.
-fn formula_of(
-    alloc: Global,
-    numbers: ProblemNumbers,
-) -> Result<Result<Formula, ProblemFault>, EngineFault>
+fn formula_of(alloc: Global, numbers: ProblemNumbers) -> Result<Formula, NoFormula>
     requires { numbers.rounds ≤ MAX_ROUNDS }
-    ensures formula { IfOk result (λ told. IfOk told (λ formula. formula ≡ problem_of numbers)) }
-    ensures has { IfOk result (λ told. OnOk told (HasFormula (problem_of numbers))) }
-    ensures refused { IfOk result (λ told. IfErr told (IsProblemFault (problem_of numbers))) }
-    ensures fault { IfErr result (λ fault. fault ≡ EngineFault.Memory) }
+    ensures formula { IfOk result (λ formula. formula ≡ problem_of numbers) }
+    ensures has { OnOk result (HasFormula (problem_of numbers)) }
+    ensures refused { IfErr result (IsNoFormula (problem_of numbers)) }
 {
     let shape = match Shape::new(numbers.ids, numbers.rounds) {
         Ok(shape) => shape,
-        Err(ShapeFault::IdsOutOfRange) => return Ok(Err(ProblemFault::IdsOutOfRange)),
-        Err(ShapeFault::TooManyWindows) => return Ok(Err(ProblemFault::TooManyWindows)),
+        Err(ShapeFault::IdsOutOfRange) => return Err(NoFormula::Fault(ProblemFault::IdsOutOfRange)),
+        Err(ShapeFault::TooManyWindows) => return Err(NoFormula::Fault(
+            ProblemFault::TooManyWindows,
+        )),
     };
     match Formula::new(alloc, shape, numbers.channels, numbers.separation) {
-        Ok(formula) => Ok(Ok(formula)),
-        Err(FormulaFault::TooManyVariables) => Ok(Err(ProblemFault::TooManyVariables)),
-        Err(FormulaFault::TooManyClauses) => Ok(Err(ProblemFault::TooManyClauses)),
-        Err(FormulaFault::OutOfMemory) => Err(EngineFault::Memory),
+        Ok(formula) => Ok(formula),
+        Err(FormulaFault::TooManyVariables) => Err(NoFormula::Fault(
+            ProblemFault::TooManyVariables,
+        )),
+        Err(FormulaFault::TooManyClauses) => Err(NoFormula::Fault(ProblemFault::TooManyClauses)),
+        Err(FormulaFault::OutOfMemory) => Err(NoFormula::OutOfMemory),
     }
 }

@@ -1,6 +1,6 @@
-//! The report of the judge on a table. Each call fails only with `Memory`, if memory was refused.
+//! The report of the judge on a table. Each call fails only if memory was refused.
 
-ghost use Rattle.std.specs.Prelude.{◌≡◌, IfOk, IfErr};
+ghost use Rattle.std.specs.Prelude.{IfOk};
 ghost use Rattle.nbhd_check.specs.Apart.{IsApartEverywhere};
 ghost use Rattle.nbhd_check.specs.Verdicts.{IsVerdict};
 ghost use Rattle.reports.specs.Answers.{report_in};
@@ -11,8 +11,8 @@ use crate::cause::Cause;
 use crate::lines::{good_line, no_line};
 use crate::status::Status;
 use channel_tables::Table;
-use devices::fault::EngineFault;
 use nbhd_check::{Separation, Verdict, judge, tuple_count, tuple_len};
+use node_program::OutOfMemory;
 use std::alloc::Global;
 use std::thread::Threads;
 
@@ -22,10 +22,9 @@ pub fn verdict_answer(
     table: &Table,
     separation: Separation,
     verdict: Verdict,
-) -> Result<Answer, EngineFault>
+) -> Result<Answer, OutOfMemory>
     requires { IsVerdict table.now separation verdict }
-    ensures answer { IfOk result (λ r. IsJudgement table.now separation (report_in r)) }
-    ensures fault { IfErr result (λ fault. fault ≡ EngineFault.Memory) }
+    ensures { IfOk result (λ r. IsJudgement table.now separation (report_in r)) }
 {
     match verdict {
         Verdict::Yes => yes_answer(alloc, table, separation),
@@ -47,10 +46,9 @@ pub fn verdict_answer(
 }
 
 // Returns the report of a yes on the table.
-fn yes_answer(alloc: Global, table: &Table, separation: Separation) -> Result<Answer, EngineFault>
+fn yes_answer(alloc: Global, table: &Table, separation: Separation) -> Result<Answer, OutOfMemory>
     requires { IsApartEverywhere table.now separation }
-    ensures answer { IfOk result (λ r. IsJudgement table.now separation (report_in r)) }
-    ensures fault { IfErr result (λ fault. fault ≡ EngineFault.Memory) }
+    ensures { IfOk result (λ r. IsJudgement table.now separation (report_in r)) }
 {
     let count = tuple_count(table, separation);
     let line = good_line(alloc, count)?;
@@ -70,9 +68,8 @@ pub(crate) fn audit_report<T: Threads + Sync>(
     alloc: Global,
     table: &Table,
     separation: Separation,
-) -> Result<Answer, EngineFault>
-    ensures answer { IfOk result (λ r. IsJudgement table.now separation (report_in r)) }
-    ensures fault { IfErr result (λ fault. fault ≡ EngineFault.Memory) }
+) -> Result<Answer, OutOfMemory>
+    ensures { IfOk result (λ r. IsJudgement table.now separation (report_in r)) }
 {
     let verdict = judge(rt, alloc, table, separation)?;
     verdict_answer(alloc, table, separation, verdict)

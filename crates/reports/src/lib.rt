@@ -12,6 +12,7 @@ pub mod judging;
 pub mod lines;
 pub mod note;
 pub mod problem;
+pub mod refusal;
 pub mod rings;
 pub mod status;
 pub mod texts;

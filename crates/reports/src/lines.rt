@@ -7,6 +7,7 @@ ghost use Rattle.reports.specs.Report as report;
 use lang_check::{CheckFault, Plan};
 use nbhd_check::Separation;
 use node_lang::{FaultKind, TextFault};
+use node_program::OutOfMemory;
 use std::alloc::{AllocError, Global};
 use std::fmt::Write;
 use table_text::TableFault;
@@ -25,7 +26,7 @@ pub(crate) fn write_numbers(text: &mut String, numbers: &[u32]) -> Result<(), Al
 }
 
 /// Returns a line of numbers in decimal, separated by single blanks and followed by a line feed.
-pub fn numbers_line(alloc: Global, numbers: &[u32]) -> Result<String, AllocError>
+pub fn numbers_line(alloc: Global, numbers: &[u32]) -> Result<String, OutOfMemory>
     ensures { IfOk result (λ text. string_bytes text ≡ line (numbers_text numbers.now ∷ [])) }
 {
     let mut text = String::new(alloc);
@@ -181,8 +182,9 @@ fn write_no(
 
 /// Writes the line of a place, with its identifier and its channel.
 #[tactic(auto, using(crate::proofs::Aligned::aligned))]
-pub fn write_place(text: &mut String, place: u32, id: u32, channel: u32) -> Result<(), AllocError>
+pub fn write_place(text: &mut String, place: u32, id: u32, channel: u32) -> Result<(), OutOfMemory>
     ensures { OnOk result (string_bytes text.new ≡ string_bytes text.old ++ report.place_line place id channel) }
 {
-    write!(text, "{place:>4} {id:>4} {channel:>4}\n")
+    write!(text, "{place:>4} {id:>4} {channel:>4}\n")?;
+    Ok(())
 }

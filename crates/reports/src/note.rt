@@ -11,11 +11,12 @@ use fault_notes::{
     channel_note, check_note, form_note, long_note, no_tuples_note, place_note, ring_note,
     segments_note, text_note, verdict_note, window_note,
 };
-use std::alloc::{AllocError, Global};
+use node_program::OutOfMemory;
+use std::alloc::Global;
 use table_text::{LONGEST_TABLE_TEXT, TableFault};
 
 /// Returns the note on a cause in this input. Fails if memory was refused.
-pub fn note_on(alloc: Global, input: &[u8], cause: &Cause) -> Result<String, AllocError>
+pub fn note_on(alloc: Global, input: &[u8], cause: &Cause) -> Result<String, OutOfMemory>
     requires { IsFound input.now (reason_of cause.now) }
     ensures { IfOk result (λ note. IsNote input.now (reason_of cause.now) (string_bytes note)) }
 {
@@ -48,7 +49,7 @@ pub fn note_on(alloc: Global, input: &[u8], cause: &Cause) -> Result<String, All
 }
 
 // Returns the note on a fault of a table text. Fails if memory was refused.
-fn table_note(alloc: Global, text: &[u8], fault: TableFault) -> Result<String, AllocError>
+fn table_note(alloc: Global, text: &[u8], fault: TableFault) -> Result<String, OutOfMemory>
     requires own { fault ≢ TableFault.OutOfMemory }
     requires fault { IsFault text.now fault }
     ensures { IfOk result (λ note. IsTableNote text.now fault (string_bytes note)) }

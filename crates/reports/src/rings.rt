@@ -1,37 +1,51 @@
-//! Reports on rings, and on lists of identifiers that are not rings. Each call fails only with
-//! `Memory`, if memory was refused.
+//! Reports on rings, and on lists of identifiers that are not rings. Each call fails only if memory was
+//! refused.
 
-ghost use Rattle.std.specs.Prelude.{◌≡◌, ◌≤◌, length, IfOk, IfErr};
-ghost use Rattle.reports.specs.Answers.{report_in};
+ghost use Rattle.std.specs.Prelude.{◌≡◌, ◌≤◌, length, IfOk, IfErr, OnOk};
+ghost use Rattle.reports.specs.Answers.{report_in, IsRefusedBy};
 ghost use Rattle.reports.specs.Causes.{of_place, of_ring, of_segments};
 ghost use Rattle.reports.specs.Report as report;
-ghost use Rattle.reports.specs.Report.{Says, Refuses, IsAnswerOnRing, IsExplainAnswer};
+ghost use Rattle.reports.specs.Report.{Says, Refuses, IsAnswerOnRing, IsExplainAnswer, IsNoRing};
 ghost use Rattle.ring_segments.specs.SegmentCounts.{IsSegmentCount};
 ghost use Rattle.value_trees.specs.Trace.{trace_lines};
+ghost use Rattle.win_index.specs.Ring.{IsRing};
 ghost use Rattle.win_index.specs.RingFaults.{IsFirstFault};
 
 use crate::answer::Answer;
 use crate::cause::Cause;
 use crate::lines::{place_fault_line, ring_fault_line, segments_fault_line};
+use crate::refusal::Refusal;
 use crate::status::Status;
-use devices::fault::EngineFault;
 use lang_check::Plan;
+use node_program::OutOfMemory;
 use numerals::Base;
 use std::alloc::Global;
 use value_trees::{explanation_text, trace_text};
 use win_index::{Ring, RingFault, Shape};
 
-/// Returns the report on a list of identifiers that is not a ring of this shape.
-pub fn ring_refusal(
+/// Makes the ring of a list of identifiers for the program of a plan. The refusal is the report on a
+/// list that is not a ring.
+pub fn ring_in(alloc: Global, plan: &Plan, ids: Vec<u32>) -> Result<Ring, Refusal>
+    ensures ring { IfOk result (λ ring. ring ≡ record { ids = plan.now.ids; rounds = length plan.now.program.steps; places = ids.items }) }
+    ensures is { OnOk result (IsRing plan.now.ids (length plan.now.program.steps) ids.items) }
+    ensures refusal { IfErr result (IsRefusedBy (IsNoRing plan.now.ids (length plan.now.program.steps) ids.items)) }
+{
+    match Ring::new(plan.shape(), ids) {
+        Ok(ring) => Ok(ring),
+        Err((ids, fault)) => Err(Refusal::Told(ring_refusal(alloc, plan.shape(), ids, fault)?)),
+    }
+}
+
+// Returns the report on a list of identifiers that is not a ring of this shape.
+fn ring_refusal(
     alloc: Global,
     shape: Shape,
     places: Vec<u32>,
     fault: RingFault,
-) -> Result<Answer, EngineFault>
+) -> Result<Answer, OutOfMemory>
     requires { IsFirstFault shape.ids shape.rounds places.items fault }
-    ensures answer { IfOk result (λ r. Refuses (report.ring_fault_line fault) Status.RingRefused
+    ensures { IfOk result (λ r. Refuses (report.ring_fault_line fault) Status.RingRefused
         (of_ring shape.ids shape.rounds places.items fault) (report_in r)) }
-    ensures fault { IfErr result (λ fault. fault ≡ EngineFault.Memory) }
 {
     let line = ring_fault_line(alloc, fault)?;
     let cause = Cause::Ring {
@@ -44,11 +58,10 @@ pub fn ring_refusal(
 }
 
 /// Returns the report on a number of segments in which the ring can't be run.
-pub fn segments_refusal(alloc: Global, segments: u32, ring: &Ring) -> Result<Answer, EngineFault>
+pub fn segments_refusal(alloc: Global, segments: u32, ring: &Ring) -> Result<Answer, OutOfMemory>
     requires { ¬ IsSegmentCount segments (length ring.now.places) }
-    ensures answer { IfOk result (λ r. Refuses report.segments_fault_line Status.Words
+    ensures { IfOk result (λ r. Refuses report.segments_fault_line Status.Words
         (of_segments segments (length ring.now.places)) (report_in r)) }
-    ensures fault { IfErr result (λ fault. fault ≡ EngineFault.Memory) }
 {
     let line = segments_fault_line(alloc)?;
     let cause = Cause::Segments {
@@ -59,11 +72,10 @@ pub fn segments_refusal(alloc: Global, segments: u32, ring: &Ring) -> Result<Ans
 }
 
 // Returns the report on a place that the ring has not.
-fn place_refusal(alloc: Global, place: u32, ring: &Ring) -> Result<Answer, EngineFault>
+fn place_refusal(alloc: Global, place: u32, ring: &Ring) -> Result<Answer, OutOfMemory>
     requires { length ring.now.places ≤ place }
-    ensures answer { IfOk result (λ r. Refuses (report.place_fault_line place) Status.RingRefused
+    ensures { IfOk result (λ r. Refuses (report.place_fault_line place) Status.RingRefused
         (of_place place (length ring.now.places)) (report_in r)) }
-    ensures fault { IfErr result (λ fault. fault ≡ EngineFault.Memory) }
 {
     let line = place_fault_line(alloc, place)?;
     let cause = Cause::Place {
@@ -79,14 +91,13 @@ pub fn trace_answer(
     base: Base,
     plan: &Plan,
     ids: Vec<u32>,
-) -> Result<Answer, EngineFault>
-    ensures answer { IfOk result (λ r. IsAnswerOnRing plan.now.ids (length plan.now.program.steps) ids.items
+) -> Result<Answer, OutOfMemory>
+    ensures { IfOk result (λ r. IsAnswerOnRing plan.now.ids (length plan.now.program.steps) ids.items
         (Says (trace_lines base plan.now.program ids.items) Status.Done) (report_in r)) }
-    ensures fault { IfErr result (λ fault. fault ≡ EngineFault.Memory) }
 {
-    match Ring::new(plan.shape(), ids) {
+    match ring_in(alloc, plan, ids) {
         Ok(ring) => Ok(Answer::Text(trace_text(alloc, base, plan, &ring)?, Status::Done)),
-        Err((ids, fault)) => ring_refusal(alloc, plan.shape(), ids, fault),
+        Err(refusal) => refusal.report(),
     }
 }
 
@@ -97,14 +108,13 @@ pub fn explain_answer(
     plan: &Plan,
     ids: Vec<u32>,
     place: u32,
-) -> Result<Answer, EngineFault>
-    ensures answer { IfOk result (λ r. IsAnswerOnRing plan.now.ids (length plan.now.program.steps) ids.items
+) -> Result<Answer, OutOfMemory>
+    ensures { IfOk result (λ r. IsAnswerOnRing plan.now.ids (length plan.now.program.steps) ids.items
         (IsExplainAnswer base plan.now.program ids.items place) (report_in r)) }
-    ensures fault { IfErr result (λ fault. fault ≡ EngineFault.Memory) }
 {
-    match Ring::new(plan.shape(), ids) {
+    match ring_in(alloc, plan, ids) {
         Ok(ring) => place_answer(alloc, base, plan, &ring, place),
-        Err((ids, fault)) => ring_refusal(alloc, plan.shape(), ids, fault),
+        Err(refusal) => refusal.report(),
     }
 }
 
@@ -115,10 +125,9 @@ fn place_answer(
     plan: &Plan,
     ring: &Ring,
     place: u32,
-) -> Result<Answer, EngineFault>
+) -> Result<Answer, OutOfMemory>
     requires { ring.now.ids ≡ plan.now.ids }
-    ensures answer { IfOk result (λ r. IsExplainAnswer base plan.now.program ring.now.places place (report_in r)) }
-    ensures fault { IfErr result (λ fault. fault ≡ EngineFault.Memory) }
+    ensures { IfOk result (λ r. IsExplainAnswer base plan.now.program ring.now.places place (report_in r)) }
 {
     if place >= ring.len() {
         return place_refusal(alloc, place, ring);

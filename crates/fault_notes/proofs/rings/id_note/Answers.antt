@@ -1,4 +1,4 @@
 use Rattle.fault_notes.proofs.rings.id_note.Goals as goal
 
 pub returns : goal.returns
-returns c = rw (← c.saturating_sub-largest.ensures) c.format.ensures.ok
+returns c = rw (← c.saturating_sub-largest.ensures) c.in_ok-format.ensures.ok

@@ -1,14 +1,16 @@
-use Rattle.std.proofs.Common.{◌≡◌, length}
-use Rattle.std.proofs.lemmas.Result.{IfOk-weaker}
-use Rattle.win_index.specs.RingFaults.{IsFirstFault}
-use Rattle.reports.proofs.NotRing.{not_ring}
+use Rattle.std.proofs.Common.{length}
+use Rattle.reports.specs.Answers.{report_in}
+use Rattle.reports.specs.Report.{IsNoRing, IsRunAnswer}
+use Rattle.reports.proofs.NotRing.{no_ring}
+use Rattle.reports.proofs.Refused.{told_by}
 use Rattle.plan_print.proofs.answer.run_answer.Goals as goal
 
 -- The list is not a ring.
-pub returns-in-Err-clause-answer : goal.returns-in-Err-clause-answer
-returns-in-Err-clause-answer g c =
-    let shape = c.shape-in-Err.ensures in
-    let list : c.in-Err.ids.items ≡ c.args.ids.items = λ i. (c.in-Err.ensures.err.0 i).items in
-    let first : IsFirstFault c.args.plan.now.ids (length c.args.plan.now.program.steps) c.args.ids.items c.in-Err.fault =
-    rw (c.shape.ensures.ids, c.shape.ensures.rounds) at c.in-Err.ensures.err.1 in
-    IfOk-weaker c.ring_refusal.result _ _ (λ r told. not_ring _ _ _ _ _ _ _ _ _ shape.ids shape.rounds list first told) c.ring_refusal.ensures.answer
+pub returns-in_ok-report-in-Err-clause-answer : goal.returns-in_ok-report-in-Err-clause-answer
+returns-in_ok-report-in-Err-clause-answer g c =
+    let m = c.args.plan.now.ids in
+    let t = length c.args.plan.now.program.steps in
+    let places = c.args.ids.items in
+    let answer = c.in_ok-report-in-Err.field-0 in
+    no_ring m t places (IsRunAnswer c.args.plan.now.program c.args.ids.items c.args.segments) (report_in answer)
+    (told_by (IsNoRing m t places) c.in-Err.refusal answer c.in-Err.ensures.refusal c.in_ok-report-in-Err.ensures)

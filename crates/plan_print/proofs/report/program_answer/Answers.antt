@@ -1,7 +1,7 @@
 use Rattle.plan_print.proofs.report.program_answer.Goals as goal
 
-pub returns-in-Check-clause-answer : goal.returns-in-Check-clause-answer
-returns-in-Check-clause-answer g c = rw c.in-Check.is c.check_answer.ensures.answer
+pub returns-in_ok-check_answer-in-Check-clause-answer : goal.returns-in_ok-check_answer-in-Check-clause-answer
+returns-in_ok-check_answer-in-Check-clause-answer g c = rw c.in-Check.is c.in_ok-check_answer-in-Check.ensures
 
 pub returns-in-Table-clause-answer : goal.returns-in-Table-clause-answer
 returns-in-Table-clause-answer g c = rw c.in-Table.is c.table_answer.ensures.answer
@@ -21,11 +21,11 @@ returns-in-Run-clause-answer g c = rw c.in-Run.is c.run_answer.ensures.answer
 pub returns-in-Run-clause-fault : goal.returns-in-Run-clause-fault
 returns-in-Run-clause-fault g c = rw c.in-Run.is c.run_answer.ensures.fault
 
-pub returns-in-Trace-clause-answer : goal.returns-in-Trace-clause-answer
-returns-in-Trace-clause-answer g c = rw c.in-Trace.is c.trace_answer.ensures.answer
+pub returns-in_ok-trace_answer-in-Trace-clause-answer : goal.returns-in_ok-trace_answer-in-Trace-clause-answer
+returns-in_ok-trace_answer-in-Trace-clause-answer g c = rw c.in-Trace.is c.in_ok-trace_answer-in-Trace.ensures
 
-pub returns-in-Explain-clause-answer : goal.returns-in-Explain-clause-answer
-returns-in-Explain-clause-answer g c = rw c.in-Explain.is c.explain_answer.ensures.answer
+pub returns-in_ok-explain_answer-in-Explain-clause-answer : goal.returns-in_ok-explain_answer-in-Explain-clause-answer
+returns-in_ok-explain_answer-in-Explain-clause-answer g c = rw c.in-Explain.is c.in_ok-explain_answer-in-Explain.ensures
 
 pub returns-in-Plan-clause-answer : goal.returns-in-Plan-clause-answer
 returns-in-Plan-clause-answer g c = rw c.in-Plan.is c.plan_answer.ensures.answer

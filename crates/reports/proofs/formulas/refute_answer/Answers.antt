@@ -9,7 +9,4 @@ pub returns-in_ok-line-in-Err : goal.returns-in_ok-line-in-Err
 returns-in_ok-line-in-Err c =
     let known : c.in-Err.fault ≢ OutOfMemory = search rules in
     let fault = subst (λ (p : Problem). IsFault p c.args.input.now c.in-Err.fault) c.requires.formula c.in-Err.ensures.fault in
-    record {
-      report = not_refuted c.requires.has c.in-Err.fault known fault (c.in_ok-line-in-Err.ensures, refl, refl);
-      fault = tt;
-    }
+    not_refuted c.requires.has c.in-Err.fault known fault (c.in_ok-line-in-Err.ensures, refl, refl)

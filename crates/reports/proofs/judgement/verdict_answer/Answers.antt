@@ -3,8 +3,8 @@ use Rattle.reports.specs.Causes.{of_no}
 use Rattle.reports.specs.Report.{bad, no_line}
 use Rattle.reports.proofs.judgement.verdict_answer.Goals as goal
 
-pub returns-in_ok-line-in-No-clause-answer : goal.returns-in_ok-line-in-No-clause-answer
-returns-in_ok-line-in-No-clause-answer c =
+pub returns-in_ok-line-in-No : goal.returns-in_ok-line-in-No
+returns-in_ok-line-in-No c =
     let witness = rw c.in-No.is at c.requires in
     let said =
     c.in_ok-line-in-No.ensures ∙ ap (λ ring. no_line c.args.separation ring c.in-No.places c.in-No.channels) c.deref.ensures.value in

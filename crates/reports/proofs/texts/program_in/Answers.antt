@@ -15,5 +15,4 @@ returns-in_ok-line-in-Err c =
         fault = c.in-Err.ensures.fault known;
         says = search rules;
       };
-      fault = tt;
     }

@@ -9,5 +9,4 @@ returns-in_ok-line-in-Err c =
       table = tt;
       range = tt;
       refusal = record { what = c.in-Err.fault; known = known; fault = c.in-Err.ensures.fault; says = (c.in_ok-line-in-Err.ensures, refl, refl) };
-      fault = tt;
     }

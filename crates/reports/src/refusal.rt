@@ -1,0 +1,47 @@
+//! Why an input has not what is asked for.
+
+ghost use Rattle.std.specs.Prelude.{◌≡◌};
+ghost use Rattle.reports.specs.declared.refusal.Refusal.TheVariants.{OutOfMemory as NoMemory};
+
+use crate::answer::Answer;
+use node_program::OutOfMemory;
+use std::alloc::AllocError;
+
+/// Why an input has not what is asked for.
+#[derive(Drop)]
+pub enum Refusal {
+    /// It is refused. This is the report.
+    Told(Answer),
+    /// Memory was refused.
+    OutOfMemory,
+}
+
+impl Refusal {
+    ghost use Rattle.std.specs.Prelude.{◌≡◌, IfOk};
+
+    /// Returns the report. Fails if memory was refused.
+    pub fn report(self) -> Result<Answer, OutOfMemory>
+        ensures { IfOk result (λ answer. self ≡ Refusal.Told answer) }
+    {
+        match self {
+            Refusal::Told(answer) => Ok(answer),
+            Refusal::OutOfMemory => Err(OutOfMemory),
+        }
+    }
+}
+
+impl From<AllocError> for Refusal {
+    ghost from_gives = { λ _ refusal. refusal ≡ NoMemory };
+
+    fn from(_refused: AllocError) -> Refusal {
+        Refusal::OutOfMemory
+    }
+}
+
+impl From<OutOfMemory> for Refusal {
+    ghost from_gives = { λ _ refusal. refusal ≡ NoMemory };
+
+    fn from(_refused: OutOfMemory) -> Refusal {
+        Refusal::OutOfMemory
+    }
+}
