@@ -1,8 +1,9 @@
 -- The notes on a no of the judge, and on a yes about no ring.
-use Rattle.std.specs.Prelude.{ℕ, ◌+◌, ◌==◌, ◌++◌, List, [], ◌∷◌, slice_index, codes, if◌then◌else◌}
+use Rattle.std.specs.Prelude.{ℕ, ◌+◌, ◌<◌, ◌≤◌, ◌==◌, ◌++◌, List, [], ◌∷◌, length, slice_index, codes, if◌then◌else◌}
 use Rattle.std.specs.List.{flat_map}
 use Rattle.std.specs.Fmt.{decimal}
 use Rattle.win_index.specs.Arcs.{window_around}
+use Rattle.win_index.specs.declared.limits.TheConstants.{MAX_IDS, MAX_ROUNDS}
 
 -- numbers in decimal, separated by `between`
 abbrev pub joined : List ℕ → List ℕ → List ℕ
@@ -26,6 +27,14 @@ channels_text channels = if channels.0 == channels.1 then codes "channel " ++ de
 abbrev pub windows_text : ℕ → List ℕ → ℕ × ℕ → List ℕ
 windows_text t ring places =
     codes "; their windows are " ++ (joined (codes " ") (window_around ring t places.0) ++ (codes " and " ++ (joined (codes " ") (window_around ring t places.1) ++ codes "\n")))
+
+-- the places are two of a ring's, which is long enough for the windows of so many rounds
+pub record HasPlaces (t : ℕ) (ring : List ℕ) (places : ℕ × ℕ) : Type 0 where
+  pub few_rounds : t ≤ MAX_ROUNDS
+  pub long : t ≤ length ring
+  pub short : length ring ≤ MAX_IDS
+  pub first : places.0 < length ring
+  pub second : places.1 < length ring
 
 -- the note that on this ring the nodes at two places have these channels; t is the number of rounds
 abbrev pub verdict_note : ℕ → List ℕ → ℕ × ℕ → ℕ × ℕ → List ℕ

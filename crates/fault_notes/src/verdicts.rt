@@ -3,7 +3,7 @@
 ghost use Rattle.std.specs.Prelude.{◌≡◌, ◌++◌, ◌<◌, ◌≤◌, length, codes, IfOk, OnOk, string_bytes};
 ghost use Rattle.win_index.specs.Arcs.{window_around};
 ghost use Rattle.win_index.specs.declared.limits.TheConstants.{MAX_IDS, MAX_ROUNDS};
-ghost use Rattle.fault_notes.specs.VerdictNotes.{joined, distance_text, pair_text, channels_text, no_tuples_note, windows_text, verdict_note};
+ghost use Rattle.fault_notes.specs.VerdictNotes.{joined, distance_text, pair_text, channels_text, no_tuples_note, windows_text, verdict_note, HasPlaces};
 
 use crate::numbers::write_joined;
 use node_program::OutOfMemory;
@@ -30,11 +30,7 @@ pub fn verdict_note(
     places: (u32, u32),
     channels: (u32, u32),
 ) -> Result<String, OutOfMemory>
-    requires rounds { rounds ≤ MAX_ROUNDS }
-    requires long { rounds ≤ length ring.now }
-    requires few { length ring.now ≤ MAX_IDS }
-    requires first { places.0 < length ring.now }
-    requires second { places.1 < length ring.now }
+    requires { HasPlaces rounds ring.now places }
     ensures { IfOk result (λ note. string_bytes note ≡ verdict_note rounds ring.now places channels) }
 {
     let mut note = String::new(alloc);
@@ -126,11 +122,7 @@ fn write_windows(
     ring: &[u32],
     places: (u32, u32),
 ) -> Result<(), AllocError>
-    requires rounds { rounds ≤ MAX_ROUNDS }
-    requires long { rounds ≤ length ring.now }
-    requires few { length ring.now ≤ MAX_IDS }
-    requires first { places.0 < length ring.now }
-    requires second { places.1 < length ring.now }
+    requires { HasPlaces rounds ring.now places }
     ensures { OnOk result (string_bytes out.new ≡ string_bytes out.old ++ windows_text rounds ring.now places) }
 {
     out.push_str("; their windows are ")?;

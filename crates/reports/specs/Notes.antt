@@ -2,7 +2,6 @@
 use Rattle.std.specs.Prelude.{◌≡◌, ◌≢◌, ℕ, ◌<◌, ◌≤◌, List, Option, Some, None, Result, Ok, Err, String, ⊤, length, string_bytes}
 use Rattle.std.specs.declared.alloc.Global.{Global}
 use Rattle.node_program.specs.declared.limits.TheConstants.{MAX_ROUNDS}
-use Rattle.win_index.specs.declared.limits.TheConstants.{MAX_IDS}
 use Rattle.node_program.specs.declared.memory.OutOfMemory.{OutOfMemory}
 use Rattle.node_lang.specs.Faults.{FaultsAt}
 use Rattle.win_index.specs.RingFaults.{IsFirstFault}
@@ -15,7 +14,7 @@ use Rattle.fault_notes.specs.TextNotes.{IsTextNote, too_long_note}
 use Rattle.fault_notes.specs.ProgramNotes.{IsCheckNote}
 use Rattle.fault_notes.specs.RingNotes.{place_note, ring_note, segments_note}
 use Rattle.fault_notes.specs.TableNotes.{long_note, IsFormNote, IsWindowNote, channel_note}
-use Rattle.fault_notes.specs.VerdictNotes.{no_tuples_note, verdict_note}
+use Rattle.fault_notes.specs.VerdictNotes.{no_tuples_note, verdict_note, HasPlaces}
 use Rattle.refutation.specs.declared.fault.RefuteError.TheVariants as refute
 use Rattle.reports.specs.Causes.{Reason, of_text, of_program, of_ring, of_place, of_segments, of_table_text, of_formula, of_refutation, of_no, of_no_tuples}
 use Rattle.reports.specs.FormulaNotes.{IsFormulaNote, refutation_note}
@@ -57,6 +56,5 @@ IsFound input (of_ring m t places f) = (t ≤ MAX_ROUNDS) × IsFirstFault m t pl
 IsFound input (of_table_text f) = (f ≢ table.OutOfMemory) × IsFault input f
 IsFound input (of_formula m t f) = t ≤ MAX_ROUNDS
 IsFound input (of_refutation f) = f ≢ refute.OutOfMemory
-IsFound input (of_no t ring places channels) =
-    (t ≤ MAX_ROUNDS) × (t ≤ length ring) × (length ring ≤ MAX_IDS) × (places.0 < length ring) × (places.1 < length ring)
+IsFound input (of_no t ring places channels) = HasPlaces t ring places
 IsFound input _ = ⊤

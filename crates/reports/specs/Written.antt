@@ -1,6 +1,6 @@
 -- The effect of writing a report on the writer, and the faults of a task.
-use Rattle.std.specs.Prelude.{◌<◌, ℕ, List, Option, ⊤}
-use Rattle.std.specs.Io.KnownBytes.{Keeps}
+use Rattle.std.specs.Prelude.{◌≢◌, ◌↔◌, ◌<◌, ℕ, Bool, List, Option, Result, IfErr, IsErrOf, IsTrue, OnOk, ⊤}
+use Rattle.std.specs.Io.KnownBytes.{Appends, Keeps}
 use Rattle.devices.specs.declared.fault.EngineFault.{EngineFault}
 use Rattle.devices.specs.declared.fault.EngineFault.TheVariants.{Read, Write, Memory, Thread, Stranger}
 use Rattle.devices.specs.Output.{AppendsFront}
@@ -18,3 +18,12 @@ MayHave count Write = ⊤
 MayHave count Memory = ⊤
 MayHave count Thread = 1 < count
 MayHave count Stranger = 0 < count
+
+-- What writing a report of these bytes does: with Ok they were written; a fault leaves in the writer what it leaves, and is no
+-- fault of a read or of threads; it is Write exactly if a write failed.
+pub record WritesBytes {T : Type 0} (bytes : List ℕ) (before after : Option (List ℕ)) (failed : Bool) (result : Result T EngineFault) : Type 0 where
+  pub written : OnOk result (Appends before after bytes)
+  pub left : IfErr result (LeavesFront bytes before after)
+  pub unread : IfErr result (λ fault. fault ≢ Read)
+  pub own : IfErr result (MayHave 0)
+  pub told : IsErrOf result Write ↔ IsTrue failed

@@ -30,22 +30,6 @@ pub fn verdict_and_drop<T: Threads + Sync>(
         drop(memo);
         return judge_with_workers(rt, alloc, table, separation, workers);
     }
-    judge_and_drop_memo(rt, alloc, table, separation, workers, memo)
-}
-
-// Returns the judge's verdict on a table, by this many workers, and drops a memo at the same time.
-// This function exists to prove with few values in scope that a memo can be sent to a thread.
-fn judge_and_drop_memo<T: Threads + Sync>(
-    rt: &T,
-    alloc: Global,
-    table: &Table,
-    separation: Separation,
-    workers: u32,
-    memo: Memo<'_>,
-) -> Result<Verdict, OutOfMemory>
-    ensures verdict { IfOk result (IsVerdict table.now separation) }
-    ensures memory { OnErr result (¬ IsApartEverywhere table.now separation) }
-{
     judge_and_drop(rt, alloc, table, separation, workers, memo)
 }
 

@@ -1,14 +1,13 @@
 //! Writing a report.
 
-ghost use Rattle.std.specs.Prelude.{◌≡◌, ◌≢◌, ◌↔◌, false, IsTrue, IfOk, IfErr, OnOk, IsErrOf};
-ghost use Rattle.std.specs.Io.KnownBytes.{Appends};
+ghost use Rattle.std.specs.Prelude.{◌≡◌, false, IfOk};
 ghost use Rattle.devices.specs.Watched.{device_of, has_failed};
 ghost use Rattle.table_text.specs.LineForms.{IsSeparation};
 ghost use Rattle.table_text.specs.TableText.{table_text};
 ghost use Rattle.table_formula.specs.Texts.{formula_text};
 ghost use Rattle.reports.specs.Answers.{report_in};
 ghost use Rattle.reports.specs.Causes.{reason_in};
-ghost use Rattle.reports.specs.Written.{LeavesFront, MayHave};
+ghost use Rattle.reports.specs.Written.{WritesBytes};
 
 use crate::answer::{Answer, TableReport};
 use crate::cause::Cause;
@@ -32,12 +31,8 @@ pub fn write_answer<W: Write>(
     writer: &mut Watched<W>,
 ) -> Result<(Status, Option<Cause>), EngineFault>
     requires { has_failed writer.old ≡ false }
-    ensures report { IfOk result (λ told. Appends (W.contents (device_of writer.old)) (W.contents (device_of writer.new)) (report_in answer).bytes
-        × (told.0 ≡ (report_in answer).status) × (reason_in told.1 ≡ (report_in answer).cause)) }
-    ensures left { IfErr result (LeavesFront (report_in answer).bytes (W.contents (device_of writer.old)) (W.contents (device_of writer.new))) }
-    ensures fault { IfErr result (λ fault. fault ≢ EngineFault.Read) }
-    ensures own { IfErr result (MayHave 0) }
-    ensures failed { IsErrOf result EngineFault.Write ↔ IsTrue (has_failed writer.new) }
+    ensures writes { WritesBytes (report_in answer).bytes (W.contents (device_of writer.old)) (W.contents (device_of writer.new)) (has_failed writer.new) result }
+    ensures told { IfOk result (λ told. (told.0 ≡ (report_in answer).status) × (reason_in told.1 ≡ (report_in answer).cause)) }
 {
     match answer {
         Answer::Text(text, status) => {
@@ -68,11 +63,7 @@ fn write_table_text<W: Write>(
 ) -> Result<(), EngineFault>
     requires separation { IsSeparation separation }
     requires writes { has_failed writer.old ≡ false }
-    ensures report { OnOk result (Appends (W.contents (device_of writer.old)) (W.contents (device_of writer.new)) (table_text table.now separation)) }
-    ensures left { IfErr result (LeavesFront (table_text table.now separation) (W.contents (device_of writer.old)) (W.contents (device_of writer.new))) }
-    ensures fault { IfErr result (λ fault. fault ≢ EngineFault.Read) }
-    ensures own { IfErr result (MayHave 0) }
-    ensures failed { IsErrOf result EngineFault.Write ↔ IsTrue (has_failed writer.new) }
+    ensures { WritesBytes (table_text table.now separation) (W.contents (device_of writer.old)) (W.contents (device_of writer.new)) (has_failed writer.new) result }
 {
     match write_table(alloc, table, separation, writer) {
         Ok(()) => Ok(()),
@@ -88,11 +79,7 @@ fn write_formula_text<W: Write>(
     writer: &mut Watched<W>,
 ) -> Result<(), EngineFault>
     requires { has_failed writer.old ≡ false }
-    ensures report { OnOk result (Appends (W.contents (device_of writer.old)) (W.contents (device_of writer.new)) (formula_text formula.now)) }
-    ensures left { IfErr result (LeavesFront (formula_text formula.now) (W.contents (device_of writer.old)) (W.contents (device_of writer.new))) }
-    ensures fault { IfErr result (λ fault. fault ≢ EngineFault.Read) }
-    ensures own { IfErr result (MayHave 0) }
-    ensures failed { IsErrOf result EngineFault.Write ↔ IsTrue (has_failed writer.new) }
+    ensures { WritesBytes (formula_text formula.now) (W.contents (device_of writer.old)) (W.contents (device_of writer.new)) (has_failed writer.new) result }
 {
     match write_formula(alloc, formula, writer) {
         Ok(()) => Ok(()),

@@ -1,10 +1,8 @@
 //! The words of the command line.
 
-ghost use Rattle.std.specs.Prelude.{◌≡◌, ◌≢◌, ◌↔◌, map, IsOk, IsErrOf, IfOk, string_bytes};
-ghost use Rattle.task_words.specs.Answers.{IsUnread};
-ghost use Rattle.task_words.specs.Task.{IsInRange};
-ghost use Rattle.task_words.specs.Words.{IsCommand, AsksForHelp, IsRefused, HasBadRing, IsTaskOf};
-ghost use Rattle.task_words.specs.WordsFault.{MemoryAside, IsUsage, IsHelp, IsNotUtf8};
+ghost use Rattle.std.specs.Prelude.{◌≡◌, ◌≢◌, map, IfOk, string_bytes};
+ghost use Rattle.task_words.specs.Answers.{IsAnswer, IsUnread};
+ghost use Rattle.task_words.specs.WordsFault.{IsNotUtf8};
 ghost use Rattle.task_words.specs.declared.words.WordsFault.TheVariants.{OutOfMemory};
 ghost use Rattle.std.specs.IoError.{error_kind};
 
@@ -87,38 +85,15 @@ pub fn words_fault(alloc: Global, error: io::Error) -> Result<WordsFault, AllocE
 }
 
 /// Returns the task that the words after the program's name request, by the rules of `clap`: the
-/// name of a command, and its options in any order, each with one value. The commands are:
-///
-/// - `check --ids M`
-/// - `print`
-/// - `table --ids M [--workers W] [--near P] [--far Q]`
-/// - `judge --ids M [--workers W] [--near P] [--far Q]`
-/// - `run --ids M --ring A,B,.. [--segments S]`
-/// - `trace --ids M --ring A,B,.. [--base B]`
-/// - `explain --ids M --ring A,B,.. --place P [--base B]`
-/// - `plan --ids M --ring A,B,.. [--workers W]`
-/// - `audit`
-/// - `migrate`
-/// - `formula --ids M --rounds T --channels C [--near P] [--far Q]`
-/// - `refute --ids M --rounds T --channels C [--near P] [--far Q]`
-///
-/// `M` is a decimal number up to 4294967295, and so is the place `P` of `explain`. `W` and `S` are
-/// such numbers from 1 to `MAX_COUNT`, 1 by default. The `P` of `--near` is one from 1 to
-/// `MAX_DISTANCE`, 1 by default, and `Q` one from 0 to `MAX_DISTANCE`, 0 by default. `B` is one
-/// from `MIN_BASE` to `MAX_BASE`, 10 by default. `T` is one up to `MAX_ROUNDS`, and `C` one from 1 to `MAX_CHANNELS`.
-/// The value of `--ring` is a ring text.
+/// name of a command, and its options in any order, each with one value. The table of commands and
+/// options is in `rows.rt`. The value of `--ring` is a ring text, any other one a decimal number in
+/// the range of its option.
 ///
 /// Fails with `Usage` if `clap` refuses the words, with `BadRing` if it accepts them but the value
 /// of `--ring` is not a ring text, with `Help` if they ask for help, and with `OutOfMemory` if
 /// memory was refused.
 pub fn task_of(alloc: Global, words: &[String]) -> Result<Task, WordsFault>
-    ensures task { IfOk result (λ task. IsCommand (map string_bytes words.now) × IsTaskOf (map string_bytes words.now) task) }
-    ensures range { IfOk result IsInRange }
-    ensures ok { MemoryAside result (IsOk result
-        ↔ (IsCommand (map string_bytes words.now) × ¬ HasBadRing (map string_bytes words.now))) }
-    ensures bad_ring { MemoryAside result (IsErrOf result WordsFault.BadRing ↔ HasBadRing (map string_bytes words.now)) }
-    ensures usage { IsUsage result → IsRefused (map string_bytes words.now) }
-    ensures help { IsHelp result → AsksForHelp (map string_bytes words.now) }
+    ensures { IsAnswer (map string_bytes words.now) result }
 {
     options_have_values();
     let matches = parsed(alloc, words)?;

@@ -24,10 +24,10 @@ returns g c =
           read = read;
           report = report;
           is_report = subst (λ (input : List ℕ). IsReport c.args.task input report) c.deref.ensures.value c.in_ok-answer.ensures.report;
-          written = c.in_ok-status.ensures.report.0;
-          status_is = c.in_ok-status.ensures.report.1;
+          written = c.in_ok-status.ensures.writes.written;
+          status_is = c.in_ok-status.ensures.told.0;
         };
-        note = subst (λ (cause : Option Reason). IsNoteOn input cause c.note_of-note.result) c.in_ok-status.ensures.report.2 note;
+        note = subst (λ (cause : Option Reason). IsNoteOn input cause c.note_of-note.result) c.in_ok-status.ensures.told.1 note;
       };
       left = tt;
       taken = tt;
@@ -41,5 +41,5 @@ pub note_of-note-requires : goal.note_of-note-requires
 note_of-note-requires g c =
     let report = report_in c.in_ok-answer.answer in
     let is = found c.one_witness.ensures.places c.args.task c.requires.runnable c.deref.result.now report c.in_ok-answer.ensures.report in
-    subst (λ (cause : Option Reason). IfSome cause (IsFound c.deref-2.result.now)) (sym c.in_ok-status.ensures.report.2)
+    subst (λ (cause : Option Reason). IfSome cause (IsFound c.deref-2.result.now)) (sym c.in_ok-status.ensures.told.1)
     (subst (λ (input : List ℕ). IfSome report.cause (IsFound input)) (c.deref.ensures.value ∙ sym c.deref-2.ensures.value) is)

@@ -20,20 +20,18 @@ call : (c : Joined-matches) → IsCallOf (map string_bytes c.args.words.now) c.i
 call c =
     call_is (map string_bytes c.args.words.now) c.in_ok-matches.matches c.subcommand.result c.subcommand.ensures.name c.subcommand.ensures.rows c.in_ok-matches.ensures.rows ∙ ap met_of c.in-Some.is
 
-pub returns-clause-task : goal.returns-clause-task
-returns-clause-task c = task_is c.task_in.result _ _ _ c.in_ok-matches.ensures.taken (call c) c.task_in.ensures.task
-
-pub returns-clause-range : goal.returns-clause-range
-returns-clause-range c = c.task_in.ensures.range
-
-pub returns-clause-ok : goal.returns-clause-ok
-returns-clause-ok c = is_ok c.task_in.result _ _ _ c.in_ok-matches.ensures.taken (call c) c.task_in.ensures.good c.task_in.ensures.refused
-
-pub returns-clause-bad_ring : goal.returns-clause-bad_ring
-returns-clause-bad_ring c = is_bad_ring c.task_in.result _ _ _ c.in_ok-matches.ensures.taken (call c) c.task_in.ensures.good c.task_in.ensures.refused
-
-pub returns-clause-usage : goal.returns-clause-usage
-returns-clause-usage c usage = no_text c.task_in.result c.in-Some.name.now (rows_of (found_of c.in-Some.options.now)) c.task_in.ensures.refused (inl usage)
-
-pub returns-clause-help : goal.returns-clause-help
-returns-clause-help c help = no_text c.task_in.result c.in-Some.name.now (rows_of (found_of c.in-Some.options.now)) c.task_in.ensures.refused (inr help)
+pub returns : goal.returns
+returns c =
+    let words = map string_bytes c.args.words.now in
+    let name = c.in-Some.name.now in
+    let values = rows_of (found_of c.in-Some.options.now) in
+    let taken = c.in_ok-matches.ensures.taken in
+    let told = c.task_in.ensures in
+    record {
+      task = task_is c.task_in.result words name values taken (call c) told.task;
+      range = told.range;
+      ok = is_ok c.task_in.result words name values taken (call c) told.good told.refused;
+      bad_ring = is_bad_ring c.task_in.result words name values taken (call c) told.good told.refused;
+      usage = λ usage. no_text c.task_in.result name values told.refused (inl usage);
+      help = λ help. no_text c.task_in.result name values told.refused (inr help);
+    }
