@@ -5,7 +5,7 @@ ghost use Rattle.shared_memo.specs.Outcomes.{outcome_worker, AreOutcomes, IsLowe
 
 use crate::desk::{Desk, Ticket};
 use crate::fault::{CrewFault, RefusedStart, WorkFault};
-use crate::worker::{Fills, Leaves, Outcome, Worker, fill_all};
+use crate::worker::{Jobs, Outcome, Worker, fill_all};
 use node_program::OutOfMemory;
 use round_eval::Gate;
 use std::alloc::Global;
@@ -25,69 +25,69 @@ impl Promise<Outcome> for OutcomeOf {
 type Handle = PromisedHandle<Outcome, OutcomeOf>;
 
 /// Fills jobs with `workers` workers, 1 to `MAX_THREADS`, that draw them at one desk. A single worker
-/// runs on the calling thread and returns what it learned; several run on a thread each.
+/// runs on the calling thread, and what it knows then is returned; several run on a thread each.
 ///
 /// Fails with `NoThread` if the start of a thread was refused, else with the fault of the lowest
 /// worker that has one. All workers that were started have ended before the call returns. Memory of
 /// the caller's own is allocated before the first start.
-pub fn fill_by_workers<R: Threads + Wait + Sync, M: Leaves + Sync, G: Gate + Sync>(
+pub fn fill_by_workers<R: Threads + Wait + Sync, J: Jobs + Sync, G: Gate + Sync>(
     rt: &R,
     alloc: Global,
-    memo: &M,
+    jobs: &J,
     workers: u32,
     gate: &G,
-) -> Result<Option<M::Left>, CrewFault>
+) -> Result<Option<J::Known>, CrewFault>
     requires { IsWorkerCount workers }
-    ensures one { IfOk result (λ left. MatchOption left (1 < workers) (λ _. workers ≡ 1)) }
-    ensures left { IfOk result (λ left. IfSome left (M.IsLeft memo.now)) }
+    ensures one { IfOk result (λ known. MatchOption known (1 < workers) (λ _. workers ≡ 1)) }
+    ensures known { IfOk result (λ known. IfSome known (J.IsKnown jobs.now)) }
     ensures alone { IfErr result (λ fault. fault ≡ CrewFault.NoThread → 1 < workers) }
 {
-    let (desk, mut tickets) = Desk::new(alloc, memo.total(), workers)?;
+    let (desk, mut tickets) = Desk::new(alloc, jobs.count(), workers)?;
     if workers > 1 {
-        let _outcomes = fill_at(rt, alloc, memo, &desk, tickets, gate)?;
+        let _outcomes = fill_at(rt, alloc, jobs, &desk, tickets, gate)?;
         return Ok(None);
     }
     let Some(mut ticket) = tickets.pop() else {
         unreachable!()
     };
-    Ok(Some(memo.work_alone(alloc, &desk, &mut ticket, gate)?))
+    Ok(Some(jobs.fill(alloc, &desk, &mut ticket, gate)?))
 }
 
 // Makes a worker for each ticket, and runs each on a thread of its own. Returns what they came to,
 // if none has a fault.
-fn fill_at<R: Threads + Wait + Sync, M: Fills + Sync, G: Gate + Sync>(
+fn fill_at<R: Threads + Wait + Sync, J: Jobs + Sync, G: Gate + Sync>(
     rt: &R,
     alloc: Global,
-    memo: &M,
+    jobs: &J,
     desk: &Desk,
     tickets: Vec<Ticket>,
     gate: &G,
 ) -> Result<Vec<Outcome>, CrewFault>
     requires tickets { All (IsFreshTicketOf desk.now) tickets.items }
     requires workers { AreNumbered tickets.items worker_of }
-    requires jobs { numbers_of desk.now ≡ M.jobs memo.now }
+    requires jobs { numbers_of desk.now ≡ J.jobs jobs.now }
     ensures each { IfOk result (λ outcomes. AreOutcomes (vec_len tickets) outcomes.items) }
     ensures fine { IfOk result (λ outcomes. IsLowestFault outcomes.items (Ok tt)) }
 {
     let handles = Vec::with_capacity(alloc, tickets.len())?;
     let outcomes = Vec::with_capacity(alloc, tickets.len())?;
-    let crew = crew_of(alloc, memo, desk, tickets, gate)?;
+    let crew = crew_of(alloc, jobs, desk, tickets, gate)?;
     let outcomes = run_all(rt, crew, handles, outcomes)?;
     lowest_fault(&outcomes)?;
     Ok(outcomes)
 }
 
 // A worker for each ticket, in the order of the tickets.
-fn crew_of<'d, 'm, 'g, M: Fills, G: Gate>(
+fn crew_of<'d, 'j, 'g, J: Jobs, G: Gate>(
     alloc: Global,
-    memo: &'m M,
+    jobs: &'j J,
     desk: &'d Desk,
     tickets: Vec<Ticket>,
     gate: &'g G,
-) -> Result<Vec<Worker<'d, 'm, 'g, M, G>>, OutOfMemory>
+) -> Result<Vec<Worker<'d, 'j, 'g, J, G>>, OutOfMemory>
     requires tickets { All (IsFreshTicketOf desk.now) tickets.items }
     requires workers { AreNumbered tickets.items worker_of }
-    requires jobs { numbers_of desk.now ≡ M.jobs memo.now }
+    requires jobs { numbers_of desk.now ≡ J.jobs jobs.now }
     ensures count { IfOk result (λ crew. vec_len crew ≡ vec_len tickets) }
     ensures workers { IfOk result (λ crew. AreNumbered crew.items (λ worker. worker_of worker.ticket)) }
 {
@@ -95,7 +95,7 @@ fn crew_of<'d, 'm, 'g, M: Fills, G: Gate>(
     for ticket in tickets {
         crew.push_reserved(Worker {
             alloc,
-            memo,
+            jobs,
             desk,
             gate,
             ticket,
@@ -106,9 +106,9 @@ fn crew_of<'d, 'm, 'g, M: Fills, G: Gate>(
 
 // Runs each worker on a thread of its own, until all have ended. Returns what they came to, or that
 // the start of a thread was refused.
-fn run_all<'d, 'm, 'g, R: Threads + Wait + Sync, M: Fills + Sync, G: Gate + Sync>(
+fn run_all<'d, 'j, 'g, R: Threads + Wait + Sync, J: Jobs + Sync, G: Gate + Sync>(
     rt: &R,
-    crew: Vec<Worker<'d, 'm, 'g, M, G>>,
+    crew: Vec<Worker<'d, 'j, 'g, J, G>>,
     handles: Vec<Handle>,
     outcomes: Vec<Outcome>,
 ) -> Result<Vec<Outcome>, RefusedStart>
@@ -134,16 +134,16 @@ fn run_all<'d, 'm, 'g, R: Threads + Wait + Sync, M: Fills + Sync, G: Gate + Sync
 fn run_in_scope<
     's,
     'd: 's,
-    'm: 's,
+    'j: 's,
     'g: 's,
     E,
     R: Threads,
-    M: Fills + Sync + 's,
+    J: Jobs + Sync + 's,
     G: Gate + Sync + 's,
 >(
     rt: &R,
     scope: &Scope<'s, E>,
-    crew: Vec<Worker<'d, 'm, 'g, M, G>>,
+    crew: Vec<Worker<'d, 'j, 'g, J, G>>,
     mut handles: Vec<Handle>,
     outcomes: Vec<Outcome>,
 ) -> Result<Vec<Outcome>, RefusedStart>
@@ -162,9 +162,9 @@ fn run_in_scope<
 }
 
 // Starts workers until a start is refused, and returns whether all were started.
-fn start_all<'s, 'd: 's, 'm: 's, 'g: 's, E, M: Fills + Sync + 's, G: Gate + Sync + 's>(
+fn start_all<'s, 'd: 's, 'j: 's, 'g: 's, E, J: Jobs + Sync + 's, G: Gate + Sync + 's>(
     scope: &Scope<'s, E>,
-    crew: Vec<Worker<'d, 'm, 'g, M, G>>,
+    crew: Vec<Worker<'d, 'j, 'g, J, G>>,
     handles: &mut Vec<Handle>,
 ) -> bool
     requires workers { AreNumbered crew.items (λ worker. worker_of worker.ticket) }
@@ -184,22 +184,27 @@ fn start_all<'s, 'd: 's, 'm: 's, 'g: 's, E, M: Fills + Sync + 's, G: Gate + Sync
 }
 
 // Starts a worker on a thread, or returns `None` if the start was refused.
-fn start_one<'s, 'd: 's, 'm: 's, 'g: 's, E, M: Fills + Sync + 's, G: Gate + Sync + 's>(
+fn start_one<'s, 'd: 's, 'j: 's, 'g: 's, E, J: Jobs + Sync + 's, G: Gate + Sync + 's>(
     scope: &Scope<'s, E>,
-    worker: Worker<'d, 'm, 'g, M, G>,
+    worker: Worker<'d, 'j, 'g, J, G>,
 ) -> Option<Handle>
     ensures { IfSome result (λ handle. handle.promise.0 ≡ worker_of worker.entry.ticket) }
 {
     let Worker {
         alloc,
-        memo,
+        jobs,
         desk,
         gate,
         ticket,
     } = worker;
     let promise = OutcomeOf(ticket.worker());
     scope
-        .spawn_with(promise, move || fill_all(alloc, memo, desk, gate, ticket))
+        .spawn_with(
+            promise,
+            move || -> Outcome
+                requires { IsFreshTicketOf desk.now ticket × (numbers_of desk.now ≡ J.jobs jobs.now) }
+            { fill_all(alloc, jobs, desk, gate, ticket) },
+        )
         .ok()
 }
 

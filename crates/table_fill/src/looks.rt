@@ -22,13 +22,13 @@ pub(crate) fn look_at_all<'a>(memo: &Memo<'a>, pass: &mut Pass<'a>) -> bool
     true
 }
 
-// Adds what a single worker learned to the pass.
-pub(crate) fn learn_left<'a>(memo: &Memo<'a>, pass: &mut Pass<'a>, left: Option<Pass<'a>>)
+// Merges the pass of a single worker, if there was one, into `pass`.
+pub(crate) fn learn_from<'a>(memo: &Memo<'a>, pass: &mut Pass<'a>, known: Option<Pass<'a>>)
     requires pass { IsPassOf memo.now pass.old }
-    requires left { IfSome left (IsPassOf memo.now) }
+    requires known { IfSome known (IsPassOf memo.now) }
     ensures learned { HasLearned memo.now pass.old pass.new }
 {
-    if let Some(mut left) = left {
-        memo.learn(pass, &mut left);
+    if let Some(mut known) = known {
+        memo.learn(pass, &mut known);
     }
 }

@@ -18,7 +18,7 @@ pub(crate) struct MemoFill<'m, 'a> {
     pub(crate) ghost one_plan: { code.now ≡ memo.now.plan.now },
 }
 
-// Fills a memo with this many workers. A single worker returns its pass. That threads can share a
+// Fills a memo with this many workers. A single worker's pass is returned. That threads can share a
 // memo is proved here, where few values are in scope.
 pub(crate) fn fill_memo<'a, R: Threads + Wait + Sync, G: Gate + Sync>(
     rt: &R,
@@ -28,8 +28,8 @@ pub(crate) fn fill_memo<'a, R: Threads + Wait + Sync, G: Gate + Sync>(
     gate: &G,
 ) -> Result<Option<Pass<'a>>, CrewFault>
     requires { IsWorkerCount workers }
-    ensures one { IfOk result (λ left. MatchOption left (1 < workers) (λ _. workers ≡ 1)) }
-    ensures left { IfOk result (λ left. IfSome left (IsPassOf fill.now.memo.now)) }
+    ensures one { IfOk result (λ known. MatchOption known (1 < workers) (λ _. workers ≡ 1)) }
+    ensures known { IfOk result (λ known. IfSome known (IsPassOf fill.now.memo.now)) }
     ensures alone { IfErr result (λ fault. fault ≡ CrewFault.NoThread → 1 < workers) }
 {
     fill_by_workers(rt, alloc, fill, workers, gate)

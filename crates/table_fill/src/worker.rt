@@ -10,38 +10,25 @@ use crate::cell_maker::CellMaker;
 use crate::memo_fill::MemoFill;
 use crate::own_reader::OwnReader;
 use round_eval::Gate;
-use shared_memo::{Desk, Fills, Leaves, Pass, Ticket, WorkFault};
+use shared_memo::{Desk, Jobs, Pass, Ticket, WorkFault};
 use std::alloc::Global;
 use unroll::BlockMaker;
 use win_index::jobs_have_numbers;
 
-impl<'m, 'a> Fills for MemoFill<'m, 'a> {
+impl<'m, 'a> Jobs for MemoFill<'m, 'a> {
+    type Known = Pass<'a>;
+
     ghost jobs = { λ f. job_count (memo_plan f.memo.now) };
 
-    fn total(&self) -> u32 {
+    ghost IsKnown = { λ f pass. IsPassOf f.memo.now pass };
+
+    ghost KnowsFilled = { λ pass jobs. AreKnown pass.plan.now (known pass) jobs };
+
+    fn count(&self) -> u32 {
         self.memo.plan().shape().jobs()
     }
 
-    fn work<G: Gate>(
-        &self,
-        alloc: Global,
-        desk: &Desk,
-        ticket: &mut Ticket,
-        gate: &G,
-    ) -> Result<(), WorkFault> {
-        let _pass = self.work_alone(alloc, desk, ticket, gate)?;
-        Ok(())
-    }
-}
-
-impl<'m, 'a> Leaves for MemoFill<'m, 'a> {
-    type Left = Pass<'a>;
-
-    ghost IsLeft = { λ f pass. IsPassOf f.memo.now pass };
-
-    ghost KnowsJobs = { λ pass jobs. AreKnown pass.plan.now (known pass) jobs };
-
-    fn work_alone<G: Gate>(
+    fn fill<G: Gate>(
         &self,
         alloc: Global,
         desk: &Desk,

@@ -6,8 +6,8 @@ returns-in-Err-clause-fault g c = rw c.fill_fault.ensures.same (fault_of_crew c.
 
 pub returns-then-look_and_put_zeros-clause-learned : goal.returns-then-look_and_put_zeros-clause-learned
 returns-then-look_and_put_zeros-clause-learned g c =
-    (c.read.ensures.learned.0, grows_both c.learn_left.ensures.learned.1 (grows_both c.look_and_put_zeros.ensures.learned.1 c.read.ensures.learned.1))
+    (c.read.ensures.learned.0, grows_both c.learn_from.ensures.learned.1 (grows_both c.look_and_put_zeros.ensures.learned.1 c.read.ensures.learned.1))
 
 pub returns-else-look_and_put_zeros-clause-learned : goal.returns-else-look_and_put_zeros-clause-learned
 returns-else-look_and_put_zeros-clause-learned g c =
-    (c.look_and_put_zeros.ensures.learned.0, grows_both c.learn_left.ensures.learned.1 c.look_and_put_zeros.ensures.learned.1)
+    (c.look_and_put_zeros.ensures.learned.0, grows_both c.learn_from.ensures.learned.1 c.look_and_put_zeros.ensures.learned.1)
