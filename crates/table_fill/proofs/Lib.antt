@@ -1,5 +1,5 @@
 -- Lemmas that several proofs share.
-mod AskedTwice
+mod GoneOn
 pub mod BelowBlocks
 pub mod KnownJobs
 mod Learned

@@ -1,8 +1,15 @@
-// A worker's reader of the memo, and its maker of blocks of the same plan.
+//! A worker's view of the cells of a memo: it looks at them, and makes the blocks of empty ones.
+
 ghost use Rattle.std.specs.Prelude.{◌≡◌};
+ghost use Rattle.table_fill.specs.MissingBlocks.{missing_of};
 
 use crate::own_reader::OwnReader;
-use unroll::BlockMaker;
+use node_program::OutOfMemory;
+use round_columns::Code;
+use shared_memo::{Installed, Memo, Stranger, WorkFault};
+use std::alloc::Global;
+use unroll::{BlockMaker, MakeFault};
+use win_index::{MAX_BLOCKS, window_of_number};
 
 // A reader of a memo, and a maker of blocks of the memo's plan, for the worker with this number.
 #[derive(Drop)]
@@ -11,4 +18,110 @@ pub(crate) struct CellMaker<'s, 'a> {
     pub(crate) blocks: BlockMaker<'s, 'a>,
     pub(crate) worker: u32,
     pub(crate) ghost one_plan: { blocks ≡ reader.pass.plan.now },
+}
+
+impl<'s, 'a> CellMaker<'s, 'a> {
+    ghost use Rattle.std.specs.Prelude.{None, IfOk, IfErr, OnOk, OnErr, IsSomeAnd, true, false, is_some};
+    ghost use Rattle.shared_memo.specs.declared.memo.Installed.TheVariants.{Fresh};
+    ghost use Rattle.shared_memo.specs.Passes.{known, seen, memo_plan};
+    ghost use Rattle.shared_memo.specs.PlanJobs.{IsKey, IsStranger};
+    ghost use Rattle.table_fill.specs.Cells.{GoesOn, IsMakerOf};
+    ghost use Rattle.table_fill.specs.MissingBlocks.{IsMissingBlock};
+
+    // Returns a maker for a worker that knows no block of the memo yet. Fails if memory was refused.
+    pub(crate) fn new(
+        alloc: Global,
+        memo: &'s Memo<'a>,
+        code: &'s Code<'a>,
+        worker: u32,
+    ) -> Result<CellMaker<'s, 'a>, OutOfMemory>
+        requires { code.now ≡ memo_plan memo.now }
+        ensures { IfOk result (IsMakerOf memo.entry.now worker) }
+    {
+        let pass = memo.pass(alloc)?;
+        let blocks = BlockMaker::new(alloc, code)?;
+        let reader = OwnReader { memo, pass };
+        Ok(CellMaker {
+            reader,
+            blocks,
+            worker,
+        })
+    }
+
+    // Looks at the cell of this level and number, and returns whether its block is known then.
+    // Fails if the cell holds a stranger.
+    fn finds(&mut self, level: u32, number: u32) -> Result<bool, Stranger>
+        requires { IsKey self.old.reader.pass.plan.now level number }
+        ensures goes_on { GoesOn self.old self.new }
+        ensures found { IfOk result (λ found. (found ≡ is_some (known self.new.reader.pass level number))
+            × (found ≡ false → seen self.new.reader.pass level number ≡ None)) }
+        ensures stranger { OnErr result (IsSomeAnd (seen self.new.reader.pass level number) (IsStranger self.old.reader.pass.plan.now level number)) }
+    {
+        let OwnReader { memo, pass } = &mut self.reader;
+        Ok(memo.look(pass, level, number)?.is_some())
+    }
+
+    // Makes the block of this level and number and stores it, unless the cell is full by then. Fails
+    // with the block of a lower level that is missing.
+    fn make(&mut self, alloc: Global, level: u32, number: u32) -> Result<Installed<'a>, MakeFault>
+        requires { IsKey self.old.reader.pass.plan.now level number }
+        ensures goes_on { GoesOn self.old self.new }
+        ensures fresh { IfOk result (λ installed. installed ≡ Fresh
+            → IsSomeAnd (known self.new.reader.pass level number) (λ block. block.maker ≡ self.old.worker)) }
+        ensures missing { IfErr result (IsMissingBlock self.old.reader.pass.plan.now level) }
+    {
+        window_of_number();
+        let CellMaker {
+            reader,
+            blocks,
+            worker,
+        } = self;
+        let block = match blocks.make(reader, level, number, *worker) {
+            Ok(block) => block,
+            Err(fault) => return Err(fault),
+        };
+        let Ok(block) = Box::new(alloc, block) else {
+            return Err(MakeFault::OutOfMemory);
+        };
+        Ok(reader.memo.keep(&mut reader.pass, block))
+    }
+
+    // Fills the cell of this level and number, unless it is full. Missing blocks below are made
+    // first; there are at most `MAX_BLOCKS` of them, so that the last attempt misses none.
+    pub(crate) fn fill(&mut self, alloc: Global, level: u32, number: u32) -> Result<(), WorkFault>
+        requires { IsKey self.old.reader.pass.plan.now level number }
+        ensures goes_on { GoesOn self.old self.new }
+        ensures known { OnOk result (is_some (known self.new.reader.pass level number) ≡ true) }
+    {
+        if self.finds(level, number)? {
+            return Ok(());
+        }
+        for _attempt in 0..MAX_BLOCKS + 1 {
+            match self.make(alloc, level, number) {
+                Ok(Installed::Fresh) => return Ok(()),
+                Ok(Installed::Stood(_)) => {
+                    return if self.finds(level, number)? {
+                        Ok(())
+                    } else {
+                        Err(WorkFault::Stranger)
+                    };
+                }
+                Err(fault) => {
+                    let (low, below) = missing_block(fault)?;
+                    self.fill(alloc, low, below)?;
+                }
+            }
+        }
+        Err(WorkFault::Stranger)
+    }
+}
+
+// The block that was missing when one was made, or the fault that memory was refused.
+fn missing_block(fault: MakeFault) -> Result<(u32, u32), WorkFault>
+    ensures { result ≡ missing_of fault }
+{
+    match fault {
+        MakeFault::Missing(low, below) => Ok((low, below)),
+        MakeFault::OutOfMemory => Err(WorkFault::OutOfMemory),
+    }
 }

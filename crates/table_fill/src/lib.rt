@@ -1,7 +1,6 @@
 //! The compilation of a program to its table, by workers that share a memo.
 #![tactic(auto)]
 
-mod cell;
 mod cell_maker;
 mod fault;
 mod filling;
@@ -10,7 +9,6 @@ mod looks;
 mod memo_fill;
 mod own_reader;
 mod table_room;
-mod worker;
 
 pub use channel_tables::{Table, TableMaker};
 pub use fault::FillFault;

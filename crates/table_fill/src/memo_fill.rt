@@ -1,14 +1,19 @@
-// What workers share that fill a memo.
+//! The jobs of a memo: workers fill its cells.
+
 ghost use Rattle.std.specs.Prelude.{◌≡◌, ◌<◌, IfOk, IfErr, IfSome, MatchOption};
 ghost use Rattle.shared_memo.specs.Workers.{IsWorkerCount};
-ghost use Rattle.shared_memo.specs.Passes.{IsPassOf};
+ghost use Rattle.shared_memo.specs.Passes.{known, memo_plan, IsPassOf};
+ghost use Rattle.shared_memo.specs.PlanJobs.{job_count};
+ghost use Rattle.table_fill.specs.Filled.{AreKnown};
 
+use crate::cell_maker::CellMaker;
 use round_columns::Code;
 use round_eval::Gate;
-use shared_memo::{CrewFault, Memo, Pass, fill_by_workers};
+use shared_memo::{CrewFault, Desk, Jobs, Memo, Pass, Ticket, WorkFault, fill_by_workers};
 use std::alloc::Global;
 use std::sync::Wait;
 use std::thread::Threads;
+use win_index::jobs_have_numbers;
 
 // A memo to be filled, and the code of its plan, which is compiled once and lent to all workers.
 #[derive(Drop)]
@@ -16,6 +21,38 @@ pub(crate) struct MemoFill<'m, 'a> {
     pub(crate) memo: &'m Memo<'a>,
     pub(crate) code: &'m Code<'a>,
     pub(crate) ghost one_plan: { code.now ≡ memo.now.plan.now },
+}
+
+impl<'m, 'a> Jobs for MemoFill<'m, 'a> {
+    type Known = Pass<'a>;
+
+    ghost jobs = { λ f. job_count (memo_plan f.memo.now) };
+
+    ghost IsKnown = { λ f pass. IsPassOf f.memo.now pass };
+
+    ghost KnowsFilled = { λ pass jobs. AreKnown pass.plan.now (known pass) jobs };
+
+    fn count(&self) -> u32 {
+        self.memo.plan().shape().jobs()
+    }
+
+    fn fill<G: Gate>(
+        &self,
+        alloc: Global,
+        desk: &Desk,
+        ticket: &mut Ticket,
+        gate: &G,
+    ) -> Result<Pass<'a>, WorkFault> {
+        jobs_have_numbers();
+        let shape = self.memo.plan().shape();
+        let mut cells = CellMaker::new(alloc, self.memo, self.code, ticket.worker())?;
+        while let Some(job) = desk.draw(ticket) {
+            gate.entered(ticket.worker(), job);
+            let (level, block) = shape.job(job);
+            cells.fill(alloc, level, block)?;
+        }
+        Ok(cells.reader.pass)
+    }
 }
 
 // Fills a memo with this many workers. A single worker's pass is returned. That threads can share a

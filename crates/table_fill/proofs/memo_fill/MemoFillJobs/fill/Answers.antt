@@ -1,4 +1,4 @@
-use Rattle.std.proofs.Common.{rules, ◌≡◌, ℕ, ◌+◌, ◌-◌, ◌<◌, true, [], ◌∷◌, ◌++◌, length, Some, ap, ◌∙◌, arith, length-append}
+use Rattle.std.proofs.Common.{rules, ◌≡◌, ℕ, ◌+◌, ◌-◌, ◌<◌, true, [], ◌∷◌, ◌++◌, length, Some, subst, sym, ap, ◌∙◌, arith, length-append}
 use Rattle.std.specs.Prelude.{is_some, slice_get}
 use Rattle.win_index.specs.Jobs.{jobs_of}
 use Rattle.window_states.specs.Entries.{Entries}
@@ -7,12 +7,12 @@ use Rattle.shared_memo.specs.PlanJobs.{job_of}
 use Rattle.shared_memo.specs.Tickets.{drawn}
 use Rattle.table_fill.specs.Filled.{AreKnown}
 use Rattle.table_fill.proofs.KnownJobs.{known_with, block_of_job}
-use Rattle.table_fill.proofs.worker.fill_drawn.Goals as goal
+use Rattle.table_fill.proofs.memo_fill.MemoFillJobs.fill.Goals as goal
 
 pub loop-job-preserved : goal.loop-job-preserved
 loop-job-preserved g c =
-    let plan = c.args.cells.now.reader.memo.now.plan.now in
-    let new : Entries = known c.fill_cell.new.cells.reader.pass in
+    let plan = c.args.self.now.memo.now.plan.now in
+    let new : Entries = known c.fill.new.self.reader.pass in
     let jobs = drawn c.loop-job.ticket in
     let job = c.in-Some.job in
     let level = c.job-level.result.0 in
@@ -25,7 +25,7 @@ loop-job-preserved g c =
     let same = block_of_job stand plan.ids (length plan.program.steps) job l n level block at ((stand plan.ids (length plan.program.steps) l n job).0 is) in
     rw same.0 (rw same.1 filled) in
     let known_all : AreKnown plan new (jobs ++ job ∷ []) =
-    known_with plan (known c.loop-job.cells.reader.pass) new jobs job c.fill_cell.ensures.asked.grows c.loop-job.invariant.filled last in
+    known_with plan (known c.loop-job.cells.reader.pass) new jobs job c.fill.ensures.goes_on.grows c.loop-job.invariant.filled last in
     record {
       ticket = search rules;
       untold = search rules;
@@ -42,3 +42,13 @@ loop-job-smaller g c =
     let more : length (drawn c.draw.new.ticket) ≡ length (drawn c.loop-job.ticket) + 1 = ap length c.in-Some.ensures.drawn.1 ∙ length-append (drawn c.loop-job.ticket) _ in
     let less : total - length (drawn c.draw.new.ticket) < total - length (drawn c.loop-job.ticket) = omega (arith, more, c.draw.ensures.fewer) in
     less
+
+pub returns-clause-known : goal.returns-clause-known
+returns-clause-known g c =
+    let inv = c.loop-job.invariant in
+    let entries : Entries = known c.loop-job.cells.reader.pass in
+    let same : drawn c.draw.new.ticket ≡ drawn c.loop-job.ticket = search rules in (
+      rw inv.same_memo at c.loop-job.cells.reader.pass_of,
+      subst (λ jobs. AreKnown c.loop-job.cells.reader.pass.plan.now entries jobs) (sym same)
+          (subst (λ plan. AreKnown plan entries (drawn c.loop-job.ticket)) (sym inv.same_plan) inv.filled),
+    )
