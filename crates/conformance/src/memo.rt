@@ -10,7 +10,7 @@ use std::thread;
 use std::thread::Threads;
 use test_programs::{CV1, RED, plan_of};
 use unroll::make_block;
-use window_states::Block;
+use window_states::{Block, Source};
 
 /// Returns the first block of level 0 of a plan, made by this maker.
 fn first_block<'a>(alloc: Global, plan: &'a Plan, maker: u32) -> Option<Box<Block<'a>>>
@@ -238,8 +238,17 @@ fn two_threads_see_one_block(rt: HostRuntime) {
     assert!(rt; makers == Some((1, 1)) || makers == Some((2, 2)));
 }
 
-/// Returns whether a reader finds the first block before it keeps one and after that, and whether
-/// another reader finds it then.
+/// Returns whether a reader finds the first block through this pass.
+fn finds_first<'a>(memo: &Memo<'a>, pass: &mut Pass<'a>) -> bool
+    requires pass { IsPassOf memo.now pass.old }
+    requires key { IsKey (memo_plan memo.now) 0 0 }
+    ensures { IsPassOf memo.now pass.new }
+{
+    Reader::new(memo, pass).block(0, 0).is_some()
+}
+
+/// Returns whether a reader finds the first block before one is installed and after that, and
+/// whether a reader with another pass finds it then.
 fn found_by_two<'a>(
     memo: &Memo<'a>,
     a: &mut Pass<'a>,
@@ -248,15 +257,12 @@ fn found_by_two<'a>(
 ) -> [bool; 3]
     requires a { IsPassOf memo.now a.old }
     requires b { IsPassOf memo.now b.old }
-    requires block { block.value.plan ≡ memo_plan memo.now }
     requires key { IsKey (memo_plan memo.now) 0 0 }
 {
-    let mut one = Reader::new(memo, a);
-    let before = one.finds(0, 0);
-    let _ = one.keep(block);
-    let after = one.finds(0, 0);
-    let mut two = Reader::new(memo, b);
-    [before, after, two.finds(0, 0)]
+    let before = finds_first(memo, a);
+    let _ = memo.install(a, block);
+    let after = finds_first(memo, a);
+    [before, after, finds_first(memo, b)]
 }
 
 /// Returns the same with a block of its own.
@@ -303,6 +309,6 @@ fn found_in_memo_of_cv1(alloc: Global) -> Option<[bool; 3]> {
 }
 
 #[test]
-fn a_reader_finds_what_another_kept(rt: HostRuntime) {
+fn a_reader_finds_what_another_pass_installed(rt: HostRuntime) {
     assert!(rt; found_in_memo_of_cv1(rt.alloc()) == Some([false, true, true]));
 }

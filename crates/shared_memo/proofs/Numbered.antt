@@ -4,7 +4,7 @@ use Rattle.std.specs.Prelude.{slice_get}
 use Rattle.std.proofs.Math.ListN.{get_or-append}
 use Rattle.std.proofs.Math.Seq.{get_or-append_seam}
 use Rattle.std.proofs.lemmas.Option.{slice_get_within, slice_get-get_or, get_or_from_slice_get}
-use Rattle.shared_memo.specs.Workers.{AreNumbered}
+use Rattle.shared_memo.specs.Tickets.{AreNumbered}
 
 -- one more worker, with the next number
 pub numbered_snoc :

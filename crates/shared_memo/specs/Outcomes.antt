@@ -3,7 +3,7 @@ use Rattle.std.specs.Prelude.{◌≡◌, ℕ, ◌<◌, List, Result, Ok, Err, Is
 use Rattle.shared_memo.specs.declared.fault.WorkFault.{WorkFault}
 use Rattle.shared_memo.specs.declared.worker.Outcome.{Outcome}
 use Rattle.shared_memo.specs.Tickets.{worker_of}
-use Rattle.shared_memo.specs.Workers.{AreNumbered}
+use Rattle.shared_memo.specs.Tickets.{AreNumbered}
 
 -- the number of the worker that came to this
 abbrev pub outcome_worker : Outcome → ℕ

@@ -16,6 +16,7 @@ AskedReader = Asked (λ (r : Reader). r.pass.now.plan.now) (λ (r : Reader). r.m
 
 -- a reader before and after it was asked for the block of a level and a number; `found` says whether it returned one
 pub record Asks (level number : ℕ) (found : Bool) (old new : Reader) : Type 0 where
+  pub same_reference : new.pass.ghost_name ≡ old.pass.ghost_name
   -- at most this block is learnt, and nothing if none is returned
   pub learns : LearnsAt level number (known old.pass.now) (known new.pass.now)
   pub missed : found ≡ false → KnowsSame (known old.pass.now) (known new.pass.now)

@@ -1,5 +1,6 @@
--- The number of workers of a crew, and their numbers.
-use Rattle.std.specs.Prelude.{◌≡◌, ℕ, ◌≤◌, List, Some, slice_get}
+-- The number of workers of a crew, and lists for one item of each.
+use Rattle.std.specs.Prelude.{◌≡◌, ℕ, ◌≤◌, [], vec_capacity}
+use Rattle.std.specs.declared.vec.Vec.{Vec}
 use Rattle.node_program.specs.declared.limits.TheConstants.{MAX_THREADS}
 
 -- 1 to MAX_THREADS
@@ -7,6 +8,7 @@ pub record IsWorkerCount (workers : ℕ) : Type 0 where
   pub some : 1 ≤ workers
   pub few : workers ≤ MAX_THREADS
 
--- item k of the list has the number k
-abbrev pub AreNumbered : {W : Type 0} → List W → (W → ℕ) → Type 0
-AreNumbered {W = W} items number = (k : ℕ) (w : W) → slice_get items k ≡ Some w → number w ≡ k
+-- an empty list with capacity for this many items
+pub record HasRoom {T A : Type 0} (count : ℕ) (list : Vec T A) : Type 0 where
+  pub empty : list.items ≡ []
+  pub room : count ≤ vec_capacity list

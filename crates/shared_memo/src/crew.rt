@@ -1,6 +1,6 @@
-ghost use Rattle.std.specs.Prelude.{◌≡◌, [], ◌<◌, ◌≤◌, ◌↔◌, IfOk, IfErr, IfSome, MatchOption, IsTrue, vec_len, vec_capacity, All};
-ghost use Rattle.shared_memo.specs.Tickets.{worker_of, numbers_of, IsFreshTicketOf};
-ghost use Rattle.shared_memo.specs.Workers.{AreNumbered, IsWorkerCount};
+ghost use Rattle.std.specs.Prelude.{◌≡◌, ◌<◌, ◌≤◌, ◌↔◌, IfOk, IfErr, IfSome, MatchOption, IsTrue, vec_len};
+ghost use Rattle.shared_memo.specs.Tickets.{worker_of, numbers_of, IsFreshTicketOf, AreFreshTickets, AreNumbered};
+ghost use Rattle.shared_memo.specs.Workers.{HasRoom, IsWorkerCount};
 ghost use Rattle.shared_memo.specs.Outcomes.{outcome_worker, AreOutcomes, IsLowestFault};
 
 use crate::desk::{Desk, Ticket};
@@ -63,8 +63,7 @@ fn fill_at<R: Threads + Wait + Sync, J: Jobs + Sync, G: Gate + Sync>(
     tickets: Vec<Ticket>,
     gate: &G,
 ) -> Result<Vec<Outcome>, CrewFault>
-    requires tickets { All (IsFreshTicketOf desk.now) tickets.items }
-    requires workers { AreNumbered tickets.items worker_of }
+    requires tickets { AreFreshTickets desk.now tickets.items }
     requires jobs { numbers_of desk.now ≡ J.jobs jobs.now }
     ensures each { IfOk result (λ outcomes. AreOutcomes (vec_len tickets) outcomes.items) }
     ensures fine { IfOk result (λ outcomes. IsLowestFault outcomes.items (Ok tt)) }
@@ -85,8 +84,7 @@ fn crew_of<'d, 'j, 'g, J: Jobs, G: Gate>(
     tickets: Vec<Ticket>,
     gate: &'g G,
 ) -> Result<Vec<Worker<'d, 'j, 'g, J, G>>, OutOfMemory>
-    requires tickets { All (IsFreshTicketOf desk.now) tickets.items }
-    requires workers { AreNumbered tickets.items worker_of }
+    requires tickets { AreFreshTickets desk.now tickets.items }
     requires jobs { numbers_of desk.now ≡ J.jobs jobs.now }
     ensures count { IfOk result (λ crew. vec_len crew ≡ vec_len tickets) }
     ensures workers { IfOk result (λ crew. AreNumbered crew.items (λ worker. worker_of worker.ticket)) }
@@ -113,8 +111,8 @@ fn run_all<'d, 'j, 'g, R: Threads + Wait + Sync, J: Jobs + Sync, G: Gate + Sync>
     outcomes: Vec<Outcome>,
 ) -> Result<Vec<Outcome>, RefusedStart>
     requires workers { AreNumbered crew.items (λ worker. worker_of worker.ticket) }
-    requires none { (handles.items ≡ []) × (outcomes.items ≡ []) }
-    requires room { (vec_len crew ≤ vec_capacity handles) × (vec_len crew ≤ vec_capacity outcomes) }
+    requires handles { HasRoom (vec_len crew) handles }
+    requires outcomes { HasRoom (vec_len crew) outcomes }
     ensures { IfOk result (λ outcomes. AreOutcomes (vec_len crew.entry) outcomes.items) }
 {
     thread::scope(
@@ -122,8 +120,8 @@ fn run_all<'d, 'j, 'g, R: Threads + Wait + Sync, J: Jobs + Sync, G: Gate + Sync>
         rt,
         |scope| -> Result<Vec<Outcome>, RefusedStart>
             requires workers { AreNumbered crew.items (λ worker. worker_of worker.ticket) }
-            requires none { (handles.items ≡ []) × (outcomes.items ≡ []) }
-            requires room { (vec_len crew ≤ vec_capacity handles) × (vec_len crew ≤ vec_capacity outcomes) }
+            requires handles { HasRoom (vec_len crew) handles }
+            requires outcomes { HasRoom (vec_len crew) outcomes }
             ensures { IfOk result (λ outcomes. AreOutcomes (vec_len crew.entry) outcomes.items) }
         { run_in_scope(rt, scope, crew, handles, outcomes) },
     )
@@ -148,8 +146,8 @@ fn run_in_scope<
     outcomes: Vec<Outcome>,
 ) -> Result<Vec<Outcome>, RefusedStart>
     requires workers { AreNumbered crew.items (λ worker. worker_of worker.ticket) }
-    requires none { (handles.items ≡ []) × (outcomes.items ≡ []) }
-    requires room { (vec_len crew ≤ vec_capacity handles) × (vec_len crew ≤ vec_capacity outcomes) }
+    requires handles { HasRoom (vec_len crew) handles }
+    requires outcomes { HasRoom (vec_len crew) outcomes }
     ensures { IfOk result (λ outcomes. AreOutcomes (vec_len crew.entry) outcomes.items) }
 {
     let all_started = start_all(scope, crew, &mut handles);
@@ -168,8 +166,7 @@ fn start_all<'s, 'd: 's, 'j: 's, 'g: 's, E, J: Jobs + Sync + 's, G: Gate + Sync 
     handles: &mut Vec<Handle>,
 ) -> bool
     requires workers { AreNumbered crew.items (λ worker. worker_of worker.ticket) }
-    requires none { handles.old.items ≡ [] }
-    requires room { vec_len crew ≤ vec_capacity handles.old }
+    requires handles { HasRoom (vec_len crew) handles.old }
     ensures workers { AreNumbered handles.new.items (λ handle. handle.promise.0) }
     ensures few { vec_len handles.new ≤ vec_len crew.entry }
     ensures all { IsTrue result ↔ (vec_len handles.new ≡ vec_len crew.entry) }
@@ -211,8 +208,7 @@ fn start_one<'s, 'd: 's, 'j: 's, 'g: 's, E, J: Jobs + Sync + 's, G: Gate + Sync 
 // Joins the threads in order, and appends what their workers came to.
 fn join_all<R: Threads>(rt: &R, handles: Vec<Handle>, mut outcomes: Vec<Outcome>) -> Vec<Outcome>
     requires workers { AreNumbered handles.items (λ handle. handle.promise.0) }
-    requires none { outcomes.items ≡ [] }
-    requires room { vec_len handles ≤ vec_capacity outcomes }
+    requires outcomes { HasRoom (vec_len handles) outcomes }
     ensures { AreOutcomes (vec_len handles) result.items }
 {
     for handle in handles {

@@ -4,7 +4,7 @@ use Rattle.lang_check.specs.Plans.{ProgramForIds}
 use Rattle.window_states.specs.Entries.{Entries, Grows}
 use Rattle.shared_memo.specs.declared.memo.Memo.{Memo}
 use Rattle.shared_memo.specs.declared.pass.Pass.{Pass}
-use Rattle.shared_memo.specs.Passes.{known, IsPassOf}
+use Rattle.shared_memo.specs.Passes.{known, memo_plan, IsPassOf}
 use Rattle.shared_memo.specs.PlanJobs.{IsKey, job_of}
 
 -- a pass of this memo that knows at least what it knew before
@@ -19,3 +19,7 @@ AreKnown plan entries jobs =
 -- a block at each level and number of the plan
 abbrev pub KnowsAll : ProgramForIds → Entries → Type 0
 KnowsAll plan entries = (level number : ℕ) → IsKey plan level number → is_some (entries level number) ≡ true
+
+-- a pass of this memo that knows a block at each level and number
+abbrev pub IsFullPass : Memo → Pass → Type 0
+IsFullPass memo pass = IsPassOf memo pass × KnowsAll (memo_plan memo) (known pass)

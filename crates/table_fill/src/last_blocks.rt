@@ -1,9 +1,11 @@
-// The blocks of the last level, from which the table is read, and room for its entries.
-ghost use Rattle.std.specs.Prelude.{◌≡◌, ◌≤◌, [], length, vec_len, vec_capacity, IfOk};
+//! The blocks of the last level, from which the table is read, and room for its entries.
+
+ghost use Rattle.std.specs.Prelude.{◌≡◌, ◌≤◌, length, vec_len, vec_capacity, IfOk};
 ghost use Rattle.shared_memo.specs.PlanJobs.{IsKey, IsKeyedBlock};
-ghost use Rattle.shared_memo.specs.Passes.{known, memo_plan, IsPassOf};
+ghost use Rattle.shared_memo.specs.Passes.{known, memo_plan};
+ghost use Rattle.shared_memo.specs.Workers.{HasRoom};
 ghost use Rattle.table_entries.specs.EntryShares.{AreLastBlocks};
-ghost use Rattle.table_fill.specs.Filled.{HasLearned, KnowsAll};
+ghost use Rattle.table_fill.specs.Filled.{HasLearned, KnowsAll, IsFullPass};
 ghost use Rattle.win_index.specs.Blocks.{block_count, window_count};
 
 use lang_check::Plan;
@@ -44,8 +46,7 @@ fn known_block<'s, 'a>(
     level: u32,
     number: u32,
 ) -> &'s Block<'a>
-    requires pass { IsPassOf memo.now pass.old }
-    requires known { KnowsAll (memo_plan memo.now) (known pass.old) }
+    requires pass { IsFullPass memo.now pass.old }
     requires key { IsKey (memo_plan memo.now) level number }
     ensures learned { HasLearned memo.now pass.old pass.new }
     ensures known { KnowsAll (memo_plan memo.now) (known pass.new) }
@@ -62,8 +63,7 @@ pub(crate) fn no_blocks<'s, 'a>(
     alloc: Global,
     memo: &'s Memo<'a>,
 ) -> Result<Vec<&'s Block<'a>>, OutOfMemory>
-    ensures none { IfOk result (λ blocks. blocks.items ≡ []) }
-    ensures room { IfOk result (λ blocks. block_count (memo_plan memo.now).ids (length (memo_plan memo.now).program.steps) ≤ vec_capacity blocks) }
+    ensures { IfOk result (HasRoom (block_count (memo_plan memo.now).ids (length (memo_plan memo.now).program.steps))) }
 {
     let shape = memo.plan().shape();
     Ok(Vec::with_capacity(alloc, shape.blocks(shape.rounds()) as usize)?)
@@ -75,10 +75,8 @@ pub(crate) fn last_blocks<'s, 'a>(
     pass: &mut Pass<'a>,
     mut blocks: Vec<&'s Block<'a>>,
 ) -> Vec<&'s Block<'a>>
-    requires pass { IsPassOf memo.now pass.old }
-    requires known { KnowsAll (memo_plan memo.now) (known pass.old) }
-    requires none { blocks.items ≡ [] }
-    requires room { block_count (memo_plan memo.now).ids (length (memo_plan memo.now).program.steps) ≤ vec_capacity blocks }
+    requires pass { IsFullPass memo.now pass.old }
+    requires room { HasRoom (block_count (memo_plan memo.now).ids (length (memo_plan memo.now).program.steps)) blocks }
     ensures learned { HasLearned memo.now pass.old pass.new }
     ensures known { KnowsAll (memo_plan memo.now) (known pass.new) }
     ensures blocks { AreLastBlocks (memo_plan memo.now) result.items }

@@ -19,9 +19,9 @@ pub(crate) struct TableRoom<'s, 'a> {
 
 impl<'s, 'a> TableRoom<'s, 'a> {
     ghost use Rattle.std.specs.Prelude.{◌≡◌, ◌<◌, ◌≤◌, length, vec_len, vec_capacity, IfOk};
-    ghost use Rattle.shared_memo.specs.Passes.{known, memo_plan, IsPassOf};
+    ghost use Rattle.shared_memo.specs.Passes.{known, memo_plan};
     ghost use Rattle.table_entries.specs.ProgramTables.{table_of};
-    ghost use Rattle.table_fill.specs.Filled.{HasLearned, KnowsAll};
+    ghost use Rattle.table_fill.specs.Filled.{HasLearned, KnowsAll, IsFullPass};
     ghost use Rattle.table_fill.specs.TableRooms.{IsRoomFor};
     ghost use Rattle.win_index.specs.Blocks.{window_count};
 
@@ -54,8 +54,7 @@ impl<'s, 'a> TableRoom<'s, 'a> {
         memo: &'s Memo<'a>,
         pass: &mut Pass<'a>,
     ) -> Table
-        requires pass { IsPassOf memo.now pass.old }
-        requires known { KnowsAll (memo_plan memo.now) (known pass.old) }
+        requires pass { IsFullPass memo.now pass.old }
         requires room { IsRoomFor (memo_plan memo.now) self }
         requires size { vec_len self.entries ≡ window_count (memo_plan memo.now).ids (length (memo_plan memo.now).program.steps) }
         ensures learned { HasLearned memo.now pass.old pass.new }

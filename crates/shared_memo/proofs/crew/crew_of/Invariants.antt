@@ -1,7 +1,7 @@
 use Rattle.std.proofs.Common.{◌≡◌, ◌+◌, ◌≤◌, All, vec_len, vec_capacity}
 use Rattle.std.specs.Vec.Iter.{into_iter_items, into_iter_len}
 use Rattle.shared_memo.specs.Tickets.{worker_of, IsFreshTicketOf}
-use Rattle.shared_memo.specs.Workers.{AreNumbered}
+use Rattle.shared_memo.specs.Tickets.{AreNumbered}
 use Rattle.shared_memo.proofs.Numbered.{AreNumberedFrom}
 use Rattle.shared_memo.proofs.crew.crew_of.Given as goal
 

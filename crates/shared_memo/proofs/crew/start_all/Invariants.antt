@@ -2,7 +2,7 @@ use Rattle.std.proofs.Common.{◌≡◌, ◌+◌, ◌≤◌, vec_len}
 use Rattle.std.specs.Vec.{vec_capacity}
 use Rattle.std.specs.Vec.Iter.{into_iter_items, into_iter_len}
 use Rattle.shared_memo.specs.Tickets.{worker_of}
-use Rattle.shared_memo.specs.Workers.{AreNumbered}
+use Rattle.shared_memo.specs.Tickets.{AreNumbered}
 use Rattle.shared_memo.proofs.Numbered.{AreNumberedFrom}
 use Rattle.shared_memo.proofs.crew.start_all.Given as goal
 

@@ -11,3 +11,13 @@ returns-then-look_and_put_zeros-clause-learned g c =
 pub returns-else-look_and_put_zeros-clause-learned : goal.returns-else-look_and_put_zeros-clause-learned
 returns-else-look_and_put_zeros-clause-learned g c =
     (c.look_and_put_zeros.ensures.learned.0, grows_both c.learn_from.ensures.learned.1 c.look_and_put_zeros.ensures.learned.1)
+
+pub returns-then-look_and_put_zeros-clause-compiled : goal.returns-then-look_and_put_zeros-clause-compiled
+returns-then-look_and_put_zeros-clause-compiled g c =
+    let plan = c.args.fill.now.memo.now.plan.now in
+    record {
+      all_known = c.read.ensures.known;
+      table_is = c.read.ensures.table;
+      channels = λ ring place is within.
+          rw c.read.ensures.table (c.table_has_the_channels_of_rounds.ensures plan.program plan.ids ring place is within);
+    }
