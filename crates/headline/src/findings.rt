@@ -1,5 +1,5 @@
 ghost use Rattle.std.specs.Prelude.{◌≡◌, ◌↔◌, IfOk, IfErr, OnOk, length};
-ghost use Rattle.shared_memo.specs.Workers.{IsWorkerCount};
+ghost use Rattle.worker_pool.specs.Workers.{IsWorkerCount};
 ghost use Rattle.ring_segments.specs.SegmentCounts.{IsSegmentCount};
 ghost use Rattle.headline.specs.Headline.{IsHeadline, TableAgrees};
 ghost use Rattle.ring_exec.specs.declared.fault.RunFault.{RunFault};

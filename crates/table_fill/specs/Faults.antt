@@ -2,12 +2,12 @@
 use Rattle.std.specs.Prelude.{ℕ, ◌<◌}
 use Rattle.table_fill.specs.declared.fault.FillFault.{FillFault}
 use Rattle.table_fill.specs.declared.fault.FillFault.TheVariants as fill
-use Rattle.shared_memo.specs.declared.fault.WorkFault.TheVariants as work
-use Rattle.shared_memo.specs.declared.fault.CrewFault.{CrewFault}
-use Rattle.shared_memo.specs.declared.fault.CrewFault.TheVariants.{Work, NoThread}
+use Rattle.worker_pool.specs.declared.fault.WorkFault.TheVariants as work
+use Rattle.worker_pool.specs.declared.fault.PoolFault.{PoolFault}
+use Rattle.worker_pool.specs.declared.fault.PoolFault.TheVariants.{Work, NoThread}
 
--- the fault that the caller gets for one of the crew
-abbrev pub fill_fault_of : CrewFault → FillFault
+-- the fault that the caller gets for one of the pool
+abbrev pub fill_fault_of : PoolFault → FillFault
 fill_fault_of (Work work.OutOfMemory) = fill.OutOfMemory
 fill_fault_of (Work work.Stranger) = fill.Stranger
 fill_fault_of NoThread = fill.NoThread

@@ -6,10 +6,11 @@ ghost use Rattle.table_fill.specs.MissingBlocks.{missing_of};
 use crate::own_reader::OwnReader;
 use node_program::OutOfMemory;
 use round_columns::Code;
-use shared_memo::{Installed, Memo, Stranger, WorkFault};
+use shared_memo::{Installed, Memo, Stranger};
 use std::alloc::Global;
 use unroll::{BlockMaker, MakeFault};
 use win_index::{MAX_BLOCKS, window_of_number};
+use worker_pool::WorkFault;
 
 // A reader of a memo, and a maker of blocks of the memo's plan, for the worker with this number.
 #[derive(Drop)]

@@ -3,7 +3,7 @@ ghost use Rattle.table_fill.specs.Faults.{fill_fault_of};
 ghost use Rattle.table_fill.specs.declared.fault.FillFault.TheVariants.{OutOfMemory as NoMemory};
 
 use node_program::OutOfMemory;
-use shared_memo::{CrewFault, WorkFault};
+use worker_pool::{PoolFault, WorkFault};
 
 /// Why a table was not compiled.
 #[derive(Clone, Copy, Debug, PartialEq, Eq)]
@@ -28,13 +28,13 @@ impl From<OutOfMemory> for FillFault {
 }
 
 // Converts a fault of a pool of workers to `compile`'s.
-pub(crate) fn fill_fault(fault: CrewFault) -> FillFault
+pub(crate) fn fill_fault(fault: PoolFault) -> FillFault
     ensures same { result ≡ fill_fault_of fault }
     ensures range { result ≢ FillFault.WorkersOutOfRange }
 {
     match fault {
-        CrewFault::Work(WorkFault::OutOfMemory) => FillFault::OutOfMemory,
-        CrewFault::Work(WorkFault::Stranger) => FillFault::Stranger,
-        CrewFault::NoThread => FillFault::NoThread,
+        PoolFault::Work(WorkFault::OutOfMemory) => FillFault::OutOfMemory,
+        PoolFault::Work(WorkFault::Stranger) => FillFault::Stranger,
+        PoolFault::NoThread => FillFault::NoThread,
     }
 }

@@ -3,7 +3,7 @@
 ghost use Rattle.std.specs.Prelude.{◌≡◌, ◌≤◌, length, vec_len, vec_capacity, IfOk};
 ghost use Rattle.shared_memo.specs.PlanJobs.{IsKey, IsKeyedBlock};
 ghost use Rattle.shared_memo.specs.Passes.{known, memo_plan};
-ghost use Rattle.shared_memo.specs.Workers.{HasRoom};
+ghost use Rattle.worker_pool.specs.Workers.{HasRoom};
 ghost use Rattle.table_entries.specs.EntryShares.{AreLastBlocks};
 ghost use Rattle.table_fill.specs.Filled.{HasLearned, KnowsAll, IsFullPass};
 ghost use Rattle.win_index.specs.Blocks.{block_count, window_count};

@@ -1,7 +1,7 @@
 //! The jobs of a memo: workers fill its cells.
 
 ghost use Rattle.std.specs.Prelude.{◌≡◌, ◌<◌, IfOk, IfErr, IfSome, MatchOption};
-ghost use Rattle.shared_memo.specs.Workers.{IsWorkerCount};
+ghost use Rattle.worker_pool.specs.Workers.{IsWorkerCount};
 ghost use Rattle.shared_memo.specs.Passes.{known, memo_plan, IsPassOf};
 ghost use Rattle.shared_memo.specs.PlanJobs.{job_count};
 ghost use Rattle.table_fill.specs.Filled.{AreKnown};
@@ -9,11 +9,12 @@ ghost use Rattle.table_fill.specs.Filled.{AreKnown};
 use crate::cell_maker::CellMaker;
 use round_columns::Code;
 use round_eval::Gate;
-use shared_memo::{CrewFault, Desk, Jobs, Memo, Pass, Ticket, WorkFault, fill_by_workers};
+use shared_memo::{Desk, Memo, Pass, Ticket};
 use std::alloc::Global;
 use std::sync::Wait;
 use std::thread::Threads;
 use win_index::jobs_have_numbers;
+use worker_pool::{Jobs, PoolFault, WorkFault, fill_by_workers};
 
 // A memo to be filled, and the code of its plan, which is compiled once and lent to all workers.
 #[derive(Drop)]
@@ -63,11 +64,11 @@ pub(crate) fn fill_memo<'a, R: Threads + Wait + Sync, G: Gate + Sync>(
     fill: &MemoFill<'_, 'a>,
     workers: u32,
     gate: &G,
-) -> Result<Option<Pass<'a>>, CrewFault>
+) -> Result<Option<Pass<'a>>, PoolFault>
     requires { IsWorkerCount workers }
     ensures one { IfOk result (λ known. MatchOption known (1 < workers) (λ _. workers ≡ 1)) }
     ensures known { IfOk result (λ known. IfSome known (IsPassOf fill.now.memo.now)) }
-    ensures alone { IfErr result (λ fault. fault ≡ CrewFault.NoThread → 1 < workers) }
+    ensures alone { IfErr result (λ fault. fault ≡ PoolFault.NoThread → 1 < workers) }
 {
     fill_by_workers(rt, alloc, fill, workers, gate)
 }

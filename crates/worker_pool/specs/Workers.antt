@@ -1,4 +1,4 @@
--- The number of workers of a crew, and lists for one item of each.
+-- The number of workers, and lists for one item of each.
 use Rattle.std.specs.Prelude.{◌≡◌, ℕ, ◌≤◌, [], vec_capacity}
 use Rattle.std.specs.declared.vec.Vec.{Vec}
 use Rattle.node_program.specs.declared.limits.TheConstants.{MAX_THREADS}

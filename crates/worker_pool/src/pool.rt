@@ -1,13 +1,15 @@
+//! A pool of workers, on threads of their own.
+
 ghost use Rattle.std.specs.Prelude.{◌≡◌, ◌<◌, ◌≤◌, ◌↔◌, IfOk, IfErr, IfSome, MatchOption, IsTrue, vec_len};
 ghost use Rattle.shared_memo.specs.Tickets.{worker_of, numbers_of, IsFreshTicketOf, AreFreshTickets, AreNumbered};
-ghost use Rattle.shared_memo.specs.Workers.{HasRoom, IsWorkerCount};
-ghost use Rattle.shared_memo.specs.Outcomes.{outcome_worker, AreOutcomes, IsLowestFault};
+ghost use Rattle.worker_pool.specs.Workers.{HasRoom, IsWorkerCount};
+ghost use Rattle.worker_pool.specs.Outcomes.{outcome_worker, AreOutcomes, IsLowestFault};
 
-use crate::desk::{Desk, Ticket};
-use crate::fault::{CrewFault, RefusedStart, WorkFault};
-use crate::worker::{Jobs, Outcome, Worker, fill_all};
+use crate::fault::{PoolFault, RefusedStart, WorkFault};
+use crate::jobs::{Jobs, Outcome, Worker, fill_all};
 use node_program::OutOfMemory;
 use round_eval::Gate;
+use shared_memo::{Desk, Ticket};
 use std::alloc::Global;
 use std::sync::Wait;
 use std::thread;
@@ -36,11 +38,11 @@ pub fn fill_by_workers<R: Threads + Wait + Sync, J: Jobs + Sync, G: Gate + Sync>
     jobs: &J,
     workers: u32,
     gate: &G,
-) -> Result<Option<J::Known>, CrewFault>
+) -> Result<Option<J::Known>, PoolFault>
     requires { IsWorkerCount workers }
     ensures one { IfOk result (λ known. MatchOption known (1 < workers) (λ _. workers ≡ 1)) }
     ensures known { IfOk result (λ known. IfSome known (J.IsKnown jobs.now)) }
-    ensures alone { IfErr result (λ fault. fault ≡ CrewFault.NoThread → 1 < workers) }
+    ensures alone { IfErr result (λ fault. fault ≡ PoolFault.NoThread → 1 < workers) }
 {
     let (desk, mut tickets) = Desk::new(alloc, jobs.count(), workers)?;
     if workers > 1 {
@@ -62,7 +64,7 @@ fn fill_at<R: Threads + Wait + Sync, J: Jobs + Sync, G: Gate + Sync>(
     desk: &Desk,
     tickets: Vec<Ticket>,
     gate: &G,
-) -> Result<Vec<Outcome>, CrewFault>
+) -> Result<Vec<Outcome>, PoolFault>
     requires tickets { AreFreshTickets desk.now tickets.items }
     requires jobs { numbers_of desk.now ≡ J.jobs jobs.now }
     ensures each { IfOk result (λ outcomes. AreOutcomes (vec_len tickets) outcomes.items) }
@@ -70,14 +72,14 @@ fn fill_at<R: Threads + Wait + Sync, J: Jobs + Sync, G: Gate + Sync>(
 {
     let handles = Vec::with_capacity(alloc, tickets.len())?;
     let outcomes = Vec::with_capacity(alloc, tickets.len())?;
-    let crew = crew_of(alloc, jobs, desk, tickets, gate)?;
-    let outcomes = run_all(rt, crew, handles, outcomes)?;
+    let pool = pool_of(alloc, jobs, desk, tickets, gate)?;
+    let outcomes = run_all(rt, pool, handles, outcomes)?;
     lowest_fault(&outcomes)?;
     Ok(outcomes)
 }
 
 // A worker for each ticket, in the order of the tickets.
-fn crew_of<'d, 'j, 'g, J: Jobs, G: Gate>(
+fn pool_of<'d, 'j, 'g, J: Jobs, G: Gate>(
     alloc: Global,
     jobs: &'j J,
     desk: &'d Desk,
@@ -86,12 +88,12 @@ fn crew_of<'d, 'j, 'g, J: Jobs, G: Gate>(
 ) -> Result<Vec<Worker<'d, 'j, 'g, J, G>>, OutOfMemory>
     requires tickets { AreFreshTickets desk.now tickets.items }
     requires jobs { numbers_of desk.now ≡ J.jobs jobs.now }
-    ensures count { IfOk result (λ crew. vec_len crew ≡ vec_len tickets) }
-    ensures workers { IfOk result (λ crew. AreNumbered crew.items (λ worker. worker_of worker.ticket)) }
+    ensures count { IfOk result (λ pool. vec_len pool ≡ vec_len tickets) }
+    ensures workers { IfOk result (λ pool. AreNumbered pool.items (λ worker. worker_of worker.ticket)) }
 {
-    let mut crew = Vec::with_capacity(alloc, tickets.len())?;
+    let mut pool = Vec::with_capacity(alloc, tickets.len())?;
     for ticket in tickets {
-        crew.push_reserved(Worker {
+        pool.push_reserved(Worker {
             alloc,
             jobs,
             desk,
@@ -99,31 +101,31 @@ fn crew_of<'d, 'j, 'g, J: Jobs, G: Gate>(
             ticket,
         });
     }
-    Ok(crew)
+    Ok(pool)
 }
 
 // Runs each worker on a thread of its own, until all have ended. Returns what they came to, or that
 // the start of a thread was refused.
 fn run_all<'d, 'j, 'g, R: Threads + Wait + Sync, J: Jobs + Sync, G: Gate + Sync>(
     rt: &R,
-    crew: Vec<Worker<'d, 'j, 'g, J, G>>,
+    pool: Vec<Worker<'d, 'j, 'g, J, G>>,
     handles: Vec<Handle>,
     outcomes: Vec<Outcome>,
 ) -> Result<Vec<Outcome>, RefusedStart>
-    requires workers { AreNumbered crew.items (λ worker. worker_of worker.ticket) }
-    requires handles { HasRoom (vec_len crew) handles }
-    requires outcomes { HasRoom (vec_len crew) outcomes }
-    ensures { IfOk result (λ outcomes. AreOutcomes (vec_len crew.entry) outcomes.items) }
+    requires workers { AreNumbered pool.items (λ worker. worker_of worker.ticket) }
+    requires handles { HasRoom (vec_len pool) handles }
+    requires outcomes { HasRoom (vec_len pool) outcomes }
+    ensures { IfOk result (λ outcomes. AreOutcomes (vec_len pool.entry) outcomes.items) }
 {
     thread::scope(
         thread::scope_env(),
         rt,
         |scope| -> Result<Vec<Outcome>, RefusedStart>
-            requires workers { AreNumbered crew.items (λ worker. worker_of worker.ticket) }
-            requires handles { HasRoom (vec_len crew) handles }
-            requires outcomes { HasRoom (vec_len crew) outcomes }
-            ensures { IfOk result (λ outcomes. AreOutcomes (vec_len crew.entry) outcomes.items) }
-        { run_in_scope(rt, scope, crew, handles, outcomes) },
+            requires workers { AreNumbered pool.items (λ worker. worker_of worker.ticket) }
+            requires handles { HasRoom (vec_len pool) handles }
+            requires outcomes { HasRoom (vec_len pool) outcomes }
+            ensures { IfOk result (λ outcomes. AreOutcomes (vec_len pool.entry) outcomes.items) }
+        { run_in_scope(rt, scope, pool, handles, outcomes) },
     )
 }
 
@@ -141,16 +143,16 @@ fn run_in_scope<
 >(
     rt: &R,
     scope: &Scope<'s, E>,
-    crew: Vec<Worker<'d, 'j, 'g, J, G>>,
+    pool: Vec<Worker<'d, 'j, 'g, J, G>>,
     mut handles: Vec<Handle>,
     outcomes: Vec<Outcome>,
 ) -> Result<Vec<Outcome>, RefusedStart>
-    requires workers { AreNumbered crew.items (λ worker. worker_of worker.ticket) }
-    requires handles { HasRoom (vec_len crew) handles }
-    requires outcomes { HasRoom (vec_len crew) outcomes }
-    ensures { IfOk result (λ outcomes. AreOutcomes (vec_len crew.entry) outcomes.items) }
+    requires workers { AreNumbered pool.items (λ worker. worker_of worker.ticket) }
+    requires handles { HasRoom (vec_len pool) handles }
+    requires outcomes { HasRoom (vec_len pool) outcomes }
+    ensures { IfOk result (λ outcomes. AreOutcomes (vec_len pool.entry) outcomes.items) }
 {
-    let all_started = start_all(scope, crew, &mut handles);
+    let all_started = start_all(scope, pool, &mut handles);
     let outcomes = join_all(rt, handles, outcomes);
     if all_started {
         Ok(outcomes)
@@ -162,16 +164,16 @@ fn run_in_scope<
 // Starts workers until a start is refused, and returns whether all were started.
 fn start_all<'s, 'd: 's, 'j: 's, 'g: 's, E, J: Jobs + Sync + 's, G: Gate + Sync + 's>(
     scope: &Scope<'s, E>,
-    crew: Vec<Worker<'d, 'j, 'g, J, G>>,
+    pool: Vec<Worker<'d, 'j, 'g, J, G>>,
     handles: &mut Vec<Handle>,
 ) -> bool
-    requires workers { AreNumbered crew.items (λ worker. worker_of worker.ticket) }
-    requires handles { HasRoom (vec_len crew) handles.old }
+    requires workers { AreNumbered pool.items (λ worker. worker_of worker.ticket) }
+    requires handles { HasRoom (vec_len pool) handles.old }
     ensures workers { AreNumbered handles.new.items (λ handle. handle.promise.0) }
-    ensures few { vec_len handles.new ≤ vec_len crew.entry }
-    ensures all { IsTrue result ↔ (vec_len handles.new ≡ vec_len crew.entry) }
+    ensures few { vec_len handles.new ≤ vec_len pool.entry }
+    ensures all { IsTrue result ↔ (vec_len handles.new ≡ vec_len pool.entry) }
 {
-    for worker in crew {
+    for worker in pool {
         let Some(handle) = start_one(scope, worker) else {
             return false;
         };

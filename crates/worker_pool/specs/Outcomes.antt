@@ -1,7 +1,7 @@
--- What the workers of a crew came to. No public contract cites this file.
+-- The outcomes of workers. No public contract cites this file.
 use Rattle.std.specs.Prelude.{◌≡◌, ℕ, ◌<◌, List, Result, Ok, Err, IsOk, All, Contains, length}
-use Rattle.shared_memo.specs.declared.fault.WorkFault.{WorkFault}
-use Rattle.shared_memo.specs.declared.worker.Outcome.{Outcome}
+use Rattle.worker_pool.specs.declared.fault.WorkFault.{WorkFault}
+use Rattle.worker_pool.specs.declared.jobs.Outcome.{Outcome}
 use Rattle.shared_memo.specs.Tickets.{worker_of}
 use Rattle.shared_memo.specs.Tickets.{AreNumbered}
 

@@ -1,7 +1,8 @@
 use Rattle.std.proofs.Common.{rules}
-use Rattle.shared_memo.specs.Outcomes.{outcome_worker}
-use Rattle.shared_memo.proofs.Numbered.{numbered_rest, numbered_snoc}
-use Rattle.shared_memo.proofs.crew.join_all.Goals as goal
+use Rattle.worker_pool.specs.Outcomes.{outcome_worker}
+use Rattle.worker_pool.proofs.Numbered.{numbered_rest}
+use Rattle.shared_memo.proofs.Numbered.{numbered_snoc}
+use Rattle.worker_pool.proofs.pool.join_all.Goals as goal
 
 pub loop-handle-preserved : goal.loop-handle-preserved
 loop-handle-preserved g c =

@@ -1,9 +1,11 @@
-ghost use Rattle.std.specs.Prelude.{◌≡◌};
-ghost use Rattle.shared_memo.specs.declared.fault.CrewFault.TheVariants.{Work, NoThread};
-ghost use Rattle.shared_memo.specs.declared.fault.WorkFault.TheVariants.{OutOfMemory as NoMemory, Stranger as Met};
+//! Why jobs were not filled.
 
-use crate::memo::Stranger;
+ghost use Rattle.std.specs.Prelude.{◌≡◌};
+ghost use Rattle.worker_pool.specs.declared.fault.PoolFault.TheVariants.{Work, NoThread};
+ghost use Rattle.worker_pool.specs.declared.fault.WorkFault.TheVariants.{OutOfMemory as NoMemory, Stranger as Met};
+
 use node_program::OutOfMemory;
+use shared_memo::Stranger;
 use std::alloc::AllocError;
 
 /// Why a worker did not fill its jobs.
@@ -15,9 +17,9 @@ pub enum WorkFault {
     Stranger,
 }
 
-/// Why a crew of workers did not fill the jobs.
+/// Why workers did not fill the jobs.
 #[derive(Clone, Copy)]
-pub enum CrewFault {
+pub enum PoolFault {
     /// The fault of the lowest worker that has one.
     Work(WorkFault),
     /// The start of a thread was refused.
@@ -44,34 +46,34 @@ impl From<Stranger> for WorkFault {
     }
 }
 
-impl From<WorkFault> for CrewFault {
+impl From<WorkFault> for PoolFault {
     ghost from_gives = { λ work fault. fault ≡ Work work };
 
-    fn from(fault: WorkFault) -> CrewFault {
-        CrewFault::Work(fault)
+    fn from(fault: WorkFault) -> PoolFault {
+        PoolFault::Work(fault)
     }
 }
 
-impl From<RefusedStart> for CrewFault {
+impl From<RefusedStart> for PoolFault {
     ghost from_gives = { λ _ fault. fault ≡ NoThread };
 
-    fn from(_refused: RefusedStart) -> CrewFault {
-        CrewFault::NoThread
+    fn from(_refused: RefusedStart) -> PoolFault {
+        PoolFault::NoThread
     }
 }
 
-impl From<OutOfMemory> for CrewFault {
+impl From<OutOfMemory> for PoolFault {
     ghost from_gives = { λ _ fault. fault ≡ Work NoMemory };
 
-    fn from(_refused: OutOfMemory) -> CrewFault {
-        CrewFault::Work(WorkFault::OutOfMemory)
+    fn from(_refused: OutOfMemory) -> PoolFault {
+        PoolFault::Work(WorkFault::OutOfMemory)
     }
 }
 
-impl From<AllocError> for CrewFault {
+impl From<AllocError> for PoolFault {
     ghost from_gives = { λ _ fault. fault ≡ Work NoMemory };
 
-    fn from(_refused: AllocError) -> CrewFault {
-        CrewFault::Work(WorkFault::OutOfMemory)
+    fn from(_refused: AllocError) -> PoolFault {
+        PoolFault::Work(WorkFault::OutOfMemory)
     }
 }

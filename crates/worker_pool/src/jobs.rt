@@ -3,9 +3,9 @@
 ghost use Rattle.std.specs.Prelude.{◌≡◌, ℕ, ◌≤◌, ◌^◌, List, IfOk, OnOk, true, is_ok};
 ghost use Rattle.shared_memo.specs.Tickets.{drawn, told, worker_of, numbers_of, IsFreshTicketOf};
 
-use crate::desk::{Desk, Ticket};
 use crate::fault::WorkFault;
 use round_eval::Gate;
+use shared_memo::{Desk, Ticket};
 use std::alloc::Global;
 
 /// Jobs that workers fill.

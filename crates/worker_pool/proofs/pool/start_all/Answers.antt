@@ -1,7 +1,8 @@
 use Rattle.std.proofs.Common.{rules}
 use Rattle.shared_memo.specs.Tickets.{worker_of}
-use Rattle.shared_memo.proofs.Numbered.{numbered_rest, numbered_snoc}
-use Rattle.shared_memo.proofs.crew.start_all.Goals as goal
+use Rattle.worker_pool.proofs.Numbered.{numbered_rest}
+use Rattle.shared_memo.proofs.Numbered.{numbered_snoc}
+use Rattle.worker_pool.proofs.pool.start_all.Goals as goal
 
 pub loop-worker-preserved : goal.loop-worker-preserved
 loop-worker-preserved g c =

@@ -1,7 +1,8 @@
 use Rattle.std.proofs.Common.{rules, suc, All, List, ◌∷◌, subst, arith}
 use Rattle.shared_memo.specs.Tickets.{worker_of, IsFreshTicketOf}
-use Rattle.shared_memo.proofs.Numbered.{numbered_rest, numbered_snoc}
-use Rattle.shared_memo.proofs.crew.crew_of.Goals as goal
+use Rattle.worker_pool.proofs.Numbered.{numbered_rest}
+use Rattle.shared_memo.proofs.Numbered.{numbered_snoc}
+use Rattle.worker_pool.proofs.pool.pool_of.Goals as goal
 
 all_first : {X : Type 0} (P : X → Type 0) (x : X) (xs : List X) → All P (x ∷ xs) → P x × All P xs
 all_first P x xs h = (h 0 x (omega arith), λ k d below. h (suc k) d (omega arith))
@@ -23,5 +24,5 @@ loop-ticket-preserved g c =
       room = search rules;
       count = search rules;
       rest = rw c.push_reserved.ensures.len numbers.1;
-      workers = rw c.push_reserved.ensures.items (numbered_snoc (λ w. worker_of w.ticket) c.loop-ticket.crew.items _ inv.workers (let number = numbers.0 in search rules));
+      workers = rw c.push_reserved.ensures.items (numbered_snoc (λ w. worker_of w.ticket) c.loop-ticket.pool.items _ inv.workers (let number = numbers.0 in search rules));
     }

@@ -2,14 +2,14 @@ use Rattle.std.proofs.Common.{◌≡◌, ◌+◌, ◌≤◌, All, vec_len, vec_c
 use Rattle.std.specs.Vec.Iter.{into_iter_items, into_iter_len}
 use Rattle.shared_memo.specs.Tickets.{worker_of, IsFreshTicketOf}
 use Rattle.shared_memo.specs.Tickets.{AreNumbered}
-use Rattle.shared_memo.proofs.Numbered.{AreNumberedFrom}
-use Rattle.shared_memo.proofs.crew.crew_of.Given as goal
+use Rattle.worker_pool.proofs.Numbered.{AreNumberedFrom}
+use Rattle.worker_pool.proofs.pool.pool_of.Given as goal
 
 abbrev pub invariant-loop-ticket : goal.invariant-loop-ticket
 invariant-loop-ticket g l = record {
   ready : All (IsFreshTicketOf l.desk) (into_iter_items l.ticket-iterator);
-  room : vec_len l.crew + into_iter_len l.ticket-iterator ≤ vec_capacity l.crew;
-  count : vec_len l.crew + into_iter_len l.ticket-iterator ≡ vec_len l.fn.tickets;
-  rest : AreNumberedFrom (vec_len l.crew) (into_iter_items l.ticket-iterator) worker_of;
-  workers : AreNumbered l.crew.items (λ worker. worker_of worker.ticket);
+  room : vec_len l.pool + into_iter_len l.ticket-iterator ≤ vec_capacity l.pool;
+  count : vec_len l.pool + into_iter_len l.ticket-iterator ≡ vec_len l.fn.tickets;
+  rest : AreNumberedFrom (vec_len l.pool) (into_iter_items l.ticket-iterator) worker_of;
+  workers : AreNumbered l.pool.items (λ worker. worker_of worker.ticket);
 }
