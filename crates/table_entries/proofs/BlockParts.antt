@@ -102,30 +102,6 @@ one_more_block plan first len i part xs ys share part_is within size before more
       subst (λ v. v < plan.program.channels) (sym same) is.1,
     ))
 
--- the first windows of a share, and the others, if the first ones end a block or are all
-pub front_share :
-    (plan : ProgramForIds) (first len all front : ℕ) → IsShare plan first all → len ≤ all → (len % BLOCK_WINDOWS ≡ 0) ⊎ (len ≡ all)
-    → front ≡ len → IsShare plan first front
-front_share plan first len all front share le ends front_is =
-    record {
-      within = omega (arith, share.within);
-      ends_a_block = ⊎_elim (λ (whole : len % BLOCK_WINDOWS ≡ 0). inl (omega arith))
-          (λ (is : len ≡ all). subst (λ n. (n % BLOCK_WINDOWS ≡ 0) ⊎ (BLOCK_WINDOWS * first + n ≡ window_count plan.ids (length plan.program.steps))) (sym (front_is ∙ is)) share.ends_a_block) ends;
-    }
-
-pub back_share :
-    (plan : ProgramForIds) (first len all back : ℕ) → IsShare plan first all → (len % BLOCK_WINDOWS ≡ 0) ⊎ (len ≡ all)
-    → back + len ≡ all → IsShare plan (first + len / BLOCK_WINDOWS) back
-back_share plan first len all back share ends back_is =
-    let windows = window_count plan.ids (length plan.program.steps) in
-    record {
-      within = omega (arith, share.within);
-      ends_a_block = ⊎_elim
-          (λ (whole : len % BLOCK_WINDOWS ≡ 0).
-          ⊎_elim (λ (is : all % BLOCK_WINDOWS ≡ 0). inl (omega arith)) (λ (is : BLOCK_WINDOWS * first + all ≡ windows). inr (omega arith)) share.ends_a_block)
-          (λ (is : len ≡ all). inl (omega arith)) ends;
-    }
-
 -- the channels of a block's windows are below the limit
 pub below_front :
     (n limit : ℕ) (xs : List ℕ) → n ≤ length xs → ((i : ℕ) → i < n → slice_index xs i < limit) → All (λ x. x < limit) (take n xs)

@@ -2,4 +2,4 @@
 pub mod Programs
 pub mod JoinedEntries
 pub mod BlockParts
-pub mod SharedCode
+pub mod SharePlaces

@@ -1,11 +1,12 @@
 -- Scratch for reading the channels of a block's windows.
-use Rattle.std.specs.Prelude.{◌≡◌, ℕ, ◌+◌, ◌*◌, ◌<◌, ◌≤◌, List, length, slice_index}
+use Rattle.std.specs.Prelude.{◌≡◌, ℕ, ◌+◌, ◌*◌, ◌<◌, ◌≤◌, List, [], length, slice_index, slice_index_or}
 use Rattle.node_program.specs.Term.{terms}
 use Rattle.win_index.specs.declared.limits.TheConstants.{BLOCK_WINDOWS}
 use Rattle.lang_check.specs.Plans.{ProgramForIds}
+use Rattle.round_columns.specs.Room.{Room}
 use Rattle.round_columns.specs.States.{NodeStates}
 use Rattle.column_machine.specs.StackNeed.{most_columns}
-use Rattle.window_states.specs.BlockStates.{block_len, window_numbered}
+use Rattle.window_states.specs.BlockStates.{MadeBlock, block_len, block_state, window_numbered}
 use Rattle.table_entries.specs.ProgramTables.{window_channel}
 use Rattle.table_entries.specs.declared.entry_columns.EntryColumns.{EntryColumns}
 
@@ -13,10 +14,19 @@ use Rattle.table_entries.specs.declared.entry_columns.EntryColumns.{EntryColumns
 abbrev pub IsStatesRoom : ProgramForIds → NodeStates → Type 0
 IsStatesRoom plan states = (states.registers ≡ length plan.program.start) × (length states.states ≡ BLOCK_WINDOWS)
 
+-- columns to evaluate the program of the plan at BLOCK_WINDOWS windows
+pub record IsWorkRoom (plan : ProgramForIds) (work : Room) : Type 0 where
+  pub room : most_columns (terms plan.program) ≤ work.columns
+  pub width : work.width ≡ BLOCK_WINDOWS
+
+-- columns that hold the states of a block
+pub record HoldStates (block : MadeBlock) (states : NodeStates) : Type 0 where
+  pub wide : IsStatesRoom block.plan states
+  pub each : (i : ℕ) → i < block_len block.plan.ids block.level block.number → slice_index_or states.states i [] ≡ block_state block.plan block.level block.number i
+
 -- scratch for the states of a block of the plan and for their channels
 pub record IsChannelRoom (plan : ProgramForIds) (scratch : EntryColumns) : Type 0 where
-  pub room : most_columns (terms plan.program) ≤ scratch.work.columns
-  pub width : scratch.work.width ≡ BLOCK_WINDOWS
+  pub work : IsWorkRoom plan scratch.work
   pub states_wide : IsStatesRoom plan scratch.states
   pub channels_wide : length scratch.channels.items ≡ BLOCK_WINDOWS
 

@@ -1,9 +1,7 @@
 -- What reads the entries of a table.
-use Rattle.std.specs.Prelude.{ℕ, ◌<◌, List, All, length, refl}
+use Rattle.std.specs.Prelude.{ℕ, refl}
 use Rattle.std.specs.Coded.{Coded, code_by, coded×, coded_ℕ}
 use Rattle.lang_check.specs.Plans.{ProgramForIds, plan_code}
-use Rattle.table_entries.specs.ChannelRoom.{IsChannelRoom}
-use Rattle.table_entries.specs.declared.entry_columns.EntryColumns.{EntryColumns}
 
 -- a reader: the plan whose table it reads, and the number of shares that it reads it in
 pub record ReaderOf : Type 0 where
@@ -15,8 +13,3 @@ abbrev pub reader_code : Coded ReaderOf
 reader_code =
     code_by (ProgramForIds × ℕ) (coded× plan_code coded_ℕ) (λ r. (r.plan, r.shares)) (λ t. record { plan = t.0; shares = t.1 })
     (λ _. refl)
-
--- the invariant of readers: scratch of the plan for each share, of which there is one
-pub record IsReader (plan : ProgramForIds) (columns : List EntryColumns) : Type 0 where
-  pub some : 0 < length columns
-  pub of_plan : All (IsChannelRoom plan) columns

@@ -1,3 +1,5 @@
+//! Scratch to read the channels of blocks.
+
 use crate::block_channels::{put_block, write_channels, write_entries};
 use node_program::OutOfMemory;
 use round_columns::{Code, Columns, Work};
@@ -42,7 +44,6 @@ impl EntryColumns {
         requires block { IsKeyedBlock code.now (length code.now.program.steps) block.now.number block.now }
         requires size { length entries.old ≡ block_len code.now.ids (length code.now.program.steps) block.now.number }
         ensures room { IsChannelRoom code.now self.new }
-        ensures size { length entries.new ≡ length entries.old }
         ensures entries { AreEntries code.now (BLOCK_WINDOWS * block.now.number) entries.new }
     {
         put_block(block, &mut self.states);

@@ -6,6 +6,7 @@ mod block_channels;
 mod entry_columns;
 mod laws;
 mod reading;
+mod share;
 mod shares;
 
 pub use laws::{program_tables_are_tables, table_has_the_channels_of_rounds};

@@ -1,5 +1,7 @@
-use crate::entry_columns::EntryColumns;
-use crate::shares::write_shares;
+//! The reading of a table.
+
+use crate::share::Share;
+use crate::shares::{joined, read_shares, shares_of};
 use channel_tables::Table;
 use node_program::OutOfMemory;
 use round_columns::Code;
@@ -12,34 +14,35 @@ use window_states::Block;
 // The number of windows for each share. Fewer do not pay for a thread.
 const SHARE_WINDOWS: u32 = 64 * BLOCK_WINDOWS;
 
-/// Reads the table of a plan from the blocks of its last level, in shares, with scratch columns for
-/// each share. Its model is the plan and the number of shares.
+/// Reads the table of a plan from the blocks of its last level, in shares. Its model is the plan and
+/// the number of shares.
 #[derive(Drop)]
 pub struct EntryReader<'c, 'p> {
     code: &'c Code<'p>,
-    columns: Vec<EntryColumns>,
+    shares: Vec<Share>,
 }
 
 impl<'c, 'p> Model for EntryReader<'c, 'p> {
     ghost use Rattle.std.specs.Prelude.{length};
-    ghost use Rattle.table_entries.specs.Readers.{ReaderOf, IsReader, reader_code};
+    ghost use Rattle.table_entries.specs.Readers.{ReaderOf, reader_code};
+    ghost use Rattle.table_entries.specs.Shares.{AreShares};
 
     ghost Value = { ReaderOf };
 
     ghost coded = { reader_code };
 
-    ghost view = { λ r. record { plan = r.code.now; shares = length r.columns.items } };
+    ghost view = { λ r. record { plan = r.code.now; shares = length r.shares.items } };
 
-    ghost invariant = { λ r. IsReader r.code.now r.columns.items };
+    ghost invariant = { λ r. AreShares r.code.now r.shares.items };
 }
 
 impl<'c, 'p> EntryReader<'c, 'p> {
-    ghost use Rattle.std.specs.Prelude.{◌≡◌, ◌<◌, ◌≤◌, length, vec_len, IfOk};
+    ghost use Rattle.std.specs.Prelude.{◌≡◌, ◌<◌, ◌≤◌, length, IfOk};
     ghost use Rattle.win_index.specs.Blocks.{window_count};
     ghost use Rattle.table_entries.specs.EntryShares.{AreLastBlocks, share_count};
     ghost use Rattle.table_entries.specs.ProgramTables.{table_of};
 
-    /// Allocates scratch to read the table of a plan in one share for each 64 blocks that are begun,
+    /// Allocates memory to read the table of a plan in one share for each 64 blocks that are begun,
     /// but in at most `shares` shares. Fails with `OutOfMemory` if memory was refused.
     pub fn new(
         alloc: Global,
@@ -54,67 +57,48 @@ impl<'c, 'p> EntryReader<'c, 'p> {
     {
         let shape = code.plan().shape();
         let worth = shape.count(shape.rounds()).div_ceil(SHARE_WINDOWS);
-        let columns = columns_of_shares(alloc, code, shares.min(worth))?;
-        Ok(EntryReader { code, columns })
+        let shares = shares_of(alloc, code, shares.min(worth) as usize)?;
+        Ok(EntryReader { code, shares })
     }
 
-    /// Returns the number of shares, from 1 on.
-    pub fn shares(&self) -> usize
-        ensures value { result ≡ self.now.shares }
-        ensures some { 0 < result }
-    {
-        self.columns.len()
-    }
-
-    /// Reads the table from the blocks of the last level, into `entries`. Several shares are read on
-    /// a thread each.
-    pub fn read<R: Threads + Sync>(self, rt: &R, blocks: &[&Block<'_>], entries: Vec<u16>) -> Table
-        requires blocks { AreLastBlocks self.plan blocks.now }
-        requires size { vec_len entries ≡ window_count self.plan.ids (length self.plan.program.steps) }
+    /// Reads the table from the blocks of the last level. Several shares are read on a thread each.
+    pub fn read<R: Threads + Sync>(self, rt: &R, blocks: &[&Block<'_>]) -> Table
+        requires { AreLastBlocks self.plan blocks.now }
         ensures { result ≡ table_of self.entry.plan.program self.entry.plan.ids }
     {
-        let EntryReader { code, columns } = self;
-        read_table(rt, code, blocks, columns, entries)
+        let EntryReader { code, shares } = self;
+        table_with(code, entries_of(rt, code, blocks, shares))
     }
 }
 
-ghost use Rattle.std.specs.Prelude.{◌≡◌, ◌<◌, length, vec_len, All, IfOk};
-ghost use Rattle.table_entries.specs.ChannelRoom.{IsChannelRoom};
-ghost use Rattle.table_entries.specs.EntryShares.{AreLastBlocks};
+ghost use Rattle.std.specs.Prelude.{◌≡◌, length, vec_len};
+ghost use Rattle.table_entries.specs.EntryShares.{AreLastBlocks, AreEntries};
 ghost use Rattle.table_entries.specs.ProgramTables.{table_of};
+ghost use Rattle.table_entries.specs.Shares.{AreShares};
 ghost use Rattle.win_index.specs.Blocks.{window_count};
 
-// Scratch columns for each of `shares` shares.
-fn columns_of_shares(
-    alloc: Global,
-    code: &Code<'_>,
-    shares: u32,
-) -> Result<Vec<EntryColumns>, OutOfMemory>
-    ensures count { IfOk result (λ columns. vec_len columns ≡ shares) }
-    ensures of_plan { IfOk result (λ columns. All (IsChannelRoom code.now) columns.items) }
-{
-    let mut columns = Vec::with_capacity(alloc, shares as usize)?;
-    for _share in 0..shares {
-        columns.push_reserved(EntryColumns::new(alloc, code)?);
-    }
-    Ok(columns)
-}
-
-// Reads the table from the blocks of the last level, with a share for each set of columns.
-fn read_table<R: Threads + Sync>(
+// Reads the entries of a table in shares.
+fn entries_of<R: Threads + Sync>(
     rt: &R,
     code: &Code<'_>,
     blocks: &[&Block<'_>],
-    mut columns: Vec<EntryColumns>,
-    mut entries: Vec<u16>,
-) -> Table
+    mut shares: Vec<Share>,
+) -> Vec<u16>
+    requires shares { AreShares code.now shares.items }
     requires blocks { AreLastBlocks code.now blocks.now }
-    requires some { 0 < vec_len columns }
-    requires of_plan { All (IsChannelRoom code.now) columns.items }
+    ensures size { vec_len result ≡ window_count code.now.ids (length code.now.program.steps) }
+    ensures entries { AreEntries code.now 0 result.items }
+{
+    read_shares(rt, code, blocks, &mut shares);
+    joined(code, shares)
+}
+
+// The table with these entries.
+fn table_with(code: &Code<'_>, entries: Vec<u16>) -> Table
     requires size { vec_len entries ≡ window_count code.now.ids (length code.now.program.steps) }
+    requires entries { AreEntries code.now 0 entries.items }
     ensures { result ≡ table_of code.now.program code.now.ids }
 {
-    write_shares(rt, code, blocks, &mut columns, &mut entries);
     let plan = code.plan();
     Table::new(plan.shape(), plan.program().channels(), entries)
 }

@@ -1,43 +1,17 @@
-//! The blocks of the last level, from which the table is read, and room for its entries.
+//! The blocks of the last level, from which the table is read.
 
-ghost use Rattle.std.specs.Prelude.{◌≡◌, ◌≤◌, length, vec_len, vec_capacity, IfOk};
+ghost use Rattle.std.specs.Prelude.{length, IfOk};
 ghost use Rattle.shared_memo.specs.PlanJobs.{IsKey, IsKeyedBlock};
 ghost use Rattle.shared_memo.specs.Passes.{known, memo_plan};
 ghost use Rattle.worker_pool.specs.Workers.{HasRoom};
 ghost use Rattle.table_entries.specs.EntryShares.{AreLastBlocks};
 ghost use Rattle.table_fill.specs.Filled.{HasLearned, KnowsAll, IsFullPass};
-ghost use Rattle.win_index.specs.Blocks.{block_count, window_count};
+ghost use Rattle.win_index.specs.Blocks.{block_count};
 
-use lang_check::Plan;
 use node_program::OutOfMemory;
 use shared_memo::{Memo, Pass};
 use std::alloc::Global;
 use window_states::Block;
-
-// The number of entries of a plan's table.
-pub(crate) fn entry_count(plan: &Plan) -> usize
-    ensures { result ≡ window_count plan.now.ids (length plan.now.program.steps) }
-{
-    let shape = plan.shape();
-    shape.count(shape.rounds()) as usize
-}
-
-// An empty list with capacity for the entries of a plan's table.
-pub(crate) fn no_entries(alloc: Global, plan: &Plan) -> Result<Vec<u16>, OutOfMemory>
-    ensures { IfOk result (λ entries. window_count plan.now.ids (length plan.now.program.steps) ≤ vec_capacity entries) }
-{
-    Ok(Vec::with_capacity(alloc, entry_count(plan))?)
-}
-
-// Fills a list with `count` zeros, for which it has capacity.
-pub(crate) fn put_zeros(entries: &mut Vec<u16>, count: usize)
-    requires { count ≤ vec_capacity entries.old }
-    ensures { vec_len entries.new ≡ count }
-{
-    let Ok(()) = entries.resize(count, 0) else {
-        unreachable!()
-    };
-}
 
 // The block of a level and a number, which the pass knows.
 fn known_block<'s, 'a>(
@@ -59,7 +33,7 @@ fn known_block<'s, 'a>(
 }
 
 // An empty list with capacity for the blocks of the last level.
-pub(crate) fn no_blocks<'s, 'a>(
+pub(crate) fn empty_blocks<'s, 'a>(
     alloc: Global,
     memo: &'s Memo<'a>,
 ) -> Result<Vec<&'s Block<'a>>, OutOfMemory>

@@ -1,4 +1,6 @@
-use crate::last_blocks::{last_blocks, no_blocks, no_entries};
+//! Memory to read a table.
+
+use crate::last_blocks::{empty_blocks, last_blocks};
 use channel_tables::Table;
 use node_program::OutOfMemory;
 use round_columns::Code;
@@ -8,22 +10,20 @@ use std::thread::Threads;
 use table_entries::EntryReader;
 use window_states::Block;
 
-// Memory to read a table, allocated before the first worker starts: a reader, and lists with
-// capacity for the entries and for the blocks of the last level.
+// Memory to read a table, allocated before the first worker starts: a reader of its entries, and a
+// list with capacity for the blocks of the last level.
 #[derive(Drop)]
 pub(crate) struct TableRoom<'s, 'a> {
     pub(crate) reader: EntryReader<'s, 'a>,
-    pub(crate) entries: Vec<u16>,
     pub(crate) blocks: Vec<&'s Block<'a>>,
 }
 
 impl<'s, 'a> TableRoom<'s, 'a> {
-    ghost use Rattle.std.specs.Prelude.{◌≡◌, ◌<◌, ◌≤◌, length, vec_len, vec_capacity, IfOk};
+    ghost use Rattle.std.specs.Prelude.{◌≡◌, ◌<◌, IfOk};
     ghost use Rattle.shared_memo.specs.Passes.{known, memo_plan};
     ghost use Rattle.table_entries.specs.ProgramTables.{table_of};
     ghost use Rattle.table_fill.specs.Filled.{HasLearned, KnowsAll, IsFullPass};
     ghost use Rattle.table_fill.specs.TableRooms.{IsRoomFor};
-    ghost use Rattle.win_index.specs.Blocks.{window_count};
 
     // Allocates room for the table of a memo's plan, which at most `shares` shares read.
     pub(crate) fn new(
@@ -34,20 +34,14 @@ impl<'s, 'a> TableRoom<'s, 'a> {
     ) -> Result<TableRoom<'s, 'a>, OutOfMemory>
         requires plan { code.now ≡ memo_plan memo.now }
         requires shares { 0 < shares }
-        ensures room { IfOk result (IsRoomFor (memo_plan memo.now)) }
-        ensures entries { IfOk result (λ room. window_count (memo_plan memo.now).ids (length (memo_plan memo.now).program.steps) ≤ vec_capacity room.entries) }
+        ensures { IfOk result (IsRoomFor (memo_plan memo.now)) }
     {
         let reader = EntryReader::new(alloc, code, shares)?;
-        let entries = no_entries(alloc, memo.plan())?;
-        let blocks = no_blocks(alloc, memo)?;
-        Ok(TableRoom {
-            reader,
-            entries,
-            blocks,
-        })
+        let blocks = empty_blocks(alloc, memo)?;
+        Ok(TableRoom { reader, blocks })
     }
 
-    // Reads the table from the blocks of the last level, which the pass knows, into the entries.
+    // Reads the table from the blocks of the last level, which the pass knows.
     pub(crate) fn read<R: Threads + Sync>(
         self,
         rt: &R,
@@ -56,17 +50,12 @@ impl<'s, 'a> TableRoom<'s, 'a> {
     ) -> Table
         requires pass { IsFullPass memo.now pass.old }
         requires room { IsRoomFor (memo_plan memo.now) self }
-        requires size { vec_len self.entries ≡ window_count (memo_plan memo.now).ids (length (memo_plan memo.now).program.steps) }
         ensures learned { HasLearned memo.now pass.old pass.new }
         ensures known { KnowsAll (memo_plan memo.now) (known pass.new) }
         ensures table { result ≡ table_of (memo_plan memo.now).program (memo_plan memo.now).ids }
     {
-        let TableRoom {
-            reader,
-            entries,
-            blocks,
-        } = self;
+        let TableRoom { reader, blocks } = self;
         let blocks = last_blocks(memo, pass, blocks);
-        reader.read(rt, &blocks, entries)
+        reader.read(rt, &blocks)
     }
 }

@@ -1,4 +1,4 @@
-use Rattle.std.proofs.Common.{◌≡◌, ℕ, ◌+◌, ◌*◌, [], length, get_or, take, drop, sym, ap, ◌∙◌, arith}
+use Rattle.std.proofs.Common.{rules, ◌≡◌, ℕ, ◌+◌, ◌*◌, [], length, get_or, take, drop, sym, ap, ◌∙◌, arith}
 use Rattle.std.proofs.lemmas.List.FromFn.{get_or-map-range_with_len}
 use Rattle.window_states.specs.BlockStates.{block_len}
 use Rattle.table_entries.proofs.block_channels.put_block.Goals as goal
@@ -6,19 +6,22 @@ use Rattle.table_entries.proofs.block_channels.put_block.Goals as goal
 pub put_rows-requires-clause-cells : goal.put_rows-requires-clause-cells
 put_rows-requires-clause-cells c =
     let b = c.args.block.now in
-    rw c.requires.room.0 (omega (arith, c.states.ensures.size, ap (λ len. len * length b.plan.program.start) c.len.ensures))
+    rw c.requires.0 (omega (arith, c.states.ensures.size, ap (λ len. len * length b.plan.program.start) c.len.ensures))
 
-pub returns-clause-states : goal.returns-clause-states
-returns-clause-states c =
+pub returns : goal.returns
+returns c =
     let b = c.args.block.now in
     let width : ℕ = length b.plan.program.start in
     let len = block_len b.plan.ids b.level b.number in
     let cells = c.states.result.now in
-    let written = rw c.requires.room.0 at c.put_rows.ensures.states.written in
-    λ i lt.
-    let from_first : i ≡ 0 + i = omega arith in
-    ap (λ k. get_or c.put_rows.new.self.states k []) from_first
-    ∙ written i (omega (arith, lt, c.len.ensures))
-    ∙ sym (get_or-map-range_with_len (λ k. take width (drop (k * width) cells)) 0 len i (0 + i) [] lt (omega arith))
-    ∙ ap (λ list. get_or list i []) (sym (c.rows_are_taken.ensures width len cells))
-    ∙ c.states.ensures.rows i lt
+    let written = rw c.requires.0 at c.put_rows.ensures.states.written in
+    record {
+      wide = search rules;
+      each = λ i lt.
+          let from_first : i ≡ 0 + i = omega arith in
+          ap (λ k. get_or c.put_rows.new.self.states k []) from_first
+          ∙ written i (omega (arith, lt, c.len.ensures))
+          ∙ sym (get_or-map-range_with_len (λ k. take width (drop (k * width) cells)) 0 len i (0 + i) [] lt (omega arith))
+          ∙ ap (λ list. get_or list i []) (sym (c.rows_are_taken.ensures width len cells))
+          ∙ c.states.ensures.rows i lt;
+    }

@@ -19,10 +19,12 @@ returns-clause-channels c = λ i lt.
     let within : n < length (windows (2 * t + 1) m) = omega (arith, lt) in
     let is = numbered_is_window c.number_of_window.ensures c.windows_have_numbers.ensures m t n within in
     let bound = c.windows_are_within.ensures p m t (window_numbered m t n) is in
-    let held = rw c.requires.last at c.requires.states in
+    let keyed = c.requires.block in
+    let last : c.args.block.now.level ≡ t = keyed.1 ∙ sym (λ i. length (keyed.0 i).program.steps) in
+    let held = rw last at c.requires.states.each in
     let state : get_or c.args.states.now.states i [] ≡ middle_state p t (window_numbered m t n) = held i lt in
-    let few : i < length c.args.states.now.states = omega (arith, lt, c.requires.wide.0.1) in
-    let wrote = rw c.requires.code at c.channel_columns.ensures in (
+    let few : i < length c.args.states.now.states = omega (arith, lt, c.requires.states.wide.1) in
+    let wrote = rw (← keyed.0) at c.channel_columns.ensures in (
       ap (λ cs. get_or cs i 0) wrote.channels ∙ get_or-map (channel p) c.args.states.now.states i [] 0 few ∙ ap (channel p) state,
       wrote.below i few (subst (λ s. IsWithin s (register_bounds p m t)) (sym state) bound),
     )

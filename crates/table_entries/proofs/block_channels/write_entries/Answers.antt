@@ -27,8 +27,8 @@ slice_bounds-narrow-end c =
     let len = block_len plan.ids (length plan.program.steps) c.args.block.now.number in
     sym (length-take-le (length c.args.entries.now) c.args.channels.now (few _ _ len 0 c.requires.wide c.requires.size (short plan.ids (length plan.program.steps) c.args.block.now.number)))
 
-pub returns-clause-entries : goal.returns-clause-entries
-returns-clause-entries c =
+pub returns : goal.returns
+returns c =
     let plan = c.args.block.now.plan in
     let n = length c.args.entries.now in
     entries_of_front plan (BLOCK_WINDOWS * c.args.block.now.number) n c.args.channels.now c.narrow.new.entries c.narrow.auto.entries c.narrow.ensures

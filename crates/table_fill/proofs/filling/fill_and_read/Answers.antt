@@ -4,16 +4,16 @@ use Rattle.table_fill.proofs.filling.fill_and_read.Goals as goal
 pub returns-in-Err-clause-fault : goal.returns-in-Err-clause-fault
 returns-in-Err-clause-fault g c = rw c.fill_fault.ensures.same (fault_of_pool c.args.workers c.in-Err.fault c.in-Err.ensures.alone)
 
-pub returns-then-look_and_put_zeros-clause-learned : goal.returns-then-look_and_put_zeros-clause-learned
-returns-then-look_and_put_zeros-clause-learned g c =
-    (c.read.ensures.learned.0, grows_both c.learn_from.ensures.learned.1 (grows_both c.look_and_put_zeros.ensures.learned.1 c.read.ensures.learned.1))
+pub returns-then-look_at_all-clause-learned : goal.returns-then-look_at_all-clause-learned
+returns-then-look_at_all-clause-learned g c =
+    (c.read.ensures.learned.0, grows_both c.learn_from.ensures.learned.1 (grows_both c.look_at_all.ensures.learned.1 c.read.ensures.learned.1))
 
-pub returns-else-look_and_put_zeros-clause-learned : goal.returns-else-look_and_put_zeros-clause-learned
-returns-else-look_and_put_zeros-clause-learned g c =
-    (c.look_and_put_zeros.ensures.learned.0, grows_both c.learn_from.ensures.learned.1 c.look_and_put_zeros.ensures.learned.1)
+pub returns-else-look_at_all-clause-learned : goal.returns-else-look_at_all-clause-learned
+returns-else-look_at_all-clause-learned g c =
+    (c.look_at_all.ensures.learned.0, grows_both c.learn_from.ensures.learned.1 c.look_at_all.ensures.learned.1)
 
-pub returns-then-look_and_put_zeros-clause-compiled : goal.returns-then-look_and_put_zeros-clause-compiled
-returns-then-look_and_put_zeros-clause-compiled g c =
+pub returns-then-look_at_all-clause-compiled : goal.returns-then-look_at_all-clause-compiled
+returns-then-look_at_all-clause-compiled g c =
     let plan = c.args.fill.now.memo.now.plan.now in
     record {
       all_known = c.read.ensures.known;

@@ -6,7 +6,7 @@ use Rattle.table_entries.proofs.entry_columns.EntryColumns.write_block.Goals as 
 pub write_entries-requires-clause-channels : goal.write_entries-requires-clause-channels
 write_entries-requires-clause-channels c =
     let cs = c.write_channels.new.channels in
-    let written = with_items_is c.args.self.now.channels cs (c.write_channels.ensures.wide ∙ sym (c.args.self.now.channels.ok.0 ∙ c.requires.room.channels_wide)) in
+    let written = with_items_is c.args.self.now.channels cs (c.write_channels.ensures.room.1 ∙ sym (c.args.self.now.channels.ok.0 ∙ c.requires.room.channels_wide)) in
     rw (c.deref.ensures.value ∙ written) c.write_channels.ensures.channels
 
 pub write_entries-requires-clause-size : goal.write_entries-requires-clause-size
@@ -20,13 +20,12 @@ returns-clause-room c =
     let room = c.requires.room in
     let is = c.requires.block.0 in
     let cs = c.write_channels.new.channels in
-    let written = with_items_is c.args.self.now.channels cs (c.write_channels.ensures.wide ∙ sym (c.args.self.now.channels.ok.0 ∙ room.channels_wide)) in
+    let written = with_items_is c.args.self.now.channels cs (c.write_channels.ensures.room.1 ∙ sym (c.args.self.now.channels.ok.0 ∙ room.channels_wide)) in
     record {
-      room = rw c.write_channels.ensures.work room.room;
-      width = rw c.write_channels.ensures.work room.width;
-      states_wide = (c.put_block.ensures.room.0 ∙ (λ i. length (is i).program.start), c.put_block.ensures.room.1);
-      channels_wide = ap length written ∙ c.write_channels.ensures.wide;
+      work = rw c.write_channels.ensures.room.0 room.work;
+      states_wide = (c.put_block.ensures.wide.0 ∙ (λ i. length (is i).program.start), c.put_block.ensures.wide.1);
+      channels_wide = ap length written ∙ c.write_channels.ensures.room.1;
     }
 
 pub returns-clause-entries : goal.returns-clause-entries
-returns-clause-entries c = rw c.requires.block.0 at c.write_entries.ensures.entries
+returns-clause-entries c = rw c.requires.block.0 at c.write_entries.ensures

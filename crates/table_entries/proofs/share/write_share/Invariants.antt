@@ -2,7 +2,7 @@ use Rattle.std.proofs.Common.{◌≡◌, ℕ, ◌+◌, ◌*◌, ◌<◌, length,
 use Rattle.window_states.specs.BlockStates.{window_numbered}
 use Rattle.table_entries.specs.ProgramTables.{window_channel}
 use Rattle.table_entries.specs.ChannelRoom.{IsChannelRoom}
-use Rattle.table_entries.proofs.shares.write_share.Given as goal
+use Rattle.table_entries.proofs.share.write_share.Given as goal
 use Rattle.win_index.specs.declared.limits.TheConstants.{BLOCK_WINDOWS}
 
 -- the entries of the blocks so far are written

@@ -2,7 +2,7 @@ use Rattle.std.proofs.Common.{◌≡◌, ℕ, ◌+◌, ◌*◌, ◌≤◌, lengt
 use Rattle.win_index.specs.declared.limits.TheConstants.{BLOCK_WINDOWS}
 use Rattle.table_entries.specs.EntryShares.{AreEntries}
 use Rattle.table_entries.proofs.BlockParts.{block_in_share, keyed_block, keyed_len, part_in_share, part_len, length-written, one_more_block}
-use Rattle.table_entries.proofs.shares.write_share.Goals as goal
+use Rattle.table_entries.proofs.share.write_share.Goals as goal
 
 pub write_block-requires-clause-block : goal.write_block-requires-clause-block
 write_block-requires-clause-block c =
@@ -34,7 +34,7 @@ loop-i-preserved c =
     let ys = c.write_block.new.entries in
     let from : ℕ = c.loop-i.i * BLOCK_WINDOWS in
     let inside : from + c.len.result ≤ length xs = rw c.loop-i.invariant.size within in
-    let size : length ys ≡ c.len.result = c.write_block.ensures.size ∙ part_len from c.len.result xs inside in
+    let size : length ys ≡ c.len.result = c.write_block.auto.entries ∙ part_len from c.len.result xs inside in
     let wrote : AreEntries plan (BLOCK_WINDOWS * number) ys = rw keyed.2 at c.write_block.ensures.entries in
     record {
       room = c.write_block.ensures.room;
