@@ -4,6 +4,5 @@
 pub mod Filled
 pub mod Compiled
 pub mod Cells
-pub mod Faults
 pub mod MissingBlocks
 pub mod TableRooms

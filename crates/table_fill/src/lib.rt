@@ -2,7 +2,6 @@
 #![tactic(auto)]
 
 mod cell_maker;
-mod fault;
 mod filling;
 mod last_blocks;
 mod looks;
@@ -11,5 +10,5 @@ mod own_reader;
 mod table_room;
 
 pub use channel_tables::{Table, TableMaker};
-pub use fault::FillFault;
 pub use filling::compile;
+pub use worker_pool::FillFault;

@@ -1,6 +1,7 @@
 //! The jobs of a memo: workers fill its cells.
 
 ghost use Rattle.std.specs.Prelude.{◌≡◌, ◌<◌, IfOk, IfErr, IfSome, MatchOption};
+ghost use Rattle.worker_pool.specs.Faults.{IsFaultOf};
 ghost use Rattle.worker_pool.specs.Workers.{IsWorkerCount};
 ghost use Rattle.shared_memo.specs.Passes.{known, memo_plan, IsPassOf};
 ghost use Rattle.shared_memo.specs.PlanJobs.{job_count};
@@ -14,7 +15,7 @@ use std::alloc::Global;
 use std::sync::Wait;
 use std::thread::Threads;
 use win_index::jobs_have_numbers;
-use worker_pool::{Jobs, PoolFault, WorkFault, fill_by_workers};
+use worker_pool::{FillFault, Jobs, WorkFault, fill_by_workers};
 
 // A memo to be filled, and the code of its plan, which is compiled once and lent to all workers.
 #[derive(Drop)]
@@ -64,11 +65,11 @@ pub(crate) fn fill_memo<'a, R: Threads + Wait + Sync, G: Gate + Sync>(
     fill: &MemoFill<'_, 'a>,
     workers: u32,
     gate: &G,
-) -> Result<Option<Pass<'a>>, PoolFault>
+) -> Result<Option<Pass<'a>>, FillFault>
     requires { IsWorkerCount workers }
     ensures one { IfOk result (λ known. MatchOption known (1 < workers) (λ _. workers ≡ 1)) }
     ensures known { IfOk result (λ known. IfSome known (IsPassOf fill.now.memo.now)) }
-    ensures alone { IfErr result (λ fault. fault ≡ PoolFault.NoThread → 1 < workers) }
+    ensures fault { IfErr result (IsFaultOf workers) }
 {
     fill_by_workers(rt, alloc, fill, workers, gate)
 }

@@ -1,8 +1,9 @@
 //! Why jobs were not filled.
 
 ghost use Rattle.std.specs.Prelude.{◌≡◌};
-ghost use Rattle.worker_pool.specs.declared.fault.PoolFault.TheVariants.{Work, NoThread};
-ghost use Rattle.worker_pool.specs.declared.fault.WorkFault.TheVariants.{OutOfMemory as NoMemory, Stranger as Met};
+ghost use Rattle.worker_pool.specs.Faults.{fault_of_work};
+ghost use Rattle.worker_pool.specs.declared.fault.FillFault.TheVariants.{OutOfMemory as NoMemory, NoThread};
+ghost use Rattle.worker_pool.specs.declared.fault.WorkFault.TheVariants.{OutOfMemory as WorkNoMemory, Stranger as Met};
 
 use node_program::OutOfMemory;
 use shared_memo::Stranger;
@@ -18,10 +19,14 @@ pub enum WorkFault {
 }
 
 /// Why workers did not fill the jobs.
-#[derive(Clone, Copy)]
-pub enum PoolFault {
-    /// The fault of the lowest worker that has one.
-    Work(WorkFault),
+#[derive(Clone, Copy, Debug, PartialEq, Eq)]
+pub enum FillFault {
+    /// The number of workers is not 1 to `MAX_THREADS`.
+    WorkersOutOfRange,
+    /// Memory could not be allocated.
+    OutOfMemory,
+    /// What a job was to fill holds what no worker put there, or is empty where a worker filled it.
+    Stranger,
     /// The start of a thread was refused.
     NoThread,
 }
@@ -31,7 +36,7 @@ pub enum PoolFault {
 pub(crate) struct RefusedStart;
 
 impl From<OutOfMemory> for WorkFault {
-    ghost from_gives = { λ _ fault. fault ≡ NoMemory };
+    ghost from_gives = { λ _ fault. fault ≡ WorkNoMemory };
 
     fn from(_refused: OutOfMemory) -> WorkFault {
         WorkFault::OutOfMemory
@@ -46,34 +51,37 @@ impl From<Stranger> for WorkFault {
     }
 }
 
-impl From<WorkFault> for PoolFault {
-    ghost from_gives = { λ work fault. fault ≡ Work work };
+impl From<WorkFault> for FillFault {
+    ghost from_gives = { λ work fault. fault ≡ fault_of_work work };
 
-    fn from(fault: WorkFault) -> PoolFault {
-        PoolFault::Work(fault)
+    fn from(fault: WorkFault) -> FillFault {
+        match fault {
+            WorkFault::OutOfMemory => FillFault::OutOfMemory,
+            WorkFault::Stranger => FillFault::Stranger,
+        }
     }
 }
 
-impl From<RefusedStart> for PoolFault {
+impl From<RefusedStart> for FillFault {
     ghost from_gives = { λ _ fault. fault ≡ NoThread };
 
-    fn from(_refused: RefusedStart) -> PoolFault {
-        PoolFault::NoThread
+    fn from(_refused: RefusedStart) -> FillFault {
+        FillFault::NoThread
     }
 }
 
-impl From<OutOfMemory> for PoolFault {
-    ghost from_gives = { λ _ fault. fault ≡ Work NoMemory };
+impl From<OutOfMemory> for FillFault {
+    ghost from_gives = { λ _ fault. fault ≡ NoMemory };
 
-    fn from(_refused: OutOfMemory) -> PoolFault {
-        PoolFault::Work(WorkFault::OutOfMemory)
+    fn from(_refused: OutOfMemory) -> FillFault {
+        FillFault::OutOfMemory
     }
 }
 
-impl From<AllocError> for PoolFault {
-    ghost from_gives = { λ _ fault. fault ≡ Work NoMemory };
+impl From<AllocError> for FillFault {
+    ghost from_gives = { λ _ fault. fault ≡ NoMemory };
 
-    fn from(_refused: AllocError) -> PoolFault {
-        PoolFault::Work(WorkFault::OutOfMemory)
+    fn from(_refused: AllocError) -> FillFault {
+        FillFault::OutOfMemory
     }
 }

@@ -2,10 +2,11 @@
 
 ghost use Rattle.std.specs.Prelude.{◌≡◌, ◌<◌, ◌≤◌, ◌↔◌, IfOk, IfErr, IfSome, MatchOption, IsTrue, vec_len};
 ghost use Rattle.shared_memo.specs.Tickets.{worker_of, numbers_of, IsFreshTicketOf, AreFreshTickets, AreNumbered};
+ghost use Rattle.worker_pool.specs.Faults.{IsFaultOf};
 ghost use Rattle.worker_pool.specs.Workers.{HasRoom, IsWorkerCount};
 ghost use Rattle.worker_pool.specs.Outcomes.{outcome_worker, AreOutcomes, IsLowestFault};
 
-use crate::fault::{PoolFault, RefusedStart, WorkFault};
+use crate::fault::{FillFault, RefusedStart, WorkFault};
 use crate::jobs::{Jobs, Outcome, Worker, fill_all};
 use node_program::OutOfMemory;
 use round_eval::Gate;
@@ -38,11 +39,11 @@ pub fn fill_by_workers<R: Threads + Wait + Sync, J: Jobs + Sync, G: Gate + Sync>
     jobs: &J,
     workers: u32,
     gate: &G,
-) -> Result<Option<J::Known>, PoolFault>
+) -> Result<Option<J::Known>, FillFault>
     requires { IsWorkerCount workers }
     ensures one { IfOk result (λ known. MatchOption known (1 < workers) (λ _. workers ≡ 1)) }
     ensures known { IfOk result (λ known. IfSome known (J.IsKnown jobs.now)) }
-    ensures alone { IfErr result (λ fault. fault ≡ PoolFault.NoThread → 1 < workers) }
+    ensures fault { IfErr result (IsFaultOf workers) }
 {
     let (desk, mut tickets) = Desk::new(alloc, jobs.count(), workers)?;
     if workers > 1 {
@@ -64,11 +65,12 @@ fn fill_at<R: Threads + Wait + Sync, J: Jobs + Sync, G: Gate + Sync>(
     desk: &Desk,
     tickets: Vec<Ticket>,
     gate: &G,
-) -> Result<Vec<Outcome>, PoolFault>
+) -> Result<Vec<Outcome>, FillFault>
     requires tickets { AreFreshTickets desk.now tickets.items }
     requires jobs { numbers_of desk.now ≡ J.jobs jobs.now }
     ensures each { IfOk result (λ outcomes. AreOutcomes (vec_len tickets) outcomes.items) }
     ensures fine { IfOk result (λ outcomes. IsLowestFault outcomes.items (Ok tt)) }
+    ensures fault { IfErr result (IsFaultOf 2) }
 {
     let handles = Vec::with_capacity(alloc, tickets.len())?;
     let outcomes = Vec::with_capacity(alloc, tickets.len())?;

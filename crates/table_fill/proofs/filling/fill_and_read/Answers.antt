@@ -1,8 +1,5 @@
-use Rattle.table_fill.proofs.Learned.{fault_of_pool, grows_both}
+use Rattle.table_fill.proofs.Learned.{grows_both}
 use Rattle.table_fill.proofs.filling.fill_and_read.Goals as goal
-
-pub returns-in-Err-clause-fault : goal.returns-in-Err-clause-fault
-returns-in-Err-clause-fault g c = rw c.fill_fault.ensures.same (fault_of_pool c.args.workers c.in-Err.fault c.in-Err.ensures.alone)
 
 pub returns-then-look_at_all-clause-learned : goal.returns-then-look_at_all-clause-learned
 returns-then-look_at_all-clause-learned g c =
