@@ -1,3 +1,5 @@
+use denote.Param.Send.{sendable}
+use Rattle.table_fill.proofs.SharedFill.{memo_fill_sync}
 use Rattle.table_fill.proofs.Learned.{grows_both}
 use Rattle.table_fill.proofs.filling.fill_and_read.Goals as goal
 
@@ -18,3 +20,6 @@ returns-then-look_at_all-clause-compiled g c =
       channels = λ ring place is within.
           rw c.read.ensures.table (c.table_has_the_channels_of_rounds.ensures plan.program plan.ids ring place is within);
     }
+
+pub fill_by_workers-requires-sync-J : goal.fill_by_workers-requires-sync-J
+fill_by_workers-requires-sync-J g c κs within = search (memo_fill_sync, sendable) depth 60 fits 20000
