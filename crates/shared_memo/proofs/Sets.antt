@@ -185,13 +185,6 @@ is_joined p q r es fs gs same third first second only =
 pub at_key : (p q : ProgramForIds) (es : List Entry) (level number at : ℕ) → p ≡ q → job_of q level number ≡ Some at → known_by p es level number ≡ known_in es at
 at_key p q es level number at same job = ap (known_job es) (ap (λ (x : ProgramForIds). job_of x level number) same ∙ job)
 
-pub knows_nothing : (p : ProgramForIds) (es : List Entry) → ((k : ℕ) → known_in es k ≡ None) → (level number : ℕ) → known_by p es level number ≡ None
-knows_nothing p es blank level number = none (job_of p level number)
-  where
-    none : (o : Option ℕ) → known_job es o ≡ None
-    none None = refl
-    none (Some k) = blank k
-
 -- the block seen at an index after a look there
 pub seen_set_here : (es : List Entry) (at : ℕ) (e : Entry) → at < length es → seen_in (set es at e) at ≡ seen_of e
 seen_set_here es at e long = ap (λ (l : List (Option MadeBlock)). get_or l at None) (map-set seen_of es at e) ∙ get_or-set_same (map seen_of es) at (seen_of e) None (let n : length (map seen_of es) ≡ length es = length-map es seen_of in omega arith)

@@ -22,10 +22,6 @@ one_more each k = mul-add each k 1 ∙ ap (λ n. each * k + n) (mul-one each)
 pub begins : (windows each : ℕ) → share_start windows each 0 ≡ 0
 begins windows each = let none : each * 0 ≡ 0 = mul-zero each in omega (arith, none)
 
--- the next share begins as many windows later, if there are as many
-pub next_start : (windows each k start : ℕ) → start ≡ share_start windows each k → min (start + each * BLOCK_WINDOWS) windows ≡ share_start windows each (k + 1)
-next_start windows each k start is = omega (arith, is, one_more each k)
-
 pub ends : (windows count : ℕ) → 0 < count → share_start windows (share_blocks windows count) count ≡ windows
 ends windows count some =
     let blocks : ℕ = div_ceil windows BLOCK_WINDOWS in
