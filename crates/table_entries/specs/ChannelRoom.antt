@@ -22,7 +22,8 @@ pub record IsWorkRoom (plan : ProgramForIds) (work : Room) : Type 0 where
 -- columns that hold the states of a block
 pub record HoldStates (block : MadeBlock) (states : NodeStates) : Type 0 where
   pub wide : IsStatesRoom block.plan states
-  pub each : (i : ℕ) → i < block_len block.plan.ids block.level block.number → slice_index_or states.states i [] ≡ block_state block.plan block.level block.number i
+  pub each : (i : ℕ) → i < block_len block.plan.ids block.level block.number
+      → slice_index_or states.states i [] ≡ block_state block.plan block.level block.number i
 
 -- scratch for the states of a block of the plan and for their channels
 pub record IsChannelRoom (plan : ProgramForIds) (scratch : EntryColumns) : Type 0 where

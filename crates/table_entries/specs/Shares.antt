@@ -32,7 +32,8 @@ pub record IsShareAt (plan : ProgramForIds) (each k : ℕ) (share : Share) : Typ
 -- all shares, in order
 pub record AreShares (plan : ProgramForIds) (shares : List Share) : Type 0 where
   pub some : 0 < length shares
-  pub each : (k : ℕ) (s : Share) → slice_get shares k ≡ Some s → IsShareAt plan (share_blocks (windows_of plan) (length shares)) k s
+  pub each : (k : ℕ) (s : Share) → slice_get shares k ≡ Some s
+      → IsShareAt plan (share_blocks (windows_of plan) (length shares)) k s
 
 -- a share that can be read
 pub record IsReady (plan : ProgramForIds) (share : Share) : Type 0 where
@@ -59,4 +60,5 @@ pub record IsReadAt (plan : ProgramForIds) (each k : ℕ) (share : Share) : Type
 -- all shares, read
 pub record AreRead (plan : ProgramForIds) (shares : List Share) : Type 0 where
   pub some : 0 < length shares
-  pub each : (k : ℕ) (s : Share) → slice_get shares k ≡ Some s → IsReadAt plan (share_blocks (windows_of plan) (length shares)) k s
+  pub each : (k : ℕ) (s : Share) → slice_get shares k ≡ Some s
+      → IsReadAt plan (share_blocks (windows_of plan) (length shares)) k s
