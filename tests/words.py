@@ -525,9 +525,12 @@ TIPS = [
     ("judge --ids 8 programs/cv1.txt", FILE_NAME),
     ("judge cv1.txt --ids 8", FILE_NAME),
     ("judge --ids 1.5", NO_TIP),
-    ("judge --file=cv1.txt", NO_TIP),
+    ("judge --file=cv1.txt", FILE_NAME),
     ("judge --file cv1 --ids 8", FILE_NAME),
     ("judge --ids eight", NO_NUMBER),
+    ("judge --ids=eight", NO_NUMBER),
+    ("table --ids=8 --workers=all", NO_NUMBER),
+    ("audit --file=old.table", TABLE_NAME),
     ("judge --ids 8 --near none", NO_NUMBER),
     ("table --ids 8 --workers all", NO_NUMBER),
     ("explain --ids 8 --ring 5,1,3,7 --place first", NO_NUMBER),
@@ -544,6 +547,7 @@ TIPS = [
     ("judge --Ids 8", CAPITAL),
     ("judge --n 8", OTHER_IDS),
     ("judge --identifiers 8", OTHER_IDS),
+    ("judge --nodes=8", OTHER_IDS),
     ("run --ids 8 --ring=5 1 3 7", RING_IN_WORDS),
 ]
 

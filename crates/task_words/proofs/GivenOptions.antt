@@ -7,7 +7,7 @@ use Rattle.std.specs.Str.{bytes_eq}
 use Rattle.std.specs.Str.Parse.{ParsesUnsigned, ExplainsUnsignedError, HasUnsignedDigitsIfOk}
 use Rattle.std.specs.declared.num.ParseIntError.{ParseIntError}
 use Rattle.clap.specs.declared.parser.matches.Found.{Found}
-use Rattle.clap.specs.Words.{ReadsOne, Row, Rule, Shape, Text, fault_of, first_of, one_text, rows_of, subcommand_of, without_minus}
+use Rattle.clap.specs.Words.{ReadsOne, Row, Rule, Shape, Text, fault_of, one_text, rows_of, subcommand_of, without_minus}
 use Rattle.clap.proofs.CallerReads.{signed_reads}
 use Rattle.clap.proofs.WalkLemmas.{one_text-rows}
 use Rattle.clap.specs.declared.builder.value_parser.ValueParser.TheVariants.{Signed}
@@ -17,7 +17,7 @@ use Rattle.task_words.specs.CommandLine.{command_line, option_rule, ids_rule, ri
 use Rattle.task_words.specs.Counts.{IsCount, IsNear, IsFar, AreFormulaNumbers}
 use Rattle.task_words.specs.Options.{IsBaseGiven, IsNumberGiven, IsTextGiven}
 use Rattle.task_words.proofs.Commands.{parts_of}
-use Rattle.task_words.specs.declared.limits.TheConstants.{MAX_BASE, MAX_CHANNELS, MAX_COUNT, MAX_DISTANCE, MAX_ROUNDS, MIN_BASE}
+use Rattle.task_words.specs.declared.limits.TheConstants.{MAX_CHANNELS, MAX_COUNT, MAX_DISTANCE, MAX_ROUNDS}
 use Rattle.task_words.specs.CommandNames.{formula_name, ring_name}
 use Rattle.task_words.specs.Words.{HasNumber, IsRingBad, IsRingName}
 use Rattle.task_words.specs.declared.rows.FormulaCommand.{FormulaCommand}

@@ -1,6 +1,6 @@
 -- What refused words of the command line were probably meant to be.
-use Rattle.std.specs.Prelude.{ℕ, ◌==◌, nat_le, Bool, false, ◌&&◌, ◌||◌, not, Option, Some, None, List, [], ◌∷◌, codes, bytes_eq, if◌then◌else◌}
-use Rattle.std.specs.List.{list_any}
+use Rattle.std.specs.Prelude.{ℕ, ◌+◌, ◌==◌, nat_le, Bool, false, ◌&&◌, ◌||◌, not, Option, Some, None, List, [], ◌∷◌, take, drop, codes, bytes_eq, if◌then◌else◌}
+use Rattle.std.specs.List.{list_any, prefix_len}
 use Rattle.std.specs.Option.{option_or}
 use Rattle.task_words.specs.declared.tips.Tip.{Tip}
 use Rattle.task_words.specs.declared.tips.Tip.TheVariants as tip
@@ -31,6 +31,18 @@ is_ring_for_ids last word = bytes_eq last (codes "--ids") && list_any (λ byte. 
 abbrev pub has_value : List ℕ → Bool
 has_value word = begins_with_minus word && list_any (λ byte. byte == 61) word
 
+-- the number of bytes before the first `=` of a word
+abbrev pub name_len : List ℕ → ℕ
+name_len word = prefix_len (λ byte. not (byte == 61)) word
+
+-- the name of an option that may have its value in the same word
+abbrev pub name_part : List ℕ → List ℕ
+name_part word = take (name_len word) word
+
+-- the value behind it
+abbrev pub value_part : List ℕ → List ℕ
+value_part word = drop (name_len word + 1) word
+
 -- whether a word is the second number of a ring that is given in several words
 abbrev pub is_in_ring : List ℕ → List ℕ → List ℕ → Bool
 is_in_ring before last word = (bytes_eq before (codes "--ring") || has_value last) && begins_with_digit word
@@ -42,14 +54,15 @@ is_file_name last word =
 
 -- whether a word is an option that other programs have for the name of a file
 abbrev pub is_file_option : List ℕ → Bool
-is_file_option word = bytes_eq word (codes "--file") || (bytes_eq word (codes "--input") || bytes_eq word (codes "--program"))
+is_file_option word = bytes_eq (name_part word) (codes "--file") || (bytes_eq (name_part word) (codes "--input")
+    || bytes_eq (name_part word) (codes "--program"))
 
 -- whether a word is another name for the number of identifiers
 abbrev pub is_other_ids : List ℕ → Bool
-is_other_ids word = bytes_eq word (codes "--n") || (bytes_eq word (codes "--m") || (bytes_eq word (codes "--identifiers")
-    || bytes_eq word (codes "--nodes")))
+is_other_ids word = bytes_eq (name_part word) (codes "--n") || (bytes_eq (name_part word) (codes "--m")
+    || (bytes_eq (name_part word) (codes "--identifiers") || bytes_eq (name_part word) (codes "--nodes")))
 
--- whether a word is an option that takes a number
+-- whether this is the name of an option that takes a number
 abbrev pub takes_number : List ℕ → Bool
 takes_number word = bytes_eq word (codes "--ids") || (bytes_eq word (codes "--rounds") || (bytes_eq word (codes "--channels")
     || (bytes_eq word (codes "--near") || (bytes_eq word (codes "--far") || (bytes_eq word (codes "--workers")
@@ -58,6 +71,11 @@ takes_number word = bytes_eq word (codes "--ids") || (bytes_eq word (codes "--ro
 -- whether a word begins neither with a digit nor with a minus sign
 abbrev pub is_no_number : List ℕ → Bool
 is_no_number word = not (begins_with_digit word) && not (begins_with_minus word)
+
+-- whether a word is not a number and the value of an option that takes one, or is such an option with such a value
+abbrev pub lacks_number : List ℕ → List ℕ → Bool
+lacks_number last word =
+    (takes_number last && is_no_number word) || (takes_number (name_part word) && (has_value word && is_no_number (value_part word)))
 
 abbrev pub is_capital : ℕ → Bool
 is_capital byte = nat_le 65 byte && nat_le byte 90
@@ -96,7 +114,7 @@ tip_on of_table before last word =
     else if is_in_ring before last word then Some tip.RingInWords
     else if is_negative word then Some tip.Negative
     else if is_file_name last word || is_file_option word then Some (if of_table then tip.TableName else tip.FileName)
-    else if takes_number last && is_no_number word then Some tip.NoNumber
+    else if lacks_number last word then Some tip.NoNumber
     else tip_on_name word
 
 -- the tip on the first word that has one; `before` and `last` are the two words before these words

@@ -1,6 +1,6 @@
 //! What refused words were probably meant to be.
 
-ghost use Rattle.std.specs.Prelude.{◌≡◌, ◌==◌, map, string_bytes};
+ghost use Rattle.std.specs.Prelude.{◌≡◌, ◌≤◌, ◌==◌, length, map, string_bytes};
 ghost use Rattle.std.specs.List.{list_any};
 ghost use Rattle.task_words.specs.Tips as tips;
 
@@ -89,7 +89,7 @@ fn tip_on(of_table: bool, before: &str, last: &str, word: &str) -> Option<Tip>
             Tip::FileName
         });
     }
-    if takes_number(last) && is_no_number(word) {
+    if lacks_number(last.as_bytes(), word) {
         return Some(Tip::NoNumber);
     }
     tip_on_name(word)
@@ -139,36 +139,80 @@ fn has_value(word: &str) -> bool
 fn is_file_option(word: &str) -> bool
     ensures { result ≡ tips.is_file_option word.now }
 {
-    word == "--file" || word == "--input" || word == "--program"
+    let name = name_part(word.as_bytes());
+    name == b"--file".as_slice() || name == b"--input".as_slice() || name == b"--program".as_slice()
 }
 
 // Returns whether a word is another name for the number of identifiers.
 fn is_other_ids(word: &str) -> bool
     ensures { result ≡ tips.is_other_ids word.now }
 {
-    word == "--n" || word == "--m" || word == "--identifiers" || word == "--nodes"
+    let name = name_part(word.as_bytes());
+    name == b"--n".as_slice()
+        || name == b"--m".as_slice()
+        || name == b"--identifiers".as_slice()
+        || name == b"--nodes".as_slice()
 }
 
-// Returns whether a word is an option that takes a number.
-fn takes_number(word: &str) -> bool
-    ensures { result ≡ tips.takes_number word.now }
+// Returns whether a word is not a number and the value of an option that takes one, or is such an
+// option with such a value.
+fn lacks_number(last: &[u8], word: &str) -> bool
+    ensures { result ≡ tips.lacks_number last.now word.now }
 {
-    word == "--ids"
-        || word == "--rounds"
-        || word == "--channels"
-        || word == "--near"
-        || word == "--far"
-        || word == "--workers"
-        || word == "--segments"
-        || word == "--place"
-        || word == "--base"
+    let bytes = word.as_bytes();
+    (takes_number(last) && is_no_number(bytes))
+        || (takes_number(name_part(bytes)) && has_value(word) && is_no_number(value_part(bytes)))
+}
+
+// Returns whether this is the name of an option that takes a number.
+fn takes_number(name: &[u8]) -> bool
+    ensures { result ≡ tips.takes_number name.now }
+{
+    name == b"--ids".as_slice()
+        || name == b"--rounds".as_slice()
+        || name == b"--channels".as_slice()
+        || name == b"--near".as_slice()
+        || name == b"--far".as_slice()
+        || name == b"--workers".as_slice()
+        || name == b"--segments".as_slice()
+        || name == b"--place".as_slice()
+        || name == b"--base".as_slice()
 }
 
 // Returns whether a word begins neither with a digit nor with a minus sign.
-fn is_no_number(word: &str) -> bool
+fn is_no_number(word: &[u8]) -> bool
     ensures { result ≡ tips.is_no_number word.now }
 {
-    !begins_with_digit(word.as_bytes()) && !begins_with_minus(word)
+    match word {
+        [first, ..] => !begins_with_digit(word) && *first != b'-',
+        [] => true,
+    }
+}
+
+// Returns the number of bytes before the first `=` of a word.
+fn name_len(word: &[u8]) -> usize
+    ensures value { result ≡ tips.name_len word.now }
+    ensures within { result ≤ length word.now }
+{
+    word.iter().take_while(|byte| **byte != b'=').count()
+}
+
+// Returns the name of an option that may have its value in the same word.
+fn name_part(word: &[u8]) -> &[u8]
+    ensures { result.now ≡ tips.name_part word.entry.now }
+{
+    &word[..name_len(word)]
+}
+
+// Returns the value behind the name of an option, or an empty one.
+fn value_part(word: &[u8]) -> &[u8]
+    ensures { result.now ≡ tips.value_part word.entry.now }
+{
+    let len = name_len(word);
+    if len == word.len() {
+        return &[];
+    }
+    &word[len + 1..]
 }
 
 // Returns whether a word begins with a number below 0.

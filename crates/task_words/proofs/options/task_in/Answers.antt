@@ -1,4 +1,4 @@
-use Rattle.std.proofs.Common.{◌≡◌, List, ap, subst, sym, ◌∙◌}
+use Rattle.std.proofs.Common.{◌≡◌, ap, subst, sym, ◌∙◌}
 use Rattle.clap.specs.Words.{Text, found_of, rows_of}
 use Rattle.option_values.specs.OptionLines.{IsOneOf}
 use Rattle.task_words.specs.CommandLine.{command_line}
