@@ -1,3 +1,5 @@
+//! Why a message is not put on a border.
+
 /// Why a message was not put on a border: the first of these that applies.
 #[derive(Clone, Copy, Debug, PartialEq, Eq, Drop)]
 pub enum PutFault {

@@ -1,3 +1,5 @@
+//! The messages of a border that has ended.
+
 /// All messages of a border, in the order in which they were put on each side.
 #[derive(Drop)]
 pub struct Totals<M> {

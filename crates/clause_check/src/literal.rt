@@ -1,3 +1,4 @@
+//! Literals, and the negation of one.
 ghost use Rattle.std.specs.Prelude.{◌≡◌, ◌<◌, ◌^◌};
 ghost use Rattle.clause_check.specs.Clauses.{negated};
 

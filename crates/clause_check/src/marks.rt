@@ -1,3 +1,4 @@
+//! The literals that are marked as false.
 use crate::literal::Literal;
 use std::alloc::{AllocError, Global};
 

@@ -1,3 +1,5 @@
+//! What the hints of a step show.
+
 /// What the hints of a step show.
 #[derive(Clone, Copy, Debug, PartialEq, Eq)]
 pub enum Outcome {

@@ -1,3 +1,4 @@
+//! The event that a worker draws a job.
 ghost use Rattle.std.specs.Prelude.{◌≡◌};
 ghost use Rattle.fill_core.specs.FillMachine.{Steps};
 ghost use Rattle.fill_core.specs.FillStates.{machine_of};

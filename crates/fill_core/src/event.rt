@@ -1,3 +1,5 @@
+//! The events of the fill machine.
+
 /// An event of the fill machine: a worker draws a job, looks at the cell of a level and a number,
 /// or installs the block of a level and a number.
 #[derive(Clone, Copy, Debug, PartialEq, Eq)]

@@ -1,3 +1,4 @@
+//! The event that a worker makes and installs a block.
 ghost use Rattle.std.specs.Prelude.{◌≡◌, ◌<◌, ◌≤◌, length, IfOk, OnOk, MatchOption};
 ghost use Rattle.shared_memo.specs.PlanJobs.{IsKey};
 ghost use Rattle.fill_core.specs.FillMachine.{Steps, MarksBelow, block_by};

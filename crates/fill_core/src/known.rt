@@ -1,3 +1,4 @@
+//! The blocks that a worker knows, as a source.
 ghost use Rattle.std.specs.Prelude.{◌≡◌, length};
 ghost use Rattle.shared_memo.specs.PlanJobs.{job_count};
 ghost use Rattle.window_states.specs.Entries.{Entries};

@@ -1,3 +1,4 @@
+//! The law that the fill machine has one run.
 ghost use Rattle.fill_core.specs.Laws as law;
 
 /// The fill machine is deterministic: a list of events leads from a state to at most one state.

@@ -1,3 +1,4 @@
+//! The event that a worker looks at a cell.
 ghost use Rattle.std.specs.Prelude.{◌≡◌, ◌<◌, length};
 ghost use Rattle.fill_core.specs.FillMachine.{Steps, learned};
 ghost use Rattle.fill_core.specs.FillPromises.{IsConsistent};

@@ -1,3 +1,4 @@
+//! Running the events of a list, and the opening state.
 ghost use Rattle.std.specs.Prelude.{◌≡◌, ◌≤◌, None, IfOk, OnOk, map, replicate};
 ghost use Rattle.fill_core.specs.FillMachine.{Steps, Runs, idle, opening as opening_of};
 ghost use Rattle.fill_core.specs.FillPromises.{IsConsistent, Follows};
@@ -47,7 +48,7 @@ impl<'a> World<'a> {
     }
 }
 
-// The opening state: empty cells, no job drawn, and workers that know nothing.
+// Returns the opening state: empty cells, no job drawn, and workers that know nothing.
 fn opening<'a>(alloc: Global, plan: &'a Plan, workers: u32) -> Result<World<'a>, OutOfMemory>
     ensures { IfOk result (λ world. machine_of world ≡ opening_of plan.now workers) }
 {

@@ -1,3 +1,4 @@
+//! The state after a list of events.
 use crate::event::FillEvent;
 use crate::replaying::run;
 use crate::state::World;

@@ -1,3 +1,4 @@
+//! Why a program is not compiled, run and judged.
 use node_program::OutOfMemory;
 use ring_exec::RunFault;
 use table_fill::FillFault;

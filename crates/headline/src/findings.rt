@@ -1,3 +1,4 @@
+//! Compiling, running and judging in one call.
 ghost use Rattle.std.specs.Prelude.{◌≡◌, ◌↔◌, IfOk, IfErr, OnOk, length};
 ghost use Rattle.worker_pool.specs.Workers.{IsWorkerCount};
 ghost use Rattle.ring_segments.specs.SegmentCounts.{IsSegmentCount};
@@ -92,7 +93,7 @@ fn in_range(ring: &Ring, workers: u32, segments: u32) -> Result<(), FindingsFaul
     Ok(())
 }
 
-// The table of a plan's program, from a memo of its own.
+// Returns the table of a plan's program, from a memo of its own.
 #[tactic(auto, unfolding(table_entries::specs::ProgramTables::table_of))]
 fn compiled<R: Threads + Wait + Sync, G: Gate + Sync>(
     rt: &R,

@@ -1,3 +1,4 @@
+//! Which programs are accepted, and the order of refusals.
 ghost use Rattle.std.specs.Prelude.{◌≡◌, ◌↔◌, length, IfOk, IfErr, IsOk};
 ghost use Rattle.win_index.specs.ShapeRange.{IsShape};
 ghost use Rattle.node_program.specs.Bounds.{finish_bound};
@@ -49,7 +50,7 @@ pub fn accept(program: Program, ids: u32) -> Result<Plan, (Program, CheckFault)>
     }
 }
 
-// The bound of the channels, or the first refusal of C1 to C4.
+// Returns the bound of the channels, or the first refusal of C1 to C4.
 fn channel_bound(program: &Program, ids: u32) -> Result<u32, CheckFault>
     ensures ok { IsShape ids (length program.now.steps)
         → IfOk result (λ bound. IsAccepted ids program.now × (bound ≡ finish_bound program.now ids)) }

@@ -1,3 +1,4 @@
+//! Laws of accepted programs: registers and channels are within their bounds.
 ghost use Rattle.lang_check.specs.Laws as law;
 
 use program_analysis::{channel_is_within, next_is_within, start_is_within};

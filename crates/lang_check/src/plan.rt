@@ -1,3 +1,4 @@
+//! Plans: an accepted program with its shape.
 use node_program::Program;
 use program_analysis::same_program;
 use std::marker::Model;

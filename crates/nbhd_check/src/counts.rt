@@ -1,5 +1,5 @@
-// Counts of the third windows that begin with one list of identifiers. Row `v` counts those with a
-// channel below `v`: cell `x` those that hold identifier `x`, and the last cell all of them.
+//! Counts of the third windows that begin with one list of identifiers. Row `v` counts those with a
+//! channel below `v`: cell `x` those that hold identifier `x`, and the last cell all of them.
 ghost use Rattle.std.specs.Prelude.{◌≡◌, ◌==◌, ℕ, List, ◌+◌, ◌-◌, ◌*◌, ◌^◌, ◌<◌, ◌≤◌, ◌&&◌, true, Some, IfOk, All, if◌then◌else◌, nat_lt, length, slice_get, slice_index};
 ghost use Rattle.std.specs.Int.{abs_diff};
 ghost use Rattle.win_index.specs.Windows.{IsWindow};

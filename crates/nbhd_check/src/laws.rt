@@ -1,3 +1,4 @@
+//! Laws of the judge: tuples suffice for all rings.
 ghost use Rattle.nbhd_check.specs.Laws as law;
 ghost use Rattle.nbhd_check.specs.Pairs.{PairsThatAvoidTwo};
 

@@ -1,3 +1,4 @@
+//! The judge's calls, and its verdict.
 use crate::laws::tuples_suffice;
 use crate::least::least_of_all;
 use crate::tuples::Tuples;

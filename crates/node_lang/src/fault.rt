@@ -1,3 +1,4 @@
+//! The faults of program texts.
 ghost use Rattle.std.specs.Prelude.{◌≡◌};
 ghost use Rattle.node_lang.specs.declared.fault.FaultKind.TheVariants.{OutOfMemory};
 

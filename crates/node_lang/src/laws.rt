@@ -1,3 +1,4 @@
+//! Laws of reading and printing.
 ghost use Rattle.node_lang.specs.Laws as law;
 
 /// Program texts are unambiguous: a text reads as at most one program.

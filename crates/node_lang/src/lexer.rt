@@ -1,3 +1,4 @@
+//! The tokens of a text, with their places.
 ghost use Rattle.std.specs.Prelude.{◌≡◌, ◌==◌, not, ◌-◌, ◌<◌, ◌≤◌, [], ◌∷◌, length, slice_index, drop, false, IfSome, IfNone};
 ghost use Rattle.std.specs.List.{prefix_len};
 ghost use Rattle.node_lang.specs.Words.{is_blank as blank, is_word_byte as word_byte};
@@ -15,7 +16,7 @@ pub struct Placed {
     pub end: usize,
 }
 
-// The length of the word at the start of the text; 0 if there is none.
+// Returns the length of the word at the start of the text; 0 if there is none.
 fn word_len(text: &[u8]) -> usize
     ensures value { result ≡ prefix_len word_byte text.now }
     ensures within { result ≤ length text.now }
@@ -23,7 +24,7 @@ fn word_len(text: &[u8]) -> usize
     text.iter().take_while(|byte| is_word_byte(**byte)).count()
 }
 
-// The number of bytes before the next line feed, or before the end.
+// Returns the number of bytes before the next line feed, or before the end.
 fn line_len(text: &[u8]) -> usize
     ensures value { result ≡ prefix_len (λ b. not (b == 10)) text.now }
     ensures within { result ≤ length text.now }
@@ -31,7 +32,7 @@ fn line_len(text: &[u8]) -> usize
     text.iter().take_while(|byte| **byte != b'\n').count()
 }
 
-// The offset of the first token, after blanks and comments, or the text's length.
+// Returns the offset of the first token, after blanks and comments, or the text's length.
 #[tactic(auto, using(crate::proofs::Placing::after_blank, crate::proofs::Placing::after_comment))]
 fn token_start(text: &[u8]) -> usize
     ensures within { result ≤ length text.now }
@@ -53,7 +54,7 @@ fn token_start(text: &[u8]) -> usize
     at
 }
 
-// The token at the start of the text, and its length.
+// Returns the token at the start of the text, and its length.
 #[tactic(auto, using(crate::proofs::Placing::word_token_first, crate::proofs::Placing::mark_token_first))]
 fn token_at(text: &[u8]) -> (Token, usize)
     requires some { 0 < length text.now }
@@ -69,7 +70,7 @@ fn token_at(text: &[u8]) -> (Token, usize)
     (token_of(&text[..len]), len)
 }
 
-// The first token, or `None` if only blanks and comments are left.
+// Returns the first token, or `None` if only blanks and comments are left.
 #[tactic(auto, using(crate::proofs::Placing::all_skipped))]
 fn first_token(text: &[u8]) -> Option<Placed>
     ensures token { IfSome result (λ f. lexemes_of text.now

@@ -1,3 +1,4 @@
+//! The parser: reads a program once from the left.
 ghost use Rattle.std.specs.Prelude.{◌≤◌, length};
 ghost use Rattle.node_program.specs.declared.limits.TheConstants.{MAX_NODES};
 

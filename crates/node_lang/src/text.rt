@@ -1,3 +1,4 @@
+//! Reading a program text.
 ghost use Rattle.std.specs.Prelude.{◌≡◌, ◌≢◌, ℕ, ◌<◌, ◌≤◌, List, Err, length, position, All, IfOk, IfErr, IfSome, IfNone};
 ghost use Rattle.node_lang.specs.declared.fault.FaultKind.TheVariants as kind;
 ghost use Rattle.node_program.specs.Term.{ProgramTree};
@@ -10,7 +11,7 @@ use crate::parser::Parser;
 use node_program::Program;
 use std::alloc::Global;
 
-// The index of the first byte over 127.
+// Returns the index of the first byte over 127.
 fn high_byte(text: &[u8]) -> Option<usize>
     ensures found { IfSome result (IsFirstHighByte text.now) }
     ensures none { IfNone result (All (λ b. b < 128) text.now) }

@@ -1,3 +1,4 @@
+//! Tokens.
 use node_program::{BinOp, UnOp};
 
 /// A token of a program text, or an error in the place of one.

@@ -1,3 +1,4 @@
+//! The bytes of words and numbers, and the words of operations.
 ghost use Rattle.std.specs.Prelude.{◌≡◌, ◌^◌, ◌<◌, length};
 ghost use Rattle.std.specs.List.{list_all};
 ghost use Rattle.std.specs.Option.{SomeIff};
@@ -42,7 +43,7 @@ macro_rules! words {
     };
 }
 
-// The operation with this name, one line per operation of the language.
+// Returns the operation with this name, one line per operation of the language.
 fn operation(word: &[u8]) -> Option<Token>
     ensures { result ≡ named operations word.now }
 {
@@ -88,7 +89,7 @@ macro_rules! names {
     };
 }
 
-// The name of the expression's operation, or an empty string if it has none.
+// Returns the name of the expression's operation, or an empty string if it has none.
 pub(crate) fn operation_name(expression: &Expr) -> &'static str
     ensures { result.now ≡ name_of (term_of expression.now) }
 {
@@ -136,7 +137,7 @@ fn keyword(word: &[u8]) -> Option<Token>
     }
 }
 
-// A register: `r` and one digit.
+// Returns a register: `r` and one digit.
 fn register(word: &[u8]) -> Option<Token>
     ensures { result ≡ register_named word.now }
 {
@@ -146,7 +147,7 @@ fn register(word: &[u8]) -> Option<Token>
     }
 }
 
-// The value of a decimal number, or `None` if it is 2^32 or more.
+// Returns the value of a decimal number, or `None` if it is 2^32 or more.
 #[tactic(auto, using(crate::proofs::Numbers::read_more, crate::proofs::Numbers::too_large, crate::proofs::Numbers::all_read))]
 fn number(digits: &[u8]) -> Option<u32>
     ensures { SomeIff result (read_on 0 digits.now < 2 ^ 32) (read_on 0 digits.now) }
@@ -176,7 +177,7 @@ pub(crate) fn token_of(word: &[u8]) -> Token
         .unwrap_or(Token::Unknown)
 }
 
-// The token of a byte that is neither blank nor part of a word.
+// Returns the token of a byte that is neither blank nor part of a word.
 pub(crate) fn mark_token(byte: u8) -> Token
     ensures { result ≡ mark byte }
 {

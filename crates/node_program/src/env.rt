@@ -1,3 +1,4 @@
+//! What an expression reads at a node.
 ghost use Rattle.std.specs.Prelude.{◌≡◌, slice_index};
 
 /// What an expression can read: the node's identifier, the messages from the left and from the

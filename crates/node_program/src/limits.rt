@@ -1,3 +1,5 @@
+//! The limits of programs.
+
 /// The maximum number of rounds of a program.
 pub const MAX_ROUNDS: u32 = 4;
 

@@ -1,3 +1,4 @@
+//! The error that memory was refused.
 use std::alloc::{AllocError, AllocFailed};
 
 /// Memory could not be allocated. All crates of the workspace share this error.

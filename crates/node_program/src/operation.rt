@@ -1,3 +1,4 @@
+//! The operation of Cole and Vishkin.
 ghost use Rattle.std.specs.Prelude.{◌≡◌};
 ghost use Rattle.node_program.specs.Operations.{lowest_differing_bit};
 

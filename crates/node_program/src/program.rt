@@ -1,3 +1,4 @@
+//! Programs within the limits.
 ghost use Rattle.std.specs.Prelude.{◌≡◌, ◌≤◌, length, map, All};
 ghost use Rattle.node_program.specs.Term.{ProgramTree, program_tree, term_of, step_of};
 ghost use Rattle.node_program.specs.Code.{program_code};

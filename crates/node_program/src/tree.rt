@@ -1,3 +1,5 @@
+//! Expressions and rounds.
+
 /// A unary operation.
 #[derive(Clone, Copy, Debug, PartialEq, Eq)]
 pub enum UnOp {

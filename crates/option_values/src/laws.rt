@@ -1,3 +1,4 @@
+//! The law that options have the values of a command line.
 ghost use Rattle.option_values.specs.Laws as law;
 
 /// If clap accepts the words of a command whose subcommands have plain options, one of the caller's

@@ -1,3 +1,4 @@
+//! Upper bounds of the values of expressions.
 ghost use Rattle.std.specs.Prelude.{◌≡◌, ◌-◌, ◌^◌, ◌≤◌, max};
 ghost use Rattle.node_program.specs.Term.{term_of};
 ghost use Rattle.node_program.specs.Bounds as bounds;
@@ -68,7 +69,7 @@ pub(crate) fn bound_of(expression: &Expr, limits: Env<'_>) -> u32
     )
 }
 
-// The number of a literal, or `None` for any other expression.
+// Returns the number of a literal, or `None` for any other expression.
 fn written_number(expression: &Expr) -> Option<u32>
     ensures { result ≡ bounds.written_number (term_of expression.now) }
 {
@@ -78,7 +79,7 @@ fn written_number(expression: &Expr) -> Option<u32>
     }
 }
 
-// The bound of a shift to the left.
+// Returns the bound of a shift to the left.
 #[tactic(auto, using(crate::proofs::Bits::shifted))]
 fn shl_bound(written: Option<u32>, a: u32) -> u32
     ensures { result ≡ bounds.shl_bound written a }
@@ -89,7 +90,7 @@ fn shl_bound(written: Option<u32>, a: u32) -> u32
     }
 }
 
-// The bound of a shift to the right.
+// Returns the bound of a shift to the right.
 #[tactic(auto, using(crate::proofs::Bits::shifted))]
 fn shr_bound(written: Option<u32>, a: u32) -> u32
     ensures { result ≡ bounds.shr_bound written a }
@@ -101,7 +102,7 @@ fn shr_bound(written: Option<u32>, a: u32) -> u32
     }
 }
 
-// The largest number with as many binary digits as `x`.
+// Returns the largest number with as many binary digits as `x`.
 #[tactic(auto, using(crate::proofs::Bits::shifted))]
 fn all_ones(x: u32) -> u32
     ensures { result ≡ 2 ^ bounds.bits x - 1 }
@@ -114,7 +115,7 @@ fn all_ones(x: u32) -> u32
     }
 }
 
-// The number of binary digits of `x`; 0 has none.
+// Returns the number of binary digits of `x`; 0 has none.
 #[tactic(auto, using(crate::proofs::Bits::counted))]
 fn bits(x: u32) -> u32
     ensures value { result ≡ bounds.bits x }

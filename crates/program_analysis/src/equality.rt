@@ -1,3 +1,4 @@
+//! Equality of programs.
 ghost use Rattle.std.specs.Prelude.{◌≡◌, ◌↔◌, IsTrue, map};
 ghost use Rattle.node_program.specs.Term.{term_of, step_of};
 

@@ -1,3 +1,4 @@
+//! Laws of bounds: registers and channels are within them.
 ghost use Rattle.program_analysis.specs.Laws as law;
 
 /// A number has at most `k` binary digits if and only if it is below `2^k`.

@@ -1,3 +1,4 @@
+//! Where a program reads what it must not.
 ghost use Rattle.std.specs.Prelude.{◌≡◌, nat_le, [], ◌∷◌, map, find, flat_map, slice_index};
 ghost use Rattle.std.specs.List.{list_any};
 ghost use Rattle.node_program.specs.Term.{term_of, step_of, step_terms};
@@ -5,7 +6,7 @@ ghost use Rattle.program_analysis.specs.Occurrences.{registers_read, reads_ident
 
 use node_program::{Expr, Round, register_or_zero};
 
-// The first register that the expression reads and that is not below `count`.
+// Returns the first register that the expression reads and that is not below `count`.
 #[tactic(auto, using(crate::proofs::OccurrenceLemmas::joined))]
 pub(crate) fn missing_in_term(count: u32, expression: &Expr) -> Option<u32>
     ensures { result ≡ find (λ j. nat_le count j) (registers_read (term_of expression.now)) }
@@ -28,8 +29,8 @@ pub(crate) fn missing_in_term(count: u32, expression: &Expr) -> Option<u32>
     }
 }
 
-// The first register that the expression reads and whose bound is `limit` or more. A register without
-// a bound has the bound 0.
+// Returns the first register that the expression reads and whose bound is `limit` or more. A
+// register without a bound has the bound 0.
 #[tactic(auto, using(crate::proofs::OccurrenceLemmas::joined))]
 pub(crate) fn register_over(limit: u32, bounds: &[u32], expression: &Expr) -> Option<u32>
     ensures { result ≡ find (λ j. nat_le limit (slice_index bounds.now j)) (registers_read (term_of expression.now)) }
@@ -75,7 +76,7 @@ pub(crate) fn missing_in_rounds(count: u32, rounds: &[Round]) -> Option<u32>
     found
 }
 
-// Whether an expression reads the identifier.
+// Returns whether an expression reads the identifier.
 pub(crate) fn uses_id(expression: &Expr) -> bool
     ensures { result ≡ reads_identifier (term_of expression.now) }
 {
@@ -88,14 +89,14 @@ pub(crate) fn uses_id(expression: &Expr) -> bool
     }
 }
 
-// Whether one of the expressions reads the identifier.
+// Returns whether one of the expressions reads the identifier.
 fn any_uses_id(expressions: &[Expr]) -> bool
     ensures { result ≡ list_any (λ e. reads_identifier (term_of e)) expressions.now }
 {
     expressions.iter().any(|expression| uses_id(expression))
 }
 
-// Whether a round reads the identifier.
+// Returns whether a round reads the identifier.
 #[tactic(auto, using(crate::proofs::OccurrenceLemmas::list_any_mapped_end))]
 fn round_uses_id(round: &Round) -> bool
     ensures { result ≡ list_any reads_identifier (step_terms (step_of round.now ∷ [])) }
@@ -103,14 +104,14 @@ fn round_uses_id(round: &Round) -> bool
     uses_id(&round.left) || uses_id(&round.right) || any_uses_id(&round.next)
 }
 
-// Whether one of the rounds reads the identifier.
+// Returns whether one of the rounds reads the identifier.
 pub(crate) fn rounds_use_id(rounds: &[Round]) -> bool
     ensures { result ≡ list_any (λ r. list_any reads_identifier (step_terms (step_of r ∷ []))) rounds.now }
 {
     rounds.iter().any(|round| round_uses_id(round))
 }
 
-// Whether an expression reads a message.
+// Returns whether an expression reads a message.
 pub(crate) fn uses_message(expression: &Expr) -> bool
     ensures { result ≡ reads_message (term_of expression.now) }
 {
@@ -123,7 +124,7 @@ pub(crate) fn uses_message(expression: &Expr) -> bool
     }
 }
 
-// Whether one of the expressions reads a message.
+// Returns whether one of the expressions reads a message.
 pub(crate) fn any_uses_message(expressions: &[Expr]) -> bool
     ensures { result ≡ list_any (λ e. reads_message (term_of e)) expressions.now }
 {
@@ -132,14 +133,14 @@ pub(crate) fn any_uses_message(expressions: &[Expr]) -> bool
         .any(|expression| uses_message(expression))
 }
 
-// Whether an expression sent in the round reads a message.
+// Returns whether an expression sent in the round reads a message.
 fn send_uses_message(round: &Round) -> bool
     ensures { result ≡ list_any reads_message (sent_terms (step_of round.now ∷ [])) }
 {
     uses_message(&round.left) || uses_message(&round.right)
 }
 
-// Whether an expression sent in one of the rounds reads a message.
+// Returns whether an expression sent in one of the rounds reads a message.
 pub(crate) fn sends_use_message(rounds: &[Round]) -> bool
     ensures { result ≡ list_any (λ r. list_any reads_message (sent_terms (step_of r ∷ []))) rounds.now }
 {

@@ -1,3 +1,4 @@
+//! What a program must not read.
 ghost use Rattle.std.specs.Prelude.{◌≡◌};
 ghost use Rattle.program_analysis.specs.Misplaced.{first_missing_register, reads_id_outside_start, reads_message_outside_step};
 

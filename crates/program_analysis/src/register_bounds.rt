@@ -1,3 +1,4 @@
+//! Upper bounds of registers after each round.
 ghost use Rattle.std.specs.Prelude.{◌≡◌, ◌-◌, ◌≤◌, map, length, Some};
 ghost use Rattle.node_program.specs.Term.{term_of, step_of};
 ghost use Rattle.node_program.specs.Bounds as bounds;
@@ -74,7 +75,7 @@ fn assign_bounds(expressions: &[Expr], limits: Env<'_>, out: &mut [u32])
     }
 }
 
-// The bounds of what an expression may read, with this number of identifiers.
+// Returns the bounds of what an expression may read, with this number of identifiers.
 pub(crate) fn limits(ids: u32, left: u32, right: u32, registers: &[u32]) -> Env<'_>
     ensures id { result.id ≡ ids - 1 }
     ensures left { result.left ≡ left }

@@ -1,3 +1,4 @@
+//! Rows of the maker of blocks.
 ghost use Rattle.std.specs.Prelude.{◌≡◌, IfOk};
 ghost use Rattle.shared_memo.specs.PlanJobs.{IsKey};
 ghost use Rattle.shared_memo.specs.Passes.{memo_plan};

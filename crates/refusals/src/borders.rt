@@ -1,3 +1,4 @@
+//! Rows of a border.
 ghost use Rattle.std.specs.Prelude.{◌≡◌, ◌<◌, ◌^◌, ◌+◌, OnOk, OnErr};
 
 use crate::miss::Miss;

@@ -1,3 +1,4 @@
+//! Rows of evaluation in columns.
 ghost use Rattle.std.specs.Prelude.{◌≡◌, length, IfOk};
 ghost use Rattle.round_columns.specs.Room.{HasRoomFor};
 ghost use Rattle.round_columns.specs.States.{HasSize};

@@ -1,3 +1,4 @@
+//! Rows of the desk.
 ghost use Rattle.std.specs.Prelude.{◌≡◌, ◌≤◌, All, IfOk, OnOk};
 ghost use Rattle.shared_memo.specs.Tickets.{told, tickets_of, IsTicketOf, IsFreshTicketOf};
 

@@ -1,3 +1,4 @@
+//! Rows of the fill machine.
 use crate::miss::Miss;
 use crate::plans::plan_of;
 use crate::tell::{retried, tell, tell_numbers, value_or_refusal};

@@ -1,3 +1,4 @@
+//! Rows of the headline.
 ghost use Rattle.std.specs.Prelude.{◌≡◌, length};
 
 use crate::miss::Miss;

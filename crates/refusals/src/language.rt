@@ -1,3 +1,4 @@
+//! Rows of parsing and running.
 ghost use Rattle.std.specs.Prelude.{◌≡◌, length};
 
 use crate::miss::Miss;

@@ -1,3 +1,4 @@
+//! Rows of the memo.
 ghost use Rattle.std.specs.Prelude.{◌≡◌, None, IfOk};
 ghost use Rattle.shared_memo.specs.Passes.{IsPassOf, memo_plan};
 ghost use Rattle.shared_memo.specs.PlanJobs.{IsKey};

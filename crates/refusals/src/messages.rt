@@ -1,3 +1,4 @@
+//! Rows of the run by messages.
 ghost use Rattle.std.specs.Prelude.{◌≡◌, length};
 
 use crate::miss::Miss;

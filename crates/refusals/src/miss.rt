@@ -1,3 +1,4 @@
+//! Why a row does not print its result.
 use std::io;
 
 /// Why a row has no result.

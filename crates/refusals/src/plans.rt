@@ -1,3 +1,4 @@
+//! The plans, rings and blocks of rows.
 ghost use Rattle.std.specs.Prelude.{◌≡◌, true, IfOk, length};
 ghost use Rattle.shared_memo.specs.PlanJobs.{IsKey};
 

@@ -1,3 +1,4 @@
+//! What counts as a refusal.
 use devices::fault::OutFault;
 use headline::FindingsFault;
 use node_lang::{FaultKind, OutOfMemory, TextFault};

@@ -1,3 +1,4 @@
+//! Rows of global rounds.
 ghost use Rattle.std.specs.Prelude.{◌≡◌, length};
 
 use crate::miss::Miss;

@@ -1,3 +1,4 @@
+//! The rows by their names.
 use crate::blocks::do_block_maker;
 use crate::borders::{do_border, do_put};
 use crate::columns::do_columns;

@@ -1,3 +1,4 @@
+//! Rows of the segment machine.
 ghost use Rattle.std.specs.Prelude.{◌≡◌, ◌≤◌, IfOk, length};
 
 use crate::miss::Miss;

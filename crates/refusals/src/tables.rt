@@ -1,3 +1,4 @@
+//! Rows of compiling a table.
 ghost use Rattle.std.specs.Prelude.{◌≡◌};
 ghost use Rattle.shared_memo.specs.Passes.{IsPassOf, memo_plan};
 

@@ -1,3 +1,4 @@
+//! Prints results and refusals, and repeats a refused call.
 ghost use Rattle.std.specs.Prelude.{◌≡◌, Ok, IfOk, IfSome};
 
 use crate::miss::Miss;

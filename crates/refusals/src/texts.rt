@@ -1,3 +1,4 @@
+//! Rows of writing a table.
 ghost use Rattle.std.specs.Prelude.{◌≡◌, [], length, IfOk};
 ghost use Rattle.channel_tables.specs.Tables.{windows_of};
 

@@ -1,3 +1,4 @@
+//! Rows of ring texts and tasks.
 use crate::miss::Miss;
 use crate::tell::{other_call, retried, tell, tell_numbers, value_or_refusal};
 use node_lang::OutOfMemory;

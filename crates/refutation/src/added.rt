@@ -1,3 +1,4 @@
+//! The clauses that steps have added.
 ghost use Rattle.std.specs.Prelude.{◌≡◌, ◌==◌, ℕ, None, Some, OnOk, OnErr, if◌then◌else◌};
 ghost use Rattle.refutation.specs.Added.{added_clause};
 

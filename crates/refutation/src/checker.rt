@@ -1,3 +1,4 @@
+//! Checks the steps of a refutation.
 ghost use Rattle.std.specs.Prelude.{◌≡◌, ◌≤◌, length};
 ghost use Rattle.clause_check.specs.Marked.{variables_of};
 ghost use Rattle.table_formula.specs.Formula.{variable_count, longest_len, formula as clauses_of};

@@ -1,3 +1,4 @@
+//! The clauses that hints name: those of the formula and those added.
 ghost use Rattle.std.specs.Prelude.{◌≡◌, ◌+◌, length};
 ghost use Rattle.table_formula.specs.Formula.{variable_count, formula as clauses_of};
 ghost use Rattle.refutation.specs.Added.{AreWithin};

@@ -1,3 +1,4 @@
+//! Why a text is no refutation.
 use std::alloc::AllocError;
 
 /// Why a text is not a refutation.

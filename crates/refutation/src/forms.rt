@@ -1,3 +1,4 @@
+//! What a line says.
 ghost use Rattle.std.specs.Prelude.{◌≡◌, List, option_map, None, Some, IfOk, if◌then◌else◌};
 ghost use Rattle.refutation.specs.Parts.{parts_left};
 ghost use Rattle.refutation.specs.Words as spelled;

@@ -1,3 +1,4 @@
+//! What the hints of a step show.
 ghost use Rattle.std.specs.Prelude.{◌≡◌, ◌≤◌, length, map, if◌then◌else◌};
 ghost use Rattle.clause_check.specs.Hints.{outcome_of};
 ghost use Rattle.clause_check.specs.Marked.{is_marked, variables_of};

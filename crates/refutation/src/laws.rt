@@ -1,3 +1,4 @@
+//! Laws of refutations: they are sound, and each text has one verdict.
 ghost use Rattle.refutation.specs.Laws as law;
 
 use clause_check::steps_are_sound;

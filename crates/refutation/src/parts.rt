@@ -1,3 +1,4 @@
+//! The parts of a text between separators.
 ghost use Rattle.std.specs.Prelude.{◌≡◌, ◌==◌, [], ◌∷◌, IfNone, IfSome};
 
 /// The parts of a text between separators, from some part on.

@@ -1,3 +1,4 @@
+//! Checks a text line by line.
 ghost use Rattle.std.specs.Prelude.{◌≡◌, ℕ, ◌≤◌, List, None, length, IfOk, IfErr, OnOk};
 ghost use Rattle.table_formula.specs.Problems.{IsImpossible};
 ghost use Rattle.refutation.specs.Lines.{line_in};

@@ -1,3 +1,4 @@
+//! What is wrong with a step.
 use crate::fault::LineFault;
 use std::alloc::AllocError;
 

@@ -1,4 +1,4 @@
-// A segment of the machine, and the messages that it has sent.
+//! A segment of the machine, and the messages that it has sent.
 ghost use Rattle.std.specs.Prelude.{◌≡◌, ◌+◌, ◌*◌, ◌<◌, ◌≤◌, ◌↔◌, IfOk, IfSome, IfNone, IsTrue, OnOk, OnErr, length};
 ghost use Rattle.round_eval.specs.Rows.{rows};
 ghost use Rattle.ring_segments.specs.Segments.{places_of, states_of};
@@ -107,7 +107,7 @@ impl<'a> Part<'a> {
         self.leftward.get(round as usize).copied()
     }
 
-    // Whether it may send to the right.
+    // Returns whether it may send to the right.
     pub(crate) fn may_send_right(&self) -> bool
         ensures { IsTrue result ↔ MaySendRight self.now }
     {
@@ -115,7 +115,7 @@ impl<'a> Part<'a> {
         round < self.segment.rounds() && self.rightward.len() <= round as usize
     }
 
-    // Whether it may send to the left.
+    // Returns whether it may send to the left.
     pub(crate) fn may_send_left(&self) -> bool
         ensures { IsTrue result ↔ MaySendLeft self.now }
     {
@@ -123,7 +123,7 @@ impl<'a> Part<'a> {
         round < self.segment.rounds() && self.leftward.len() <= round as usize
     }
 
-    // Whether it has sent both ways in its current round.
+    // Returns whether it has sent both ways in its current round.
     pub(crate) fn has_sent(&self) -> bool
         ensures { IsTrue result ↔ ((self.now.segment.round < self.now.rightward) × (self.now.segment.round < self.now.leftward)) }
     {

@@ -1,3 +1,4 @@
+//! Running the events of a list.
 ghost use Rattle.std.specs.Prelude.{◌≡◌, ◌≤◌, IfOk, OnOk, length};
 ghost use Rattle.ring_core.specs.Machine.{IsMachineOf, opening, Runs, Steps};
 ghost use Rattle.ring_core.specs.MachinePromises.{HasGlobalStates, HasGlobalMessages, AreNear};

@@ -1,3 +1,4 @@
+//! The state after a list of events.
 ghost use Rattle.std.specs.Prelude.{◌≡◌, ◌*◌, ◌^◌, ◌<◌, ◌≤◌, ℕ, Some, IfOk, IfSome, IfNone, OnOk, length, slice_get, map};
 ghost use Rattle.std.specs.List.{range_with_len};
 ghost use Rattle.round_eval.specs.Rows.{rows};
@@ -46,7 +47,7 @@ impl<'a> World<'a> {
     ghost use Rattle.ring_segments.specs.Needs.{from_left, from_right, to_the_left, to_the_right};
     ghost use Rattle.ring_segments.specs.Messages.{sent_under};
 
-    // The state before the first event.
+    // Returns the state before the first event.
     pub(crate) fn opening(
         alloc: Global,
         plan: &'a Plan,
@@ -95,7 +96,7 @@ impl<'a> World<'a> {
         }
     }
 
-    // The messages that a segment needs for its round, if it may advance.
+    // Returns the messages that a segment needs for its round, if it may advance.
     fn needed(&self, segment: u32) -> Option<(Msg<'a>, Msg<'a>)>
         ensures none { IfNone result (¬ CanAdvance self.now segment) }
         ensures some { IfSome result (λ _. CanAdvance self.now segment) }
@@ -116,7 +117,7 @@ impl<'a> World<'a> {
         Some((left, right))
     }
 
-    // The message that came to a segment from its left in a round, if any.
+    // Returns the message that came to a segment from its left in a round, if any.
     fn from_left(&self, index: usize, round: u32) -> Option<Msg<'a>>
         requires { index < length self.now.segments }
         ensures none { IfNone result (length (left_border self.now index).rightward ≤ round) }
@@ -128,7 +129,7 @@ impl<'a> World<'a> {
         self.part((index + count - 1) % count).sent_right_in(round)
     }
 
-    // The message that came to a segment from its right in a round, if any.
+    // Returns the message that came to a segment from its right in a round, if any.
     fn from_right(&self, index: usize, round: u32) -> Option<Msg<'a>>
         requires { index < length self.now.segments }
         ensures none { IfNone result (length (right_border self.now index).leftward ≤ round) }
@@ -151,7 +152,7 @@ impl<'a> World<'a> {
         let _parts = &self.parts;
     }
 
-    // The number of segments.
+    // Returns the number of segments.
     fn count(&self) -> usize
         ensures value { result ≡ length self.now.segments }
         ensures few { result < 2 ^ 63 }
@@ -159,7 +160,7 @@ impl<'a> World<'a> {
         self.parts.len()
     }
 
-    // A segment with its messages.
+    // Returns a segment with its messages.
     fn part(&self, index: usize) -> &Part<'a>
         requires { index < length self.now.segments }
         ensures segment { result.now.segment ≡ segment_after_rounds self.now index (segment_at self.now index).round }
@@ -215,7 +216,7 @@ impl<'a> World<'a> {
     }
 }
 
-// The segments before the first round.
+// Returns the segments before the first round.
 fn opening_parts<'a>(
     alloc: Global,
     plan: &'a Plan,

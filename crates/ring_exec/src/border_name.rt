@@ -1,4 +1,4 @@
-// Names of borders, which keep the seats of different borders apart.
+//! Names of borders, which keep the seats of different borders apart.
 ghost use Rattle.std.specs.Prelude.{◌≡◌, ℕ};
 
 use std::marker::{Brand, PhantomData};

@@ -1,4 +1,4 @@
-// The course of a run: the segments that run, and those that are still to start.
+//! The course of a run: the segments that run, and those that are still to start.
 ghost use Rattle.std.specs.Prelude.{◌≡◌, ◌≢◌, ℕ, ◌+◌, ◌<◌, ◌≤◌, ◌↔◌, None, Some, IsNone, IsSome, IfErr, OnOk, vec_len, vec_capacity};
 ghost use Rattle.ring_exec.specs.Courses.{HasEnded, HasRefused, HasStarted, IsOnCourse};
 ghost use Rattle.ring_exec.specs.Outcomes.{HasMore};

@@ -1,4 +1,4 @@
-// The ends of the borders between neighbouring segments.
+//! The ends of the borders between neighbouring segments.
 ghost use Rattle.std.specs.Prelude.{◌≡◌, ◌≢◌, ◌+◌, ◌<◌, IfOk, IfErr, OnOk};
 ghost use Rattle.border_exchange.specs.SeatState.{IsNext};
 ghost use Rattle.border_exchange.specs.declared.Side.TheVariants.{Rightward, Leftward};

@@ -1,4 +1,4 @@
-// The faults of segments and runs.
+//! The faults of segments and runs.
 ghost use Rattle.std.specs.Prelude.{◌≡◌, ◌≢◌};
 ghost use Rattle.ring_exec.specs.Faults.{run_fault_of};
 ghost use Rattle.ring_exec.specs.declared.fault.SegmentFault.TheVariants.{OutOfMemory as NoMemory};

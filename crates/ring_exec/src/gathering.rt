@@ -1,4 +1,4 @@
-// The channels of the segments that ended.
+//! The channels of the segments that ended.
 ghost use Rattle.std.specs.Prelude.{◌≡◌, ℕ, ◌+◌, ◌<◌, ◌≤◌, OnOk, IfErr, length, vec_len, slice_index};
 ghost use Rattle.node_program.specs.GlobalRounds.{channel_at, channels_of};
 ghost use Rattle.ring_segments.specs.Segments.{first_of, places_of};

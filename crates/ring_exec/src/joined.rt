@@ -1,4 +1,4 @@
-// The outcomes of the segments of a run.
+//! The outcomes of the segments of a run.
 ghost use Rattle.std.specs.Prelude.{◌≡◌, ◌+◌, ◌<◌, ◌≤◌, ◌++◌, [], ◌∷◌, None, Some, IfOk, IfErr, vec_len, vec_capacity};
 ghost use Rattle.ring_exec.specs.Faults.{blamed};
 ghost use Rattle.ring_exec.specs.declared.fault.CourseFault.TheVariants.{Segment as OfSegment, NoThread};
@@ -17,7 +17,7 @@ pub(crate) struct Joined<'a> {
 impl<'a> Joined<'a> {
     ghost use Rattle.ring_exec.specs.Outcomes.{HasMore};
 
-    // No outcomes yet, with this empty list for the segments.
+    // Returns no outcomes yet, with this empty list for the segments.
     pub(crate) fn new(segments: Vec<Segment<'a>>) -> Joined<'a>
         ensures fault { result.fault ≡ None }
         ensures segments { result.segments ≡ segments.entry }

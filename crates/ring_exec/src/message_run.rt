@@ -1,3 +1,4 @@
+//! The run of a ring by messages, a thread for each segment.
 ghost use Rattle.std.specs.Prelude.{◌≡◌, ◌+◌, ◌-◌, ◌<◌, ◌↔◌, ℕ, None, IfOk, OnOk, IfErr, IfSome, IsErrOf, length, vec_len, slice_get};
 ghost use Rattle.node_program.specs.GlobalRounds.{channels_of};
 ghost use Rattle.ring_segments.specs.SegmentCounts.{IsSegmentCount};
@@ -109,7 +110,7 @@ fn run_segments<'a, R: Threads + Wait + Sync, G: Gate + Sync, L: BorderName + Se
     joined.into_segments()
 }
 
-// A run before its first segment has started, with room for its threads and their outcomes.
+// Returns a run before its first segment has started, with room for its threads and their outcomes.
 fn no_progress<'a>(
     alloc: Global,
     plan: &'a Plan,
@@ -134,7 +135,7 @@ fn no_progress<'a>(
     })
 }
 
-// The segments of a run before their first round, with the first one last.
+// Returns the segments of a run before their first round, with the first one last.
 fn waiting_segments<'a>(
     alloc: Global,
     plan: &'a Plan,

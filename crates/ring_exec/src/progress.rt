@@ -1,4 +1,4 @@
-// How far a run is.
+//! How far a run is.
 ghost use Rattle.std.specs.Prelude.{◌≡◌, ◌+◌, ◌<◌, ◌≤◌, All, Ok, Err, MatchOption, vec_len, vec_capacity};
 ghost use Rattle.ring_segments.specs.declared.limits.TheConstants.{MAX_SEGMENTS};
 ghost use Rattle.ring_exec.specs.declared.fault.CourseFault.TheVariants.{NoThread};

@@ -1,4 +1,4 @@
-// The recursion of a run over its segments: each segment beside the segments after it.
+//! The recursion of a run over its segments: each segment beside the segments after it.
 ghost use Rattle.std.specs.Prelude.{◌≡◌, ℕ, ◌+◌, ◌<◌};
 ghost use Rattle.ring_exec.specs.Courses.{HasEnded, HasStarted, IsOnCourse};
 

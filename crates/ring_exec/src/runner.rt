@@ -1,4 +1,4 @@
-// A segment that runs between its two borders.
+//! A segment that runs between its two borders.
 ghost use Rattle.std.specs.Prelude.{◌≡◌, ◌≢◌, ◌+◌, ◌<◌, ◌↔◌, IfErr, IfOk, IsOk, OnOk, OnErr, length};
 ghost use Rattle.border_exchange.specs.declared.Side.TheVariants.{Rightward, Leftward};
 ghost use Rattle.node_program.specs.declared.limits.TheConstants.{MAX_ROUNDS};

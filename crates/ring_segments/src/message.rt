@@ -1,4 +1,4 @@
-// The messages of a run.
+//! The messages of a run.
 ghost use Rattle.std.specs.Prelude.{◌≡◌, ◌↔◌, IsTrue};
 ghost use Rattle.ring_segments.specs.Messages.{message_at};
 
@@ -37,7 +37,7 @@ impl<'a> Msg<'a> {
     ghost use Rattle.ring_segments.specs.Headings.{heading_of};
     ghost use Rattle.ring_segments.specs.Messages.{sent_under};
 
-    // The message with this value, which must be the one that the place sends.
+    // Returns the message with this value, which must be the one that the place sends.
     pub(crate) fn new(
         plan: &'a Plan,
         ring: &'a Ring,
@@ -87,8 +87,8 @@ impl<'a> Msg<'a> {
         self.value
     }
 
-    // Whether it is the message of this place to this side in this round, in a run of this plan on
-    // this ring.
+    // Returns whether it is the message of this place to this side in this round, in a run of this
+    // plan on this ring.
     pub(crate) fn is_from(
         &self,
         plan: &Plan,

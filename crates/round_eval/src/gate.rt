@@ -1,3 +1,5 @@
+//! Observers of a run.
+
 /// An observer of a run, which is called when a step of work begins. A gate in a test may wait
 /// before it returns.
 pub trait Gate {

@@ -1,3 +1,4 @@
+//! Laws of rows of nodes.
 ghost use Rattle.round_eval.specs.Laws as law;
 
 /// In a global round, consecutive places of a ring step as a row of nodes between the messages of

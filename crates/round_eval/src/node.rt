@@ -1,3 +1,4 @@
+//! The start, the messages, a round and the channel of one node.
 ghost use Rattle.std.specs.Prelude.{◌≡◌, ◌<◌, length};
 ghost use Rattle.node_program.specs.Node as rounds;
 ghost use Rattle.node_program.specs.Bounds.{register_bounds, IsWithin};
@@ -95,7 +96,7 @@ pub fn sent_to_right(plan: &Plan, round: u32, own: &[u32]) -> u32
     )
 }
 
-// What an expression reads in a round: the registers and both messages.
+// Returns what an expression reads in a round: the registers and both messages.
 fn reading_messages(registers: &[u32], left: u32, right: u32) -> Env<'_>
     ensures id { result.id ≡ 0 }
     ensures left { result.left ≡ left }

@@ -1,3 +1,4 @@
+//! All rounds of a ring on one thread.
 ghost use Rattle.std.specs.Prelude.{◌≡◌, ℕ, ◌*◌, ◌<◌, ◌≤◌, length, slice_index, slice_index_or, [], All, IfOk};
 ghost use Rattle.node_program.specs.GlobalRounds.{channels_of};
 ghost use Rattle.node_program.specs.Node as rounds;

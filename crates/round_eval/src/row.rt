@@ -1,5 +1,5 @@
-// Rows of nodes. Their registers are one list, the cells of each node after those of the node
-// before.
+//! Rows of nodes. Their registers are one list, the cells of each node after those of the node
+//! before.
 ghost use Rattle.std.specs.Prelude.{◌≡◌, ℕ, ◌+◌, ◌*◌, ◌<◌, ◌≤◌, map, length, slice_index_or, All, [], ◌∷◌, ◌++◌};
 ghost use Rattle.node_program.specs.Node as rounds;
 ghost use Rattle.round_eval.specs.Rows.{row_after, rows};

@@ -1,4 +1,4 @@
-// The job numbers at which the levels of a plan begin.
+//! The job numbers at which the levels of a plan begin.
 ghost use Rattle.std.specs.Prelude.{IfOk};
 ghost use Rattle.win_index.specs.declared.limits.TheConstants.{MAX_BLOCKS};
 ghost use Rattle.shared_memo.specs.PlanJobs.{AreFirstJobs};

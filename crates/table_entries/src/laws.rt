@@ -1,3 +1,4 @@
+//! Laws of the table of a program.
 ghost use Rattle.table_entries.specs.Laws as law;
 
 use lang_check::accepted_channels_are_below;

@@ -93,7 +93,7 @@ fn entries_of<R: Threads + Sync>(
     joined(code, shares)
 }
 
-// The table with these entries.
+// Returns the table with these entries.
 fn table_with(code: &Code<'_>, entries: Vec<u16>) -> Table
     requires size { vec_len entries ≡ window_count code.now.ids (length code.now.program.steps) }
     requires entries { AreEntries code.now 0 entries.items }

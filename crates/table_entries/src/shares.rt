@@ -39,8 +39,8 @@ pub(crate) fn shares_of(
     Ok(shares)
 }
 
-// The capacity for the entries of the windows from `start` to `end`, or of all windows for the first
-// share.
+// Returns the capacity for the entries of the windows from `start` to `end`, or of all windows for
+// the first share.
 fn capacity_of(start: usize, end: usize, windows: usize) -> usize
     requires { (start ≤ end) × (end ≤ windows) }
     ensures own { end - start ≤ result }
@@ -70,7 +70,7 @@ pub(crate) fn read_shares<R: Threads + Sync>(
     );
 }
 
-// The entries of all shares, in order.
+// Returns the entries of all shares, in order.
 pub(crate) fn joined(code: &Code<'_>, mut shares: Vec<Share>) -> Vec<u16>
     requires { AreRead code.now shares.items }
     ensures size { vec_len result ≡ window_count code.now.ids (length code.now.program.steps) }

@@ -117,7 +117,7 @@ impl<'s, 'a> CellMaker<'s, 'a> {
     }
 }
 
-// The block that was missing when one was made, or the fault that memory was refused.
+// Returns the block that was missing when one was made, or the fault that memory was refused.
 fn missing_block(fault: MakeFault) -> Result<(u32, u32), WorkFault>
     ensures { result ≡ missing_of fault }
 {

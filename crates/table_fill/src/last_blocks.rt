@@ -13,7 +13,7 @@ use shared_memo::{Memo, Pass};
 use std::alloc::Global;
 use window_states::Block;
 
-// The block of a level and a number, which the pass knows.
+// Returns the block of a level and a number, which the pass knows.
 fn known_block<'s, 'a>(
     memo: &'s Memo<'a>,
     pass: &mut Pass<'a>,
@@ -32,7 +32,7 @@ fn known_block<'s, 'a>(
     }
 }
 
-// An empty list with capacity for the blocks of the last level.
+// Returns an empty list with capacity for the blocks of the last level.
 pub(crate) fn empty_blocks<'s, 'a>(
     alloc: Global,
     memo: &'s Memo<'a>,
@@ -43,7 +43,7 @@ pub(crate) fn empty_blocks<'s, 'a>(
     Ok(Vec::with_capacity(alloc, shape.blocks(shape.rounds()) as usize)?)
 }
 
-// The blocks of the last level in order, in a list with capacity for them.
+// Returns the blocks of the last level in order, in a list with capacity for them.
 pub(crate) fn last_blocks<'s, 'a>(
     memo: &'s Memo<'a>,
     pass: &mut Pass<'a>,

@@ -1,3 +1,4 @@
+//! The looks of the caller's pass after the workers have ended.
 ghost use Rattle.std.specs.Prelude.{◌≡◌, IfSome, IsTrue};
 ghost use Rattle.shared_memo.specs.Passes.{known, memo_plan, IsPassOf};
 ghost use Rattle.table_fill.specs.Filled.{HasLearned, KnowsAll};

@@ -1,4 +1,4 @@
-// A worker's own reader of a memo.
+//! A worker's own reader of a memo.
 ghost use Rattle.shared_memo.specs.Passes.{IsPassOf, IsPassOf-prop};
 
 use shared_memo::{Memo, Pass, Stranger};

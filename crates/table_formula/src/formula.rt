@@ -1,3 +1,4 @@
+//! The formula of all tables of a shape that keep a separation.
 ghost use Rattle.std.specs.Prelude.{◌≡◌, ◌+◌, ◌*◌, ◌<◌, ◌≤◌, IfOk, IfErr, OnOk, MatchOption, length};
 ghost use Rattle.nbhd_check.specs.Apart.{extra};
 ghost use Rattle.table_formula.specs.declared.limits.TheConstants.{MAX_CLAUSES};

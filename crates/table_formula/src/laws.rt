@@ -1,3 +1,4 @@
+//! Laws of the formula: it has a model exactly where there is such a table.
 ghost use Rattle.table_formula.specs.Laws as law;
 
 use nbhd_check::tuples_suffice;

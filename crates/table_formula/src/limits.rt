@@ -1,3 +1,5 @@
+//! The limits of a formula.
+
 /// The maximum number of variables of a formula: of its windows times its channels.
 pub const MAX_VARIABLES: u64 = 1 << 22;
 

@@ -1,3 +1,5 @@
+//! Why a text is not read as a table.
+
 /// Why a text was not read as a table. Lines are counted from 1, and byte offsets from 0.
 #[derive(Clone, Copy, Debug, PartialEq, Eq)]
 pub enum TableFault {

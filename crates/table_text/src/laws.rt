@@ -1,3 +1,4 @@
+//! Laws of table texts.
 ghost use Rattle.table_text.specs.Laws as law;
 
 use win_index::{count_of_windows, number_of_window, windows_have_numbers};

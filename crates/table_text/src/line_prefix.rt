@@ -1,4 +1,4 @@
-// The text of the identifiers that the windows of a run share.
+//! The text of the identifiers that the windows of a run share.
 ghost use Rattle.std.specs.Prelude.{◌≡◌, ◌<◌, ◌≤◌, [], All, length, take};
 ghost use Rattle.table_text.specs.declared.line_prefix.TheConstants.{PREFIX_LEN};
 
@@ -26,7 +26,7 @@ impl LinePrefix {
     ghost use Rattle.table_text.specs.Pieces.{prefix_text, id_text, AreTexts};
     ghost use Rattle.table_text.specs.Prefixes.{HasTexts};
 
-    // The prefix of no identifiers.
+    // Returns the prefix of no identifiers.
     pub(crate) fn empty() -> LinePrefix
         ensures { HasTexts result.bytes result.ends [] }
     {

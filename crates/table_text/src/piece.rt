@@ -1,4 +1,4 @@
-// Short texts in buffers of one length, so that one is stored by one copy.
+//! Short texts in buffers of one length, so that one is stored by one copy.
 ghost use Rattle.std.specs.Prelude.{◌≤◌};
 
 // A text of at most 8 bytes: the first `len` of the buffer.

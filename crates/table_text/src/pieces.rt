@@ -1,4 +1,4 @@
-// The pieces from which the lines of windows are made.
+//! The pieces from which the lines of windows are made.
 ghost use Rattle.std.specs.Prelude.{◌≡◌, ◌<◌, ◌≤◌, length, IfOk};
 ghost use Rattle.node_program.specs.declared.limits.TheConstants.{MAX_CHANNELS};
 ghost use Rattle.win_index.specs.declared.limits.TheConstants.{MAX_IDS};

@@ -1,4 +1,4 @@
-// Storing pieces and prefixes in a chunk.
+//! Storing pieces and prefixes in a chunk.
 ghost use Rattle.std.specs.Prelude.{◌≡◌, ◌+◌, ◌≤◌, ◌++◌, length};
 ghost use Rattle.devices.specs.declared.chunk.TheConstants.{CHUNK_LEN};
 ghost use Rattle.table_text.specs.declared.line_prefix.TheConstants.{PREFIX_LEN};

@@ -1,4 +1,4 @@
-// The versions of the table text.
+//! The versions of the table text.
 
 // Version 1 gives a table only, whose separation is near 1 and far 0. Version 2 also gives near and
 // far.

@@ -1,4 +1,4 @@
-// The words of the process.
+//! The words of the process.
 ghost use Rattle.std.specs.Prelude.{◌≡◌, map, drop, IfOk, IfErr, string_bytes};
 ghost use Rattle.task_words.specs.Answers.{IsAnswer, IsParsed, IsTipFor, IsUnread};
 ghost use Rattle.task_words.specs.Task.{IsRunnable};

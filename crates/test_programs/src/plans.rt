@@ -1,3 +1,4 @@
+//! The plan of a program text.
 ghost use Rattle.std.specs.Prelude.{◌≡◌, IfOk};
 
 use lang_check::{Plan, accept};

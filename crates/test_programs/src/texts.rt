@@ -1,3 +1,5 @@
+//! Program texts for tests.
+
 /// One round of Cole and Vishkin (1986).
 pub const CV1: &[u8] =
     b"rounds 1\nchannels 6\nregisters 1\nstart\nr0 = id\nround\nsend left 0\nsend right r0\nr0 = add(shl(ldb(r0, L), 1), bit(r0, ldb(r0, L)))\nfinish r0\n";

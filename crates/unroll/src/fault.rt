@@ -1,3 +1,4 @@
+//! Why a block is not made.
 ghost use Rattle.std.specs.Prelude.{◌≡◌};
 ghost use Rattle.unroll.specs.declared.fault.MakeFault.TheVariants.{OutOfMemory};
 

@@ -1,3 +1,4 @@
+//! A maker of blocks, which keeps its columns.
 use crate::fault::MakeFault;
 use crate::gathering::{send_states, write_states};
 use crate::part_columns::{Scratch, zeros};
@@ -104,7 +105,7 @@ fn zero_lists(alloc: Global, cells: usize, sent: usize) -> Result<BlockLists, Ou
     })
 }
 
-// The number of messages that a block of a level holds; 0 on the last level.
+// Returns the number of messages that a block of a level holds; 0 on the last level.
 fn sent_len(shape: Shape, level: u32) -> usize
     ensures { level < shape.rounds → result ≡ BLOCK_WINDOWS }
 {

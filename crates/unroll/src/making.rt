@@ -1,3 +1,4 @@
+//! Making one block.
 ghost use Rattle.std.specs.Prelude.{◌≡◌};
 ghost use Rattle.window_states.specs.BlockStates.{IsKey};
 ghost use Rattle.unroll.specs.MakeFaults.{AskedFor, IsMade};

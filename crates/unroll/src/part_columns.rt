@@ -1,4 +1,4 @@
-// The columns that a maker of blocks reuses.
+//! The columns that a maker of blocks reuses.
 ghost use Rattle.std.specs.Prelude.{◌≡◌, ◌+◌, ◌≤◌, [], ℕ, List, length, replicate, slice_index, IfOk};
 ghost use Rattle.unroll.specs.WideColumns.{IsWide, AreWide, AreWritten, IsReady};
 

@@ -11,8 +11,8 @@ use lang_check::Plan;
 use win_index::BLOCK_WINDOWS;
 use window_states::{Block, Source};
 
-// The block that holds the window of a level with this number, and the index of the window in it.
-// `last` can be any block of the level.
+// Returns the block that holds the window of a level with this number, and the index of the window
+// in it. `last` can be any block of the level.
 pub(crate) fn numbered_block<'s, S: Source<'s>>(
     plan: &Plan,
     source: &mut S,
@@ -35,7 +35,7 @@ pub(crate) fn numbered_block<'s, S: Source<'s>>(
     Ok((block, number % BLOCK_WINDOWS))
 }
 
-// The block of a level with this number: `last` if it has the number, else the source's.
+// Returns the block of a level with this number: `last` if it has the number, else the source's.
 fn known_block<'s, S: Source<'s>>(
     plan: &Plan,
     source: &mut S,

@@ -80,8 +80,8 @@ pub(crate) fn start_run<'s, S: Source<'s>>(
     })
 }
 
-// The first part of the window at an index of an upper block: `given` if it has the same number,
-// else from the source.
+// Returns the first part of the window at an index of an upper block: `given` if it has the same
+// number, else from the source.
 fn first_part<'s, S: Source<'s>>(
     upper: UpperBlock<'_>,
     source: &mut S,

@@ -21,7 +21,7 @@ pub(crate) struct UpperBlock<'p> {
 }
 
 impl<'p> UpperBlock<'p> {
-    // The block one level above `below` with this number.
+    // Returns the block one level above `below` with this number.
     pub(crate) fn new(plan: &'p Plan, below: u32, number: u32) -> UpperBlock<'p>
         requires below { below < length plan.now.program.steps }
         requires number { number < block_count plan.now.ids (below + 1) }

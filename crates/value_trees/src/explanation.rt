@@ -60,7 +60,7 @@ pub fn explanation_text(
     Ok(text)
 }
 
-// What an expression reads before the first round: the identifier alone.
+// Returns what an expression reads before the first round: the identifier alone.
 fn knowing(id: u32) -> Env<'static>
     ensures { env_of result ≡ node.knowing_id id }
 {
@@ -72,7 +72,7 @@ fn knowing(id: u32) -> Env<'static>
     }
 }
 
-// What an expression reads during and after the rounds: the registers and both messages.
+// Returns what an expression reads during and after the rounds: the registers and both messages.
 fn reading(registers: &[u32], left: u32, right: u32) -> Env<'_>
     ensures { env_of result ≡ node.reading_messages registers.now left right }
 {

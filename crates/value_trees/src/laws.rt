@@ -1,3 +1,4 @@
+//! Laws of explanations and traces.
 ghost use Rattle.value_trees.specs.Laws as law;
 
 /// The first line of a tree has the value of its whole expression. That is the register which is

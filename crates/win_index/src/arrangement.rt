@@ -1,4 +1,4 @@
-// Lists of distinct numbers below `ids`, of any length, in lexicographic order.
+//! Lists of distinct numbers below `ids`, of any length, in lexicographic order.
 ghost use Rattle.std.specs.Prelude.{◌≡◌, ◌≢◌, ℕ, ◌+◌, ◌-◌, ◌^◌, ◌<◌, ◌≤◌, ◌↔◌, IsTrue, IfSome, Some, List, not, find, length, take, slice_get, nat_lt, count_by, AllPairs};
 ghost use Rattle.std.specs.Bool.{OnTrue, OnFalse};
 ghost use Rattle.std.specs.List.{range_with_len};
@@ -17,7 +17,7 @@ pub(crate) struct Lists {
 }
 
 impl Lists {
-    // The number of lists.
+    // Returns the number of lists.
     pub(crate) fn count(self) -> u64
         ensures value { result ≡ length (windows self.len self.ids) }
         ensures some { 0 < result }
@@ -30,7 +30,7 @@ impl Lists {
         count
     }
 
-    // The number of a list, which must be one of these.
+    // Returns the number of a list, which must be one of these.
     pub(crate) fn number(self, list: &[u32]) -> u64
         requires { IsWindow self.len self.ids list.now }
         ensures item { slice_get (windows self.len self.ids) result ≡ Some list.now }
@@ -46,7 +46,7 @@ impl Lists {
         number
     }
 
-    // The number of a list, or `None` if it is not one of these.
+    // Returns the number of a list, or `None` if it is not one of these.
     pub(crate) fn find(self, list: &[u32]) -> Option<u64>
         ensures number { result ≡ number_of self.len self.ids list.now }
         ensures below { IfSome result (λ n. n < length (windows self.len self.ids)) }
@@ -111,7 +111,8 @@ impl Lists {
         true
     }
 
-    // The number of the first list with this prefix, among the lists that are one number longer.
+    // Returns the number of the first list with this prefix, among the lists that are one number
+    // longer.
     pub(crate) fn run_start(self, front: &[u32]) -> u64
         requires front { IsWindow self.len self.ids front.now }
         requires longer { self.len < self.ids }
@@ -123,7 +124,7 @@ impl Lists {
     }
 }
 
-// Whether there are at most `most` lists of this length.
+// Returns whether there are at most `most` lists of this length.
 pub(crate) fn are_few(ids: u32, len: usize, most: u32) -> bool
     requires { len ≤ ids }
     ensures { IsTrue result ↔ (length (windows len ids) ≤ most) }
@@ -139,7 +140,7 @@ pub(crate) fn are_few(ids: u32, len: usize, most: u32) -> bool
     count <= most
 }
 
-// Whether the list has distinct numbers below `ids`.
+// Returns whether the list has distinct numbers below `ids`.
 fn is_window(ids: u32, list: &[u32]) -> bool
     ensures { IsTrue result ↔ IsWindow (length list.now) ids list.now }
 {
@@ -151,8 +152,8 @@ fn is_window(ids: u32, list: &[u32]) -> bool
     true
 }
 
-// The number of elements below `x`. The tests are added up, since branches on them would often be
-// mispredicted.
+// Returns the number of elements below `x`. The tests are added up, since branches on them would
+// often be mispredicted.
 fn smaller_before(before: &[u32], x: u32) -> usize
     ensures { result ≡ count_by (λ y. nat_lt y x) before.now }
 {
@@ -163,7 +164,7 @@ fn smaller_before(before: &[u32], x: u32) -> usize
     count
 }
 
-// The number of values below `x` that are not in `before`, whose elements are distinct.
+// Returns the number of values below `x` that are not in `before`, whose elements are distinct.
 pub(crate) fn unused_below(before: &[u32], x: u32) -> u64
     requires { AllPairs (λ a b. a ≢ b) before.now }
     ensures { result ≡ length (unused x before.now) }
@@ -171,22 +172,22 @@ pub(crate) fn unused_below(before: &[u32], x: u32) -> u64
     u64::from(x) - smaller_before(before, x) as u64
 }
 
-// The least value from `low` on that is below `ids` and not in `before`.
+// Returns the least value from `low` on that is below `ids` and not in `before`.
 fn least_unused(ids: u32, before: &[u32], low: u32) -> Option<u32>
     ensures { result ≡ find (λ x. not (is_used before.now x)) (range_with_len low (ids - low)) }
 {
     (low..ids).find(|x| !stands_in(before, *x))
 }
 
-// Whether the list contains the value; lists are short.
+// Returns whether the list contains the value; lists are short.
 fn stands_in(list: &[u32], x: u32) -> bool
     ensures { result ≡ is_used list.now x }
 {
     list.iter().any(|y| *y == x)
 }
 
-// The value at this index among those below `ids` that are not in `before`, whose elements are
-// distinct.
+// Returns the value at this index among those below `ids` that are not in `before`, whose elements
+// are distinct.
 pub(crate) fn nth_unused(ids: u32, before: &[u32], place: u64) -> u32
     requires distinct { AllPairs (λ a b. a ≢ b) before.now }
     requires place { place < length (unused ids before.now) }

@@ -1,3 +1,4 @@
+//! The blocks and the jobs of a shape.
 use crate::limits::{BLOCK_WINDOWS, MAX_BLOCKS, MAX_ROUNDS};
 use crate::shape::Shape;
 

@@ -1,3 +1,4 @@
+//! Laws of windows, tuples and rings.
 ghost use Rattle.win_index.specs.Laws as law;
 
 /// The window with number `n` has number `n`.

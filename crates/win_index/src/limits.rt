@@ -1,3 +1,5 @@
+//! The limits of shapes.
+
 /// The maximum number of rounds of a shape.
 pub const MAX_ROUNDS: u32 = node_program::MAX_ROUNDS;
 

@@ -22,7 +22,7 @@ pub(crate) struct Prefixes {
 }
 
 impl Prefixes {
-    // The lists that are one identifier shorter.
+    // Returns the lists that are one identifier shorter.
     fn shorter(self) -> Prefixes
         requires { 3 ≤ self.len }
         ensures ids { result.ids ≡ self.ids }
@@ -34,7 +34,7 @@ impl Prefixes {
         }
     }
 
-    // The positions for the lists that are one identifier longer than this one.
+    // Returns the positions for the lists that are one identifier longer than this one.
     pub(crate) fn places(self, prefix: RunPrefix) -> RunPlaces
         ensures first { result.first_gap ≡ prefix.first_gap }
         ensures second { result.second_gap ≡ prefix.second_gap }
@@ -47,7 +47,7 @@ impl Prefixes {
         }
     }
 
-    // The prefix with one identifier more, which has this position.
+    // Returns the prefix with one identifier more, which has this position.
     fn longer(self, prefix: RunPrefix, place: u32) -> RunPrefix
         requires { (window : List ℕ) × IsLonger self.len self.ids prefix place window }
         ensures { (window : List ℕ) → IsLonger self.len self.ids prefix place window → HasNumbers (self.len + 1) self.ids window result }
@@ -61,7 +61,7 @@ impl Prefixes {
         }
     }
 
-    // The prefix without its last identifier, and the position of that one.
+    // Returns the prefix without its last identifier, and the position of that one.
     fn without_last(self, prefix: RunPrefix) -> (RunPrefix, u32)
         requires { IsPrefix (self.len + 1) self.ids prefix }
         ensures { (window : List ℕ) → HasNumbers (self.len + 1) self.ids window prefix → IsLonger self.len self.ids result.0 result.1 window }
@@ -77,7 +77,7 @@ impl Prefixes {
         (shorter, place)
     }
 
-    // The next prefix, or `None` if this is the last one.
+    // Returns the next prefix, or `None` if this is the last one.
     pub(crate) fn next(self, prefix: RunPrefix) -> Option<RunPrefix>
         requires { IsPrefix self.len self.ids prefix }
         ensures next { IfSome result (IsNextPrefix self.len self.ids prefix) }
@@ -98,7 +98,7 @@ impl Prefixes {
     }
 }
 
-// The next prefix of two identifiers, or `None` if this is the last one.
+// Returns the next prefix of two identifiers, or `None` if this is the last one.
 fn next_pair(ids: u32, prefix: RunPrefix) -> Option<RunPrefix>
     requires ids { 2 < ids × ids ≤ MAX_IDS }
     requires prefix { IsPrefix 2 ids prefix }
@@ -189,7 +189,7 @@ impl Shape {
         number / (free * (free - 1))
     }
 
-    // The number of a prefix of a window of this level, all its identifiers but the last.
+    // Returns the number of a prefix of a window of this level, all its identifiers but the last.
     fn front_number(&self, level: u32, front: &[u32]) -> u32
         requires level { level ≤ self.now.rounds }
         requires front { IsWindow (2 * level) self.now.ids front.now }
@@ -198,7 +198,7 @@ impl Shape {
         self.fronts(level).number(front) as u32
     }
 
-    // The prefixes of the runs one level above `below`.
+    // Returns the prefixes of the runs one level above `below`.
     fn run_prefixes(&self, below: u32) -> Prefixes
         requires { below < self.now.rounds }
         ensures ids { result.ids ≡ self.now.ids }

@@ -1,3 +1,4 @@
+//! Rings of distinct identifiers.
 ghost use Rattle.win_index.specs.Ring.{IsRing};
 
 use crate::limits::MAX_IDS;
@@ -115,7 +116,7 @@ impl Ring {
 ghost use Rattle.std.specs.Prelude.{◌≡◌, ◌≢◌, ◌<◌, length, slice_index, EachIndex, MatchOption};
 ghost use Rattle.win_index.specs.RingFaults.{IsFirstFault};
 
-// The first fault of a list of identifiers, or `None` if it is a ring.
+// Returns the first fault of a list of identifiers, or `None` if it is a ring.
 fn first_fault(shape: Shape, ids: &[u32]) -> Option<RingFault>
     ensures { MatchOption result (IsRing shape.ids shape.rounds ids.now)
         (IsFirstFault shape.ids shape.rounds ids.now) }
@@ -137,7 +138,7 @@ fn first_fault(shape: Shape, ids: &[u32]) -> Option<RingFault>
     None
 }
 
-// A place with this identifier.
+// Returns a place with this identifier.
 fn place_of(ids: &[u32], id: u32) -> Option<usize>
     ensures { MatchOption result (EachIndex ids.now (λ k. slice_index ids.now k ≢ id))
         (λ k. (k < length ids.now) × (slice_index ids.now k ≡ id)) }

@@ -1,3 +1,5 @@
+//! The prefix of a run, by its numbers.
+
 /// The prefix of a run, all identifiers of its windows but the last, by numbers: those of the prefix
 /// without its first identifier, which is the middle part of each window, and without its first two, and
 /// the positions of these two among the identifiers that the shorter list lacks.

@@ -1,4 +1,4 @@
-// Series: consecutive windows whose suffixes are consecutive too.
+//! Series: consecutive windows whose suffixes are consecutive too.
 ghost use Rattle.std.specs.Prelude.{◌≡◌, ◌≢◌, ◌⊎◌, ◌+◌, ◌*◌, ◌<◌, ◌≤◌, length, take, drop};
 ghost use Rattle.win_index.specs.declared.limits.TheConstants.{MAX_IDS};
 
@@ -99,7 +99,7 @@ impl RunPlaces {
         if next < self.end { Some(next) } else { None }
     }
 
-    // The first gap after a position, or the end.
+    // Returns the first gap after a position, or the end.
     fn clear_end(self, place: u32) -> u32
         requires place { place < self.end }
         ensures some { place < result }
@@ -115,7 +115,7 @@ impl RunPlaces {
         )
     }
 
-    // The position, or the next one if it is a gap.
+    // Returns the position, or the next one if it is a gap.
     fn past_gap(self, place: u32) -> u32
         requires { place ≤ self.end + 1 }
         ensures { ((result ≡ place) × (place ≢ self.first_gap) × (place ≢ self.second_gap))
@@ -129,7 +129,7 @@ impl RunPlaces {
     }
 }
 
-// The identifiers of a window one level above `below`, without the first two and the last.
+// Returns the identifiers of a window one level above `below`, without the first two and the last.
 fn rest_of(below: u32, window: &[u32]) -> &[u32]
     requires { length window.now ≡ 2 * below + 3 }
     ensures { result.now ≡ drop 2 (take (2 * below + 1 + 1) window.now) }
@@ -137,7 +137,7 @@ fn rest_of(below: u32, window: &[u32]) -> &[u32]
     &window[2..2 * below as usize + 2]
 }
 
-// The gap if it is between the position and the end, else the end.
+// Returns the gap if it is between the position and the end, else the end.
 fn end_before(end: u32, gap: u32, place: u32) -> u32
     requires { place < end }
     ensures some { place < result }

@@ -1,3 +1,4 @@
+//! Shapes, and the numbers of their windows and tuples.
 ghost use Rattle.std.specs.Prelude.{◌≡◌, ◌≢◌, ◌≤◌, length, AllPairs};
 ghost use Rattle.win_index.specs.declared.limits.TheConstants.{MAX_ROUNDS, MAX_EXTRA};
 ghost use Rattle.win_index.specs.ShapeRange.{HasIds, HasFewWindows};
@@ -197,7 +198,7 @@ impl Shape {
         self.all_tuples(extra).write_next(tuple)
     }
 
-    // The windows of this level.
+    // Returns the windows of this level.
     fn windows(&self, level: u32) -> Lists
         requires { level ≤ self.now.rounds }
         ensures ids { result.ids ≡ self.now.ids }
@@ -210,7 +211,7 @@ impl Shape {
         }
     }
 
-    // The prefixes of the windows of this level, all identifiers but the last.
+    // Returns the prefixes of the windows of this level, all identifiers but the last.
     pub(crate) fn fronts(&self, level: u32) -> Lists
         requires { level ≤ self.now.rounds }
         ensures ids { result.ids ≡ self.now.ids }
@@ -224,7 +225,7 @@ impl Shape {
         }
     }
 
-    // Whether the shape has enough identifiers for a tuple.
+    // Returns whether the shape has enough identifiers for a tuple.
     fn has_tuples(&self, extra: u32) -> bool
         requires { extra ≤ MAX_EXTRA }
         ensures { IsTrue result ↔ (2 * self.now.rounds + 1 + extra ≤ self.now.ids) }

@@ -1,3 +1,4 @@
+//! Blocks of states, with the next messages of their nodes.
 use crate::numbers;
 use lang_check::Plan;
 use round_eval::{row_at, width_of};

@@ -1,3 +1,4 @@
+//! Laws of the states of windows: locality, and states from parts.
 ghost use Rattle.window_states.specs.Laws as law;
 
 use program_analysis::{next_is_within, start_is_within};

@@ -1,4 +1,4 @@
-// The windows of a block, by their numbers.
+//! The windows of a block, by their numbers.
 ghost use Rattle.std.specs.Prelude.{◌≡◌, ◌*◌, ◌<◌, ◌≤◌};
 ghost use Rattle.win_index.specs.Blocks.{block_count};
 ghost use Rattle.window_states.specs.BlockStates as block;

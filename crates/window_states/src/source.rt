@@ -1,3 +1,4 @@
+//! Sources of blocks.
 ghost use Rattle.std.specs.Prelude.{◌≡◌, IfSome, IfNone, None};
 ghost use Rattle.lang_check.specs.Plans.{ProgramForIds};
 ghost use Rattle.window_states.specs.BlockStates.{IsKey};

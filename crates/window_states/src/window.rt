@@ -1,3 +1,4 @@
+//! The state of one window.
 ghost use Rattle.std.specs.Prelude.{◌≡◌, ◌+◌, ◌*◌, ◌/◌, ◌<◌, ◌≤◌, length};
 ghost use Rattle.round_eval.specs.Rows.{rows};
 ghost use Rattle.window_states.specs.Line.{middle_state, shrunk};

@@ -80,7 +80,7 @@ fn fill_at<R: Threads + Wait + Sync, J: Jobs + Sync, G: Gate + Sync>(
     Ok(outcomes)
 }
 
-// A worker for each ticket, in the order of the tickets.
+// Returns a worker for each ticket, in the order of the tickets.
 fn pool_of<'d, 'j, 'g, J: Jobs, G: Gate>(
     alloc: Global,
     jobs: &'j J,
@@ -221,7 +221,7 @@ fn join_all<R: Threads>(rt: &R, handles: Vec<Handle>, mut outcomes: Vec<Outcome>
     outcomes
 }
 
-// The fault of the lowest worker that has one.
+// Returns the fault of the lowest worker that has one.
 fn lowest_fault(outcomes: &[Outcome]) -> Result<(), WorkFault>
     requires { AreNumbered outcomes.now outcome_worker }
     ensures { IsLowestFault outcomes.now result }

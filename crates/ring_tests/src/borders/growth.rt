@@ -1,3 +1,4 @@
+//! Tests of a border whose lists are refused memory.
 ghost use Rattle.std.specs.Prelude.{◌≡◌, ◌<◌, ◌^◌};
 
 use super::{Note, to_the_right};

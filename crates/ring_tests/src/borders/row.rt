@@ -1,3 +1,4 @@
+//! Tests of a border in one thread.
 ghost use Rattle.std.specs.Prelude.{◌≡◌};
 
 use super::{Note, to_the_left, to_the_right};

@@ -1,3 +1,4 @@
+//! Tests of a border between threads.
 ghost use Rattle.std.specs.Prelude.{◌≡◌};
 
 use super::{Note, to_the_right};
