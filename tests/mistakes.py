@@ -238,7 +238,7 @@ FILES = [
         b"1: rounds 1\n2: channels 6\n",
         "line 1, column 1: unexpected `1`; expected `rounds`; leave out the numbers of the lines",
     ),
-    (b"```\nrounds 1\nunknown word ```\n", "line 1, column 1: ```; leave out the marks around the program"),
+    (b"```\nrounds 1\n```\n", "line 1, column 1: unknown word ```; leave out the marks around the program"),
     (b'{"rounds": 1}\n', "line 1, column 1: unknown word `{`; a program begins with `rounds`, without brackets"),
     (
         b"# a program\rrounds 1\rchannels 6\r",
