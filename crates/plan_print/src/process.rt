@@ -14,7 +14,7 @@ use devices::output::send;
 use devices::watched::Watched;
 use reports::status::{Status, code_of};
 use std::io;
-use std::io::{IsTerminal, Write};
+use std::io::{ErrorKind, IsTerminal, Read, Write};
 use std::rt::Env;
 use std::sync::Wait;
 use std::thread::Threads;
@@ -48,7 +48,13 @@ where
     match parsed {
         Ok(task) => {
             tell_of_terminal(rt, &task);
-            print_result(rt, run_engine(rt, task))
+            let answer = run_engine(rt, task);
+            let is_unread = matches!(answer, Err(EngineFault::Read));
+            let status = print_result(rt, answer);
+            if is_unread {
+                tell_of_folder(rt);
+            }
+            status
         }
         Err(WordsFault::Help(text)) => {
             let mut writer = Watched::new(io::writer(rt));
@@ -65,6 +71,15 @@ where
 {
     if !matches!(task, Task::Formula { .. }) && rt.reader().is_terminal() {
         let _ = eprintln!(rt; "nbhd: reads a text from standard input, which Ctrl-D ends");
+    }
+}
+
+// Says on standard error that the input is a folder, if it is one. It is read once more to know.
+fn tell_of_folder<T: Input + Eprint>(rt: &T) {
+    if let Err(error) = rt.reader().read(&mut [0])
+        && error.kind() == ErrorKind::IsADirectory
+    {
+        let _ = eprintln!(rt; "nbhd: the input is a folder, not a text");
     }
 }
 
