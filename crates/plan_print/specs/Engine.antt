@@ -17,7 +17,7 @@ use Rattle.reports.specs.Report.{Report}
 use Rattle.reports.specs.Written.{MayHave}
 use Rattle.plan_print.specs.TaskReport.{IsReport}
 use Rattle.reports.specs.Notes.{IsNoteOn}
-use Rattle.plan_print.specs.declared.engine.Told.{Told}
+use Rattle.plan_print.specs.declared.engine.Reported.{Reported}
 
 -- the maximum number of bytes that are read of the input of a task: one more than the length of the longest text that the
 -- task is on, so that a longer one is noticed, or none if it is on no text
@@ -63,9 +63,9 @@ pub record WritesReport (task : Task) (s : Streams) (status : Status) : Type 0 w
   pub status_is : status ≡ report.status
 
 -- The report was written, and the note is on its cause.
-pub record TellsReport (task : Task) (s : Streams) (told : Told) : Type 0 where
-  pub report : WritesReport task s told.status
-  pub note : IsNoteOn report.input report.report.cause told.note
+pub record TellsReport (task : Task) (s : Streams) (reported : Reported) : Type 0 where
+  pub report : WritesReport task s reported.status
+  pub note : IsNoteOn report.input report.report.cause reported.note
 
 -- The input was read, and a prefix of the report of the task on it was written.
 pub record WritesFront (task : Task) (s : Streams) : Type 0 where

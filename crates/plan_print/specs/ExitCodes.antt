@@ -15,28 +15,28 @@ use Rattle.task_words.specs.declared.words.WordsFault.{WordsFault}
 use Rattle.task_words.specs.declared.words.WordsFault.TheVariants.{Usage, BadRing, OutOfMemory, Help}
 use Rattle.plan_print.specs.Engine.{thread_count_of}
 use Rattle.plan_print.specs.TaskReport.{IsReport}
-use Rattle.plan_print.specs.declared.engine.Told.{Told}
+use Rattle.plan_print.specs.declared.engine.Reported.{Reported}
 
 -- the status after a result of the engine: that of the report, or that of the fault
-abbrev pub told_code : Result Told EngineFault → ℕ
-told_code (Ok told) = exit_code told.status
-told_code (Err fault) = engine_fault_code fault
+abbrev pub reported_code : Result Reported EngineFault → ℕ
+reported_code (Ok reported) = exit_code reported.status
+reported_code (Err fault) = engine_fault_code fault
 
 -- The status and the note are those of the report of the task on some input.
-pub record IsToldOf (task : Task) (told : Told) : Type 0 where
+pub record IsReportedOf (task : Task) (reported : Reported) : Type 0 where
   pub input : List ℕ
   pub report : Report
   pub is_report : IsReport task input report
-  pub status_is : told.status ≡ report.status
-  pub note : IsNoteOn input report.cause told.note
+  pub status_is : reported.status ≡ report.status
+  pub note : IsNoteOn input report.cause reported.note
 
 -- a result of the engine for the task
-abbrev pub IsAnswerFor : Task → Result Told EngineFault → Type 0
-IsAnswerFor task answer = MatchResult answer (IsToldOf task) (MayHave (thread_count_of task))
+abbrev pub IsAnswerFor : Task → Result Reported EngineFault → Type 0
+IsAnswerFor task answer = MatchResult answer (IsReportedOf task) (MayHave (thread_count_of task))
 
 -- the status after a task is that of a result of the engine for it
 abbrev pub IsStatusOf : Task → ℕ → Type 0
-IsStatusOf task status = (answer : Result Told EngineFault) × IsAnswerFor task answer × (status ≡ told_code answer)
+IsStatusOf task status = (answer : Result Reported EngineFault) × IsAnswerFor task answer × (status ≡ reported_code answer)
 
 -- the status after words that give no task: that of their fault, and after help that of writing it
 abbrev pub IsStatusAfter : WordsFault → ℕ → Type 0

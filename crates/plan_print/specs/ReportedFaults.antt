@@ -8,15 +8,15 @@ use Rattle.worker_pool.specs.declared.fault.FillFault.{FillFault}
 use Rattle.worker_pool.specs.declared.fault.FillFault.TheVariants as fill
 
 -- None if the number of segments is out of range, which the report covers
-abbrev pub run_fault_told : RunFault → Option EngineFault
-run_fault_told run.SegmentsOutOfRange = None
-run_fault_told run.OutOfMemory = Some engine.Memory
-run_fault_told run.Stranger = Some engine.Stranger
-run_fault_told run.NoThread = Some engine.Thread
+abbrev pub reported_run_fault : RunFault → Option EngineFault
+reported_run_fault run.SegmentsOutOfRange = None
+reported_run_fault run.OutOfMemory = Some engine.Memory
+reported_run_fault run.Stranger = Some engine.Stranger
+reported_run_fault run.NoThread = Some engine.Thread
 
 -- None if the number of workers is out of range, which that of a task is not
-abbrev pub fill_fault_told : FillFault → Option EngineFault
-fill_fault_told fill.WorkersOutOfRange = None
-fill_fault_told fill.OutOfMemory = Some engine.Memory
-fill_fault_told fill.Stranger = Some engine.Stranger
-fill_fault_told fill.NoThread = Some engine.Thread
+abbrev pub reported_fill_fault : FillFault → Option EngineFault
+reported_fill_fault fill.WorkersOutOfRange = None
+reported_fill_fault fill.OutOfMemory = Some engine.Memory
+reported_fill_fault fill.Stranger = Some engine.Stranger
+reported_fill_fault fill.NoThread = Some engine.Thread

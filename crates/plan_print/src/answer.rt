@@ -5,7 +5,7 @@ ghost use Rattle.table_entries.specs.ProgramTables.{table_of};
 ghost use Rattle.task_words.specs.Counts.{IsCount};
 ghost use Rattle.shared_memo.specs.Passes.{memo_plan};
 ghost use Rattle.plan_print.specs.Engine.{IsTaskFault};
-ghost use Rattle.plan_print.specs.ReportedFaults.{fill_fault_told, run_fault_told};
+ghost use Rattle.plan_print.specs.ReportedFaults.{reported_fill_fault, reported_run_fault};
 ghost use Rattle.table_text.specs.LineForms.{IsSeparation};
 ghost use Rattle.reports.specs.Answers.{report_in};
 ghost use Rattle.reports.specs.Report as report;
@@ -91,7 +91,7 @@ fn channels_answer<T: Threads + Wait + Sync>(
 
 // Returns the engine's fault for this fault of a run, or `None` if the report covers it.
 fn fault_of_run(fault: RunFault) -> Option<EngineFault>
-    ensures { result ≡ run_fault_told fault }
+    ensures { result ≡ reported_run_fault fault }
 {
     match fault {
         RunFault::SegmentsOutOfRange => None,
@@ -185,7 +185,7 @@ fn table_by<T: Threads + Wait + Sync>(
 // Returns the engine's fault for this fault of a filling, or `None` if the number of workers is out
 // of range.
 fn fault_of_filling(fault: FillFault) -> Option<EngineFault>
-    ensures { result ≡ fill_fault_told fault }
+    ensures { result ≡ reported_fill_fault fault }
 {
     match fault {
         FillFault::WorkersOutOfRange => None,

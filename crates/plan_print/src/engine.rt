@@ -50,14 +50,14 @@ pub fn engine<T: Threads + Wait + Sync, R: Read, W: Write>(
     ensures { DoesTask task (streams_of R.remaining W.contents reader.old reader.new writer.old writer.new) WritesReport result }
 {
     match engine_with_note(rt, alloc, task, reader, writer) {
-        Ok(told) => Ok(told.status),
+        Ok(reported) => Ok(reported.status),
         Err(fault) => Err(fault),
     }
 }
 
 /// The status of a report that was written, and the note on its cause.
 #[derive(Drop)]
-pub struct Told {
+pub struct Reported {
     pub status: Status,
     /// `None` if the report has no cause, since it is neither a refusal nor a no nor a yes over no
     /// tuples. Without memory for the note it is an error.
@@ -72,7 +72,7 @@ pub fn engine_with_note<T: Threads + Wait + Sync, R: Read, W: Write>(
     task: Task,
     reader: &mut Watched<R>,
     writer: &mut Watched<W>,
-) -> Result<Told, EngineFault>
+) -> Result<Reported, EngineFault>
     requires runnable { IsRunnable task }
     requires reads { has_failed reader.old ≡ false }
     requires writes { has_failed writer.old ≡ false }
@@ -83,7 +83,7 @@ pub fn engine_with_note<T: Threads + Wait + Sync, R: Read, W: Write>(
     let answer = report_of(rt, alloc, task, &input)?;
     let (status, cause) = write_answer(alloc, answer, writer)?;
     let note = note_of(alloc, &input, cause);
-    Ok(Told { status, note })
+    Ok(Reported { status, note })
 }
 
 // Returns the note on a cause in this input, if there is one.

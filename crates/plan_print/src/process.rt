@@ -4,11 +4,11 @@
 ghost use Rattle.std.specs.Prelude.{◌≡◌, ◌↔◌, false, IsTrue, IfOk, IfErr, IsErrOf, MatchResult};
 ghost use Rattle.std.specs.Io.KnownBytes.{Appends};
 ghost use Rattle.devices.specs.Watched.{device_of, has_failed};
-ghost use Rattle.plan_print.specs.ExitCodes.{told_code, IsAnswerFor, IsStatusOf, IsStatusAfter, IsExitStatus};
+ghost use Rattle.plan_print.specs.ExitCodes.{reported_code, IsAnswerFor, IsStatusOf, IsStatusAfter, IsExitStatus};
 ghost use Rattle.reports.specs.StatusCodes.{answer_code, exit_code};
 ghost use Rattle.task_words.specs.Task.{IsRunnable};
 
-use crate::engine::{Told, engine_with_note};
+use crate::engine::{Reported, engine_with_note};
 use devices::fault::EngineFault;
 use devices::output::send;
 use devices::watched::Watched;
@@ -94,23 +94,23 @@ fn print_fault<T: Eprint>(rt: &T, answer: Result<Status, EngineFault>) -> u8
 }
 
 // Prints the note on a report, or a fault, to standard error. Returns the exit status.
-fn print_result<T: Eprint>(rt: &T, answer: Result<Told, EngineFault>) -> u8
-    ensures { result ≡ told_code answer }
+fn print_result<T: Eprint>(rt: &T, answer: Result<Reported, EngineFault>) -> u8
+    ensures { result ≡ reported_code answer }
 {
     match answer {
-        Ok(told) => print_note(rt, &told),
+        Ok(reported) => print_note(rt, &reported),
         Err(fault) => print_fault(rt, Err(fault)),
     }
 }
 
 // Prints the note on a report, if there is one, to standard error. Returns the exit status.
-fn print_note<T: Eprint>(rt: &T, told: &Told) -> u8
-    ensures { result ≡ exit_code told.now.status }
+fn print_note<T: Eprint>(rt: &T, reported: &Reported) -> u8
+    ensures { result ≡ exit_code reported.now.status }
 {
-    if let Some(Ok(note)) = &told.note {
+    if let Some(Ok(note)) = &reported.note {
         let _ = eprint!(rt; "{note}");
     }
-    told.status.code()
+    reported.status.code()
 }
 
 // Writes a text. The status is then `Done`.
@@ -129,7 +129,7 @@ fn write_text<W: Write>(writer: &mut Watched<W>, text: &str) -> Result<Status, E
 fn run_engine<T: AllocGlobal + Input + Print + Threads + Wait + Sync>(
     rt: &T,
     task: Task,
-) -> Result<Told, EngineFault>
+) -> Result<Reported, EngineFault>
     requires { IsRunnable task }
     ensures { IsAnswerFor task result }
 {

@@ -10,14 +10,15 @@ use Rattle.reports.specs.declared.refusal.Refusal.TheVariants as refusal
 
 -- a refusal by such a report is one by another that it gives
 pub refused_so : (is other : Report → Type 0) → ((r : Report) → is r → other r) → (by : Refusal) → IsRefusedBy is by → IsRefusedBy other by
-refused_so is other gives (refusal.Told answer) told = gives (report_in answer) told
+refused_so is other gives (refusal.Report answer) told = gives (report_in answer) told
 refused_so is other gives refusal.OutOfMemory told = tt
 
 -- the report of a refusal is such a report as it is refused by
-pub told_by : (is : Report → Type 0) (by : Refusal) (answer : Answer) → IsRefusedBy is by → by ≡ refusal.Told answer → is (report_in answer)
+pub told_by : (is : Report → Type 0) (by : Refusal) (answer : Answer) → IsRefusedBy is by → by ≡ refusal.Report answer → is (report_in answer)
 told_by is by answer told same = subst (IsRefusedBy is) same told
 
-pub reported : (is : Report → Type 0) (by : Refusal) (result : Result Answer OutOfMemory) → IsRefusedBy is by
-    → IfOk result (λ answer. by ≡ refusal.Told answer) → IfOk result (λ answer. is (report_in answer))
-reported is by (Ok answer) told same = told_by is by answer told same
-reported is by (Err memory) told same = tt
+-- what the refusal reports is such a report, if each that it is refused by is one
+pub refused_report : (is other : Report → Type 0) → ((r : Report) → is r → other r) → (by : Refusal) (result : Result Answer OutOfMemory)
+    → IsRefusedBy is by → IfOk result (λ answer. by ≡ refusal.Report answer) → IfOk result (λ answer. other (report_in answer))
+refused_report is other gives by (Ok answer) refused same = gives (report_in answer) (told_by is by answer refused same)
+refused_report is other gives by (Err memory) refused same = tt

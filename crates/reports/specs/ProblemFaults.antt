@@ -1,5 +1,5 @@
 -- The numbers of a problem, and why there is no formula of them.
-use Rattle.std.specs.Prelude.{ℕ, ⊤}
+use Rattle.std.specs.Prelude.{⊤}
 use Rattle.win_index.specs.ShapeRange.{IsShape}
 use Rattle.win_index.specs.ShapeFaults.{IsFirstShapeFault}
 use Rattle.win_index.specs.declared.shape.ShapeFault.TheVariants as shape

@@ -22,7 +22,7 @@ pub enum Answer {
     /// Its text and its status.
     Text(String, Status),
     /// Its text and its status, with its cause: it is a refusal, a no, or a yes over no tuples.
-    Told(String, Status, Cause),
+    WithCause(String, Status, Cause),
     /// The table and the separation whose text it is.
     Table(TableReport),
     /// The formula whose text it is.

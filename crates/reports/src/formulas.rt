@@ -61,7 +61,7 @@ fn refute_answer(
         Err(RefuteError::OutOfMemory) => Err(OutOfMemory),
         Err(fault) => {
             let line = refutation_fault_line(alloc, fault)?;
-            Ok(Answer::Told(line, Status::Refused, Cause::Refutation(fault)))
+            Ok(Answer::WithCause(line, Status::Refused, Cause::Refutation(fault)))
         }
     }
 }
@@ -82,8 +82,8 @@ fn formula_in(alloc: Global, numbers: ProblemNumbers) -> Result<Formula, Refusal
                 rounds: numbers.rounds,
                 fault,
             };
-            let told = Answer::Told(line, Status::FormulaRefused, cause);
-            Err(Refusal::Told(told))
+            let told = Answer::WithCause(line, Status::FormulaRefused, cause);
+            Err(Refusal::Report(told))
         }
         Err(NoFormula::OutOfMemory) => Err(Refusal::OutOfMemory),
     }

@@ -40,7 +40,7 @@ pub fn verdict_answer(
                 places,
                 channels,
             };
-            Ok(Answer::Told(line, Status::No, cause))
+            Ok(Answer::WithCause(line, Status::No, cause))
         }
     }
 }
@@ -59,7 +59,7 @@ fn yes_answer(alloc: Global, table: &Table, separation: Separation) -> Result<An
         nodes: tuple_len(table, separation),
         ids: table.shape().ids(),
     };
-    Ok(Answer::Told(line, Status::Done, cause))
+    Ok(Answer::WithCause(line, Status::Done, cause))
 }
 
 // Returns the report of the judge on a table, by at most as many threads as there are processors.

@@ -11,7 +11,7 @@ use std::alloc::AllocError;
 #[derive(Drop)]
 pub enum Refusal {
     /// It is refused. This is the report.
-    Told(Answer),
+    Report(Answer),
     /// Memory was refused.
     OutOfMemory,
 }
@@ -21,10 +21,10 @@ impl Refusal {
 
     /// Returns the report. Fails if memory was refused.
     pub fn report(self) -> Result<Answer, OutOfMemory>
-        ensures { IfOk result (λ answer. self ≡ Refusal.Told answer) }
+        ensures { IfOk result (λ answer. self ≡ Refusal.Report answer) }
     {
         match self {
-            Refusal::Told(answer) => Ok(answer),
+            Refusal::Report(answer) => Ok(answer),
             Refusal::OutOfMemory => Err(OutOfMemory),
         }
     }

@@ -32,7 +32,7 @@ pub fn ring_in(alloc: Global, plan: &Plan, ids: Vec<u32>) -> Result<Ring, Refusa
 {
     match Ring::new(plan.shape(), ids) {
         Ok(ring) => Ok(ring),
-        Err((ids, fault)) => Err(Refusal::Told(ring_refusal(alloc, plan.shape(), ids, fault)?)),
+        Err((ids, fault)) => Err(Refusal::Report(ring_refusal(alloc, plan.shape(), ids, fault)?)),
     }
 }
 
@@ -54,7 +54,7 @@ fn ring_refusal(
         places,
         fault,
     };
-    Ok(Answer::Told(line, Status::RingRefused, cause))
+    Ok(Answer::WithCause(line, Status::RingRefused, cause))
 }
 
 /// Returns the report on a number of segments in which the ring can't be run.
@@ -68,7 +68,7 @@ pub fn segments_refusal(alloc: Global, segments: u32, ring: &Ring) -> Result<Ans
         segments,
         places: ring.len() as usize,
     };
-    Ok(Answer::Told(line, Status::Words, cause))
+    Ok(Answer::WithCause(line, Status::Words, cause))
 }
 
 // Returns the report on a place that the ring has not.
@@ -82,7 +82,7 @@ fn place_refusal(alloc: Global, place: u32, ring: &Ring) -> Result<Answer, OutOf
         place,
         places: ring.len() as usize,
     };
-    Ok(Answer::Told(line, Status::RingRefused, cause))
+    Ok(Answer::WithCause(line, Status::RingRefused, cause))
 }
 
 /// Returns the report of a trace of a list of identifiers, with its numbers in this base.

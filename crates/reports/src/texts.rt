@@ -92,7 +92,7 @@ pub fn plan_in(alloc: Global, input: &[u8], ids: u32) -> Result<Plan, Refusal>
                 ids,
                 fault,
             };
-            Err(Refusal::Told(Answer::Told(line, Status::Refused, cause)))
+            Err(Refusal::Report(Answer::WithCause(line, Status::Refused, cause)))
         }
     }
 }
@@ -112,8 +112,8 @@ fn program_in(alloc: Global, input: &[u8]) -> Result<Program, Refusal>
         ) => Err(Refusal::OutOfMemory),
         Err(fault) => {
             let line = text_fault_line(alloc, fault)?;
-            let told = Answer::Told(line, Status::Refused, Cause::Text(fault));
-            Err(Refusal::Told(told))
+            let told = Answer::WithCause(line, Status::Refused, Cause::Text(fault));
+            Err(Refusal::Report(told))
         }
     }
 }
@@ -129,8 +129,8 @@ fn table_in(alloc: Global, input: &[u8]) -> Result<(Table, Separation), Refusal>
         Err(TableFault::OutOfMemory) => Err(Refusal::OutOfMemory),
         Err(fault) => {
             let line = table_fault_line(alloc, fault)?;
-            let told = Answer::Told(line, Status::Refused, Cause::TableText(fault));
-            Err(Refusal::Told(told))
+            let told = Answer::WithCause(line, Status::Refused, Cause::TableText(fault));
+            Err(Refusal::Report(told))
         }
     }
 }

@@ -39,7 +39,7 @@ pub fn write_answer<W: Write>(
             send(writer, text.as_bytes())?;
             Ok((status, None))
         }
-        Answer::Told(text, status, cause) => {
+        Answer::WithCause(text, status, cause) => {
             send(writer, text.as_bytes())?;
             Ok((status, Some(cause)))
         }

@@ -1,9 +1,9 @@
 use Rattle.reports.specs.FormulaReports.{IsFormulaRefusal, IsRefuteReport, not_asked}
 use Rattle.reports.specs.ProblemFaults.{problem_of}
-use Rattle.reports.proofs.Refused.{refused_so, reported}
+use Rattle.reports.proofs.Refused.{refused_report}
 use Rattle.reports.proofs.formulas.refute_report.Goals as goal
 
 pub returns-in-Err : goal.returns-in-Err
 returns-in-Err c =
-    reported (IsRefuteReport (problem_of c.args.numbers) c.args.input.now) c.in-Err.refusal c.report.result
-    (refused_so (IsFormulaRefusal (problem_of c.args.numbers)) (IsRefuteReport (problem_of c.args.numbers) c.args.input.now) (λ r refused. not_asked refused) c.in-Err.refusal c.in-Err.ensures.refusal) c.report.ensures
+    refused_report (IsFormulaRefusal (problem_of c.args.numbers)) (IsRefuteReport (problem_of c.args.numbers) c.args.input.now) (λ r refused. not_asked refused)
+    c.in-Err.refusal c.report.result c.in-Err.ensures.refusal c.report.ensures

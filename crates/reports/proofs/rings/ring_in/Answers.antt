@@ -1,4 +1,4 @@
-use Rattle.std.proofs.Common.{◌≡◌, length, ap, ◌∙◌}
+use Rattle.std.proofs.Common.{◌≡◌, length}
 use Rattle.win_index.specs.RingFaults.{IsFirstFault}
 use Rattle.reports.proofs.NotRing.{not_ring}
 use Rattle.reports.proofs.rings.ring_in.Goals as goal

@@ -1,8 +1,7 @@
 use Rattle.std.proofs.Common.{refl, rules}
-use Rattle.std.proofs.lemmas.Result.{IfOk-weaker}
 use Rattle.table_text.specs.Texts.{IsTextOf}
 use Rattle.reports.specs.Report.{IsTableText, IsTableRefusal, IsTableReport, of_table, table_refused}
-use Rattle.reports.proofs.Refused.{refused_so, reported}
+use Rattle.reports.proofs.Refused.{refused_report}
 use Rattle.reports.proofs.texts.migrate_report.Goals as goal
 
 pub returns-in-Ok : goal.returns-in-Ok
@@ -12,5 +11,5 @@ returns-in-Ok c =
 
 pub returns-in-Err : goal.returns-in-Err
 returns-in-Err c =
-    reported (IsTableReport IsTableText c.args.input.now) c.in-Err.refusal c.report.result
-    (refused_so (IsTableRefusal c.args.input.now) (IsTableReport IsTableText c.args.input.now) (λ r refused. table_refused refused) c.in-Err.refusal c.in-Err.ensures.refusal) c.report.ensures
+    refused_report (IsTableRefusal c.args.input.now) (IsTableReport IsTableText c.args.input.now) (λ r refused. table_refused refused)
+    c.in-Err.refusal c.report.result c.in-Err.ensures.refusal c.report.ensures

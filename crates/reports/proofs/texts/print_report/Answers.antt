@@ -2,7 +2,7 @@ use Rattle.std.proofs.Common.{rules}
 use Rattle.std.proofs.lemmas.Result.{IfOk-weaker}
 use Rattle.node_lang.specs.Grammar.{Reads}
 use Rattle.reports.specs.Report.{IsPrintReport, IsTextRefusal, in_print, text_refused}
-use Rattle.reports.proofs.Refused.{refused_so, reported}
+use Rattle.reports.proofs.Refused.{refused_report}
 use Rattle.reports.proofs.texts.print_report.Goals as goal
 
 pub returns-in-Ok : goal.returns-in-Ok
@@ -12,5 +12,5 @@ returns-in-Ok c =
 
 pub returns-in-Err : goal.returns-in-Err
 returns-in-Err c =
-    reported (IsPrintReport c.args.input.now) c.in-Err.refusal c.report.result
-    (refused_so (IsTextRefusal c.args.input.now) (IsPrintReport c.args.input.now) (λ r refused. text_refused refused) c.in-Err.refusal c.in-Err.ensures.refusal) c.report.ensures
+    refused_report (IsTextRefusal c.args.input.now) (IsPrintReport c.args.input.now) (λ r refused. text_refused refused)
+    c.in-Err.refusal c.report.result c.in-Err.ensures.refusal c.report.ensures
