@@ -14,7 +14,7 @@ use win_index::Ring;
 
 /// A number that a configuration reports of a place.
 #[derive(Clone, Copy, Debug, PartialEq, Eq)]
-pub enum Told {
+pub enum Reading {
     /// The value of this register.
     Register(u32),
     /// Its message to the left in the next round.
@@ -54,7 +54,7 @@ impl<'a> Model for Configuration<'a> {
 impl<'a> Configuration<'a> {
     ghost use Rattle.std.specs.Prelude.{◌≡◌, ◌+◌, ◌<◌, ◌≤◌, IfOk, length};
     ghost use Rattle.node_program.specs.GlobalRounds.{state};
-    ghost use Rattle.round_eval.specs.Configuration.{told, CanTell};
+    ghost use Rattle.round_eval.specs.Configuration.{reading, CanRead};
 
     /// Returns the configuration before the first round. The ring must have the plan's number of
     /// identifiers. Fails with `OutOfMemory` if memory was refused.
@@ -131,17 +131,17 @@ impl<'a> Configuration<'a> {
 
     /// Returns the number `what` of a place. A register must be one of the program, and for
     /// messages the program must have a next round.
-    pub fn told(&self, what: Told, place: u32) -> u32
+    pub fn reading(&self, what: Reading, place: u32) -> u32
         requires place { place < length self.now.places }
-        requires what { CanTell self.now what }
-        ensures { result ≡ told self.now what place }
+        requires what { CanRead self.now what }
+        ensures { result ≡ reading self.now what place }
     {
         let own = self.held_by(place);
         match what {
-            Told::Register(register) => own[register as usize],
-            Told::Left => sent_to_left(self.plan, self.round, own),
-            Told::Right => sent_to_right(self.plan, self.round, own),
-            Told::Channel => channel(self.plan, own),
+            Reading::Register(register) => own[register as usize],
+            Reading::Left => sent_to_left(self.plan, self.round, own),
+            Reading::Right => sent_to_right(self.plan, self.round, own),
+            Reading::Channel => channel(self.plan, own),
         }
     }
 

@@ -10,7 +10,7 @@ mod rounds;
 mod row;
 mod value;
 
-pub use configuration::{Configuration, Told};
+pub use configuration::{Configuration, Reading};
 pub use gate::{Gate, OpenGate};
 pub use laws::{rows_are_taken, rows_are_written, stretches_are_rows};
 pub use node::{channel, messages, sent_to_left, sent_to_right, start_state, step};

@@ -14,7 +14,7 @@ use crate::tree::write_tree;
 use lang_check::Plan;
 use node_program::{Env, Expr, MAX_DEPTH, OutOfMemory, Round};
 use numerals::Base;
-use round_eval::{Configuration, Told};
+use round_eval::{Configuration, Reading};
 use std::alloc::{AllocError, Global};
 use std::fmt::Write;
 use win_index::Ring;
@@ -140,7 +140,7 @@ fn from_left(places: &Configuration<'_>, place: u32) -> u32
 {
     let count = u64::from(places.places());
     let left = (u64::from(place) + count - 1) % count;
-    places.told(Told::Right, left as u32)
+    places.reading(Reading::Right, left as u32)
 }
 
 // Returns the message to a place from its right neighbour in the next round.
@@ -152,7 +152,7 @@ fn from_right(places: &Configuration<'_>, place: u32) -> u32
 {
     let count = u64::from(places.places());
     let right = (u64::from(place) + 1) % count;
-    places.told(Told::Left, right as u32)
+    places.reading(Reading::Left, right as u32)
 }
 
 // Appends the next round of a place, whose number is `number`.

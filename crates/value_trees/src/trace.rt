@@ -1,7 +1,7 @@
 //! The trace of a ring: its identifiers, and the registers and the messages of its places, round by round.
 
 ghost use Rattle.std.specs.Prelude.{◌≡◌, ◌+◌, ◌++◌, ◌<◌, length, IfOk, OnOk, string_bytes};
-ghost use Rattle.round_eval.specs.Configuration.{told, CanTell};
+ghost use Rattle.round_eval.specs.Configuration.{reading, CanRead};
 ghost use Rattle.numerals.specs.Numerals.{row};
 ghost use Rattle.value_trees.specs.Trace.{of_places, register_lines, message_lines, later_lines, trace_lines};
 
@@ -9,7 +9,7 @@ use crate::explanation::write_phase;
 use lang_check::Plan;
 use node_program::OutOfMemory;
 use numerals::{Base, write_row};
-use round_eval::{Configuration, Told};
+use round_eval::{Configuration, Reading};
 use std::alloc::{AllocError, Global};
 use std::fmt::Write;
 use win_index::Ring;
@@ -53,7 +53,7 @@ fn write_trace(
         write_registers(alloc, text, base, places)?;
     }
     text.push_str("finish")?;
-    write_told(alloc, text, base, places, Told::Channel)
+    write_readings(alloc, text, base, places, Reading::Channel)
 }
 
 // Writes a line for each register, with its value at each place.
@@ -69,7 +69,7 @@ fn write_registers(
     for register in 0..places.registers() {
         write_phase(text, places.round())?;
         write!(text, " r{register}")?;
-        write_told(alloc, text, base, places, Told::Register(register))?;
+        write_readings(alloc, text, base, places, Reading::Register(register))?;
     }
     Ok(())
 }
@@ -89,36 +89,40 @@ fn write_messages(
 {
     write_phase(text, round)?;
     text.push_str(" left")?;
-    write_told(alloc, text, base, places, Told::Left)?;
+    write_readings(alloc, text, base, places, Reading::Left)?;
     write_phase(text, round)?;
     text.push_str(" right")?;
-    write_told(alloc, text, base, places, Told::Right)
+    write_readings(alloc, text, base, places, Reading::Right)
 }
 
 // Writes the number `what` of each place, and ends the line.
-fn write_told(
+fn write_readings(
     alloc: Global,
     text: &mut String,
     base: Base,
     places: &Configuration<'_>,
-    what: Told,
+    what: Reading,
 ) -> Result<(), AllocError>
-    requires { CanTell places.now what }
+    requires { CanRead places.now what }
     ensures { OnOk result (string_bytes text.new
-        ≡ string_bytes text.old ++ row base (of_places places.now.places (told places.now what))) }
+        ≡ string_bytes text.old ++ row base (of_places places.now.places (reading places.now what))) }
 {
     let numbers = numbers_of(alloc, places, what)?;
     write_row(alloc, text, base, &numbers)
 }
 
 // Returns the number `what` of each place.
-fn numbers_of(alloc: Global, places: &Configuration<'_>, what: Told) -> Result<Vec<u32>, AllocError>
-    requires { CanTell places.now what }
-    ensures { IfOk result (λ numbers. numbers.items ≡ of_places places.now.places (told places.now what)) }
+fn numbers_of(
+    alloc: Global,
+    places: &Configuration<'_>,
+    what: Reading,
+) -> Result<Vec<u32>, AllocError>
+    requires { CanRead places.now what }
+    ensures { IfOk result (λ numbers. numbers.items ≡ of_places places.now.places (reading places.now what)) }
 {
     let mut numbers = Vec::new(alloc);
     for place in 0..places.places() {
-        numbers.push(places.told(what, place))?;
+        numbers.push(places.reading(what, place))?;
     }
     Ok(numbers)
 }

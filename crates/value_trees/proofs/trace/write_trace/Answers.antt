@@ -1,7 +1,7 @@
 use Rattle.std.proofs.Common.{◌≡◌, ◌+◌, ◌++◌, length, string_bytes, append-nil, sym, ap, ◌∙◌, arith, refl}
 use Rattle.std.proofs.lemmas.Result.{on_ok_weaker}
-use Rattle.round_eval.specs.Configuration.{RingConfiguration, told}
-use Rattle.round_eval.specs.declared.configuration.Told.TheVariants.{Channel}
+use Rattle.round_eval.specs.Configuration.{RingConfiguration, reading}
+use Rattle.round_eval.specs.declared.configuration.Reading.TheVariants.{Channel}
 use Rattle.numerals.specs.Numerals.{row}
 use Rattle.value_trees.specs.Trace.{of_places, register_lines, message_lines}
 use Rattle.value_trees.proofs.TraceLines.{round_more, finished}
@@ -39,9 +39,9 @@ returns c =
     let b = c.args.base in
     let all : c.loop-round.round ≡ length c.args.places.now.program.steps = omega arith in
     let named = string_bytes c.push_str.new.self in
-    let channels = ap (λ (s : RingConfiguration). named ++ row b (of_places s.places (told s Channel))) c.loop-round.invariant.done in
-    on_ok_weaker c.write_told.result (λ last. finished b c.args.places.now.program c.args.places.now.places c.loop-round.round _ _ _ _ all c.loop-round.invariant.text c.in_ok-push_str.ensures.bytes (last ∙ channels))
-    c.write_told.ensures
+    let channels = ap (λ (s : RingConfiguration). named ++ row b (of_places s.places (reading s Channel))) c.loop-round.invariant.done in
+    on_ok_weaker c.write_readings.result (λ last. finished b c.args.places.now.program c.args.places.now.places c.loop-round.round _ _ _ _ all c.loop-round.invariant.text c.in_ok-push_str.ensures.bytes (last ∙ channels))
+    c.write_readings.ensures
 
 pub advance-requires : goal.advance-requires
 advance-requires c = rw c.loop-round.invariant.done (omega (arith, c.loop-round-test.true, c.requires.rounds))
