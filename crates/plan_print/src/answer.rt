@@ -45,7 +45,8 @@ pub(crate) fn table_answer<T: Threads + Wait + Sync>(
     ensures answer { IfOk result (λ r. IsTableText (table_of plan.now.program plan.now.ids) separation (report_in r)) }
     ensures fault { IfErr result (IsTaskFault workers) }
 {
-    let table = compile_table(rt, alloc, plan, workers)?;
+    let memo = Memo::new(alloc, plan)?;
+    let table = compile_table(rt, alloc, plan, &memo, workers)?;
     Ok(Answer::Table(TableReport { table, separation }))
 }
 
@@ -116,7 +117,8 @@ pub(crate) fn plan_answer<T: Threads + Wait + Sync>(
 {
     match ring_in(alloc, plan, ids) {
         Ok(ring) => {
-            let table = compile_table(rt, alloc, plan, workers)?;
+            let memo = Memo::new(alloc, plan)?;
+            let table = compile_table(rt, alloc, plan, &memo, workers)?;
             Ok(Answer::Text(places_text(alloc, plan, &table, &ring)?, Status::Done))
         }
         Err(refusal) => Ok(refusal.report()?),
@@ -137,30 +139,14 @@ pub(crate) fn judge_report<T: Threads + Wait + Sync>(
     ensures fault { IfErr result (IsTaskFault workers) }
 {
     let memo = Memo::new(alloc, plan)?;
-    let table = table_by(rt, alloc, plan, &memo, workers)?;
+    let table = compile_table(rt, alloc, plan, &memo, workers)?;
     let verdict = verdict_and_drop(rt, alloc, &table, separation, workers, memo)?;
     Ok(verdict_answer(alloc, &table, separation, verdict)?)
 }
 
-// Returns the table of an accepted program, filled by this many workers. The memo is dropped before
-// the call returns.
-fn compile_table<T: Threads + Wait + Sync>(
-    rt: &T,
-    alloc: Global,
-    plan: &Plan,
-    workers: u32,
-) -> Result<Table, EngineFault>
-    requires { IsCount workers }
-    ensures table { IfOk result (λ table. table ≡ table_of plan.now.program plan.now.ids) }
-    ensures fault { IfErr result (IsTaskFault workers) }
-{
-    let memo = Memo::new(alloc, plan)?;
-    table_by(rt, alloc, plan, &memo, workers)
-}
-
 // Returns the table of an accepted program, filled by this many workers in a memo of it.
 #[tactic(auto, using(crate::proofs::Workers::worker_count))]
-fn table_by<T: Threads + Wait + Sync>(
+fn compile_table<T: Threads + Wait + Sync>(
     rt: &T,
     alloc: Global,
     plan: &Plan,
