@@ -4,5 +4,7 @@ pub mod SameRun
 pub mod PrefixParts
 pub mod NextRuns
 pub mod ColumnStates
+pub mod IgnoredRight
 pub mod SomeWritten
 pub mod SeriesStates
+pub mod Fronts

@@ -1,6 +1,6 @@
 -- The parts of the windows of a series: the first two are the same in all, and the last ones are consecutive in one
 -- block.
-use Rattle.std.proofs.Common.{◌≡◌, ℕ, ◌+◌, ◌-◌, ◌*◌, ◌/◌, ◌<◌, ◌≤◌, List, [], length, take, drop, get_or, slice_get, Some, IsSome, true, sym, ap, ◌∙◌, arith, subst}
+use Rattle.std.proofs.Common.{◌≡◌, ℕ, ◌+◌, ◌-◌, ◌*◌, ◌/◌, ◌<◌, ◌≤◌, List, length, take, drop, get_or, slice_get, Some, IsSome, true, sym, ap, ◌∙◌, arith, subst}
 use Rattle.std.proofs.lemmas.List.{take_all, length-drop, drop-take, get_or-take, get_or-drop}
 use Rattle.std.proofs.lemmas.Nat.{div-mul-add}
 use Rattle.std.proofs.lemmas.Option.{same_Some}
@@ -16,8 +16,8 @@ use Rattle.window_states.specs.Entries.{Entries, Grows}
 use Rattle.window_states.specs.Line.{middle_state}
 use Rattle.unroll.specs.Parts.{KnowsParts, KnowsBelow, IsRun}
 use Rattle.unroll.specs.declared.run.Run.{Run}
-use Rattle.unroll.specs.WideColumns.{part_state, HoldParts, AreWritten}
-use Rattle.unroll.specs.declared.part_columns.PartColumns.{PartColumns}
+use Rattle.unroll.specs.WideColumns.{part_state, HasFronts, HoldLasts, AreWritten}
+use Rattle.unroll.specs.declared.upper_block.UpperBlock.{UpperBlock}
 use Rattle.unroll.proofs.ColumnStates.{below_sum, held_more}
 use Rattle.unroll.proofs.Known.{still_known, knows_three, window_at}
 use Rattle.unroll.proofs.SameRun.{same_run, run_grows, left_is, left_known, slice_window, last_front}
@@ -139,51 +139,34 @@ module _ (number_of_window : NumberOfWindow) (windows_have_numbers : WindowsHave
       let block : number / BLOCK_WINDOWS ≡ c = ap (λ k. k / BLOCK_WINDOWS) (same ∙ sum) ∙ div-mul-add c BLOCK_WINDOWS (index + i) small in
       subst (λ k. IsSome (entries low k)) (sym block) known))
 
--- the parts of the first windows of a block, then those of the windows of a series, for which a list holds the messages
--- from the right
+-- the first two parts of such a window are those of its run
+pub series_fronts :
+    (block : UpperBlock) (entries : Entries) (place c index i : ℕ) (w : List ℕ) (run : Run)
+    → SeriesAt block.plan.now entries block.below block.number place c index i w run → HasFronts block run (place + i)
+series_fronts block entries place c index i w run stands =
+    let plan = block.plan.now in
+    let low = block.below in
+    let of_window = λ (d : ℕ). ap (λ w. middle_state plan.program low (part w low d)) (sym stands.numbered) in
+    record {
+      size = ap length stands.numbered ∙ stands.size;
+      left = left_is plan entries low stands.next run stands.run_is ∙ ap (to_right plan.program low) (of_window 0);
+      own = stands.run_is.own_is ∙ of_window 1;
+    }
+
+-- the messages of the last parts of the first windows of a block, then those of the windows of a series
 pub hold_series :
-    (plan : ProgramForIds) (entries : Entries) (low b place c index count : ℕ) (w : List ℕ) (run : Run) (sent : List ℕ) (old now : PartColumns)
-    → HoldParts plan low b place old
-    → ((i : ℕ) → i < count → get_or sent (index + i) 0 ≡ to_left plan.program low (block_state plan low c (index + i)))
-    → AreWritten ℕ 0 old.from_left.items now.from_left.items place count (λ i. run.first.sent)
-    → AreWritten (List ℕ) [] old.own.states now.own.states place count (λ i. run.own.now)
-    → AreWritten ℕ 0 old.from_right.items now.from_right.items place count (λ i. get_or sent (index + i) 0)
-    → ((i : ℕ) → i < count → SeriesAt plan entries low b place c index i w run) → HoldParts plan low b (place + count) now
-hold_series plan entries low b place c index count w run sent old now held are_sent left own right stands =
-    let of_window = λ (d i : ℕ) (lt : i < count). ap (λ w. middle_state plan.program low (part w low d)) (sym (stands i lt).numbered) in
-    record {
-      sizes = below_sum (λ i. length (window_numbered plan.ids (low + 1) (BLOCK_WINDOWS * b + i)) ≡ 2 * low + 3) place count held.sizes
-          (λ i lt. ap length (stands i lt).numbered ∙ (stands i lt).size);
-      left = held_more ℕ 0 place count old.from_left.items now.from_left.items (λ i. run.first.sent)
-          (λ i. to_right plan.program low (part_state plan low b 0 i)) held.left left
-          (λ i lt. left_is plan entries low (stands i lt).next run (stands i lt).run_is ∙ ap (to_right plan.program low) (of_window 0 i lt));
-      own = held_more (List ℕ) [] place count old.own.states now.own.states (λ i. run.own.now) (part_state plan low b 1) held.own own
-          (λ i lt. (stands i lt).run_is.own_is ∙ of_window 1 i lt);
-      right = held_more ℕ 0 place count old.from_right.items now.from_right.items (λ i. get_or sent (index + i) 0)
-          (λ i. to_left plan.program low (part_state plan low b 2 i)) held.right right
-          (λ i lt. are_sent i lt ∙ ap (to_left plan.program low)
-          (ap (middle_state plan.program low) (window_at plan.ids low (BLOCK_WINDOWS * c + (index + i)) (part (stands i lt).next low 2) (stands i lt).right_at)
-          ∙ of_window 2 i lt));
-    }
-
--- a value that was written to cells is in a part of them, if nothing was written there since
-pub still_written :
-    (A : Type 0) (none x : A) (first old now : List A) (from most place count : ℕ) → AreWritten A none first old from most (λ _. x) → now ≡ old
-    → from ≤ place → place + count ≤ from + most → AreWritten A none old now place count (λ _. x)
-still_written A none x first old now from most place count written same after within =
-    record {
-      size = ap length same;
-      here = λ i lt.
-          let sum : from + (place - from + i) ≡ place + i = omega (arith, after) in
-          let here : get_or old (from + (place - from + i)) none ≡ x = written.here (place - from + i) (omega (arith, after, within, lt)) in
-          rw same (rw sum at here);
-      before = λ i lt. ap (λ list. get_or list i none) same;
-    }
-
-pub written_same :
-    (A : Type 0) (none x : A) (first old now : List A) (from most : ℕ) → now ≡ old → AreWritten A none first old from most (λ _. x)
-    → AreWritten A none first now from most (λ _. x)
-written_same A none x first old now from most same written = rw same written
+    (block : UpperBlock) (entries : Entries) (place c index count : ℕ) (w : List ℕ) (run : Run) (old now : List ℕ) → HoldLasts block place old
+    → (block.reads_right ≡ true → AreWritten ℕ 0 old now place count
+    (λ i. to_left block.plan.now.program block.below (block_state block.plan.now block.below c (index + i))))
+    → ((i : ℕ) → i < count → SeriesAt block.plan.now entries block.below block.number place c index i w run) → HoldLasts block (place + count) now
+hold_series block entries place c index count w run old now held written stands =
+    let plan = block.plan.now in
+    let low = block.below in
+    λ reads. held_more ℕ 0 place count old now (λ i. to_left plan.program low (block_state plan low c (index + i)))
+    (λ i. to_left plan.program low (part_state plan low block.number 2 i)) (held reads) (written reads)
+    (λ i lt. ap (to_left plan.program low)
+    (ap (middle_state plan.program low) (window_at plan.ids low (BLOCK_WINDOWS * c + (index + i)) (part (stands i lt).next low 2) (stands i lt).right_at)
+    ∙ ap (λ w. middle_state plan.program low (part w low 2)) (sym (stands i lt).numbered)))
 
 -- the window after the last one of a series has the prefix of its run, if it has that of the last one
 pub later_window :
@@ -200,19 +183,6 @@ later_window m low b place count first w last later some at' begins own same nex
     let follows = subst (λ k. slice_get (windows k m) (n + 1) ≡ Some later) long (next n own_at) in
     let alike = subst (λ k. take k later ≡ take k last) front same in
     (subst (λ k. slice_get (windows (2 * (low + 1) + 1) m) k ≡ Some later) sum follows, alike ∙ sym begins ∙ own)
-
--- the parts of the first windows of a block, after later items were written
-pub still_hold :
-    (plan : ProgramForIds) (low b place most : ℕ) (left : ℕ) (own : List ℕ) (old now : PartColumns) → HoldParts plan low b place old
-    → AreWritten ℕ 0 old.from_left.items now.from_left.items place most (λ _. left)
-    → AreWritten (List ℕ) [] old.own.states now.own.states place most (λ _. own) → now.from_right ≡ old.from_right → HoldParts plan low b place now
-still_hold plan low b place most left own old now held lefts owns rights =
-    record {
-      sizes = held.sizes;
-      left = λ i lt. lefts.before i lt ∙ held.left i lt;
-      own = λ i lt. owns.before i lt ∙ held.own i lt;
-      right = λ i lt. ap (λ list. get_or list.items i 0) rights ∙ held.right i lt;
-    }
 
 -- the parts of the first windows of a block are known, and those of as many windows more
 pub knows_series :

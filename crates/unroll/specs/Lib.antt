@@ -3,4 +3,5 @@
 pub mod Below
 pub mod MakeFaults
 pub mod Parts
+pub mod Reading
 pub mod WideColumns

@@ -1,5 +1,5 @@
 -- Columns for the windows of a block. No public contract cites this file.
-use Rattle.std.specs.Prelude.{◌≡◌, ℕ, ◌+◌, ◌-◌, ◌*◌, ◌<◌, ◌≤◌, List, [], length, slice_index, slice_index_or}
+use Rattle.std.specs.Prelude.{◌≡◌, ℕ, ◌+◌, ◌-◌, ◌*◌, ◌<◌, ◌≤◌, true, false, List, [], length, slice_index, slice_index_or}
 use Rattle.node_program.specs.Node.{to_left, to_right}
 use Rattle.node_program.specs.Term.{terms}
 use Rattle.win_index.specs.declared.limits.TheConstants.{BLOCK_WINDOWS}
@@ -7,12 +7,14 @@ use Rattle.lang_check.specs.Plans.{ProgramForIds}
 use Rattle.round_columns.specs.States.{NodeStates, HasSize}
 use Rattle.column_machine.specs.StackNeed.{most_columns}
 use Rattle.unroll.specs.Below.{part}
-use Rattle.window_states.specs.BlockStates.{MadeBlock, window_numbered, block_len}
+use Rattle.window_states.specs.BlockStates.{MadeBlock, window_numbered, block_len, block_state}
 use Rattle.window_states.specs.Line.{middle_state}
 use Rattle.window_states.specs.Entries.{Entries}
 use Rattle.unroll.specs.Parts.{window_in, IsKnownBlock, KnowsBelow, EndsAt}
+use Rattle.unroll.specs.Reading.{IgnoresRight}
 use Rattle.unroll.specs.declared.part_columns.PartColumns.{PartColumns}
 use Rattle.unroll.specs.declared.part_columns.Scratch.{Scratch}
+use Rattle.unroll.specs.declared.run.Run.{Run}
 use Rattle.unroll.specs.declared.upper_block.UpperBlock.{UpperBlock}
 
 -- columns for the registers of the plan at BLOCK_WINDOWS windows
@@ -27,29 +29,47 @@ AreWide plan parts = (length parts.from_left.items ≡ BLOCK_WINDOWS) × IsWide 
 abbrev pub part_state : ProgramForIds → ℕ → ℕ → ℕ → ℕ → List ℕ
 part_state plan low b d i = middle_state plan.program low (part (window_numbered plan.ids (low + 1) (BLOCK_WINDOWS * b + i)) low d)
 
--- the parts of the first `count` windows of block b of the level above low: item i of the lists is the message of the
--- first part's node to the right in the next round, the registers of the middle part's node, and the message of the
--- last part's node to the left
-pub record HoldParts (plan : ProgramForIds) (low b count : ℕ) (parts : PartColumns) : Type 0 where
-  pub sizes : (i : ℕ) → i < count → length (window_numbered plan.ids (low + 1) (BLOCK_WINDOWS * b + i)) ≡ 2 * low + 3
-  pub left : (i : ℕ) → i < count → slice_index parts.from_left.items i ≡ to_right plan.program low (part_state plan low b 0 i)
-  pub own : (i : ℕ) → i < count → slice_index_or parts.own.states i [] ≡ part_state plan low b 1 i
-  pub right : (i : ℕ) → i < count → slice_index parts.from_right.items i ≡ to_left plan.program low (part_state plan low b 2 i)
+-- the first two parts of window i of an upper block are those of a run: the message of the first part's node to the right
+-- in the next round, and the registers of the middle part's node
+pub record HasFronts (block : UpperBlock) (run : Run) (i : ℕ) : Type 0 where
+  pub size : length (window_in block i) ≡ 2 * block.below + 3
+  pub left : run.first.sent ≡ to_right block.plan.now.program block.below (part_state block.plan.now block.below block.number 0 i)
+  pub own : run.own.now ≡ part_state block.plan.now block.below block.number 1 i
 
--- the parts of the first `count` windows of an upper block are in the columns, and their blocks are known
-pub record AreGathered (entries : Entries) (block : UpperBlock) (count : ℕ) (parts : PartColumns) : Type 0 where
-  pub states : HoldParts block.plan.now block.below block.number count parts
+-- the first `count` windows of an upper block, without their last parts: item i of the columns is what HasFronts says of
+-- window i, or, where the round is evaluated once a run, the state of this window after the round
+pub record HoldFronts (block : UpperBlock) (count : ℕ) (scratch : Scratch) : Type 0 where
+  pub sizes : (i : ℕ) → i < count → length (window_in block i) ≡ 2 * block.below + 3
+  pub left : block.once_a_run ≡ false → (i : ℕ) → i < count → slice_index scratch.parts.from_left.items i
+      ≡ to_right block.plan.now.program block.below (part_state block.plan.now block.below block.number 0 i)
+  pub own : block.once_a_run ≡ false → (i : ℕ) → i < count → slice_index_or scratch.parts.own.states i []
+      ≡ part_state block.plan.now block.below block.number 1 i
+  pub states : block.once_a_run ≡ true → (i : ℕ) → i < count → slice_index_or scratch.made.states i []
+      ≡ block_state block.plan.now (block.below + 1) block.number i
+
+-- item i of a list is the message of the last part's node of window i of an upper block to the left in the next round,
+-- if the round reads it
+abbrev pub HoldLasts : UpperBlock → ℕ → List ℕ → Type 0
+HoldLasts block count sent = block.reads_right ≡ true → (i : ℕ) → i < count → slice_index sent i
+    ≡ to_left block.plan.now.program block.below (part_state block.plan.now block.below block.number 2 i)
+
+-- the first `count` windows of an upper block are taken, and the blocks of their parts are known
+pub record AreGathered (entries : Entries) (block : UpperBlock) (count : ℕ) (scratch : Scratch) : Type 0 where
+  pub fronts : HoldFronts block count scratch
+  pub lasts : HoldLasts block count scratch.parts.from_right.items
   pub known : KnowsBelow entries block.plan.now.ids (block.below + 1) block.number count
 
--- the same up to the index `end`, where the run of the window at the index `from` ends, or the block; the known block
--- `last` holds the last part of the window before
-pub record IsRunGathered (entries : Entries) (block : UpperBlock) (from end : ℕ) (last : MadeBlock) (parts : PartColumns) : Type 0 where
+-- the windows of an upper block from an index to the index `end`, where their run ends, or the block, after the last
+-- parts of all windows before `end` were taken; the known block `last` holds the last part of the window before `end`
+pub record IsRunGathered (entries : Entries) (block : UpperBlock) (run : Run) (from end : ℕ) (last : MadeBlock) (sent : List ℕ) : Type 0 where
   pub later : from < end
   pub within : end ≤ block_len block.plan.now.ids (block.below + 1) block.number
   pub ended : end < block_len block.plan.now.ids (block.below + 1) block.number
       → EndsAt block.plan.now.ids (block.below + 1) (window_in block from) (BLOCK_WINDOWS * block.number + (end - 1))
   pub last_is : IsKnownBlock block.plan.now entries block.below last
-  pub gathered : AreGathered entries block end parts
+  pub fronts : (i : ℕ) → from ≤ i → i < end → HasFronts block run i
+  pub lasts : HoldLasts block end sent
+  pub known : KnowsBelow entries block.plan.now.ids (block.below + 1) block.number end
 
 -- the `count` items from a place on are these now, and the items before them are unchanged
 pub record AreWritten (A : Type 0) (none : A) (old new : List A) (place count : ℕ) (item : ℕ → A) : Type 0 where
@@ -57,9 +77,11 @@ pub record AreWritten (A : Type 0) (none : A) (old new : List A) (place count : 
   pub here : (i : ℕ) → i < count → slice_index_or new (place + i) none ≡ item i
   pub before : (i : ℕ) → i < place → slice_index_or new i none ≡ slice_index_or old i none
 
--- scratch for the blocks of a plan: room for its expressions, and columns for its registers
+-- scratch for the blocks of a plan: room for its expressions, which rounds cannot depend on the message from the right, and
+-- columns for its registers
 pub record IsReady (plan : ProgramForIds) (scratch : Scratch) : Type 0 where
   pub room : most_columns (terms plan.program) ≤ scratch.work.columns
   pub width : scratch.work.width ≡ BLOCK_WINDOWS
+  pub reads : (k : ℕ) → k < length plan.program.steps → slice_index_or scratch.reads_right k true ≡ false → IgnoresRight plan.program k
   pub parts_wide : AreWide plan scratch.parts
   pub made_wide : IsWide plan scratch.made

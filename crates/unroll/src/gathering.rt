@@ -4,33 +4,35 @@ ghost use Rattle.window_states.specs.BlockStates.{IsKey, block_len, window_numbe
 ghost use Rattle.window_states.specs.Entries.{Asked};
 ghost use Rattle.window_states.specs.HeldStates.{first_states, HoldsSent};
 ghost use Rattle.unroll.specs.MakeFaults.{AskedFor, KnowsAllBelow, IsMissingBelow};
-ghost use Rattle.unroll.specs.Parts.{IsFirstWindow, IsReached};
-ghost use Rattle.unroll.specs.WideColumns.{AreWide, AreGathered, IsRunGathered, HoldParts, IsReady};
+ghost use Rattle.unroll.specs.Parts.{IsFirstWindow, IsReached, KnowsBelow};
+ghost use Rattle.unroll.specs.WideColumns.{AreGathered, HasFronts, HoldFronts, HoldLasts, IsRunGathered, IsReady};
 ghost use Rattle.win_index.specs.Blocks.{block_count};
 
 use crate::fault::MakeFault;
-use crate::part_columns::{PartColumns, Scratch};
-use crate::parts::numbered_block;
-use crate::run::{Near, Reached, start_run};
+use crate::part_columns::Scratch;
+use crate::parts::{LastParts, numbered_block, put_lasts};
+use crate::run::{Near, Reached, Run, start_run};
 use crate::upper_block::UpperBlock;
+use node_program::MAX_REGISTERS;
 use round_columns::{Code, next_columns, start_columns, to_left_columns, to_right_columns};
+use round_eval::{step, width_of};
 use win_index::{BLOCK_WINDOWS, MAX_WINDOW_LEN, Shape, number_of_window, windows_have_numbers};
 use window_states::{Block, Source, block_len, first_number, states_from_parts};
 
-// Gathers the parts of each window of a block, whose first window is `window`.
+// Gathers the windows of a block, of which `window` is the first, run by run.
 pub(crate) fn gather<'s, S: Source<'s>>(
     upper: UpperBlock<'_>,
     source: &mut S,
     window: &[u32],
-    parts: &mut PartColumns,
+    scratch: &mut Scratch,
 ) -> Result<(), MakeFault>
     requires plan { S.plan source.old ≡ upper.plan.now }
     requires window { IsFirstWindow upper.plan.now.ids (upper.below + 1) upper.number window.now }
-    requires wide { AreWide upper.plan.now parts.old }
+    requires ready { IsReady upper.plan.now scratch.old }
     ensures asked { Asked S.plan S.fixed S.entries source.old source.new }
-    ensures wide { AreWide upper.entry.plan.now parts.new }
+    ensures ready { IsReady upper.entry.plan.now scratch.new }
     ensures gathered { OnOk result (AreGathered (S.entries source.new) upper.entry
-        (block_len upper.entry.plan.now.ids (upper.entry.below + 1) upper.entry.number) parts.new) }
+        (block_len upper.entry.plan.now.ids (upper.entry.below + 1) upper.entry.number) scratch.new) }
     ensures missing { IfErr result (IsMissingBelow (S.entries source.new) upper.entry.plan.now.ids (upper.entry.below + 1) upper.entry.number) }
 {
     let shape = upper.plan.shape();
@@ -52,7 +54,8 @@ pub(crate) fn gather<'s, S: Source<'s>>(
             run,
             last: near.last,
         };
-        let (after, block) = gather_run(upper, source, reached, parts)?;
+        let (after, block) = gather_run(upper, source, reached, &mut scratch.parts.from_right)?;
+        take_fronts(upper, run, index, after, scratch);
         if after == len {
             return Ok(());
         }
@@ -70,21 +73,22 @@ pub(crate) fn gather<'s, S: Source<'s>>(
     }
 }
 
-// Gathers the parts of the windows in the run of the place that is reached, from that place on.
-// Returns the index of their end, and the block that holds the last part of the last of them.
+// Asks for the blocks of the last parts of the windows in the run of the place that is reached, from
+// that place on, and writes the messages of these parts to `sent` if the round reads them. Returns
+// the index of the end of these windows, and the block that holds the last part of the last of them.
 fn gather_run<'s, S: Source<'s>>(
     upper: UpperBlock<'_>,
     source: &mut S,
     reached: Reached<'s>,
-    parts: &mut PartColumns,
+    sent: &mut [u32],
 ) -> Result<(u32, &'s Block<'s>), MakeFault>
     requires plan { S.plan source.old ≡ upper.plan.now }
     requires reached { IsReached (S.entries source.old) upper reached }
-    requires wide { AreWide upper.plan.now parts.old }
-    requires gathered { AreGathered (S.entries source.old) upper reached.index parts.old }
+    requires wide { length sent.old ≡ BLOCK_WINDOWS }
+    requires lasts { HoldLasts upper reached.index sent.old }
+    requires known { KnowsBelow (S.entries source.old) upper.plan.now.ids (upper.below + 1) upper.number reached.index }
     ensures asked { Asked S.plan S.fixed S.entries source.old source.new }
-    ensures wide { AreWide upper.entry.plan.now parts.new }
-    ensures gathered { IfOk result (λ r. IsRunGathered (S.entries source.new) upper.entry reached.entry.index r.0 r.1.now parts.new) }
+    ensures gathered { IfOk result (λ r. IsRunGathered (S.entries source.new) upper.entry reached.entry.run reached.entry.index r.0 r.1.now sent.new) }
     ensures missing { IfErr result (IsMissingBelow (S.entries source.new) upper.entry.plan.now.ids (upper.entry.below + 1) upper.entry.number) }
 {
     number_of_window();
@@ -96,20 +100,18 @@ fn gather_run<'s, S: Source<'s>>(
         run,
         mut last,
     } = reached;
-    let most = (len - from).min(run.places.rest(at));
-    parts.put_fronts(from as usize, most as usize, run.first.sent, run.own);
     let mut place = from;
     loop {
         let (block, index) = numbered_block(upper.plan, source, upper.below, run.start + at, last)?;
         let count = run
             .places
             .series(at, (len - place).min(block.len() - index));
-        parts.put_lasts(
-            place as usize,
-            count as usize,
-            block.to_left(),
-            index as usize,
-        );
+        let series = LastParts {
+            block,
+            index,
+            count,
+        };
+        put_lasts(upper, series, place, sent);
         place += count;
         if place == len {
             return Ok((place, block));
@@ -120,6 +122,33 @@ fn gather_run<'s, S: Source<'s>>(
         at = next;
         last = Some(block);
     }
+}
+
+// Takes the first two parts of the windows of an upper block from one index to another, which are in
+// one run.
+fn take_fronts(upper: UpperBlock<'_>, run: Run<'_>, from: u32, end: u32, scratch: &mut Scratch)
+    requires range { (from ≤ end) × (end ≤ BLOCK_WINDOWS) }
+    requires ready { IsReady upper.plan.now scratch.old }
+    requires cells { length run.own.now ≡ length upper.plan.now.program.start }
+    requires fronts { (i : ℕ) → from ≤ i → i < end → HasFronts upper run i }
+    requires held { HoldFronts upper from scratch.old }
+    ensures ready { IsReady upper.entry.plan.now scratch.new }
+    ensures held { HoldFronts upper.entry end scratch.new }
+    ensures right { scratch.new.parts.from_right ≡ scratch.old.parts.from_right }
+{
+    states_from_parts();
+    let place = from as usize;
+    let count = (end - from) as usize;
+    if !upper.once_a_run {
+        scratch
+            .parts
+            .put_fronts(place, count, run.first.sent, run.own);
+        return;
+    }
+    let mut cells = [0; MAX_REGISTERS as usize];
+    let state = &mut cells[..width_of(upper.plan)];
+    step(upper.plan, upper.below, run.own, run.first.sent, 0, state);
+    scratch.made.fill_states(place, count, state);
 }
 
 // Writes the states of the windows of a block: at level 0 from their identifiers, above it from
@@ -150,25 +179,37 @@ pub(crate) fn write_states<'s, S: Source<'s>>(
         start_states(code, number, window, scratch);
         return Ok(());
     }
-    let block = UpperBlock::new(plan, level - 1, number);
-    gather(block, source, window, &mut scratch.parts)?;
-    step_parts(code, level - 1, scratch);
+    let below = level - 1;
+    let reads_right = scratch.reads_right[below as usize];
+    let upper = UpperBlock::new(plan, below, number, reads_right);
+    gather(upper, source, window, scratch)?;
+    step_parts(code, upper, scratch);
     Ok(())
 }
 
-// Writes the states of windows one level above `below`, from those of their parts.
-pub(crate) fn step_parts(code: &Code<'_>, below: u32, scratch: &mut Scratch)
-    requires below { below < length code.now.program.steps }
+// Writes the states of the windows of an upper block, from their parts, if gathering has not
+// written them.
+fn step_parts(code: &Code<'_>, upper: UpperBlock<'_>, scratch: &mut Scratch)
+    requires plan { upper.plan.now ≡ code.now }
     requires ready { IsReady code.now scratch.old }
     ensures ready { IsReady code.now scratch.new }
-    ensures states { (b count : ℕ) → count ≤ BLOCK_WINDOWS → HoldParts code.now below b count scratch.old.parts
-        → take count scratch.new.made.states ≡ first_states code.now (below + 1) b count }
+    ensures states { (count : ℕ) → count ≤ BLOCK_WINDOWS → HoldFronts upper.entry count scratch.old
+        → HoldLasts upper.entry count scratch.old.parts.from_right.items
+        → take count scratch.new.made.states ≡ first_states code.now (upper.entry.below + 1) upper.entry.number count }
 {
     states_from_parts();
-    let Scratch { work, parts, made } = scratch;
+    if upper.once_a_run {
+        return;
+    }
+    let Scratch {
+        work,
+        parts,
+        made,
+        ..
+    } = scratch;
     next_columns(
         code,
-        below,
+        upper.below,
         &parts.from_left,
         &parts.own,
         &parts.from_right,

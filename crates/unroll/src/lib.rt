@@ -7,6 +7,7 @@ mod maker;
 mod making;
 mod part_columns;
 mod parts;
+mod right_reads;
 mod run;
 mod upper_block;
 

@@ -2,8 +2,9 @@
 ghost use Rattle.std.specs.Prelude.{◌≡◌, ◌+◌, ◌≤◌, [], ℕ, List, length, replicate, slice_index, IfOk};
 ghost use Rattle.unroll.specs.WideColumns.{IsWide, AreWide, AreWritten, IsReady};
 
+use crate::right_reads::rounds_use_right;
 use lang_check::Plan;
-use node_program::OutOfMemory;
+use node_program::{MAX_ROUNDS, OutOfMemory};
 use round_columns::{Code, Columns, Work};
 use round_eval::width_of;
 use std::alloc::Global;
@@ -49,25 +50,14 @@ impl PartColumns {
         fill_some(&mut self.from_left, place, count, from_left);
         self.own.fill_states(place, count, own);
     }
-
-    // Writes the last parts of `count` consecutive windows from `place` on: the messages of their
-    // nodes are `sent` from `index` on.
-    pub(crate) fn put_lasts(&mut self, place: usize, count: usize, sent: &[u32], index: usize)
-        requires right { place + count ≤ length self.old.from_right.items }
-        requires sent { index + count ≤ length sent.now }
-        ensures left { self.new.from_left ≡ self.old.from_left }
-        ensures own { self.new.own ≡ self.old.own }
-        ensures right { AreWritten ℕ 0 self.old.from_right.items self.new.from_right.items place count
-            (λ i. slice_index sent.now (index + i)) }
-    {
-        copy_some(&mut self.from_right, place, count, sent, index);
-    }
 }
 
-// What a maker of blocks reuses: scratch for the plan's expressions, the columns of the parts of a
-// block's windows, and the states of these windows.
+// What a maker of blocks reuses: which rounds read the message from the right, scratch for the
+// plan's expressions, the columns of the parts of a block's windows, and the states of these
+// windows.
 #[derive(Drop)]
 pub(crate) struct Scratch {
+    pub(crate) reads_right: [bool; MAX_ROUNDS as usize],
     pub(crate) work: Work,
     pub(crate) parts: PartColumns,
     pub(crate) made: Columns,
@@ -81,7 +71,12 @@ impl Scratch {
         let work = Work::new(alloc, code, BLOCK_WINDOWS as usize)?;
         let parts = PartColumns::new(alloc, code.plan())?;
         let made = wide_columns(alloc, code.plan())?;
-        Ok(Scratch { work, parts, made })
+        Ok(Scratch {
+            reads_right: rounds_use_right(code.plan()),
+            work,
+            parts,
+            made,
+        })
     }
 }
 
@@ -102,7 +97,13 @@ fn fill_some(cells: &mut [u32], place: usize, count: usize, number: u32)
 
 // Copies `count` numbers from `index` on to the cells from `place` on, and perhaps some that follow
 // them.
-fn copy_some(cells: &mut [u32], place: usize, count: usize, numbers: &[u32], index: usize)
+pub(crate) fn copy_some(
+    cells: &mut [u32],
+    place: usize,
+    count: usize,
+    numbers: &[u32],
+    index: usize,
+)
     requires cells { place + count ≤ length cells.old }
     requires numbers { index + count ≤ length numbers.now }
     ensures { AreWritten ℕ 0 cells.old cells.new place count (λ i. slice_index numbers.now (index + i)) }

@@ -1,29 +1,41 @@
 //! Blocks above level 0, which are made from those one level below.
-ghost use Rattle.std.specs.Prelude.{◌≡◌, ◌+◌, ◌<◌, ◌^◌, length};
+ghost use Rattle.std.specs.Prelude.{◌≡◌, ◌+◌, ◌<◌, ◌^◌, true, false, length};
+ghost use Rattle.unroll.specs.Reading.{IgnoresRight};
 ghost use Rattle.win_index.specs.Blocks.{block_count, window_count};
 ghost use Rattle.window_states.specs.BlockStates.{block_len};
 
 use lang_check::Plan;
 use window_states::block_len;
 
-// A block above level 0 that is to be made: its plan, the level one below its own, its number, and
-// the number of its windows.
+// A run of this many windows or more is long. A state is then evaluated once for all of them sooner
+// than in columns.
+const LONG_RUN: u32 = 16;
+
+// A block above level 0 that is to be made: its plan, the level one below its own, its number, the
+// number of its windows, whether the round to its level reads the message from the right, and
+// whether that round is evaluated once for each run of its windows.
 #[derive(Clone, Copy)]
 pub(crate) struct UpperBlock<'p> {
     pub(crate) plan: &'p Plan,
     pub(crate) below: u32,
     pub(crate) number: u32,
     pub(crate) len: u32,
+    pub(crate) reads_right: bool,
+    pub(crate) once_a_run: bool,
     pub(crate) ghost above: { below < length plan.now.program.steps },
     pub(crate) ghost inside: { number < block_count plan.now.ids (below + 1) },
     pub(crate) ghost len_is: { len ≡ block_len plan.now.ids (below + 1) number },
     pub(crate) ghost few: { window_count plan.now.ids below < 2 ^ 32 },
+    pub(crate) ghost ignores: { reads_right ≡ false → IgnoresRight plan.now.program below },
+    pub(crate) ghost alike: { once_a_run ≡ true → IgnoresRight plan.now.program below },
 }
 
 impl<'p> UpperBlock<'p> {
-    // Returns the block one level above `below` with this number.
-    pub(crate) fn new(plan: &'p Plan, below: u32, number: u32) -> UpperBlock<'p>
+    // Returns the block one level above `below` with this number. The round from that level can
+    // depend on the message from the right only if `reads_right`.
+    pub(crate) fn new(plan: &'p Plan, below: u32, number: u32, reads_right: bool) -> UpperBlock<'p>
         requires below { below < length plan.now.program.steps }
+        requires reads { reads_right ≡ false → IgnoresRight plan.now.program below }
         requires number { number < block_count plan.now.ids (below + 1) }
         ensures plan { result.plan.now ≡ plan.entry.now }
         ensures below { result.below ≡ below }
@@ -37,6 +49,8 @@ impl<'p> UpperBlock<'p> {
             below,
             number,
             len: block_len(shape, below + 1, number),
+            reads_right,
+            once_a_run: !reads_right && shape.ids() >= 2 * below + 2 + LONG_RUN,
         }
     }
 }

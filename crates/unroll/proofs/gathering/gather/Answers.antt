@@ -1,4 +1,5 @@
-use Rattle.std.proofs.Common.{◌≡◌, ◌+◌, ◌*◌, ◌/◌, ◌<◌, slice_get, Some, refl, sym, ap, ◌∙◌, arith, subst}
+use Rattle.std.proofs.Common.{◌≡◌, ◌+◌, ◌*◌, ◌/◌, ◌<◌, ◌++◌, length, take, drop, slice_get, Some, refl, sym, ap, ◌∙◌, arith, subst}
+use Rattle.std.proofs.lemmas.List.{take_at}
 use Rattle.win_index.specs.Windows.{windows, IsWindow}
 use Rattle.win_index.specs.declared.limits.TheConstants.{BLOCK_WINDOWS}
 use Rattle.window_states.specs.BlockStates.{block_len, window_numbered}
@@ -7,6 +8,8 @@ use Rattle.unroll.specs.WideColumns.{AreGathered}
 use Rattle.unroll.proofs.Known.{still_known, window_at, asked_both, entry_grows, if_some_more}
 use Rattle.unroll.proofs.NextRuns.{next_run, some_run_follows, first_place}
 use Rattle.unroll.proofs.SameRun.{first_grows}
+use Rattle.unroll.proofs.gathering.gather.Given.{Over}
+use Rattle.unroll.proofs.gathering.gather.Goals.{After-take_fronts}
 use Rattle.unroll.proofs.gathering.gather.Goals as goal
 
 pub loop-run-init : goal.loop-run-init
@@ -32,14 +35,15 @@ loop-run-init g c =
       place = rw own (sym c.place_in_run-place.ensures.value);
       inside = rw (own, ← c.shape-shape.ensures.ids) c.place_in_run-place.ensures.inside;
       near = record { first = tt; middle = tt; last = tt };
-      wide = c.requires.wide;
+      ready = c.requires.ready;
       gathered = record {
-        states = record {
+        fronts = record {
           sizes = λ i lt. absurd (omega (arith, lt));
-          left = λ i lt. absurd (omega (arith, lt));
-          own = λ i lt. absurd (omega (arith, lt));
-          right = λ i lt. absurd (omega (arith, lt));
+          left = λ each i lt. absurd (omega (arith, lt));
+          own = λ each i lt. absurd (omega (arith, lt));
+          states = λ once i lt. absurd (omega (arith, lt));
         };
+        lasts = λ reads i lt. absurd (omega (arith, lt));
         known = λ lower j one lt. absurd (omega (arith, lt));
       };
     }
@@ -70,11 +74,11 @@ gather_run-requires g c κs =
                 (λ b is. entry_grows plan old new low b.now.number b.now grows is) before.near.last;
           },
           (
-            before.wide,
-            record {
-              states = before.gathered.states;
-              known = λ lower j one lt n is. still_known old new lower (n / BLOCK_WINDOWS) grows (before.gathered.known lower j one lt n is);
-            },
+            ap length c.deref_mut.ensures.value ∙ before.ready.parts_wide.2,
+            (
+              rw c.deref_mut.ensures.value before.gathered.lasts,
+              λ lower j one lt n is. still_known old new lower (n / BLOCK_WINDOWS) grows (before.gathered.known lower j one lt n is),
+            ),
           ),
         ),
       ),
@@ -88,13 +92,24 @@ pub returns-then-after-len-clause-asked : goal.returns-then-after-len-clause-ask
 returns-then-after-len-clause-asked g c =
     asked_both (asked_both c.loop-run.invariant.asked c.in_ok-run.ensures.asked) c.in_ok-after.ensures.asked
 
+-- taking the first parts leaves the last ones
+module _ (g : Over) (c : After-take_fronts g) where
+  gathered : AreGathered (g.S.Source.entries c.gather_run.new.source) c.args.upper c.in_ok-after.after c.take_fronts.new.scratch
+  gathered =
+      let list = c.loop-run.scratch.parts.from_right in
+      let cells = c.gather_run.new.sent in
+      let whole : take list.len (cells ++ drop (length cells) list.items) ≡ cells =
+      take_at cells _ list.len (c.gather_run.auto.sent ∙ c.deref_mut.ensures.len) in
+      let run = c.in_ok-after.ensures.gathered in
+      record { fronts = c.take_fronts.ensures.held; lasts = rw (c.take_fronts.ensures.right, whole) run.lasts; known = run.known }
+
 pub returns-then-after-len-clause-gathered : goal.returns-then-after-len-clause-gathered
 returns-then-after-len-clause-gathered g c =
     let upper = c.args.upper in
     let len = c.args.upper.len_is in
     let done : c.in_ok-after.after ≡ block_len upper.plan.now.ids (upper.below + 1) upper.number = omega (arith, len, c.if-after-len.true) in
-    let entries = g.S.Source.entries c.gather_run.new.source in
-    subst (λ count. AreGathered entries upper count c.gather_run.new.parts) done c.in_ok-after.ensures.gathered.gathered
+    let all = gathered g (goal.at.returns-then-after-len-clause-gathered g c).After-take_fronts in
+    subst (λ count. AreGathered (g.S.Source.entries c.gather_run.new.source) upper count c.take_fronts.new.scratch) done all
 
 pub unreachable-requires : goal.unreachable-requires
 unreachable-requires g c =
@@ -132,6 +147,6 @@ loop-run-preserved g c =
         middle = entry_grows plan (entries c.start_run.new.source) (entries c.gather_run.new.source) low _ _ went.asked.grows asked.run.middle_is;
         last = run.last_is;
       };
-      wide = went.wide;
-      gathered = run.gathered;
+      ready = c.take_fronts.ensures.ready;
+      gathered = gathered g (goal.at.loop-run-preserved g c).After-take_fronts;
     }

@@ -2,7 +2,7 @@ use Rattle.std.proofs.Common.{◌≡◌, ◌+◌, ◌-◌, ◌*◌, ◌<◌, sli
 use Rattle.win_index.specs.Runs.{place_in_run}
 use Rattle.window_states.specs.Entries.{Asked}
 use Rattle.unroll.specs.Parts.{window_in, IsAtIndex, IsNear}
-use Rattle.unroll.specs.WideColumns.{AreWide, AreGathered}
+use Rattle.unroll.specs.WideColumns.{IsReady, AreGathered}
 use Rattle.unroll.proofs.gathering.gather.Given as goal
 
 abbrev pub invariant-loop-run : goal.invariant-loop-run
@@ -13,8 +13,8 @@ invariant-loop-run g l =
       place : place_in_run (2 * l.below + 1) (window_in l.upper l.index) (slice_index (window_in l.upper l.index) (2 * l.below + 2)) ≡ l.place;
       inside : l.place < place_in_run (2 * l.below + 1) (window_in l.upper l.index) l.upper.plan.now.ids;
       near : IsNear l.upper.plan.now (g.S.Source.entries l.source) l.below l.near;
-      wide : AreWide l.upper.plan.now l.parts;
-      gathered : AreGathered (g.S.Source.entries l.source) l.upper l.index l.parts;
+      ready : IsReady l.upper.plan.now l.scratch;
+      gathered : AreGathered (g.S.Source.entries l.source) l.upper l.index l.scratch;
     }
 
 abbrev pub decreases-loop-run : goal.decreases-loop-run

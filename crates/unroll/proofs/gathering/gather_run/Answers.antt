@@ -1,4 +1,4 @@
-use Rattle.std.proofs.Common.{◌≡◌, ℕ, ◌+◌, ◌-◌, ◌*◌, ◌<◌, ◌≤◌, List, [], length, take, get_or, IsSome, refl, sym, ap, ◌∙◌, arith, subst}
+use Rattle.std.proofs.Common.{◌≡◌, ℕ, ◌+◌, ◌-◌, ◌*◌, ◌<◌, ◌≤◌, take, get_or, IsSome, refl, sym, ◌∙◌, arith, subst}
 use Rattle.std.proofs.lemmas.Result.{err_from_is_err_and}
 use Rattle.std.proofs.lemmas.Option.{slice_get_within}
 use Rattle.win_index.specs.Runs.{IsAtPlace, place_in_run}
@@ -6,10 +6,11 @@ use Rattle.win_index.specs.Windows.{windows, IsWindow}
 use Rattle.unroll.specs.Below.{part}
 use Rattle.window_states.specs.BlockStates.{block_len}
 use Rattle.window_states.specs.Entries.{IsEntry}
-use Rattle.unroll.specs.Parts.{window_in, EndsAt}
-use Rattle.unroll.specs.WideColumns.{AreGathered, AreWide}
+use Rattle.unroll.specs.Parts.{window_in, EndsAt, KnowsBelow}
+use Rattle.unroll.specs.WideColumns.{HasFronts, HoldLasts}
+use Rattle.unroll.proofs.ColumnStates.{below_sum}
 use Rattle.unroll.proofs.Known.{window_at, asked_both, fault_of_part, own_entry}
-use Rattle.unroll.proofs.SeriesStates.{SeriesAt, series_at, series_known, hold_series, knows_series, still_written, still_hold, written_same, run_of_prefix, last_part_here, further_place, later_window}
+use Rattle.unroll.proofs.SeriesStates.{SeriesAt, series_at, series_known, series_fronts, hold_series, knows_series, run_of_prefix, last_part_here, further_place, later_window}
 use Rattle.unroll.proofs.gathering.gather_run.Given.{Over}
 use Rattle.unroll.proofs.gathering.gather_run.Goals.{After-put_lasts}
 use Rattle.unroll.proofs.gathering.gather_run.Goals as goal
@@ -37,57 +38,38 @@ module _ (g : Over) (c : After-put_lasts g) where
       series_at c.number_of_window.ensures c.windows_have_numbers.ensures plan after low c.args.upper.number c.loop-block.place block.number c.in_ok-block.index c.series-count.result w run
       (omega (arith, size)) before.here.1 right (c.series-count.ensures.series (2 * low + 1) plan.ids w (omega arith) before.here.3) run_is
 
-  -- they are among those whose first parts were written
-  within : c.loop-block.place + c.series-count.result ≤ c.args.reached.index + c.min-most.result
-  within =
-      let before = c.loop-block.invariant in
-      omega (arith, c.min-most.ensures, c.rest.ensures, before.along, before.after, c.series-count.ensures.inside, c.series-count.ensures.few, c.min.ensures)
+  fronts : (i : ℕ) → c.args.reached.index ≤ i → i < c.loop-block.place + c.series-count.result → HasFronts c.args.upper c.args.reached.run i
+  fronts = λ i late lt.
+      below_sum (λ i. c.args.reached.index ≤ i → HasFronts c.args.upper c.args.reached.run i) c.loop-block.place c.series-count.result
+      (λ i lt late. c.loop-block.invariant.fronts i late lt)
+      (λ i lt late. series_fronts c.args.upper (g.S.Source.entries c.numbered_block.new.source) c.loop-block.place c.in_ok-block.block.now.number
+      c.in_ok-block.index i c.loop-block.invariant.here.0 c.args.reached.run (stands i lt)) i lt late
 
-  -- the parts of the windows up to their end are gathered
-  gathered : AreGathered (g.S.Source.entries c.numbered_block.new.source) c.args.upper (c.loop-block.place + c.series-count.result) c.put_lasts.new.self
-  gathered =
+  lasts : HoldLasts c.args.upper (c.loop-block.place + c.series-count.result) c.put_lasts.new.cells
+  lasts =
+      hold_series c.args.upper (g.S.Source.entries c.numbered_block.new.source) c.loop-block.place c.in_ok-block.block.now.number c.in_ok-block.index
+      c.series-count.result c.loop-block.invariant.here.0 c.args.reached.run c.loop-block.sent c.put_lasts.new.cells c.loop-block.invariant.lasts
+      c.put_lasts.ensures stands
+
+  known : KnowsBelow (g.S.Source.entries c.numbered_block.new.source) c.args.upper.plan.now.ids (c.args.upper.below + 1) c.args.upper.number (c.loop-block.place + c.series-count.result)
+  known =
       let plan = c.args.upper.plan.now in
       let low = c.args.upper.below in
       let b = c.args.upper.number in
-      let from = c.args.reached.index in
-      let run = c.args.reached.run in
       let entries = g.S.Source.entries in
-      let before = c.loop-block.invariant in
       let answer = c.in_ok-block.ensures in
       let block = c.in_ok-block.block.now in
       let index = c.in_ok-block.index in
       let place = c.loop-block.place in
       let count = c.series-count.result in
       let after = entries c.numbered_block.new.source in
-      let w = before.here.0 in
-      let old = c.args.parts.now in
-      let now = c.loop-block.parts in
-      let new = c.put_lasts.new.self in
-      let put = c.put_lasts.ensures in
       let is = answer.window.block in
       let few : index + count ≤ c.len.result = omega (arith, c.series-count.ensures.few, c.min.ensures, answer.window.inside, c.len.ensures) in
       let small : c.len.result ≤ BLOCK_WINDOWS = omega (arith, c.len.ensures) in
-      let left = still_written ℕ 0 run.first.sent old.from_left.items now.from_left.items new.from_left.items from c.min-most.result place count before.left (ap (λ list. list.items) put.left) before.after within in
-      let own = still_written (List ℕ) [] run.own.now old.own.states now.own.states new.own.states from c.min-most.result place count before.own (ap (λ columns. columns.states) put.own) before.after within in
-      let sent = rw (is.plan_is, is.level_is) at c.to_left.ensures.sent in
-      let long = rw (is.plan_is, is.level_is) at c.len.ensures in
       let there : IsSome (after low block.number) = rw (is.number_is, is.known) refl in
-      record {
-        states = hold_series plan after low b place block.number index count w run c.to_left.result.now now new
-            before.gathered.states (λ i lt. sent (index + i) (omega (arith, lt, few, long))) left own put.right stands;
-        known = knows_series (entries c.loop-block.source) after plan.ids low b place count answer.asked.grows before.gathered.known
-            (λ i lt. series_known c.number_of_window.ensures c.windows_have_numbers.ensures plan after low b place block.number index i w run there
-            (omega (arith, few, small, lt)) (stands i lt));
-      }
-
-  wide : AreWide c.args.upper.plan.now c.put_lasts.new.self
-  wide =
-      let before = c.loop-block.invariant.wide in
-      let put = c.put_lasts.ensures in (
-        ap (λ list. length list.items) put.left ∙ before.0,
-        (ap (λ columns. length columns.states) put.own ∙ before.1.0, ap (λ columns. columns.registers) put.own ∙ before.1.1),
-        put.right.size ∙ before.2,
-      )
+      knows_series (entries c.loop-block.source) after plan.ids low b place count answer.asked.grows c.loop-block.invariant.known
+      (λ i lt. series_known c.number_of_window.ensures c.windows_have_numbers.ensures plan after low b place block.number index i
+      c.loop-block.invariant.here.0 c.args.reached.run there (omega (arith, few, small, lt)) (stands i lt))
 
   -- the position of the last of them in its run
   last_place : IsAtPlace (2 * c.args.upper.below + 1) c.args.upper.plan.now.ids c.args.reached.run.places (stands (c.series-count.result - 1) (omega (arith, c.series-count.ensures.some))).next (c.loop-block.at + c.series-count.result - 1)
@@ -136,7 +118,9 @@ returns-then-place-len-clause-gathered g c =
       within = inside g d;
       ended = λ fewer. absurd (omega (arith, len, c.if-place-len.true, fewer));
       last_is = last_is g d;
-      gathered = gathered g d;
+      fronts = fronts g d;
+      lasts = lasts g d;
+      known = known g d;
     }
 
 pub returns-in_default-clause-gathered : goal.returns-in_default-clause-gathered
@@ -161,7 +145,9 @@ returns-in_default-clause-gathered g c =
       within = inside g d;
       ended = λ fewer. end;
       last_is = last_is g d;
-      gathered = gathered g d;
+      fronts = fronts g d;
+      lasts = lasts g d;
+      known = known g d;
     }
 
 pub overflow_add-run : goal.overflow_add-run
@@ -220,12 +206,10 @@ loop-block-init g c =
     let last : 2 * low + 2 ≡ 2 * low + 1 + 1 = omega arith in
     let place = subst (λ i. place_in_run (2 * low + 1) window (get_or window i 0) ≡ c.args.reached.place) last reached.place in
     let len = c.args.upper.len_is in
-    let put = c.put_fronts.ensures in
     record {
       after = omega arith;
       within = omega (arith, len, reached.is.inside);
       at_inside = reached.inside;
-      along = omega arith;
       asked = record { same_plan = refl; same_fixed = refl; grows = record { kept = λ level n block known. known } };
       here = (
         window,
@@ -238,18 +222,10 @@ loop-block-init g c =
         },
       );
       last = reached.last;
-      wide = (
-        put.left.size ∙ c.requires.wide.0,
-        (put.own.size ∙ c.requires.wide.1.0, put.registers ∙ c.requires.wide.1.1),
-        ap (λ list. length list.items) put.right ∙ c.requires.wide.2,
-      );
-      left = put.left;
-      own = put.own;
-      gathered = record {
-        states = still_hold plan low b c.args.reached.index c.min-most.result run.first.sent run.own.now c.args.parts.now c.put_fronts.new.self
-            c.requires.gathered.states put.left put.own put.right;
-        known = c.requires.gathered.known;
-      };
+      wide = c.requires.wide;
+      fronts = λ i late lt. absurd (omega (arith, late, lt));
+      lasts = c.requires.lasts;
+      known = c.requires.known;
     }
 
 pub loop-block-preserved : goal.loop-block-preserved
@@ -259,10 +235,6 @@ loop-block-preserved g c =
     let low = c.args.upper.below in
     let before = c.loop-block.invariant in
     let run = c.args.reached.run in
-    let old = c.args.parts.now in
-    let now = c.loop-block.parts in
-    let new = c.put_lasts.new.self in
-    let put = c.put_lasts.ensures in
     let some = c.series-count.ensures.some in
     let last = stands g d (c.series-count.result - 1) (omega (arith, some)) in
     let next = c.in-Some.ensures in
@@ -273,20 +245,11 @@ loop-block-preserved g c =
       after = omega (arith, before.after);
       within = omega (arith, c.if-place-len.false, c.series-count.ensures.few, c.min.ensures, before.within);
       at_inside = next.inside.1;
-      along = omega (arith, before.along, next.inside.0, some);
       asked = asked_both before.asked c.in_ok-block.ensures.asked;
       here = (later.0, follows.0, follows.1, later.1);
       last = last_is g d;
-      wide = wide g d;
-      left = written_same ℕ 0 run.first.sent old.from_left.items now.from_left.items new.from_left.items c.args.reached.index c.min-most.result
-          (ap (λ list. list.items) put.left) before.left;
-      own = written_same (List ℕ) [] run.own.now old.own.states now.own.states new.own.states c.args.reached.index c.min-most.result
-          (ap (λ columns. columns.states) put.own) before.own;
-      gathered = gathered g d;
+      wide = c.put_lasts.auto.cells ∙ before.wide;
+      fronts = fronts g d;
+      lasts = lasts g d;
+      known = known g d;
     }
-
-pub returns-then-place-len-clause-wide : goal.returns-then-place-len-clause-wide
-returns-then-place-len-clause-wide g c = wide g (goal.at.returns-then-place-len-clause-wide g c).After-put_lasts
-
-pub returns-in_default-clause-wide : goal.returns-in_default-clause-wide
-returns-in_default-clause-wide g c = wide g (goal.at.returns-in_default-clause-wide g c).After-put_lasts
