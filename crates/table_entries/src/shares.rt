@@ -70,20 +70,23 @@ pub(crate) fn read_shares<R: Threads + Sync>(
     );
 }
 
-// Returns the entries of all shares, in order.
+// Returns the entries of all shares, in order. Each share is dropped as soon as its entries are
+// appended.
 pub(crate) fn joined(code: &Code<'_>, mut shares: Vec<Share>) -> Vec<u16>
     requires { AreRead code.now shares.items }
     ensures size { vec_len result ≡ window_count code.now.ids (length code.now.program.steps) }
     ensures entries { AreEntries code.now 0 result.items }
 {
+    let count = shares.len();
     let Share {
         first: _,
         windows: _,
         columns: _,
         mut entries,
     } = shares.remove(0);
-    for share in &shares {
-        let Ok(()) = entries.extend_from_slice(&share.entries) else {
+    for _share in 1..count {
+        let next = shares.remove(0);
+        let Ok(()) = entries.extend_from_slice(&next.entries) else {
             unreachable!()
         };
     }
