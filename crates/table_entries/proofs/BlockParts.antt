@@ -1,5 +1,5 @@
 -- The part of a share that a block fills.
-use Rattle.std.proofs.Common.{◌≡◌, ℕ, ◌+◌, ◌-◌, ◌*◌, ◌/◌, ◌%◌, ◌<◌, ◌≤◌, ◌⊎◌, min, List, All, length, get_or, slice_index, take, drop, Some, inl, inr, ⊎_elim, subst, sym, ap, ◌∙◌, arith}
+use Rattle.std.proofs.Common.{◌≡◌, ℕ, ◌+◌, ◌-◌, ◌*◌, ◌/◌, ◌%◌, ◌<◌, ◌≤◌, ◌⊎◌, min, List, All, length, get_or, slice_index, take, drop, Some, ⊎_elim, subst, sym, ap, ◌∙◌, arith}
 use mathlib.Core.Logic.{dite}
 use denote.Ref.{Bor}
 use borrow.Rule.Slice.PartMut.{put_mid}

@@ -13,7 +13,6 @@ use Rattle.win_index.specs.Laws.{RingsHaveWindows, NumberOfWindow, WindowsHaveNu
 use Rattle.win_index.specs.Windows.{windows, number_of, IsWindow}
 use Rattle.lang_check.specs.Acceptance.{IsAccepted}
 use Rattle.lang_check.specs.Laws.{AcceptedChannelsAreBelow}
-use Rattle.node_program.specs.Limits.{IsWithinLimits}
 use Rattle.table_entries.specs.Laws.{TableHasTheChannelsOfRounds, ProgramTablesAreTables}
 use Rattle.table_entries.specs.ProgramTables.{table_of, window_channel}
 use Rattle.channel_tables.specs.Tables.{ChannelTable, IsTable, channel_of, windows_of}

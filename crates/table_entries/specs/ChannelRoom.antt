@@ -4,15 +4,11 @@ use Rattle.node_program.specs.Term.{terms}
 use Rattle.win_index.specs.declared.limits.TheConstants.{BLOCK_WINDOWS}
 use Rattle.lang_check.specs.Plans.{ProgramForIds}
 use Rattle.round_columns.specs.Room.{Room}
-use Rattle.round_columns.specs.States.{NodeStates}
+use Rattle.round_columns.specs.States.{NodeStates, HasSize}
 use Rattle.column_machine.specs.StackNeed.{most_columns}
 use Rattle.window_states.specs.BlockStates.{MadeBlock, block_len, block_state, window_numbered}
 use Rattle.table_entries.specs.ProgramTables.{window_channel}
 use Rattle.table_entries.specs.declared.entry_columns.EntryColumns.{EntryColumns}
-
--- columns for the registers of the plan at BLOCK_WINDOWS windows
-abbrev pub IsStatesRoom : ProgramForIds → NodeStates → Type 0
-IsStatesRoom plan states = (states.registers ≡ length plan.program.start) × (length states.states ≡ BLOCK_WINDOWS)
 
 -- columns to evaluate the program of the plan at BLOCK_WINDOWS windows
 pub record IsWorkRoom (plan : ProgramForIds) (work : Room) : Type 0 where
@@ -21,14 +17,14 @@ pub record IsWorkRoom (plan : ProgramForIds) (work : Room) : Type 0 where
 
 -- columns that hold the states of a block
 pub record HoldStates (block : MadeBlock) (states : NodeStates) : Type 0 where
-  pub wide : IsStatesRoom block.plan states
+  pub wide : HasSize BLOCK_WINDOWS (length block.plan.program.start) states
   pub each : (i : ℕ) → i < block_len block.plan.ids block.level block.number
       → slice_index_or states.states i [] ≡ block_state block.plan block.level block.number i
 
 -- scratch for the states of a block of the plan and for their channels
 pub record IsChannelRoom (plan : ProgramForIds) (scratch : EntryColumns) : Type 0 where
   pub work : IsWorkRoom plan scratch.work
-  pub states_wide : IsStatesRoom plan scratch.states
+  pub states_wide : HasSize BLOCK_WINDOWS (length plan.program.start) scratch.states
   pub channels_wide : length scratch.channels.items ≡ BLOCK_WINDOWS
 
 -- the channels of the windows of block b of the last level, each below the number of channels

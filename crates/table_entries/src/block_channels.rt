@@ -3,7 +3,8 @@
 ghost use Rattle.std.specs.Prelude.{◌≡◌, ◌*◌, ◌^◌, ◌<◌, ◌≤◌, length, All};
 ghost use Rattle.win_index.specs.declared.limits.TheConstants.{BLOCK_WINDOWS};
 ghost use Rattle.window_states.specs.BlockStates.{IsKeyedBlock, block_len};
-ghost use Rattle.table_entries.specs.ChannelRoom.{IsStatesRoom, IsWorkRoom, HoldStates, AreChannels};
+ghost use Rattle.round_columns.specs.States.{HasSize};
+ghost use Rattle.table_entries.specs.ChannelRoom.{IsWorkRoom, HoldStates, AreChannels};
 ghost use Rattle.table_entries.specs.EntryShares.{AreEntries};
 
 use round_columns::{Code, Columns, Work, channel_columns};
@@ -13,7 +14,7 @@ use window_states::{Block, windows_are_within};
 
 // Copies the states of a block to columns.
 pub(crate) fn put_block(block: &Block<'_>, states: &mut Columns)
-    requires { IsStatesRoom block.now.plan states.old }
+    requires { HasSize BLOCK_WINDOWS (length block.now.plan.program.start) states.old }
     ensures { HoldStates block.now states.new }
 {
     rows_are_taken();

@@ -4,7 +4,7 @@ use Rattle.node_program.specs.Node.{to_left, to_right}
 use Rattle.node_program.specs.Term.{terms}
 use Rattle.win_index.specs.declared.limits.TheConstants.{BLOCK_WINDOWS}
 use Rattle.lang_check.specs.Plans.{ProgramForIds}
-use Rattle.round_columns.specs.States.{NodeStates, HasSize}
+use Rattle.round_columns.specs.States.{HasSize}
 use Rattle.column_machine.specs.StackNeed.{most_columns}
 use Rattle.unroll.specs.Below.{part}
 use Rattle.window_states.specs.BlockStates.{MadeBlock, window_numbered, block_len, block_state}
@@ -17,13 +17,9 @@ use Rattle.unroll.specs.declared.part_columns.Scratch.{Scratch}
 use Rattle.unroll.specs.declared.run.Run.{Run}
 use Rattle.unroll.specs.declared.upper_block.UpperBlock.{UpperBlock}
 
--- columns for the registers of the plan at BLOCK_WINDOWS windows
-abbrev pub IsWide : ProgramForIds → NodeStates → Type 0
-IsWide plan = HasSize BLOCK_WINDOWS (length plan.program.start)
-
--- the same of the states, and a message from each side at BLOCK_WINDOWS windows
+-- columns for the registers of the plan and for a message from each side at BLOCK_WINDOWS windows
 abbrev pub AreWide : ProgramForIds → PartColumns → Type 0
-AreWide plan parts = (length parts.from_left.items ≡ BLOCK_WINDOWS) × IsWide plan parts.own × (length parts.from_right.items ≡ BLOCK_WINDOWS)
+AreWide plan parts = (length parts.from_left.items ≡ BLOCK_WINDOWS) × HasSize BLOCK_WINDOWS (length plan.program.start) parts.own × (length parts.from_right.items ≡ BLOCK_WINDOWS)
 
 -- the state of the part at offset d of window i of block b of the level above low
 abbrev pub part_state : ProgramForIds → ℕ → ℕ → ℕ → ℕ → List ℕ
@@ -84,4 +80,4 @@ pub record IsReady (plan : ProgramForIds) (scratch : Scratch) : Type 0 where
   pub width : scratch.work.width ≡ BLOCK_WINDOWS
   pub reads : (k : ℕ) → k < length plan.program.steps → slice_index_or scratch.reads_right k true ≡ false → IgnoresRight plan.program k
   pub parts_wide : AreWide plan scratch.parts
-  pub made_wide : IsWide plan scratch.made
+  pub made_wide : HasSize BLOCK_WINDOWS (length plan.program.start) scratch.made

@@ -1,6 +1,7 @@
 //! The columns that a maker of blocks reuses.
 ghost use Rattle.std.specs.Prelude.{◌≡◌, ◌+◌, ◌≤◌, [], ℕ, List, length, replicate, slice_index, IfOk};
-ghost use Rattle.unroll.specs.WideColumns.{IsWide, AreWide, AreWritten, IsReady};
+ghost use Rattle.round_columns.specs.States.{HasSize};
+ghost use Rattle.unroll.specs.WideColumns.{AreWide, AreWritten, IsReady};
 
 use crate::right_reads::rounds_use_right;
 use lang_check::Plan;
@@ -123,7 +124,7 @@ pub(crate) fn zeros(alloc: Global, len: usize) -> Result<Vec<u32>, OutOfMemory>
 
 // Columns for the states of `BLOCK_WINDOWS` windows.
 pub(crate) fn wide_columns(alloc: Global, plan: &Plan) -> Result<Columns, OutOfMemory>
-    ensures { IfOk result (IsWide plan.now) }
+    ensures { IfOk result (HasSize BLOCK_WINDOWS (length plan.now.program.start)) }
 {
     Columns::new(alloc, width_of(plan), BLOCK_WINDOWS as usize)
 }

@@ -6,7 +6,7 @@ use Rattle.table_entries.proofs.block_channels.put_block.Goals as goal
 pub put_rows-requires-clause-cells : goal.put_rows-requires-clause-cells
 put_rows-requires-clause-cells c =
     let b = c.args.block.now in
-    rw c.requires.0 (omega (arith, c.states.ensures.size, ap (λ len. len * length b.plan.program.start) c.len.ensures))
+    rw c.requires.1 (omega (arith, c.states.ensures.size, ap (λ len. len * length b.plan.program.start) c.len.ensures))
 
 pub returns : goal.returns
 returns c =
@@ -14,7 +14,7 @@ returns c =
     let width : ℕ = length b.plan.program.start in
     let len = block_len b.plan.ids b.level b.number in
     let cells = c.states.result.now in
-    let written = rw c.requires.0 at c.put_rows.ensures.states.written in
+    let written = rw c.requires.1 at c.put_rows.ensures.states.written in
     record {
       wide = search rules;
       each = λ i lt.

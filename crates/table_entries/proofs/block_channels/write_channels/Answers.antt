@@ -23,7 +23,7 @@ returns-clause-channels c = λ i lt.
     let last : c.args.block.now.level ≡ t = keyed.1 ∙ sym (λ i. length (keyed.0 i).program.steps) in
     let held = rw last at c.requires.states.each in
     let state : get_or c.args.states.now.states i [] ≡ middle_state p t (window_numbered m t n) = held i lt in
-    let few : i < length c.args.states.now.states = omega (arith, lt, c.requires.states.wide.1) in
+    let few : i < length c.args.states.now.states = omega (arith, lt, c.requires.states.wide.0) in
     let wrote = rw (← keyed.0) at c.channel_columns.ensures in (
       ap (λ cs. get_or cs i 0) wrote.channels ∙ get_or-map (channel p) c.args.states.now.states i [] 0 few ∙ ap (channel p) state,
       wrote.below i few (subst (λ s. IsWithin s (register_bounds p m t)) (sym state) bound),

@@ -1,4 +1,4 @@
-use Rattle.std.proofs.Common.{length, sym, ◌∙◌}
+use Rattle.std.proofs.Common.{◌∙◌}
 use Rattle.std.proofs.lemmas.List.{with_items_is}
 use Rattle.table_entries.proofs.SharePlaces.{all_ready, are_read}
 use Rattle.table_entries.proofs.reading.entries_of.Goals as goal

@@ -23,7 +23,7 @@ returns-clause-room c =
     let written = with_items_is c.args.self.now.channels cs (c.write_channels.ensures.room.1 ∙ sym (c.args.self.now.channels.ok.0 ∙ room.channels_wide)) in
     record {
       work = rw c.write_channels.ensures.room.0 room.work;
-      states_wide = (c.put_block.ensures.wide.0 ∙ (λ i. length (is i).program.start), c.put_block.ensures.wide.1);
+      states_wide = (c.put_block.ensures.wide.0, c.put_block.ensures.wide.1 ∙ (λ i. length (is i).program.start));
       channels_wide = ap length written ∙ c.write_channels.ensures.room.1;
     }
 
