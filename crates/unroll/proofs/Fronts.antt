@@ -5,9 +5,10 @@ use Rattle.std.proofs.lemmas.Bool.{false≢true}
 use Rattle.node_program.specs.Node.{to_left, to_right, next}
 use Rattle.round_columns.specs.States.{AreRewritten}
 use Rattle.window_states.specs.BlockStates.{block_state}
+use Rattle.window_states.specs.Entries.{Entries}
 use Rattle.window_states.specs.Laws.{PartsAreJoined}
 use Rattle.unroll.specs.Parts.{window_in}
-use Rattle.unroll.specs.WideColumns.{part_state, AreWritten, HasFronts, HoldFronts, HoldLasts}
+use Rattle.unroll.specs.WideColumns.{part_state, AreWritten, AreGathered, HasFronts, HoldFronts, HoldLasts}
 use Rattle.unroll.specs.declared.part_columns.Scratch.{Scratch}
 use Rattle.unroll.specs.declared.run.Run.{Run}
 use Rattle.unroll.specs.declared.upper_block.UpperBlock.{UpperBlock}
@@ -93,3 +94,17 @@ module _ (block : UpperBlock) (run : Run) (from count end : ℕ) (sum : from + c
             (record { size = size; here = written.written; before = λ i lt. written.others i (omega (arith, fits)) (inl lt) })
             (λ i lt. is ∙ state_of_run joined block run (from + i) once (later i lt));
       })
+
+-- before any window is taken
+pub none_gathered : (entries : Entries) (block : UpperBlock) (scratch : Scratch) → AreGathered entries block 0 scratch
+none_gathered entries block scratch =
+    record {
+      fronts = record {
+        sizes = λ i lt. absurd (omega (arith, lt));
+        left = λ each i lt. absurd (omega (arith, lt));
+        own = λ each i lt. absurd (omega (arith, lt));
+        states = λ once i lt. absurd (omega (arith, lt));
+      };
+      lasts = λ reads i lt. absurd (omega (arith, lt));
+      known = λ lower j one lt. absurd (omega (arith, lt));
+    }

@@ -1,10 +1,9 @@
 -- The windows of a run share what `Run` holds.
-use Rattle.std.proofs.Common.{◌≡◌, ℕ, ◌+◌, ◌-◌, ◌*◌, ◌/◌, ◌<◌, ◌≤◌, List, length, get_or, take, drop, Some, sym, ap, ◌∙◌, arith, subst}
-use Rattle.std.proofs.lemmas.List.{drop-take, take-take, length-take-le, get_or-take, get_or-drop, length-drop}
+use Rattle.std.proofs.Common.{◌≡◌, ℕ, ◌+◌, ◌-◌, ◌*◌, ◌/◌, ◌<◌, ◌≤◌, List, get_or, take, drop, Some, sym, ap, ◌∙◌, arith, subst}
+use Rattle.std.proofs.lemmas.List.{drop-take, take-take, get_or-take}
 use Rattle.std.proofs.lemmas.Option.{same_Some}
 use Rattle.win_index.specs.Laws.{NumberOfWindow}
 use Rattle.win_index.specs.Runs.{HasPlaces}
-use Rattle.win_index.specs.Windows.{IsWindow}
 use Rattle.win_index.specs.declared.series.RunPlaces.{RunPlaces}
 use Rattle.lang_check.specs.Plans.{ProgramForIds}
 use Rattle.node_program.specs.Node.{to_right}
@@ -90,23 +89,6 @@ run_grows plan old new low w run grows is =
       own_is = is.own_is;
       own_cells = is.own_cells;
       own_known = λ n number. still_known old new low (n / BLOCK_WINDOWS) grows (is.own_known n number);
-    }
-
--- consecutive identifiers of a window are a window
-pub slice_window : (m n d len : ℕ) (w : List ℕ) → IsWindow n m w → d + len ≤ n → IsWindow len m (take len (drop d w))
-slice_window m n d len w is fits =
-    let size = is.size in
-    let many = length-drop d w in
-    let long : length (take len (drop d w)) ≡ len = length-take-le len (drop d w) (omega arith) in
-    record {
-      size = long;
-      below = λ i e lt.
-          let short : i < len = omega arith in
-          rw (get_or-take len (drop d w) i e short, get_or-drop d w i e) (is.below (d + i) e (omega arith));
-      distinct = λ i j e lt within.
-          let short : j < len = omega arith in
-          let before : i < len = omega arith in
-          rw (get_or-take len (drop d w) i e before, get_or-take len (drop d w) j e short, get_or-drop d w i e, get_or-drop d w j e) (is.distinct (d + i) (d + j) e (omega arith) (omega arith));
     }
 
 -- the last part of a window, without its last identifier

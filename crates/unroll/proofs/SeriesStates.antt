@@ -4,6 +4,7 @@ use Rattle.std.proofs.Common.{◌≡◌, ℕ, ◌+◌, ◌-◌, ◌*◌, ◌/◌
 use Rattle.std.proofs.lemmas.List.{take_all, length-drop, drop-take, get_or-take, get_or-drop}
 use Rattle.std.proofs.lemmas.Nat.{div-mul-add}
 use Rattle.std.proofs.lemmas.Option.{same_Some}
+use Rattle.win_index.proofs.FrontPlaces.{slice_window}
 use Rattle.win_index.specs.Laws.{NumberOfWindow, WindowsHaveNumbers}
 use Rattle.win_index.specs.Runs.{IsSeries, IsAtPlace, place_in_run}
 use Rattle.win_index.specs.Successor.{IsNext}
@@ -20,7 +21,7 @@ use Rattle.unroll.specs.WideColumns.{part_state, HasFronts, HoldLasts, AreWritte
 use Rattle.unroll.specs.declared.upper_block.UpperBlock.{UpperBlock}
 use Rattle.unroll.proofs.ColumnStates.{below_sum, held_more}
 use Rattle.unroll.proofs.Known.{still_known, knows_three, window_at}
-use Rattle.unroll.proofs.SameRun.{same_run, run_grows, left_is, left_known, slice_window, last_front}
+use Rattle.unroll.proofs.SameRun.{same_run, run_grows, left_is, left_known, last_front}
 use Rattle.win_index.specs.declared.limits.TheConstants.{BLOCK_WINDOWS}
 
 -- the last identifiers of a window one level above low are its last part

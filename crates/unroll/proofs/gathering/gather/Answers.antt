@@ -7,6 +7,7 @@ use Rattle.unroll.specs.Parts.{window_in, IsKnownBlock}
 use Rattle.unroll.specs.WideColumns.{AreGathered}
 use Rattle.unroll.proofs.Known.{still_known, window_at, asked_both, entry_grows, if_some_more}
 use Rattle.unroll.proofs.NextRuns.{next_run, some_run_follows, first_place}
+use Rattle.unroll.proofs.Fronts.{none_gathered}
 use Rattle.unroll.proofs.SameRun.{first_grows}
 use Rattle.unroll.proofs.gathering.gather.Given.{Over}
 use Rattle.unroll.proofs.gathering.gather.Goals.{After-take_fronts}
@@ -36,16 +37,7 @@ loop-run-init g c =
       inside = rw (own, ← c.shape-shape.ensures.ids) c.place_in_run-place.ensures.inside;
       near = record { first = tt; middle = tt; last = tt };
       ready = c.requires.ready;
-      gathered = record {
-        fronts = record {
-          sizes = λ i lt. absurd (omega (arith, lt));
-          left = λ each i lt. absurd (omega (arith, lt));
-          own = λ each i lt. absurd (omega (arith, lt));
-          states = λ once i lt. absurd (omega (arith, lt));
-        };
-        lasts = λ reads i lt. absurd (omega (arith, lt));
-        known = λ lower j one lt. absurd (omega (arith, lt));
-      };
+      gathered = none_gathered _ _ _;
     }
 
 pub returns-in_err-run-clause-asked : goal.returns-in_err-run-clause-asked

@@ -1,4 +1,4 @@
-use Rattle.std.proofs.Common.{◌≡◌, ℕ, ◌+◌, ◌-◌, ◌*◌, ◌<◌, ◌≤◌, take, get_or, IsSome, refl, sym, ◌∙◌, arith, subst}
+use Rattle.std.proofs.Common.{◌≡◌, ℕ, ◌+◌, ◌-◌, ◌*◌, ◌<◌, ◌≤◌, length, take, get_or, slice_get, Some, IsSome, refl, sym, ◌∙◌, arith, subst}
 use Rattle.std.proofs.lemmas.Result.{err_from_is_err_and}
 use Rattle.std.proofs.lemmas.Option.{slice_get_within}
 use Rattle.win_index.specs.Runs.{IsAtPlace, place_in_run}
@@ -12,7 +12,7 @@ use Rattle.unroll.proofs.ColumnStates.{below_sum}
 use Rattle.unroll.proofs.Known.{window_at, asked_both, fault_of_part, own_entry}
 use Rattle.unroll.proofs.SeriesStates.{SeriesAt, series_at, series_known, series_fronts, hold_series, knows_series, run_of_prefix, last_part_here, further_place, later_window}
 use Rattle.unroll.proofs.gathering.gather_run.Given.{Over}
-use Rattle.unroll.proofs.gathering.gather_run.Goals.{After-put_lasts}
+use Rattle.unroll.proofs.gathering.gather_run.Goals.{After-put_lasts, At-loop-block}
 use Rattle.unroll.proofs.gathering.gather_run.Goals as goal
 use Rattle.win_index.specs.declared.limits.TheConstants.{BLOCK_WINDOWS}
 
@@ -150,48 +150,44 @@ returns-in_default-clause-gathered g c =
       known = known g d;
     }
 
+-- the last part of the window that is reached
+module _ (g : Over) (c : At-loop-block g) where
+  last_at : slice_get (windows (2 * c.args.upper.below + 1) c.args.upper.plan.now.ids) (c.args.reached.run.start + c.loop-block.at) ≡ Some (part c.loop-block.invariant.here.0 c.args.upper.below 2)
+  last_at =
+      let entries = g.S.Source.entries in
+      let before = c.loop-block.invariant in
+      last_part_here c.args.upper.plan.now (entries c.args.source.now) (entries c.loop-block.source) c.args.upper.below c.loop-block.at
+      (window_in c.args.upper c.args.reached.index) before.here.0 c.args.reached.run before.asked.grows c.requires.reached.run before.here.2 before.here.3
+
+  last_inside : c.args.reached.run.start + c.loop-block.at < length (windows (2 * c.args.upper.below + 1) c.args.upper.plan.now.ids)
+  last_inside = slice_get_within (windows (2 * c.args.upper.below + 1) c.args.upper.plan.now.ids) (c.args.reached.run.start + c.loop-block.at)
+      (part c.loop-block.invariant.here.0 c.args.upper.below 2) last_at
+
 pub overflow_add-run : goal.overflow_add-run
-overflow_add-run g c =
-    let plan = c.args.upper.plan.now in
-    let low = c.args.upper.below in
-    let entries = g.S.Source.entries in
-    let before = c.loop-block.invariant in
-    let w = before.here.0 in
-    let run = c.args.reached.run in
-    let right = last_part_here plan (entries c.args.source.now) (entries c.loop-block.source) low c.loop-block.at (window_in c.args.upper c.args.reached.index) w run before.asked.grows c.requires.reached.run before.here.2 before.here.3 in
-    let inside = slice_get_within (windows (2 * low + 1) plan.ids) (run.start + c.loop-block.at) (part w low 2) right in
-    omega (arith, inside, c.args.upper.few)
+overflow_add-run g c = omega (arith, last_inside g (goal.at.overflow_add-run g c).At-loop-block, c.args.upper.few)
 
 pub numbered_block-requires : goal.numbered_block-requires
 numbered_block-requires g c κs =
-    let plan = c.args.upper.plan.now in
-    let low = c.args.upper.below in
-    let entries = g.S.Source.entries in
     let before = c.loop-block.invariant in
-    let w = before.here.0 in
-    let run = c.args.reached.run in
-    let right = last_part_here plan (entries c.args.source.now) (entries c.loop-block.source) low c.loop-block.at (window_in c.args.upper c.args.reached.index) w run before.asked.grows c.requires.reached.run before.here.2 before.here.3 in
-    let inside = slice_get_within (windows (2 * low + 1) plan.ids) (run.start + c.loop-block.at) (part w low 2) right in
     let above = c.args.upper.above in
+    let inside = last_inside g (goal.at.numbered_block-requires g c).At-loop-block in
     ((refl, tt), (before.asked.same_plan ∙ c.requires.plan, (omega (arith, above), (inside, before.last))))
 
 pub returns-in_err-block-clause-missing : goal.returns-in_err-block-clause-missing
 returns-in_err-block-clause-missing g c =
-    let plan = c.args.upper.plan.now in
-    let m = plan.ids in
+    let m = c.args.upper.plan.now.ids in
     let low = c.args.upper.below in
     let b = c.args.upper.number in
-    let entries = g.S.Source.entries in
     let before = c.loop-block.invariant in
     let w = before.here.0 in
     let run = c.args.reached.run in
-    let right = last_part_here plan (entries c.args.source.now) (entries c.loop-block.source) low c.loop-block.at (window_in c.args.upper c.args.reached.index) w run before.asked.grows c.requires.reached.run before.here.2 before.here.3 in
+    let right = last_at g (goal.at.returns-in_err-block-clause-missing g c).At-loop-block in
     let own = window_at m (low + 1) (BLOCK_WINDOWS * b + c.loop-block.place) w before.here.1 in
     let number = c.number_of_window.ensures (2 * low + 1) m (run.start + c.loop-block.at) (part w low 2) right in
     let len = c.args.upper.len_is in
     let p = err_from_is_err_and c.from_residual.result c.from_residual.ensures.1 in
     rw (p.1, p.2)
-    (fault_of_part (entries c.numbered_block.new.source) m low b c.loop-block.place (run.start + c.loop-block.at) 2 w c.in_err-block.field-0.0 (omega arith)
+    (fault_of_part (g.S.Source.entries c.numbered_block.new.source) m low b c.loop-block.place (run.start + c.loop-block.at) 2 w c.in_err-block.field-0.0 (omega arith)
     (rw len at before.within) own number c.in_err-block.ensures.fault)
 
 pub loop-block-init : goal.loop-block-init
