@@ -11,7 +11,7 @@ use Rattle.window_states.specs.Entries.{Entries}
 use Rattle.unroll.specs.MakeFaults.{IsMakeFault}
 use Rattle.unroll.specs.declared.fault.MakeFault.{MakeFault}
 use Rattle.unroll.specs.declared.fault.MakeFault.TheVariants.{Missing, OutOfMemory}
-use Rattle.table_fill.specs.MissingBlocks.{IsMissingBlock}
+use Rattle.table_fill.specs.MissingBlocks.{NamesLowerBlock}
 use Rattle.win_index.specs.declared.limits.TheConstants.{BLOCK_WINDOWS}
 
 pub below_is_block : (m level number low c : ℕ) → WindowOfNumber → IsBelow m level number low c → c < block_count m low
@@ -25,7 +25,7 @@ below_is_block m level number low c window below =
 -- a block that is missing for a block of a level is one of a lower level
 pub missing_is_block :
     {S : Type 0} → WindowOfNumber → (plan : ProgramForIds) (entries : S → Entries) (old new : S) (level number : ℕ) (fault : MakeFault)
-    → level ≤ length plan.program.steps → IsMakeFault entries old new plan.ids level number fault → IsMissingBlock plan level fault
+    → level ≤ length plan.program.steps → IsMakeFault entries old new plan.ids level number fault → NamesLowerBlock plan level fault
 missing_is_block window plan entries old new level number (Missing low c) le is =
     let one = is.0.one_lower in
     (omega (arith, one), (omega (arith, one, le), below_is_block plan.ids level number low c window is.0))

@@ -8,9 +8,9 @@ use Rattle.worker_pool.specs.declared.fault.WorkFault.TheVariants as work
 use Rattle.shared_memo.specs.PlanJobs.{IsKey}
 
 -- if the fault names a block, it is a block of the plan of a lower level
-abbrev pub IsMissingBlock : ProgramForIds → ℕ → MakeFault → Type 0
-IsMissingBlock plan level (Missing low number) = (low < level) × IsKey plan low number
-IsMissingBlock plan level OutOfMemory = Unit {0}
+abbrev pub NamesLowerBlock : ProgramForIds → ℕ → MakeFault → Type 0
+NamesLowerBlock plan level (Missing low number) = (low < level) × IsKey plan low number
+NamesLowerBlock plan level OutOfMemory = Unit {0}
 
 -- the missing block, or the fault that memory was refused
 abbrev pub missing_of : MakeFault → Result (ℕ × ℕ) WorkFault

@@ -27,7 +27,7 @@ impl<'s, 'a> CellMaker<'s, 'a> {
     ghost use Rattle.shared_memo.specs.Passes.{known, seen, memo_plan};
     ghost use Rattle.shared_memo.specs.PlanJobs.{IsKey, IsStranger};
     ghost use Rattle.table_fill.specs.Cells.{GoesOn, IsMakerOf};
-    ghost use Rattle.table_fill.specs.MissingBlocks.{IsMissingBlock};
+    ghost use Rattle.table_fill.specs.MissingBlocks.{NamesLowerBlock};
 
     // Returns a maker for a worker that knows no block of the memo yet. Fails if memory was refused.
     pub(crate) fn new(
@@ -69,7 +69,7 @@ impl<'s, 'a> CellMaker<'s, 'a> {
         ensures goes_on { GoesOn self.old self.new }
         ensures fresh { IfOk result (λ installed. installed ≡ Fresh
             → IsSomeAnd (known self.new.reader.pass level number) (λ block. block.maker ≡ self.old.worker)) }
-        ensures missing { IfErr result (IsMissingBlock self.old.reader.pass.plan.now level) }
+        ensures missing { IfErr result (NamesLowerBlock self.old.reader.pass.plan.now level) }
     {
         window_of_number();
         let CellMaker {
