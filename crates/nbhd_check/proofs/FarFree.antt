@@ -1,5 +1,5 @@
 -- Windows that begin no tuple with a close third window, and the families of these third windows.
-use Rattle.std.proofs.Common.{◌≡◌, ℕ, ◌+◌, ◌-◌, ◌*◌, ◌/◌, ◌<◌, ◌≤◌, ◌⊎◌, List, [], ◌∷◌, length, get_or, take, drop, slice_get, Some, subst, sym, ap, ◌∙◌, arith, refl, inl, inr, ⊎_elim}
+use Rattle.std.proofs.Common.{◌≡◌, ◌≢◌, ℕ, ◌+◌, ◌-◌, ◌*◌, ◌/◌, ◌<◌, ◌≤◌, ◌⊎◌, List, [], ◌∷◌, Contains, length, get_or, take, drop, slice_get, Some, subst, sym, ap, ◌∙◌, arith, refl, inl, inr, ⊎_elim}
 use Rattle.std.proofs.Math.Nat.{mul-div_cancel_left, one-mul}
 use Rattle.std.proofs.lemmas.Bool.{cases_lt}
 use Rattle.std.proofs.lemmas.Option.{same_Some, slice_get_within}
@@ -13,7 +13,7 @@ use Rattle.nbhd_check.specs.FarSearch.{AreFarFreeIn, HasFamilyIn}
 use Rattle.nbhd_check.specs.Runs.{AreFree, BeginsFarTuple}
 use Rattle.nbhd_check.specs.Laws.{WindowsAreNumbered}
 use Rattle.nbhd_check.proofs.Cells.{row_more}
-use Rattle.nbhd_check.proofs.Ends.{by_first}
+use Rattle.nbhd_check.proofs.Ends.{before_window, by_first}
 use Rattle.nbhd_check.proofs.Prefixes.{number_of_window, one_number, window_at, window_drop, in_longer_run, one_run}
 use Rattle.nbhd_check.proofs.RunLengths.{falling-add}
 
@@ -27,6 +27,13 @@ free_in_two t distance a b less first second both le_a le_b split free_a free_b 
     (λ (is : first window). free_a number window (omega arith) item is)
     (λ (is : second window). free_b number window (omega arith) item is)
     (split number window item own)
+
+-- a window's first two identifiers differ and are not among the shared ones
+pub apart : (t : ChannelTable) (first second : ℕ) (z : List ℕ) → 1 ≤ t.rounds → IsWindow (2 * t.rounds + 1) t.ids (first ∷ second ∷ z)
+    → (first ≢ second) × (¬ Contains z first) × (¬ Contains z second)
+apart t first second z some is =
+    let size : 2 * t.rounds + 1 ≡ shared_len t + 2 = omega arith in
+    before_window (shared_len t) t.ids first second z (subst (λ k. IsWindow k t.ids (first ∷ second ∷ z)) size is)
 
 module _ (laws : WindowsAreNumbered) where
   -- the windows that begin with a list of shared identifiers

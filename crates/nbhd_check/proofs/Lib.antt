@@ -12,6 +12,7 @@ pub mod FarCounts
 pub mod FarFree
 pub mod Parts
 pub mod Ranks
+pub mod Steps
 pub mod Runs
 pub mod RunSteps
 pub mod SecondRuns

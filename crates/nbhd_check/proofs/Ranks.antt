@@ -18,7 +18,7 @@ lacks list x differs =
     list_any_none (λ z. eqb z x) list (λ k d lt. ne_eqb _ _ (λ e. differs k lt (sym (get_or_default_zero list k d lt) ∙ e)))
 
 -- one more is counted if the list lacks it
-rank_suc : (list : List ℕ) (x : ℕ) → rank list (suc x) ≡ rank list x + cond (not (is_used list x)) 1 0
+pub rank_suc : (list : List ℕ) (x : ℕ) → rank list (suc x) ≡ rank list x + cond (not (is_used list x)) 1 0
 rank_suc list x =
     let p = λ (z : ℕ). not (is_used list z) in
     let next : x + 1 ≡ suc x = omega arith in

@@ -1,10 +1,11 @@
 -- The search for windows that begin a tuple with a close third window, family by family.
-use Rattle.std.specs.Prelude.{◌≡◌, ℕ, ◌+◌, ◌-◌, ◌*◌, ◌<◌, ◌≤◌, List, length, take, drop, slice_get, Some}
+use Rattle.std.specs.Prelude.{◌≡◌, ℕ, ◌+◌, ◌-◌, ◌*◌, ◌<◌, ◌≤◌, List, [], ◌∷◌, ◌++◌, length, take, drop, slice_get, Some}
 use Rattle.win_index.specs.Runs.{IsAtPlace, IsRunStart}
 use Rattle.win_index.specs.declared.series.RunPlaces.{RunPlaces}
 use Rattle.channel_tables.specs.Tables.{ChannelTable, windows_of}
 use Rattle.channel_tables.specs.declared.separation.Separation.{Separation}
 use Rattle.nbhd_check.specs.Counts.{shared_lists}
+use Rattle.nbhd_check.specs.declared.far_counts.PairNumbers.{PairNumbers}
 use Rattle.nbhd_check.specs.Runs.{AreFree, BeginsBadTuple, BeginsFarTuple}
 
 -- Distance two counts, and none of the first `most` windows begins a tuple whose second window is too close.
@@ -30,3 +31,10 @@ pub record IsAtFamily (t : ChannelTable) (number : ℕ) (window : List ℕ) (fir
   pub item : slice_get (windows_of t) number ≡ Some window
   pub at_place : IsAtPlace (2 * (t.rounds - 1) + 1) t.ids places window place
   pub starts : IsRunStart (2 * (t.rounds - 1)) t.ids (drop 2 (take (2 * t.rounds) window)) first
+
+-- three windows have these numbers: the two identifiers a and b followed by the list z, z followed by a and b, and z
+-- followed by b and a
+pub record ArePairNumbers (t : ChannelTable) (z : List ℕ) (a b : ℕ) (numbers : PairNumbers) : Type 0 where
+  pub before : slice_get (windows_of t) numbers.before ≡ Some (a ∷ b ∷ z)
+  pub after : slice_get (windows_of t) numbers.after ≡ Some (z ++ a ∷ b ∷ [])
+  pub turned : slice_get (windows_of t) numbers.turned ≡ Some (z ++ b ∷ a ∷ [])

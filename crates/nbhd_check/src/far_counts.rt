@@ -1,20 +1,21 @@
 //! Windows that begin a tuple whose third window is too close, found by counts, family by family. For
 //! a list `z` of `2t-1` identifiers, the third windows of the tuples that begin with `(a, b, z)` are
 //! the windows that begin with `z` and hold neither `a` nor `b`.
-ghost use Rattle.std.specs.Prelude.{◌≡◌, ◌≢◌, ℕ, ◌+◌, ◌-◌, ◌*◌, ◌^◌, ◌<◌, ◌≤◌, ◌↔◌, [], ◌∷◌, ◌++◌, All, List, Some, IsTrue, length, drop, slice_get, slice_index};
+ghost use Rattle.std.specs.Prelude.{◌≡◌, ◌≢◌, ℕ, ◌+◌, ◌-◌, ◌*◌, ◌^◌, ◌<◌, ◌≤◌, [], ◌∷◌, ◌++◌, All, Contains, IfSome, List, MatchOption, Some, length, drop, slice_get, slice_index};
 ghost use Rattle.std.specs.Bool.{OnFalse};
 ghost use Rattle.std.specs.Int.{abs_diff};
+ghost use Rattle.win_index.specs.Falling.{falling};
 ghost use Rattle.win_index.specs.Windows.{IsWindow};
-ghost use Rattle.channel_tables.specs.Tables.{windows_of, channel_of};
+ghost use Rattle.channel_tables.specs.Tables.{windows_of};
 ghost use Rattle.nbhd_check.specs.Counts.{shared_len, shared_lists, AreCountsOf, CountsFit};
-ghost use Rattle.nbhd_check.specs.FarSearch.{AreFarFreeIn, HasFamilyIn};
+ghost use Rattle.nbhd_check.specs.FarSearch.{AreFarFreeIn, ArePairNumbers, HasFamilyIn};
 ghost use Rattle.nbhd_check.specs.Runs.{AreFree, BeginsFarTuple};
 
 use crate::counts::{Counts, close_count, count_family};
 use crate::laws::numbers_of_windows;
 use crate::parallel::{least_of_parts, part_count};
 use crate::search::window_count;
-use crate::tuples::{channel_of_window, contains};
+use crate::tuples::contains;
 use channel_tables::Table;
 use std::alloc::Global;
 use std::sync::atomic::{AtomicU32, Ordering};
@@ -80,6 +81,7 @@ impl<'a> FarCounts<'a> {
         let below = shape.rounds() - 1;
         let mut cells = [0; MAX_WINDOW_LEN];
         let shared = &mut cells[..2 * below as usize + 1];
+        let each = windows_per_pair(self.table);
         let mut least = best.load(Ordering::SeqCst);
         for number in low..high {
             shape.window(below, number, shared);
@@ -89,6 +91,7 @@ impl<'a> FarCounts<'a> {
                 distance: self.distance,
                 shared,
                 counts: &counts,
+                each,
             };
             least = family.free(least.min(best.load(Ordering::SeqCst)));
             best.fetch_min(least, Ordering::SeqCst);
@@ -106,6 +109,28 @@ fn family_count(table: &Table) -> u32
     shape.count(shape.rounds() - 1)
 }
 
+// Returns the number of windows that begin with the same two identifiers.
+fn windows_per_pair(table: &Table) -> u32
+    requires { 1 ≤ table.now.rounds }
+    ensures value { result ≡ falling (table.now.ids - 2) (shared_len table.now) }
+    ensures few { result ≤ length (windows_of table.now) }
+{
+    count_of_windows();
+    let ids = table.shape().ids();
+    window_count(table) / (ids * (ids - 1))
+}
+
+// The numbers of three windows of two identifiers and those that a family shares.
+#[derive(Clone, Copy)]
+struct PairNumbers {
+    // That of the two identifiers, followed by the shared ones.
+    before: u32,
+    // That of the shared identifiers, followed by the two.
+    after: u32,
+    // That of the shared identifiers, followed by the second and the first.
+    turned: u32,
+}
+
 // The third windows that begin with the identifiers `shared`, with their counts, and a distance.
 #[derive(Clone, Copy)]
 struct Family<'b> {
@@ -113,9 +138,12 @@ struct Family<'b> {
     distance: u32,
     shared: &'b [u32],
     counts: &'b Counts,
+    // The number of windows that begin with the same two identifiers.
+    each: u32,
     ghost some: { (1 ≤ table.now.rounds) × (1 ≤ distance) },
     ghost window: { IsWindow (shared_len table.now) table.now.ids shared.now },
     ghost fit: { CountsFit table.now counts.now },
+    ghost each_is: { (each ≡ falling (table.now.ids - 2) (shared_len table.now)) × (each ≤ length (windows_of table.now)) },
 }
 
 impl<'b> Family<'b> {
@@ -145,57 +173,110 @@ impl<'b> Family<'b> {
         ensures free { AreFarFreeIn self.entry.table.now self.entry.distance result (λ window. (slice_index window 0 ≡ first) × (drop 2 window ≡ self.entry.shared.now)) }
     {
         numbers_of_windows();
+        if contains(self.shared, first) {
+            return least;
+        }
         let mut least = least;
+        let mut last = None;
         for second in 0..self.table.shape().ids() {
-            if self.follow(first, second) {
-                least = self.free_with_both(first, second, least);
+            last = self.numbers_after(last, first, second);
+            if let Some(numbers) = last {
+                least = self.free_with_both(first, second, numbers, least);
             }
         }
         least
     }
 
-    // Returns whether the two identifiers and the shared ones are a window.
-    fn follow(self, first: u32, second: u32) -> bool
-        requires { (first < self.table.now.ids) × (second < self.table.now.ids) }
-        ensures { IsTrue result ↔ IsWindow (2 * self.entry.table.now.rounds + 1) self.entry.table.now.ids (first ∷ second ∷ self.entry.shared.now) }
+    // Returns the numbers for these two identifiers, or `None` if they and the shared ones are no
+    // window. `last` is the same for the identifier before the second one.
+    fn numbers_after(
+        self,
+        last: Option<PairNumbers>,
+        first: u32,
+        second: u32,
+    ) -> Option<PairNumbers>
+        requires ids { (first < self.table.now.ids) × (second < self.table.now.ids) }
+        requires lacks { ¬ Contains self.shared.now first }
+        requires last { IfSome last (λ numbers. (before : ℕ) × (second ≡ before + 1) × ArePairNumbers self.table.now self.shared.now first before numbers) }
+        ensures { MatchOption result (¬ IsWindow (2 * self.entry.table.now.rounds + 1) self.entry.table.now.ids (first ∷ second ∷ self.entry.shared.now))
+            (ArePairNumbers self.entry.table.now self.entry.shared.now first second) }
     {
-        if first == second {
-            return false;
+        if first == second || contains(self.shared, second) {
+            return None;
         }
-        if contains(self.shared, first) {
-            return false;
+        match last {
+            Some(numbers) => Some(self.stepped(numbers)),
+            None => Some(self.numbers_of(first, second)),
         }
-        !contains(self.shared, second)
     }
 
-    // Like `free`, for the window of these two identifiers and the shared ones.
-    fn free_with_both(self, first: u32, second: u32, least: u32) -> u32
-        requires counted { AreCountsOf self.table.now self.shared.now self.counts.now }
-        requires window { IsWindow (2 * self.table.now.rounds + 1) self.table.now.ids (first ∷ second ∷ self.shared.now) }
-        ensures less { result ≤ least }
-        ensures free { AreFarFreeIn self.entry.table.now self.entry.distance result (λ window. window ≡ first ∷ second ∷ self.entry.shared.now) }
+    // Returns the numbers for the next second identifier, if it is not used.
+    fn stepped(self, numbers: PairNumbers) -> PairNumbers
+        requires { (first : ℕ) × ((second : ℕ) × ArePairNumbers self.table.now self.shared.now first second numbers) }
+        ensures { (first second : ℕ) → ArePairNumbers self.entry.table.now self.entry.shared.now first second numbers
+            → IsWindow (2 * self.entry.table.now.rounds + 1) self.entry.table.now.ids (first ∷ (second + 1) ∷ self.entry.shared.now)
+            → ArePairNumbers self.entry.table.now self.entry.shared.now first (second + 1) result }
     {
         numbers_of_windows();
+        count_of_windows();
+        let free = self.table.shape().ids() - self.shared.len() as u32;
+        PairNumbers {
+            before: numbers.before + self.each,
+            after: numbers.after + 1,
+            turned: numbers.turned + (free - 1),
+        }
+    }
+
+    // Returns the numbers for these two identifiers.
+    fn numbers_of(self, first: u32, second: u32) -> PairNumbers
+        requires { IsWindow (2 * self.table.now.rounds + 1) self.table.now.ids (first ∷ second ∷ self.shared.now) }
+        ensures { ArePairNumbers self.entry.table.now self.entry.shared.now first second result }
+    {
         let shape = self.table.shape();
         let level = shape.rounds();
         let mut cells = [0; MAX_WINDOW_LEN];
         let window = &mut cells[..2 * level as usize + 1];
         write_before(window, first, second, self.shared);
-        let number = shape.window_number(level, window);
-        if number < least && self.may_begin_far_tuple(first, second, self.table.entry(number)) {
-            number
+        PairNumbers {
+            before: shape.window_number(level, window),
+            after: self.number_after(first, second),
+            turned: self.number_after(second, first),
+        }
+    }
+
+    // Returns the number of the window of the shared identifiers and then these two.
+    fn number_after(self, one: u32, other: u32) -> u32
+        requires { IsWindow (2 * self.table.now.rounds + 1) self.table.now.ids (self.shared.now ++ one ∷ other ∷ []) }
+        ensures { slice_get (windows_of self.entry.table.now) result ≡ Some (self.entry.shared.now ++ one ∷ other ∷ []) }
+    {
+        let shape = self.table.shape();
+        let level = shape.rounds();
+        let mut cells = [0; MAX_WINDOW_LEN];
+        let window = &mut cells[..2 * level as usize + 1];
+        write_after(window, self.shared, one, other);
+        shape.window_number(level, window)
+    }
+
+    // Like `free`, for the window of these two identifiers and the shared ones.
+    fn free_with_both(self, first: u32, second: u32, numbers: PairNumbers, least: u32) -> u32
+        requires counted { AreCountsOf self.table.now self.shared.now self.counts.now }
+        requires numbers { ArePairNumbers self.table.now self.shared.now first second numbers }
+        ensures less { result ≤ least }
+        ensures free { AreFarFreeIn self.entry.table.now self.entry.distance result (λ window. window ≡ first ∷ second ∷ self.entry.shared.now) }
+    {
+        numbers_of_windows();
+        if numbers.before < least && self.may_begin_far_tuple(first, second, numbers) {
+            numbers.before
         } else {
             least
         }
     }
 
     // Returns `false` only if the window of these two identifiers and the shared ones begins no tuple
-    // whose third window is closer than the distance to `channel`, the channel of the window.
-    fn may_begin_far_tuple(self, first: u32, second: u32, channel: u32) -> bool
+    // whose third window is closer than the distance.
+    fn may_begin_far_tuple(self, first: u32, second: u32, numbers: PairNumbers) -> bool
         requires counted { AreCountsOf self.table.now self.shared.now self.counts.now }
-        requires window { IsWindow (2 * self.table.now.rounds + 1) self.table.now.ids (first ∷ second ∷ self.shared.now) }
-        requires channel { channel_of self.table.now (first ∷ second ∷ self.shared.now) ≡ Some channel }
-        requires limit { channel < self.counts.now.limit }
+        requires numbers { ArePairNumbers self.table.now self.shared.now first second numbers }
         ensures { OnFalse result (¬ BeginsFarTuple self.entry.table.now self.entry.distance (first ∷ second ∷ self.entry.shared.now)) }
     {
         numbers_of_windows();
@@ -205,33 +286,29 @@ impl<'b> Family<'b> {
             counts,
             ..
         } = self;
-        let all = close_count(table, counts, table.shape().ids(), channel, distance);
+        let ids = table.shape().ids();
+        let channel = table.entry(numbers.before);
+        let all = close_count(table, counts, ids, channel, distance);
         let with_first = close_count(table, counts, first, channel, distance);
         let with_second = close_count(table, counts, second, channel, distance);
         let all = u64::from(all);
         let held = u64::from(with_first) + u64::from(with_second);
-        let one = self.close_one(first, second, channel, all + 2 > held);
-        let other = self.close_one(second, first, channel, all + one + 1 > held);
+        let one = self.close_one(numbers.after, channel, all + 2 > held);
+        let other = self.close_one(numbers.turned, channel, all + one + 1 > held);
         all + one + other > held
     }
 
-    // Returns 1 if the channel of the window that ends in these two identifiers is closer than the
-    // distance to `channel`, else 0. Returns 1 without a look at the window unless it `decides`.
-    fn close_one(self, one: u32, other: u32, channel: u32, decides: bool) -> u64
-        requires { IsWindow (2 * self.table.now.rounds + 1) self.table.now.ids (self.shared.now ++ one ∷ other ∷ []) }
+    // Returns 1 if the channel of the window with this number is closer than the distance to
+    // `channel`, else 0. Returns 1 without a look at the window unless it `decides`.
+    fn close_one(self, number: u32, channel: u32, decides: bool) -> u64
+        requires { number < length self.table.now.entries }
         ensures few { result ≤ 1 }
-        ensures close { (number : ℕ) → slice_get (windows_of self.entry.table.now) number ≡ Some (self.entry.shared.now ++ one ∷ other ∷ [])
-            → abs_diff channel (slice_index self.entry.table.now.entries number) < self.entry.distance → 1 ≤ result }
+        ensures close { abs_diff channel (slice_index self.entry.table.now.entries number) < self.entry.distance → 1 ≤ result }
     {
-        numbers_of_windows();
         if !decides {
             return 1;
         }
-        let level = self.table.shape().rounds();
-        let mut cells = [0; MAX_WINDOW_LEN];
-        let window = &mut cells[..2 * level as usize + 1];
-        write_after(window, self.shared, one, other);
-        u64::from(channel.abs_diff(channel_of_window(self.table, window)) < self.distance)
+        u64::from(channel.abs_diff(self.table.entry(number)) < self.distance)
     }
 }
 
