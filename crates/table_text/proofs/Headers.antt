@@ -26,7 +26,8 @@ sizes_fit rounds ids channels are =
 
 -- the text after the first number of the second line
 pub after_rounds : (rounds other : ℕ) (x y : List ℕ) → rounds < 2 ^ 32 → other < 2 ^ 32
-    → codes "rounds " ++ (decimal rounds ++ 32 ∷ x) ≡ codes "rounds " ++ (decimal other ++ 32 ∷ y) → (rounds ≡ other) × (x ≡ y)
+    → codes "rounds " ++ (decimal rounds ++ 32 ∷ x) ≡ codes "rounds " ++ (decimal other ++ 32 ∷ y) →
+    (rounds ≡ other) × (x ≡ y)
 after_rounds rounds other x y p q same = field_once (codes "rounds ") 32 rounds other x y (omega arith) p q same
 
 -- the text after the second number
@@ -36,11 +37,14 @@ after_ids ids other x y p q same = field_once (codes "ids ") 32 ids other x y (o
 
 -- the text after the third number
 pub after_channels : (end channels other : ℕ) (x y : List ℕ) → end < 48 → channels < 2 ^ 32 → other < 2 ^ 32
-    → codes "channels " ++ (decimal channels ++ end ∷ x) ≡ codes "channels " ++ (decimal other ++ end ∷ y) → (channels ≡ other) × (x ≡ y)
-after_channels end channels other x y small p q same = field_once (codes "channels ") end channels other x y small p q same
+    → codes "channels " ++ (decimal channels ++ end ∷ x) ≡ codes "channels " ++ (decimal other ++ end ∷ y) →
+    (channels ≡ other) × (x ≡ y)
+after_channels end channels other x y small p q same =
+    field_once (codes "channels ") end channels other x y small p q same
 
 -- the second line begins with one number of rounds, one of identifiers and one of channels
-pub counts_once : (end r i k s j l : ℕ) (x y : List ℕ) → end < 48 → Fit r i k → Fit s j l → counts_then r i k end x ≡ counts_then s j l end y
+pub counts_once : (end r i k s j l : ℕ) (x y : List ℕ) → end < 48 → Fit r i k → Fit s j l →
+    counts_then r i k end x ≡ counts_then s j l end y
     → (r ≡ s) × (i ≡ j) × (k ≡ l) × (x ≡ y)
 counts_once end r i k s j l x y small p q same =
     let rounds = after_rounds r s _ _ p.rounds_fit q.rounds_fit same in
@@ -64,7 +68,8 @@ after_far far other x y p q same = field_once (codes "far ") 10 far other x y (o
 
 -- two distances in one text are the same
 pub two_once : (near far near' far' : ℕ) (x y : List ℕ) → near < 2 ^ 32 → far < 2 ^ 32 → near' < 2 ^ 32 → far' < 2 ^ 32
-    → distances_then Two (record { near = near; far = far }) x ≡ distances_then Two (record { near = near'; far = far' }) y
+    → distances_then Two (record { near = near; far = far }) x
+    ≡ distances_then Two (record { near = near'; far = far' }) y
     → (near ≡ near') × (far ≡ far') × (x ≡ y)
 two_once near far near' far' x y p q p' q' same =
     let first = after_near near near' _ _ p p' same in
@@ -72,25 +77,32 @@ two_once near far near' far' x y p q p' q' same =
     (first.0, second.0, second.1)
 
 -- a text of one version gives one separation
-pub distances_once : (version : Version) (s u : Separation) (x y : List ℕ) → IsSeparationOf version s → IsSeparationOf version u
+pub distances_once : (version : Version) (s u : Separation) (x y : List ℕ) → IsSeparationOf version s →
+    IsSeparationOf version u
     → distances_then version s x ≡ distances_then version u y → (s ≡ u) × (x ≡ y)
 distances_once One s u x y p q same = (p ∙ sym q, same)
 distances_once Two s u x y p q same =
-    let one = two_once s.near s.far u.near u.far x y (omega (arith, p.small_near)) (omega (arith, p.small_far)) (omega (arith, q.small_near))
+    let one = two_once s.near s.far u.near u.far x y (omega (arith, p.small_near)) (omega (arith, p.small_far))
+    (omega (arith, q.small_near))
     (omega (arith, q.small_far)) same in
     (λ i. record { near = one.0 i; far = one.1 i }, one.2)
 
 -- if the second line gives sizes, its first numbers are those of a table, and they are followed by a separation
-pub sizes_are : (version : Version) (text : List ℕ) (r i k : ℕ) (rest : List ℕ) → Fit r i k → text ≡ counts_then r i k (counts_end version) rest
-    → HasSizes version text → AreSizes r i k × (s : Separation) × (after : List ℕ) × IsSeparationOf version s × (rest ≡ distances_then version s after)
+pub sizes_are : (version : Version) (text : List ℕ) (r i k : ℕ) (rest : List ℕ) → Fit r i k →
+    text ≡ counts_then r i k (counts_end version) rest
+    → HasSizes version text → AreSizes r i k × (s : Separation) × (after : List ℕ) × IsSeparationOf version s
+    × (rest ≡ distances_then version s after)
 sizes_are version text r i k rest fit same has =
-    let one = counts_once (counts_end version) r i k has.0 has.1 has.2 rest _ (counts_end_small version) fit (sizes_fit has.0 has.1 has.2 has.5)
+    let one = counts_once (counts_end version) r i k has.0 has.1 has.2 rest _ (counts_end_small version) fit
+    (sizes_fit has.0 has.1 has.2 has.5)
     (sym same ∙ has.7) in
     (rw (one.0, one.1, one.2) has.5, has.3, has.4, has.6, one.3)
 
 -- the contents of the second line are unique
-pub sizes_once : (version : Version) (r i k r' i' k' : ℕ) (s s' : Separation) (x y : List ℕ) → Fit r i k → Fit r' i' k' → IsSeparationOf version s → IsSeparationOf version s'
-    → sizes_then version r i k s x ≡ sizes_then version r' i' k' s' y → (r ≡ r') × (i ≡ i') × (k ≡ k') × (s ≡ s') × (x ≡ y)
+pub sizes_once : (version : Version) (r i k r' i' k' : ℕ) (s s' : Separation) (x y : List ℕ) → Fit r i k →
+    Fit r' i' k' → IsSeparationOf version s → IsSeparationOf version s'
+    → sizes_then version r i k s x ≡ sizes_then version r' i' k' s' y →
+    (r ≡ r') × (i ≡ i') × (k ≡ k') × (s ≡ s') × (x ≡ y)
 sizes_once version r i k r' i' k' s s' x y p q told told' same =
     let one = counts_once (counts_end version) r i k r' i' k' _ _ (counts_end_small version) p q same in
     let more = distances_once version s s' x y told told' one.3 in

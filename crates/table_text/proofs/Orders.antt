@@ -18,7 +18,8 @@ use Rattle.table_text.specs.Orders.{IsOrder, IsFollowedBy, IsStep, place_of}
 -- ---- one number more
 
 -- a list with one more number lacks the others that it lacked
-lacks_push : (list : List ℕ) (x y : ℕ) → (x ≢ y → lacks (list ++ x ∷ []) y ≡ lacks list y) × (x ≡ y → lacks (list ++ x ∷ []) y ≡ false)
+lacks_push : (list : List ℕ) (x y : ℕ) →
+    (x ≢ y → lacks (list ++ x ∷ []) y ≡ lacks list y) × (x ≡ y → lacks (list ++ x ∷ []) y ≡ false)
 lacks_push list x y =
     let more = list_any-append (λ z. eqb z y) list (x ∷ []) in (
       λ other.
@@ -42,7 +43,8 @@ abbrev above : ℕ → List ℕ → ℕ → List ℕ
 above m list x = filter (lacks list) (range_with_len (x + 1) (m - (x + 1)))
 
 -- a number that the list lacks stands between those below it and those above it
-unused_parts : (m x : ℕ) (list : List ℕ) → x < m → lacks list x ≡ true → unused m list ≡ unused x list ++ x ∷ above m list x
+unused_parts : (m x : ℕ) (list : List ℕ) → x < m → lacks list x ≡ true →
+    unused m list ≡ unused x list ++ x ∷ above m list x
 unused_parts m x list lt free =
     let split = kept_split (lacks list) x m (omega arith) in
     let more : m - x ≡ suc (m - (x + 1)) = omega arith in
@@ -64,18 +66,23 @@ pub record IsLacked (m x : ℕ) (list before after : List ℕ) : Type 0 where
   pub free : is_used list x ≡ false
   pub others : unused m (list ++ x ∷ []) ≡ before ++ after
 
-pub lacked : (m x : ℕ) (list before after : List ℕ) → unused m list ≡ before ++ x ∷ after → IsLacked m x list before after
+pub lacked : (m x : ℕ) (list before after : List ℕ) → unused m list ≡ before ++ x ∷ after →
+    IsLacked m x list before after
 lacked m x list before after all =
-    let item : slice_get (unused m list) (length before) ≡ Some x = ap (λ l. slice_get l (length before)) all ∙ slice_get-append_right before (x ∷ after) (length before) 0 (omega arith) in
+    let item : slice_get (unused m list) (length before) ≡ Some x = ap (λ l. slice_get l (length before)) all
+    ∙ slice_get-append_right before (x ∷ after) (length before) 0 (omega arith) in
     let own = kept_is (lacks list) m (length before) x item in
     let parts = sym all ∙ unused_parts m x list own.below own.passes in
     let front : before ≡ unused x list =
-    sym (take_at before (x ∷ after) (length before) refl) ∙ ap (take (length before)) parts ∙ take_at (unused x list) (x ∷ above m list x) (length before) own.before in
-    let rest : x ∷ after ≡ x ∷ above m list x = append_cancel_left before (x ∷ after) (x ∷ above m list x) (parts ∙ ap (λ l. l ++ x ∷ above m list x) (sym front)) in
+    sym (take_at before (x ∷ after) (length before) refl) ∙ ap (take (length before)) parts
+    ∙ take_at (unused x list) (x ∷ above m list x) (length before) own.before in
+    let rest : x ∷ after ≡ x ∷ above m list x = append_cancel_left before (x ∷ after) (x ∷ above m list x)
+    (parts ∙ ap (λ l. l ++ x ∷ above m list x) (sym front)) in
     record {
       below = own.below;
       free = not-true (is_used list x) own.passes;
-      others = unused_without m x list own.below ∙ ap (λ l. l ++ above m list x) (sym front) ∙ ap (λ l. before ++ drop 1 l) (sym rest);
+      others = unused_without m x list own.below ∙ ap (λ l. l ++ above m list x) (sym front)
+          ∙ ap (λ l. before ++ drop 1 l) (sym rest);
     }
 
 -- a window with a number that it lacks, followed by the others that it lacks
@@ -86,7 +93,8 @@ order_with k m x front before after window all =
     let is = lacked m x front before after all in
     let more : suc k ≡ k + 1 = omega arith in
     let longer : IsWindow (k + 1) m (front ++ x ∷ []) = rw more at (push_window k m x front window is.below is.free) in
-    let whole : front ++ x ∷ (before ++ after) ≡ (front ++ x ∷ []) ++ (before ++ after) = sym (append_assoc front (x ∷ []) (before ++ after)) in
+    let whole : front ++ x ∷ (before ++ after) ≡ (front ++ x ∷ []) ++ (before ++ after) =
+    sym (append_assoc front (x ∷ []) (before ++ after)) in
     let first = take_at (front ++ x ∷ []) (before ++ after) (k + 1) longer.size in
     let last = drop_at (front ++ x ∷ []) (before ++ after) (k + 1) longer.size in
     let free = length-unused front m window.distinct window.below in
@@ -100,14 +108,16 @@ order_with k m x front before after window all =
 
 -- the first number that a window lacks is added to it
 pub grown : (k m : ℕ) (order : List ℕ) → k < m → IsOrder k m order
-    → IsOrder (k + 1) m order × (take (k + 1) order ≡ take k order ++ get_or order k 0 ∷ []) × (unused m (take k order) ≡ get_or order k 0 ∷ drop (k + 1) order)
+    → IsOrder (k + 1) m order × (take (k + 1) order ≡ take k order ++ get_or order k 0 ∷ [])
+    × (unused m (take k order) ≡ get_or order k 0 ∷ drop (k + 1) order)
 grown k m order lt is =
     let z : ℕ = get_or order k 0 in
     let long : k < length order = omega (arith, is.size) in
     let rest = drop_more order k 0 long in
     let all = sym is.rest ∙ rest in
     let with_z = order_with k m z (take k order) [] (drop (k + 1) order) is.window all in
-    let whole : take k order ++ z ∷ drop (k + 1) order ≡ order = ap (λ l. take k order ++ l) (sym rest) ∙ take-append-drop k order in
+    let whole : take k order ++ z ∷ drop (k + 1) order ≡ order = ap (λ l. take k order ++ l) (sym rest)
+    ∙ take-append-drop k order in
     (rw whole at with_z, take_more order k 0 long, all)
 
 -- ---- the parts of an order
@@ -122,7 +132,8 @@ record HasParts (k m : ℕ) (order front low high : List ℕ) (x : ℕ) : Type 0
   pub all : unused m front ≡ low ++ x ∷ high
 
 parts : (k m : ℕ) (order : List ℕ) → IsOrder (k + 1) m order
-    → (high : List ℕ) × HasParts k m order (take k order) (unused (get_or order k 0) (take k order)) high (get_or order k 0)
+    → (high : List ℕ) × HasParts k m order (take k order) (unused (get_or order k 0) (take k order)) high
+    (get_or order k 0)
 parts k m order is =
     let x : ℕ = get_or order k 0 in
     let front : List ℕ = take k order in
@@ -132,11 +143,13 @@ parts k m order is =
     let whole = take-take k (k + 1) order (omega arith) in
     let last : get_or (take (k + 1) order) k 0 ≡ x = get_or-take (k + 1) order k 0 (omega arith) in
     let below : x < m = rw last at (is.window.below k 0 (omega arith)) in
-    let free : is_used front x ≡ false = rw (whole, last) at (free_at (take (k + 1) order) k is.window.distinct (omega arith)) in
+    let free : is_used front x ≡ false =
+    rw (whole, last) at (free_at (take (k + 1) order) k is.window.distinct (omega arith)) in
     let passes = not_from_false (is_used front x) free in
     let all = unused_parts m x front below passes in
     let more = take_more order k 0 long in
-    let rest : drop (k + 1) order ≡ unused x front ++ above m front x = rw more at is.rest ∙ unused_without m x front below in (
+    let rest : drop (k + 1) order ≡ unused x front ++ above m front x = rw more at is.rest
+    ∙ unused_without m x front below in (
       above m front x,
       record {
         whole = sym (take-append-drop k order) ∙ ap (λ l. front ++ l) (drop_more order k 0 long ∙ ap (λ l. x ∷ l) rest);
@@ -155,7 +168,9 @@ at_end k m order is full =
     let of = (parts k m order is).1 in
     let high = (parts k m order is).0 in
     let low = unused (get_or order k 0) (take k order) in
-    let none = nil_from_length high (omega (arith, ap length of.rest, length-append low high, length-drop (k + 1) order, full)) in
+    let none =
+    nil_from_length high (omega
+    (arith, ap length of.rest, length-append low high, length-drop (k + 1) order, full)) in
     subst (λ l. HasParts k m order (take k order) low l (get_or order k 0)) none of
 
 -- ---- the window that follows
@@ -170,7 +185,8 @@ record Ends (k m n i : ℕ) (front : List ℕ) : Type 0 where
   front_at : slice_get (windows k m) place ≡ Some front
   number : n ≡ place * (m - k) + i
 
-ends : (k m n i x : ℕ) (front : List ℕ) → slice_get (windows (k + 1) m) n ≡ Some (front ++ x ∷ []) → slice_get (unused m front) i ≡ Some x → Ends k m n i front
+ends : (k m n i x : ℕ) (front : List ℕ) → slice_get (windows (k + 1) m) n ≡ Some (front ++ x ∷ []) →
+    slice_get (unused m front) i ≡ Some x → Ends k m n i front
 ends k m n i x front item at' =
     let step : suc k ≡ k + 1 = omega arith in
     let of = window_parts k m n (front ++ x ∷ []) (rw step item) in
@@ -185,7 +201,8 @@ ends k m n i x front item at' =
     }
 
 -- a window is followed by that with the next number that its prefix lacks
-pub followed_here : (k m i x y : ℕ) (front : List ℕ) → slice_get (unused m front) i ≡ Some x → slice_get (unused m front) (i + 1) ≡ Some y
+pub followed_here : (k m i x y : ℕ) (front : List ℕ) → slice_get (unused m front) i ≡ Some x →
+    slice_get (unused m front) (i + 1) ≡ Some y
     → IsFollowedBy (k + 1) m (front ++ x ∷ []) (front ++ y ∷ [])
 followed_here k m i x y front at_x at_y n item more =
     let step : suc k ≡ k + 1 = omega arith in
@@ -195,7 +212,8 @@ followed_here k m i x y front at_x at_y n item more =
 
 -- the last window with a prefix is followed by the first one with the next prefix
 pub followed_later : (k m i x z : ℕ) (front later : List ℕ) → i + 1 ≡ m - k → slice_get (unused m front) i ≡ Some x
-    → IsFollowedBy k m front later → slice_get (unused m later) 0 ≡ Some z → IsFollowedBy (k + 1) m (front ++ x ∷ []) (later ++ z ∷ [])
+    → IsFollowedBy k m front later → slice_get (unused m later) 0 ≡ Some z →
+    IsFollowedBy (k + 1) m (front ++ x ∷ []) (later ++ z ∷ [])
 followed_later k m i x z front later full at_x next least n item more =
     let step : suc k ≡ k + 1 = omega arith in
     let of = ends k m n i x front item at_x in
@@ -231,23 +249,31 @@ swapped k m old new is within set_is =
     drop_more high 0 0 (omega (arith, ap length of.rest, length-append low high, length-drop (k + 1) old, within)) in
     let all : unused m front ≡ low ++ x ∷ (y ∷ after) = of.all ∙ ap (λ l. low ++ x ∷ l) some in
     let larger : get_or old (k + 1 + place) 0 ≡ y =
-    sym (get_or-drop (k + 1) old place 0) ∙ ap (λ l. get_or l place 0) (of.rest ∙ ap (λ l. low ++ l) some) ∙ get_or_at low y after 0 place refl in
+    sym (get_or-drop (k + 1) old place 0) ∙ ap (λ l. get_or l place 0) (of.rest ∙ ap (λ l. low ++ l) some)
+    ∙ get_or_at low y after 0 place refl in
     let once : set old k y ≡ (front ++ y ∷ low) ++ y ∷ after =
-    ap (λ l. set l k y) (of.whole ∙ ap (λ l. front ++ x ∷ (low ++ l)) some) ∙ set_at front x (low ++ y ∷ after) y k of.window.size
+    ap (λ l. set l k y) (of.whole ∙ ap (λ l. front ++ x ∷ (low ++ l)) some)
+    ∙ set_at front x (low ++ y ∷ after) y k of.window.size
     ∙ sym (append_assoc front (y ∷ low) (y ∷ after)) in
-    let far : length (front ++ y ∷ low) ≡ k + 1 + place = omega (arith, length-append front (y ∷ low), of.window.size) in
+    let far : length (front ++ y ∷ low) ≡ k + 1 + place =
+    omega (arith, length-append front (y ∷ low), of.window.size) in
     let new_is : new ≡ front ++ y ∷ (low ++ x ∷ after) =
     set_is ∙ ap (λ z. set (set old k z) (k + 1 + place) x) larger ∙ ap (λ l. set l (k + 1 + place) x) once
     ∙ set_at (front ++ y ∷ low) y after x (k + 1 + place) far ∙ append_assoc front (y ∷ low) (x ∷ after) in
-    let made = order_with k m y front (low ++ x ∷ []) after of.window (all ∙ sym (append_assoc low (x ∷ []) (y ∷ after))) in
+    let made = order_with k m y front (low ++ x ∷ []) after of.window
+    (all ∙ sym (append_assoc low (x ∷ []) (y ∷ after))) in
     let behind = append_assoc low (x ∷ []) after in
     let first : take (k + 1) new ≡ front ++ y ∷ [] =
     ap (take (k + 1)) (new_is ∙ sym (append_assoc front (y ∷ []) (low ++ x ∷ after)))
-    ∙ take_at (front ++ y ∷ []) (low ++ x ∷ after) (k + 1) (omega (arith, length-append front (y ∷ []), of.window.size)) in
+    ∙ take_at (front ++ y ∷ []) (low ++ x ∷ after) (k + 1)
+    (omega (arith, length-append front (y ∷ []), of.window.size)) in
     record {
       order = rw new_is (rw behind at made);
-      next = rw (of.first, first) (followed_here k m (length low) x y front (ap (λ l. slice_get l (length low)) all ∙ item_after low (y ∷ after) x)
-          (ap (λ l. slice_get l (length low + 1)) all ∙ slice_get-append_right low (x ∷ (y ∷ after)) (length low + 1) 1 (omega arith)));
+      next =
+          rw (of.first, first) (followed_here k m (length low) x y front
+          (ap (λ l. slice_get l (length low)) all ∙ item_after low (y ∷ after) x)
+          (ap (λ l. slice_get l (length low + 1)) all
+          ∙ slice_get-append_right low (x ∷ (y ∷ after)) (length low + 1) 1 (omega arith)));
     }
 
 remove_is : (xs : List ℕ) (i : ℕ) → remove xs i ≡ take i xs ++ drop (i + 1) xs
@@ -260,8 +286,10 @@ rotated k m old new is full moved =
     let of = at_end k m old is full in
     let front : List ℕ = take k old in
     let x : ℕ = get_or old k 0 in
-    let rest : drop (k + 1) old ++ x ∷ [] ≡ unused m front = ap (λ l. l ++ x ∷ []) (of.rest ∙ append-nil _) ∙ sym of.all in
-    let whole = moved ∙ ap (λ l. l ++ x ∷ []) (remove_is old k) ∙ append_assoc front (drop (k + 1) old) (x ∷ []) ∙ ap (λ l. front ++ l) rest in
+    let rest : drop (k + 1) old ++ x ∷ [] ≡ unused m front = ap (λ l. l ++ x ∷ []) (of.rest ∙ append-nil _)
+    ∙ sym of.all in
+    let whole = moved ∙ ap (λ l. l ++ x ∷ []) (remove_is old k)
+    ∙ append_assoc front (drop (k + 1) old) (x ∷ []) ∙ ap (λ l. front ++ l) rest in
     let first : take k new ≡ front = ap (take k) whole ∙ take_at front (unused m front) k of.window.size in
     let free = length-unused front m of.window.distinct of.window.below in (
       record {
@@ -273,7 +301,8 @@ rotated k m old new is full moved =
     )
 
 -- the next prefix is followed by the least number that it lacks
-pub later : (k m : ℕ) (old new : List ℕ) → IsOrder (k + 1) m old → length old ≤ place_of k old → IsStep k m old new → IsStep (k + 1) m old new
+pub later : (k m : ℕ) (old new : List ℕ) → IsOrder (k + 1) m old → length old ≤ place_of k old →
+    IsStep k m old new → IsStep (k + 1) m old new
 later k m old new is end step =
     let of = at_end k m old is end in
     let front : List ℕ = take k old in
@@ -281,7 +310,8 @@ later k m old new is end step =
     let low : List ℕ = unused x front in
     let more = grown k m new of.within step.order in
     let free = length-unused front m of.window.distinct of.window.below in
-    let full : length low + 1 ≡ m - k = omega (arith, ap length of.all, length-append low (x ∷ []), free, of.window.size) in
+    let full : length low + 1 ≡ m - k =
+    omega (arith, ap length of.all, length-append low (x ∷ []), free, of.window.size) in
     record {
       order = more.0;
       next = rw (of.first, more.1) (followed_later k m (length low) x (get_or new k 0) front (take k new) full
@@ -290,7 +320,12 @@ later k m old new is end step =
 
 -- the one window of length 0 has none after it
 pub only_window : (m : ℕ) (order : List ℕ) → IsOrder 0 m order → IsStep 0 m order order
-only_window m order is = record { order = is; next = λ n item more. let one : length (windows 0 m) ≡ 1 = length-windows 0 m in absurd (omega arith) }
+only_window m order is =
+    record {
+      order = is;
+      next = λ n item more. let one : length (windows 0 m) ≡ 1 = length-windows 0 m in
+          absurd (omega arith);
+    }
 
 -- ---- the first order
 
@@ -308,7 +343,8 @@ rising_order m =
     }
 
 -- the numbers in rising order begin with the first window
-pub first_order : (k m : ℕ) (order : List ℕ) → k ≤ m → IsOrder 0 m order → IsOrder k m order × (slice_get (windows k m) 0 ≡ Some (take k order))
+pub first_order : (k m : ℕ) (order : List ℕ) → k ≤ m → IsOrder 0 m order →
+    IsOrder k m order × (slice_get (windows k m) 0 ≡ Some (take k order))
 first_order zero m order le is = (is, rw (windows-zero m) refl)
 first_order (suc k) m order le is =
     let before = first_order k m order (omega arith) is in
@@ -321,9 +357,11 @@ first_order (suc k) m order le is =
 -- ---- the windows of a run
 
 -- the numbers after the window are those that it lacks, in turn
-pub lacked_in_turn : (k m i : ℕ) (order : List ℕ) → IsOrder k m order → k + i < m → slice_get (unused m (take k order)) i ≡ Some (get_or order (k + i) 0)
+pub lacked_in_turn : (k m i : ℕ) (order : List ℕ) → IsOrder k m order → k + i < m →
+    slice_get (unused m (take k order)) i ≡ Some (get_or order (k + i) 0)
 lacked_in_turn k m i order is lt =
-    ap (λ l. slice_get l i) (sym is.rest) ∙ slice_get-get_or (drop k order) i 0 (omega (arith, length-drop k order, is.size))
+    ap (λ l. slice_get l i) (sym is.rest)
+    ∙ slice_get-get_or (drop k order) i 0 (omega (arith, length-drop k order, is.size))
     ∙ ap Some (get_or-drop k order i 0)
 
 -- the next number after the window ends the next window of the run
@@ -335,13 +373,16 @@ next_of_run k m last order is from lt =
     let there : k + (i + 1) ≡ last + 1 = omega arith in
     let at_x = lacked_in_turn k m i (take m order) is (omega arith) in
     let at_y = lacked_in_turn k m (i + 1) (take m order) is (omega arith) in
-    let x : get_or (take m order) (k + i) 0 ≡ get_or order last 0 = rw here (get_or-take m order last 0 (omega arith)) in
-    let y : get_or (take m order) (k + (i + 1)) 0 ≡ get_or order (last + 1) 0 = rw there (get_or-take m order (last + 1) 0 lt) in
+    let x : get_or (take m order) (k + i) 0 ≡ get_or order last 0 =
+    rw here (get_or-take m order last 0 (omega arith)) in
+    let y : get_or (take m order) (k + (i + 1)) 0 ≡ get_or order (last + 1) 0 =
+    rw there (get_or-take m order (last + 1) 0 lt) in
     let front : take k (take m order) ≡ take k order = take-take k m order (omega arith) in
     rw (front, x, y) at (followed_here k m i _ _ (take k (take m order)) at_x at_y)
 
 -- the last window of a run is followed by the first one of the next run
-pub next_run : (k m last : ℕ) (old new : List ℕ) → IsOrder k m (take m old) → k ≤ last → last + 1 ≡ m → IsStep k m (take m old) new
+pub next_run : (k m last : ℕ) (old new : List ℕ) → IsOrder k m (take m old) → k ≤ last → last + 1 ≡ m →
+    IsStep k m (take m old) new
     → IsFollowedBy (k + 1) m (take k old ++ get_or old last 0 ∷ []) (take k new ++ get_or new k 0 ∷ [])
 next_run k m last old new is from end step =
     let i : ℕ = last - k in
@@ -351,11 +392,14 @@ next_run k m last old new is from end step =
     let at_z = lacked_in_turn k m 0 new step.order (omega arith) in
     let x : get_or (take m old) (k + i) 0 ≡ get_or old last 0 = rw here (get_or-take m old last 0 (omega arith)) in
     let front : take k (take m old) ≡ take k old = take-take k m old (omega arith) in
-    rw (front, x, none) at (followed_later k m i _ _ (take k (take m old)) (take k new) (omega arith) at_x step.next at_z)
+    rw (front, x, none) at (followed_later k m i _ _ (take k (take m old)) (take k new) (omega arith)
+    at_x step.next at_z)
 
 -- the numbers that stay, in orders of the first cells of a list
-pub kept_front : (kept k m : ℕ) (old new after : List ℕ) → kept ≤ k → k ≤ m → length new ≡ m → take kept new ≡ take kept (take m old)
+pub kept_front : (kept k m : ℕ) (old new after : List ℕ) → kept ≤ k → k ≤ m → length new ≡ m →
+    take kept new ≡ take kept (take m old)
     → take kept (take k (new ++ after)) ≡ take kept (take k old)
 kept_front kept k m old new after few le size same =
-    take-take kept k (new ++ after) few ∙ take-append-le kept new after (omega arith) ∙ same ∙ take-take kept m old (omega arith)
+    take-take kept k (new ++ after) few ∙ take-append-le kept new after (omega arith) ∙ same
+    ∙ take-take kept m old (omega arith)
     ∙ sym (take-take kept k old few)

@@ -8,17 +8,20 @@ use Rattle.table_text.specs.Pieces.{piece_text, AreTexts}
 
 -- one more piece
 pub texts_more :
-    (text : ℕ → List ℕ) (pieces : List Piece) (piece : Piece) → AreTexts text pieces → piece_text piece ≡ text (length pieces)
+    (text : ℕ → List ℕ) (pieces : List Piece) (piece : Piece) → AreTexts text pieces →
+    piece_text piece ≡ text (length pieces)
     → AreTexts text (pieces ++ piece ∷ [])
 texts_more text pieces piece are is =
     let n = length pieces in
     let size : length (pieces ++ piece ∷ []) ≡ n + 1 = length-append pieces (piece ∷ []) in
-    map-append piece_text pieces (piece ∷ []) ∙ (λ i. are i ++ is i ∷ []) ∙ sym (map-range_with_len_more text 0 n n (omega arith))
+    map-append piece_text pieces (piece ∷ []) ∙ (λ i. are i ++ is i ∷ [])
+    ∙ sym (map-range_with_len_more text 0 n n (omega arith))
     ∙ ap (λ k. map text (range_with_len 0 k)) (sym size)
 
 -- the text of the piece at an index
 pub piece_at :
-    (text : ℕ → List ℕ) (pieces : List Piece) (i : ℕ) (d : Piece) → AreTexts text pieces → i < length pieces → piece_text (get_or pieces i d) ≡ text i
+    (text : ℕ → List ℕ) (pieces : List Piece) (i : ℕ) (d : Piece) → AreTexts text pieces →
+    i < length pieces → piece_text (get_or pieces i d) ≡ text i
 piece_at text pieces i d are lt =
     sym (get_or-map piece_text pieces i d [] lt) ∙ ap (λ texts. get_or texts i []) are
     ∙ get_or-map-range_with_len text 0 (length pieces) i i [] lt (omega arith)

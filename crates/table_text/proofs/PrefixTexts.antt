@@ -6,8 +6,10 @@ use Rattle.table_text.specs.TableText.{ids_then}
 use Rattle.table_text.specs.Prefixes.{HasTexts}
 
 -- writing from the end of some identifiers' text on leaves that of the first ones
-pub same_front : (bytes ends new_bytes ids : List ℕ) (place i : ℕ) → HasTexts bytes ends ids → i ≤ place → place ≤ length ids
-    → take (get_or ends place 0) new_bytes ≡ take (get_or ends place 0) bytes → take (get_or ends i 0) new_bytes ≡ take (get_or ends i 0) bytes
+pub same_front : (bytes ends new_bytes ids : List ℕ) (place i : ℕ) → HasTexts bytes ends ids → i ≤ place →
+    place ≤ length ids
+    → take (get_or ends place 0) new_bytes ≡ take (get_or ends place 0) bytes →
+    take (get_or ends i 0) new_bytes ≡ take (get_or ends i 0) bytes
 same_front bytes ends new_bytes ids place i has le within same =
     let before = has.rises i place le within in
     sym (take-take (get_or ends i 0) (get_or ends place 0) new_bytes before) ∙ ap (take (get_or ends i 0)) same
@@ -30,7 +32,8 @@ texts_more bytes ends new_bytes new_ends ids place end has more =
     let size = length-take-le place ids (omega (arith, more.within)) in
     let longer = length-take-le (place + 1) ids (omega (arith, more.within)) in
     let before : (i : ℕ) → i ≤ place → get_or new_ends i 0 ≡ get_or ends i 0 = λ i le.
-    ap (λ l. get_or l i 0) more.set_is ∙ get_or-set_other ends (place + 1) i end 0 (λ (e : i ≡ place + 1). absurd (omega arith)) in
+    ap (λ l. get_or l i 0) more.set_is
+    ∙ get_or-set_other ends (place + 1) i end 0 (λ (e : i ≡ place + 1). absurd (omega arith)) in
     let here : get_or new_ends (place + 1) 0 ≡ end =
     ap (λ l. get_or l (place + 1) 0) more.set_is ∙ get_or-set_same ends (place + 1) end 0 more.room in
     record {
@@ -39,10 +42,12 @@ texts_more bytes ends new_bytes new_ends ids place end has more =
           ⊎_elim
           (λ (lt : i < place + 1).
           ap (λ e. take e new_bytes) (before i (omega arith)) ∙ more.same i (omega arith) ∙ has.each i (omega arith)
-          ∙ ap (λ l. ids_then l []) (take-take i place ids (omega arith) ∙ sym (take-take i (place + 1) ids (omega arith))))
+          ∙ ap (λ l. ids_then l [])
+          (take-take i place ids (omega arith) ∙ sym (take-take i (place + 1) ids (omega arith))))
           (λ (ge : place + 1 ≤ i).
           let same : i ≡ place + 1 = omega arith in
-          rw same (ap (λ e. take e new_bytes) here ∙ more.text ∙ ap (λ l. ids_then l []) (sym (take-take (place + 1) (place + 1) ids (omega arith)))))
+          rw same (ap (λ e. take e new_bytes) here ∙ more.text
+          ∙ ap (λ l. ids_then l []) (sym (take-take (place + 1) (place + 1) ids (omega arith)))))
           (cases_lt i (place + 1));
       few = λ i le.
           ⊎_elim
@@ -53,11 +58,13 @@ texts_more bytes ends new_bytes new_ends ids place end has more =
           (cases_lt i (place + 1));
       rises = λ i j le within'.
           ⊎_elim
-          (λ (lt : j < place + 1). omega (arith, before i (omega arith), before j (omega arith), has.rises i j le (omega arith)))
+          (λ (lt : j < place + 1).
+          omega (arith, before i (omega arith), before j (omega arith), has.rises i j le (omega arith)))
           (λ (ge : place + 1 ≤ j).
           let same : j ≡ place + 1 = omega arith in
           ⊎_elim
-          (λ (less : i < place + 1). rw same (omega (arith, here, before i (omega arith), has.rises i place (omega arith) (omega arith), more.later)))
+          (λ (less : i < place + 1). rw same
+          (omega (arith, here, before i (omega arith), has.rises i place (omega arith) (omega arith), more.later)))
           (λ (all : place + 1 ≤ i).
           let own : i ≡ j = omega arith in
           rw own (omega arith))
@@ -66,12 +73,14 @@ texts_more bytes ends new_bytes new_ends ids place end has more =
     }
 
 -- the texts of the first identifiers
-pub texts_front : (bytes ends ids : List ℕ) (n : ℕ) → HasTexts bytes ends ids → n ≤ length ids → HasTexts bytes ends (take n ids)
+pub texts_front : (bytes ends ids : List ℕ) (n : ℕ) → HasTexts bytes ends ids → n ≤ length ids →
+    HasTexts bytes ends (take n ids)
 texts_front bytes ends ids n has le =
     let size = length-take-le n ids le in
     record {
       room = has.room;
-      each = λ i within. has.each i (omega (arith, size)) ∙ ap (λ l. ids_then l []) (sym (take-take i n ids (omega (arith, size))));
+      each = λ i within. has.each i (omega (arith, size))
+          ∙ ap (λ l. ids_then l []) (sym (take-take i n ids (omega (arith, size))));
       few = λ i within. has.few i (omega (arith, size));
       rises = λ i j less within. has.rises i j less (omega (arith, size));
     }

@@ -17,13 +17,17 @@ with_entry t channel = record t { entries = t.entries ++ channel ∷ [] }
 -- the lines with one more entry are the lines before, followed by that of the next window
 pub entries_more : (windows : List (List ℕ)) (channels window : List ℕ) (channel : ℕ) (rest : List ℕ)
     → slice_get windows (length channels) ≡ Some window
-    → entries_then windows (channels ++ channel ∷ []) rest ≡ entries_then windows channels (entry_then window channel rest)
+    → entries_then windows (channels ++ channel ∷ []) rest
+    ≡ entries_then windows channels (entry_then window channel rest)
 entries_more [] channels window channel rest next = absurd (cc)
 entries_more (w ∷ windows) [] window channel rest next = ap (λ x. entry_then x channel rest) (cc)
-entries_more (w ∷ windows) (c ∷ channels) window channel rest next = ap (entry_then w c) (entries_more windows channels window channel rest next)
+entries_more (w ∷ windows) (c ∷ channels) window channel rest next =
+    ap (entry_then w c) (entries_more windows channels window channel rest next)
 
-pub lines_more : (version : Version) (t : ChannelTable) (s : Separation) (text here window : List ℕ) (channel : ℕ) (rest : List ℕ)
-    → text ≡ lines_then (written version t s) here → slice_get (windows_of t) (length t.entries) ≡ Some window → here ≡ entry_then window channel rest
+pub lines_more : (version : Version) (t : ChannelTable) (s : Separation) (text here window : List ℕ)
+    (channel : ℕ) (rest : List ℕ)
+    → text ≡ lines_then (written version t s) here → slice_get (windows_of t) (length t.entries)
+    ≡ Some window → here ≡ entry_then window channel rest
     → text ≡ lines_then (written version (with_entry t channel) s) rest
 unfolding lines_then
 lines_more version t s text here window channel rest read next line =
@@ -31,7 +35,8 @@ lines_more version t s text here window channel rest read next line =
     ∙ ap (λ l. head_then (written version t s) l) (sym (entries_more (windows_of t) t.entries window channel rest next))
 
 -- a begun table with one more entry
-pub begun_more : (t : ChannelTable) (channel : ℕ) → IsBegun t → length t.entries < length (windows_of t) → channel < t.channels
+pub begun_more : (t : ChannelTable) (channel : ℕ) → IsBegun t → length t.entries < length (windows_of t) →
+    channel < t.channels
     → IsBegun (with_entry t channel)
 begun_more t channel begun room below =
     record {
@@ -44,27 +49,42 @@ begun_more t channel begun room below =
     }
 
 -- the text after a field is no longer than the whole text
-field_length : (name : List ℕ) (number end : ℕ) (rest : List ℕ) → length rest ≤ length (name ++ (decimal number ++ end ∷ rest))
-field_length name number end rest = omega (arith, length-append name (decimal number ++ end ∷ rest), length-append (decimal number) (end ∷ rest))
+field_length : (name : List ℕ) (number end : ℕ) (rest : List ℕ) →
+    length rest ≤ length (name ++ (decimal number ++ end ∷ rest))
+field_length name number end rest =
+    omega (arith, length-append name (decimal number ++ end ∷ rest), length-append (decimal number) (end ∷ rest))
 
 ids_length : (ids rest : List ℕ) → length rest ≤ length (ids_then ids rest)
 ids_length [] rest = omega arith
 ids_length (id ∷ ids) rest = omega (arith, ids_length ids rest, length-append (decimal id) (32 ∷ ids_then ids rest))
 
-entries_length : (windows : List (List ℕ)) (channels rest : List ℕ) → length rest ≤ length (entries_then windows channels rest)
+entries_length : (windows : List (List ℕ)) (channels rest : List ℕ) →
+    length rest ≤ length (entries_then windows channels rest)
 entries_length windows [] rest = omega arith
 entries_length [] (c ∷ channels) rest = omega arith
 entries_length (w ∷ windows) (c ∷ channels) rest =
     let more = entries_then windows channels rest in
-    omega (arith, entries_length windows channels rest, field_length (codes ": ") c 10 more, ids_length w (codes ": " ++ (decimal c ++ 10 ∷ more)))
+    omega (
+      arith,
+      entries_length windows channels rest,
+      field_length (codes ": ") c 10 more,
+      ids_length w (codes ": " ++ (decimal c ++ 10 ∷ more)),
+    )
 
-counts_length : (rounds ids channels end : ℕ) (rest : List ℕ) → length rest ≤ length (counts_then rounds ids channels end rest)
+counts_length : (rounds ids channels end : ℕ) (rest : List ℕ) →
+    length rest ≤ length (counts_then rounds ids channels end rest)
 counts_length rounds ids channels end rest =
     let third = codes "channels " ++ (decimal channels ++ end ∷ rest) in
     let second = codes "ids " ++ (decimal ids ++ 32 ∷ third) in
-    omega (arith, field_length (codes "channels ") channels end rest, field_length (codes "ids ") ids 32 third, field_length (codes "rounds ") rounds 32 second)
+    omega (
+      arith,
+      field_length (codes "channels ") channels end rest,
+      field_length (codes "ids ") ids 32 third,
+      field_length (codes "rounds ") rounds 32 second,
+    )
 
-distances_length : (version : Version) (s : Separation) (rest : List ℕ) → length rest ≤ length (distances_then version s rest)
+distances_length : (version : Version) (s : Separation) (rest : List ℕ) →
+    length rest ≤ length (distances_then version s rest)
 distances_length One s rest = omega arith
 distances_length Two s rest =
     let second = codes "far " ++ (decimal s.far ++ 10 ∷ rest) in
@@ -73,7 +93,11 @@ distances_length Two s rest =
 sizes_length : (version : Version) (rounds ids channels : ℕ) (s : Separation) (rest : List ℕ)
     → length rest ≤ length (sizes_then version rounds ids channels s rest)
 sizes_length version rounds ids channels s rest =
-    omega (arith, distances_length version s rest, counts_length rounds ids channels (counts_end version) (distances_then version s rest))
+    omega (
+      arith,
+      distances_length version s rest,
+      counts_length rounds ids channels (counts_end version) (distances_then version s rest),
+    )
 
 pub title_length : (version : Version) (rest : List ℕ) → length (title_then version rest) ≡ 13 + length rest
 title_length One rest = omega arith

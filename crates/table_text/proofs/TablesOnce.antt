@@ -18,34 +18,41 @@ use Rattle.table_text.proofs.Headers.{sizes_fit, sizes_once, title_once}
 
 ids_same : (ids x y : List ℕ) → ids_then ids x ≡ ids_then ids y → x ≡ y
 ids_same [] x y same = same
-ids_same (id ∷ ids) x y same = ids_same ids x y (ap (drop 1) (append_cancel_left (decimal id) (32 ∷ ids_then ids x) (32 ∷ ids_then ids y) same))
+ids_same (id ∷ ids) x y same =
+    ids_same ids x y (ap (drop 1) (append_cancel_left (decimal id) (32 ∷ ids_then ids x) (32 ∷ ids_then ids y) same))
 
 -- two lines of one window have one channel
-line_once : (window : List ℕ) (c d : ℕ) (x y : List ℕ) → c < 2 ^ 32 → d < 2 ^ 32 → entry_then window c x ≡ entry_then window d y
+line_once : (window : List ℕ) (c d : ℕ) (x y : List ℕ) → c < 2 ^ 32 → d < 2 ^ 32 →
+    entry_then window c x ≡ entry_then window d y
     → (c ≡ d) × (x ≡ y)
 line_once window c d x y p q same =
     field_once (codes ": ") 10 c d x y (omega arith) p q
     (ids_same window (codes ": " ++ (decimal c ++ 10 ∷ x)) (codes ": " ++ (decimal d ++ 10 ∷ y)) same)
 
 -- two lines with the form of an entry at the start of one text have the same identifiers and the same channel
-pub entry_once : (k : ℕ) (text ids others : List ℕ) (c d : ℕ) (x y : List ℕ) → IsEntry k text ids c x → IsEntry k text others d y
+pub entry_once : (k : ℕ) (text ids others : List ℕ) (c d : ℕ) (x y : List ℕ) → IsEntry k text ids c x →
+    IsEntry k text others d y
     → (ids ≡ others) × (c ≡ d) × (x ≡ y)
 entry_once k text ids others c d x y p q =
-    let one = ids_once ids others (codes ": " ++ (decimal c ++ 10 ∷ x)) (codes ": " ++ (decimal d ++ 10 ∷ y)) p.ids_fit q.ids_fit
+    let one = ids_once ids others (codes ": " ++ (decimal c ++ 10 ∷ x)) (codes ": " ++ (decimal d ++ 10 ∷ y))
+    p.ids_fit q.ids_fit
     (p.size ∙ sym q.size) (sym p.spelled ∙ q.spelled) in
     let more = field_once (codes ": ") 10 c d x y (omega arith) p.channel_fits q.channel_fits one.1 in
     (one.0, more.0, more.1)
 
 -- the same number of lines of the same windows have the same channels
-entries_once : (ws : List (List ℕ)) (cs ds x y : List ℕ) → All Fits32 cs → All Fits32 ds → length cs ≡ length ds → length cs ≤ length ws
+entries_once : (ws : List (List ℕ)) (cs ds x y : List ℕ) → All Fits32 cs → All Fits32 ds →
+    length cs ≡ length ds → length cs ≤ length ws
     → entries_then ws cs x ≡ entries_then ws ds y → (cs ≡ ds) × (x ≡ y)
 entries_once ws [] [] x y p q size room same = (refl, same)
 entries_once ws [] (d ∷ ds) x y p q size room same = absurd (omega (arith, size))
 entries_once [] (c ∷ cs) ds x y p q size room same = absurd (omega (arith, room))
 entries_once (w ∷ ws) (c ∷ cs) [] x y p q size room same = absurd (omega (arith, size))
 entries_once (w ∷ ws) (c ∷ cs) (d ∷ ds) x y p q size room same =
-    let one = line_once w c d (entries_then ws cs x) (entries_then ws ds y) (All-head Fits32 c cs p) (All-head Fits32 d ds q) same in
-    let more = entries_once ws cs ds x y (All-tail Fits32 c cs p) (All-tail Fits32 d ds q) (omega (arith, size)) (omega (arith, room)) one.1 in
+    let one = line_once w c d (entries_then ws cs x) (entries_then ws ds y) (All-head Fits32 c cs p)
+    (All-head Fits32 d ds q) same in
+    let more = entries_once ws cs ds x y (All-tail Fits32 c cs p) (All-tail Fits32 d ds q) (omega (arith, size))
+    (omega (arith, room)) one.1 in
     (cc, more.1)
 
 -- the text begins with the line of the window at an index, with a channel below a bound
@@ -58,8 +65,10 @@ pub record HasLine (ws : List (List ℕ)) (place bound : ℕ) (text : List ℕ) 
   pub below : channel < bound
 
 -- if one text has more lines of the same windows, the next of them follows the lines of the other
-entries_next : (ws : List (List ℕ)) (cs ds x y : List ℕ) (bound : ℕ) → bound ≤ 2 ^ 32 → All (λ c. c < bound) cs → All (λ c. c < bound) ds
-    → length cs < length ds → length ds ≤ length ws → entries_then ws cs x ≡ entries_then ws ds y → HasLine ws (length cs) bound x
+entries_next : (ws : List (List ℕ)) (cs ds x y : List ℕ) (bound : ℕ) → bound ≤ 2 ^ 32 →
+    All (λ c. c < bound) cs → All (λ c. c < bound) ds
+    → length cs < length ds → length ds ≤ length ws → entries_then ws cs x ≡ entries_then ws ds y →
+    HasLine ws (length cs) bound x
 entries_next ws cs [] x y bound fits p q less room same = absurd (omega (arith, less))
 entries_next [] cs (d ∷ ds) x y bound fits p q less room same = absurd (omega (arith, room))
 entries_next (w ∷ ws) [] (d ∷ ds) x y bound fits p q less room same =
@@ -72,9 +81,11 @@ entries_next (w ∷ ws) [] (d ∷ ds) x y bound fits p q less room same =
       below = All-head (λ c. c < bound) d ds q;
     }
 entries_next (w ∷ ws) (c ∷ cs) (d ∷ ds) x y bound fits p q less room same =
-    let one = line_once w c d (entries_then ws cs x) (entries_then ws ds y) (omega (arith, fits, All-head (λ n. n < bound) c cs p))
+    let one = line_once w c d (entries_then ws cs x) (entries_then ws ds y)
+    (omega (arith, fits, All-head (λ n. n < bound) c cs p))
     (omega (arith, fits, All-head (λ n. n < bound) d ds q)) same in
-    let more = entries_next ws cs ds x y bound fits (All-tail (λ n. n < bound) c cs p) (All-tail (λ n. n < bound) d ds q)
+    let more =
+    entries_next ws cs ds x y bound fits (All-tail (λ n. n < bound) c cs p) (All-tail (λ n. n < bound) d ds q)
     (omega (arith, less)) (omega (arith, room)) one.1 in
     record {
       window = more.window;
@@ -106,16 +117,20 @@ pub record HaveOneHead (v w : Written) (x y : List ℕ) : Type 0 where
   pub ids : v.table.ids ≡ w.table.ids
   pub channels : v.table.channels ≡ w.table.channels
   pub separation : v.separation ≡ w.separation
-  pub entries : entries_then (windows_of v.table) v.table.entries x ≡ entries_then (windows_of w.table) w.table.entries y
+  pub entries : entries_then (windows_of v.table) v.table.entries x
+      ≡ entries_then (windows_of w.table) w.table.entries y
 
-sizes_same : (version : Version) (t u : ChannelTable) (r s : Separation) (x y : List ℕ) → IsBegun t → IsBegun u → IsSeparationOf version r → IsSeparationOf version s
+sizes_same : (version : Version) (t u : ChannelTable) (r s : Separation) (x y : List ℕ) → IsBegun t →
+    IsBegun u → IsSeparationOf version r → IsSeparationOf version s
     → sizes_then version t.rounds t.ids t.channels r x ≡ sizes_then version u.rounds u.ids u.channels s y
     → (t.rounds ≡ u.rounds) × (t.ids ≡ u.ids) × (t.channels ≡ u.channels) × (r ≡ s) × (x ≡ y)
 sizes_same version t u r s x y p q told told' same =
-    sizes_once version t.rounds t.ids t.channels u.rounds u.ids u.channels r s x y (sizes_fit t.rounds t.ids t.channels (sizes_of t p))
+    sizes_once version t.rounds t.ids t.channels u.rounds u.ids u.channels r s x y
+    (sizes_fit t.rounds t.ids t.channels (sizes_of t p))
     (sizes_fit u.rounds u.ids u.channels (sizes_of u q)) told told' same
 
-pub header_once : (v w : Written) (x y : List ℕ) → IsBegunText v → IsBegunText w → lines_then v x ≡ lines_then w y → HaveOneHead v w x y
+pub header_once : (v w : Written) (x y : List ℕ) → IsBegunText v → IsBegunText w →
+    lines_then v x ≡ lines_then w y → HaveOneHead v w x y
 unfolding lines_then
 header_once v w x y p q same =
     let title = title_once v.version w.version _ _ same in
@@ -140,7 +155,8 @@ lines_once v w x y p q same size =
     let u = w.table in
     let head = header_once v w x y p q same in
     let ws = same_windows v w x y head in
-    let entries = entries_once (windows_of t) t.entries u.entries x y (entries_fit t p.begun) (entries_fit u q.begun) size p.begun.size
+    let entries = entries_once (windows_of t) t.entries u.entries x y (entries_fit t p.begun)
+    (entries_fit u q.begun) size p.begun.size
     (head.entries ∙ ap (λ l. entries_then l u.entries y) (sym ws)) in (
       λ i. record {
         version = head.version i;
@@ -152,31 +168,36 @@ lines_once v w x y p q same size =
 
 -- if the second has more entries, the next line follows the lines of the first
 pub lines_next : (v w : Written) (x y : List ℕ) → IsBegunText v → IsBegunText w → lines_then v x ≡ lines_then w y
-    → length v.table.entries < length w.table.entries → HasLine (windows_of v.table) (length v.table.entries) v.table.channels x
+    → length v.table.entries < length w.table.entries →
+    HasLine (windows_of v.table) (length v.table.entries) v.table.channels x
 lines_next v w x y p q same less =
     let t = v.table in
     let u = w.table in
     let head = header_once v w x y p q same in
     let ws = same_windows v w x y head in
     let below = subst (λ n. All (λ c. c < n) u.entries) (sym head.channels) q.begun.below in
-    entries_next (windows_of t) t.entries u.entries x y t.channels (omega (arith, p.begun.few_channels)) p.begun.below below less
+    entries_next (windows_of t) t.entries u.entries x y t.channels (omega (arith, p.begun.few_channels))
+    p.begun.below below less
     (omega (arith, q.begun.size, ap length ws)) (head.entries ∙ ap (λ l. entries_then l u.entries y) (sym ws))
 
 -- two tables whose lines begin one text are one
-pub tables_once : (v w : Written) (x y : List ℕ) → IsWritten v → IsWritten w → lines_then v x ≡ lines_then w y → (v ≡ w) × (x ≡ y)
+pub tables_once : (v w : Written) (x y : List ℕ) → IsWritten v → IsWritten w →
+    lines_then v x ≡ lines_then w y → (v ≡ w) × (x ≡ y)
 tables_once v w x y p q same =
     let count = ap length (same_windows v w x y (header_once v w x y (begun_of v p) (begun_of w q) same)) in
     lines_once v w x y (begun_of v p) (begun_of w q) same (p.table.size ∙ count ∙ sym q.table.size)
 
 -- if the lines of a table begin a text, the next line follows those of a begun table that lacks an entry
 pub table_next : (v w : Written) (x y : List ℕ) → IsBegunText v → IsWritten w → lines_then v x ≡ lines_then w y
-    → length v.table.entries < length (windows_of v.table) → HasLine (windows_of v.table) (length v.table.entries) v.table.channels x
+    → length v.table.entries < length (windows_of v.table) →
+    HasLine (windows_of v.table) (length v.table.entries) v.table.channels x
 table_next v w x y p q same more =
     let count = ap length (same_windows v w x y (header_once v w x y p (begun_of w q) same)) in
     lines_next v w x y p (begun_of w q) same (omega (arith, more, count, q.table.size))
 
 -- the list at an index among the windows is a window
-pub window_at : NumberOfWindow → WindowsHaveNumbers → (k m n : ℕ) (window : List ℕ) → slice_get (windows k m) n ≡ Some window
+pub window_at : NumberOfWindow → WindowsHaveNumbers → (k m n : ℕ) (window : List ℕ) →
+    slice_get (windows k m) n ≡ Some window
     → IsWindow k m window
 window_at number_of_window windows_have_numbers k m n window at =
     (windows_have_numbers k m window).0 (ap is_some (number_of_window k m n window at))

@@ -40,11 +40,21 @@ ids_of d [] rest some fits small = omega arith
 ids_of d (id ∷ ids) rest some fits small =
     let head = All-head (λ n. n < 10 ^ d) id ids small in
     let digits = length-decimal-le d id some head (omega (arith, head, fits)) in
-    omega (arith, digits, length-append (decimal id) (32 ∷ ids_then ids rest), ids_of d ids rest some fits (All-tail (λ n. n < 10 ^ d) id ids small))
+    omega (
+      arith,
+      digits,
+      length-append (decimal id) (32 ∷ ids_then ids rest),
+      ids_of d ids rest some fits (All-tail (λ n. n < 10 ^ d) id ids small),
+    )
 
-channel_length : (channel : ℕ) (rest : List ℕ) → channel < 10 ^ 4 → length (codes ": " ++ (decimal channel ++ 10 ∷ rest)) ≤ 7 + length rest
+channel_length : (channel : ℕ) (rest : List ℕ) → channel < 10 ^ 4 →
+    length (codes ": " ++ (decimal channel ++ 10 ∷ rest)) ≤ 7 + length rest
 channel_length channel rest small =
-    omega (arith, length-decimal-le 4 channel (omega arith) small (omega (arith, small)), length-append (decimal channel) (10 ∷ rest))
+    omega (
+      arith,
+      length-decimal-le 4 channel (omega arith) small (omega (arith, small)),
+      length-append (decimal channel) (10 ∷ rest),
+    )
 
 -- the maximum number of bytes of the line of a window
 abbrev most_of_line : ℕ
@@ -52,13 +62,15 @@ most_of_line = 31
 
 -- the line of the window has at most that many bytes
 abbrev IsShort : List ℕ → Type 0
-IsShort window = (channel : ℕ) (rest : List ℕ) → channel < 10 ^ 4 → length (entry_then window channel rest) ≤ most_of_line + length rest
+IsShort window = (channel : ℕ) (rest : List ℕ) → channel < 10 ^ 4 →
+    length (entry_then window channel rest) ≤ most_of_line + length rest
 
 -- so have k identifiers of at most d digits
 short_ids : (d k : ℕ) (window : List ℕ) → 0 < d → 10 ^ d < 2 ^ 64 → (d + 1) * k + 7 ≤ most_of_line → length window ≡ k
     → All (λ id. id < 10 ^ d) window → IsShort window
 short_ids d k window some fits room size small channel rest few =
-    let ids : length (entry_then window channel rest) ≤ (d + 1) * k + length (codes ": " ++ (decimal channel ++ 10 ∷ rest)) =
+    let ids : length (entry_then window channel rest)
+    ≤ (d + 1) * k + length (codes ": " ++ (decimal channel ++ 10 ∷ rest)) =
     rw (sym size) (ids_of d window (codes ": " ++ (decimal channel ++ 10 ∷ rest)) some fits small) in
     omega (arith, room, ids, channel_length channel rest few)
 
@@ -66,12 +78,15 @@ ids_below : (m bound : ℕ) (window : List ℕ) → m ≤ bound → All (λ x. x
 ids_below m bound window less below = λ i d within. omega (arith, less, below i d within)
 
 -- two rounds allow at most 23 identifiers, three 12 and four 10
-short_window : (r m : ℕ) (window : List ℕ) → r ≤ MAX_ROUNDS → m ≤ MAX_IDS → falling m (2 * r + 1) ≤ MAX_WINDOWS → IsWindow (2 * r + 1) m window
+short_window : (r m : ℕ) (window : List ℕ) → r ≤ MAX_ROUNDS → m ≤ MAX_IDS →
+    falling m (2 * r + 1) ≤ MAX_WINDOWS → IsWindow (2 * r + 1) m window
     → IsShort window
 short_window zero m window rounds ids few is =
-    short_ids 4 1 window (omega arith) (omega arith) (omega arith) is.size (ids_below m (10 ^ 4) window (omega (arith, ids)) is.below)
+    short_ids 4 1 window (omega arith) (omega arith) (omega arith) is.size
+    (ids_below m (10 ^ 4) window (omega (arith, ids)) is.below)
 short_window (suc zero) m window rounds ids few is =
-    short_ids 4 3 window (omega arith) (omega arith) (omega arith) is.size (ids_below m (10 ^ 4) window (omega (arith, ids)) is.below)
+    short_ids 4 3 window (omega arith) (omega arith) (omega arith) is.size
+    (ids_below m (10 ^ 4) window (omega (arith, ids)) is.below)
 short_window (suc (suc zero)) m window rounds ids few is =
     short_ids 2 5 window (omega arith) (omega arith) (omega arith) is.size
     (ids_below m (10 ^ 2) window (omega (arith, at_most 23 5 m few (omega arith))) is.below)
@@ -84,7 +99,8 @@ short_window (suc (suc (suc (suc zero)))) m window rounds ids few is =
 short_window (suc (suc (suc (suc (suc r))))) m window rounds ids few is = absurd (omega (arith, rounds))
 
 -- each window of a table has a short line
-short_windows : CountOfWindows → NumberOfWindow → WindowsHaveNumbers → (t : ChannelTable) → IsBegun t → All IsShort (windows_of t)
+short_windows : CountOfWindows → NumberOfWindow → WindowsHaveNumbers → (t : ChannelTable) → IsBegun t →
+    All IsShort (windows_of t)
 short_windows count number have t begun = λ i d within.
     let k = 2 * t.rounds + 1 in
     let window = get_or (windows_of t) i d in
@@ -105,10 +121,21 @@ counts_short : (rounds ids channels end : ℕ) (rest : List ℕ) → AreSizes ro
 counts_short rounds ids channels end rest are =
     let third = codes "channels " ++ (decimal channels ++ end ∷ rest) in
     let second = codes "ids " ++ (decimal ids ++ 32 ∷ third) in
-    let few_rounds = length-decimal-le 1 rounds (omega arith) (omega (arith, are.few_rounds)) (omega (arith, are.few_rounds)) in
-    let few_ids = length-decimal-le 4 ids (omega arith) (omega (arith, are.shape.ids.few)) (omega (arith, are.shape.ids.few)) in
-    let few_channels = length-decimal-le 4 channels (omega arith) (omega (arith, are.few_channels)) (omega (arith, are.few_channels)) in
-    omega (arith, few_rounds, few_ids, few_channels, length-append (decimal rounds) (32 ∷ second), length-append (decimal ids) (32 ∷ third), length-append (decimal channels) (end ∷ rest))
+    let few_rounds =
+    length-decimal-le 1 rounds (omega arith) (omega (arith, are.few_rounds)) (omega (arith, are.few_rounds)) in
+    let few_ids =
+    length-decimal-le 4 ids (omega arith) (omega (arith, are.shape.ids.few)) (omega (arith, are.shape.ids.few)) in
+    let few_channels = length-decimal-le 4 channels (omega arith) (omega (arith, are.few_channels))
+    (omega (arith, are.few_channels)) in
+    omega (
+      arith,
+      few_rounds,
+      few_ids,
+      few_channels,
+      length-append (decimal rounds) (32 ∷ second),
+      length-append (decimal ids) (32 ∷ third),
+      length-append (decimal channels) (end ∷ rest),
+    )
 
 -- two distances of at most d digits each
 two_short : (d : ℕ) (s : Separation) (rest : List ℕ) → 0 < d → 10 ^ d < 2 ^ 64 → s.near < 10 ^ d → s.far < 10 ^ d
@@ -123,10 +150,12 @@ two_short d s rest some fits near far =
       length-append (decimal s.far) (10 ∷ rest),
     )
 
-distances_short : (version : Version) (s : Separation) (rest : List ℕ) → IsSeparationOf version s → length (distances_then version s rest) ≤ 19 + length rest
+distances_short : (version : Version) (s : Separation) (rest : List ℕ) → IsSeparationOf version s →
+    length (distances_then version s rest) ≤ 19 + length rest
 distances_short One s rest told = omega arith
 distances_short Two s rest told =
-    let short = two_short 4 s rest (omega arith) (omega arith) (omega (arith, told.small_near)) (omega (arith, told.small_far)) in
+    let short = two_short 4 s rest (omega arith) (omega arith) (omega (arith, told.small_near))
+    (omega (arith, told.small_far)) in
     omega (arith, short)
 
 -- the first two lines have at most 64 bytes
@@ -135,8 +164,10 @@ head_short w rest begun =
     let t = w.table in
     omega (
       arith,
-      title_length w.version (counts_then t.rounds t.ids t.channels (counts_end w.version) (distances_then w.version w.separation rest)),
-      counts_short t.rounds t.ids t.channels (counts_end w.version) (distances_then w.version w.separation rest) (sizes_of t begun.begun),
+      title_length w.version (counts_then t.rounds t.ids t.channels (counts_end w.version)
+          (distances_then w.version w.separation rest)),
+      counts_short t.rounds t.ids t.channels (counts_end w.version) (distances_then w.version w.separation rest)
+          (sizes_of t begun.begun),
       distances_short w.version w.separation rest begun.told,
     )
 
@@ -165,4 +196,9 @@ lines_short count number have w rest begun =
 pub texts_short : CountOfWindows → NumberOfWindow → WindowsHaveNumbers → TableTextsAreShort
 unfolding text_of
 texts_short count number have w is =
-    omega (arith, lines_short count number have w (end_then []) (begun_of w is), is.table.size, is.table.begun.shape.few_windows)
+    omega (
+      arith,
+      lines_short count number have w (end_then []) (begun_of w is),
+      is.table.size,
+      is.table.begun.shape.few_windows,
+    )

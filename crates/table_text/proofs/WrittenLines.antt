@@ -11,15 +11,18 @@ use Rattle.table_text.specs.Pieces.{id_text, channel_text}
 use Rattle.table_text.proofs.TextsApart.{ids_append, entry_append, lines_append}
 
 -- one more identifier
-pub ids_more : (ids : List ℕ) (id : ℕ) (rest : List ℕ) → ids_then (ids ++ id ∷ []) rest ≡ ids_then ids [] ++ (decimal id ++ 32 ∷ rest)
+pub ids_more : (ids : List ℕ) (id : ℕ) (rest : List ℕ) →
+    ids_then (ids ++ id ∷ []) rest ≡ ids_then ids [] ++ (decimal id ++ 32 ∷ rest)
 ids_more [] id rest = refl
-ids_more (x ∷ ids) id rest = ap (λ l. decimal x ++ 32 ∷ l) (ids_more ids id rest) ∙ sym (append_assoc (decimal x) (32 ∷ ids_then ids []) (decimal id ++ 32 ∷ rest))
+ids_more (x ∷ ids) id rest = ap (λ l. decimal x ++ 32 ∷ l) (ids_more ids id rest)
+    ∙ sym (append_assoc (decimal x) (32 ∷ ids_then ids []) (decimal id ++ 32 ∷ rest))
 
 -- the line of a window, from its prefix, its last identifier and its channel
 pub line_of_run : (front : List ℕ) (id channel : ℕ)
     → ids_then front [] ++ (id_text id ++ channel_text channel) ≡ entry_then (front ++ id ∷ []) channel []
 line_of_run front id channel =
-    sym (append_assoc (ids_then front []) (id_text id) (channel_text channel)) ∙ ap (λ text. text ++ channel_text channel) (sym (ids_more front id []))
+    sym (append_assoc (ids_then front []) (id_text id) (channel_text channel))
+    ∙ ap (λ text. text ++ channel_text channel) (sym (ids_more front id []))
     ∙ ids_append (front ++ id ∷ []) [] (channel_text channel)
 
 -- the same line, followed by a rest
@@ -27,7 +30,8 @@ pub line_before : (front : List ℕ) (id channel : ℕ) (rest : List ℕ)
     → ids_then front [] ++ (id_text id ++ (channel_text channel ++ rest)) ≡ entry_then (front ++ id ∷ []) channel rest
 line_before front id channel rest =
     ap (λ l. ids_then front [] ++ l) (sym (append_assoc (id_text id) (channel_text channel) rest))
-    ∙ sym (append_assoc (ids_then front []) (id_text id ++ channel_text channel) rest) ∙ ap (λ l. l ++ rest) (line_of_run front id channel)
+    ∙ sym (append_assoc (ids_then front []) (id_text id ++ channel_text channel) rest)
+    ∙ ap (λ l. l ++ rest) (line_of_run front id channel)
     ∙ entry_append (front ++ id ∷ []) channel [] rest
 
 -- the table with its first entries only
@@ -36,8 +40,10 @@ front_of t n = record t { entries = take n t.entries }
 
 -- one more line
 pub front_more :
-    (t : ChannelTable) (s : Separation) (n channel : ℕ) (window text line : List ℕ) → n < length t.entries → slice_get (windows_of t) n ≡ Some window
-    → text ≡ lines_then (written Two (front_of t n) s) [] → channel ≡ get_or t.entries n 0 → line ≡ entry_then window channel []
+    (t : ChannelTable) (s : Separation) (n channel : ℕ) (window text line : List ℕ) → n < length t.entries →
+    slice_get (windows_of t) n ≡ Some window
+    → text ≡ lines_then (written Two (front_of t n) s) [] → channel ≡ get_or t.entries n 0 →
+    line ≡ entry_then window channel []
     → text ++ line ≡ lines_then (written Two (front_of t (n + 1)) s) []
 front_more t s n channel window text line lt next told is wrote =
     let size : length (take n t.entries) ≡ n = length-take-le n t.entries (omega arith) in

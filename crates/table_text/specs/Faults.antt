@@ -37,7 +37,8 @@ IsNextWindow t ids = slice_get (windows_of t) (length t.entries) ≡ Some ids
 abbrev pub IsFault : List ℕ → TableFault → Type 0
 IsFault text (Syntax offset) =
     ((LONGEST_TABLE_TEXT < length text) × (offset ≡ LONGEST_TABLE_TEXT))
-    ⊎ ((length text ≤ LONGEST_TABLE_TEXT) × (rest : List ℕ) × IsMalformed text rest × (offset + length rest ≡ length text))
+    ⊎ ((length text ≤ LONGEST_TABLE_TEXT) × (rest : List ℕ) × IsMalformed text rest
+    × (offset + length rest ≡ length text))
 IsFault text (WrongWindow line) =
     (length text ≤ LONGEST_TABLE_TEXT)
     × (w : Written) × (ids : List ℕ) × (channel : ℕ) × HasNext text w ids channel × (¬ IsNextWindow w.table ids)

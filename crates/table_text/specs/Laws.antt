@@ -23,7 +23,8 @@ TableTextsAreRead = (w : Written) (fault : TableFault) → IsWritten w → IsFau
 -- a text that is too long has one fault, at the limit, and even refused memory does not replace it
 abbrev pub LongTextsHaveOneFault : Type 0
 LongTextsHaveOneFault =
-    (text : List ℕ) (fault : TableFault) → LONGEST_TABLE_TEXT < length text → IsFault text fault ↔ (fault ≡ Syntax LONGEST_TABLE_TEXT)
+    (text : List ℕ) (fault : TableFault) → LONGEST_TABLE_TEXT < length text →
+    IsFault text fault ↔ (fault ≡ Syntax LONGEST_TABLE_TEXT)
 
 -- a text has at most one fault besides OutOfMemory
 abbrev pub OneTableFault : Type 0

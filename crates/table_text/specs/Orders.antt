@@ -11,7 +11,8 @@ pub record IsOrder (k m : ℕ) (order : List ℕ) : Type 0 where
 -- next has the number after the window's, if there is a window with that number
 abbrev pub IsFollowedBy : ℕ → ℕ → List ℕ → List ℕ → Type 0
 IsFollowedBy k m window next =
-    (n : ℕ) → slice_get (windows k m) n ≡ Some window → n + 1 < length (windows k m) → slice_get (windows k m) (n + 1) ≡ Some next
+    (n : ℕ) → slice_get (windows k m) n ≡ Some window → n + 1 < length (windows k m) →
+    slice_get (windows k m) (n + 1) ≡ Some next
 
 -- an order whose window is the next one, if there is a next one
 pub record IsStep (k m : ℕ) (old new : List ℕ) : Type 0 where

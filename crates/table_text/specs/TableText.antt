@@ -26,7 +26,8 @@ title_then Two rest = codes "nbhd-table 2" ++ 10 ∷ rest
 -- the numbers of rounds, of identifiers and of channels, and the byte after them
 abbrev pub counts_then : ℕ → ℕ → ℕ → ℕ → List ℕ → List ℕ
 counts_then rounds ids channels end rest =
-    codes "rounds " ++ (decimal rounds ++ 32 ∷ (codes "ids " ++ (decimal ids ++ 32 ∷ (codes "channels " ++ (decimal channels ++ end ∷ rest)))))
+    codes "rounds " ++ (decimal rounds ++ 32
+    ∷ (codes "ids " ++ (decimal ids ++ 32 ∷ (codes "channels " ++ (decimal channels ++ end ∷ rest)))))
 
 -- the byte after the number of channels: it ends the line in version 1, and near and far follow it in version 2
 abbrev pub counts_end : Version → ℕ
@@ -40,7 +41,8 @@ distances_then Two s rest = codes "near " ++ (decimal s.near ++ 32 ∷ (codes "f
 
 -- the line of the numbers of rounds, identifiers and channels, and in version 2 of near and far
 abbrev pub sizes_then : Version → ℕ → ℕ → ℕ → Separation → List ℕ → List ℕ
-sizes_then version rounds ids channels s rest = counts_then rounds ids channels (counts_end version) (distances_then version s rest)
+sizes_then version rounds ids channels s rest =
+    counts_then rounds ids channels (counts_end version) (distances_then version s rest)
 
 -- identifiers, each followed by a blank
 abbrev pub ids_then : List ℕ → List ℕ → List ℕ
@@ -56,7 +58,8 @@ entry_then window channel rest = ids_then window (codes ": " ++ (decimal channel
 abbrev pub entries_then : List (List ℕ) → List ℕ → List ℕ → List ℕ
 entries_then windows [] rest = rest
 entries_then [] (channel ∷ channels) rest = rest
-entries_then (window ∷ windows) (channel ∷ channels) rest = entry_then window channel (entries_then windows channels rest)
+entries_then (window ∷ windows) (channel ∷ channels) rest =
+    entry_then window channel (entries_then windows channels rest)
 
 -- the last line
 abbrev pub end_then : List ℕ → List ℕ
@@ -64,7 +67,8 @@ end_then rest = codes "end" ++ 10 ∷ rest
 
 -- the first two lines
 abbrev pub head_then : Written → List ℕ → List ℕ
-head_then w rest = title_then w.version (sizes_then w.version w.table.rounds w.table.ids w.table.channels w.separation rest)
+head_then w rest =
+    title_then w.version (sizes_then w.version w.table.rounds w.table.ids w.table.channels w.separation rest)
 
 -- the first two lines, and a line for each entry of the table
 unfoldable pub lines_then : Written → List ℕ → List ℕ

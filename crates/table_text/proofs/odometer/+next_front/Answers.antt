@@ -13,22 +13,30 @@ returns-then-len-eq0-clause-step t c =
 
 pub place_among_unused-requires : goal.place_among_unused-requires
 place_among_unused-requires t c =
-    (shorter_window c.args.len (length c.args.order.now) (c.args.len - 1) c.args.order.now (omega arith) c.requires.order.window).distinct
+    (shorter_window c.args.len (length c.args.order.now) (c.args.len - 1) c.args.order.now (omega arith)
+    c.requires.order.window).distinct
 
 pub returns-then-place-order-clause-step : goal.returns-then-place-order-clause-step
 returns-then-place-order-clause-step t c =
     let k = c.args.len - 1 in
     let order = c.args.order.now in
     let last : k + 1 ≡ c.args.len = omega arith in
-    let place : c.args.len + c.place_among_unused.result ≡ place_of k order = omega (arith, c.place_among_unused.ensures) in
-    let swap = c.swap.ensures.after ∙ sym (swap_is order k (c.args.len + c.place_among_unused.result) 0 (omega (arith, c.requires.within)) c.if-place-order.true) in
-    rw last at (swapped k (length order) order c.swap.new.self (rw last c.requires.order) (subst (λ n. n < length order) place c.if-place-order.true)
+    let place : c.args.len + c.place_among_unused.result ≡ place_of k order =
+    omega (arith, c.place_among_unused.ensures) in
+    let swap = c.swap.ensures.after
+    ∙ sym (swap_is order k (c.args.len + c.place_among_unused.result) 0 (omega (arith, c.requires.within))
+    c.if-place-order.true) in
+    rw last at (swapped k (length order) order c.swap.new.self (rw last c.requires.order)
+    (subst (λ n. n < length order) place c.if-place-order.true)
     (swap ∙ ap (λ n. set (set order k (get_or order n 0)) n (get_or order k 0)) place))
 
 pub carry-requires : goal.carry-requires
 carry-requires t c =
     let last : c.args.len - 1 + 1 ≡ c.args.len = omega arith in
-    record { order = rw last c.requires.order; largest = omega (arith, c.place_among_unused.ensures, c.if-place-order.false) }
+    record {
+      order = rw last c.requires.order;
+      largest = omega (arith, c.place_among_unused.ensures, c.if-place-order.false);
+    }
 
 pub returns-clause-step : goal.returns-clause-step
 returns-clause-step t c =
@@ -44,4 +52,5 @@ pub returns-clause-kept : goal.returns-clause-kept
 returns-clause-kept t c =
     let k = c.args.len - 1 in
     let few = c.next_front.ensures.few in
-    c.next_front.ensures.kept ∙ sym (take-take _ k c.carry.new.order few) ∙ ap (take c.next_front.result) c.carry.ensures.1 ∙ take-take _ k c.args.order.now few
+    c.next_front.ensures.kept ∙ sym (take-take _ k c.carry.new.order few)
+    ∙ ap (take c.next_front.result) c.carry.ensures.1 ∙ take-take _ k c.args.order.now few

@@ -9,6 +9,7 @@ loop-id-preserved c =
     let id = c.loop-id.id in
     record {
       size = length-set order id id ∙ c.loop-id.invariant.size;
-      rising = take_more_set order id id (omega (arith, c.loop-id.invariant.size, c.requires)) ∙ ap (λ l. l ++ id ∷ []) c.loop-id.invariant.rising
+      rising = take_more_set order id id (omega (arith, c.loop-id.invariant.size, c.requires))
+          ∙ ap (λ l. l ++ id ∷ []) c.loop-id.invariant.rising
           ∙ sym (range_with_len-append 0 id 1 id (omega arith));
     }

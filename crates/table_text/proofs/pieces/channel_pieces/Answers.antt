@@ -11,6 +11,7 @@ loop-channel-preserved c =
     let made = c.in_ok-channel_piece.ensures ∙ ap channel_text (sym c.loop-channel.invariant.count) in
     let pushed = c.in_ok-push.ensures.items in
     record {
-      texts = subst (AreTexts channel_text) (sym pushed) (texts_more channel_text pieces piece c.loop-channel.invariant.texts made);
+      texts = subst (AreTexts channel_text) (sym pushed)
+          (texts_more channel_text pieces piece c.loop-channel.invariant.texts made);
       count = ap length pushed ∙ length-append pieces (piece ∷ []) ∙ ap (λ n. n + 1) c.loop-channel.invariant.count;
     }

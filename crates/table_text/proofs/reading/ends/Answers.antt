@@ -6,7 +6,8 @@ use Rattle.table_text.specs.Faults.{no_end, bytes_after}
 use Rattle.table_text.proofs.reading.ends.Goals as goal
 
 pub syntax-requires-clause-malformed : goal.syntax-requires-clause-malformed
-syntax-requires-clause-malformed c = no_end (written c.args.version c.args.table.now c.args.separation) c.requires.written c.requires.lines c.in_default.ensures
+syntax-requires-clause-malformed c = no_end (written c.args.version c.args.table.now c.args.separation)
+    c.requires.written c.requires.lines c.in_default.ensures
 
 pub syntax-requires-then-not-is_empty-clause-malformed : goal.syntax-requires-then-not-is_empty-clause-malformed
 syntax-requires-then-not-is_empty-clause-malformed c =

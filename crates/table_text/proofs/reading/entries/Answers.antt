@@ -45,7 +45,9 @@ lines-init c =
       front_is = c.first-odometer.ensures.of.0 ∙ ap (λ n. 2 * n) c.rounds-level.ensures;
       ids_is = c.first-odometer.ensures.of.1 ∙ c.ids-2.ensures;
       next = λ _. rw (c.rounds-level.ensures, c.ids-2.ensures) at c.first-odometer.ensures.first;
-      read = c.requires.header ∙ ap (λ t. lines_then (written c.args.version t c.args.header.separation) c.args.start.now) (sym made);
+      read =
+          c.requires.header ∙ ap (λ t. lines_then (written c.args.version t c.args.header.separation) c.args.start.now)
+          (sym made);
     }
 
 pub syntax-requires-clause-malformed : goal.syntax-requires-clause-malformed
@@ -57,7 +59,8 @@ syntax-requires-clause-malformed c =
     record {
       begun = record { begun = inv.begun; told = c.requires.told };
       before = inv.read;
-      more = rw (inv.rounds, inv.ids) (room_for _ _ _ _ inv.count c.lines-test.true (rw c.rounds-level.ensures at count));
+      more =
+          rw (inv.rounds, inv.ids) (room_for _ _ _ _ inv.count c.lines-test.true (rw c.rounds-level.ensures at count));
     } in
     let width : length (window_of c.lines.odometer) ≡ 2 * c.lines.maker.rounds + 1 =
     rw inv.rounds (window_size c.lines.odometer inv.shows ∙ ap (λ n. n + 1) inv.front_is) in
@@ -71,22 +74,28 @@ lines-preserved c =
     let pushed = c.push.ensures in
     let level = c.rounds-level.ensures in
     let count = rw level at c.count-count.ensures.value in
-    let room : length t.entries < length (windows_of t) = rw (inv.rounds, inv.ids) (room_for _ _ _ _ inv.count c.lines-test.true count) in
+    let room : length t.entries < length (windows_of t) =
+    rw (inv.rounds, inv.ids) (room_for _ _ _ _ inv.count c.lines-test.true count) in
     let within = rw count at c.lines-test.true in
-    let next : slice_get (windows_of t) (length t.entries) ≡ Some (window_of c.lines.odometer) = rw (inv.rounds, inv.ids, inv.count) (inv.next within) in
+    let next : slice_get (windows_of t) (length t.entries) ≡ Some (window_of c.lines.odometer) =
+    rw (inv.rounds, inv.ids, inv.count) (inv.next within) in
     let advanced = c.advance.ensures in
     record {
       ids = ap (λ m. m.ids) pushed ∙ inv.ids;
       rounds = ap (λ m. m.rounds) pushed ∙ inv.rounds;
       channels = ap (λ m. m.channels) pushed ∙ inv.channels;
-      begun = subst IsBegun (sym pushed) (begun_more t channel inv.begun room (rw inv.channels (c.is_too_large.ensures.no c.if-is_too_large.false)));
+      begun =
+          subst IsBegun (sym pushed)
+          (begun_more t channel inv.begun room (rw inv.channels (c.is_too_large.ensures.no c.if-is_too_large.false)));
       count = ap (λ m. length m.entries) pushed ∙ length_push t.entries channel ∙ ap (λ n. n + 1) inv.count;
       shows = advanced.is;
       front_is = advanced.same.0 ∙ inv.front_is;
       ids_is = advanced.same.1 ∙ inv.ids_is;
-      next = followed_at (2 * c.args.header.shape.rounds) c.args.header.shape.ids c.lines.odometer c.advance.new.self inv.front_is inv.ids_is advanced.next
+      next = followed_at (2 * c.args.header.shape.rounds) c.args.header.shape.ids c.lines.odometer c.advance.new.self
+          inv.front_is inv.ids_is advanced.next
           c.lines.number (inv.next within);
-      read = lines_more c.args.version t c.args.header.separation c.args.text.now c.lines.rest.now (window_of c.lines.odometer) channel c.in-Entry.after.now inv.read next c.in-Entry.ensures.spelled
+      read = lines_more c.args.version t c.args.header.separation c.args.text.now c.lines.rest.now
+          (window_of c.lines.odometer) channel c.in-Entry.after.now inv.read next c.in-Entry.ensures.spelled
           ∙ ap (λ m. lines_then (written c.args.version m c.args.header.separation) c.in-Entry.after.now) (sym pushed);
     }
 
@@ -128,7 +137,8 @@ returns-then-is_too_large-clause-fault c =
     rw inv.rounds (window_size c.lines.odometer inv.shows ∙ ap (λ n. n + 1) inv.front_is) in
     let own = rw width at c.in-Entry.ensures in
     let below = rw count at c.lines-test.true in
-    let next : slice_get (windows_of c.lines.maker) (length c.lines.maker.entries) ≡ Some (window_of c.lines.odometer) = rw (inv.rounds, inv.ids, inv.count) (inv.next below) in (
+    let next : slice_get (windows_of c.lines.maker) (length c.lines.maker.entries)
+    ≡ Some (window_of c.lines.odometer) = rw (inv.rounds, inv.ids, inv.count) (inv.next below) in (
       c.requires.short,
       w,
       window_of c.lines.odometer,

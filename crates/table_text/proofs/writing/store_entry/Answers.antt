@@ -10,5 +10,6 @@ returns c =
     let last : piece_text c.index-ids-last.result ≡ id_text c.args.last =
     ap piece_text c.index-ids-last.is ∙ piece_at id_text c.deref-ids.result.now c.args.last _ ids (search rules) in
     let end : piece_text c.index-ends-channel.result ≡ channel_text c.args.channel =
-    ap piece_text c.index-ends-channel.is ∙ piece_at channel_text c.deref-ends.result.now c.args.channel _ ends (search rules) in
+    ap piece_text c.index-ends-channel.is
+    ∙ piece_at channel_text c.deref-ends.result.now c.args.channel _ ends (search rules) in
     c.store_line.ensures ∙ (λ i. c.args.chunk.now ++ (prefix_text c.args.prefix.now ++ (last i ++ end i)))

@@ -50,7 +50,8 @@ entry-requires g c =
     let t = c.args.table.now in
     let shape = c.shape-shape.ensures in
     let level_is : c.rounds-level.result ≡ t.rounds = c.rounds-level.ensures ∙ shape.rounds in
-    below_count c.loop-number.number c.count-count.result (length (windows_of t)) (length t.entries) c.loop-number-test.true
+    below_count c.loop-number.number c.count-count.result (length (windows_of t)) (length t.entries)
+    c.loop-number-test.true
     (c.count-count.ensures.value ∙ (λ i. length (windows (2 * level_is i + 1) (shape.ids i)))) shape.table.size
 
 pub store_entry-requires-clause-channel : goal.store_entry-requires-clause-channel
@@ -58,7 +59,8 @@ store_entry-requires-clause-channel g c =
     let t = c.args.table.now in
     let shape = c.shape-shape.ensures in
     let level_is : c.rounds-level.result ≡ t.rounds = c.rounds-level.ensures ∙ shape.rounds in
-    let within = below_count c.loop-number.number c.count-count.result (length (windows_of t)) (length t.entries) c.loop-number-test.true
+    let within = below_count c.loop-number.number c.count-count.result (length (windows_of t)) (length t.entries)
+    c.loop-number-test.true
     (c.count-count.ensures.value ∙ (λ i. length (windows (2 * level_is i + 1) (shape.ids i)))) shape.table.size in
     rw (c.requires.pieces.all_channels, c.entry.ensures.value) (shape.table.begun.below c.loop-number.number 0 within)
 
@@ -70,7 +72,8 @@ loop-number-preserved g c =
     let shape = c.shape-shape.ensures in
     let inv = c.loop-number.invariant in
     let level : c.rounds-level.result ≡ t.rounds = c.rounds-level.ensures ∙ shape.rounds in
-    let count : c.count-count.result ≡ length (windows_of t) = c.count-count.ensures.value ∙ (λ i. length (windows (2 * level i + 1) (shape.ids i))) in
+    let count : c.count-count.result ≡ length (windows_of t) = c.count-count.ensures.value
+    ∙ (λ i. length (windows (2 * level i + 1) (shape.ids i))) in
     let within : n < length (windows_of t) = rw (← count) c.loop-number-test.true in
     let odometer = c.loop-number.odometer in
     let window = window_of odometer in
@@ -78,34 +81,40 @@ loop-number-preserved g c =
     let line = entry_then window channel [] in
     let stored : c.store_entry.new.chunk ≡ c.make_room.new.self ++ line =
     c.store_entry.ensures ∙ ap (λ text. c.make_room.new.self ++ text)
-    ((λ i. inv.shows.text i ++ (id_text (c.last_id-last.ensures.last i) ++ channel_text channel)) ∙ line_of_run (front_of odometer) (last_of odometer) channel) in
+    ((λ i. inv.shows.text i ++ (id_text (c.last_id-last.ensures.last i) ++ channel_text channel))
+    ∙ line_of_run (front_of odometer) (last_of odometer) channel) in
     let before = tells_moved _ _ _ _ _ _ inv.told c.in_ok-make_room.ensures.ok in
     let more = tells_more _ _ _ c.store_entry.new.chunk line _ before stored in
     let own : n < length t.entries = rw shape.table.size within in
-    let lines = front_more t c.args.separation n c.entry.result window _ line own (inv.next within) refl c.entry.ensures.value refl in
+    let lines = front_more t c.args.separation n c.entry.result window _ line own (inv.next within) refl
+    c.entry.ensures.value refl in
     let advanced = c.advance.ensures in
     record {
       shows = advanced.is;
       front = advanced.same.0 ∙ inv.front;
       ids = advanced.same.1 ∙ inv.ids;
-      next = followed_at (2 * t.rounds) t.ids odometer c.advance.new.self inv.front inv.ids advanced.next n (inv.next within);
+      next = followed_at (2 * t.rounds) t.ids odometer c.advance.new.self inv.front inv.ids advanced.next n
+          (inv.next within);
       working = search rules;
       told = subst (IsWrittenSoFar _ _ c.store_entry.new.chunk) lines more;
     }
 
 pub returns-clause-room : goal.returns-clause-room
-returns-clause-room g c = on_ok_weaker c.make_room-2.result (room_left (length c.make_room-2.new.self)) c.make_room-2.ensures.room
+returns-clause-room g c =
+    on_ok_weaker c.make_room-2.result (room_left (length c.make_room-2.new.self)) c.make_room-2.ensures.room
 
 pub returns-clause-ok : goal.returns-clause-ok
 returns-clause-ok g c =
     let t = c.args.table.now in
     let shape = c.shape-shape.ensures in
     let level_is : c.rounds-level.result ≡ t.rounds = c.rounds-level.ensures ∙ shape.rounds in
-    let all = all_lines c.loop-number.number c.count-count.result (length (windows_of t)) (length t.entries) c.loop-number-test.false
+    let all = all_lines c.loop-number.number c.count-count.result (length (windows_of t)) (length t.entries)
+    c.loop-number-test.false
     (c.count-count.ensures.value ∙ (λ i. length (windows (2 * level_is i + 1) (shape.ids i)))) shape.table.size in
     let told = subst
     (λ (entries : List ℕ).
-    IsWrittenSoFar (g.W.Write.contents (device_of c.args.writer.now)) (g.W.Write.contents (device_of c.loop-number.writer)) c.loop-number.chunk
+    IsWrittenSoFar (g.W.Write.contents (device_of c.args.writer.now))
+    (g.W.Write.contents (device_of c.loop-number.writer)) c.loop-number.chunk
     (lines_then (written Two (record t { entries = entries }) c.args.separation) []))
     (take_all c.loop-number.number t.entries all) c.loop-number.invariant.told in
     on_ok_weaker c.make_room-2.result (λ moved. tells_moved _ _ _ _ _ _ told moved) c.make_room-2.ensures.ok
@@ -114,10 +123,13 @@ pub returns-in_err-make_room-clause-err : goal.returns-in_err-make_room-clause-e
 returns-in_err-make_room-clause-err g c =
     let t = c.args.table.now in
     let front = lines_front t c.args.separation c.loop-number.number (le_same c.shape-shape.ensures.table.size) in
-    on_err c.from_residual.result (tells_front _ _ _ _ _ _ front.0 c.loop-number.invariant.told c.in_err-make_room.ensures.err front.1)
+    on_err c.from_residual.result
+    (tells_front _ _ _ _ _ _ front.0 c.loop-number.invariant.told c.in_err-make_room.ensures.err front.1)
 
 pub returns-clause-err : goal.returns-clause-err
 returns-clause-err g c =
     let t = c.args.table.now in
     let front = lines_front t c.args.separation c.loop-number.number (le_same c.shape-shape.ensures.table.size) in
-    on_err_weaker c.make_room-2.result (λ failed. tells_front _ _ _ _ _ _ front.0 c.loop-number.invariant.told failed front.1) c.make_room-2.ensures.err
+    on_err_weaker c.make_room-2.result
+    (λ failed. tells_front _ _ _ _ _ _ front.0 c.loop-number.invariant.told failed front.1)
+    c.make_room-2.ensures.err

@@ -14,8 +14,10 @@ invariant-loop-number g l =
       shows : IsOdometer l.odometer;
       front : l.odometer.front ≡ 2 * l.table.rounds;
       ids : l.odometer.ids ≡ l.table.ids;
-      next : l.number < length (windows (2 * l.table.rounds + 1) l.table.ids) → slice_get (windows (2 * l.table.rounds + 1) l.table.ids) l.number ≡ Some (window_of l.odometer);
+      next : l.number < length (windows (2 * l.table.rounds + 1) l.table.ids) →
+          slice_get (windows (2 * l.table.rounds + 1) l.table.ids) l.number ≡ Some (window_of l.odometer);
       working : has_failed l.writer ≡ false;
-      told : IsWrittenSoFar (g.W.Write.contents (device_of l.initial.writer)) (g.W.Write.contents (device_of l.writer)) l.chunk
+      told : IsWrittenSoFar (g.W.Write.contents (device_of l.initial.writer))
+          (g.W.Write.contents (device_of l.writer)) l.chunk
           (lines_then (written Two (record l.table { entries = take l.number l.table.entries }) l.fn.separation) []);
     }

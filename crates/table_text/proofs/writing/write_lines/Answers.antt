@@ -11,16 +11,22 @@ pub returns-clause-ok : goal.returns-clause-ok
 unfolding text_of
 returns-clause-ok g c =
     let w = written Two c.args.table.now c.args.separation in
-    let held_is : c.store.new.chunk ≡ c.write_entries.new.chunk ++ end_then [] = c.store.ensures.held ∙ ap (λ piece. c.write_entries.new.chunk ++ piece) c.piece_of.ensures in
-    let told = tells_more _ _ _ c.store.new.chunk (end_then []) (lines_then w []) c.in_ok-write_entries.ensures.ok held_is in
+    let held_is : c.store.new.chunk ≡ c.write_entries.new.chunk ++ end_then [] = c.store.ensures.held
+    ∙ ap (λ piece. c.write_entries.new.chunk ++ piece) c.piece_of.ensures in
+    let told =
+    tells_more _ _ _ c.store.new.chunk (end_then []) (lines_then w []) c.in_ok-write_entries.ensures.ok held_is in
     on_ok_weaker c.send.result
-    (λ sent. tells_all _ _ _ _ _ (subst (IsWrittenSoFar _ _ c.store.new.chunk) (lines_append w [] (end_then [])) told) sent) c.send.ensures.ok
+    (λ sent. tells_all _ _ _ _ _ (subst (IsWrittenSoFar _ _ c.store.new.chunk) (lines_append w [] (end_then [])) told)
+    sent) c.send.ensures.ok
 
 pub returns-clause-err : goal.returns-clause-err
 unfolding text_of
 returns-clause-err g c =
     let w = written Two c.args.table.now c.args.separation in
-    let held_is : c.store.new.chunk ≡ c.write_entries.new.chunk ++ end_then [] = c.store.ensures.held ∙ ap (λ piece. c.write_entries.new.chunk ++ piece) c.piece_of.ensures in
-    let told = tells_more _ _ _ c.store.new.chunk (end_then []) (lines_then w []) c.in_ok-write_entries.ensures.ok held_is in
+    let held_is : c.store.new.chunk ≡ c.write_entries.new.chunk ++ end_then [] = c.store.ensures.held
+    ∙ ap (λ piece. c.write_entries.new.chunk ++ piece) c.piece_of.ensures in
+    let told =
+    tells_more _ _ _ c.store.new.chunk (end_then []) (lines_then w []) c.in_ok-write_entries.ensures.ok held_is in
     on_err_weaker c.send.result
-    (λ failed. tells_front _ _ _ _ _ _ [] told failed (append-nil (lines_then w [] ++ end_then []) ∙ lines_append w [] (end_then []))) c.send.ensures.err
+    (λ failed. tells_front _ _ _ _ _ _ [] told failed
+    (append-nil (lines_then w [] ++ end_then []) ∙ lines_append w [] (end_then []))) c.send.ensures.err

@@ -34,6 +34,7 @@ returns-clause-first c =
     let order = c.rising-order.result in
     let k = c.args.front in
     let m = c.args.ids in
-    let made = first_order (k + 1) m (take m order) (omega (arith, c.requires.within)) (subst (IsOrder 0 m) (sym c.rising-order.ensures) (rising_order m)) in
+    let made = first_order (k + 1) m (take m order) (omega (arith, c.requires.within))
+    (subst (IsOrder 0 m) (sym c.rising-order.ensures) (rising_order m)) in
     made.1 ∙ ap Some (take-take (k + 1) m order (omega (arith, c.requires.within))
     ∙ take_more order k 0 (omega (arith, length-take m order, made.0.size, c.requires.within)))

@@ -14,10 +14,14 @@ show-requires-clause-kept c =
     let size : length c.next_front-kept.new.order ≡ o.ids = made.step.order.size ∙ is.order.size in
     let le : o.front ≤ o.ids = omega (arith, is.from, is.within) in
     let short : o.front ≤ length c.next_front-kept.new.order = omega (arith, size, le) in
-    let old : length (take o.front o.order) ≡ o.front = length-take-le o.front o.order (omega (arith, length-take o.ids o.order, is.order.size)) in (
-      rw (take-append-le o.front c.next_front-kept.new.order _ short) (omega (arith, made.few, length-take-le o.front c.next_front-kept.new.order short)),
-      subst (HasTexts o.prefix.bytes o.prefix.ends) (sym (kept_front kept o.front o.ids o.order c.next_front-kept.new.order _ made.few le size made.kept))
-          (texts_front o.prefix.bytes o.prefix.ends (take o.front o.order) kept is.texts (omega (arith, made.few, old))),
+    let old : length (take o.front o.order) ≡ o.front =
+    length-take-le o.front o.order (omega (arith, length-take o.ids o.order, is.order.size)) in (
+      rw (take-append-le o.front c.next_front-kept.new.order _ short)
+          (omega (arith, made.few, length-take-le o.front c.next_front-kept.new.order short)),
+      subst (HasTexts o.prefix.bytes o.prefix.ends)
+          (sym (kept_front kept o.front o.ids o.order c.next_front-kept.new.order _ made.few le size made.kept))
+          (texts_front o.prefix.bytes o.prefix.ends (take o.front o.order) kept is.texts
+          (omega (arith, made.few, old))),
     )
 
 pub returns-clause-next : goal.returns-clause-next
@@ -27,5 +31,9 @@ returns-clause-next c =
     let new = c.next_front-kept.new.order in
     let last : o.last + 1 ≡ o.ids = omega (arith, is.within, c.requires.is.1) in
     let size : length new ≡ o.ids = c.next_front-kept.ensures.step.order.size ∙ is.order.size in
-    let step = next_run o.front o.ids o.last o.order new is.order is.from last (rw is.order.size at c.next_front-kept.ensures.step) in
-    rw (take-append-le o.front new _ (omega (arith, size, is.from, is.within)), get_or_append_left new _ 0 o.front (omega (arith, size, is.from, is.within))) step
+    let step = next_run o.front o.ids o.last o.order new is.order is.from last
+    (rw is.order.size at c.next_front-kept.ensures.step) in
+    rw (
+      take-append-le o.front new _ (omega (arith, size, is.from, is.within)),
+      get_or_append_left new _ 0 o.front (omega (arith, size, is.from, is.within)),
+    ) step
