@@ -88,14 +88,15 @@ distances_once Two s u x y p q same =
     (λ i. record { near = one.0 i; far = one.1 i }, one.2)
 
 -- if the second line gives sizes, its first numbers are those of a table, and they are followed by a separation
-pub sizes_are : (version : Version) (text : List ℕ) (r i k : ℕ) (rest : List ℕ) → Fit r i k →
-    text ≡ counts_then r i k (counts_end version) rest
+pub sizes_are : (version : Version) (text : List ℕ) (r i k end : ℕ) (rest : List ℕ) →
+    (r < 2 ^ 32) × (i < 2 ^ 32) × (k < 2 ^ 32) → text ≡ counts_then r i k end rest → end ≡ counts_end version
     → HasSizes version text → AreSizes r i k × (s : Separation) × (after : List ℕ) × IsSeparationOf version s
     × (rest ≡ distances_then version s after)
-sizes_are version text r i k rest fit same has =
-    let one = counts_once (counts_end version) r i k has.0 has.1 has.2 rest _ (counts_end_small version) fit
+sizes_are version text r i k end rest fit same ends has =
+    let fits : Fit r i k = record { rounds_fit = fit.0; ids_fit = fit.1; channels_fit = fit.2 } in
+    let one = counts_once (counts_end version) r i k has.0 has.1 has.2 rest _ (counts_end_small version) fits
     (sizes_fit has.0 has.1 has.2 has.5)
-    (sym same ∙ has.7) in
+    (sym (same ∙ ap (λ e. counts_then r i k e rest) ends) ∙ has.7) in
     (rw (one.0, one.1, one.2) has.5, has.3, has.4, has.6, one.3)
 
 -- the contents of the second line are unique

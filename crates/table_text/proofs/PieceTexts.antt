@@ -1,5 +1,5 @@
 -- The texts of pieces.
-use Rattle.std.proofs.Common.{◌≡◌, ℕ, ◌+◌, ◌<◌, List, [], ◌∷◌, ◌++◌, map, length, get_or, sym, ap, ◌∙◌, arith, length-append}
+use Rattle.std.proofs.Common.{◌≡◌, ℕ, ◌+◌, ◌<◌, List, [], ◌∷◌, ◌++◌, map, length, get_or, sym, ap, subst, ◌∙◌, arith, length-append}
 use Rattle.std.specs.List.{range_with_len}
 use Rattle.std.proofs.lemmas.List.{get_or-map, map-append}
 use Rattle.std.proofs.lemmas.List.FromFn.{get_or-map-range_with_len, map-range_with_len_more}
@@ -7,7 +7,7 @@ use Rattle.table_text.specs.declared.piece.Piece.{Piece}
 use Rattle.table_text.specs.Pieces.{piece_text, AreTexts}
 
 -- one more piece
-pub texts_more :
+texts_more :
     (text : ℕ → List ℕ) (pieces : List Piece) (piece : Piece) → AreTexts text pieces →
     piece_text piece ≡ text (length pieces)
     → AreTexts text (pieces ++ piece ∷ [])
@@ -17,6 +17,15 @@ texts_more text pieces piece are is =
     map-append piece_text pieces (piece ∷ []) ∙ (λ i. are i ++ is i ∷ [])
     ∙ sym (map-range_with_len_more text 0 n n (omega arith))
     ∙ ap (λ k. map text (range_with_len 0 k)) (sym size)
+
+-- so many pieces and one more
+pub one_more : (text : ℕ → List ℕ) (pieces : List Piece) (piece : Piece) {now : List Piece} {n : ℕ} →
+    AreTexts text pieces → length pieces ≡ n → piece_text piece ≡ text n → now ≡ pieces ++ piece ∷ [] →
+    AreTexts text now × (length now ≡ n + 1)
+one_more text pieces piece {n = n} are count is pushed = (
+  subst (AreTexts text) (sym pushed) (texts_more text pieces piece are (is ∙ ap text (sym count))),
+  ap length pushed ∙ length-append pieces (piece ∷ []) ∙ ap (λ n. n + 1) count,
+)
 
 -- the text of the piece at an index
 pub piece_at :

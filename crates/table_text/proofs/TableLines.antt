@@ -2,7 +2,8 @@
 use Rattle.std.proofs.Common.{◌≡◌, ℕ, ◌<◌, ◌≤◌, List, [], ◌∷◌, ◌++◌, Some, length, slice_get, ◌+◌, sym, ap, ◌∙◌, arith, length-append}
 use Rattle.std.specs.Prelude.{codes}
 use Rattle.std.specs.Fmt.{decimal}
-use Rattle.std.proofs.lemmas.List.Elements.{All-push}
+use Rattle.std.proofs.lemmas.List.Elements.{All-cons, All-nil}
+use Rattle.channel_tables.proofs.BegunTables.{begun_with}
 use Rattle.channel_tables.specs.Tables.{ChannelTable, IsBegun, windows_of}
 use Rattle.channel_tables.specs.declared.separation.Separation.{Separation}
 use Rattle.table_text.specs.declared.version.Version.{Version}
@@ -39,14 +40,8 @@ pub begun_more : (t : ChannelTable) (channel : ℕ) → IsBegun t → length t.e
     channel < t.channels
     → IsBegun (with_entry t channel)
 begun_more t channel begun room below =
-    record {
-      few_rounds = begun.few_rounds;
-      shape = begun.shape;
-      some_channels = begun.some_channels;
-      few_channels = begun.few_channels;
-      size = simp length-append (omega arith);
-      below = All-push (λ c. c < t.channels) t.entries channel begun.below below;
-    }
+    begun_with t (channel ∷ []) begun (omega (arith, room))
+    (All-cons (λ c. c < t.channels) channel [] below (All-nil (λ c. c < t.channels)))
 
 -- the text after a field is no longer than the whole text
 field_length : (name : List ℕ) (number end : ℕ) (rest : List ℕ) →

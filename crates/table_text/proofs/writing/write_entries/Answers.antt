@@ -83,7 +83,7 @@ loop-number-preserved g c =
     c.store_entry.ensures ∙ ap (λ text. c.make_room.new.self ++ text)
     ((λ i. inv.shows.text i ++ (id_text (c.last_id-last.ensures.last i) ++ channel_text channel))
     ∙ line_of_run (front_of odometer) (last_of odometer) channel) in
-    let before = tells_moved _ _ _ _ _ _ inv.told c.in_ok-make_room.ensures.ok in
+    let before = tells_moved _ _ _ c.loop-number.chunk _ _ inv.told c.in_ok-make_room.ensures.ok in
     let more = tells_more _ _ _ c.store_entry.new.chunk line _ before stored in
     let own : n < length t.entries = rw shape.table.size within in
     let lines = front_more t c.args.separation n c.entry.result window _ line own (inv.next within) refl
@@ -117,19 +117,21 @@ returns-clause-ok g c =
     (g.W.Write.contents (device_of c.loop-number.writer)) c.loop-number.chunk
     (lines_then (written Two (record t { entries = entries }) c.args.separation) []))
     (take_all c.loop-number.number t.entries all) c.loop-number.invariant.told in
-    on_ok_weaker c.make_room-2.result (λ moved. tells_moved _ _ _ _ _ _ told moved) c.make_room-2.ensures.ok
+    on_ok_weaker c.make_room-2.result (λ moved. tells_moved _ _ _ c.loop-number.chunk _ _ told moved)
+    c.make_room-2.ensures.ok
 
 pub returns-in_err-make_room-clause-err : goal.returns-in_err-make_room-clause-err
 returns-in_err-make_room-clause-err g c =
     let t = c.args.table.now in
     let front = lines_front t c.args.separation c.loop-number.number (le_same c.shape-shape.ensures.table.size) in
     on_err c.from_residual.result
-    (tells_front _ _ _ _ _ _ front.0 c.loop-number.invariant.told c.in_err-make_room.ensures.err front.1)
+    (tells_front _ _ _ c.loop-number.chunk _ _ front.0 c.loop-number.invariant.told
+    c.in_err-make_room.ensures.err front.1)
 
 pub returns-clause-err : goal.returns-clause-err
 returns-clause-err g c =
     let t = c.args.table.now in
     let front = lines_front t c.args.separation c.loop-number.number (le_same c.shape-shape.ensures.table.size) in
     on_err_weaker c.make_room-2.result
-    (λ failed. tells_front _ _ _ _ _ _ front.0 c.loop-number.invariant.told failed front.1)
+    (λ failed. tells_front _ _ _ c.loop-number.chunk _ _ front.0 c.loop-number.invariant.told failed front.1)
     c.make_room-2.ensures.err
