@@ -17,7 +17,8 @@ next_same before token.Send = refl
 next_same before token.Equals = refl
 next_same before _ = refl
 
-cause_same : (f : CheckFault) (before : List Token) (t : Token) → is_cause_at f (place_after before) t ≡ is_cause f before t
+cause_same : (f : CheckFault) (before : List Token) (t : Token) →
+    is_cause_at f (place_after before) t ≡ is_cause f before t
 cause_same (check.RegisterOutOfRange j) before (token.Register k) = refl
 cause_same (check.RegisterOutOfRange j) before _ = refl
 cause_same check.IdOutsideStart before token.Id = refl
@@ -31,20 +32,25 @@ finds : (text : List ℕ) (f : CheckFault) (before : List Token) (ls : List Lexe
     offset_from text (cause_from f (place_after before) ls) ≡ offset_in text (first_cause f before ls)
 finds text f before [] = refl
 finds text f before (l ∷ ls) =
-    (λ i. offset_from text (cond (cause_same f before l.token i) (Some l.from) (cause_from f (next_same before l.token i) ls)))
-    ∙ elim (is_cause f before l.token) as (λ c. offset_from text (cond c (Some l.from) (cause_from f (place_after (l.token ∷ before)) ls))
+    (λ i. offset_from text (cond (cause_same f before l.token i) (Some l.from)
+    (cause_from f (next_same before l.token i) ls)))
+    ∙ elim (is_cause f before l.token) as (λ c.
+    offset_from text (cond c (Some l.from) (cause_from f (place_after (l.token ∷ before)) ls))
     ≡ offset_in text (cond c (Some l) (first_cause f (l.token ∷ before) ls))) [
       | true ↦ refl
       | false ↦ finds text f (l.token ∷ before) ls
     ]
 
 -- before the first token
-pub found : (text : List ℕ) (f : CheckFault) → offset_from text (cause_from f (place_after []) (lexemes_of text)) ≡ place_of_cause text f
+pub found : (text : List ℕ) (f : CheckFault) →
+    offset_from text (cause_from f (place_after []) (lexemes_of text)) ≡ place_of_cause text f
 found text f = finds text f [] (lexemes_of text)
 
 -- the next token is the cause
-pub found_here : (text : List ℕ) (f : CheckFault) (p : Place) (start : ℕ) (t : Token) (left ls : List Lexeme) (place : Option ℕ) →
-    offset_from text (cause_from f p left) ≡ place → left ≡ record { from = length text - start; token = t } ∷ ls → start ≤ length text →
+pub found_here : (text : List ℕ) (f : CheckFault) (p : Place) (start : ℕ) (t : Token) (left ls : List Lexeme)
+    (place : Option ℕ) →
+    offset_from text (cause_from f p left) ≡ place →
+    left ≡ record { from = length text - start; token = t } ∷ ls → start ≤ length text →
     is_cause_at f p t ≡ true → Some start ≡ place
 found_here text f p start t left ls place is next within cause =
     let same : length text - (length text - start) ≡ start = omega (arith, within) in
@@ -53,7 +59,8 @@ found_here text f p start t left ls place is next within cause =
     ∙ sym (λ i. offset_from text (cause_from f p (next i))) ∙ is
 
 -- the next token is not the cause
-pub found_later : (text : List ℕ) (f : CheckFault) (p : Place) (from : ℕ) (t : Token) (left ls : List Lexeme) (place : Option ℕ) →
+pub found_later : (text : List ℕ) (f : CheckFault) (p : Place) (from : ℕ) (t : Token) (left ls : List Lexeme)
+    (place : Option ℕ) →
     offset_from text (cause_from f p left) ≡ place → left ≡ record { from = from; token = t } ∷ ls →
     is_cause_at f p t ≡ false → offset_from text (cause_from f (next_place p t) ls) ≡ place
 found_later text f p from t left ls place is next other =

@@ -34,7 +34,8 @@ come_on (At v m) us = come v m us
 pub come-append : (ts us : List Token) (w : Rest) (n : ℕ) → come w n (ts ++ us) ≡ come_on (come w n ts) us
 come-append [] us w n = refl
 come-append (t ∷ ts) us w n =
-    elim (meets w n t) as (λ m. went_on m (λ v. come v (counted w n) (ts ++ us)) ≡ come_on (went_on m (λ v. come v (counted w n) ts)) us) [
+    elim (meets w n t) as (λ m. went_on m (λ v. come v (counted w n) (ts ++ us))
+    ≡ come_on (went_on m (λ v. come v (counted w n) ts)) us) [
       | Stops k ↦ refl
       | Goes v ↦ come-append ts us v (counted w n)
     ]
@@ -45,7 +46,8 @@ Matches (Halted k) r = (from : ℕ) × (r ≡ Fault k from)
 Matches (At (Nothing p) n) r = r ≡ Got p n []
 Matches (At w n) r = r ≡ Fault kind.EndOfText 0
 
-matches_met : (m : Met) (c from : ℕ) (ls : List Lexeme) → ((v : Rest) → Matches (come v c (tokens_in ls)) (read v c ls)) →
+matches_met : (m : Met) (c from : ℕ) (ls : List Lexeme) →
+    ((v : Rest) → Matches (come v c (tokens_in ls)) (read v c ls)) →
     Matches (went_on m (λ v. come v c (tokens_in ls))) (went c from ls m)
 matches_met (Stops k) c from ls h = (from, refl)
 matches_met (Goes v) c from ls h = h v
@@ -61,7 +63,8 @@ read_matches (l ∷ ls) w n =
     (matches_met (meets w n l.token) (counted w n) l.from ls (λ v. read_matches ls v (counted w n)))
 
 pub program_matches_come : (ls : List Lexeme) → Matches (come a_program 0 (tokens_in ls)) (program 0 ls)
-program_matches_come ls = subst (Matches (come a_program 0 (tokens_in ls))) (sym (program_read 0 ls)) (read_matches ls a_program 0)
+program_matches_come ls =
+    subst (Matches (come a_program 0 (tokens_in ls))) (sym (program_read 0 ls)) (read_matches ls a_program 0)
 
 -- a token that is one of the words and marks, or a register that a program can have
 abbrev pub IsFixed : Token → Type 0
@@ -88,17 +91,48 @@ AllFixed (AToken t w) = IsFixed t × AllFixed w
 AllFixed (AnExpression d w) = (e : Term) → AllFixed (w e)
 AllFixed (ANumber low high w) = (n : ℕ) → low ≤ n → n ≤ high → AllFixed (w n)
 
-assignments_fixed : (count j : ℕ) (w : List Term → Rest) → j + count ≤ MAX_REGISTERS → ((es : List Term) → AllFixed (w es)) → AllFixed (assignments count j w)
+assignments_fixed : (count j : ℕ) (w : List Term → Rest) → j + count ≤ MAX_REGISTERS →
+    ((es : List Term) → AllFixed (w es)) → AllFixed (assignments count j w)
 assignments_fixed zero j w few h = h []
-assignments_fixed (suc count) j w few h = (omega arith, (tt, λ e. assignments_fixed count (j + 1) (λ es. w (e ∷ es)) (omega arith) (λ es. h (e ∷ es))))
+assignments_fixed (suc count) j w few h =
+    (omega arith, (tt, λ e. assignments_fixed count (j + 1) (λ es. w (e ∷ es)) (omega arith) (λ es. h (e ∷ es))))
 
-rounds_fixed : (count many : ℕ) (w : List Round → Rest) → many ≤ MAX_REGISTERS → ((ss : List Round) → AllFixed (w ss)) → AllFixed (some_rounds count many w)
+rounds_fixed : (count many : ℕ) (w : List Round → Rest) → many ≤ MAX_REGISTERS →
+    ((ss : List Round) → AllFixed (w ss)) → AllFixed (some_rounds count many w)
 rounds_fixed zero many w few h = h []
-rounds_fixed (suc count) many w few h =
-    (tt, (tt, (tt, λ left. (tt, (tt, λ right. assignments_fixed many 0 _ (omega arith) (λ next. rounds_fixed count many _ few (λ ss. h _)))))))
+rounds_fixed (suc count) many w few h = (
+  tt,
+  (
+    tt,
+    (
+      tt,
+      λ left. (
+        tt,
+        (
+          tt,
+          λ right. assignments_fixed many 0 _ (omega arith)
+              (λ next. rounds_fixed count many _ few (λ ss. h _)),
+        ),
+      ),
+    ),
+  ),
+)
 
 program_fixed : AllFixed a_program
-program_fixed = (tt, λ i _ _. (tt, λ c _ _. (tt, λ r _ most. (tt, assignments_fixed r 0 _ (omega arith) (λ start. rounds_fixed i r _ most (λ steps. (tt, λ finish. tt)))))))
+program_fixed = (
+  tt,
+  λ i _ _. (
+    tt,
+    λ c _ _. (
+      tt,
+      λ r _ most. (
+        tt,
+        assignments_fixed r 0 _ (omega arith)
+            (λ start. rounds_fixed i r _ most (λ steps. (tt, λ finish. tt))),
+      ),
+    ),
+  ),
+)
 
 -- and so is each one after one more token
 abbrev FixedIf : Option Rest → Type 0
@@ -120,17 +154,20 @@ abbrev FixedMet : Met → Type 0
 FixedMet (Stops k) = Unit {0}
 FixedMet (Goes v) = AllFixed v
 
-term_fixed : (d : ℕ) (w : Term → Rest) (n : ℕ) (t : Token) (o : Option Rest) → FixedIf o → FixedMet (checked (AnExpression d w) n t o)
+term_fixed : (d : ℕ) (w : Term → Rest) (n : ℕ) (t : Token) (o : Option Rest) → FixedIf o →
+    FixedMet (checked (AnExpression d w) n t o)
 term_fixed d w n t None h = tt
 term_fixed d w n t (Some v) h = cond_both ((MAX_DEPTH - d) == 0) (Stops kind.TooDeep) _ FixedMet (λ _. tt)
     (λ _. cond_both (nat_le MAX_NODES n) (Stops kind.TooManyNodes) (Goes v) FixedMet (λ _. tt) (λ _. h))
 
 pub fixed_next : (w : Rest) (n : ℕ) (t : Token) → AllFixed w → FixedMet (meets w n t)
 fixed_next (Nothing p) n t h = tt
-fixed_next (AToken s w) n t h = cond_both (same_token t s) (Some w) None (λ o. FixedMet (checked (AToken s w) n t o)) (λ _. h.1) (λ _. tt)
+fixed_next (AToken s w) n t h =
+    cond_both (same_token t s) (Some w) None (λ o. FixedMet (checked (AToken s w) n t o)) (λ _. h.1) (λ _. tt)
 fixed_next (AnExpression d w) n t h = term_fixed d w n t (following d w t) (following_fixed d w t h)
 fixed_next (ANumber low high w) n (token.Number k) h =
-    cond_both (nat_le low k && nat_le k high) (Goes (w k)) (Stops kind.HeaderRange) FixedMet (λ e. h k (grind (arith, nat_tests)) (grind (arith, nat_tests))) (λ _. tt)
+    cond_both (nat_le low k && nat_le k high) (Goes (w k)) (Stops kind.HeaderRange) FixedMet
+    (λ e. h k (grind (arith, nat_tests)) (grind (arith, nat_tests))) (λ _. tt)
 fixed_next (ANumber low high w) n t h = tt
 
 -- a fault at a token is not that the text ends
@@ -154,10 +191,12 @@ reaches_met before t ts n (Stops k) stands fixed h = stands_no_end k stands
 reaches_met before t ts n (Goes v) place fixed h =
     subst (λ us. Reaches us (come v n ts)) (append_assoc before (t ∷ []) ts) (h v place fixed)
 
-reaches : (ts : List Token) {before : List Token} {n : ℕ} (w : Rest) → Place before n w → AllFixed w → Reaches (before ++ ts) (come w n ts)
+reaches : (ts : List Token) {before : List Token} {n : ℕ} (w : Rest) → Place before n w → AllFixed w →
+    Reaches (before ++ ts) (come w n ts)
 reaches [] {before} {n} w p fixed = subst (λ us. Reaches us (At w n)) (sym (append-nil before)) (p, fixed)
 reaches (t ∷ ts) {before} {n} w p fixed =
-    reaches_met before t ts (counted w n) (meets w n t) (says w t p) (fixed_next w n t fixed) (λ v place more. reaches ts v place more)
+    reaches_met before t ts (counted w n) (meets w n t) (says w t p) (fixed_next w n t fixed)
+    (λ v place more. reaches ts v place more)
 
 pub program_reaches : (ts : List Token) → Reaches ts (come a_program 0 ts)
 program_reaches ts = reaches ts a_program first_place program_fixed

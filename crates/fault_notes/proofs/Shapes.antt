@@ -19,24 +19,32 @@ sizes_once t m u n x y p q r s same =
     (first.0, second.0)
 
 -- the numbers at the start of the second line are those of the shape
-pub shape_once : (text rest : List ℕ) (r i t m : ℕ) → after_first is_feed text ≡ sizes_then r i rest → r < 2 ^ 32 → i < 2 ^ 32 → HasShape text t m → (t ≡ r) × (m ≡ i)
+pub shape_once : (text rest : List ℕ) (r i t m : ℕ) → after_first is_feed text ≡ sizes_then r i rest →
+    r < 2 ^ 32 → i < 2 ^ 32 → HasShape text t m → (t ≡ r) × (m ≡ i)
 shape_once text rest r i t m sizes p q h =
-    sizes_once t m r i h.rest rest (omega (arith, h.few_rounds)) (omega (arith, h.shape.ids.few)) p q (sym h.sizes ∙ sizes)
+    sizes_once t m r i h.rest rest (omega (arith, h.few_rounds)) (omega (arith, h.shape.ids.few)) p q
+    (sym h.sizes ∙ sizes)
 
 -- numbers of no shape
-pub no_shape : (text rest : List ℕ) (r i : ℕ) → after_first is_feed text ≡ sizes_then r i rest → r < 2 ^ 32 → i < 2 ^ 32 → (r ≤ MAX_ROUNDS → ¬ IsShape i r) → (t m : ℕ) → ¬ HasShape text t m
+pub no_shape : (text rest : List ℕ) (r i : ℕ) → after_first is_feed text ≡ sizes_then r i rest →
+    r < 2 ^ 32 → i < 2 ^ 32 → (r ≤ MAX_ROUNDS → ¬ IsShape i r) → (t m : ℕ) → ¬ HasShape text t m
 no_shape text rest r i sizes p q none t m h =
     let once = shape_once text rest r i t m sizes p q h in
-    none (subst (λ k. k ≤ MAX_ROUNDS) once.0 h.few_rounds) (subst (λ k. IsShape k r) once.1 (subst (λ k. IsShape m k) once.0 h.shape))
+    none (subst (λ k. k ≤ MAX_ROUNDS) once.0 h.few_rounds)
+    (subst (λ k. IsShape k r) once.1 (subst (λ k. IsShape m k) once.0 h.shape))
 
-pub no_sizes : (text : List ℕ) → ((t m : ℕ) (rest : List ℕ) → t < 2 ^ 32 → m < 2 ^ 32 → after_first is_feed text ≡ sizes_then t m rest → ⊥) → (t m : ℕ) → ¬ HasShape text t m
+pub no_sizes : (text : List ℕ) →
+    ((t m : ℕ) (rest : List ℕ) → t < 2 ^ 32 → m < 2 ^ 32 →
+    after_first is_feed text ≡ sizes_then t m rest → ⊥) → (t m : ℕ) → ¬ HasShape text t m
 no_sizes text none t m h = none t m h.rest (omega (arith, h.few_rounds)) (omega (arith, h.shape.ids.few)) h.sizes
 
 -- a line that is not one of those of the windows of the shape
-pub none_due : (text : List ℕ) (line r i : ℕ) → ((t m : ℕ) → HasShape text t m → (t ≡ r) × (m ≡ i)) → length (windows (2 * r + 1) i) ≤ line - 3 →
+pub none_due : (text : List ℕ) (line r i : ℕ) → ((t m : ℕ) → HasShape text t m → (t ≡ r) × (m ≡ i)) →
+    length (windows (2 * r + 1) i) ≤ line - 3 →
     (window : List ℕ) → ¬ IsDue text line window
 none_due text line r i one past window due =
     let once = one due.rounds due.ids due.shape in
     let within = slice_get_within (windows (2 * due.rounds + 1) due.ids) due.number window due.numbered in
-    let same : length (windows (2 * due.rounds + 1) due.ids) ≡ length (windows (2 * r + 1) i) = (λ k. length (windows (2 * once.0 k + 1) (once.1 k))) in
+    let same : length (windows (2 * due.rounds + 1) due.ids) ≡ length (windows (2 * r + 1) i) =
+    (λ k. length (windows (2 * once.0 k + 1) (once.1 k))) in
     omega (arith, due.place, within, same, past)

@@ -10,7 +10,8 @@ use Rattle.fault_notes.specs.FaultTokens.{in_start, in_round, in_assignment}
 
 -- the place after these tokens
 abbrev pub place_after : List Token → Place
-place_after before = record { in_start = in_start before; in_round = in_round before; in_assignment = in_assignment before }
+place_after before =
+    record { in_start = in_start before; in_round = in_round before; in_assignment = in_assignment before }
 
 -- the place after one more token
 abbrev pub next_place : Place → Token → Place

@@ -8,5 +8,6 @@ use Rattle.fault_notes.specs.Wanted.{SaysNothing, longest_word}
 
 -- before each fault except TooLong and NotAscii something can follow, unless no more word fits
 abbrev pub FaultsHaveWanted : Type 0
-FaultsHaveWanted = (text : List ℕ) (k : FaultKind) (offset : ℕ) → FaultsAt text k offset → k ≢ kind.TooLong → k ≢ kind.NotAscii →
+FaultsHaveWanted = (text : List ℕ) (k : FaultKind) (offset : ℕ) → FaultsAt text k offset →
+    k ≢ kind.TooLong → k ≢ kind.NotAscii →
     SaysNothing (take offset text) → LONGEST_TEXT < offset + longest_word

@@ -21,17 +21,22 @@ rounds_take t = if t == 1 then codes " round takes " else codes " rounds take "
 
 -- the possible numbers of identifiers: one alone, or those from the least to the greatest
 abbrev pub ids_range : ℕ → ℕ → List ℕ
-ids_range least most = if least == most then codes "exactly " ++ decimal least else decimal least ++ (codes " to " ++ decimal most)
+ids_range least most =
+    if least == most then codes "exactly " ++ decimal least else decimal least ++ (codes " to " ++ decimal most)
 
 -- a number of identifiers that makes no shape with t rounds: the possible numbers
 pub data IsIdsNote (t ids : ℕ) (note : List ℕ) : Type 0 where
   some : (most : ℕ) → IsMostIds t most →
-      note ≡ codes "nbhd: " ++ (decimal t ++ (rounds_take t ++ (ids_range (2 * t + 2) most ++ (codes " identifiers, not " ++ (decimal ids ++ codes "\n"))))) →
+      note ≡ codes "nbhd: " ++ (decimal t
+      ++ (rounds_take t ++ (ids_range (2 * t + 2) most
+      ++ (codes " identifiers, not " ++ (decimal ids ++ codes "\n"))))) →
       IsIdsNote t ids note
-  none : ((m : ℕ) → ¬ IsShape m t) → note ≡ codes "nbhd: so many rounds take no number of identifiers\n" → IsIdsNote t ids note
+  none : ((m : ℕ) → ¬ IsShape m t) → note ≡ codes "nbhd: so many rounds take no number of identifiers\n" →
+      IsIdsNote t ids note
 
 abbrev pub register_cause : ℕ → List ℕ
-register_cause j = codes "there is no register r" ++ (decimal j ++ codes "; `registers` says how many there are, from r0 on")
+register_cause j =
+    codes "there is no register r" ++ (decimal j ++ codes "; `registers` says how many there are, from r0 on")
 
 abbrev pub id_cause : List ℕ
 id_cause = codes "`id` can be read in `start` alone; keep it in a register"
@@ -42,7 +47,8 @@ message_cause = codes "`L` and `R` can be read in the assignments of a round alo
 -- the bound of the channels, and the number of channels that it requires
 abbrev pub bound_note : ℕ → List ℕ
 bound_note b = if nat_lt b MAX_CHANNELS
-    then codes "nbhd: channels may be as large as " ++ (decimal b ++ (codes ": write `channels " ++ (decimal (b + 1) ++ codes "` or more\n")))
+    then codes "nbhd: channels may be as large as "
+    ++ (decimal b ++ (codes ": write `channels " ++ (decimal (b + 1) ++ codes "` or more\n")))
     else codes "nbhd: channels may be as large as " ++ (decimal b ++ codes ", and `channels` is at most 4096\n")
 
 -- The note on the refusal of the program p of this text for `ids` identifiers. A register that the program lacks and a
@@ -52,7 +58,8 @@ IsCheckNote text p ids check.IdsOutOfRange note = IsIdsNote (length p.steps) ids
 IsCheckNote text p ids check.TooManyWindows note = IsIdsNote (length p.steps) ids note
 IsCheckNote text p ids (check.RegisterOutOfRange j) note =
     note ≡ placed_note text (register_cause j) (place_of_cause text (check.RegisterOutOfRange j))
-IsCheckNote text p ids check.IdOutsideStart note = note ≡ placed_note text id_cause (place_of_cause text check.IdOutsideStart)
+IsCheckNote text p ids check.IdOutsideStart note =
+    note ≡ placed_note text id_cause (place_of_cause text check.IdOutsideStart)
 IsCheckNote text p ids check.MessageOutsideStep note =
     note ≡ placed_note text message_cause (place_of_cause text check.MessageOutsideStep)
 IsCheckNote text p ids (check.ChannelBound b) note = note ≡ bound_note b ++ growth_text p ids

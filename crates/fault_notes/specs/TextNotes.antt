@@ -12,7 +12,8 @@ use Rattle.fault_notes.specs.Words.{wanted_part, first_word}
 
 -- the start of a note on a place of a text
 abbrev pub place_head : List ℕ → ℕ → List ℕ
-place_head text offset = codes "nbhd: line " ++ (decimal (line_number text offset) ++ (codes ", column " ++ (decimal (column text offset) ++ codes ": ")))
+place_head text offset = codes "nbhd: line "
+    ++ (decimal (line_number text offset) ++ (codes ", column " ++ (decimal (column text offset) ++ codes ": ")))
 
 -- a word in quotes, as it is shown
 abbrev pub quoted : List ℕ → List ℕ
@@ -24,7 +25,8 @@ cause_of kind.TooLong word w = []
 cause_of kind.NotAscii word w = codes "a byte over 127; a program text is ASCII, in its comments too"
 cause_of kind.BadWord word w = codes "unknown word " ++ quoted word
 cause_of kind.NumberTooLarge word w = codes "a number is at most 4294967295"
-cause_of kind.HeaderRange word w = codes "a number out of its range: `rounds` is 0 to 4, `channels` 1 to 4096, `registers` 1 to 8"
+cause_of kind.HeaderRange word w =
+    codes "a number out of its range: `rounds` is 0 to 4, `channels` 1 to 4096, `registers` 1 to 8"
 cause_of kind.Unexpected word w = codes "unexpected " ++ (quoted word ++ wanted_part w)
 cause_of kind.TooDeep word w = codes "an expression is at most 64 deep"
 cause_of kind.TooManyNodes word w = codes "the expressions of a program have at most 4096 numbers, words and operations"
@@ -39,7 +41,8 @@ pub record IsTextNote (text : List ℕ) (k : FaultKind) (offset : ℕ) (note : L
   pub silent : (k ≡ kind.Unexpected) → IfNone wanted (SaysNothing (take offset text))
   pub silent_at_end : (k ≡ kind.EndOfText) → IfNone wanted (SaysNothing (take offset text))
   pub advice : List ℕ
-  pub is : note ≡ place_head text offset ++ (cause_of k (first_word (drop offset text)) wanted ++ (advice ++ 10 ∷ marked_line text offset))
+  pub is : note ≡ place_head text offset
+      ++ (cause_of k (first_word (drop offset text)) wanted ++ (advice ++ 10 ∷ marked_line text offset))
 
 -- the note on a text that is too long
 abbrev pub too_long_note : List ℕ

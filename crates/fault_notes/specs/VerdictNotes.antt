@@ -12,7 +12,8 @@ joined between (n ∷ ns) = decimal n ++ flat_map (λ m. between ++ decimal m) n
 
 -- whether the two places are neighbours
 abbrev pub distance_text : ℕ × ℕ → List ℕ
-distance_text places = if places.1 == places.0 + 1 then codes " the neighbours " else codes " the nodes at distance two "
+distance_text places =
+    if places.1 == places.0 + 1 then codes " the neighbours " else codes " the nodes at distance two "
 
 -- the nodes at the two places
 abbrev pub pair_text : List ℕ → ℕ × ℕ → List ℕ
@@ -26,7 +27,9 @@ channels_text channels = if channels.0 == channels.1 then codes "channel " ++ de
 -- the windows of the two places
 abbrev pub windows_text : ℕ → List ℕ → ℕ × ℕ → List ℕ
 windows_text t ring places =
-    codes "; their windows are " ++ (joined (codes " ") (window_around ring t places.0) ++ (codes " and " ++ (joined (codes " ") (window_around ring t places.1) ++ codes "\n")))
+    codes "; their windows are "
+    ++ (joined (codes " ") (window_around ring t places.0)
+    ++ (codes " and " ++ (joined (codes " ") (window_around ring t places.1) ++ codes "\n")))
 
 -- the places are two of a ring's, which is long enough for the windows of so many rounds
 pub record HasPlaces (t : ℕ) (ring : List ℕ) (places : ℕ × ℕ) : Type 0 where
@@ -39,7 +42,9 @@ pub record HasPlaces (t : ℕ) (ring : List ℕ) (places : ℕ × ℕ) : Type 0 
 -- the note that on this ring the nodes at two places have these channels; t is the number of rounds
 abbrev pub verdict_note : ℕ → List ℕ → ℕ × ℕ → ℕ × ℕ → List ℕ
 verdict_note t ring places channels =
-    codes "nbhd: on the ring " ++ (joined (codes ",") ring ++ (distance_text places ++ (pair_text ring places ++ (channels_text channels ++ windows_text t ring places))))
+    codes "nbhd: on the ring "
+    ++ (joined (codes ",") ring
+    ++ (distance_text places ++ (pair_text ring places ++ (channels_text channels ++ windows_text t ring places))))
 
 -- the note on a yes about no ring: so many identifiers are too few for a ring of so many nodes, the least that is judged
 abbrev pub no_tuples_note : (nodes ids : ℕ) → List ℕ

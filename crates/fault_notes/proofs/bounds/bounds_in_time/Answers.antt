@@ -17,5 +17,6 @@ loop-rounds-preserved c =
 pub returns : goal.returns
 returns c =
     let f : ℕ → ℕ = λ r. slice_index (register_bounds c.args.program.now c.args.ids r) c.args.register in
-    let all : c.loop-rounds.rounds ≡ length c.args.program.now.steps + 1 = omega (arith, c.rounds-rounds-end.ensures.value) in
+    let all : c.loop-rounds.rounds ≡ length c.args.program.now.steps + 1 =
+    omega (arith, c.rounds-rounds-end.ensures.value) in
     c.loop-rounds.invariant ∙ ap (λ n. map f (range_with_len 0 n)) all

@@ -5,4 +5,5 @@ use Rattle.node_program.specs.Bounds.{register_bounds}
 use Rattle.fault_notes.proofs.bounds.bounds_in_time.Given as goal
 
 abbrev pub invariant-loop-rounds : goal.invariant-loop-rounds
-invariant-loop-rounds l = l.bounds.items ≡ map (λ r. slice_index (register_bounds l.program l.ids r) l.register) (range_with_len 0 l.rounds)
+invariant-loop-rounds l =
+    l.bounds.items ≡ map (λ r. slice_index (register_bounds l.program l.ids r) l.register) (range_with_len 0 l.rounds)

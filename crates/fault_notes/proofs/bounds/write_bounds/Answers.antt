@@ -12,6 +12,8 @@ returns c =
     let number = decimal c.args.register in
     let start = string_bytes c.args.out.now in
     let numbers = joined (codes " ") c.args.bounds.now in
-    on_ok_weaker c.push_str.result (λ last. line_pieces start _ _ _ begin number rest numbers c.in_ok-write.ensures.bytes c.in_ok-write_joined.ensures last
+    on_ok_weaker c.push_str.result
+    (λ last. line_pieces start _ _ _ begin number rest numbers c.in_ok-write.ensures.bytes
+    c.in_ok-write_joined.ensures last
     ∙ heading_apart start begin number rest (numbers ++ codes "\n"))
     (pushed c.push_str.result _ _ (codes "\n") c.push_str.ensures.bytes)

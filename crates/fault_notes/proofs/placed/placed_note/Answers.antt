@@ -14,7 +14,8 @@ returns c =
 
 pub returns-in_default : goal.returns-in_default
 returns-in_default c =
-    subst (λ place. string_bytes c.in_ok-format.field-0 ≡ placed_note c.args.text.now c.args.cause.now place) c.in_default.ensures.exact c.in_ok-format.ensures.ok
+    subst (λ place. string_bytes c.in_ok-format.field-0 ≡ placed_note c.args.text.now c.args.cause.now place)
+    c.in_default.ensures.exact c.in_ok-format.ensures.ok
 
 pub write_marked_line-requires : goal.write_marked_line-requires
 write_marked_line-requires c = le_of_lt c.in-Some.ensures.within

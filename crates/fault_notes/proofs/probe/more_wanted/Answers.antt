@@ -11,9 +11,11 @@ fails b h e p = let both = sym e ∙ h p in cc
 
 pub returns-then-branch-2 : goal.returns-then-branch-2
 returns-then-branch-2 c =
-    finds_number c.args.text.now c.requires (fails _ c.in_ok-can_follow.ensures.1 c.if-branch.false) (c.in_ok-can_follow-2.ensures.0 c.if-branch-2.true)
+    finds_number c.args.text.now c.requires (fails _ c.in_ok-can_follow.ensures.1 c.if-branch.false)
+    (c.in_ok-can_follow-2.ensures.0 c.if-branch-2.true)
 
 pub unreachable-requires : goal.unreachable-requires
 unreachable-requires c =
-    finds_all c.args.text.now c.requires (fails _ c.in_ok-can_follow.ensures.1 c.if-branch.false) (fails _ c.in_ok-can_follow-2.ensures.1 c.if-branch-2.false)
+    finds_all c.args.text.now c.requires (fails _ c.in_ok-can_follow.ensures.1 c.if-branch.false)
+    (fails _ c.in_ok-can_follow-2.ensures.1 c.if-branch-2.false)
     (rw c.in_default.is at c.in_ok-word.ensures.none) (rw c.in_default-2.is at c.in_ok-register.ensures.none)

@@ -16,5 +16,7 @@ returns-clause-none c = elim c.match-parse.branch [
   | in-Ok w ↦ rw w.result-is tt
   | in-Err+in-EndOfText+in_ok-more_wanted-in-EndOfText w ↦ rw w.result-is tt
   | in-Err+in-OutOfMemory w ↦ rw w.result-is tt
-  | in-Err+in_default w ↦ rw w.result-is (faulty w.in-Err.fault.kind w.in-Err.fault.offset (w.in-Err.ensures.fault w.in_default.not-OutOfMemory) w.in_default.not-EndOfText)
+  | in-Err+in_default w ↦
+      rw w.result-is (faulty w.in-Err.fault.kind w.in-Err.fault.offset
+      (w.in-Err.ensures.fault w.in_default.not-OutOfMemory) w.in_default.not-EndOfText)
 ]

@@ -14,7 +14,8 @@ returns-then-makes_shape-clause-most c =
     record {
       makes = makes;
       greatest = λ m h s. c.fewer.invariant m (omega (arith, h)) s;
-      between = λ m enough le. shapes_between c.count_of_windows.ensures c.args.rounds (MAX_IDS - c.fewer.fewer) m makes enough le;
+      between = λ m enough le. shapes_between c.count_of_windows.ensures c.args.rounds (MAX_IDS - c.fewer.fewer)
+          m makes enough le;
     }
 
 -- a test that failed
@@ -23,7 +24,8 @@ fails b h e p = let both = sym e ∙ h p in cc
 
 pub fewer-preserved : goal.fewer-preserved
 fewer-preserved c = λ m h s. elim (cases_order (m + c.fewer.fewer) MAX_IDS) [
-  | inl e ↦ fails _ c.makes_shape.ensures.1 c.if-makes_shape.false (let is : m ≡ MAX_IDS - c.fewer.fewer = omega (arith, e) in subst (λ n. IsShape n c.args.rounds) is s)
+  | inl e ↦ fails _ c.makes_shape.ensures.1 c.if-makes_shape.false
+      (let is : m ≡ MAX_IDS - c.fewer.fewer = omega (arith, e) in subst (λ n. IsShape n c.args.rounds) is s)
   | inr (inl less) ↦ absurd (omega (arith, h, less))
   | inr (inr more) ↦ c.fewer.invariant m more s
 ]

@@ -10,4 +10,5 @@ pub returns : goal.returns
 returns c =
     let place = place_of_cause c.args.text.now (check.RegisterOutOfRange c.args.register) in
     let cause : c.deref.result.now ≡ register_cause c.args.register = c.deref.ensures ∙ c.in_ok-cause.ensures.ok in
-    subst (λ x. IfOk c.placed_note.result (λ note. string_bytes note ≡ placed_note c.args.text.now x place)) cause c.placed_note.ensures
+    subst (λ x. IfOk c.placed_note.result (λ note. string_bytes note ≡ placed_note c.args.text.now x place)) cause
+    c.placed_note.ensures

@@ -5,5 +5,6 @@ use Rattle.fault_notes.proofs.tables.window_note.Goals as goal
 
 pub returns-in-Some : goal.returns-in-Some
 returns-in-Some c =
-    IfOk-weaker c.line_note.result _ _ (λ note is. of_window c.in-Some.window.items (let due = rw c.in-Some.is at c.in_ok-due.ensures.window in due)
+    IfOk-weaker c.line_note.result _ _
+    (λ note is. of_window c.in-Some.window.items (let due = rw c.in-Some.is at c.in_ok-due.ensures.window in due)
     (is ∙ ap (line_note c.args.line) c.deref.ensures.value)) c.line_note.ensures

@@ -14,4 +14,5 @@ pub returns-in_ok-push_str-in-BadWord : goal.returns-in_ok-push_str-in-BadWord
 returns-in_ok-push_str-in-BadWord c =
     let word = quoted c.args.word.now in
     rw c.in-BadWord.is (IfOk-equal c.write_quoted.result _ _ _ c.write_quoted.ensures
-    (ap (λ x. x ++ word) c.in_ok-push_str-in-BadWord.ensures.bytes ∙ append_assoc (string_bytes c.args.out.now) (codes "unknown word ") word))
+    (ap (λ x. x ++ word) c.in_ok-push_str-in-BadWord.ensures.bytes
+    ∙ append_assoc (string_bytes c.args.out.now) (codes "unknown word ") word))

@@ -11,6 +11,8 @@ returns c =
       c.advice_on.result.now,
       note_pieces _ _ _ _ _ _ _ _ _ _
           c.in_ok-write_head.ensures
-          (c.in_ok-write_cause.ensures ∙ ap (λ w. string_bytes c.write_head.new.out ++ cause_of c.args.fault.kind w c.args.wanted) c.word_at-word.ensures)
+          (c.in_ok-write_cause.ensures
+          ∙ ap (λ w. string_bytes c.write_head.new.out ++ cause_of c.args.fault.kind w c.args.wanted)
+          c.word_at-word.ensures)
           c.in_ok-push_str.ensures.bytes c.in_ok-push_str-2.ensures.bytes last,
     )) c.write_marked_line.ensures

@@ -11,5 +11,7 @@ returns c =
     let word = quoted c.args.word.now in
     let unexpected = codes "unexpected " in
     IfOk-equal c.write_wanted_part.result _ _ _ c.write_wanted_part.ensures
-    (ap (λ x. x ++ wanted_part c.args.wanted) (c.in_ok-write_quoted.ensures ∙ ap (λ x. x ++ word) c.in_ok-push_str.ensures.bytes)
-    ∙ append_assoc (start ++ unexpected) word (wanted_part c.args.wanted) ∙ append_assoc start unexpected (word ++ wanted_part c.args.wanted))
+    (ap (λ x. x ++ wanted_part c.args.wanted)
+    (c.in_ok-write_quoted.ensures ∙ ap (λ x. x ++ word) c.in_ok-push_str.ensures.bytes)
+    ∙ append_assoc (start ++ unexpected) word (wanted_part c.args.wanted)
+    ∙ append_assoc start unexpected (word ++ wanted_part c.args.wanted))
