@@ -1,5 +1,5 @@
 -- What can follow a text that ends too soon.
-use Rattle.std.proofs.Common.{◌≡◌, ◌≢◌, ℕ, suc, ◌+◌, ◌<◌, ◌≤◌, Bool, true, false, List, [], ◌∷◌, ◌++◌, length, get_or, Option, Some, None, lit<, length-append, append_assoc, append-nil, refl, sym, subst, ap, ◌∙◌, arith, inl, inr}
+use Rattle.std.proofs.Common.{◌≡◌, ◌≢◌, ℕ, T, suc, ◌+◌, ◌<◌, ◌≤◌, Bool, true, false, List, [], ◌∷◌, ◌++◌, length, get_or, Option, Some, None, lit<, length-append, append_assoc, append-nil, refl, sym, subst, ap, ◌∙◌, arith, inl, inr}
 use Rattle.std.specs.Prelude.{All, replicate}
 use Rattle.std.proofs.lemmas.Bool.{cases_order, cond_both, eq-eqb}
 use Rattle.std.proofs.lemmas.List.{map-append, length-replicate}
@@ -463,23 +463,14 @@ word_wanted (AnExpression d w) x t p lacks other names f v =
 word_wanted (ANumber low high w) x t p lacks other names f v =
     absurd (fixed_not_number t f (number_steps low high w t (viable_steps t p v).1))
 
+is_true : (b : Bool) → T b → b ≡ true
+is_true true h = refl
+is_true false h = absurd h
+
 -- the rest begins with a token that can follow, if no expression and no number can
 same_fixed : (t : Token) → IsFixed t → same_token t t ≡ true
-same_fixed token.Rounds f = refl
-same_fixed token.Channels f = refl
-same_fixed token.Registers f = refl
-same_fixed token.Start f = refl
-same_fixed token.Round f = refl
-same_fixed token.Send f = refl
-same_fixed token.Left f = refl
-same_fixed token.Right f = refl
-same_fixed token.Finish f = refl
-same_fixed token.Open f = refl
-same_fixed token.Close f = refl
-same_fixed token.Comma f = refl
-same_fixed token.Equals f = refl
 same_fixed (token.Register j) f = eq-eqb j j refl
-same_fixed t f = absurd f
+same_fixed t f = is_true (same_token t t) f
 
 pub record SomeToken (before : List Token) : Type 0 where
   pub token : Token

@@ -7,34 +7,34 @@ use Rattle.std.proofs.lemmas.List.Concat.{flat_map-append}
 regroup : (a b c d : List ℕ) → (((a ++ b) ++ c) ++ 10 ∷ []) ++ d ≡ a ++ (b ++ (c ++ 10 ∷ d))
 regroup a b c d = simp append_assoc
 
-pub four_pieces : (n m l k j a b c d : List ℕ) → n ≡ a → m ≡ n ++ b → l ≡ m ++ c →
+pub four_pieces : {n m l k j a : List ℕ} (b c d : List ℕ) → n ≡ a → m ≡ n ++ b → l ≡ m ++ c →
     k ≡ l ++ 10 ∷ [] → j ≡ k ++ d → j ≡ a ++ (b ++ (c ++ 10 ∷ d))
-four_pieces n m l k j a b c d p q r s t =
+four_pieces {a = a} b c d p q r s t =
     t ∙ ap (λ x. x ++ d) (s ∙ ap (λ x. x ++ 10 ∷ []) (r ∙ ap (λ x. x ++ c) (q ∙ ap (λ x. x ++ b) p))) ∙ regroup a b c d
 
 regroup_three : (a b d : List ℕ) → ((a ++ b) ++ 10 ∷ []) ++ d ≡ a ++ (b ++ 10 ∷ d)
 regroup_three a b d = simp append_assoc
 
-pub three_pieces : (n m k j a b d : List ℕ) → n ≡ a → m ≡ n ++ b → k ≡ m ++ 10 ∷ [] → j ≡ k ++ d →
+pub three_pieces : {n m k j a : List ℕ} (b d : List ℕ) → n ≡ a → m ≡ n ++ b → k ≡ m ++ 10 ∷ [] → j ≡ k ++ d →
     j ≡ a ++ (b ++ 10 ∷ d)
-three_pieces n m k j a b d p q s t =
+three_pieces {a = a} b d p q s t =
     t ∙ ap (λ x. x ++ d) (s ∙ ap (λ x. x ++ 10 ∷ []) (q ∙ ap (λ x. x ++ b) p)) ∙ regroup_three a b d
 
 regroup_five : (o a b c d e : List ℕ) → ((((o ++ a) ++ b) ++ c) ++ d) ++ e ≡ o ++ (a ++ (b ++ (c ++ (d ++ e))))
 regroup_five o a b c d e = simp append_assoc
 
-pub five_pieces : (o n m l k j a b c d e : List ℕ) → n ≡ o ++ a → m ≡ n ++ b → l ≡ m ++ c →
+pub five_pieces : {n m l k j : List ℕ} (o a b c d e : List ℕ) → n ≡ o ++ a → m ≡ n ++ b → l ≡ m ++ c →
     k ≡ l ++ d → j ≡ k ++ e → j ≡ o ++ (a ++ (b ++ (c ++ (d ++ e))))
-five_pieces o n m l k j a b c d e p q r s t =
+five_pieces o a b c d e p q r s t =
     t ∙ ap (λ x. x ++ e) (s ∙ ap (λ x. x ++ d) (r ∙ ap (λ x. x ++ c) (q ∙ ap (λ x. x ++ b) p)))
     ∙ regroup_five o a b c d e
 
 regroup_note : (o a b c d : List ℕ) → ((((o ++ a) ++ b) ++ c) ++ 10 ∷ []) ++ d ≡ o ++ (a ++ (b ++ (c ++ 10 ∷ d)))
 regroup_note o a b c d = simp append_assoc
 
-pub note_pieces : (o n m l k j a b c d : List ℕ) → n ≡ o ++ a → m ≡ n ++ b → l ≡ m ++ c →
+pub note_pieces : {n m l k j : List ℕ} (o a b c d : List ℕ) → n ≡ o ++ a → m ≡ n ++ b → l ≡ m ++ c →
     k ≡ l ++ 10 ∷ [] → j ≡ k ++ d → j ≡ o ++ (a ++ (b ++ (c ++ 10 ∷ d)))
-note_pieces o n m l k j a b c d p q r s t =
+note_pieces o a b c d p q r s t =
     t ∙ ap (λ x. x ++ d) (s ∙ ap (λ x. x ++ 10 ∷ []) (r ∙ ap (λ x. x ++ c) (q ∙ ap (λ x. x ++ b) p)))
     ∙ regroup_note o a b c d
 
@@ -47,9 +47,9 @@ pushed (Err e) new old added is = tt
 regroup_six : (a b c d e f : List ℕ) → ((((a ++ b) ++ c) ++ d) ++ e) ++ f ≡ a ++ (b ++ (c ++ (d ++ (e ++ f))))
 regroup_six a b c d e f = simp append_assoc
 
-pub six_pieces : (n m l k j i a b c d e f : List ℕ) → n ≡ a → m ≡ n ++ b → l ≡ m ++ c → k ≡ l ++ d →
+pub six_pieces : {n m l k j i a : List ℕ} (b c d e f : List ℕ) → n ≡ a → m ≡ n ++ b → l ≡ m ++ c → k ≡ l ++ d →
     j ≡ k ++ e → i ≡ j ++ f → i ≡ a ++ (b ++ (c ++ (d ++ (e ++ f))))
-six_pieces n m l k j i a b c d e f p q r s t u =
+six_pieces {a = a} b c d e f p q r s t u =
     u ∙ ap (λ x. x ++ f) (t
     ∙ ap (λ x. x ++ e) (s ∙ ap (λ x. x ++ d) (r ∙ ap (λ x. x ++ c) (q ∙ ap (λ x. x ++ b) p))))
     ∙ regroup_six a b c d e f

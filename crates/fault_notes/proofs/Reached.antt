@@ -1,5 +1,5 @@
 -- The end of reading the tokens of a text: a fault, or a place with the rest of a program.
-use Rattle.std.proofs.Common.{◌≡◌, ℕ, zero, suc, ◌+◌, ◌-◌, ◌<◌, ◌≤◌, ◌==◌, nat_le, ◌&&◌, List, [], ◌∷◌, ◌++◌, Option, Some, None, append_assoc, append-nil, refl, sym, subst, arith}
+use Rattle.std.proofs.Common.{◌≡◌, ℕ, T, zero, suc, ◌+◌, ◌-◌, ◌<◌, ◌≤◌, ◌==◌, nat_le, ◌&&◌, List, [], ◌∷◌, ◌++◌, Option, Some, None, append_assoc, append-nil, refl, sym, subst, arith}
 use Rattle.std.proofs.lemmas.Bool.{cond_both}
 use Rattle.std.proofs.lemmas.Bool.Decides.{nat_tests}
 use Rattle.node_program.specs.declared.limits.TheConstants.{MAX_DEPTH, MAX_NODES, MAX_REGISTERS}
@@ -68,21 +68,8 @@ program_matches_come ls =
 
 -- a token that is one of the words and marks, or a register that a program can have
 abbrev pub IsFixed : Token → Type 0
-IsFixed token.Rounds = Unit {0}
-IsFixed token.Channels = Unit {0}
-IsFixed token.Registers = Unit {0}
-IsFixed token.Start = Unit {0}
-IsFixed token.Round = Unit {0}
-IsFixed token.Send = Unit {0}
-IsFixed token.Left = Unit {0}
-IsFixed token.Right = Unit {0}
-IsFixed token.Finish = Unit {0}
-IsFixed token.Open = Unit {0}
-IsFixed token.Close = Unit {0}
-IsFixed token.Comma = Unit {0}
-IsFixed token.Equals = Unit {0}
 IsFixed (token.Register j) = j < MAX_REGISTERS
-IsFixed _ = ⊥
+IsFixed t = T (same_token t t)
 
 -- each token of the rest is one of them, if the numbers of the header are in their ranges
 abbrev pub AllFixed : Rest → Type 0
@@ -100,39 +87,11 @@ assignments_fixed (suc count) j w few h =
 rounds_fixed : (count many : ℕ) (w : List Round → Rest) → many ≤ MAX_REGISTERS →
     ((ss : List Round) → AllFixed (w ss)) → AllFixed (some_rounds count many w)
 rounds_fixed zero many w few h = h []
-rounds_fixed (suc count) many w few h = (
-  tt,
-  (
-    tt,
-    (
-      tt,
-      λ left. (
-        tt,
-        (
-          tt,
-          λ right. assignments_fixed many 0 _ (omega arith)
-              (λ next. rounds_fixed count many _ few (λ ss. h _)),
-        ),
-      ),
-    ),
-  ),
-)
+rounds_fixed (suc count) many w few h =
+    (tt, (tt, (tt, λ left. (tt, (tt, λ right. assignments_fixed many 0 _ (omega arith) (λ next. rounds_fixed count many _ few (λ ss. h _)))))))
 
 program_fixed : AllFixed a_program
-program_fixed = (
-  tt,
-  λ i _ _. (
-    tt,
-    λ c _ _. (
-      tt,
-      λ r _ most. (
-        tt,
-        assignments_fixed r 0 _ (omega arith)
-            (λ start. rounds_fixed i r _ most (λ steps. (tt, λ finish. tt))),
-      ),
-    ),
-  ),
-)
+program_fixed = (tt, λ i _ _. (tt, λ c _ _. (tt, λ r _ most. (tt, assignments_fixed r 0 _ (omega arith) (λ start. rounds_fixed i r _ most (λ steps. (tt, λ finish. tt)))))))
 
 -- and so is each one after one more token
 abbrev FixedIf : Option Rest → Type 0

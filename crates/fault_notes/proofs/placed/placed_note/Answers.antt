@@ -1,4 +1,4 @@
-use Rattle.std.proofs.Common.{◌≡◌, ◌++◌, IfOk, string_bytes, subst, ap, ◌∙◌, le_of_lt}
+use Rattle.std.proofs.Common.{◌≡◌, ◌++◌, string_bytes, subst, ap, ◌∙◌, le_of_lt}
 use Rattle.fault_notes.specs.Placed.{placed_note}
 use Rattle.fault_notes.specs.TextNotes.{place_head}
 use Rattle.fault_notes.proofs.Joined.{three_pieces}
@@ -7,7 +7,7 @@ use Rattle.fault_notes.proofs.placed.placed_note.Goals as goal
 -- The pieces of the note, one after another.
 pub returns : goal.returns
 returns c =
-    three_pieces _ _ _ _ _ _ _
+    three_pieces _ _
     (c.in_ok-write_head.ensures ∙ ap (λ x. x ++ place_head c.args.text.now c.in-Some.offset) c.new-note.ensures.bytes)
     c.in_ok-push_str.ensures.bytes c.in_ok-push_str-2.ensures.bytes c.in_ok-write_marked_line.ensures
     ∙ ap (placed_note c.args.text.now c.args.cause.now) c.in-Some.ensures.exact

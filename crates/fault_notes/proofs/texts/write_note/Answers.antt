@@ -9,7 +9,7 @@ pub returns : goal.returns
 returns c =
     on_ok_weaker c.write_marked_line.result (λ last. (
       c.advice_on.result.now,
-      note_pieces _ _ _ _ _ _ _ _ _ _
+      note_pieces _ _ _ _ _
           c.in_ok-write_head.ensures
           (c.in_ok-write_cause.ensures
           ∙ ap (λ w. string_bytes c.write_head.new.out ++ cause_of c.args.fault.kind w c.args.wanted)

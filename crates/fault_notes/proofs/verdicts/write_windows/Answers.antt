@@ -7,6 +7,6 @@ use Rattle.fault_notes.proofs.verdicts.write_windows.Goals as goal
 pub returns : goal.returns
 returns c =
     on_ok_weaker c.push_str-3.result
-    (five_pieces _ _ _ _ _ _ _ _ _ _ _ c.in_ok-push_str.ensures.bytes c.in_ok-write_window.ensures
+    (five_pieces _ _ _ _ _ (codes "\n") c.in_ok-push_str.ensures.bytes c.in_ok-write_window.ensures
     c.in_ok-push_str-2.ensures.bytes c.in_ok-write_window-2.ensures)
     (pushed c.push_str-3.result _ _ (codes "\n") c.push_str-3.ensures.bytes)
