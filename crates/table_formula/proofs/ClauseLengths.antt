@@ -14,5 +14,6 @@ channels_fit p window below =
       length-map-range_with_len (has_channel p window) 0 p.channels,
     )
 
-pub two_fit : (p : Problem) (index : ℕ) → 0 < length (windows_of p) → length (windows_of p) ≤ index → index < length (formula p) → 2 ≤ longest_len (formula p)
+pub two_fit : (p : Problem) (index : ℕ) → 0 < length (windows_of p) → length (windows_of p) ≤ index →
+    index < length (formula p) → 2 ≤ longest_len (formula p)
 two_fit p index some from below = omega (arith, longest_with p some (omega arith))

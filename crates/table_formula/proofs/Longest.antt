@@ -18,14 +18,17 @@ longest_append [] ys = omega (arith, longest_some ys)
 longest_append (x ∷ xs) ys = omega (arith, longest_append xs ys)
 
 -- clauses of one length
-longest_same : (n : ℕ) (clauses : List (List Literal)) → 1 ≤ n → All (λ clause. length clause ≡ n) clauses → 0 < length clauses → longest_len clauses ≡ n
+longest_same : (n : ℕ) (clauses : List (List Literal)) → 1 ≤ n →
+    All (λ clause. length clause ≡ n) clauses → 0 < length clauses → longest_len clauses ≡ n
 longest_same n [] some all within = absurd (omega arith)
-longest_same n (x ∷ []) some all within = omega (arith, All-head (λ (clause : List Literal). length clause ≡ n) x [] all)
+longest_same n (x ∷ []) some all within =
+    omega (arith, All-head (λ (clause : List Literal). length clause ≡ n) x [] all)
 longest_same n (x ∷ (y ∷ clauses)) some all within =
     omega (
       arith,
       All-head (λ (clause : List Literal). length clause ≡ n) x (y ∷ clauses) all,
-      longest_same n (y ∷ clauses) some (All-tail (λ (clause : List Literal). length clause ≡ n) x (y ∷ clauses) all) (omega arith),
+      longest_same n (y ∷ clauses) some
+          (All-tail (λ (clause : List Literal). length clause ≡ n) x (y ∷ clauses) all) (omega arith),
     )
 
 -- empty clauses
@@ -43,13 +46,15 @@ longest_none [] none = refl
 longest_none (x ∷ clauses) none = absurd (omega arith)
 
 -- no clause is longer
-pub item_short : (clauses : List (List Literal)) (i : ℕ) (clause : List Literal) → slice_get clauses i ≡ Some clause → length clause ≤ longest_len clauses
+pub item_short : (clauses : List (List Literal)) (i : ℕ) (clause : List Literal) →
+    slice_get clauses i ≡ Some clause → length clause ≤ longest_len clauses
 item_short [] i clause item = cc
 item_short (x ∷ clauses) zero clause item = let same : x ≡ clause = cc in omega (arith, ap length same)
 item_short (x ∷ clauses) (suc i) clause item = omega (arith, item_short clauses i clause item)
 
 -- the clauses of windows have a literal for each channel
-windows_same : (p : Problem) (windows : List ℕ) → All (λ clause. length clause ≡ p.channels) (map (some_channel p) windows)
+windows_same : (p : Problem) (windows : List ℕ) →
+    All (λ clause. length clause ≡ p.channels) (map (some_channel p) windows)
 windows_same p windows =
     All-map (λ (clause : List Literal). length clause ≡ p.channels) (some_channel p) windows
     (λ k d within. length-map-range_with_len (has_channel p (get_or windows k d)) 0 p.channels)
@@ -58,34 +63,42 @@ windows_same p windows =
 tuples_same : (p : Problem) → All (λ clause. length clause ≡ 2) (flat_map (not_too_close p) (tuples_of p))
 tuples_same p =
     let P : List Literal → Type 0 = λ clause. length clause ≡ 2 in
-    all_flat P (not_too_close p) (tuples_of p) (λ k d within. All-map P (not_both p (get_or (tuples_of p) k d)) (conflicts_of p) (λ j e inside. refl))
+    all_flat P (not_too_close p) (tuples_of p)
+    (λ k d within. All-map P (not_both p (get_or (tuples_of p) k d)) (conflicts_of p) (λ j e inside. refl))
 
-longest_any : (n : ℕ) (clauses : List (List Literal)) → All (λ clause. length clause ≡ n) clauses → 0 < length clauses → longest_len clauses ≡ max 1 n
+longest_any : (n : ℕ) (clauses : List (List Literal)) → All (λ clause. length clause ≡ n) clauses →
+    0 < length clauses → longest_len clauses ≡ max 1 n
 longest_any zero clauses all within = longest_empty clauses all
 longest_any (suc n) clauses all within = longest_same (suc n) clauses (omega arith) all within ∙ (omega arith)
 
-windows_longest : (p : Problem) → 0 < length (windows_of p) → longest_len (map (some_channel p) (range_with_len 0 (length (windows_of p)))) ≡ max 1 p.channels
+windows_longest : (p : Problem) → 0 < length (windows_of p) →
+    longest_len (map (some_channel p) (range_with_len 0 (length (windows_of p)))) ≡ max 1 p.channels
 windows_longest p some =
     let windows : List ℕ = range_with_len 0 (length (windows_of p)) in
     longest_any p.channels (map (some_channel p) windows) (windows_same p windows)
     (omega (arith, length-map-range_with_len (some_channel p) 0 (length (windows_of p))))
 
 -- a formula with clauses of windows only
-pub longest_without : (p : Problem) → 0 < length (windows_of p) → length (formula p) ≤ length (windows_of p) → longest_len (formula p) ≡ max 1 p.channels
+pub longest_without : (p : Problem) → 0 < length (windows_of p) → length (formula p) ≤ length (windows_of p) →
+    longest_len (formula p) ≡ max 1 p.channels
 unfolding formula
 longest_without p some few =
     let front : List (List Literal) = map (some_channel p) (range_with_len 0 (length (windows_of p))) in
     let back : List (List Literal) = flat_map (not_too_close p) (tuples_of p) in
-    let size : length front ≡ length (windows_of p) = length-map-range_with_len (some_channel p) 0 (length (windows_of p)) in
+    let size : length front ≡ length (windows_of p) =
+    length-map-range_with_len (some_channel p) 0 (length (windows_of p)) in
     let none : length back ≡ 0 = omega (arith, few, length-append front back) in
     longest_append front back ∙ omega (arith, windows_longest p some, longest_none back none)
 
 -- a formula with a clause of a tuple
-pub longest_with : (p : Problem) → 0 < length (windows_of p) → length (windows_of p) < length (formula p) → longest_len (formula p) ≡ max 2 p.channels
+pub longest_with : (p : Problem) → 0 < length (windows_of p) → length (windows_of p) < length (formula p) →
+    longest_len (formula p) ≡ max 2 p.channels
 unfolding formula
 longest_with p some more =
     let front : List (List Literal) = map (some_channel p) (range_with_len 0 (length (windows_of p))) in
     let back : List (List Literal) = flat_map (not_too_close p) (tuples_of p) in
-    let size : length front ≡ length (windows_of p) = length-map-range_with_len (some_channel p) 0 (length (windows_of p)) in
+    let size : length front ≡ length (windows_of p) =
+    length-map-range_with_len (some_channel p) 0 (length (windows_of p)) in
     let within : 0 < length back = omega (arith, more, length-append front back) in
-    longest_append front back ∙ omega (arith, windows_longest p some, longest_same 2 back (omega arith) (tuples_same p) within)
+    longest_append front back
+    ∙ omega (arith, windows_longest p some, longest_same 2 back (omega arith) (tuples_same p) within)

@@ -21,15 +21,18 @@ use Rattle.table_formula.specs.Laws.{SolutionsSatisfy}
 use Rattle.table_formula.proofs.Clauses.{all_flat, all_kept, all_below, some_value, any_map, any_in_range}
 
 -- the value of a variable
-value_at : (p : Problem) (t : ChannelTable) (w c : ℕ) → c < p.channels → values_of p t (variable_of p w c) ≡ (get_or t.entries w 0 == c)
+value_at : (p : Problem) (t : ChannelTable) (w c : ℕ) → c < p.channels →
+    values_of p t (variable_of p w c) ≡ (get_or t.entries w 0 == c)
 value_at p t w c lt = λ i. get_or t.entries (div-mul-add w p.channels c lt i) 0 == mod-mul-add w p.channels c lt i
 
 -- a window's clause
-some_holds : (p : Problem) (t : ChannelTable) (w : ℕ) → get_or t.entries w 0 < p.channels → Holds (values_of p t) (some_channel p w)
+some_holds : (p : Problem) (t : ChannelTable) (w : ℕ) → get_or t.entries w 0 < p.channels →
+    Holds (values_of p t) (some_channel p w)
 some_holds p t w lt =
     let channel : ℕ = get_or t.entries w 0 in
     let passes : ℕ → Bool = λ c. is_true_literal (values_of p t) (has_channel p w c) in
-    let own : passes channel ≡ true = ap (λ b. is_same_value b true) (value_at p t w channel lt ∙ eq-eqb channel channel refl) in
+    let own : passes channel ≡ true =
+    ap (λ b. is_same_value b true) (value_at p t w channel lt ∙ eq-eqb channel channel refl) in
     any_map (is_true_literal (values_of p t)) (has_channel p w) (range_with_len 0 p.channels)
     ∙ any_in_range passes 0 p.channels channel lt (ap passes (zero-add channel) ∙ own)
 
@@ -51,8 +54,15 @@ all_close channels step distance =
     let pairs : List Conflict = map pair (range_with_len 0 channels) in
     let Q : Conflict → Type 0 = λ k. (k.step ≡ step) × (k.first < channels) × (k.second < channels) in
     all_kept P Q (is_close distance) pairs
-    (λ k parts test. record { step_is = parts.0; first_below = parts.1; second_below = parts.2; close = ltb-true (abs_diff k.first k.second) distance test })
-    (All-map Q pair (range_with_len 0 channels) (All-weaker below (λ second. Q (pair second)) (λ second below'. (refl, lt, below')) (range_with_len 0 channels) (all_below channels))))
+    (λ k parts test. record {
+      step_is = parts.0;
+      first_below = parts.1;
+      second_below = parts.2;
+      close = ltb-true (abs_diff k.first k.second) distance test;
+    })
+    (All-map Q pair (range_with_len 0 channels)
+    (All-weaker below (λ second. Q (pair second)) (λ second below'. (refl, lt, below'))
+    (range_with_len 0 channels) (all_below channels))))
     (range_with_len 0 channels) (all_below channels))
 
 -- two negated variables that are not both true
@@ -75,21 +85,26 @@ pair_holds p t v w c d c_below d_below other =
 abbrev pub problem_of : ChannelTable → ℕ → Separation → Problem
 problem_of t channels s = record { ids = t.ids; rounds = t.rounds; channels = channels; separation = s }
 
-module _ (suffice : TuplesSuffice) (is_ring : TuplesAreRings) (has_window : RingsHaveWindows) (has_number : WindowsHaveNumbers)
+module _ (suffice : TuplesSuffice) (is_ring : TuplesAreRings) (has_window : RingsHaveWindows)
+    (has_number : WindowsHaveNumbers)
     (number_at : NumberOfWindow) where
   -- the channel of a window of a tuple
   pub part_channel : (t : ChannelTable) (s : Separation) (channels step : ℕ) (tuple : List ℕ) → step ≤ extra s
       → IsWindow (2 * t.rounds + 1 + extra s) t.ids tuple
-      → channel_of t (part_at t.rounds step tuple) ≡ Some (get_or t.entries (window_in (problem_of t channels s) tuple step) 0)
+      → channel_of t (part_at t.rounds step tuple)
+      ≡ Some (get_or t.entries (window_in (problem_of t channels s) tuple step) 0)
   part_channel t s channels step tuple le window =
       let ring = is_ring t.ids t.rounds (extra s) tuple (omega arith) window in
       let is : IsWindow (2 * t.rounds + 1) t.ids (part_at t.rounds step tuple) =
-      subst (IsWindow (2 * t.rounds + 1) t.ids) (ring.2 step le) (has_window t.ids t.rounds t.rounds (t.rounds + step) tuple ring.0 (omega arith)) in
+      subst (IsWindow (2 * t.rounds + 1) t.ids) (ring.2 step le)
+      (has_window t.ids t.rounds t.rounds (t.rounds + step) tuple ring.0 (omega arith)) in
       let number : Option ℕ = number_of (2 * t.rounds + 1) t.ids (part_at t.rounds step tuple) in
-      ap (option_map (λ n. get_or t.entries n 0)) (some_value number ((has_number (2 * t.rounds + 1) t.ids (part_at t.rounds step tuple)).1 is))
+      ap (option_map (λ n. get_or t.entries n 0))
+      (some_value number ((has_number (2 * t.rounds + 1) t.ids (part_at t.rounds step tuple)).1 is))
 
   -- channels of windows of a tuple that is not bad are not close
-  not_close : (t : ChannelTable) (s : Separation) (channels step distance : ℕ) (tuple : List ℕ) (k : Conflict) → step ≤ extra s
+  not_close : (t : ChannelTable) (s : Separation) (channels step distance : ℕ) (tuple : List ℕ) (k : Conflict) →
+      step ≤ extra s
       → IsWindow (2 * t.rounds + 1 + extra s) t.ids tuple → IsClose channels step distance k
       → (AreClose distance (channel_of t (part_at t.rounds 0 tuple)) (channel_of t (part_at t.rounds step tuple)) → ⊥)
       → Holds (values_of (problem_of t channels s) t) (not_both (problem_of t channels s) tuple k)
@@ -97,18 +112,22 @@ module _ (suffice : TuplesSuffice) (is_ring : TuplesAreRings) (has_window : Ring
       let p : Problem = problem_of t channels s in
       let here = part_channel t s channels 0 tuple (omega arith) window in
       let there = part_channel t s channels step tuple le window in
-      pair_holds p t (window_in p tuple 0) (window_in p tuple k.step) k.first k.second close.first_below close.second_below
+      pair_holds p t (window_in p tuple 0) (window_in p tuple k.step) k.first k.second close.first_below
+      close.second_below
       (λ first second.
-      let second' : get_or t.entries (window_in p tuple step) 0 ≡ k.second = ap (λ n. get_or t.entries (window_in p tuple n) 0) (sym close.step_is) ∙ second in
+      let second' : get_or t.entries (window_in p tuple step) 0 ≡ k.second =
+      ap (λ n. get_or t.entries (window_in p tuple n) 0) (sym close.step_is) ∙ second in
       let a : Some k.first ≡ channel_of t (part_at t.rounds 0 tuple) = sym (here ∙ ap Some first) in
       let b : Some k.second ≡ channel_of t (part_at t.rounds step tuple) = sym (there ∙ ap Some second') in
-      let moved : AreClose distance (channel_of t (part_at t.rounds 0 tuple)) (channel_of t (part_at t.rounds step tuple)) =
+      let moved : AreClose distance (channel_of t (part_at t.rounds 0 tuple))
+      (channel_of t (part_at t.rounds step tuple)) =
       subst (λ (o : Option ℕ). AreClose distance o (channel_of t (part_at t.rounds step tuple))) a
       (subst (λ (o : Option ℕ). AreClose distance (Some k.first) o) b close.close) in
       none moved)
 
   -- the clauses of a tuple that is not bad
-  tuple_holds : (t : ChannelTable) (s : Separation) (channels : ℕ) (tuple : List ℕ) → IsWindow (2 * t.rounds + 1 + extra s) t.ids tuple → ¬ IsBad t s tuple
+  tuple_holds : (t : ChannelTable) (s : Separation) (channels : ℕ) (tuple : List ℕ) →
+      IsWindow (2 * t.rounds + 1 + extra s) t.ids tuple → ¬ IsBad t s tuple
       → All (Holds (values_of (problem_of t channels s) t)) (not_too_close (problem_of t channels s) tuple)
   unfolding IsBad
   tuple_holds t s channels tuple window good =
@@ -118,21 +137,25 @@ module _ (suffice : TuplesSuffice) (is_ring : TuplesAreRings) (has_window : Ring
       All-map (Holds (values_of p t)) (not_both p tuple) (conflicts_of p)
       (All-append P (close_pairs channels 1 s.near) (close_pairs channels 2 s.far)
       (All-weaker (IsClose channels 1 s.near) P
-      (λ k close. not_close t s channels 1 s.near tuple k (omega arith) window close (λ (near : AreClose s.near (part 0) (part 1)). good (inl near)))
+      (λ k close. not_close t s channels 1 s.near tuple k (omega arith) window close
+      (λ (near : AreClose s.near (part 0) (part 1)). good (inl near)))
       (close_pairs channels 1 s.near) (all_close channels 1 s.near))
       (All-weaker (IsClose channels 2 s.far) P
       (λ k close.
       let some = close.close in
-      not_close t s channels 2 s.far tuple k (omega arith) window close (λ (far : AreClose s.far (part 0) (part 2)). good (inr far)))
+      not_close t s channels 2 s.far tuple k (omega arith) window close
+      (λ (far : AreClose s.far (part 0) (part 2)). good (inr far)))
       (close_pairs channels 2 s.far) (all_close channels 2 s.far)))
 
-  table_holds : (t : ChannelTable) (channels : ℕ) (s : Separation) → IsTable t → t.channels ≤ channels → IsApartEverywhere t s
+  table_holds : (t : ChannelTable) (channels : ℕ) (s : Separation) → IsTable t → t.channels ≤ channels →
+      IsApartEverywhere t s
       → All (Holds (values_of (problem_of t channels s) t)) (formula (problem_of t channels s))
   unfolding formula
   table_holds t channels s table few apart =
       let p : Problem = problem_of t channels s in
       let good : IsApart t s = (suffice t s).1 apart in
-      All-append (Holds (values_of p t)) (map (some_channel p) (range_with_len 0 (length (windows_of p)))) (flat_map (not_too_close p) (tuples_of p))
+      All-append (Holds (values_of p t)) (map (some_channel p) (range_with_len 0 (length (windows_of p))))
+      (flat_map (not_too_close p) (tuples_of p))
       (All-map (Holds (values_of p t)) (some_channel p) (range_with_len 0 (length (windows_of p)))
       (All-weaker (λ w. w < length (windows_of p)) (λ w. Holds (values_of p t) (some_channel p w))
       (λ w lt.
@@ -149,6 +172,12 @@ module _ (suffice : TuplesSuffice) (is_ring : TuplesAreRings) (has_window : Ring
 
   pub satisfied : SolutionsSatisfy
   satisfied p t solution =
-      let same : problem_of t p.channels p.separation ≡ p = λ i. record { ids = solution.ids i; rounds = solution.rounds i; channels = p.channels; separation = p.separation } in
+      let same : problem_of t p.channels p.separation ≡ p =
+      λ i. record {
+        ids = solution.ids i;
+        rounds = solution.rounds i;
+        channels = p.channels;
+        separation = p.separation;
+      } in
       subst (λ (q : Problem). All (Holds (values_of q t)) (formula q)) same
       (table_holds t p.channels p.separation solution.table solution.channels solution.apart)

@@ -17,17 +17,22 @@ pub record AreSizes (p : Problem) (windows tuples pairs : ℕ) : Type 0 where
 pub few_channels : (windows channels : ℕ) → 0 < windows → windows * channels ≤ MAX_VARIABLES → channels ≤ MAX_VARIABLES
 few_channels windows channels some few = omega (arith, few, mul-le 1 channels windows channels some (omega arith))
 
-pub clauses_of : (p : Problem) (windows tuples pairs : ℕ) → AreSizes p windows tuples pairs → length (formula p) ≡ windows + tuples * pairs
+pub clauses_of : (p : Problem) (windows tuples pairs : ℕ) → AreSizes p windows tuples pairs →
+    length (formula p) ≡ windows + tuples * pairs
 clauses_of p windows tuples pairs are =
     formula_length p ∙ sym (λ i. are.windows_is i + are.tuples_is i * are.pairs_is i)
 
-pub few_variables : (p : Problem) (windows tuples pairs channels : ℕ) → AreSizes p windows tuples pairs → channels ≡ p.channels
+pub few_variables : (p : Problem) (windows tuples pairs channels : ℕ) → AreSizes p windows tuples pairs →
+    channels ≡ p.channels
     → windows * channels ≤ MAX_VARIABLES → HasFewVariables p
-few_variables p windows tuples pairs channels are same few = subst (λ n. n ≤ MAX_VARIABLES) (λ i. are.windows_is i * same i) few
+few_variables p windows tuples pairs channels are same few =
+    subst (λ n. n ≤ MAX_VARIABLES) (λ i. are.windows_is i * same i) few
 
-pub few_clauses : (p : Problem) (windows tuples pairs count : ℕ) → AreSizes p windows tuples pairs → count ≡ windows + tuples * pairs
+pub few_clauses : (p : Problem) (windows tuples pairs count : ℕ) → AreSizes p windows tuples pairs →
+    count ≡ windows + tuples * pairs
     → count ≤ MAX_CLAUSES → HasFewClauses p
 few_clauses p windows tuples pairs count are is few = omega (arith, clauses_of p windows tuples pairs are, is, few)
 
-pub many_clauses : (p : Problem) (windows tuples pairs : ℕ) → AreSizes p windows tuples pairs → MAX_CLAUSES < windows + tuples * pairs → ¬ HasFewClauses p
+pub many_clauses : (p : Problem) (windows tuples pairs : ℕ) → AreSizes p windows tuples pairs →
+    MAX_CLAUSES < windows + tuples * pairs → ¬ HasFewClauses p
 many_clauses p windows tuples pairs are many = λ few. omega (arith, clauses_of p windows tuples pairs are, many, few)

@@ -51,7 +51,8 @@ is_close distance k = nat_lt (abs_diff k.first k.second) distance
 -- the pairs with this first channel, at places this many steps apart, that are closer than the distance
 abbrev pub close_to : ℕ → ℕ → ℕ → ℕ → List Conflict
 close_to channels step distance first =
-    filter (is_close distance) (map (λ second. record { step = step; first = first; second = second }) (range_with_len 0 channels))
+    filter (is_close distance)
+    (map (λ second. record { step = step; first = first; second = second }) (range_with_len 0 channels))
 
 -- the pairs of channels, at places this many steps apart, that are closer than the distance
 abbrev pub close_pairs : ℕ → ℕ → ℕ → List Conflict
@@ -78,7 +79,8 @@ window_in p tuple offset = unwrap_or (number_of (2 * p.rounds + 1) p.ids (part_a
 -- two windows of a tuple do not have two channels that are too close
 abbrev pub not_both : Problem → List ℕ → Conflict → List Literal
 not_both p tuple conflict =
-    lacks_channel p (window_in p tuple 0) conflict.first ∷ lacks_channel p (window_in p tuple conflict.step) conflict.second ∷ []
+    lacks_channel p (window_in p tuple 0) conflict.first ∷ lacks_channel p (window_in p tuple conflict.step)
+    conflict.second ∷ []
 
 -- the clauses of a tuple: for each forbidden pair, its windows do not have these two channels
 abbrev pub not_too_close : Problem → List ℕ → List (List Literal)

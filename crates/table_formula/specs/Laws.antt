@@ -22,7 +22,8 @@ pub record HasTables (p : Problem) : Type 0 where
 -- values that make all clauses hold describe a table that is asked for, so the formula asks for no more than the problem
 abbrev pub ModelsGiveSolutions : Type 0
 ModelsGiveSolutions =
-    (p : Problem) (values : ℕ → Bool) → HasTables p → All (Holds values) (formula p) → (t : ChannelTable) × IsSolution p t
+    (p : Problem) (values : ℕ → Bool) → HasTables p → All (Holds values) (formula p) →
+    (t : ChannelTable) × IsSolution p t
 
 -- there is no such table exactly if no values make all clauses hold
 abbrev pub FormulaIsExact : Type 0

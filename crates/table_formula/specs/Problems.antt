@@ -15,7 +15,8 @@ pub record Problem : Type 0 where
 
 -- the problem of the tables of a shape
 abbrev pub problem_of : Shape → ℕ → Separation → Problem
-problem_of shape channels separation = record { ids = shape.ids; rounds = shape.rounds; channels = channels; separation = separation }
+problem_of shape channels separation =
+    record { ids = shape.ids; rounds = shape.rounds; channels = channels; separation = separation }
 
 -- a table that is asked for
 pub record IsSolution (p : Problem) (t : ChannelTable) : Type 0 where
@@ -34,4 +35,9 @@ abbrev pub problem_code : Coded Problem
 problem_code =
     code_by (ℕ × (ℕ × (ℕ × (ℕ × ℕ)))) (coded× coded_ℕ (coded× coded_ℕ (coded× coded_ℕ (coded× coded_ℕ coded_ℕ))))
     (λ p. (p.ids, (p.rounds, (p.channels, (p.separation.near, p.separation.far)))))
-    (λ c. record { ids = c.0; rounds = c.1.0; channels = c.1.1.0; separation = record { near = c.1.1.1.0; far = c.1.1.1.1 } }) (λ _. refl)
+    (λ c. record {
+      ids = c.0;
+      rounds = c.1.0;
+      channels = c.1.1.0;
+      separation = record { near = c.1.1.1.0; far = c.1.1.1.1 };
+    }) (λ _. refl)

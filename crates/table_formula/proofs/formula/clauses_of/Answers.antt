@@ -12,30 +12,61 @@ conflict_count-pairs-requires c =
 
 pub returns-in_default-clause-err : goal.returns-in_default-clause-err
 returns-in_default-clause-err c =
-    let p : Problem = record { ids = c.args.shape.ids; rounds = c.args.shape.rounds; channels = c.args.channels; separation = c.args.separation } in
-    let are : AreSizes p c.from-windows.result c.tuples-tuples.result c.conflict_count-pairs.result = record {
-      windows_is = c.from-windows.ensures ∙ c.count.ensures.value ∙ ap (λ r. length (windows (2 * r + 1) c.args.shape.ids)) c.rounds.ensures;
-      tuples_is = c.tuples-tuples.ensures.value ∙ ap (λ x. length (windows (2 * c.args.shape.rounds + 1 + x) c.args.shape.ids)) c.extra_of.ensures;
-      pairs_is = c.conflict_count-pairs.ensures;
+    let p : Problem = record {
+      ids = c.args.shape.ids;
+      rounds = c.args.shape.rounds;
+      channels = c.args.channels;
+      separation = c.args.separation;
     } in
-    (few_variables p c.from-windows.result c.tuples-tuples.result c.conflict_count-pairs.result c.from.result are c.from.ensures c.if-windows-from-gt-MAX_VARIABLES.false, many_clauses p c.from-windows.result c.tuples-tuples.result c.conflict_count-pairs.result are c.in_default.ensures)
+    let are : AreSizes p c.from-windows.result c.tuples-tuples.result c.conflict_count-pairs.result = record {
+      windows_is = c.from-windows.ensures ∙ c.count.ensures.value
+          ∙ ap (λ r. length (windows (2 * r + 1) c.args.shape.ids)) c.rounds.ensures;
+      tuples_is = c.tuples-tuples.ensures.value
+          ∙ ap (λ x. length (windows (2 * c.args.shape.rounds + 1 + x) c.args.shape.ids)) c.extra_of.ensures;
+      pairs_is = c.conflict_count-pairs.ensures;
+    } in (
+      few_variables p c.from-windows.result c.tuples-tuples.result c.conflict_count-pairs.result c.from.result are
+          c.from.ensures c.if-windows-from-gt-MAX_VARIABLES.false,
+      many_clauses p c.from-windows.result c.tuples-tuples.result c.conflict_count-pairs.result are
+          c.in_default.ensures,
+    )
 
 pub returns-clause-ok : goal.returns-clause-ok
 returns-clause-ok c =
-    let p : Problem = record { ids = c.args.shape.ids; rounds = c.args.shape.rounds; channels = c.args.channels; separation = c.args.separation } in
+    let p : Problem = record {
+      ids = c.args.shape.ids;
+      rounds = c.args.shape.rounds;
+      channels = c.args.channels;
+      separation = c.args.separation;
+    } in
     let are : AreSizes p c.from-windows.result c.tuples-tuples.result c.conflict_count-pairs.result = record {
-      windows_is = c.from-windows.ensures ∙ c.count.ensures.value ∙ ap (λ r. length (windows (2 * r + 1) c.args.shape.ids)) c.rounds.ensures;
-      tuples_is = c.tuples-tuples.ensures.value ∙ ap (λ x. length (windows (2 * c.args.shape.rounds + 1 + x) c.args.shape.ids)) c.extra_of.ensures;
+      windows_is = c.from-windows.ensures ∙ c.count.ensures.value
+          ∙ ap (λ r. length (windows (2 * r + 1) c.args.shape.ids)) c.rounds.ensures;
+      tuples_is = c.tuples-tuples.ensures.value
+          ∙ ap (λ x. length (windows (2 * c.args.shape.rounds + 1 + x) c.args.shape.ids)) c.extra_of.ensures;
       pairs_is = c.conflict_count-pairs.ensures;
     } in
-    c.in-Some.ensures.0 ∙ sym (clauses_of p c.from-windows.result c.tuples-tuples.result c.conflict_count-pairs.result are)
+    c.in-Some.ensures.0
+    ∙ sym (clauses_of p c.from-windows.result c.tuples-tuples.result c.conflict_count-pairs.result are)
 
 pub returns-clause-limits : goal.returns-clause-limits
 returns-clause-limits c =
-    let p : Problem = record { ids = c.args.shape.ids; rounds = c.args.shape.rounds; channels = c.args.channels; separation = c.args.separation } in
+    let p : Problem = record {
+      ids = c.args.shape.ids;
+      rounds = c.args.shape.rounds;
+      channels = c.args.channels;
+      separation = c.args.separation;
+    } in
     let are : AreSizes p c.from-windows.result c.tuples-tuples.result c.conflict_count-pairs.result = record {
-      windows_is = c.from-windows.ensures ∙ c.count.ensures.value ∙ ap (λ r. length (windows (2 * r + 1) c.args.shape.ids)) c.rounds.ensures;
-      tuples_is = c.tuples-tuples.ensures.value ∙ ap (λ x. length (windows (2 * c.args.shape.rounds + 1 + x) c.args.shape.ids)) c.extra_of.ensures;
+      windows_is = c.from-windows.ensures ∙ c.count.ensures.value
+          ∙ ap (λ r. length (windows (2 * r + 1) c.args.shape.ids)) c.rounds.ensures;
+      tuples_is = c.tuples-tuples.ensures.value
+          ∙ ap (λ x. length (windows (2 * c.args.shape.rounds + 1 + x) c.args.shape.ids)) c.extra_of.ensures;
       pairs_is = c.conflict_count-pairs.ensures;
     } in
-    record { few_variables = few_variables p c.from-windows.result c.tuples-tuples.result c.conflict_count-pairs.result c.from.result are c.from.ensures c.if-windows-from-gt-MAX_VARIABLES.false; few_clauses = few_clauses p c.from-windows.result c.tuples-tuples.result c.conflict_count-pairs.result c.in-Some.clauses are c.in-Some.ensures.0 c.in-Some.ensures.1 }
+    record {
+      few_variables = few_variables p c.from-windows.result c.tuples-tuples.result c.conflict_count-pairs.result
+          c.from.result are c.from.ensures c.if-windows-from-gt-MAX_VARIABLES.false;
+      few_clauses = few_clauses p c.from-windows.result c.tuples-tuples.result c.conflict_count-pairs.result
+          c.in-Some.clauses are c.in-Some.ensures.0 c.in-Some.ensures.1;
+    }

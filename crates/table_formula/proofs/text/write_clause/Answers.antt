@@ -11,7 +11,8 @@ returns-in_err-write_literals-clause-err g c =
     let head = c.args.chunk.now in
     let literals = flat_map literal_text c.args.clause.now in
     on_err c.from_residual.result
-    (tells_front _ _ _ (head ++ literals) (head ++ literals) (head ++ clause_text c.args.clause.now) (48 ∷ 10 ∷ []) (tells_none _ _) c.in_err-write_literals.ensures.err
+    (tells_front _ _ _ (head ++ literals) (head ++ literals) (head ++ clause_text c.args.clause.now) (48 ∷ 10 ∷ [])
+    (tells_none _ _) c.in_err-write_literals.ensures.err
     (append_assoc head literals (48 ∷ 10 ∷ [])))
 
 pub returns-in_err-make_room-clause-err : goal.returns-in_err-make_room-clause-err
@@ -19,7 +20,8 @@ returns-in_err-make_room-clause-err g c =
     let head = c.args.chunk.now in
     let literals = flat_map literal_text c.args.clause.now in
     on_err c.from_residual-in_err-make_room.result
-    (tells_front _ _ _ _ (head ++ literals) (head ++ clause_text c.args.clause.now) (48 ∷ 10 ∷ []) c.in_ok-write_literals.ensures.ok c.in_err-make_room.ensures.err
+    (tells_front _ _ _ _ (head ++ literals) (head ++ clause_text c.args.clause.now) (48 ∷ 10 ∷ [])
+    c.in_ok-write_literals.ensures.ok c.in_err-make_room.ensures.err
     (append_assoc head literals (48 ∷ 10 ∷ [])))
 
 pub returns-clause-ok : goal.returns-clause-ok

@@ -9,7 +9,8 @@ use Rattle.table_formula.proofs.text.write_clauses.Given as goal
 -- the clauses so far are written or in the chunk
 abbrev pub invariant-loop-index : goal.invariant-loop-index
 invariant-loop-index g l = record {
-  told : IsWrittenSoFar (g.W.Write.contents (device_of l.initial.writer)) (g.W.Write.contents (device_of l.writer)) l.chunk
+  told : IsWrittenSoFar (g.W.Write.contents (device_of l.initial.writer))
+      (g.W.Write.contents (device_of l.writer)) l.chunk
       (head_text l.formula ++ flat_map clause_text (take l.index (formula l.formula)));
   working : has_failed l.writer ≡ false;
 }

@@ -6,7 +6,12 @@ use Rattle.table_formula.proofs.text.write_literal.Goals as goal
 
 pub write_digits-start-requires : goal.write_digits-start-requires
 write_digits-start-requires c = (
-  omega (arith, length-decimal-le 10 (c.from.result + 1) (omega arith) (omega (arith, c.from.ensures, c.variable.ensures.below)) (omega (arith, c.from.ensures, c.variable.ensures.below))),
+  omega (
+    arith,
+    length-decimal-le 10 (c.from.result + 1) (omega arith)
+        (omega (arith, c.from.ensures, c.variable.ensures.below))
+        (omega (arith, c.from.ensures, c.variable.ensures.below)),
+  ),
   omega (arith, ap length c.requires, length-drop 11 c.args.bytes.now),
 )
 
@@ -15,7 +20,8 @@ overflow_sub-bytes c =
     omega (
       arith,
       c.write_digits-start.ensures.start,
-      length-decimal-le 10 (c.from.result + 1) (omega arith) (omega (arith, c.from.ensures, c.variable.ensures.below)) (omega (arith, c.from.ensures, c.variable.ensures.below)),
+      length-decimal-le 10 (c.from.result + 1) (omega arith) (omega (arith, c.from.ensures, c.variable.ensures.below))
+          (omega (arith, c.from.ensures, c.variable.ensures.below)),
     )
 
 pub overflow_sub-result : goal.overflow_sub-result
@@ -23,7 +29,8 @@ overflow_sub-result c =
     omega (
       arith,
       c.write_digits-start.ensures.start,
-      length-decimal-le 10 (c.from.result + 1) (omega arith) (omega (arith, c.from.ensures, c.variable.ensures.below)) (omega (arith, c.from.ensures, c.variable.ensures.below)),
+      length-decimal-le 10 (c.from.result + 1) (omega arith) (omega (arith, c.from.ensures, c.variable.ensures.below))
+          (omega (arith, c.from.ensures, c.variable.ensures.below)),
     )
 
 pub returns-clause-text : goal.returns-clause-text
@@ -32,10 +39,21 @@ returns-clause-text c =
     let bytes = c.write_digits-start.new.buf in
     let number : c.from.result ≡ c.args.l.variable = c.from.ensures ∙ c.variable.ensures.value in
     let negative : c.args.l.is_positive ≡ false = sym c.is_positive.ensures ∙ c.if-is_positive.false in
-    let digits : drop start bytes ≡ decimal (c.from.result + 1) ++ 32 ∷ [] = c.write_digits-start.ensures.written ∙ ap (λ (rest : List ℕ). decimal (c.from.result + 1) ++ rest) c.requires in
-    let short = length-decimal-le 10 (c.from.result + 1) (omega arith) (omega (arith, c.from.ensures, c.variable.ensures.below)) (omega (arith, c.from.ensures, c.variable.ensures.below)) in
+    let digits : drop start bytes ≡ decimal (c.from.result + 1) ++ 32 ∷ [] = c.write_digits-start.ensures.written
+    ∙ ap (λ (rest : List ℕ). decimal (c.from.result + 1) ++ rest) c.requires in
+    let short =
+    length-decimal-le 10 (c.from.result + 1) (omega arith)
+    (omega (arith, c.from.ensures, c.variable.ensures.below))
+    (omega (arith, c.from.ensures, c.variable.ensures.below)) in
     let within = ap length c.requires in
-    sign_before start bytes (decimal (c.from.result + 1) ++ 32 ∷ []) (omega (arith, c.write_digits-start.ensures.start, short))
-    (omega (arith, c.write_digits-start.ensures.start, within, length-drop 11 c.args.bytes.now, c.write_digits-start.auto.buf)) digits
+    sign_before start bytes (decimal (c.from.result + 1) ++ 32 ∷ [])
+    (omega (arith, c.write_digits-start.ensures.start, short))
+    (omega (
+      arith,
+      c.write_digits-start.ensures.start,
+      within,
+      length-drop 11 c.args.bytes.now,
+      c.write_digits-start.auto.buf,
+    )) digits
     ∙ ap (λ n. 45 ∷ (decimal (n + 1) ++ 32 ∷ [])) number
     ∙ ap (λ b. cond b [] (45 ∷ []) ++ (decimal (c.args.l.variable + 1) ++ 32 ∷ [])) (sym negative)

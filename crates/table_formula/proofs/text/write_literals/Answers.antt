@@ -17,8 +17,10 @@ loop-l-preserved g c =
     let within : i < length clause = c.loop-l-test.true in
     let item_is : slice_get clause i ≡ Some item = slice_get-get_or clause i item within ∙ ap Some (sym c.l-item.is) in
     let moved = tells_moved _ _ _ _ _ _ c.loop-l.invariant.told c.in_ok-make_room.ensures.ok in
-    let more = tells_more _ _ _ c.push_literal.new.chunk (literal_text item) (head ++ flat_map literal_text (take i clause)) moved c.push_literal.ensures in
-    let text = text_more literal_text head (head ++ flat_map literal_text (take i clause)) (head ++ flat_map literal_text (take i clause) ++ literal_text item) clause i item refl
+    let more = tells_more _ _ _ c.push_literal.new.chunk (literal_text item)
+    (head ++ flat_map literal_text (take i clause)) moved c.push_literal.ensures in
+    let text = text_more literal_text head (head ++ flat_map literal_text (take i clause))
+    (head ++ flat_map literal_text (take i clause) ++ literal_text item) clause i item refl
     item_is refl in
     record {
       told = subst (IsWrittenSoFar _ _ c.push_literal.new.chunk) text more;
@@ -31,5 +33,6 @@ returns-in_err-make_room-clause-err g c =
     let clause = c.args.clause.now in
     let i = c.loop-l.l-index in
     on_err c.from_residual.result
-    (tells_front _ _ _ _ _ (head ++ flat_map literal_text clause) (flat_map literal_text (drop i clause)) c.loop-l.invariant.told c.in_err-make_room.ensures.err
+    (tells_front _ _ _ _ _ (head ++ flat_map literal_text clause) (flat_map literal_text (drop i clause))
+    c.loop-l.invariant.told c.in_err-make_room.ensures.err
     (text_rest literal_text head clause i))

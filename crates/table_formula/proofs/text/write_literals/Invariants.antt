@@ -8,7 +8,8 @@ use Rattle.table_formula.proofs.text.write_literals.Given as goal
 -- the literals so far are written or in the chunk
 abbrev pub invariant-loop-l : goal.invariant-loop-l
 invariant-loop-l g l = record {
-  told : IsWrittenSoFar (g.W.Write.contents (device_of l.initial.writer)) (g.W.Write.contents (device_of l.writer)) l.chunk
+  told : IsWrittenSoFar (g.W.Write.contents (device_of l.initial.writer))
+      (g.W.Write.contents (device_of l.writer)) l.chunk
       (l.fn.chunk ++ flat_map literal_text (take l.l-index l.clause));
   working : has_failed l.writer ≡ false;
 }

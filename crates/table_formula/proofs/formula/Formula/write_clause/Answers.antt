@@ -10,7 +10,8 @@ write_some_channel-requires-clause-room c =
     omega (
       arith,
       c.requires.room,
-      channels_fit c.args.self.now c.args.index (omega (arith, c.if-index-windows.true, c.from-windows.ensures, c.windows.ensures.value)),
+      channels_fit c.args.self.now c.args.index
+          (omega (arith, c.if-index-windows.true, c.from-windows.ensures, c.windows.ensures.value)),
     )
 
 pub write_pair-requires-clause-room : goal.write_pair-requires-clause-room
@@ -24,18 +25,28 @@ write_pair-requires-clause-room c =
 
 pub returns-then-index-windows-clause-fits : goal.returns-then-index-windows-clause-fits
 returns-then-index-windows-clause-fits c =
-    let below : c.args.index < length (windows_of c.args.self.now) = omega (arith, c.if-index-windows.true, c.from-windows.ensures, c.windows.ensures.value) in
-    omega (arith, c.requires.room, c.write_some_channel.ensures.count, c.write_some_channel.ensures.len, channels_fit c.args.self.now c.args.index below)
+    let below : c.args.index < length (windows_of c.args.self.now) =
+    omega (arith, c.if-index-windows.true, c.from-windows.ensures, c.windows.ensures.value) in
+    omega (
+      arith,
+      c.requires.room,
+      c.write_some_channel.ensures.count,
+      c.write_some_channel.ensures.len,
+      channels_fit c.args.self.now c.args.index below,
+    )
 
 pub returns-then-index-windows-clause-item : goal.returns-then-index-windows-clause-item
 returns-then-index-windows-clause-item c =
-    let below : c.args.index < length (windows_of c.args.self.now) = omega (arith, c.if-index-windows.true, c.from-windows.ensures, c.windows.ensures.value) in
+    let below : c.args.index < length (windows_of c.args.self.now) =
+    omega (arith, c.if-index-windows.true, c.from-windows.ensures, c.windows.ensures.value) in
     window_clause c.args.self.now c.args.index below ∙ ap Some (sym c.write_some_channel.ensures.items)
 
 pub returns-then-index-windows-clause-within : goal.returns-then-index-windows-clause-within
 returns-then-index-windows-clause-within c =
-    let below : c.args.index < length (windows_of c.args.self.now) = omega (arith, c.if-index-windows.true, c.from-windows.ensures, c.windows.ensures.value) in
-    subst (λ (clause : List Literal). All (λ (l : Literal). l.variable < variable_count c.args.self.now) clause) (sym c.write_some_channel.ensures.items)
+    let below : c.args.index < length (windows_of c.args.self.now) =
+    omega (arith, c.if-index-windows.true, c.from-windows.ensures, c.windows.ensures.value) in
+    subst (λ (clause : List Literal). All (λ (l : Literal). l.variable < variable_count c.args.self.now) clause)
+    (sym c.write_some_channel.ensures.items)
     (some_within c.args.self.now c.args.index below)
 
 pub returns-else-index-windows-clause-fits : goal.returns-else-index-windows-clause-fits

@@ -8,18 +8,26 @@ pub conflict_count-count-requires : goal.conflict_count-count-requires
 conflict_count-count-requires c = some_tuples c.args.self.now c.args.index c.requires.below
 
 pub nonzero_div-index : goal.nonzero_div-index
-nonzero_div-index c = (splits c.args.self.now c.args.index c.conflict_count-count.result c.requires.below c.conflict_count-count.ensures).some
+nonzero_div-index c =
+    (splits c.args.self.now c.args.index c.conflict_count-count.result c.requires.below
+    c.conflict_count-count.ensures).some
 
 pub nonzero_rem-index : goal.nonzero_rem-index
-nonzero_rem-index c = (splits c.args.self.now c.args.index c.conflict_count-count.result c.requires.below c.conflict_count-count.ensures).some
+nonzero_rem-index c =
+    (splits c.args.self.now c.args.index c.conflict_count-count.result c.requires.below
+    c.conflict_count-count.ensures).some
 
 pub write_tuple-requires-clause-below : goal.write_tuple-requires-clause-below
-write_tuple-requires-clause-below c = (splits c.args.self.now c.args.index c.conflict_count-count.result c.requires.below c.conflict_count-count.ensures).tuple
+write_tuple-requires-clause-below c =
+    (splits c.args.self.now c.args.index c.conflict_count-count.result c.requires.below
+    c.conflict_count-count.ensures).tuple
 
 pub conflict-conflict-requires : goal.conflict-conflict-requires
 conflict-conflict-requires c = record {
   some = some_tuples c.args.self.now c.args.index c.requires.below;
-  below = (splits c.args.self.now c.args.index c.conflict_count-count.result c.requires.below c.conflict_count-count.ensures).pair;
+  below =
+      (splits c.args.self.now c.args.index c.conflict_count-count.result c.requires.below
+      c.conflict_count-count.ensures).pair;
 }
 
 pub returns-clause-item : goal.returns-clause-item
@@ -28,8 +36,11 @@ returns-clause-item c =
     let count = c.conflict_count-count.result in
     let index = c.args.index in
     let cut = splits p index count c.requires.below c.conflict_count-count.ensures in
-    let clause : slice_get (formula p) (length (windows_of p) + index) ≡ Some (not_both p c.write_tuple.new.out c.conflict-conflict.result) =
-    pair_clause p (index / count) (index % count) (length (windows_of p) + index) c.write_tuple.new.out c.conflict-conflict.result cut.tuple cut.pair
-    (ap (λ n. length (windows_of p) + n) cut.at') (get_or_from_slice_get (tuples_of p) (index / count) c.write_tuple.new.out [] c.write_tuple.ensures.item)
+    let clause : slice_get (formula p) (length (windows_of p) + index)
+    ≡ Some (not_both p c.write_tuple.new.out c.conflict-conflict.result) =
+    pair_clause p (index / count) (index % count) (length (windows_of p) + index) c.write_tuple.new.out
+    c.conflict-conflict.result cut.tuple cut.pair
+    (ap (λ n. length (windows_of p) + n) cut.at')
+    (get_or_from_slice_get (tuples_of p) (index / count) c.write_tuple.new.out [] c.write_tuple.ensures.item)
     c.conflict-conflict.ensures.item c.requires.below in
     clause ∙ ap Some (sym c.write_not_both.ensures.items)
