@@ -28,6 +28,7 @@ pub returns-clause-ok : goal.returns-clause-ok
 returns-clause-ok g c =
     let head = c.args.chunk.now in
     let literals = flat_map literal_text c.args.clause.now in
-    let moved = tells_moved _ _ _ _ _ _ c.in_ok-write_literals.ensures.ok c.in_ok-make_room.ensures.ok in
+    let moved = tells_moved _ _ _ c.write_literals.new.chunk _ _ c.in_ok-write_literals.ensures.ok
+    c.in_ok-make_room.ensures.ok in
     let more = tells_more _ _ _ c.push.new.self (48 ∷ 10 ∷ []) (head ++ literals) moved c.push.ensures in
     subst (IsWrittenSoFar _ _ c.push.new.self) (append_assoc head literals (48 ∷ 10 ∷ [])) more

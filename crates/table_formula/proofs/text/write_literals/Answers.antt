@@ -16,7 +16,7 @@ loop-l-preserved g c =
     let item = c.l-item.result in
     let within : i < length clause = c.loop-l-test.true in
     let item_is : slice_get clause i ≡ Some item = slice_get-get_or clause i item within ∙ ap Some (sym c.l-item.is) in
-    let moved = tells_moved _ _ _ _ _ _ c.loop-l.invariant.told c.in_ok-make_room.ensures.ok in
+    let moved = tells_moved _ _ _ c.loop-l.chunk _ _ c.loop-l.invariant.told c.in_ok-make_room.ensures.ok in
     let more = tells_more _ _ _ c.push_literal.new.chunk (literal_text item)
     (head ++ flat_map literal_text (take i clause)) moved c.push_literal.ensures in
     let text = text_more literal_text head (head ++ flat_map literal_text (take i clause))
