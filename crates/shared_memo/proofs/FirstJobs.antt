@@ -12,7 +12,8 @@ slice_get-append_left [] ys n h = absurd (omega arith)
 slice_get-append_left (x ∷ xs) ys zero h = refl
 slice_get-append_left (x ∷ xs) ys (suc n) h = slice_get-append_left xs ys n (omega arith)
 
-slice_get-append_right : {X : Type 0} (xs ys : List X) (n i : ℕ) → n ≡ length xs + i → slice_get (xs ++ ys) n ≡ slice_get ys i
+slice_get-append_right : {X : Type 0} (xs ys : List X) (n i : ℕ) → n ≡ length xs + i →
+    slice_get (xs ++ ys) n ≡ slice_get ys i
 slice_get-append_right [] ys n i e = let same : n ≡ i = omega arith in rw same
 slice_get-append_right (x ∷ xs) ys n i e =
     let more : n ≡ suc (length xs + i) = omega arith in
@@ -41,23 +42,31 @@ level_job : (m a b : ℕ) → b < block_count m a → slice_get (level_jobs m a)
 level_job m a b lt =
     let n : ℕ = block_count m a in
     let long : length (level_jobs m a) ≡ n = length-map-range_with_len (λ i. (a, i)) 0 n in
-    slice_get-get_or (level_jobs m a) b (a, b) (omega arith) ∙ ap Some (get_or-map-range_with_len (λ i. (a, i)) 0 n b b (a, b) lt (omega arith))
+    slice_get-get_or (level_jobs m a) b (a, b) (omega arith)
+    ∙ ap Some (get_or-map-range_with_len (λ i. (a, i)) 0 n b b (a, b) lt (omega arith))
 
-job_from : (m a n k b : ℕ) → k < n → b < block_count m (a + k) → slice_get (flat_map (level_jobs m) (range_with_len a n)) (blocks_from m a k + b) ≡ Some (a + k, b)
+job_from : (m a n k b : ℕ) → k < n → b < block_count m (a + k) →
+    slice_get (flat_map (level_jobs m) (range_with_len a n)) (blocks_from m a k + b) ≡ Some (a + k, b)
 job_from m a zero k b few lt = absurd (omega arith)
 job_from m a (suc n) zero b few lt =
     let e : a + 0 ≡ a = omega arith in
     let z : 0 + b ≡ b = omega arith in
     let own : b < block_count m a = rw e at lt in
-    let long : length (level_jobs m a) ≡ block_count m a = length-map-range_with_len (λ i. (a, i)) 0 (block_count m a) in
-    rw (e, z) (slice_get-append_left (level_jobs m a) (flat_map (level_jobs m) (range_with_len (a + 1) n)) b (omega arith) ∙ level_job m a b own)
+    let long : length (level_jobs m a) ≡ block_count m a =
+    length-map-range_with_len (λ i. (a, i)) 0 (block_count m a) in
+    rw (e, z) (slice_get-append_left (level_jobs m a) (flat_map (level_jobs m) (range_with_len (a + 1) n)) b
+    (omega arith) ∙ level_job m a b own)
 job_from m a (suc n) (suc k) b few lt =
     let e : a + suc k ≡ a + 1 + k = omega arith in
     let own : b < block_count m (a + 1 + k) = rw e at lt in
-    let long : length (level_jobs m a) ≡ block_count m a = length-map-range_with_len (λ i. (a, i)) 0 (block_count m a) in
-    rw e (slice_get-append_right (level_jobs m a) (flat_map (level_jobs m) (range_with_len (a + 1) n)) (block_count m a + blocks_from m (a + 1) k + b) (blocks_from m (a + 1) k + b) (omega arith) ∙ job_from m (a + 1) n k b (omega arith) own)
+    let long : length (level_jobs m a) ≡ block_count m a =
+    length-map-range_with_len (λ i. (a, i)) 0 (block_count m a) in
+    rw e (slice_get-append_right (level_jobs m a) (flat_map (level_jobs m) (range_with_len (a + 1) n))
+    (block_count m a + blocks_from m (a + 1) k + b) (blocks_from m (a + 1) k + b) (omega arith)
+    ∙ job_from m (a + 1) n k b (omega arith) own)
 
-job_below : (m t level b : ℕ) → level ≤ t → b < block_count m level → slice_get (jobs_of m t) (blocks_from m 0 level + b) ≡ Some (level, b)
+job_below : (m t level b : ℕ) → level ≤ t → b < block_count m level →
+    slice_get (jobs_of m t) (blocks_from m 0 level + b) ≡ Some (level, b)
 unfolding jobs_of
 job_below m t level b few lt =
     let none : 0 + level ≡ level = omega arith in
@@ -65,5 +74,6 @@ job_below m t level b few lt =
     rw none at (job_from m 0 (t + 1) level b (omega arith) own)
 
 -- the number of the job for a block of a level
-pub job_number_from : (m t level b n : ℕ) → StandAtNumbers → level ≤ t → b < block_count m level → n ≡ blocks_from m 0 level → job_number m t level b ≡ Some (n + b)
+pub job_number_from : (m t level b n : ℕ) → StandAtNumbers → level ≤ t → b < block_count m level →
+    n ≡ blocks_from m 0 level → job_number m t level b ≡ Some (n + b)
 job_number_from m t level b n law few lt is = (law m t level b (n + b)).1 (rw is (job_below m t level b few lt))

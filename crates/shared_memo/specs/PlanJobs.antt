@@ -21,4 +21,5 @@ IsStranger plan level number b = ¬ IsKeyedBlock plan level number b
 abbrev pub AreFirstJobs : ProgramForIds → List ℕ → Type 0
 AreFirstJobs plan firsts =
     (length firsts ≡ length plan.program.steps + 1)
-    × ((level number : ℕ) → IsKey plan level number → job_of plan level number ≡ Some (slice_index firsts level + number))
+    × ((level number : ℕ) → IsKey plan level number →
+    job_of plan level number ≡ Some (slice_index firsts level + number))

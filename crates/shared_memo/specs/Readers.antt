@@ -12,7 +12,8 @@ met_stranger r = r.stranger
 
 -- a reader as a source that was asked
 abbrev pub AskedReader : Reader → Reader → Type 0
-AskedReader = Asked (λ (r : Reader). r.pass.now.plan.now) (λ (r : Reader). r.memo.now) (λ (r : Reader). known r.pass.now)
+AskedReader =
+    Asked (λ (r : Reader). r.pass.now.plan.now) (λ (r : Reader). r.memo.now) (λ (r : Reader). known r.pass.now)
 
 -- a reader before and after it was asked for the block of a level and a number; `found` says whether it returned one
 pub record Asks (level number : ℕ) (found : Bool) (old new : Reader) : Type 0 where

@@ -25,10 +25,12 @@ returns c =
     let inv = c.loop-level.invariant in
     let m = c.args.plan.now.ids in
     let t = length c.args.plan.now.program.steps in
-    let levels : c.loop-level.level ≡ t + 1 = omega (arith, c.rounds-level-end.ensures, c.shape-shape.ensures.rounds) in (
+    let levels : c.loop-level.level ≡ t + 1 =
+    omega (arith, c.rounds-level-end.ensures, c.shape-shape.ensures.rounds) in (
       ap length inv.numbers ∙ length-map-range_with_len (blocks_from m 0) 0 c.loop-level.level ∙ levels,
       λ level number key.
           job_number_from m t level number _ c.jobs_have_numbers.ensures.at key.0 key.1
           (ap (λ (l : List ℕ). Rattle.std.specs.Prelude.slice_index l level) inv.numbers
-          ∙ get_or-map-range_with_len (blocks_from m 0) 0 c.loop-level.level level level 0 (omega (arith, key.0)) (omega arith)),
+          ∙ get_or-map-range_with_len (blocks_from m 0) 0 c.loop-level.level level level 0
+          (omega (arith, key.0)) (omega arith)),
     )

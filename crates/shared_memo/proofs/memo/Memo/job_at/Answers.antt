@@ -10,7 +10,9 @@ returns-clause-below c =
     let p = c.args.self.now.plan.now in
     let t = length p.program.steps in
     let first = slice_index c.args.self.now.first_jobs.items c.args.level in
-    let value : c.index.result.now ≡ first = get_or_read c.args.self.now.first_jobs.items _ _ (omega (arith, c.args.self.now.firsts.0, c.requires.0)) c.index.ensures 0 in
-    let stands = (c.jobs_have_numbers.ensures.at p.ids t c.args.level c.args.number (first + c.args.number)).0 (c.args.self.now.firsts.1 c.args.level c.args.number c.requires) in
+    let value : c.index.result.now ≡ first = get_or_read c.args.self.now.first_jobs.items _ _
+    (omega (arith, c.args.self.now.firsts.0, c.requires.0)) c.index.ensures 0 in
+    let stands = (c.jobs_have_numbers.ensures.at p.ids t c.args.level c.args.number (first + c.args.number)).0
+    (c.args.self.now.firsts.1 c.args.level c.args.number c.requires) in
     let within = slice_get_within (jobs_of p.ids t) (first + c.args.number) (c.args.level, c.args.number) stands in
     omega (arith, value, within)
