@@ -13,7 +13,7 @@ use Rattle.window_states.specs.BlockStates.{MadeBlock}
 use Rattle.shared_memo.specs.declared.entry.Entry.{Entry}
 use Rattle.once_cell.specs.Once.{cell_name}
 use Rattle.once_cell.specs.declared.race.once_box.OnceBox.{OnceBox}
-use Rattle.shared_memo.specs.PlanJobs.{job_of, IsKeyedBlock}
+use Rattle.shared_memo.specs.PlanJobs.{job_of, job_count, IsKeyedBlock}
 use Rattle.shared_memo.specs.Known.{known_of, known_in, known_job, known_by, seen_of, seen_in, seen_job, seen_by, IsBlockOf, AllInPlace, cells_of}
 use Rattle.shared_memo.specs.Passes.{LearnsAt, KnowsSame, IsJoined}
 
@@ -206,7 +206,7 @@ pub knows_same : (p : ProgramForIds) (es fs : List Entry) → ((k : ℕ) → kno
     KnowsSame (known_by p es) (known_by p fs)
 knows_same p es fs same = λ l n. same_by es fs (job_of p l n) same
 
-pub learns_at :
+learns_at :
     (p q : ProgramForIds) (es fs : List Entry) (level number at : ℕ) → StandAtNumbers → p ≡ q →
     job_of q level number ≡ Some at
     → ((k : ℕ) (b : MadeBlock) → known_in es k ≡ Some b → known_in fs k ≡ Some b)
@@ -227,6 +227,23 @@ learns_at p q es fs level number at law same job kept only =
         (ap (λ (x : ProgramForIds). job_of x l n) (sym same) ∙ is ∙ ap (λ (j : ℕ). Some j) here)))
         (λ (before : known_in es k ≡ Some b). inr before)
         (only k b e)
+
+-- if one entry is put, what its job's block is may be learned
+pub learns_set : (p q : ProgramForIds) (es : List Entry) (level number at : ℕ) (d e : Entry) → StandAtNumbers → p ≡ q →
+    job_of q level number ≡ Some at → IsAt es at d → ((b : MadeBlock) → known_of d ≡ Some b → known_of e ≡ Some b) →
+    LearnsAt level number (known_by p es) (known_by p (set es at e))
+learns_set p q es level number at d e law same job here kept =
+    learns_at p q es (set es at e) level number at law same job (grows_set es at d e here kept) (else_set es at e)
+
+-- where the job of a block is: a pass has an entry for it
+pub placed_in : (q : ProgramForIds) (es : List Entry) (cs : List Cell) {lent block : MadeBlock} {at : ℕ} →
+    lent ≡ block →
+    job_of q lent.level lent.number ≡ Some at → at < job_count q → cells_of es ≡ map cell_name cs →
+    length cs ≡ job_count q → (job_of q block.level block.number ≡ Some at) × (at < length es)
+placed_in q es cs {at = at} is job below same whole = (
+  subst (λ (x : MadeBlock). job_of q x.level x.number ≡ Some at) is job,
+  in_range es cs (job_count q) at same whole below,
+)
 
 pub is_joined :
     (p q r : ProgramForIds) (es fs gs : List Entry) → p ≡ q → p ≡ r →
