@@ -36,8 +36,8 @@ place_note place places =
     codes "nbhd: the ring has no place "
     ++ (decimal place ++ (codes "; its places are 0 to " ++ (decimal (places - 1) ++ codes "\n")))
 
--- the note on a number of segments in which a ring of so many places can't be run: more than the places, or else none or
--- too many for any ring
+-- the note on a number of segments in which a ring of so many places can't be run: more than the places, or else none
+-- or too many for any ring
 abbrev pub segments_note : ℕ → ℕ → List ℕ
 segments_note segments places = if nat_lt places segments
     then codes "nbhd: " ++ (decimal segments

@@ -46,7 +46,8 @@ verdict_note t ring places channels =
     ++ (joined (codes ",") ring
     ++ (distance_text places ++ (pair_text ring places ++ (channels_text channels ++ windows_text t ring places))))
 
--- the note on a yes about no ring: so many identifiers are too few for a ring of so many nodes, the least that is judged
+-- the note on a yes about no ring: so many identifiers are too few for a ring of so many nodes, the least that is
+-- judged
 abbrev pub no_tuples_note : (nodes ids : ℕ) → List ℕ
 no_tuples_note nodes ids = codes "nbhd: no ring was judged: " ++ (decimal ids
     ++ (codes " identifiers are too few for a ring of at least " ++ (decimal nodes ++ codes " nodes\n")))

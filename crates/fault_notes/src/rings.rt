@@ -1,4 +1,5 @@
-//! The notes on a list that is not a ring, on a place that a ring has not, and on a number of segments.
+//! The notes on a list that is not a ring, on a place that a ring has not, and on a number of
+//! segments.
 
 ghost use Rattle.std.specs.Prelude.{◌≡◌, ◌+◌, ◌*◌, ◌<◌, ◌≤◌, ◌^◌, length, IfOk, string_bytes};
 ghost use Rattle.win_index.specs.declared.limits.TheConstants.{MAX_ROUNDS};

@@ -10,8 +10,8 @@ use node_program::OutOfMemory;
 use std::alloc::{AllocError, Global};
 use std::fmt::Write;
 
-/// Returns the note on a yes of the judge about no ring: `ids` identifiers are too few for a ring of
-/// `nodes` nodes, the least that is judged. Fails if memory was refused.
+/// Returns the note on a yes of the judge about no ring: `ids` identifiers are too few for a ring
+/// of `nodes` nodes, the least that is judged. Fails if memory was refused.
 pub fn no_tuples_note(alloc: Global, nodes: usize, ids: u32) -> Result<String, OutOfMemory>
     ensures { IfOk result (λ note. string_bytes note ≡ no_tuples_note nodes ids) }
 {

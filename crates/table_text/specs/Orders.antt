@@ -1,4 +1,5 @@
--- Orders of the numbers below a bound: a window, and then the numbers that it lacks. No public contract cites this file.
+-- Orders of the numbers below a bound: a window, and then the numbers that it lacks. No public contract cites this
+-- file.
 use Rattle.std.specs.Prelude.{◌≡◌, ℕ, ◌+◌, ◌<◌, List, length, take, drop, slice_index, slice_get, Some}
 use Rattle.win_index.specs.Windows.{unused, windows, IsWindow}
 
@@ -19,7 +20,7 @@ pub record IsStep (k m : ℕ) (old new : List ℕ) : Type 0 where
   pub order : IsOrder k m new
   pub next : IsFollowedBy k m (take k old) (take k new)
 
--- The place behind a window of length k+1 of the first number larger than its last one. It is the length of the order if
--- there is none.
+-- The place behind a window of length k+1 of the first number larger than its last one. It is the length of the order
+-- if there is none.
 abbrev pub place_of : ℕ → List ℕ → ℕ
 place_of k order = k + 1 + length (unused (slice_index order k) (take k order))

@@ -27,8 +27,8 @@ pub fn table_texts_are_read()
     windows_have_numbers();
 }
 
-/// A text has at most one fault besides `OutOfMemory`. A text longer than `LONGEST_TABLE_TEXT` bytes
-/// has that of its length alone.
+/// A text has at most one fault besides `OutOfMemory`. A text longer than `LONGEST_TABLE_TEXT`
+/// bytes has that of its length alone.
 pub fn one_table_fault()
     ensures one { law.OneTableFault }
     ensures long { law.LongTextsHaveOneFault }

@@ -1,4 +1,5 @@
-//! The windows in order, one at a time. The next one comes from the identifiers that are not in use.
+//! The windows in order, one at a time. The next one comes from the identifiers that are not in
+//! use.
 
 ghost use Rattle.std.specs.Prelude.{◌≡◌, ◌+◌, ◌≤◌, length, take};
 ghost use Rattle.std.specs.List.{range_with_len};
@@ -113,7 +114,8 @@ impl Odometer {
         }
     }
 
-    // Shows the first window with the next prefix, if there is one, after the last one with a prefix.
+    // Shows the first window with the next prefix, if there is one, after the last one with a
+    // prefix.
     fn next_run(&mut self, pieces: &[Piece])
         requires is { IsOdometer self.old × (self.old.ids ≤ self.old.last + 1) }
         requires pieces { AreTexts id_text pieces.now × (length pieces.now ≡ self.old.ids) }

@@ -25,9 +25,9 @@ use std::alloc::Global;
 /// the line `nbhd-table 2`, the line `rounds t ids m channels C near P far Q`, then a line for each
 /// window of `2t+1` identifiers in the windows' order, which has the identifiers, a colon and the
 /// window's channel, and the line `end`. A text of version 1 begins with the lines `nbhd-table 1`
-/// and `rounds t ids m channels C`; its separation is near 1 and far 0. Near is 1 to `MAX_CHANNELS`,
-/// and far at most `MAX_CHANNELS`. A line ends with a line
-/// feed, single blanks separate its words, and numbers have no leading zeros.
+/// and `rounds t ids m channels C`; its separation is near 1 and far 0. Near is 1 to
+/// `MAX_CHANNELS`, and far at most `MAX_CHANNELS`. A line ends with a line feed, single blanks
+/// separate its words, and numbers have no leading zeros.
 ///
 /// Fails with `Syntax` if the text is longer than `LONGEST_TABLE_TEXT` bytes. Otherwise the lines
 /// are checked in order, and the fault of the first wrong line is returned: `Syntax`, else
