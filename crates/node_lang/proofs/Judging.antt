@@ -30,7 +30,8 @@ use Rattle.node_lang.proofs.Marks.{Shallow, shallow_at, Fine, fine, program_matc
 use Rattle.node_lang.proofs.Places.{InRange, Place, first_place, next_of, none_of, next_nodes, whole_marks, whole_nodes, whole, Says, says, stands_met}
 
 -- reading goes on at a token that can come next, where it is within the limits
-goes_within : (w v : Rest) (n : ℕ) (t : Token) → depth_next w ≤ MAX_DEPTH → counted w n ≤ MAX_NODES → InRange w t → limited w n t v ≡ Goes v
+goes_within : (w v : Rest) (n : ℕ) (t : Token) → depth_next w ≤ MAX_DEPTH → counted w n ≤ MAX_NODES →
+    InRange w t → limited w n t v ≡ Goes v
 goes_within (Nothing p) v n t shallow few range = refl
 goes_within (AToken s w) v n t shallow few range = refl
 goes_within (AnExpression d w) v n t shallow few range = grind (arith, nat_tests, shallow, few)
@@ -38,18 +39,23 @@ goes_within (ANumber low high w) v n (token.Number k) shallow few range = grind 
 goes_within (ANumber low high w) v n t shallow few range = refl
 
 -- so it goes on at each token of a program within the limits
-goes_in_program : {before : List Token} {n : ℕ} {w : Rest} (t : Token) (ts : List Token) → Place before n w → (q : ProgramTree) → IsWithinLimits q → spelling q ≡ before ++ t ∷ ts →
+goes_in_program : {before : List Token} {n : ℕ} {w : Rest} (t : Token) (ts : List Token) → Place before n w →
+    (q : ProgramTree) → IsWithinLimits q → spelling q ≡ before ++ t ∷ ts →
     (v : Rest) × (meets w n t ≡ Goes v)
 goes_in_program {n = n} {w = w} t ts p q limits e =
     let next = next_of t ts p q limits.each_register e in
     let matches = program_matches q in
     let here : Mark = node t (depth_next w) in
     let left = next.after.left in
-    let shallow : Shallow (p.marks ++ here ∷ left) = subst Shallow (next.after.are ∙ append_assoc p.marks (here ∷ []) left) (matches.shallow limits.small) in
+    let shallow : Shallow (p.marks ++ here ∷ left) =
+    subst Shallow (next.after.are ∙ append_assoc p.marks (here ∷ []) left) (matches.shallow limits.small) in
     let all = sym (ap nodes_at next.after.are) ∙ matches.nodes in
     let parts = sum_by-append (λ (m : Mark). one_at m.depth) (p.marks ++ here ∷ []) left in
-    let few : counted w n ≤ MAX_NODES = omega (arith, all, parts, next_nodes t p, limits.nodes) in
-    (next.rest, ap (checked w n t) next.steps ∙ goes_within w next.rest n t (shallow_at p.marks here left shallow) few (next.range limits))
+    let few : counted w n ≤ MAX_NODES = omega (arith, all, parts, next_nodes t p, limits.nodes) in (
+      next.rest,
+      ap (checked w n t) next.steps
+          ∙ goes_within w next.rest n t (shallow_at p.marks here left shallow) few (next.range limits),
+    )
 
 -- the result is right: a program at whose end reading is, or the first fault
 abbrev pub Answers : List Token → List Lexeme → Read ProgramTree → Type 0
@@ -61,10 +67,12 @@ Answers before ls (Fault k from) = FirstFault before ls k from
 pub record Judges (before : List Token) (ls : List Lexeme) (r : Read ProgramTree) : Type 0 where
   pub answers : Answers before ls r
   pub first : (k : FaultKind) (from : ℕ) → FirstFault before ls k from → r ≡ Fault k from
-  pub reads : (p : ProgramTree) → IsWithinLimits p → spelling p ≡ before ++ tokens_in ls → r ≡ Got p (sum_by size (terms p)) []
+  pub reads : (p : ProgramTree) → IsWithinLimits p → spelling p ≡ before ++ tokens_in ls →
+      r ≡ Got p (sum_by size (terms p)) []
 
 -- where something is left, the end of the text is a fault
-at_end : {before : List Token} {n : ℕ} {w : Rest} → Place before n w → ((p : ProgramTree) → w ≡ Nothing p → ⊥) → Judges before [] (Fault kind.EndOfText 0)
+at_end : {before : List Token} {n : ℕ} {w : Rest} → Place before n w →
+    ((p : ProgramTree) → w ≡ Nothing p → ⊥) → Judges before [] (Fault kind.EndOfText 0)
 at_end {before} p some = record {
   answers = (refl, refl, λ h. some h.program (none_of p h.program h.each_register (sym h.spells)));
   first = λ k from f. λ i. Fault (sym f.0 i) (sym f.1 i);
@@ -83,7 +91,8 @@ all_read {before} {n} {q} p = record {
 }
 
 -- a result that is right after a token without a fault is right before it
-judged_through : {before : List Token} (l : Lexeme) (ls : List Lexeme) → ((k : FaultKind) → Stands before l.token k → ⊥) → (r : Read ProgramTree) →
+judged_through : {before : List Token} (l : Lexeme) (ls : List Lexeme) →
+    ((k : FaultKind) → Stands before l.token k → ⊥) → (r : Read ProgramTree) →
     Judges (before ++ l.token ∷ []) ls r → Judges before (l ∷ ls) r
 judged_through {before} l ls clean r h = record {
   answers = answers r h.answers;
@@ -92,17 +101,21 @@ judged_through {before} l ls clean r h = record {
 }
   where
     answers : (r : Read ProgramTree) → Answers (before ++ l.token ∷ []) ls r → Answers before (l ∷ ls) r
-    answers (Got p count left) h = subst (λ ts. Place ts count (Nothing p)) (append_assoc before (l.token ∷ []) (tokens_in ls)) h
+    answers (Got p count left) h =
+        subst (λ ts. Place ts count (Nothing p)) (append_assoc before (l.token ∷ []) (tokens_in ls)) h
     answers (Fault k from) h = inr (clean, h)
 
 -- at a token, reading stops at the first fault or goes on
-judged_met : {before : List Token} {n : ℕ} {w : Rest} (l : Lexeme) (ls : List Lexeme) → Place before n w → (m : Met) → meets w n l.token ≡ m → Says before (counted w n) l.token m →
-    ((v : Rest) → Place (before ++ l.token ∷ []) (counted w n) v → Judges (before ++ l.token ∷ []) ls (read v (counted w n) ls)) →
+judged_met : {before : List Token} {n : ℕ} {w : Rest} (l : Lexeme) (ls : List Lexeme) → Place before n w →
+    (m : Met) → meets w n l.token ≡ m → Says before (counted w n) l.token m →
+    ((v : Rest) → Place (before ++ l.token ∷ []) (counted w n) v →
+    Judges (before ++ l.token ∷ []) ls (read v (counted w n) ls)) →
     Judges before (l ∷ ls) (went (counted w n) l.from ls m)
 judged_met {w = w} l ls p (Stops k) e here more = record {
   answers = inl (here, refl);
   first = λ j place f. elim f [
-    | inl there ↦ let met = sym e ∙ stands_met w l.token j p there.0 in let same : k ≡ j = cc in λ i. Fault (same i) (sym there.1 i)
+    | inl there ↦ let met = sym e ∙ stands_met w l.token j p there.0 in let same : k ≡ j = cc in
+        λ i. Fault (same i) (sym there.1 i)
     | inr there ↦ absurd (there.0 k here)
   ];
   reads = λ q limits spelt.
@@ -110,7 +123,8 @@ judged_met {w = w} l ls p (Stops k) e here more = record {
       let met : Stops k ≡ Goes goes.0 = sym e ∙ goes.1 in absurd (cc);
 }
 judged_met {w = w} l ls p (Goes v) e place more =
-    judged_through l ls (λ k stands. let met = sym e ∙ stands_met w l.token k p stands in cc) (read v _ ls) (more v place)
+    judged_through l ls (λ k stands. let met = sym e ∙ stands_met w l.token k p stands in
+    cc) (read v _ ls) (more v place)
 
 -- so every reading of the rest is right
 judged : (ls : List Lexeme) {before : List Token} {n : ℕ} (w : Rest) → Place before n w → Judges before ls (read w n ls)
@@ -143,14 +157,16 @@ goes_sooner (ANumber low high w) v n m (token.Number k) (Some u) less e = (e, le
 goes_sooner w v n m t o less e = (e, omega (arith, less))
 
 -- so a program that is read after many nodes is read after fewer
-read_sooner : (ls : List Lexeme) {left : List Lexeme} (w : Rest) (n m : ℕ) {count : ℕ} {p : ProgramTree} → n ≤ m → read w m ls ≡ Got p count left →
+read_sooner : (ls : List Lexeme) {left : List Lexeme} (w : Rest) (n m : ℕ) {count : ℕ} {p : ProgramTree} →
+    n ≤ m → read w m ls ≡ Got p count left →
     (c : ℕ) × (read w n ls ≡ Got p c left)
 unfolding expression
 read_sooner [] (Nothing q) n m less e = (n, cc)
 read_sooner [] w n m less e = absurd (cc)
 read_sooner (l ∷ ls) {left} w n m {count} {p} less e =
     elim (meets w m l.token)
-    as (λ r. meets w m l.token ≡ r → went (counted w m) l.from ls r ≡ Got p count left → (c : ℕ) × (read w n (l ∷ ls) ≡ Got p c left)) [
+    as (λ r. meets w m l.token ≡ r → went (counted w m) l.from ls r ≡ Got p count left →
+    (c : ℕ) × (read w n (l ∷ ls) ≡ Got p c left)) [
       | Stops k ↦ λ met e. absurd (cc)
       | Goes v ↦ λ met e.
           let goes = goes_sooner w v n m l.token (step w l.token) less met in
@@ -163,7 +179,8 @@ pub record SpellsProgram (ls : List Lexeme) (p : ProgramTree) : Type 0 where
   pub tokens : tokens_in ls ≡ spelling p
   pub limits : IsWithinLimits p
 
-pub read_is_spelt : (p : ProgramTree) (nodes count : ℕ) (ls left : List Lexeme) → list_all is_small (tokens_in ls) ≡ true → program nodes ls ≡ Got p count left →
+pub read_is_spelt : (p : ProgramTree) (nodes count : ℕ) (ls left : List Lexeme) →
+    list_all is_small (tokens_in ls) ≡ true → program nodes ls ≡ Got p count left →
     SpellsProgram ls p
 read_is_spelt p nodes count ls left small e =
     let first = read_sooner ls a_program 0 nodes (omega arith) (sym (program_read nodes ls) ∙ e) in
@@ -173,7 +190,8 @@ read_is_spelt p nodes count ls left small e =
     record { tokens = whole place; limits = place.ends.limits small (omega (arith, whole_nodes place, place.few)) }
 
 -- lexemes that spell a program are read as it
-pub program_completes : (p : ProgramTree) (ls : List Lexeme) → IsWithinLimits p → tokens_in ls ≡ spelling p → program 0 ls ≡ Got p (sum_by size (terms p)) []
+pub program_completes : (p : ProgramTree) (ls : List Lexeme) → IsWithinLimits p → tokens_in ls ≡ spelling p →
+    program 0 ls ≡ Got p (sum_by size (terms p)) []
 program_completes p ls limits e = let judges = program_judged ls (program 0 ls) refl in judges.reads p limits (sym e)
 
 -- no high byte is before the first one
@@ -185,7 +203,11 @@ not_before text m n a b h =
 
 pub one_high_byte : (text : List ℕ) (m n : ℕ) → IsFirstHighByte text m → IsFirstHighByte text n → m ≡ n
 one_high_byte text m n a b =
-    elim (cases_order m n) [ inl e ↦ e | inr (inl h) ↦ absurd (not_before text m n a b h) | inr (inr h) ↦ absurd (not_before text n m b a h) ]
+    elim (cases_order m n) [
+      | inl e ↦ e
+      | inr (inl h) ↦ absurd (not_before text m n a b h)
+      | inr (inr h) ↦ absurd (not_before text n m b a h)
+    ]
 
 has_no_high_byte : (text : List ℕ) (n : ℕ) → All (λ b. b < 128) text → IsFirstHighByte text n → ⊥
 has_no_high_byte text n ascii first = let low = ascii n 0 first.within in omega (arith, first.high)
@@ -197,11 +219,14 @@ one_fault text k l m n (too_long a) (not_ascii j short first) = absurd (omega ar
 one_fault text k l m n (too_long a) (in_lexemes j i from short ascii at place) = absurd (omega arith)
 one_fault text k l m n (not_ascii i short first) (too_long b) = absurd (omega arith)
 one_fault text k l m n (not_ascii i short a) (not_ascii j _ b) = (refl, one_high_byte text i j a b)
-one_fault text k l m n (not_ascii i short a) (in_lexemes j o from _ ascii at place) = absurd (has_no_high_byte text i ascii a)
+one_fault text k l m n (not_ascii i short a) (in_lexemes j o from _ ascii at place) =
+    absurd (has_no_high_byte text i ascii a)
 one_fault text k l m n (in_lexemes j i from short ascii at place) (too_long b) = absurd (omega arith)
-one_fault text k l m n (in_lexemes j i from short ascii at place) (not_ascii o _ b) = absurd (has_no_high_byte text o ascii b)
+one_fault text k l m n (in_lexemes j i from short ascii at place) (not_ascii o _ b) =
+    absurd (has_no_high_byte text o ascii b)
 one_fault text k l m n (in_lexemes j i from short ascii at place) (in_lexemes h o since _ _ at' place') =
-    let same : Fault j from ≡ Fault h since = sym (stops_at_first_fault (lexemes_of text) j from at) ∙ stops_at_first_fault (lexemes_of text) h since at' in
+    let same : Fault j from ≡ Fault h since = sym (stops_at_first_fault (lexemes_of text) j from at)
+    ∙ stops_at_first_fault (lexemes_of text) h since at' in
     let rest : from ≡ since = cc in
     (cc, omega arith)
 
@@ -217,7 +242,8 @@ one_reading text p q a b = cc (readable_is_read text p a, readable_is_read text 
 pub no_fault : ReadableTextsHaveNoFault
 no_fault text p k m reads (too_long long) = omega (arith, reads.short, long)
 no_fault text p k m reads (not_ascii n short first) = has_no_high_byte text n reads.ascii first
-no_fault text p k m reads (in_lexemes j n from short ascii at place) = cc (readable_is_read text p reads, stops_at_first_fault (lexemes_of text) j from at)
+no_fault text p k m reads (in_lexemes j n from short ascii at place) =
+    cc (readable_is_read text p reads, stops_at_first_fault (lexemes_of text) j from at)
 
 -- a text that is read from the left as a program reads as it
 pub read_is_readable : ReadTextsAreReadable
@@ -226,23 +252,27 @@ read_is_readable text p n left short ascii e =
     record { short = short; ascii = ascii; tokens = spelt.tokens; limits = spelt.limits }
 
 -- so does a text that the parser reads to its end
-pub reads_program : (old new : Parser) (r : Result ProgramTree TextFault) → old.at ≡ 0 → old.nodes ≡ 0 → length old.text.now ≤ LONGEST_TEXT → All (λ b. b < 128) old.text.now →
+pub reads_program : (old new : Parser) (r : Result ProgramTree TextFault) → old.at ≡ 0 → old.nodes ≡ 0 →
+    length old.text.now ≤ LONGEST_TEXT → All (λ b. b < 128) old.text.now →
     Gives (λ p. p) old new r program → IfOk r (Reads old.text.now)
 reads_program old new (Ok p) at nodes short ascii h =
     read_is_readable old.text.now p new.nodes (lexemes_left old.text.now new.at) short ascii (rw (at, nodes) at h.1)
 reads_program old new (Err f) at nodes short ascii h = tt
 
 -- and a text at which the parser stops has this fault
-pub faults_at : (old new : Parser) (r : Result ProgramTree TextFault) → old.at ≡ 0 → old.nodes ≡ 0 → length old.text.now ≤ LONGEST_TEXT → All (λ b. b < 128) old.text.now →
+pub faults_at : (old new : Parser) (r : Result ProgramTree TextFault) → old.at ≡ 0 → old.nodes ≡ 0 →
+    length old.text.now ≤ LONGEST_TEXT → All (λ b. b < 128) old.text.now →
     Gives (λ p. p) old new r program → IfErr r (λ f. f.kind ≢ kind.OutOfMemory → FaultsAt old.text.now f.kind f.offset)
 faults_at old new (Ok p) at nodes short ascii h = tt
 faults_at old new (Err f) at nodes short ascii h = λ m.
     let stops = h.1 m in
-    let first = first_fault_of (lexemes_of old.text.now) f.kind (length old.text.now - f.offset) (rw (at, nodes) at stops.1) in
+    let first = first_fault_of (lexemes_of old.text.now) f.kind (length old.text.now - f.offset)
+    (rw (at, nodes) at stops.1) in
     in_lexemes f.kind f.offset (length old.text.now - f.offset) short ascii first (omega (arith, stops.0))
 
 -- so it reads as no program
-pub reads_none : {T : Type 0} (text : List ℕ) (r : Result T TextFault) → IfErr r (λ f. f.kind ≢ kind.OutOfMemory → FaultsAt text f.kind f.offset) →
+pub reads_none : {T : Type 0} (text : List ℕ) (r : Result T TextFault) →
+    IfErr r (λ f. f.kind ≢ kind.OutOfMemory → FaultsAt text f.kind f.offset) →
     IfErr r (λ f. f.kind ≢ kind.OutOfMemory → (p : ProgramTree) → Reads text p → ⊥)
 reads_none text (Ok v) h = h
 reads_none text (Err f) h = λ m p reads. no_fault text p f.kind f.offset reads (h m)

@@ -19,7 +19,8 @@ unmarked_expression (One o a) d more = ap (λ ts. token.One o ∷ token.Open ∷
 unmarked_expression (Two o a b) d more = ap (λ ts. token.Two o ∷ token.Open ∷ ts) (unmarked_expression a (d + 1) _
     ∙ ap (λ ts. spelled a (token.Comma ∷ ts)) (unmarked_expression b (d + 1) _))
 unmarked_expression (Choose c a b) d more = ap (λ ts. token.If ∷ token.Open ∷ ts) (unmarked_expression c (d + 1) _
-    ∙ ap (λ ts. spelled c (token.Comma ∷ ts)) (unmarked_expression a (d + 1) _ ∙ ap (λ ts. spelled a (token.Comma ∷ ts)) (unmarked_expression b (d + 1) _)))
+    ∙ ap (λ ts. spelled c (token.Comma ∷ ts)) (unmarked_expression a (d + 1) _
+    ∙ ap (λ ts. spelled a (token.Comma ∷ ts)) (unmarked_expression b (d + 1) _)))
 unmarked_expression e d more = refl
 
 -- no node is too deep
@@ -49,23 +50,27 @@ node_counts : (d : ℕ) (ms : List Mark) (n : ℕ) → nodes_at ms ≡ n → nod
 node_counts d ms n h = sum_by-cons (λ (m : Mark). one_at m.depth) (node token.Id (d + 1)) ms ∙ rw (add-one d, h) refl
 
 -- the marks of an expression under d others, and its nodes
-nodes_marked : (e : Term) (d : ℕ) (ms : List Mark) (n : ℕ) → nodes_at ms ≡ n → nodes_at (marked e (d + 1) ms) ≡ size e + n
+nodes_marked : (e : Term) (d : ℕ) (ms : List Mark) (n : ℕ) → nodes_at ms ≡ n →
+    nodes_at (marked e (d + 1) ms) ≡ size e + n
 nodes_marked (One o a) d ms n h =
     let close = plain token.Close ∷ ms in
     node_counts d (plain token.Open ∷ marked a (d + 1 + 1) close) _ (nodes_marked a (d + 1) close n h) ∙ omega arith
 nodes_marked (Two o a b) d ms n h =
     let close = plain token.Close ∷ ms in
     let second = plain token.Comma ∷ marked b (d + 1 + 1) close in
-    node_counts d (plain token.Open ∷ marked a (d + 1 + 1) second) _ (nodes_marked a (d + 1) second _ (nodes_marked b (d + 1) close n h)) ∙ omega arith
+    node_counts d (plain token.Open ∷ marked a (d + 1 + 1) second) _
+    (nodes_marked a (d + 1) second _ (nodes_marked b (d + 1) close n h)) ∙ omega arith
 nodes_marked (Choose c a b) d ms n h =
     let close = plain token.Close ∷ ms in
     let third = plain token.Comma ∷ marked b (d + 1 + 1) close in
     let second = plain token.Comma ∷ marked a (d + 1 + 1) third in
     let operands = nodes_marked a (d + 1) third _ (nodes_marked b (d + 1) close n h) in
-    node_counts d (plain token.Open ∷ marked c (d + 1 + 1) second) _ (nodes_marked c (d + 1) second _ operands) ∙ omega arith
+    node_counts d (plain token.Open ∷ marked c (d + 1 + 1) second) _ (nodes_marked c (d + 1) second _ operands)
+    ∙ omega arith
 nodes_marked e d ms n h = node_counts d ms n h
 
-fine_marked : (e : Term) (d : ℕ) (ms : List Mark) → Fine (marked e (d + 1) ms) → (depth e + d ≤ MAX_DEPTH) × (largest e < 2 ^ 32) × (largest_register e < 10) × Fine ms
+fine_marked : (e : Term) (d : ℕ) (ms : List Mark) → Fine (marked e (d + 1) ms) →
+    (depth e + d ≤ MAX_DEPTH) × (largest e < 2 ^ 32) × (largest_register e < 10) × Fine ms
 fine_marked (Literal n) d ms h = (omega (arith, h.0), ltb-true n (2 ^ 32) h.1, omega arith, h.2)
 fine_marked (RegisterValue j) d ms h = (omega (arith, h.0), omega arith, ltb-true j 10 h.1, h.2)
 fine_marked (One o a) d ms h = let p = fine_marked a (d + 1) _ h.2.2 in (omega (arith, p.0), p.1, p.2, p.3.2)
@@ -80,14 +85,17 @@ fine_marked (Choose c a b) d ms h =
     (omega (arith, p.0, q.0, r.0), omega (arith, p.1, q.1, r.1), omega (arith, p.2, q.2, r.2), r.3.2)
 fine_marked e d ms h = (omega (arith, h.0), omega arith, omega arith, h.2)
 
-shallow_marked : (e : Term) (d : ℕ) (ms : List Mark) → depth e + d ≤ MAX_DEPTH → Shallow ms → Shallow (marked e (d + 1) ms)
+shallow_marked : (e : Term) (d : ℕ) (ms : List Mark) → depth e + d ≤ MAX_DEPTH → Shallow ms →
+    Shallow (marked e (d + 1) ms)
 shallow_marked (One o a) d ms less h =
     (omega (arith, less), (omega arith, shallow_marked a (d + 1) _ (omega (arith, less)) (omega arith, h)))
 shallow_marked (Two o a b) d ms less h =
-    let second : Shallow (marked b (d + 1 + 1) (plain token.Close ∷ ms)) = shallow_marked b (d + 1) _ (omega (arith, less)) (omega arith, h) in
+    let second : Shallow (marked b (d + 1 + 1) (plain token.Close ∷ ms)) =
+    shallow_marked b (d + 1) _ (omega (arith, less)) (omega arith, h) in
     (omega (arith, less), (omega arith, shallow_marked a (d + 1) _ (omega (arith, less)) (omega arith, second)))
 shallow_marked (Choose c a b) d ms less h =
-    let third : Shallow (marked b (d + 1 + 1) (plain token.Close ∷ ms)) = shallow_marked b (d + 1) _ (omega (arith, less)) (omega arith, h) in
+    let third : Shallow (marked b (d + 1 + 1) (plain token.Close ∷ ms)) =
+    shallow_marked b (d + 1) _ (omega (arith, less)) (omega arith, h) in
     let second : Shallow (marked a (d + 1 + 1) (plain token.Comma ∷ marked b (d + 1 + 1) (plain token.Close ∷ ms))) =
     shallow_marked a (d + 1) _ (omega (arith, less)) (omega arith, third) in
     (omega (arith, less), (omega arith, shallow_marked c (d + 1) _ (omega (arith, less)) (omega arith, second)))
@@ -100,26 +108,36 @@ pub record Matches (ms : List Mark) (es : List Term) (ts : List Token) : Type 0 
   pub small : Fine ms → All IsSmall es
   pub shallow : All IsSmall es → Shallow ms
 
-plain_matches : {ms : List Mark} {es : List Term} {ts : List Token} {t : Token} → Matches ms es ts → Matches (plain t ∷ ms) es (t ∷ ts)
+plain_matches : {ms : List Mark} {es : List Term} {ts : List Token} {t : Token} → Matches ms es ts →
+    Matches (plain t ∷ ms) es (t ∷ ts)
 plain_matches {t = t} h =
-    record { tokens = ap (λ ts. t ∷ ts) h.tokens; nodes = h.nodes; small = λ f. h.small f.2; shallow = λ s. (omega arith, h.shallow s) }
+    record {
+      tokens = ap (λ ts. t ∷ ts) h.tokens;
+      nodes = h.nodes;
+      small = λ f. h.small f.2;
+      shallow = λ s. (omega arith, h.shallow s);
+    }
 
-term_matches : {ms : List Mark} {es : List Term} {ts : List Token} (e : Term) → Matches ms es ts → Matches (marked e 1 ms) (e ∷ es) (spelled e ts)
+term_matches : {ms : List Mark} {es : List Term} {ts : List Token} (e : Term) → Matches ms es ts →
+    Matches (marked e 1 ms) (e ∷ es) (spelled e ts)
 term_matches {ms} {es} e h = record {
   tokens = unmarked_expression e 1 ms ∙ ap (spelled e) h.tokens;
   nodes = nodes_marked e 0 ms _ h.nodes ∙ sym (sum_by-cons size e es);
   small = λ f.
       let p = fine_marked e 0 ms f in
       All-cons IsSmall e es (record { depth = omega (arith, p.0); numbers = p.1; registers = p.2 }) (h.small p.3);
-  shallow = λ s. shallow_marked e 0 ms (let here = All-head IsSmall e es s in omega (arith, here.depth)) (h.shallow (All-tail IsSmall e es s));
+  shallow = λ s. shallow_marked e 0 ms (let here = All-head IsSmall e es s in
+      omega (arith, here.depth)) (h.shallow (All-tail IsSmall e es s));
 }
 
-assignments_match : (j : ℕ) (es : List Term) {ms : List Mark} {more : List Term} {ts : List Token} → Matches ms more ts →
+assignments_match : (j : ℕ) (es : List Term) {ms : List Mark} {more : List Term} {ts : List Token} →
+    Matches ms more ts →
     Matches (marked_assignments j es ms) (es ++ more) (assigned j es ts)
 assignments_match j [] h = h
 assignments_match j (e ∷ es) h = plain_matches (plain_matches (term_matches e (assignments_match (j + 1) es h)))
 
-blocks_match : (ss : List Round) {ms : List Mark} {more : List Term} {ts : List Token} → Matches ms more ts → Matches (marked_blocks ss ms) (step_terms ss ++ more) (blocks ss ts)
+blocks_match : (ss : List Round) {ms : List Mark} {more : List Term} {ts : List Token} → Matches ms more ts →
+    Matches (marked_blocks ss ms) (step_terms ss ++ more) (blocks ss ts)
 blocks_match [] h = h
 blocks_match (s ∷ ss) {more = more} h =
     rw (append_assoc s.next (step_terms ss) more)
@@ -128,6 +146,7 @@ blocks_match (s ∷ ss) {more = more} h =
 
 pub program_matches : (p : ProgramTree) → Matches (marks p) (terms p) (spelling p)
 program_matches p =
-    let none : Matches [] [] [] = record { tokens = refl; nodes = refl; small = λ _. All-nil IsSmall; shallow = λ _. tt } in
+    let none : Matches [] [] [] =
+    record { tokens = refl; nodes = refl; small = λ _. All-nil IsSmall; shallow = λ _. tt } in
     plain_matches (plain_matches (plain_matches (plain_matches (plain_matches (plain_matches (plain_matches
     (assignments_match 0 p.start (blocks_match p.steps (plain_matches (term_matches p.finish none))))))))))

@@ -10,14 +10,17 @@ read_on-le n [] = omega arith
 read_on-le n (d ∷ ds) = let more = read_on-le (10 * n + (d - 48)) ds in omega arith
 
 -- one more digit is read
-pub read_more : (n m i : ℕ) (ds : List ℕ) → i < length ds → read_on n (drop i ds) ≡ read_on 0 ds → m ≡ 10 * n + (get_or ds i 0 - 48) →
+pub read_more : (n m i : ℕ) (ds : List ℕ) → i < length ds → read_on n (drop i ds) ≡ read_on 0 ds →
+    m ≡ 10 * n + (get_or ds i 0 - 48) →
     read_on m (drop (i + 1) ds) ≡ read_on 0 ds
 read_more n m i ds h e grown = rw grown (sym (rw (add-one, drop-cons ds i 0) refl) ∙ e)
 
 -- a number is too large if a prefix of its digits is
-pub too_large : (n m i : ℕ) (ds : List ℕ) → i < length ds → read_on n (drop i ds) ≡ read_on 0 ds → m ≡ 10 * n + (get_or ds i 0 - 48) →
+pub too_large : (n m i : ℕ) (ds : List ℕ) → i < length ds → read_on n (drop i ds) ≡ read_on 0 ds →
+    m ≡ 10 * n + (get_or ds i 0 - 48) →
     m ≤ read_on 0 ds
-too_large n m i ds h e grown = let done = read_more n m i ds h e grown in let more = read_on-le m (drop (i + 1) ds) in omega arith
+too_large n m i ds h e grown = let done = read_more n m i ds h e grown in
+    let more = read_on-le m (drop (i + 1) ds) in omega arith
 
 -- all digits are read
 pub all_read : (n i : ℕ) (ds : List ℕ) → length ds ≤ i → read_on n (drop i ds) ≡ read_on 0 ds → n ≡ read_on 0 ds

@@ -28,24 +28,34 @@ operand_is zero h = absurd (omega (arith, h))
 operand_is (suc n) h = rw (let e : suc n - 1 ≡ n = omega arith in e) refl
 
 -- the parts below j were read, with these values, and the others follow
-pub record HasRead {T A : Type 0} (tree : T → A) (part : ℕ → ℕ → List Lexeme → Read A) (high j : ℕ) (parts : List T) (old now : Parser) : Type 0 where
+pub record HasRead {T A : Type 0} (tree : T → A) (part : ℕ → ℕ → List Lexeme → Read A) (high j : ℕ)
+    (parts : List T) (old now : Parser) : Type 0 where
   pub text_is : now.text.now ≡ old.text.now
-  pub reads : each part high 0 [] old.nodes (lexemes_left old.text.now old.at) ≡ each part (high - j) j (map tree parts) now.nodes (lexemes_left old.text.now now.at)
+  pub reads : each part high 0 [] old.nodes (lexemes_left old.text.now old.at)
+      ≡ each part (high - j) j (map tree parts) now.nodes (lexemes_left old.text.now now.at)
 
-next_read : {A : Type 0} (part : ℕ → ℕ → List Lexeme → Read A) (high j : ℕ) (parts : List A) (nodes : ℕ) (left : List Lexeme) (r : Read A) → j < high → part j nodes left ≡ r →
-    each part (high - j) j parts nodes left ≡ go_on r (λ a n l. each part (high - (j + 1)) (j + 1) (parts ++ (a ∷ [])) n l)
+next_read : {A : Type 0} (part : ℕ → ℕ → List Lexeme → Read A) (high j : ℕ) (parts : List A) (nodes : ℕ)
+    (left : List Lexeme) (r : Read A) → j < high → part j nodes left ≡ r →
+    each part (high - j) j parts nodes left
+    ≡ go_on r (λ a n l. each part (high - (j + 1)) (j + 1) (parts ++ (a ∷ [])) n l)
 next_read part high j parts nodes left r h e =
-    rw (let e : high - j ≡ suc (high - (j + 1)) = omega arith in e) (ap (λ r. go_on r (λ a n l. each part (high - (j + 1)) (j + 1) (parts ++ (a ∷ [])) n l)) e)
+    rw (let e : high - j ≡ suc (high - (j + 1)) = omega arith in
+    e) (ap (λ r. go_on r (λ a n l. each part (high - (j + 1)) (j + 1) (parts ++ (a ∷ [])) n l)) e)
 
-pub one_read : {T A : Type 0} {tree : T → A} {part : ℕ → ℕ → List Lexeme → Read A} {high j : ℕ} {parts longer : List T} {old now new : Parser} (v : T) → j < high →
-    HasRead tree part high j parts old now → Gives tree now new (Ok v) (part j) → longer ≡ parts ++ (v ∷ []) → HasRead tree part high (j + 1) longer old new
+pub one_read : {T A : Type 0} {tree : T → A} {part : ℕ → ℕ → List Lexeme → Read A} {high j : ℕ}
+    {parts longer : List T} {old now new : Parser} (v : T) → j < high →
+    HasRead tree part high j parts old now → Gives tree now new (Ok v) (part j) → longer ≡ parts ++ (v ∷ []) →
+    HasRead tree part high (j + 1) longer old new
 one_read {tree = tree} {part} {high} {j} {parts} {now = now} v h done read more = record {
   text_is = read.0 ∙ done.text_is;
-  reads = rw (more, map-append tree parts (v ∷ [])) (done.reads ∙ next_read part high j (map tree parts) now.nodes _ _ h (rw done.text_is at read.1));
+  reads = rw (more, map-append tree parts (v ∷ []))
+      (done.reads ∙ next_read part high j (map tree parts) now.nodes _ _ h (rw done.text_is at read.1));
 }
 
-pub stops_there : {T A : Type 0} {tree : T → A} {part : ℕ → ℕ → List Lexeme → Read A} {high j : ℕ} {parts : List T} {old now : Parser} (f : TextFault) → j < high →
-    HasRead tree part high j parts old now → Gives tree now now (Err f) (part j) → Gives (λ xs. xs) old old (Err f) (each part high 0 [])
+pub stops_there : {T A : Type 0} {tree : T → A} {part : ℕ → ℕ → List Lexeme → Read A} {high j : ℕ}
+    {parts : List T} {old now : Parser} (f : TextFault) → j < high →
+    HasRead tree part high j parts old now → Gives tree now now (Err f) (part j) →
+    Gives (λ xs. xs) old old (Err f) (each part high 0 [])
 stops_there {tree = tree} {part} {high} {j} {parts} {now = now} f h done stopped = (
   stopped.0,
   λ m.
@@ -54,13 +64,16 @@ stops_there {tree = tree} {part} {high} {j} {parts} {now = now} f h done stopped
 )
 
 -- readers in a row in two groupings, if they behave the same after the first
-same_after : {A B : Type 0} (first : Read A) (second other : A → ℕ → List Lexeme → Read B) → ((a : A) (n : ℕ) (l : List Lexeme) → second a n l ≡ other a n l) →
+same_after : {A B : Type 0} (first : Read A) (second other : A → ℕ → List Lexeme → Read B) →
+    ((a : A) (n : ℕ) (l : List Lexeme) → second a n l ≡ other a n l) →
     go_on first second ≡ go_on first other
 same_after (Got a n l) second other same = same a n l
 same_after (Fault k from) second other same = refl
 
-regrouped : {A B C : Type 0} (first : Read A) (second : A → ℕ → List Lexeme → Read B) (third : B → ℕ → List Lexeme → Read C) (other : A → ℕ → List Lexeme → Read C) →
-    ((a : A) (n : ℕ) (l : List Lexeme) → go_on (second a n l) third ≡ other a n l) → go_on (go_on first second) third ≡ go_on first other
+regrouped : {A B C : Type 0} (first : Read A) (second : A → ℕ → List Lexeme → Read B)
+    (third : B → ℕ → List Lexeme → Read C) (other : A → ℕ → List Lexeme → Read C) →
+    ((a : A) (n : ℕ) (l : List Lexeme) → go_on (second a n l) third ≡ other a n l) →
+    go_on (go_on first second) third ≡ go_on first other
 regrouped (Got a n l) second third other same = same a n l
 regrouped (Fault k from) second third other same = refl
 
@@ -79,7 +92,8 @@ pub header_is : (nodes : ℕ) (left : List Lexeme) → header nodes left ≡ (do
   done (record { rounds = rounds; channels = channels; registers = registers })) nodes left
 unfolding header
 header_is nodes left =
-    sym (regrouped (exactly token.Rounds nodes left) _ _ _ (λ _ n l. same_after (number 0 MAX_ROUNDS n l) _ _ (λ rounds n l.
+    sym (regrouped (exactly token.Rounds nodes left) _ _ _
+    (λ _ n l. same_after (number 0 MAX_ROUNDS n l) _ _ (λ rounds n l.
     regrouped (exactly token.Channels n l) _ _ _ (λ _ n l. same_after (number 1 MAX_CHANNELS n l) _ _ (λ channels n l.
     regrouped (exactly token.Registers n l) _ _ _ (λ _ n l. refl))))))
 
@@ -93,32 +107,43 @@ pub round_is : (registers nodes : ℕ) (left : List Lexeme) → round registers 
 unfolding round expression_after
 round_is registers nodes left =
     sym (same_after (exactly token.Round nodes left) _ _ (λ _ n l.
-    regrouped (exactly token.Send n l) _ _ _ (λ _ n l. regrouped (exactly token.Left n l) _ _ _ (λ _ n l. same_after (expression MAX_DEPTH n l) _ _ (λ left n l.
+    regrouped (exactly token.Send n l) _ _ _
+    (λ _ n l. regrouped (exactly token.Left n l) _ _ _
+    (λ _ n l. same_after (expression MAX_DEPTH n l) _ _ (λ left n l.
     regrouped (exactly token.Send n l) _ _ _ (λ _ n l. regrouped (exactly token.Right n l) _ _ _ (λ _ n l. refl)))))))
 
 -- the rest of an operation, operand by operand
 pub one_is : (op : UnOp) (levels from nodes : ℕ) (left : List Lexeme) →
-    (node levels from >> (one_of (operand levels) >>= λ a. done (One op a))) nodes left ≡ after_one op levels from nodes left
+    (node levels from >> (one_of (operand levels) >>= λ a. done (One op a))) nodes left
+    ≡ after_one op levels from nodes left
 unfolding one_of
 one_is op levels from nodes left =
-    sym (regrouped (node levels from nodes left) _ _ _ (λ _ n l. sym (regrouped (exactly token.Open n l) _ _ _ (λ _ n l. refl))))
+    sym (regrouped (node levels from nodes left) _ _ _
+    (λ _ n l. sym (regrouped (exactly token.Open n l) _ _ _ (λ _ n l. refl))))
 
 pub two_is : (op : BinOp) (levels from nodes : ℕ) (left : List Lexeme) →
-    (node levels from >> (two_of (operand levels) >>= λ p. done (Two op p.0 p.1))) nodes left ≡ after_two op levels from nodes left
+    (node levels from >> (two_of (operand levels) >>= λ p. done (Two op p.0 p.1))) nodes left
+    ≡ after_two op levels from nodes left
 unfolding two_of
 two_is op levels from nodes left =
-    sym (regrouped (node levels from nodes left) _ _ _ (λ _ n l. sym (regrouped (exactly token.Open n l) _ _ _ (λ _ n l. simp go_on_assoc))))
+    sym (regrouped (node levels from nodes left) _ _ _
+    (λ _ n l. sym (regrouped (exactly token.Open n l) _ _ _ (λ _ n l. simp go_on_assoc))))
 
 pub if_is : (levels from nodes : ℕ) (left : List Lexeme) →
-    (node levels from >> (three_of (operand levels) >>= λ p. done (Choose p.0 p.1 p.2))) nodes left ≡ after_if levels from nodes left
+    (node levels from >> (three_of (operand levels) >>= λ p. done (Choose p.0 p.1 p.2))) nodes left
+    ≡ after_if levels from nodes left
 unfolding three_of
 if_is levels from nodes left =
-    sym (regrouped (node levels from nodes left) _ _ _ (λ _ n l. sym (regrouped (exactly token.Open n l) _ _ _ (λ _ n l. simp go_on_assoc))))
+    sym (regrouped (node levels from nodes left) _ _ _
+    (λ _ n l. sym (regrouped (exactly token.Open n l) _ _ _ (λ _ n l. simp go_on_assoc))))
 
 -- a method whose last step behaves as the rest of its reader
-pub gives_rest : {T A : Type 0} (tree : T → A) (old now new : Parser) (r : Result T TextFault) (whole rest : ℕ → List Lexeme → Read A) → now.text.now ≡ old.text.now →
-    whole old.nodes (lexemes_left old.text.now old.at) ≡ rest now.nodes (lexemes_left now.text.now now.at) → Gives tree now new r rest → Gives tree old new r whole
-gives_rest tree old now new (Ok v) whole rest same begins given = (given.0 ∙ same, begins ∙ given.1 ∙ ap (λ t. Got (tree v) new.nodes (lexemes_left t new.at)) same)
+pub gives_rest : {T A : Type 0} (tree : T → A) (old now new : Parser) (r : Result T TextFault)
+    (whole rest : ℕ → List Lexeme → Read A) → now.text.now ≡ old.text.now →
+    whole old.nodes (lexemes_left old.text.now old.at) ≡ rest now.nodes (lexemes_left now.text.now now.at) →
+    Gives tree now new r rest → Gives tree old new r whole
+gives_rest tree old now new (Ok v) whole rest same begins given =
+    (given.0 ∙ same, begins ∙ given.1 ∙ ap (λ t. Got (tree v) new.nodes (lexemes_left t new.at)) same)
 gives_rest tree old now new (Err f) whole rest same begins given = (
   given.0,
   λ m.
@@ -127,8 +152,10 @@ gives_rest tree old now new (Err f) whole rest same begins given = (
 )
 
 -- a method that reads one part and then behaves as the reader of the next
-pub gives_next : {T U A B : Type 0} (tree : T → A) (tree' : U → B) (old now new : Parser) (v : T) (r : Result U TextFault) (first : ℕ → List Lexeme → Read A)
-    (second : A → ℕ → List Lexeme → Read B) → Gives tree old now (Ok v) first → Gives tree' now new r (second (tree v)) → Gives tree' old new r (λ n l. go_on (first n l) second)
+pub gives_next : {T U A B : Type 0} (tree : T → A) (tree' : U → B) (old now new : Parser) (v : T)
+    (r : Result U TextFault) (first : ℕ → List Lexeme → Read A)
+    (second : A → ℕ → List Lexeme → Read B) → Gives tree old now (Ok v) first →
+    Gives tree' now new r (second (tree v)) → Gives tree' old new r (λ n l. go_on (first n l) second)
 gives_next tree tree' old now new v r first second given more =
     gives_rest tree' old now new r (λ n l. go_on (first n l) second) (second (tree v)) given.0
     (ap (λ x. go_on x second) given.1 ∙ ap (λ t. second (tree v) now.nodes (lexemes_left t now.at)) (sym given.0)) more
@@ -138,7 +165,8 @@ abbrev pub Stops : {A : Type 0} → Parser → TextFault → (ℕ → List Lexem
 Stops {A} old f read = Gives {T = A} (λ a. a) old old (Err f) read
 
 -- a method that stops in its first part
-pub stops_first : {A B : Type 0} (old : Parser) (f : TextFault) (first : ℕ → List Lexeme → Read A) (second : A → ℕ → List Lexeme → Read B) → Stops old f first
+pub stops_first : {A B : Type 0} (old : Parser) (f : TextFault) (first : ℕ → List Lexeme → Read A)
+    (second : A → ℕ → List Lexeme → Read B) → Stops old f first
     → Stops old f (λ n l. go_on (first n l) second)
 stops_first old f first second stopped = (
   stopped.0,
@@ -148,14 +176,19 @@ stops_first old f first second stopped = (
 )
 
 -- a method that reads one part and stops after it
-pub stops_next : {T A B : Type 0} (tree : T → A) (old now : Parser) (v : T) (f : TextFault) (first : ℕ → List Lexeme → Read A) (second : A → ℕ → List Lexeme → Read B)
+pub stops_next : {T A B : Type 0} (tree : T → A) (old now : Parser) (v : T) (f : TextFault)
+    (first : ℕ → List Lexeme → Read A) (second : A → ℕ → List Lexeme → Read B)
     → Gives tree old now (Ok v) first → Stops now f (second (tree v)) → Stops old f (λ n l. go_on (first n l) second)
-stops_next tree old now v f first second given stopped = gives_next tree (λ b. b) old now now v (Err f) first second given stopped
+stops_next tree old now v f first second given stopped =
+    gives_next tree (λ b. b) old now now v (Err f) first second given stopped
 
 -- an expression from its first token on
-pub expression_begins : (old now : Parser) (levels offset : ℕ) (t : Token) (more : Reader Term) → now.text.now ≡ old.text.now →
-    next old.nodes (lexemes_left old.text.now old.at) ≡ Got (record { from = length old.text.now - offset; token = t }) now.nodes (lexemes_left old.text.now now.at) →
+pub expression_begins : (old now : Parser) (levels offset : ℕ) (t : Token) (more : Reader Term) →
+    now.text.now ≡ old.text.now →
+    next old.nodes (lexemes_left old.text.now old.at) ≡ Got
+    (record { from = length old.text.now - offset; token = t }) now.nodes (lexemes_left old.text.now now.at) →
     after (operand levels) t ≡ Some more →
-    expression levels old.nodes (lexemes_left old.text.now old.at) ≡ (node levels (length now.text.now - offset) >> more) now.nodes (lexemes_left now.text.now now.at)
+    expression levels old.nodes (lexemes_left old.text.now old.at)
+    ≡ (node levels (length now.text.now - offset) >> more) now.nodes (lexemes_left now.text.now now.at)
 unfolding expression
 expression_begins old now levels offset t more same reads begins = rw (same, reads, begins) refl

@@ -36,16 +36,20 @@ IsOut w t = ⊥
 -- if the program is within the limits.
 pub data Leads (p : ProgramTree) : Rest → List Mark → Type 0 where
   ended : Leads p (Nothing p) []
-  led : {w v : Rest} {ms : List Mark} (t : Token) → step w t ≡ Some v → (IsWithinLimits p → InRange w t) → Leads p v ms →
+  led : {w v : Rest} {ms : List Mark} (t : Token) → step w t ≡ Some v →
+      (IsWithinLimits p → InRange w t) → Leads p v ms →
       Leads p w (node t (depth_next w) ∷ ms)
 
 -- the same for a token, an expression, assignments, rounds, and a whole program
-token_leads : {p : ProgramTree} {w : Rest} {ms : List Mark} (t : Token) → same_token t t ≡ true → Leads p w ms → Leads p (AToken t w) (plain t ∷ ms)
+token_leads : {p : ProgramTree} {w : Rest} {ms : List Mark} (t : Token) → same_token t t ≡ true → Leads p w ms →
+    Leads p (AToken t w) (plain t ∷ ms)
 token_leads {w = w} t same h = led t (rw same refl) (λ _. tt) h
 
-term_leads : {p : ProgramTree} (e : Term) (d : ℕ) (w : Term → Rest) {ms : List Mark} → Leads p (w e) ms → Leads p (AnExpression d w) (marked e (d + 1) ms)
+term_leads : {p : ProgramTree} (e : Term) (d : ℕ) (w : Term → Rest) {ms : List Mark} → Leads p (w e) ms →
+    Leads p (AnExpression d w) (marked e (d + 1) ms)
 term_leads (One o a) d w h =
-    led (token.One o) refl (λ _. tt) (token_leads token.Open refl (term_leads a (d + 1) _ (token_leads token.Close refl h)))
+    led (token.One o) refl (λ _. tt)
+    (token_leads token.Open refl (term_leads a (d + 1) _ (token_leads token.Close refl h)))
 term_leads (Two o a b) d w h =
     led (token.Two o) refl (λ _. tt) (token_leads token.Open refl (term_leads a (d + 1) _
     (token_leads token.Comma refl (term_leads b (d + 1) _ (token_leads token.Close refl h)))))
@@ -54,7 +58,8 @@ term_leads (Choose c a b) d w h =
     (term_leads a (d + 1) _ (token_leads token.Comma refl (term_leads b (d + 1) _ (token_leads token.Close refl h)))))))
 term_leads e d w h = led _ refl (λ _. tt) h
 
-assignments_lead : {p : ProgramTree} {ms : List Mark} (es : List Term) (count j : ℕ) (w : List Term → Rest) → length es ≡ count → Leads p (w es) ms →
+assignments_lead : {p : ProgramTree} {ms : List Mark} (es : List Term) (count j : ℕ) (w : List Term → Rest) →
+    length es ≡ count → Leads p (w es) ms →
     Leads p (assignments count j w) (marked_assignments j es ms)
 assignments_lead [] zero j w many h = h
 assignments_lead (e ∷ es) (suc count) j w many h =
@@ -62,22 +67,27 @@ assignments_lead (e ∷ es) (suc count) j w many h =
     (assignments_lead es count (j + 1) (λ es. w (e ∷ es)) (omega (arith, many)) h)))
 assignments_lead es count j w many h = absurd (cc)
 
-rounds_lead : {p : ProgramTree} {ms : List Mark} (ss : List Round) (many : ℕ) (w : List Round → Rest) → All (λ s. length s.next ≡ many) ss → Leads p (w ss) ms →
+rounds_lead : {p : ProgramTree} {ms : List Mark} (ss : List Round) (many : ℕ) (w : List Round → Rest) →
+    All (λ s. length s.next ≡ many) ss → Leads p (w ss) ms →
     Leads p (some_rounds (length ss) many w) (marked_blocks ss ms)
 rounds_lead [] many w each h = h
 rounds_lead (s ∷ ss) many w each h =
     let here = All-head (λ (s : Round). length s.next ≡ many) s ss each in
     let others = rounds_lead ss many (λ ss. w (s ∷ ss)) (All-tail (λ (s : Round). length s.next ≡ many) s ss each) h in
     token_leads token.Round refl (token_leads token.Send refl (token_leads token.Left refl (term_leads s.left 0 _
-    (token_leads token.Send refl (token_leads token.Right refl (term_leads s.right 0 _ (assignments_lead s.next many 0 _ here others)))))))
+    (token_leads token.Send refl
+    (token_leads token.Right refl (term_leads s.right 0 _ (assignments_lead s.next many 0 _ here others)))))))
 
 program_leads : (p : ProgramTree) → IsProgram p → Leads p a_program (marks p)
 program_leads p each =
     let finish = token_leads token.Finish refl (term_leads p.finish 0 _ ended) in
-    let body = assignments_lead p.start (length p.start) 0 _ refl (rounds_lead p.steps (length p.start) _ each finish) in
+    let body =
+    assignments_lead p.start (length p.start) 0 _ refl (rounds_lead p.steps (length p.start) _ each finish) in
     token_leads token.Rounds refl (led (token.Number (length p.steps)) refl (λ l. (omega arith, l.rounds))
     (token_leads token.Channels refl (led (token.Number p.channels) refl (λ l. (l.some_channels, l.few_channels))
-    (token_leads token.Registers refl (led (token.Number (length p.start)) refl (λ l. (l.some_registers, l.few_registers)) (token_leads token.Start refl body))))))
+    (token_leads token.Registers refl
+    (led (token.Number (length p.start)) refl (λ l. (l.some_registers, l.few_registers))
+    (token_leads token.Start refl body))))))
 
 -- a program with these marks, whose header is in range
 pub record IsEnd (p : ProgramTree) (ms : List Mark) : Type 0 where
@@ -90,18 +100,22 @@ abbrev pub Ends : (List Mark → List Mark) → Rest → Type 0
 Ends f (Nothing p) = IsEnd p (f [])
 Ends f (AToken t w) = Ends (λ ms. f (plain t ∷ ms)) w
 Ends f (AnExpression d w) = (e : Term) → Ends (λ ms. f (marked e (d + 1) ms)) (w e)
-Ends f (ANumber low high w) = (low ≤ high) × ((n : ℕ) → IsOutside low high n → IsOutOfRange (unmarked (f [])) (token.Number n))
+Ends f (ANumber low high w) =
+    (low ≤ high) × ((n : ℕ) → IsOutside low high n → IsOutOfRange (unmarked (f [])) (token.Number n))
     × ((n : ℕ) → low ≤ n → n ≤ high → Ends (λ ms. f (plain (token.Number n) ∷ ms)) (w n))
 
 -- so they are if each list of assignments, and of rounds, that can come next is completed so
 assignments_end : (count j : ℕ) (f : List Mark → List Mark) (w : List Term → Rest) →
-    ((es : List Term) → length es ≡ count → Ends (λ ms. f (marked_assignments j es ms)) (w es)) → Ends f (assignments count j w)
+    ((es : List Term) → length es ≡ count → Ends (λ ms. f (marked_assignments j es ms)) (w es)) →
+    Ends f (assignments count j w)
 assignments_end zero j f w h = h [] refl
 assignments_end (suc count) j f w h = λ e.
-    assignments_end count (j + 1) (λ ms. f (plain (token.Register j) ∷ plain token.Equals ∷ marked e 1 ms)) (λ es. w (e ∷ es)) (λ es many. h (e ∷ es) (ap suc many))
+    assignments_end count (j + 1) (λ ms. f (plain (token.Register j) ∷ plain token.Equals ∷ marked e 1 ms))
+    (λ es. w (e ∷ es)) (λ es many. h (e ∷ es) (ap suc many))
 
 rounds_end : (count many : ℕ) (f : List Mark → List Mark) (w : List Round → Rest) →
-    ((ss : List Round) → length ss ≡ count → All (λ s. length s.next ≡ many) ss → Ends (λ ms. f (marked_blocks ss ms)) (w ss)) → Ends f (some_rounds count many w)
+    ((ss : List Round) → length ss ≡ count → All (λ s. length s.next ≡ many) ss →
+    Ends (λ ms. f (marked_blocks ss ms)) (w ss)) → Ends f (some_rounds count many w)
 rounds_end zero many f w h = h [] refl (All-nil (λ (s : Round). length s.next ≡ many))
 rounds_end (suc count) many f w h = λ left right.
     let put : List Mark → List Mark = λ ms. f (plain token.Round ∷ plain token.Send ∷ plain token.Left
@@ -116,9 +130,12 @@ abbrev header : ℕ → ℕ → ℕ → List Mark → List Mark
 header i c r ms = plain token.Rounds ∷ plain (token.Number i) ∷ plain token.Channels ∷ plain (token.Number c)
     ∷ plain token.Registers ∷ plain (token.Number r) ∷ plain token.Start ∷ ms
 
-body_ends : (i c r : ℕ) → i ≤ MAX_ROUNDS → 1 ≤ c → c ≤ MAX_CHANNELS → 1 ≤ r → r ≤ MAX_REGISTERS → Ends (header i c r) (a_body i c r)
+body_ends : (i c r : ℕ) → i ≤ MAX_ROUNDS → 1 ≤ c → c ≤ MAX_CHANNELS → 1 ≤ r →
+    r ≤ MAX_REGISTERS → Ends (header i c r) (a_body i c r)
 body_ends i c r fits some few least most =
-    assignments_end r 0 (header i c r) _ (λ start many. rounds_end i r (λ ms. header i c r (marked_assignments 0 start ms)) _ (λ steps counts each finish. record {
+    assignments_end r 0 (header i c r) _
+    (λ start many. rounds_end i r (λ ms. header i c r (marked_assignments 0 start ms)) _
+    (λ steps counts each finish. record {
       each_register = rw many each;
       limits = λ small nodes. record {
         rounds = omega (arith, counts, fits);
@@ -134,14 +151,20 @@ body_ends i c r fits some few least most =
     }))
 
 program_ends : Ends (λ ms. ms) a_program
-program_ends = (omega arith, rounds, λ i _ fits. (omega arith, channels i, λ c some few. (omega arith, registers i c, λ r. body_ends i c r fits some few)))
+program_ends = (
+  omega arith,
+  rounds,
+  λ i _ fits.
+      (omega arith, channels i, λ c some few. (omega arith, registers i c, λ r. body_ends i c r fits some few)),
+)
 
 -- the same after one more token
 abbrev EndsIf : (List Mark → List Mark) → Option Rest → Type 0
 EndsIf f None = Unit {0}
 EndsIf f (Some w) = Ends f w
 
-ends_in_term : (f : List Mark → List Mark) (d : ℕ) (w : Term → Rest) (t : Token) → Ends f (AnExpression d w) → EndsIf (λ ms. f (node t (d + 1) ∷ ms)) (following d w t)
+ends_in_term : (f : List Mark → List Mark) (d : ℕ) (w : Term → Rest) (t : Token) → Ends f (AnExpression d w) →
+    EndsIf (λ ms. f (node t (d + 1) ∷ ms)) (following d w t)
 ends_in_term f d w (token.Number n) h = h (Literal n)
 ends_in_term f d w token.Id h = h Identifier
 ends_in_term f d w token.FromLeft h = h LeftMessage
@@ -152,7 +175,8 @@ ends_in_term f d w (token.Two o) h = λ a b. h (Two o a b)
 ends_in_term f d w token.If h = λ c a b. h (Choose c a b)
 ends_in_term f d w t h = tt
 
-ends_next : (f : List Mark → List Mark) (w : Rest) (t : Token) → Ends f w → InRange w t → EndsIf (λ ms. f (node t (depth_next w) ∷ ms)) (step w t)
+ends_next : (f : List Mark → List Mark) (w : Rest) (t : Token) → Ends f w → InRange w t →
+    EndsIf (λ ms. f (node t (depth_next w) ∷ ms)) (step w t)
 ends_next f (Nothing p) t h range = tt
 ends_next f (AToken s w) t h range = cond_both (same_token t s) (Some w) None (EndsIf (λ ms. f (plain t ∷ ms)))
     (λ is. subst (λ u. Ends (λ ms. f (plain u ∷ ms)) w) (sym (same_token_is t s is)) h) (λ _. tt)
@@ -175,7 +199,8 @@ completed : (w : Rest) (f : List Mark → List Mark) → Ends f w → Completed 
 completed (Nothing p) f h = record { program = p; more = []; each_register = h.each_register; are = h.are }
 completed (AToken t w) f h = one_earlier f (plain t) (completed w _ h)
 completed (AnExpression d w) f h = one_earlier f (node token.Id (d + 1)) (completed (w Identifier) _ (h Identifier))
-completed (ANumber low high w) f h = one_earlier f (plain (token.Number low)) (completed (w low) _ (h.2 low (omega arith) h.0))
+completed (ANumber low high w) f h =
+    one_earlier f (plain (token.Number low)) (completed (w low) _ (h.2 low (omega arith) h.0))
 
 unmarked_program : (p : ProgramTree) → unmarked (marks p) ≡ spelling p
 unmarked_program p = let m = program_matches p in m.tokens
@@ -214,7 +239,12 @@ first_place = record {
   few = omega arith;
   shallow = tt;
   ends = program_ends;
-  goes_on = λ p ts each e. record { left = marks p; are = refl; tokens = unmarked_program p ∙ e; leads = program_leads p each };
+  goes_on = λ p ts each e. record {
+    left = marks p;
+    are = refl;
+    tokens = unmarked_program p ∙ e;
+    leads = program_leads p each;
+  };
 }
 
 -- a program in which this token comes next
@@ -224,7 +254,8 @@ pub record HasNext (p : ProgramTree) (before : List Mark) (t : Token) (ts : List
   pub range : IsWithinLimits p → InRange w t
   pub after : GoesOn p (before ++ node t (depth_next w) ∷ []) ts rest
 
-has_next : {p : ProgramTree} {before left : List Mark} {ts : List Token} {w : Rest} (t : Token) → Leads p w left → marks p ≡ before ++ left → unmarked left ≡ t ∷ ts →
+has_next : {p : ProgramTree} {before left : List Mark} {ts : List Token} {w : Rest} (t : Token) → Leads p w left →
+    marks p ≡ before ++ left → unmarked left ≡ t ∷ ts →
     HasNext p before t ts w
 has_next t ended are e = absurd (cc)
 has_next {p} {before} {ts = ts} {w = w} t (led {ms = ms} u s range h) are e =
@@ -233,7 +264,12 @@ has_next {p} {before} {ts = ts} {w = w} t (led {ms = ms} u s range h) are e =
       rest = _;
       steps = s;
       range = range;
-      after = record { left = ms; are = are ∙ sym (append_assoc before (node u (depth_next w) ∷ []) ms); tokens = cc; leads = h };
+      after = record {
+        left = ms;
+        are = are ∙ sym (append_assoc before (node u (depth_next w) ∷ []) ms);
+        tokens = cc;
+        leads = h;
+      };
     })
 
 -- a program in which none comes next
@@ -242,11 +278,13 @@ has_none ended e = refl
 has_none (led u s range h) e = absurd (cc)
 
 -- so a program with the tokens before a place as its prefix
-pub next_of : {before : List Token} {nodes : ℕ} {w : Rest} (t : Token) (ts : List Token) (p : Place before nodes w) (q : ProgramTree) → IsProgram q → spelling q ≡ before ++ t ∷ ts →
+pub next_of : {before : List Token} {nodes : ℕ} {w : Rest} (t : Token) (ts : List Token) (p : Place before nodes w)
+    (q : ProgramTree) → IsProgram q → spelling q ≡ before ++ t ∷ ts →
     HasNext q p.marks t ts w
 next_of t ts p q each e = let g = p.goes_on q (t ∷ ts) each e in has_next t g.leads g.are g.tokens
 
-pub none_of : {before : List Token} {nodes : ℕ} {w : Rest} → Place before nodes w → (q : ProgramTree) → IsProgram q → spelling q ≡ before → w ≡ Nothing q
+pub none_of : {before : List Token} {nodes : ℕ} {w : Rest} → Place before nodes w → (q : ProgramTree) →
+    IsProgram q → spelling q ≡ before → w ≡ Nothing q
 none_of {before} p q each e = let g = p.goes_on q [] each (e ∙ sym (append-nil before)) in has_none g.leads g.tokens
 
 counted_is : (w : Rest) (n : ℕ) (t : Token) → n + nodes_at (node t (depth_next w) ∷ []) ≡ counted w n
@@ -256,13 +294,16 @@ counted_is (AnExpression d w) n t = rw (add-one d) (omega arith)
 counted_is (ANumber low high w) n t = omega arith
 
 -- the number of nodes after one more token, and the place there
-pub next_nodes : {before : List Token} {nodes : ℕ} {w : Rest} (t : Token) (p : Place before nodes w) → nodes_at (p.marks ++ node t (depth_next w) ∷ []) ≡ counted w nodes
+pub next_nodes : {before : List Token} {nodes : ℕ} {w : Rest} (t : Token) (p : Place before nodes w) →
+    nodes_at (p.marks ++ node t (depth_next w) ∷ []) ≡ counted w nodes
 next_nodes {nodes = nodes} {w = w} t p =
     let here : Mark = node t (depth_next w) in
-    sum_by-append (λ (m : Mark). one_at m.depth) p.marks (here ∷ []) ∙ ap (λ n. n + nodes_at (here ∷ [])) p.nodes_are ∙ counted_is w nodes t
+    sum_by-append (λ (m : Mark). one_at m.depth) p.marks (here ∷ [])
+    ∙ ap (λ n. n + nodes_at (here ∷ [])) p.nodes_are ∙ counted_is w nodes t
 
 -- the tokens of these marks, then of others
-unmarked_next : (xs : List Mark) (before : List Token) (ms : List Mark) → unmarked xs ≡ before → unmarked (xs ++ ms) ≡ before ++ unmarked ms
+unmarked_next : (xs : List Mark) (before : List Token) (ms : List Mark) → unmarked xs ≡ before →
+    unmarked (xs ++ ms) ≡ before ++ unmarked ms
 unmarked_next xs before ms e = map-append (λ (x : Mark). x.token) xs ms ∙ ap (λ ts. ts ++ unmarked ms) e
 
 pub next_place : {before : List Token} {nodes : ℕ} {w v : Rest} (t : Token) → Place before nodes w → step w t ≡ Some v →
@@ -285,7 +326,8 @@ next_place {before} {nodes} {w} {v} t p s few shallow range =
     }
 
 -- a list is split in two at one element in one way
-same_front : {A : Type 0} (xs ys vs ws : List A) (v w : A) → length xs ≡ length ys → xs ++ v ∷ vs ≡ ys ++ w ∷ ws → (xs ≡ ys) × (v ≡ w)
+same_front : {A : Type 0} (xs ys vs ws : List A) (v w : A) → length xs ≡ length ys →
+    xs ++ v ∷ vs ≡ ys ++ w ∷ ws → (xs ≡ ys) × (v ≡ w)
 same_front xs ys vs ws v w n e =
     let after = sym (drop-append_seam xs (v ∷ vs)) ∙ (λ i. drop (n i) (e i)) ∙ drop-append_seam ys (w ∷ ws) in
     (sym (take-append_seam xs (v ∷ vs)) ∙ (λ i. take (n i) (e i)) ∙ take-append_seam ys (w ∷ ws), cc (after))
@@ -297,44 +339,66 @@ record IsWanted (t : Token) (depth count nodes : ℕ) (w : Rest) : Type 0 where
   pub depth_is : depth ≡ depth_next w
   pub count_is : count ≡ nodes
 
-wanted : {before : List Token} {nodes depth count : ℕ} {t : Token} {w : Rest} → Place before nodes w → BeginsNode before t depth count → IsWanted t depth count nodes w
+wanted : {before : List Token} {nodes depth count : ℕ} {t : Token} {w : Rest} → Place before nodes w →
+    BeginsNode before t depth count → IsWanted t depth count nodes w
 wanted {before} {depth = depth} {t = t} {w = w} p b =
     let here : Mark = node t depth in
     let tokens = unmarked_next b.marks_before before (here ∷ b.marks_after) b.tokens_before in
-    let n = next_of t (unmarked b.marks_after) p b.program b.each_register (sym (unmarked_program b.program) ∙ ap unmarked b.are ∙ tokens) in
+    let n = next_of t (unmarked b.marks_after) p b.program b.each_register
+    (sym (unmarked_program b.program) ∙ ap unmarked b.are ∙ tokens) in
     let lengths : length p.marks ≡ length b.marks_before =
-    sym (length-map p.marks (λ (m : Mark). m.token)) ∙ ap length (p.tokens ∙ sym b.tokens_before) ∙ length-map b.marks_before (λ (m : Mark). m.token) in
+    sym (length-map p.marks (λ (m : Mark). m.token)) ∙ ap length (p.tokens ∙ sym b.tokens_before)
+    ∙ length-map b.marks_before (λ (m : Mark). m.token) in
     let there : Mark = node t (depth_next w) in
-    let same = same_front p.marks b.marks_before n.after.left b.marks_after there here lengths (sym (n.after.are ∙ append_assoc p.marks (there ∷ []) n.after.left) ∙ b.are) in
-    record { rest = n.rest; steps = n.steps; depth_is = ap (λ m. m.depth) (sym same.1); count_is = sym b.nodes_are ∙ ap nodes_at (sym same.0) ∙ p.nodes_are }
+    let same = same_front p.marks b.marks_before n.after.left b.marks_after there here lengths
+    (sym (n.after.are ∙ append_assoc p.marks (there ∷ []) n.after.left) ∙ b.are) in
+    record {
+      rest = n.rest;
+      steps = n.steps;
+      depth_is = ap (λ m. m.depth) (sym same.1);
+      count_is = sym b.nodes_are ∙ ap nodes_at (sym same.0) ∙ p.nodes_are;
+    }
 
 -- tokens that are a prefix of some program
-viable_marks : {before : List Token} (p : ProgramTree) (ms more : List Mark) → IsProgram p → unmarked ms ≡ before → marks p ≡ ms ++ more → IsViable before
+viable_marks : {before : List Token} (p : ProgramTree) (ms more : List Mark) → IsProgram p →
+    unmarked ms ≡ before → marks p ≡ ms ++ more → IsViable before
 viable_marks {before} p ms more each tokens are =
-    record { program = p; more = unmarked more; each_register = each; spells = sym (unmarked_next ms before more tokens) ∙ ap unmarked (sym are) ∙ unmarked_program p }
+    record {
+      program = p;
+      more = unmarked more;
+      each_register = each;
+      spells = sym (unmarked_next ms before more tokens)
+          ∙ ap unmarked (sym are) ∙ unmarked_program p;
+    }
 
 -- so are those before a place, and those up to a node of some program
 viable : {before : List Token} {nodes : ℕ} {w : Rest} → Place before nodes w → IsViable before
-viable {w = w} p = let c = completed w (λ ms. p.marks ++ ms) p.ends in viable_marks c.program p.marks c.more c.each_register p.tokens c.are
+viable {w = w} p = let c = completed w (λ ms. p.marks ++ ms) p.ends in
+    viable_marks c.program p.marks c.more c.each_register p.tokens c.are
 
-viable_node : {before : List Token} {t : Token} {depth count : ℕ} → BeginsNode before t depth count → IsViable (before ++ t ∷ [])
+viable_node : {before : List Token} {t : Token} {depth count : ℕ} → BeginsNode before t depth count →
+    IsViable (before ++ t ∷ [])
 viable_node {before} {t} {depth} b =
     let here : Mark = node t depth in
-    viable_marks b.program (b.marks_before ++ here ∷ []) b.marks_after b.each_register (unmarked_next b.marks_before before (here ∷ []) b.tokens_before)
+    viable_marks b.program (b.marks_before ++ here ∷ []) b.marks_after b.each_register
+    (unmarked_next b.marks_before before (here ∷ []) b.tokens_before)
     (b.are ∙ sym (append_assoc b.marks_before (here ∷ []) b.marks_after))
 
 -- at the end of a program the marks are the program's, with its nodes and its spelling
-pub whole_marks : {before : List Token} {nodes : ℕ} {q : ProgramTree} (p : Place before nodes (Nothing q)) → marks q ≡ p.marks
+pub whole_marks : {before : List Token} {nodes : ℕ} {q : ProgramTree} (p : Place before nodes (Nothing q)) →
+    marks q ≡ p.marks
 whole_marks p = p.ends.are ∙ append-nil p.marks
 
-pub whole_nodes : {before : List Token} {nodes : ℕ} {q : ProgramTree} (p : Place before nodes (Nothing q)) → sum_by size (terms q) ≡ nodes
+pub whole_nodes : {before : List Token} {nodes : ℕ} {q : ProgramTree} (p : Place before nodes (Nothing q)) →
+    sum_by size (terms q) ≡ nodes
 whole_nodes {q = q} p = let m = program_matches q in sym m.nodes ∙ ap nodes_at (whole_marks p) ∙ p.nodes_are
 
 pub whole : {before : List Token} {nodes : ℕ} {q : ProgramTree} → Place before nodes (Nothing q) → before ≡ spelling q
 whole {q = q} p = sym p.tokens ∙ ap unmarked (sym (whole_marks p)) ∙ unmarked_program q
 
 -- a node that can come next begins in some program
-begins_node : {before : List Token} {nodes d : ℕ} {w : Term → Rest} {v : Rest} (t : Token) → Place before nodes (AnExpression d w) → following d w t ≡ Some v →
+begins_node : {before : List Token} {nodes d : ℕ} {w : Term → Rest} {v : Rest} (t : Token) →
+    Place before nodes (AnExpression d w) → following d w t ≡ Some v →
     BeginsNode before t (d + 1) nodes
 begins_node {d = d} {w = w} {v = v} t p s =
     let f : List Mark → List Mark = λ ms. p.marks ++ node t (d + 1) ∷ ms in
@@ -355,14 +419,16 @@ abbrev IsOutIf : Option Rest → Token → Type 0
 IsOutIf None t = ⊥
 IsOutIf (Some w) t = IsOut w t
 
-next_out : {before : List Token} {t : Token} {w : Rest} → IsOutOfRange before t → fold after (Some a_program) before ≡ Some w → IsOut w t
+next_out : {before : List Token} {t : Token} {w : Rest} → IsOutOfRange before t →
+    fold after (Some a_program) before ≡ Some w → IsOut w t
 next_out (rounds n h) e = subst (λ o. IsOutIf o (token.Number n)) e h
 next_out (channels i n h) e = subst (λ o. IsOutIf o (token.Number n)) e h
 next_out (registers i c n h) e = subst (λ o. IsOutIf o (token.Number n)) e h
 
 -- a number out of range can come next, and is refused
 out_met : (w : Rest) (n : ℕ) (t : Token) → IsOut w t → meets w n t ≡ Stops kind.HeaderRange
-out_met (ANumber low high w) n (token.Number k) o = elim o [ inl below ↦ grind (arith, nat_tests) | inr above ↦ grind (arith, nat_tests) ]
+out_met (ANumber low high w) n (token.Number k) o =
+    elim o [ inl below ↦ grind (arith, nat_tests) | inr above ↦ grind (arith, nat_tests) ]
 out_met w n t o = absurd o
 
 out_steps : (w : Rest) (t : Token) → IsOut w t → step w t ≡ None → ⊥
@@ -371,14 +437,19 @@ out_steps w t o none = absurd o
 
 -- a number that fails the test is out of range
 outside : (low high n : ℕ) → (nat_le low n && nat_le n high) ≡ false → IsOutside low high n
-outside low high n h = elim (cases_order n low) [ inl e ↦ inr (grind (arith, nat_tests)) | inr (inl less) ↦ inl less | inr (inr more) ↦ inr (grind (arith, nat_tests)) ]
+outside low high n h = elim (cases_order n low) [
+  | inl e ↦ inr (grind (arith, nat_tests))
+  | inr (inl less) ↦ inl less
+  | inr (inr more) ↦ inr (grind (arith, nat_tests))
+]
 
 -- the fault at a token where reading meets this; or none, and the place after it
 abbrev pub Says : List Token → ℕ → Token → Met → Type 0
 Says before count t (Stops k) = Stands before t k
 Says before count t (Goes v) = Place (before ++ t ∷ []) count v
 
-says_limited : {before : List Token} {n : ℕ} (w v : Rest) (t : Token) → Place before n w → step w t ≡ Some v → Says before (counted w n) t (limited w n t v)
+says_limited : {before : List Token} {n : ℕ} (w v : Rest) (t : Token) → Place before n w → step w t ≡ Some v →
+    Says before (counted w n) t (limited w n t v)
 says_limited (Nothing q) v t p s = absurd (cc)
 says_limited (AToken u w) v t p s = next_place t p s p.few (omega arith) tt
 says_limited {before} {n} (AnExpression d w) v t p s =
@@ -390,17 +461,21 @@ says_limited {before} {n} (AnExpression d w) v t p s =
 says_limited {before} {n} (ANumber low high w) v (token.Number k) p s =
     cond_both (nat_le low k && nat_le k high) (Goes v) (Stops kind.HeaderRange) (Says before n (token.Number k))
     (λ both. next_place (token.Number k) p s p.few (omega arith) (grind (arith, nat_tests), grind (arith, nat_tests)))
-    (λ neither. out_of_range (subst (λ ts. IsOutOfRange ts (token.Number k)) (ap unmarked (append-nil p.marks) ∙ p.tokens) (p.ends.1 k (outside low high k neither))))
+    (λ neither. out_of_range
+    (subst (λ ts. IsOutOfRange ts (token.Number k)) (ap unmarked (append-nil p.marks) ∙ p.tokens)
+    (p.ends.1 k (outside low high k neither))))
 says_limited (ANumber low high w) v t p s = absurd (cc)
 
 -- the fault of a token that can't come next
-stands_none : {before : List Token} (t : Token) → (IsOutOfRange before t → ⊥) → (IsViable (before ++ t ∷ []) → ⊥) → Stands before t (fault_of t)
+stands_none : {before : List Token} (t : Token) → (IsOutOfRange before t → ⊥) →
+    (IsViable (before ++ t ∷ []) → ⊥) → Stands before t (fault_of t)
 stands_none token.Unknown r v = unknown refl
 stands_none token.LargeNumber r v = large refl
 stands_none t r v = unexpected (λ e. cc) (λ e. cc) r v
 
 -- what reading meets is the fault that is there
-pub says : {before : List Token} {n : ℕ} (w : Rest) (t : Token) → Place before n w → Says before (counted w n) t (meets w n t)
+pub says : {before : List Token} {n : ℕ} (w : Rest) (t : Token) → Place before n w →
+    Says before (counted w n) t (meets w n t)
 says {before} {n} w t p = checks (step w t) refl
   where
     checks : (o : Option Rest) → step w t ≡ o → Says before (counted w n) t (checked w n t o)
@@ -412,7 +487,8 @@ says {before} {n} w t p = checks (step w t) refl
         let both : None ≡ Some next.rest = sym none ∙ next.steps in cc)
 
 -- a token that can't come next is unexpected
-stops_unexpected : {before : List Token} {t : Token} (n : ℕ) (m : Met) → Says before n t m → t ≢ token.Unknown → t ≢ token.LargeNumber → (IsOutOfRange before t → ⊥) →
+stops_unexpected : {before : List Token} {t : Token} (n : ℕ) (m : Met) → Says before n t m →
+    t ≢ token.Unknown → t ≢ token.LargeNumber → (IsOutOfRange before t → ⊥) →
     (IsViable (before ++ t ∷ []) → ⊥) → m ≡ Stops kind.Unexpected
 stops_unexpected n (Goes w) place u l r v = absurd (v (viable place))
 stops_unexpected n (Stops k) (unknown e) u l r v = absurd (u e)
@@ -427,19 +503,22 @@ limited_deep : (w v : Rest) (n : ℕ) (t : Token) → MAX_DEPTH < depth_next w �
 limited_deep (AnExpression d w) v n t deep = grind (arith, nat_tests, deep)
 limited_deep w v n t deep = absurd (omega (arith, deep))
 
-limited_many : (w v : Rest) (n : ℕ) (t : Token) → 0 < depth_next w → depth_next w ≤ MAX_DEPTH → MAX_NODES ≤ n → limited w n t v ≡ Stops kind.TooManyNodes
+limited_many : (w v : Rest) (n : ℕ) (t : Token) → 0 < depth_next w → depth_next w ≤ MAX_DEPTH →
+    MAX_NODES ≤ n → limited w n t v ≡ Stops kind.TooManyNodes
 limited_many (AnExpression d w) v n t some shallow many = grind (arith, nat_tests, shallow, many)
 limited_many w v n t some shallow many = absurd (omega (arith, some))
 
 -- tokens that are not of the language
-unknown_met : (w : Rest) (n : ℕ) → (meets w n token.Unknown ≡ Stops kind.BadWord) × (meets w n token.LargeNumber ≡ Stops kind.NumberTooLarge)
+unknown_met : (w : Rest) (n : ℕ) →
+    (meets w n token.Unknown ≡ Stops kind.BadWord) × (meets w n token.LargeNumber ≡ Stops kind.NumberTooLarge)
 unknown_met (Nothing p) n = (refl, refl)
 unknown_met (AToken s w) n = (refl, refl)
 unknown_met (AnExpression d w) n = (refl, refl)
 unknown_met (ANumber low high w) n = (refl, refl)
 
 -- and a fault that is there is what reading meets
-pub stands_met : {before : List Token} {n : ℕ} (w : Rest) (t : Token) (k : FaultKind) → Place before n w → Stands before t k → meets w n t ≡ Stops k
+pub stands_met : {before : List Token} {n : ℕ} (w : Rest) (t : Token) (k : FaultKind) → Place before n w →
+    Stands before t k → meets w n t ≡ Stops k
 stands_met {n = n} w t k p s = elim s as (λ k _. meets w n t ≡ Stops k) [
   | unknown e ↦ ap (meets w n) e ∙ (unknown_met w n).0
   | large e ↦ ap (meets w n) e ∙ (unknown_met w n).1
@@ -451,5 +530,6 @@ stands_met {n = n} w t k p s = elim s as (λ k _. meets w n t ≡ Stops k) [
   | too_many depth count shallow many b ↦
       let i = wanted p b in
       ap (checked w n t) i.steps
-      ∙ limited_many w i.rest n t (omega (arith, b.is_node, i.depth_is)) (omega (arith, shallow, i.depth_is)) (omega (arith, many, i.count_is))
+      ∙ limited_many w i.rest n t (omega (arith, b.is_node, i.depth_is)) (omega (arith, shallow, i.depth_is))
+      (omega (arith, many, i.count_is))
 ]

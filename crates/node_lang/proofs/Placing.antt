@@ -12,8 +12,12 @@ use Rattle.node_lang.specs.Lexemes.{Lexeme, Split, blanked, joined, split_of, le
 
 pub length-blanked : (inside : Bool) (text : List ℕ) → length (blanked inside text) ≡ length text
 length-blanked inside [] = refl
-length-blanked true (b ∷ bs) = elim (b == 10) as (λ t. length (cond t (10 ∷ blanked false bs) (32 ∷ blanked true bs)) ≡ suc (length bs)) [ true ↦ ap suc (length-blanked false bs) | false ↦ ap suc (length-blanked true bs) ]
-length-blanked false (b ∷ bs) = elim (b == 35) as (λ t. length (cond t (32 ∷ blanked true bs) (b ∷ blanked false bs)) ≡ suc (length bs)) [ true ↦ ap suc (length-blanked true bs) | false ↦ ap suc (length-blanked false bs) ]
+length-blanked true (b ∷ bs) =
+    elim (b == 10) as (λ t. length (cond t (10 ∷ blanked false bs) (32 ∷ blanked true bs)) ≡ suc (length bs))
+    [ true ↦ ap suc (length-blanked false bs) | false ↦ ap suc (length-blanked true bs) ]
+length-blanked false (b ∷ bs) =
+    elim (b == 35) as (λ t. length (cond t (32 ∷ blanked true bs) (b ∷ blanked false bs)) ≡ suc (length bs))
+    [ true ↦ ap suc (length-blanked true bs) | false ↦ ap suc (length-blanked false bs) ]
 
 -- the lexemes of a text without comments
 abbrev lexemes_in : List ℕ → List Lexeme
@@ -21,7 +25,8 @@ lexemes_in text = joined (length text) (split_of text).word (split_of text).rest
 
 lexemes_of-blanked : (text : List ℕ) → lexemes_of text ≡ lexemes_in (blanked false text)
 unfolding lexemes_of
-lexemes_of-blanked text = ap (λ n. joined n (split_of (blanked false text)).word (split_of (blanked false text)).rest) (sym (length-blanked false text))
+lexemes_of-blanked text = ap (λ n. joined n (split_of (blanked false text)).word (split_of (blanked false text)).rest)
+    (sym (length-blanked false text))
 
 word_no_comment : (b : ℕ) → is_word_byte b ≡ true → (b == 35) ≡ false
 word_no_comment b h = grind (arith, nat_tests)
@@ -36,7 +41,8 @@ blank_in_front b bs h = let alone = blank_alone b h in rw (alone.0, alone.1, h, 
 pub mark_in_front : (b : ℕ) (bs : List ℕ) → is_word_byte b ≡ false → is_blank b ≡ false → (b == 35) ≡ false →
     lexemes_of (b ∷ bs) ≡ record { from = suc (length bs); token = mark_token b } ∷ lexemes_of bs
 unfolding lexemes_of
-mark_in_front b bs no_word no_blank no_comment = rw (no_comment, no_word, no_blank, length-blanked false bs, add-one) refl
+mark_in_front b bs no_word no_blank no_comment =
+    rw (no_comment, no_word, no_blank, length-blanked false bs, add-one) refl
 
 -- a byte that does not end a comment
 abbrev pub in_line : ℕ → Bool
@@ -45,12 +51,15 @@ in_line b = not (b == 10)
 one-add : (n : ℕ) → 1 + n ≡ suc n
 one-add n = omega arith
 
-comment_step : (b : ℕ) (bs : List ℕ) (t : Bool) → (b == 10) ≡ t → lexemes_in (blanked true bs) ≡ lexemes_in (blanked false (drop (prefix_len in_line bs) bs)) →
+comment_step : (b : ℕ) (bs : List ℕ) (t : Bool) → (b == 10) ≡ t →
+    lexemes_in (blanked true bs) ≡ lexemes_in (blanked false (drop (prefix_len in_line bs) bs)) →
     lexemes_in (blanked true (b ∷ bs)) ≡ lexemes_in (blanked false (drop (prefix_len in_line (b ∷ bs)) (b ∷ bs)))
 comment_step b bs true e rest =
-    let P : ℕ → Type 0 = λ c. lexemes_in (blanked true (c ∷ bs)) ≡ lexemes_in (blanked false (drop (prefix_len in_line (c ∷ bs)) (c ∷ bs))) in
+    let P : ℕ → Type 0 = λ c. lexemes_in (blanked true (c ∷ bs))
+    ≡ lexemes_in (blanked false (drop (prefix_len in_line (c ∷ bs)) (c ∷ bs))) in
     subst P (sym (eqb-true b 10 e)) refl
-comment_step b bs false e rest = rw e (rest ∙ ap (λ n. lexemes_in (blanked false (drop n (b ∷ bs)))) (sym (one-add (prefix_len in_line bs))))
+comment_step b bs false e rest =
+    rw e (rest ∙ ap (λ n. lexemes_in (blanked false (drop n (b ∷ bs)))) (sym (one-add (prefix_len in_line bs))))
 
 -- inside a comment the lexemes are those after the end of the line
 in_comment : (bs : List ℕ) → lexemes_in (blanked true bs) ≡ lexemes_in (blanked false (drop (prefix_len in_line bs) bs))
@@ -58,11 +67,13 @@ in_comment [] = refl
 in_comment (b ∷ bs) = comment_step b bs (b == 10) refl (in_comment bs)
 
 comment_in_front : (bs : List ℕ) → lexemes_of (35 ∷ bs) ≡ lexemes_of (drop (prefix_len in_line bs) bs)
-comment_in_front bs = lexemes_of-blanked (35 ∷ bs) ∙ in_comment bs ∙ sym (lexemes_of-blanked (drop (prefix_len in_line bs) bs))
+comment_in_front bs =
+    lexemes_of-blanked (35 ∷ bs) ∙ in_comment bs ∙ sym (lexemes_of-blanked (drop (prefix_len in_line bs) bs))
 
 -- a byte of no word begins no word, inside a comment or outside
 no_word_first : (b : ℕ) (bs : List ℕ) → is_word_byte b ≡ false → (split_of (blanked false (b ∷ bs))).word ≡ []
-no_word_first b bs h = cond_both (b == 35) (32 ∷ blanked true bs) (b ∷ blanked false bs) (λ t. (split_of t).word ≡ []) (λ _. refl)
+no_word_first b bs h =
+    cond_both (b == 35) (32 ∷ blanked true bs) (b ∷ blanked false bs) (λ t. (split_of t).word ≡ []) (λ _. refl)
     (λ _. rw h (cond_both (is_blank b) _ _ (λ (s : Split). s.word ≡ []) (λ _. refl) (λ _. refl)))
 
 -- the text after its first word
@@ -72,19 +83,27 @@ pub record SplitsWord (text : List ℕ) (n : ℕ) : Type 0 where
 
 splits_byte : (b : ℕ) (bs : List ℕ) (n : ℕ) → is_word_byte b ≡ true → SplitsWord bs n → SplitsWord (b ∷ bs) (suc n)
 splits_byte b bs n h after =
-    record { word = rw (word_no_comment b h, h) (ap (λ w. b ∷ w) after.word); rest = rw (word_no_comment b h, h) after.rest }
+    record {
+      word = rw (word_no_comment b h, h) (ap (λ w. b ∷ w) after.word);
+      rest = rw (word_no_comment b h, h) after.rest;
+    }
 
 splits_no_byte : (b : ℕ) (bs : List ℕ) → is_word_byte b ≡ false → SplitsWord (b ∷ bs) 0
 splits_no_byte b bs h =
     let empty = no_word_first b bs h in
-    record { word = empty; rest = sym (lexemes_of-blanked (b ∷ bs) ∙ ap (λ w. joined (length (blanked false (b ∷ bs))) w (split_of (blanked false (b ∷ bs))).rest) empty) }
+    record {
+      word = empty;
+      rest = sym (lexemes_of-blanked (b ∷ bs)
+          ∙ ap (λ w. joined (length (blanked false (b ∷ bs))) w (split_of (blanked false (b ∷ bs))).rest) empty);
+    }
 
 splits_word : (text : List ℕ) → SplitsWord text (prefix_len is_word_byte text)
 splits_word [] = record { word = refl; rest = sym (lexemes_of-blanked []) }
 splits_word (b ∷ bs) = cond_both (is_word_byte b) (1 + prefix_len is_word_byte bs) 0 (SplitsWord (b ∷ bs))
     (λ e. rw one-add (splits_byte b bs (prefix_len is_word_byte bs) e (splits_word bs))) (λ e. splits_no_byte b bs e)
 
-joined_word : (count : ℕ) (word : List ℕ) (rest : List Lexeme) → 0 < length word → joined count word rest ≡ record { from = count; token = word_token word } ∷ rest
+joined_word : (count : ℕ) (word : List ℕ) (rest : List Lexeme) → 0 < length word →
+    joined count word rest ≡ record { from = count; token = word_token word } ∷ rest
 joined_word count [] rest h = absurd (omega arith)
 joined_word count (b ∷ bs) rest h = refl
 
@@ -97,28 +116,35 @@ word_token_first text n e h =
     let size = length-prefix_len is_word_byte text in
     ap (λ w. joined (length text) w (split_of (blanked false text)).rest) (split.word ∙ ap (λ k. take k text) (sym e))
     ∙ joined_word (length text) (take n text) _ (rw (e, size) (rw (← e) h))
-    ∙ ap (λ ls. record { from = length text; token = word_token (take n text) } ∷ ls) (split.rest ∙ ap (λ k. lexemes_of (drop k text)) (sym e))
+    ∙ ap (λ ls. record { from = length text; token = word_token (take n text) } ∷ ls)
+    (split.rest ∙ ap (λ k. lexemes_of (drop k text)) (sym e))
 
 stops : (t : Bool) (n : ℕ) → 0 ≡ cond t (1 + n) 0 → t ≡ false
 stops true n e = absurd (omega arith)
 stops false n e = refl
 
 -- a text that begins with a mark
-pub mark_token_first : (text : List ℕ) → 0 < length text → 0 ≡ prefix_len is_word_byte text → is_blank (get_or text 0 0) ≡ false → (get_or text 0 0 ≡ 35 → ⊥) →
+pub mark_token_first : (text : List ℕ) → 0 < length text → 0 ≡ prefix_len is_word_byte text →
+    is_blank (get_or text 0 0) ≡ false → (get_or text 0 0 ≡ 35 → ⊥) →
     lexemes_of text ≡ record { from = length text; token = mark_token (get_or text 0 0) } ∷ lexemes_of (drop 1 text)
 mark_token_first [] h e no_blank no_comment = absurd (omega arith)
-mark_token_first (b ∷ bs) h e no_blank no_comment = mark_in_front b bs (stops (is_word_byte b) _ e) no_blank (ne_eqb b 35 no_comment)
+mark_token_first (b ∷ bs) h e no_blank no_comment =
+    mark_in_front b bs (stops (is_word_byte b) _ e) no_blank (ne_eqb b 35 no_comment)
 
 -- at a blank, the lexemes are those after it
-pub after_blank : (text : List ℕ) (i : ℕ) → i < length text → is_blank (get_or text i 0) ≡ true → lexemes_of (drop (i + 1) text) ≡ lexemes_of (drop i text)
-after_blank text i h blank = rw (add-one, drop-cons text i 0) (sym (blank_in_front (get_or text i 0) (drop (suc i) text) blank))
+pub after_blank : (text : List ℕ) (i : ℕ) → i < length text → is_blank (get_or text i 0) ≡ true →
+    lexemes_of (drop (i + 1) text) ≡ lexemes_of (drop i text)
+after_blank text i h blank =
+    rw (add-one, drop-cons text i 0) (sym (blank_in_front (get_or text i 0) (drop (suc i) text) blank))
 
 -- at a comment, the lexemes are those after the line
-pub after_comment : (text : List ℕ) (i n : ℕ) → i < length text → get_or text i 0 ≡ 35 → n ≡ prefix_len in_line (drop (i + 1) text) →
+pub after_comment : (text : List ℕ) (i n : ℕ) → i < length text → get_or text i 0 ≡ 35 →
+    n ≡ prefix_len in_line (drop (i + 1) text) →
     lexemes_of (drop (i + (1 + n)) text) ≡ lexemes_of (drop i text)
 after_comment text i n h comment e =
     let place : i + (1 + n) ≡ (i + 1) + n = omega arith in
-    let front : drop i text ≡ 35 ∷ drop (i + 1) text = drop-cons text i 0 h ∙ (λ k. comment k ∷ drop (sym (add-one i) k) text) in
+    let front : drop i text ≡ 35 ∷ drop (i + 1) text = drop-cons text i 0 h
+    ∙ (λ k. comment k ∷ drop (sym (add-one i) k) text) in
     ap (λ k. lexemes_of (drop k text)) place
     ∙ ap lexemes_of (sym (drop-drop n (i + 1) text))
     ∙ ap (λ k. lexemes_of (drop k (drop (i + 1) text))) e
@@ -126,18 +152,24 @@ after_comment text i n h comment e =
     ∙ ap lexemes_of (sym front)
 
 -- blanks and comments alone have no lexemes
-pub all_skipped : (text : List ℕ) (n : ℕ) → n ≡ length text → lexemes_of (drop n text) ≡ lexemes_of text → lexemes_of text ≡ []
-all_skipped text n e same = sym same ∙ ap lexemes_of (ap (λ k. drop k text) e ∙ drop-length text) ∙ lexemes_of-blanked []
+pub all_skipped : (text : List ℕ) (n : ℕ) → n ≡ length text → lexemes_of (drop n text) ≡ lexemes_of text →
+    lexemes_of text ≡ []
+all_skipped text n e same =
+    sym same ∙ ap lexemes_of (ap (λ k. drop k text) e ∙ drop-length text) ∙ lexemes_of-blanked []
 
 -- the lexemes from a place on, from those of a slice in the code
 pub placed_after : (text : List ℕ) (at start end : ℕ) (t : Token) → at ≤ length text → start < end →
-    lexemes_of (take (length text - at) (drop at text)) ≡ record { from = length (take (length text - at) (drop at text)) - start; token = t } ∷ lexemes_of (drop end (take (length text - at) (drop at text))) →
-    lexemes_of (drop at text) ≡ record { from = length text - (at + start); token = t } ∷ lexemes_of (drop (at + end) text)
+    lexemes_of (take (length text - at) (drop at text))
+    ≡ record { from = length (take (length text - at) (drop at text)) - start; token = t }
+    ∷ lexemes_of (drop end (take (length text - at) (drop at text))) →
+    lexemes_of (drop at text) ≡ record { from = length text - (at + start); token = t }
+    ∷ lexemes_of (drop (at + end) text)
 placed_after text at start end t h order e =
     let size : length (drop at text) - start ≡ length text - (at + start) = omega (arith, length-drop at text) in
     let first = ap (λ xs. length xs - start) (take_rest text at) ∙ size in
     let others = ap (λ xs. lexemes_of (drop end xs)) (take_rest text at) ∙ ap lexemes_of (drop-drop end at text) in
     sym (ap lexemes_of (take_rest text at)) ∙ e ∙ (λ k. record { from = first k; token = t } ∷ others k)
 
-pub none_after : (text : List ℕ) (at : ℕ) → lexemes_of (take (length text - at) (drop at text)) ≡ [] → lexemes_of (drop at text) ≡ []
+pub none_after : (text : List ℕ) (at : ℕ) → lexemes_of (take (length text - at) (drop at text)) ≡ [] →
+    lexemes_of (drop at text) ≡ []
 none_after text at e = sym (ap lexemes_of (take_rest text at)) ∙ e

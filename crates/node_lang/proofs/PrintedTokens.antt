@@ -30,7 +30,8 @@ use Rattle.node_lang.proofs.Placing.{blank_in_front, mark_in_front, word_token_f
 abbrev pub EndsWord : List ℕ → Type 0
 EndsWord rest = prefix_len is_word_byte rest ≡ 0
 
-letters_in_front : (word rest : List ℕ) → list_all is_word_byte word ≡ true → EndsWord rest → prefix_len is_word_byte (word ++ rest) ≡ length word
+letters_in_front : (word rest : List ℕ) → list_all is_word_byte word ≡ true → EndsWord rest →
+    prefix_len is_word_byte (word ++ rest) ≡ length word
 letters_in_front [] rest h ends = ends
 letters_in_front (b ∷ bs) rest h ends =
     let parts = and_parts (is_word_byte b) (list_all is_word_byte bs) h in
@@ -43,11 +44,13 @@ pub record IsWord (word : List ℕ) (t : Token) : Type 0 where
   pub some : 0 < length word
   pub token : word_token word ≡ t
 
-pub word_first : (word rest : List ℕ) (t : Token) → IsWord word t → EndsWord rest → tokens_of (word ++ rest) ≡ t ∷ tokens_of rest
+pub word_first : (word rest : List ℕ) (t : Token) → IsWord word t → EndsWord rest →
+    tokens_of (word ++ rest) ≡ t ∷ tokens_of rest
 word_first word rest t is ends =
     let front = take-append_seam word rest in
     let after = drop-append_seam word rest in
-    ap tokens_in (word_token_first (word ++ rest) (length word) (sym (letters_in_front word rest is.letters ends)) is.some)
+    ap tokens_in (word_token_first (word ++ rest) (length word)
+    (sym (letters_in_front word rest is.letters ends)) is.some)
     ∙ (λ i. word_token (front i) ∷ tokens_of (after i))
     ∙ ap (λ t. t ∷ tokens_of rest) is.token
 
@@ -56,7 +59,9 @@ digit_is_letter b h = grind (arith, nat_tests)
 
 digits_are_letters : (ds : List ℕ) → list_all is_digit ds ≡ true → list_all is_word_byte ds ≡ true
 digits_are_letters ds h =
-    list_all-from_AllPass is_word_byte ds (All-weaker (λ b. is_digit b ≡ true) (λ b. is_word_byte b ≡ true) digit_is_letter ds (AllPass-from_list_all is_digit ds h))
+    list_all-from_AllPass is_word_byte ds
+    (All-weaker (λ b. is_digit b ≡ true) (λ b. is_word_byte b ≡ true) digit_is_letter ds
+    (AllPass-from_list_all is_digit ds h))
 
 -- the standard library's model of digits and their value
 numeral : IsNumeralModel (λ ds. list_all is_digit ds ≡ true) (read_on 0)
@@ -78,12 +83,17 @@ unfolding word_token
 register_word d j e small =
     let digit : is_digit d ≡ true = grind (arith, nat_tests) in
     let value : d - 48 ≡ j = omega arith in
-    record { letters = and_from (is_word_byte d) true (digit_is_letter d digit) refl; some = omega arith; token = rw digit (ap token.Register value) }
+    record {
+      letters = and_from (is_word_byte d) true (digit_is_letter d digit) refl;
+      some = omega arith;
+      token = rw digit (ap token.Register value);
+    }
 
 pub register_is_word : (j : ℕ) → j < 10 → IsWord (114 ∷ decimal j) (token.Register j)
 register_is_word j small = rw (decimal_digit j small) (register_word (48 + j) j refl small)
 
-known : (word : List ℕ) (t : Token) → list_all is_word_byte word ≡ true → nat_lt 0 (length word) ≡ true → word_token word ≡ t → IsWord word t
+known : (word : List ℕ) (t : Token) → list_all is_word_byte word ≡ true → nat_lt 0 (length word) ≡ true →
+    word_token word ≡ t → IsWord word t
 known word t letters some is = record { letters = letters; some = ltb-true 0 (length word) some; token = is }
 
 -- names of operations have at most six letters, so that with marks and a blank they have ten bytes
@@ -119,7 +129,8 @@ glue : {xs ys : List ℕ} {m n : ℕ} {f g : List Token → List Token} {a b : B
 glue {xs} {ys} {f = f} x y follows = record {
   ascii = All-append (λ b. b < 128) xs ys x.ascii y.ascii;
   short = omega (arith, length-append xs ys, x.short, y.short);
-  reads = λ rest h. ap tokens_of (append_assoc xs ys rest) ∙ x.reads (ys ++ rest) (follows rest h) ∙ ap f (y.reads rest h);
+  reads = λ rest h. ap tokens_of (append_assoc xs ys rest) ∙ x.reads (ys ++ rest) (follows rest h)
+      ∙ ap f (y.reads rest h);
 }
 
 -- with more room, or before a text that continues no word
@@ -131,15 +142,22 @@ ended x le = record { ascii = x.ascii; short = omega (arith, x.short, le); reads
 
 -- letters and digits are ASCII
 letters_are_ascii : (word : List ℕ) → list_all is_word_byte word ≡ true → All (λ b. b < 128) word
-letters_are_ascii word h = All-weaker (λ b. is_word_byte b ≡ true) (λ b. b < 128) (λ b p. grind (arith, nat_tests)) word (AllPass-from_list_all is_word_byte word h)
+letters_are_ascii word h = All-weaker (λ b. is_word_byte b ≡ true) (λ b. b < 128) (λ b p. grind (arith, nat_tests))
+    word (AllPass-from_list_all is_word_byte word h)
 
 -- words, numbers, registers, blanks and marks
-a_word : {word : List ℕ} {t : Token} (most : ℕ) → IsWord word t → length word ≤ most → Writes true word most (λ ts. t ∷ ts)
+a_word : {word : List ℕ} {t : Token} (most : ℕ) → IsWord word t → length word ≤ most →
+    Writes true word most (λ ts. t ∷ ts)
 a_word {word} {t} most is short =
-    record { ascii = letters_are_ascii word is.letters; short = short; reads = λ rest ends. word_first word rest t is ends }
+    record {
+      ascii = letters_are_ascii word is.letters;
+      short = short;
+      reads = λ rest ends. word_first word rest t is ends;
+    }
 
 a_number : (n : ℕ) → n < 2 ^ 32 → Writes true (decimal n) 10 (λ ts. token.Number n ∷ ts)
-a_number n small = a_word 10 (number_is_word n small) (length-decimal-le 10 n (omega arith) (omega (arith, small)) (omega (arith, small)))
+a_number n small = a_word 10 (number_is_word n small)
+    (length-decimal-le 10 n (omega arith) (omega (arith, small)) (omega (arith, small)))
 
 a_register : (j : ℕ) → j < 10 → Writes true (114 ∷ decimal j) 2 (λ ts. token.Register j ∷ ts)
 a_register j small =
@@ -147,11 +165,20 @@ a_register j small =
     a_word 2 (register_is_word j small) (omega (arith, short))
 
 a_blank : (b : ℕ) → is_blank b ≡ true → b < 128 → Writes false (b ∷ []) 1 (λ ts. ts)
-a_blank b is low = record { ascii = All-cons (λ b. b < 128) b [] low (All-nil (λ b. b < 128)); short = omega arith; reads = λ rest _. ap tokens_in (blank_in_front b rest is) }
+a_blank b is low = record {
+  ascii = All-cons (λ b. b < 128) b [] low (All-nil (λ b. b < 128));
+  short = omega arith;
+  reads = λ rest _. ap tokens_in (blank_in_front b rest is);
+}
 
-a_mark : (b : ℕ) → is_word_byte b ≡ false → is_blank b ≡ false → (b == 35) ≡ false → b < 128 → Writes false (b ∷ []) 1 (λ ts. mark_token b ∷ ts)
+a_mark : (b : ℕ) → is_word_byte b ≡ false → is_blank b ≡ false → (b == 35) ≡ false → b < 128 →
+    Writes false (b ∷ []) 1 (λ ts. mark_token b ∷ ts)
 a_mark b word blank comment low =
-    record { ascii = All-cons (λ b. b < 128) b [] low (All-nil (λ b. b < 128)); short = omega arith; reads = λ rest _. ap tokens_in (mark_in_front b rest word blank comment) }
+    record {
+      ascii = All-cons (λ b. b < 128) b [] low (All-nil (λ b. b < 128));
+      short = omega arith;
+      reads = λ rest _. ap tokens_in (mark_in_front b rest word blank comment);
+    }
 
 -- the fixed texts
 space : Writes false (codes " ") 1 (λ ts. ts)
@@ -173,7 +200,8 @@ equals : Writes false (codes " = ") 3 (λ ts. token.Equals ∷ ts)
 equals = glue space (glue (a_mark 61 refl refl refl (omega arith)) space (λ _ _. tt)) (λ _ _. tt)
 
 -- at most ten bytes for each node
-an_expression : (e : Term) → largest e < 2 ^ 32 → largest_register e < 10 → Writes true (printed_expression e) (10 * size e) (spelled e)
+an_expression : (e : Term) → largest e < 2 ^ 32 → largest_register e < 10 →
+    Writes true (printed_expression e) (10 * size e) (spelled e)
 an_expression (Literal n) number register = a_number n number
 an_expression Identifier number register = a_word 10 (keyword token.Id refl) (omega arith)
 an_expression LeftMessage number register = a_word 10 (keyword token.FromLeft refl) (omega arith)
@@ -181,54 +209,72 @@ an_expression RightMessage number register = a_word 10 (keyword token.FromRight 
 an_expression (RegisterValue j) number register = roomy (a_register j register) (omega arith)
 an_expression (One o a) number register =
     let word = unary_word o in
-    ended (glue (a_word 6 word.0 word.1) (glue opened (glue (an_expression a number register) closed (λ _ _. refl)) (λ _ _. tt)) (λ _ _. refl)) (omega arith)
+    ended (glue (a_word 6 word.0 word.1)
+    (glue opened (glue (an_expression a number register) closed (λ _ _. refl)) (λ _ _. tt)) (λ _ _. refl))
+    (omega arith)
 an_expression (Two o a b) number register =
     let word = binary_word o in
     let first = an_expression a (omega (arith, number)) (omega (arith, register)) in
     let second = an_expression b (omega (arith, number)) (omega (arith, register)) in
-    ended (glue (a_word 6 word.0 word.1) (glue opened (glue first (glue comma (glue second closed (λ _ _. refl)) (λ _ _. tt)) (λ _ _. refl)) (λ _ _. tt)) (λ _ _. refl)) (omega arith)
+    ended (glue (a_word 6 word.0 word.1)
+    (glue opened (glue first (glue comma (glue second closed (λ _ _. refl)) (λ _ _. tt)) (λ _ _. refl))
+    (λ _ _. tt)) (λ _ _. refl)) (omega arith)
 an_expression (Choose c a b) number register =
     let first = an_expression c (omega (arith, number)) (omega (arith, register)) in
     let second = an_expression a (omega (arith, number)) (omega (arith, register)) in
     let third = an_expression b (omega (arith, number)) (omega (arith, register)) in
     ended (glue (a_word 2 (keyword token.If refl) (omega arith)) (glue opened (glue first (glue comma
-    (glue second (glue comma (glue third closed (λ _ _. refl)) (λ _ _. tt)) (λ _ _. refl)) (λ _ _. tt)) (λ _ _. refl)) (λ _ _. tt)) (λ _ _. refl)) (omega arith)
+    (glue second (glue comma (glue third closed (λ _ _. refl)) (λ _ _. tt)) (λ _ _. refl)) (λ _ _. tt))
+    (λ _ _. refl)) (λ _ _. tt)) (λ _ _. refl)) (omega arith)
 
 -- up to the end of the line
 a_line : (e : Term) → IsSmall e → Writes false (printed_expression e ++ codes "\n") (10 * size e + 1) (spelled e)
 a_line e small = glue (an_expression e small.numbers small.registers) new_line (λ _ _. refl)
 
-an_assignment : (j : ℕ) (e : Term) → j < 10 → IsSmall e → Writes false (assignment_line j e) (10 * size e + 6) (λ ts. token.Register j ∷ token.Equals ∷ spelled e ts)
-an_assignment j e digit small = roomy (glue (a_register j digit) (glue equals (a_line e small) (λ _ _. tt)) (λ _ _. refl)) (omega arith)
+an_assignment : (j : ℕ) (e : Term) → j < 10 → IsSmall e →
+    Writes false (assignment_line j e) (10 * size e + 6) (λ ts. token.Register j ∷ token.Equals ∷ spelled e ts)
+an_assignment j e digit small =
+    roomy (glue (a_register j digit) (glue equals (a_line e small) (λ _ _. tt)) (λ _ _. refl)) (omega arith)
 
-assignments : (es : List Term) (j : ℕ) → j + length es ≤ 10 → All IsSmall es → Writes false (assignment_lines j es) (10 * sum_by size es + 6 * length es) (assigned j es)
+assignments : (es : List Term) (j : ℕ) → j + length es ≤ 10 → All IsSmall es →
+    Writes false (assignment_lines j es) (10 * sum_by size es + 6 * length es) (assigned j es)
 assignments [] j few small = record { ascii = All-nil (λ b. b < 128); short = omega arith; reads = λ rest _. refl }
 assignments (e ∷ es) j few small =
-    roomy (glue (an_assignment j e (omega (arith, few)) (All-head IsSmall e es small)) (assignments es (j + 1) (omega (arith, few)) (All-tail IsSmall e es small)) (λ _ _. tt))
+    roomy (glue (an_assignment j e (omega (arith, few)) (All-head IsSmall e es small))
+    (assignments es (j + 1) (omega (arith, few)) (All-tail IsSmall e es small)) (λ _ _. tt))
     (omega (arith, sum_by-cons size e es))
 
 -- a word and the blank or line end after it
-spaced : (t : Token) → nat_lt 0 (length (word_of t)) ≡ true → Writes false (word_of t ++ codes " ") (length (word_of t) + 1) (λ ts. t ∷ ts)
+spaced : (t : Token) → nat_lt 0 (length (word_of t)) ≡ true →
+    Writes false (word_of t ++ codes " ") (length (word_of t) + 1) (λ ts. t ∷ ts)
 spaced t some = glue (a_word (length (word_of t)) (keyword t some) (omega arith)) space (λ _ _. refl)
 
-lined : (t : Token) → nat_lt 0 (length (word_of t)) ≡ true → Writes false (word_of t ++ codes "\n") (length (word_of t) + 1) (λ ts. t ∷ ts)
+lined : (t : Token) → nat_lt 0 (length (word_of t)) ≡ true →
+    Writes false (word_of t ++ codes "\n") (length (word_of t) + 1) (λ ts. t ∷ ts)
 lined t some = glue (a_word (length (word_of t)) (keyword t some) (omega arith)) new_line (λ _ _. refl)
 
-a_send : {side : List ℕ} {t : Token} (e : Term) → Writes true side 5 (λ ts. t ∷ ts) → IsSmall e → Writes false (send_line side e) (10 * size e + 12) (λ ts. token.Send ∷ t ∷ spelled e ts)
+a_send : {side : List ℕ} {t : Token} (e : Term) → Writes true side 5 (λ ts. t ∷ ts) → IsSmall e →
+    Writes false (send_line side e) (10 * size e + 12) (λ ts. token.Send ∷ t ∷ spelled e ts)
 a_send e side small =
-    roomy (glue (spaced token.Send refl) (glue side (glue space (a_line e small) (λ _ _. tt)) (λ _ _. refl)) (λ _ _. tt)) (omega arith)
+    roomy (glue (spaced token.Send refl) (glue side (glue space (a_line e small) (λ _ _. tt)) (λ _ _. refl))
+    (λ _ _. tt)) (omega arith)
 
 -- at most ten bytes for each node, and 90 more
-a_round : (s : Round) → length s.next ≤ 10 → All IsSmall (terms_of_step s) → Writes false (round_lines s) (10 * sum_by size (terms_of_step s) + 90) (block s)
+a_round : (s : Round) → length s.next ≤ 10 → All IsSmall (terms_of_step s) →
+    Writes false (round_lines s) (10 * sum_by size (terms_of_step s) + 90) (block s)
 a_round s few small =
     let small_rest = All-tail IsSmall s.left (s.right ∷ s.next) small in
-    let left = a_send s.left (a_word 5 (keyword token.Left refl) (omega arith)) (All-head IsSmall s.left (s.right ∷ s.next) small) in
-    let right = a_send s.right (a_word 5 (keyword token.Right refl) (omega arith)) (All-head IsSmall s.right s.next small_rest) in
+    let left = a_send s.left (a_word 5 (keyword token.Left refl) (omega arith))
+    (All-head IsSmall s.left (s.right ∷ s.next) small) in
+    let right = a_send s.right (a_word 5 (keyword token.Right refl) (omega arith))
+    (All-head IsSmall s.right s.next small_rest) in
     let next = assignments s.next 0 (omega (arith, few)) (All-tail IsSmall s.right s.next small_rest) in
-    roomy (glue (lined token.Round refl) (glue left (glue right next (λ _ _. tt)) (λ _ _. tt)) (λ _ _. tt)) (omega (arith, few, sum_by-cons size s.left (s.right ∷ s.next), sum_by-cons size s.right s.next))
+    roomy (glue (lined token.Round refl) (glue left (glue right next (λ _ _. tt)) (λ _ _. tt)) (λ _ _. tt))
+    (omega (arith, few, sum_by-cons size s.left (s.right ∷ s.next), sum_by-cons size s.right s.next))
 
 all_left : (xs ys : List Term) → All IsSmall (xs ++ ys) → All IsSmall xs
-all_left xs ys h = λ i d below. rw (get_or-append xs ys d i below) at (h i d (omega (arith, below, length-append xs ys)))
+all_left xs ys h =
+    λ i d below. rw (get_or-append xs ys d i below) at (h i d (omega (arith, below, length-append xs ys)))
 
 all_right : (xs ys : List Term) → All IsSmall (xs ++ ys) → All IsSmall ys
 all_right [] ys h = h
@@ -238,7 +284,8 @@ all_right (x ∷ xs) ys h = all_right xs ys (All-tail IsSmall x (xs ++ ys) h)
 abbrev HasFew : Round → Type 0
 HasFew s = length s.next ≤ 10
 
-some_rounds : (ss : List Round) → All HasFew ss → All IsSmall (step_terms ss) → Writes false (flat_map round_lines ss) (10 * sum_by size (step_terms ss) + 90 * length ss) (blocks ss)
+some_rounds : (ss : List Round) → All HasFew ss → All IsSmall (step_terms ss) →
+    Writes false (flat_map round_lines ss) (10 * sum_by size (step_terms ss) + 90 * length ss) (blocks ss)
 some_rounds [] few small = record { ascii = All-nil (λ b. b < 128); short = omega arith; reads = λ rest _. refl }
 some_rounds (s ∷ ss) few small =
     let one = a_round s (All-head HasFew s ss few) (all_left (terms_of_step s) (step_terms ss) small) in
@@ -257,18 +304,24 @@ header_tokens p ts = token.Rounds ∷ token.Number (length p.steps) ∷ token.Ch
 a_header : (p : ProgramTree) → IsWithinLimits p → Writes false (header_lines p) 70 (header_tokens p)
 a_header p limits =
     let registers = a_count (length p.start) (omega (arith, limits.few_registers)) (lined token.Start refl) in
-    let channels = a_count p.channels (omega (arith, limits.few_channels)) (glue (spaced token.Registers refl) registers (λ _ _. tt)) in
-    let rounds = a_count (length p.steps) (omega (arith, limits.rounds)) (glue (spaced token.Channels refl) channels (λ _ _. tt)) in
+    let channels = a_count p.channels (omega (arith, limits.few_channels))
+    (glue (spaced token.Registers refl) registers (λ _ _. tt)) in
+    let rounds = a_count (length p.steps) (omega (arith, limits.rounds))
+    (glue (spaced token.Channels refl) channels (λ _ _. tt)) in
     roomy (glue (spaced token.Rounds refl) rounds (λ _ _. tt)) (omega arith)
 
 a_program : (p : ProgramTree) → IsWithinLimits p → Writes false (printed p) 65535
     (λ ts. header_tokens p (assigned 0 p.start (blocks p.steps (token.Finish ∷ spelled p.finish ts))))
 a_program p limits =
     let after_start = all_right p.start (step_terms p.steps ++ p.finish ∷ []) limits.small in
-    let start = assignments p.start 0 (omega (arith, limits.few_registers)) (all_left p.start (step_terms p.steps ++ p.finish ∷ []) limits.small) in
+    let start = assignments p.start 0 (omega (arith, limits.few_registers))
+    (all_left p.start (step_terms p.steps ++ p.finish ∷ []) limits.small) in
     let few : All HasFew p.steps = λ i d h. omega (arith, limits.each_register i d h, limits.few_registers) in
     let steps = some_rounds p.steps few (all_left (step_terms p.steps) (p.finish ∷ []) after_start) in
-    let finish = glue (spaced token.Finish refl) (a_line p.finish (All-head IsSmall p.finish [] (all_right (step_terms p.steps) (p.finish ∷ []) after_start))) (λ _ _. tt) in
+    let finish =
+    glue (spaced token.Finish refl)
+    (a_line p.finish (All-head IsSmall p.finish []
+    (all_right (step_terms p.steps) (p.finish ∷ []) after_start))) (λ _ _. tt) in
     let sizes = sum_by-append size p.start (step_terms p.steps ++ p.finish ∷ []) in
     let others = sum_by-append size (step_terms p.steps) (p.finish ∷ []) in
     roomy (glue (a_header p limits) (glue start (glue steps finish (λ _ _. tt)) (λ _ _. tt)) (λ _ _. tt))

@@ -37,9 +37,11 @@ following d w token.FromLeft = Some (w LeftMessage)
 following d w token.FromRight = Some (w RightMessage)
 following d w (token.Register j) = Some (w (RegisterValue j))
 following d w (token.One o) = Some (an_operand token.Open d (λ a. closed (w (One o a))))
-following d w (token.Two o) = Some (an_operand token.Open d (λ a. an_operand token.Comma d (λ b. closed (w (Two o a b)))))
+following d w (token.Two o) =
+    Some (an_operand token.Open d (λ a. an_operand token.Comma d (λ b. closed (w (Two o a b)))))
 following d w token.If =
-    Some (an_operand token.Open d (λ c. an_operand token.Comma d (λ a. an_operand token.Comma d (λ b. closed (w (Choose c a b))))))
+    Some (an_operand token.Open d
+    (λ c. an_operand token.Comma d (λ a. an_operand token.Comma d (λ b. closed (w (Choose c a b))))))
 following d w _ = None
 
 -- the rest after a token, if it can come next
@@ -68,8 +70,10 @@ pub data Met : Type 0 where
 -- a token that can come next, checked against the limits
 abbrev pub limited : Rest → ℕ → Token → Rest → Met
 limited (AnExpression d w) nodes t v =
-    if (MAX_DEPTH - d) == 0 then Stops kind.TooDeep else if nat_le MAX_NODES nodes then Stops kind.TooManyNodes else Goes v
-limited (ANumber low high w) nodes (token.Number n) v = if nat_le low n && nat_le n high then Goes v else Stops kind.HeaderRange
+    if (MAX_DEPTH - d) == 0 then Stops kind.TooDeep else if nat_le MAX_NODES nodes then Stops
+    kind.TooManyNodes else Goes v
+limited (ANumber low high w) nodes (token.Number n) v =
+    if nat_le low n && nat_le n high then Goes v else Stops kind.HeaderRange
 limited w nodes t v = Goes v
 
 -- a token that may come next or not
@@ -97,12 +101,15 @@ some_rounds (suc count) registers w = AToken token.Round (AToken token.Send (ATo
 -- the rest after the header
 abbrev pub a_body : ℕ → ℕ → ℕ → Rest
 a_body rounds channels registers = assignments registers 0 (λ start. some_rounds rounds registers (λ steps.
-    AToken token.Finish (AnExpression 0 (λ finish. Nothing (record { channels = channels; start = start; steps = steps; finish = finish })))))
+    AToken token.Finish (AnExpression 0
+    (λ finish. Nothing (record { channels = channels; start = start; steps = steps; finish = finish })))))
 
 -- a whole program
 abbrev pub a_program : Rest
-a_program = AToken token.Rounds (ANumber 0 MAX_ROUNDS (λ rounds. AToken token.Channels (ANumber 1 MAX_CHANNELS (λ channels.
-    AToken token.Registers (ANumber 1 MAX_REGISTERS (λ registers. AToken token.Start (a_body rounds channels registers)))))))
+a_program =
+    AToken token.Rounds (ANumber 0 MAX_ROUNDS (λ rounds. AToken token.Channels (ANumber 1 MAX_CHANNELS (λ channels.
+    AToken token.Registers (ANumber 1 MAX_REGISTERS
+    (λ registers. AToken token.Start (a_body rounds channels registers)))))))
 
 -- reads the rest
 abbrev pub read : Rest → Reader ProgramTree
@@ -117,7 +124,8 @@ went nodes from ls (Stops k) = Fault k from
 went nodes from ls (Goes v) = read v nodes ls
 
 -- readers that go on alike
-go_on_same : {A B : Type 0} (r : Read A) (f g : A → ℕ → List Lexeme → Read B) → ((a : A) (n : ℕ) (ls : List Lexeme) → f a n ls ≡ g a n ls) → go_on r f ≡ go_on r g
+go_on_same : {A B : Type 0} (r : Read A) (f g : A → ℕ → List Lexeme → Read B) →
+    ((a : A) (n : ℕ) (ls : List Lexeme) → f a n ls ≡ g a n ls) → go_on r f ≡ go_on r g
 go_on_same (Got a n ls) f g h = h a n ls
 go_on_same (Fault k from) f g h = refl
 
@@ -125,14 +133,17 @@ go_on_same (Fault k from) f g h = refl
 abbrev matched : Bool → Lexeme → Reader (Unit {0})
 matched b l = if b then done tt else refuse kind.Unexpected l
 
-wanted_next : (s : Token) (w : Rest) (n from : ℕ) (t : Token) (ls : List Lexeme) (b : Bool) → kind.Unexpected ≡ fault_of t →
-    go_on (matched b (record { from = from; token = t }) n ls) (λ _. read w) ≡ went n from ls (checked (AToken s w) n t (if b then Some w else None))
+wanted_next : (s : Token) (w : Rest) (n from : ℕ) (t : Token) (ls : List Lexeme) (b : Bool) →
+    kind.Unexpected ≡ fault_of t →
+    go_on (matched b (record { from = from; token = t }) n ls) (λ _. read w)
+    ≡ went n from ls (checked (AToken s w) n t (if b then Some w else None))
 wanted_next s w n from t ls true known = refl
 wanted_next s w n from t ls false known = ap (λ k. Fault k from) known
 
 -- an expected number
 number_next : (w : ℕ → Rest) (n from k : ℕ) (ls : List Lexeme) (b : Bool) →
-    go_on ((if b then done k else refuse kind.HeaderRange (record { from = from; token = token.Number k })) n ls) (λ k. read (w k))
+    go_on ((if b then done k else refuse kind.HeaderRange (record { from = from; token = token.Number k })) n ls)
+    (λ k. read (w k))
     ≡ went n from ls (if b then Goes (w k) else Stops kind.HeaderRange)
 number_next w n from k ls true = refl
 number_next w n from k ls false = refl
@@ -140,7 +151,9 @@ number_next w n from k ls false = refl
 -- an expected node
 node_judged : (w : Term → Rest) (n from : ℕ) (ls : List Lexeme) (more : Reader Term) (v : Rest) (a b : Bool) →
     (a ≡ false → go_on (more (n + 1) ls) (λ e. read (w e)) ≡ read v (n + 1) ls) →
-    go_on (go_on (if a then Fault kind.TooDeep from else if b then Fault kind.TooManyNodes from else Got (tt {0}) (n + 1) ls) (λ _. more)) (λ e. read (w e))
+    go_on
+    (go_on (if a then Fault kind.TooDeep from else if b then Fault kind.TooManyNodes from else Got (tt {0}) (n + 1)
+    ls) (λ _. more)) (λ e. read (w e))
     ≡ went (n + 1) from ls (if a then Stops kind.TooDeep else if b then Stops kind.TooManyNodes else Goes v)
 node_judged w n from ls more v true b h = refl
 node_judged w n from ls more v false true h = refl
@@ -148,7 +161,8 @@ node_judged w n from ls more v false false h = h refl
 
 node_next : (d : ℕ) (w : Term → Rest) (n from : ℕ) (t : Token) (ls : List Lexeme) (more : Reader Term) (v : Rest) →
     (0 < MAX_DEPTH - d → go_on (more (n + 1) ls) (λ e. read (w e)) ≡ read v (n + 1) ls) →
-    go_on (go_on (node (MAX_DEPTH - d) from n ls) (λ _. more)) (λ e. read (w e)) ≡ went (n + 1) from ls (limited (AnExpression d w) n t v)
+    go_on (go_on (node (MAX_DEPTH - d) from n ls) (λ _. more)) (λ e. read (w e))
+    ≡ went (n + 1) from ls (limited (AnExpression d w) n t v)
 node_next d w n from t ls more v h =
     node_judged w n from ls more v ((MAX_DEPTH - d) == 0) (nat_le MAX_NODES n) (λ some. h (grind (arith, nat_tests)))
 
@@ -156,20 +170,24 @@ below : (d : ℕ) → 0 < MAX_DEPTH - d → operand (MAX_DEPTH - d) ≡ expressi
 below d some = operand_is (MAX_DEPTH - d) some ∙ ap expression (omega arith)
 
 term_next : (d : ℕ) (w : Term → Rest) (n from : ℕ) (t : Token) (ls : List Lexeme) →
-    read (AnExpression d w) n (record { from = from; token = t } ∷ ls) ≡ went (n + 1) from ls (meets (AnExpression d w) n t)
+    read (AnExpression d w) n (record { from = from; token = t } ∷ ls)
+    ≡ went (n + 1) from ls (meets (AnExpression d w) n t)
 unfolding expression one_of two_of three_of
 term_next d w n from (token.Number k) ls = node_next d w n from (token.Number k) ls _ _ (λ _. refl)
 term_next d w n from token.Id ls = node_next d w n from token.Id ls _ _ (λ _. refl)
 term_next d w n from token.FromLeft ls = node_next d w n from token.FromLeft ls _ _ (λ _. refl)
 term_next d w n from token.FromRight ls = node_next d w n from token.FromRight ls _ _ (λ _. refl)
 term_next d w n from (token.Register j) ls = node_next d w n from (token.Register j) ls _ _ (λ _. refl)
-term_next d w n from (token.One o) ls = node_next d w n from (token.One o) ls _ _ (λ some. rw (below d some) (simp go_on_assoc))
-term_next d w n from (token.Two o) ls = node_next d w n from (token.Two o) ls _ _ (λ some. rw (below d some) (simp go_on_assoc))
+term_next d w n from (token.One o) ls =
+    node_next d w n from (token.One o) ls _ _ (λ some. rw (below d some) (simp go_on_assoc))
+term_next d w n from (token.Two o) ls =
+    node_next d w n from (token.Two o) ls _ _ (λ some. rw (below d some) (simp go_on_assoc))
 term_next d w n from token.If ls = node_next d w n from token.If ls _ _ (λ some. rw (below d some) (simp go_on_assoc))
 term_next d w n from t ls = refl
 
 -- reading the rest is reading one token, then what is left after it
-pub read_next : (w : Rest) (n from : ℕ) (t : Token) (ls : List Lexeme) → read w n (record { from = from; token = t } ∷ ls) ≡ went (counted w n) from ls (meets w n t)
+pub read_next : (w : Rest) (n from : ℕ) (t : Token) (ls : List Lexeme) →
+    read w n (record { from = from; token = t } ∷ ls) ≡ went (counted w n) from ls (meets w n t)
 read_next (Nothing p) n from t ls = refl
 read_next (AToken s w) n from token.Unknown ls = refl
 read_next (AToken s w) n from token.LargeNumber ls = refl
@@ -184,22 +202,27 @@ assigns_read : (count j : ℕ) (parts : List Term) (w : List Term → Rest) (n :
 unfolding assign
 assigns_read zero j parts w n ls = simp append-nil
 assigns_read (suc count) j parts w n ls =
-    let others : (e : Term) (m : ℕ) (left : List Lexeme) → go_on (each assign count (j + 1) (parts ++ (e ∷ [])) m left) (λ es. read (w es))
+    let others : (e : Term) (m : ℕ) (left : List Lexeme) →
+    go_on (each assign count (j + 1) (parts ++ (e ∷ [])) m left) (λ es. read (w es))
     ≡ read (assignments count (j + 1) (λ es. w ((parts ++ (e ∷ [])) ++ es))) m left =
     λ e m left. assigns_read count (j + 1) (parts ++ (e ∷ [])) w m left in
     simp (go_on_assoc, others, append_assoc)
 
 -- rounds, and then the rest
 rounds_read : (count many j : ℕ) (parts : List Round) (w : List Round → Rest) (n : ℕ) (ls : List Lexeme) →
-    go_on (each (λ _. round many) count j parts n ls) (λ ss. read (w ss)) ≡ read (some_rounds count many (λ ss. w (parts ++ ss))) n ls
+    go_on (each (λ _. round many) count j parts n ls) (λ ss. read (w ss))
+    ≡ read (some_rounds count many (λ ss. w (parts ++ ss))) n ls
 unfolding round assigns
 rounds_read zero many j parts w n ls = simp append-nil
 rounds_read (suc count) many j parts w n ls =
-    let others : (s : Round) (m : ℕ) (left : List Lexeme) → go_on (each (λ _. round many) count (j + 1) (parts ++ (s ∷ [])) m left) (λ ss. read (w ss))
+    let others : (s : Round) (m : ℕ) (left : List Lexeme) →
+    go_on (each (λ _. round many) count (j + 1) (parts ++ (s ∷ [])) m left) (λ ss. read (w ss))
     ≡ read (some_rounds count many (λ ss. w ((parts ++ (s ∷ [])) ++ ss))) m left =
     λ s m left. rounds_read count many (j + 1) (parts ++ (s ∷ [])) w m left in
-    let after : Term → Term → List Term → Rest = λ a b es. some_rounds count many (λ ss. w (parts ++ (record { left = a; right = b; next = es } ∷ ss))) in
-    let assigned : (a b : Term) (m : ℕ) (left : List Lexeme) → go_on (assigns many m left) (λ es. read (after a b es)) ≡ read (assignments many 0 (after a b)) m left =
+    let after : Term → Term → List Term → Rest =
+    λ a b es. some_rounds count many (λ ss. w (parts ++ (record { left = a; right = b; next = es } ∷ ss))) in
+    let assigned : (a b : Term) (m : ℕ) (left : List Lexeme) →
+    go_on (assigns many m left) (λ es. read (after a b es)) ≡ read (assignments many 0 (after a b)) m left =
     λ a b m left. assigns_read many 0 [] (after a b) m left in
     simp (go_on_assoc, others, append_assoc, assigned)
 
@@ -210,7 +233,9 @@ body_read : (c i r n : ℕ) (ls : List Lexeme) →
     ≡ read (a_body i c r) n ls
 unfolding assigns rounds
 body_read c i r n ls =
-    let last : List Term → List Round → Rest = λ es ss. AToken token.Finish (AnExpression 0 (λ e. Nothing (record { channels = c; start = es; steps = ss; finish = e }))) in
+    let last : List Term → List Round → Rest =
+    λ es ss. AToken token.Finish
+    (AnExpression 0 (λ e. Nothing (record { channels = c; start = es; steps = ss; finish = e }))) in
     go_on_same (assigns r n ls) _ _ (λ es m left. rounds_read i r 0 [] (last es) m left)
     ∙ assigns_read r 0 [] (λ es. some_rounds i r (last es)) n ls
 
@@ -218,5 +243,6 @@ body_read c i r n ls =
 pub program_read : (n : ℕ) (ls : List Lexeme) → program n ls ≡ read a_program n ls
 unfolding program header
 program_read n ls =
-    go_on_same (header n ls) _ (λ c m left. read (a_body c.rounds c.channels c.registers) m left) (λ c m left. body_read c.channels c.rounds c.registers m left)
+    go_on_same (header n ls) _ (λ c m left. read (a_body c.rounds c.channels c.registers) m left)
+    (λ c m left. body_read c.channels c.rounds c.registers m left)
     ∙ simp go_on_assoc

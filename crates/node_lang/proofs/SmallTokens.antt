@@ -31,7 +31,8 @@ small_register (r ∷ d ∷ []) =
     (λ h. let digit = (and_parts (r == 114) (is_digit d) h).1 in grind (arith, nat_tests)) (λ _. refl)
 small_register w = refl
 
-first_small : (a b c : Option Token) → small_if a ≡ true → small_if b ≡ true → small_if c ≡ true → is_small (or_unknown a b c) ≡ true
+first_small : (a b c : Option Token) → small_if a ≡ true → small_if b ≡ true → small_if c ≡ true →
+    is_small (or_unknown a b c) ≡ true
 first_small (Some t) b c p q r = p
 first_small None (Some t) c p q r = q
 first_small None None (Some t) p q r = r
@@ -39,9 +40,12 @@ first_small None None None p q r = refl
 
 small_word : (w : List ℕ) → is_small (word_token w) ≡ true
 unfolding word_token
-small_word w = cond_both (list_all is_digit w) (number_token w) (or_unknown (register_named w) (named keywords w) (named operations w)) (λ t. is_small t ≡ true)
-    (λ _. cond_both (nat_lt (read_on 0 w) (2 ^ 32)) (token.Number (read_on 0 w)) token.LargeNumber (λ t. is_small t ≡ true) (λ h. h) (λ _. refl))
-    (λ _. first_small (register_named w) (named keywords w) (named operations w) (small_register w) (found (λ t. bytes_eq w (word_of t)) keywords refl) (found (λ t. bytes_eq w (word_of t)) operations refl))
+small_word w = cond_both (list_all is_digit w) (number_token w)
+    (or_unknown (register_named w) (named keywords w) (named operations w)) (λ t. is_small t ≡ true)
+    (λ _. cond_both (nat_lt (read_on 0 w) (2 ^ 32)) (token.Number (read_on 0 w)) token.LargeNumber
+    (λ t. is_small t ≡ true) (λ h. h) (λ _. refl))
+    (λ _. first_small (register_named w) (named keywords w) (named operations w) (small_register w)
+    (found (λ t. bytes_eq w (word_of t)) keywords refl) (found (λ t. bytes_eq w (word_of t)) operations refl))
 
 small_mark : (b : ℕ) → is_small (mark_token b) ≡ true
 small_mark b = grind (arith, nat_tests)

@@ -15,6 +15,7 @@ pub record IsFirstHighByte (text : List ℕ) (offset : ℕ) : Type 0 where
 -- the fault of a text, and its offset
 pub data FaultsAt (text : List ℕ) : FaultKind → ℕ → Type 0 where
   too_long : LONGEST_TEXT < length text → FaultsAt text kind.TooLong LONGEST_TEXT
-  not_ascii : (offset : ℕ) → length text ≤ LONGEST_TEXT → IsFirstHighByte text offset → FaultsAt text kind.NotAscii offset
+  not_ascii : (offset : ℕ) → length text ≤ LONGEST_TEXT → IsFirstHighByte text offset →
+      FaultsAt text kind.NotAscii offset
   in_lexemes : (k : FaultKind) (offset from : ℕ) → length text ≤ LONGEST_TEXT → All (λ b. b < 128) text →
       FirstFault [] (lexemes_of text) k from → offset + from ≡ length text → FaultsAt text k offset

@@ -17,11 +17,13 @@ OneReading = (text : List ℕ) (p q : ProgramTree) → Reads text p → Reads te
 
 -- reading a text from the left returns the program that it reads as, its number of nodes, and no lexemes left
 abbrev pub ReadableTextsAreRead : Type 0
-ReadableTextsAreRead = (text : List ℕ) (p : ProgramTree) → Reads text p → program 0 (lexemes_of text) ≡ Got p (sum_by size (terms p)) []
+ReadableTextsAreRead = (text : List ℕ) (p : ProgramTree) → Reads text p →
+    program 0 (lexemes_of text) ≡ Got p (sum_by size (terms p)) []
 
 -- conversely, a short ASCII text reads as the program that is returned
 abbrev pub ReadTextsAreReadable : Type 0
-ReadTextsAreReadable = (text : List ℕ) (p : ProgramTree) (nodes : ℕ) (left : List Lexeme) → length text ≤ LONGEST_TEXT → All (λ b. b < 128) text →
+ReadTextsAreReadable = (text : List ℕ) (p : ProgramTree) (nodes : ℕ) (left : List Lexeme) →
+    length text ≤ LONGEST_TEXT → All (λ b. b < 128) text →
     program 0 (lexemes_of text) ≡ Got p nodes left → Reads text p
 
 -- the printed form of a program reads as that program
@@ -39,7 +41,8 @@ OneTextFault =
 
 -- a text that reads as a program has none
 abbrev pub ReadableTextsHaveNoFault : Type 0
-ReadableTextsHaveNoFault = (text : List ℕ) (p : ProgramTree) (k : FaultKind) (offset : ℕ) → Reads text p → FaultsAt text k offset → ⊥
+ReadableTextsHaveNoFault =
+    (text : List ℕ) (p : ProgramTree) (k : FaultKind) (offset : ℕ) → Reads text p → FaultsAt text k offset → ⊥
 
 -- where reading stops is the first fault of the lexemes
 abbrev pub ReadingStopsAtFirstFault : Type 0

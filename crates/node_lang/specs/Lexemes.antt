@@ -31,7 +31,11 @@ abbrev pub put_before : ℕ → ℕ → Split → Split
 put_before b count after =
     if is_word_byte b then record { word = b ∷ after.word; rest = after.rest }
     else if is_blank b then record { word = []; rest = joined count after.word after.rest }
-    else record { word = []; rest = record { from = count + 1; token = mark_token b } ∷ joined count after.word after.rest }
+    else record {
+      word = [];
+      rest = record { from = count + 1; token = mark_token b }
+          ∷ joined count after.word after.rest;
+    }
 
 -- the split of a text without comments
 abbrev pub split_of : List ℕ → Split

@@ -22,10 +22,13 @@ lexemes_left text at = lexemes_of (drop at text)
 -- read, or it returns the reader's fault. For want of memory only the offset 0 is stated.
 abbrev pub Gives : {T A : Type 0} → (T → A) → Parser → Parser → Result T TextFault → (ℕ → List Lexeme → Read A) → Type 0
 Gives tree old new (Ok v) read =
-    (new.text.now ≡ old.text.now) × (read old.nodes (lexemes_left old.text.now old.at) ≡ Got (tree v) new.nodes (lexemes_left old.text.now new.at))
+    (new.text.now ≡ old.text.now)
+    × (read old.nodes (lexemes_left old.text.now old.at)
+    ≡ Got (tree v) new.nodes (lexemes_left old.text.now new.at))
 Gives tree old new (Err f) read =
     (f.kind ≡ kind.OutOfMemory → f.offset ≡ 0)
-    × (f.kind ≢ kind.OutOfMemory → (f.offset ≤ length old.text.now) × (read old.nodes (lexemes_left old.text.now old.at) ≡ Fault f.kind (length old.text.now - f.offset)))
+    × (f.kind ≢ kind.OutOfMemory → (f.offset ≤ length old.text.now)
+    × (read old.nodes (lexemes_left old.text.now old.at) ≡ Fault f.kind (length old.text.now - f.offset)))
 
 -- a word of the header and its number
 abbrev pub field : Token → ℕ → ℕ → Reader ℕ

@@ -24,7 +24,8 @@ abbrev pub Reader : Type 0 → Type 0
 Reader A = ℕ → List Lexeme → Read A
 
 infixl 10 ◌>>=◌
-abbrev pub ◌>>=◌ : {A B : Type 0} → (ℕ → List Lexeme → Read A) → (A → ℕ → List Lexeme → Read B) → ℕ → List Lexeme → Read B
+abbrev pub ◌>>=◌ : {A B : Type 0} → (ℕ → List Lexeme → Read A) →
+    (A → ℕ → List Lexeme → Read B) → ℕ → List Lexeme → Read B
 (first >>= next) nodes left = go_on (first nodes left) next
 
 infixl 10 ◌>>◌
@@ -178,7 +179,8 @@ end nodes (l ∷ ls) = Fault (fault_of l.token) l.from
 -- `count` parts from the j-th on, appended to those read before
 abbrev pub each : {A : Type 0} → (ℕ → ℕ → List Lexeme → Read A) → ℕ → ℕ → List A → ℕ → List Lexeme → Read (List A)
 each part zero j parts nodes left = Got parts nodes left
-each part (suc count) j parts nodes left = go_on (part j nodes left) (λ a n l. each part count (j + 1) (parts ++ (a ∷ [])) n l)
+each part (suc count) j parts nodes left =
+    go_on (part j nodes left) (λ a n l. each part count (j + 1) (parts ++ (a ∷ [])) n l)
 
 -- the assignment to register j
 unfoldable pub assign : ℕ → Reader Term

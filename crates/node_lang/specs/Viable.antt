@@ -51,7 +51,8 @@ marked (One o a) d more = node (token.One o) d ∷ plain token.Open ∷ marked a
 marked (Two o a b) d more = node (token.Two o) d ∷ plain token.Open
     ∷ marked a (d + 1) (plain token.Comma ∷ marked b (d + 1) (plain token.Close ∷ more))
 marked (Choose c a b) d more = node token.If d ∷ plain token.Open
-    ∷ marked c (d + 1) (plain token.Comma ∷ marked a (d + 1) (plain token.Comma ∷ marked b (d + 1) (plain token.Close ∷ more)))
+    ∷ marked c (d + 1) (plain token.Comma
+    ∷ marked a (d + 1) (plain token.Comma ∷ marked b (d + 1) (plain token.Close ∷ more)))
 
 -- the marks of assignments to the registers from j on, then `more`
 abbrev pub marked_assignments : ℕ → List Term → List Mark → List Mark
@@ -66,7 +67,8 @@ marked_blocks (s ∷ ss) more = plain token.Round ∷ plain token.Send ∷ plain
 
 -- the marks of a whole program
 abbrev pub marks : ProgramTree → List Mark
-marks p = plain token.Rounds ∷ plain (token.Number (length p.steps)) ∷ plain token.Channels ∷ plain (token.Number p.channels)
+marks p = plain token.Rounds ∷ plain (token.Number (length p.steps)) ∷ plain token.Channels
+    ∷ plain (token.Number p.channels)
     ∷ plain token.Registers ∷ plain (token.Number (length p.start)) ∷ plain token.Start
     ∷ marked_assignments 0 p.start (marked_blocks p.steps (plain token.Finish ∷ marked p.finish 1 []))
 
@@ -102,19 +104,23 @@ IsOutside low high n = (n < low) ⊎ (high < n)
 -- MAX_REGISTERS
 pub data IsOutOfRange : List Token → Token → Type 0 where
   rounds : (t : ℕ) → IsOutside 0 MAX_ROUNDS t → IsOutOfRange (token.Rounds ∷ []) (token.Number t)
-  channels : (t c : ℕ) → IsOutside 1 MAX_CHANNELS c → IsOutOfRange (token.Rounds ∷ token.Number t ∷ token.Channels ∷ []) (token.Number c)
+  channels : (t c : ℕ) → IsOutside 1 MAX_CHANNELS c →
+      IsOutOfRange (token.Rounds ∷ token.Number t ∷ token.Channels ∷ []) (token.Number c)
   registers : (t c k : ℕ) → IsOutside 1 MAX_REGISTERS k →
-      IsOutOfRange (token.Rounds ∷ token.Number t ∷ token.Channels ∷ token.Number c ∷ token.Registers ∷ []) (token.Number k)
+      IsOutOfRange (token.Rounds ∷ token.Number t ∷ token.Channels ∷ token.Number c ∷ token.Registers ∷ [])
+      (token.Number k)
 
 -- The token after these has a fault of this kind. A node that is both too deep and one too many is too deep.
 pub data Stands (before : List Token) (met : Token) : FaultKind → Type 0 where
   unknown : met ≡ token.Unknown → Stands before met kind.BadWord
   large : met ≡ token.LargeNumber → Stands before met kind.NumberTooLarge
   out_of_range : IsOutOfRange before met → Stands before met kind.HeaderRange
-  unexpected : met ≢ token.Unknown → met ≢ token.LargeNumber → (IsOutOfRange before met → ⊥) → (IsViable (before ++ met ∷ []) → ⊥) →
+  unexpected : met ≢ token.Unknown → met ≢ token.LargeNumber → (IsOutOfRange before met → ⊥) →
+      (IsViable (before ++ met ∷ []) → ⊥) →
       Stands before met kind.Unexpected
   too_deep : (depth nodes : ℕ) → MAX_DEPTH < depth → BeginsNode before met depth nodes → Stands before met kind.TooDeep
-  too_many : (depth nodes : ℕ) → depth ≤ MAX_DEPTH → MAX_NODES ≤ nodes → BeginsNode before met depth nodes → Stands before met kind.TooManyNodes
+  too_many : (depth nodes : ℕ) → depth ≤ MAX_DEPTH → MAX_NODES ≤ nodes →
+      BeginsNode before met depth nodes → Stands before met kind.TooManyNodes
 
 -- The first fault of the lexemes after these tokens, with the number of bytes from it to the end of the text: the fault
 -- of the next token, or else the first one after it; at the end of the text, that the tokens are no whole program.

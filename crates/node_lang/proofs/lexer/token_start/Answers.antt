@@ -10,5 +10,6 @@ skips-preserved-then-byte-eq35 c =
     let line = c.line_len.ensures.value ∙ ap (prefix_len in_line) (take_rest c.args.text.now (c.skips.at + 1)) in
     record {
       within = grind (arith, common_steps);
-      same = after_comment c.args.text.now c.skips.at c.line_len.result c.skips-test.true c.if-byte-eq35.true line ∙ c.skips.invariant.same;
+      same = after_comment c.args.text.now c.skips.at c.line_len.result c.skips-test.true c.if-byte-eq35.true line
+          ∙ c.skips.invariant.same;
     }

@@ -9,23 +9,28 @@ pub returns-then-text-gt-LONGEST_TEXT-clause-fault : goal.returns-then-text-gt-L
 returns-then-text-gt-LONGEST_TEXT-clause-fault c _ = rw c.at.ensures (fault.too_long c.if-text-gt-LONGEST_TEXT.true)
 
 pub returns-in-Some-clause-fault : goal.returns-in-Some-clause-fault
-returns-in-Some-clause-fault c _ = rw c.at-in-Some.ensures (fault.not_ascii c.in-Some.offset c.if-text-gt-LONGEST_TEXT.false c.in-Some.ensures.found)
+returns-in-Some-clause-fault c _ =
+    rw c.at-in-Some.ensures (fault.not_ascii c.in-Some.offset c.if-text-gt-LONGEST_TEXT.false c.in-Some.ensures.found)
 
 pub returns-in-Some-clause-not_ascii : goal.returns-in-Some-clause-not_ascii
 returns-in-Some-clause-not_ascii c offset short first =
-    rw c.at-in-Some.ensures (ap (λ n. Err (record { kind = kind.NotAscii; offset = n })) (one_high_byte c.args.text.now c.in-Some.offset offset c.in-Some.ensures.found first))
+    rw c.at-in-Some.ensures (ap (λ n. Err (record { kind = kind.NotAscii; offset = n }))
+    (one_high_byte c.args.text.now c.in-Some.offset offset c.in-Some.ensures.found first))
 
 -- the parser before it reads
 abbrev fresh : goal.After-whole → Parser
-fresh c = record { alloc = c.args.alloc; text = c.args.text; at = 0; nodes = 0; within = omega arith; few = omega arith }
+fresh c =
+    record { alloc = c.args.alloc; text = c.args.text; at = 0; nodes = 0; within = omega arith; few = omega arith }
 
 pub returns-clause-program : goal.returns-clause-program
 returns-clause-program c =
-    reads_program (fresh c) c.whole.new.self c.whole.result refl refl c.if-text-gt-LONGEST_TEXT.false c.in_default.ensures.none c.whole.ensures
+    reads_program (fresh c) c.whole.new.self c.whole.result refl refl c.if-text-gt-LONGEST_TEXT.false
+    c.in_default.ensures.none c.whole.ensures
 
 pub returns-clause-fault : goal.returns-clause-fault
 returns-clause-fault c =
-    faults_at (fresh c) c.whole.new.self c.whole.result refl refl c.if-text-gt-LONGEST_TEXT.false c.in_default.ensures.none c.whole.ensures
+    faults_at (fresh c) c.whole.new.self c.whole.result refl refl c.if-text-gt-LONGEST_TEXT.false
+    c.in_default.ensures.none c.whole.ensures
 
 pub returns-clause-none : goal.returns-clause-none
 returns-clause-none c = reads_none c.args.text.now c.whole.result (returns-clause-fault c)

@@ -12,4 +12,5 @@ returns-in_err-expression c =
 
 pub registers-preserved : goal.registers-preserved
 unfolding assign expression_after
-registers-preserved c = one_read c.in_ok-expression.expression c.registers-test.true c.registers.invariant c.in_ok-expression.ensures c.in_ok-push.ensures.items
+registers-preserved c = one_read c.in_ok-expression.expression c.registers-test.true c.registers.invariant
+    c.in_ok-expression.ensures c.in_ok-push.ensures.items

@@ -10,4 +10,5 @@ returns-in_err-step c =
     rw (p.1, p.2) (stops_there _ c.rounds-test.true c.rounds.invariant c.in_err-step.ensures)
 
 pub rounds-preserved : goal.rounds-preserved
-rounds-preserved c = one_read c.in_ok-step.step c.rounds-test.true c.rounds.invariant c.in_ok-step.ensures c.in_ok-push.ensures.items
+rounds-preserved c =
+    one_read c.in_ok-step.step c.rounds-test.true c.rounds.invariant c.in_ok-step.ensures c.in_ok-push.ensures.items

@@ -10,6 +10,8 @@ pub new-requires : goal.new-requires
 unfolding program
 new-requires c =
     let s = c.args.self.now in
-    let p = program_tree c.in_ok-header.header.channels c.in_ok-start.start.items c.in_ok-steps.steps.items c.in_ok-finish.finish in
-    let read : program s.nodes (lexemes_left s.text.now s.at) ≡ Got p c.end.new.self.nodes (lexemes_left s.text.now c.end.new.self.at) = search rules in
+    let p = program_tree c.in_ok-header.header.channels c.in_ok-start.start.items c.in_ok-steps.steps.items
+    c.in_ok-finish.finish in
+    let read : program s.nodes (lexemes_left s.text.now s.at)
+    ≡ Got p c.end.new.self.nodes (lexemes_left s.text.now c.end.new.self.at) = search rules in
     (read_is_spelt p s.nodes _ (lexemes_left s.text.now s.at) _ (small_tokens (drop s.at s.text.now)) read).limits
