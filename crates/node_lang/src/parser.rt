@@ -87,8 +87,8 @@ impl<'a> Parser<'a> {
         Ok(levels - 1)
     }
 
-    // Counts the node of an operation at `offset`, as `count_node` does, and consumes the parenthesis
-    // that opens its operands.
+    // Counts the node of an operation at `offset`, as `count_node` does, and consumes the
+    // parenthesis that opens its operands.
     fn open(&mut self, levels: u32, offset: usize) -> Result<u32, TextFault>
         requires { offset ≤ length self.old.text.now }
         ensures reads { Gives (λ _. tt) self.old self.new result (opened levels (length self.old.text.now - offset)) }
@@ -195,6 +195,7 @@ impl<'a> Parser<'a> {
     }
 
     // Parses the header, up to and including `start`.
+    #[tactic(auto, using(crate::proofs::Parsing::header_is))]
     fn header(&mut self) -> Result<Header, TextFault>
         ensures { Gives (λ h. record { rounds = h.rounds; channels = h.channels; registers = h.registers }) self.old self.new result header }
     {
@@ -248,6 +249,7 @@ impl<'a> Parser<'a> {
         Ok(expressions)
     }
 
+    #[tactic(auto, using(crate::proofs::Parsing::round_is))]
     fn round(&mut self, registers: u32) -> Result<Round, TextFault>
         ensures { Gives step_of self.old self.new result (round registers) }
     {
