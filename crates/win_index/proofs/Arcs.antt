@@ -12,8 +12,10 @@ use Rattle.win_index.specs.Windows.{IsWindow}
 pub length-arc : (x : List ℕ) (start count : ℕ) → length (arc x start count) ≡ count
 length-arc x start count = length-map-range_with_len (λ k. get_or x ((start + k) % length x) 0) 0 count
 
-pub get_or-arc : (x : List ℕ) (start count k d : ℕ) → k < count → get_or (arc x start count) k d ≡ get_or x ((start + k) % length x) 0
-get_or-arc x start count k d lt = get_or-map-range_with_len (λ i. get_or x ((start + i) % length x) 0) 0 count k k d lt (omega arith)
+pub get_or-arc : (x : List ℕ) (start count k d : ℕ) → k < count →
+    get_or (arc x start count) k d ≡ get_or x ((start + k) % length x) 0
+get_or-arc x start count k d lt =
+    get_or-map-range_with_len (λ i. get_or x ((start + i) % length x) 0) 0 count k k d lt (omega arith)
 
 -- a prefix of an arc is an arc
 pub take-arc : (x : List ℕ) (start count j : ℕ) → j ≤ count → take j (arc x start count) ≡ arc x start j
@@ -49,7 +51,8 @@ places_differ n a b lt near same =
     absurd (omega arith))
     (cases_lt (a / n) (b / n))
 
-differ_at : (x : List ℕ) (i j : ℕ) → AllPairs (λ a b. a ≢ b) x → i < length x → j < length x → i ≢ j → get_or x i 0 ≢ get_or x j 0
+differ_at : (x : List ℕ) (i j : ℕ) → AllPairs (λ a b. a ≢ b) x → i < length x → j < length x →
+    i ≢ j → get_or x i 0 ≢ get_or x j 0
 differ_at x i j distinct in_i in_j other e =
     ⊎_elim
     (λ (same : i ≡ j). other same)
@@ -57,7 +60,8 @@ differ_at x i j distinct in_i in_j other e =
     (cases_order i j)
 
 -- as many places as a ring has, or fewer, hold a window
-pub arc_window : (m t start count : ℕ) (x : List ℕ) → IsRing m t x → count ≤ length x → IsWindow count m (arc x start count)
+pub arc_window : (m t start count : ℕ) (x : List ℕ) → IsRing m t x → count ≤ length x →
+    IsWindow count m (arc x start count)
 arc_window m t start count x ring le =
     let n : ℕ = length x in
     let long = ring.long in
@@ -72,13 +76,15 @@ arc_window m t start count x ring le =
           let far : j < count = omega arith in
           let near : i < count = omega arith in
           rw (get_or-arc x start count i d near, get_or-arc x start count j d far)
-          (differ_at x ((start + i) % n) ((start + j) % n) ring.distinct (mod_below (start + i) n some) (mod_below (start + j) n some)
+          (differ_at x ((start + i) % n) ((start + j) % n) ring.distinct (mod_below (start + i) n some)
+          (mod_below (start + j) n some)
           (places_differ n (start + i) (start + j) (omega arith) (omega arith)));
     }
 
 -- the identifiers around a place of a ring are a window
 pub around_window :
-    (m t level place : ℕ) (x : List ℕ) → IsRing m t x → level ≤ t → IsWindow (2 * level + 1) m (window_around x level place)
+    (m t level place : ℕ) (x : List ℕ) → IsRing m t x → level ≤ t →
+    IsWindow (2 * level + 1) m (window_around x level place)
 around_window m t level place x ring le =
     let long = ring.long in
     arc_window m t (place + length x - level) (2 * level + 1) x ring (omega arith)

@@ -24,7 +24,8 @@ pub record EndsFront (g m : ℕ) (places : RunPlaces) (front : List ℕ) (x plac
   pub x_at : length (unused x (drop 2 front)) ≡ place
 
 -- a window is its prefix and its last identifier
-pub whole_window : (k m : ℕ) (window : List ℕ) → IsWindow (k + 2) m window → take (k + 1) window ++ get_or window (k + 1) 0 ∷ [] ≡ window
+pub whole_window : (k m : ℕ) (window : List ℕ) → IsWindow (k + 2) m window →
+    take (k + 1) window ++ get_or window (k + 1) 0 ∷ [] ≡ window
 whole_window k m window is =
     let size = is.size in
     let level : k + 1 + 1 ≡ k + 2 = omega arith in
@@ -82,22 +83,34 @@ at_place g m place f0 f1 x places rest is =
     let size : length front ≡ g + 1 + 1 = omega (arith, is.front_is.size) in
     let longer : suc (g + 2) ≡ g + 1 + 2 = omega arith in
     let took = take_front (g + 1 + 1) front x size in
-    let last : get_or (front ++ x ∷ []) (g + 1 + 1) 0 ≡ x = subst (λ n. get_or (front ++ x ∷ []) n 0 ≡ x) size (get_or-append_seam front x [] 0) in
+    let last : get_or (front ++ x ∷ []) (g + 1 + 1) 0 ≡ x =
+    subst (λ n. get_or (front ++ x ∷ []) n 0 ≡ x) size (get_or-append_seam front x [] 0) in
     record {
-      window_is = subst (λ n. IsWindow n m (front ++ x ∷ [])) longer (push_window (g + 2) m x front is.front_is is.below is.free);
+      window_is = subst (λ n. IsWindow n m (front ++ x ∷ [])) longer
+          (push_window (g + 2) m x front is.front_is is.below is.free);
       run_has = record { first = rw took is.first; second = rw took is.second; end = rw took is.end };
       place_is = rw (took, last) is.x_at;
     }
 
 -- the window with these parts, at its position
 pub ends_again :
-    (g m place q f0 f1 x y : ℕ) (places : RunPlaces) (rest : List ℕ) → EndsFront g m places (f0 ∷ f1 ∷ rest) x place → Ends m f0 f1 rest y
+    (g m place q f0 f1 x y : ℕ) (places : RunPlaces) (rest : List ℕ) →
+    EndsFront g m places (f0 ∷ f1 ∷ rest) x place → Ends m f0 f1 rest y
     → length (unused y rest) ≡ q → EndsFront g m places (f0 ∷ f1 ∷ rest) y q
 ends_again g m place q f0 f1 x y places rest is ends at' =
-    record { front_is = is.front_is; below = ends.below; free = ends.free; first = is.first; second = is.second; end = is.end; x_at = at' }
+    record {
+      front_is = is.front_is;
+      below = ends.below;
+      free = ends.free;
+      first = is.first;
+      second = is.second;
+      end = is.end;
+      x_at = at';
+    }
 
 -- the number of values below m that a window without its first two identifiers lacks
-pub unused_but_two : (k m : ℕ) (front : List ℕ) → 2 ≤ k → IsWindow k m front → length (unused m (drop 2 front)) + length (drop 2 front) ≡ m
+pub unused_but_two : (k m : ℕ) (front : List ℕ) → 2 ≤ k → IsWindow k m front →
+    length (unused m (drop 2 front)) + length (drop 2 front) ≡ m
 unused_but_two k m [] some window = absurd (omega (arith, window.size))
 unused_but_two k m (f0 ∷ []) some window = absurd (omega (arith, window.size))
 unused_but_two k m (f0 ∷ f1 ∷ rest) some window =
@@ -120,29 +133,41 @@ pub record ThreePlaces (m : ℕ) (front : List ℕ) (x : ℕ) : Type 0 where
   pub first : length (unused (get_or front 0 0) (drop 2 front)) ≢ length (unused x (drop 2 front))
   pub second : length (unused (get_or front 1 0) (drop 2 front)) ≢ length (unused x (drop 2 front))
 
-pub three_places : (k m x : ℕ) (front : List ℕ) → 2 ≤ k → IsWindow k m front → x < m → is_used front x ≡ false → ThreePlaces m front x
+pub three_places : (k m x : ℕ) (front : List ℕ) → 2 ≤ k → IsWindow k m front → x < m →
+    is_used front x ≡ false → ThreePlaces m front x
 three_places k m x [] some window below free = absurd (omega (arith, window.size))
 three_places k m x (f0 ∷ []) some window below free = absurd (omega (arith, window.size))
 three_places k m x (f0 ∷ f1 ∷ rest) some window below free =
-    let rest_free = lacks_from_differs rest x (λ i lt. lacks_differs (f0 ∷ f1 ∷ rest) x free (suc (suc i)) 0 (omega arith)) in
-    let f0_free = lacks_from_differs rest f0 (λ i lt. lacks_differs (f1 ∷ rest) f0 (distinct_head f0 (f1 ∷ rest) window.distinct) (suc i) 0 (omega arith)) in
+    let rest_free =
+    lacks_from_differs rest x
+    (λ i lt. lacks_differs (f0 ∷ f1 ∷ rest) x free (suc (suc i)) 0 (omega arith)) in
+    let f0_free =
+    lacks_from_differs rest f0
+    (λ i lt. lacks_differs (f1 ∷ rest) f0 (distinct_head f0 (f1 ∷ rest) window.distinct) (suc i)
+    0 (omega arith)) in
     let f1_free = distinct_head f1 rest (distinct_tail f0 (f1 ∷ rest) window.distinct) in
     record {
       inside = slice_get_within (unused m rest) (length (unused x rest)) x (unused_at rest m x below rest_free);
-      first = apart rest m f0 x (window.below 0 0 (omega arith)) f0_free below rest_free (lacks_differs (f0 ∷ f1 ∷ rest) x free 0 0 (omega arith));
-      second = apart rest m f1 x (window.below 1 0 (omega arith)) f1_free below rest_free (lacks_differs (f0 ∷ f1 ∷ rest) x free 1 0 (omega arith));
+      first = apart rest m f0 x (window.below 0 0 (omega arith)) f0_free below rest_free
+          (lacks_differs (f0 ∷ f1 ∷ rest) x free 0 0 (omega arith));
+      second = apart rest m f1 x (window.below 1 0 (omega arith)) f1_free below rest_free
+          (lacks_differs (f0 ∷ f1 ∷ rest) x free 1 0 (omega arith));
     }
 
 -- these three numbers of a window, and the end
-pub last_inside : (k m : ℕ) (window : List ℕ) → 1 ≤ k → IsWindow (k + 2) m window → place_in_run k window (get_or window (k + 1) 0) < place_in_run k window m
+pub last_inside : (k m : ℕ) (window : List ℕ) → 1 ≤ k → IsWindow (k + 2) m window →
+    place_in_run k window (get_or window (k + 1) 0) < place_in_run k window m
 last_inside k m window some is =
     let size = is.size in
     let inside : k + 1 < length window = omega arith in
-    (three_places (k + 1) m (get_or window (k + 1) 0) (take (k + 1) window) (omega arith) (window_front k m window is) (is.below (k + 1) 0 inside)
+    (three_places (k + 1) m (get_or window (k + 1) 0) (take (k + 1) window) (omega arith) (window_front k m window is)
+    (is.below (k + 1) 0 inside)
     (free_at window (k + 1) is.distinct inside)).inside
 
-pub place_inside : (k m place : ℕ) (places : RunPlaces) (window : List ℕ) → 1 ≤ k → IsAtPlace k m places window place → place < places.end
-place_inside k m place places window some is = omega (arith, last_inside k m window some is.window_is, is.place_is, is.run_has.end)
+pub place_inside : (k m place : ℕ) (places : RunPlaces) (window : List ℕ) → 1 ≤ k →
+    IsAtPlace k m places window place → place < places.end
+place_inside k m place places window some is =
+    omega (arith, last_inside k m window some is.window_is, is.place_is, is.run_has.end)
 
 pub places_end : (k m : ℕ) (window : List ℕ) → 1 ≤ k → IsWindow (k + 2) m window → place_in_run k window m + (k - 1) ≡ m
 places_end k m window some is =
@@ -173,5 +198,10 @@ slice_window m n d len w is fits =
       distinct = λ i j e lt within.
           let short : j < len = omega arith in
           let before : i < len = omega arith in
-          rw (get_or-take len (drop d w) i e before, get_or-take len (drop d w) j e short, get_or-drop d w i e, get_or-drop d w j e) (is.distinct (d + i) (d + j) e (omega arith) (omega arith));
+          rw (
+            get_or-take len (drop d w) i e before,
+            get_or-take len (drop d w) j e short,
+            get_or-drop d w i e,
+            get_or-drop d w j e,
+          ) (is.distinct (d + i) (d + j) e (omega arith) (omega arith));
     }

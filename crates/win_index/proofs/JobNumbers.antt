@@ -45,7 +45,8 @@ stands_below : (m k level block n : ℕ) → slice_get (jobs_below m k) n ≡ So
 stands_below m zero level block n e = absurd (none-some (level, block) e)
 stands_below m (suc k) level block n e =
     let one : suc k ≡ k + 1 = omega arith in
-    let all : slice_get (jobs_below m (k + 1)) n ≡ Some (level, block) = subst (λ (x : ℕ). slice_get (jobs_below m x) n ≡ Some (level, block)) one e in
+    let all : slice_get (jobs_below m (k + 1)) n ≡ Some (level, block) =
+    subst (λ (x : ℕ). slice_get (jobs_below m x) n ≡ Some (level, block)) one e in
     let lower : List (ℕ × ℕ) = jobs_below m k in
     let split = ap (λ l. slice_get l n) (sym (jobs_below_more m k)) ∙ all in
     ⊎_elim
@@ -54,28 +55,34 @@ stands_below m (suc k) level block n e =
     record { level_below = omega (arith, below.level_below); block_below = below.block_below; place = below.place })
     (λ (le : length lower ≤ n).
     let i : ℕ = n - length lower in
-    let own = of_level m k level block i (sym (slice_get-append_right lower (level_jobs m k) n i (omega arith)) ∙ split) in
+    let own =
+    of_level m k level block i
+    (sym (slice_get-append_right lower (level_jobs m k) n i (omega arith)) ∙ split) in
     let here : n ≡ length lower + block = omega (arith, own.1) in
     record { level_below = omega (arith, own.0); block_below = rw (← own.0, ← own.1) own.2; place = rw own.0 at here })
     (cases_lt n (length lower))
 
-pub stands_at : (m t level block n : ℕ) → slice_get (jobs_of m t) n ≡ Some (level, block) → StandsAt m (t + 1) level block n
+pub stands_at : (m t level block n : ℕ) → slice_get (jobs_of m t) n ≡ Some (level, block) →
+    StandsAt m (t + 1) level block n
 stands_at m t level block n e =
     stands_below m (t + 1) level block n (ap (λ l. slice_get l n) (sym (jobs_are_below m t (t + 1) refl)) ∙ e)
 
 -- no job occurs twice
-one_job : (m t level block i j : ℕ) → slice_get (jobs_of m t) i ≡ Some (level, block) → slice_get (jobs_of m t) j ≡ Some (level, block) → i ≡ j
+one_job : (m t level block i j : ℕ) → slice_get (jobs_of m t) i ≡ Some (level, block) →
+    slice_get (jobs_of m t) j ≡ Some (level, block) → i ≡ j
 one_job m t level block i j at_i at_j =
     (stands_at m t level block i at_i).place ∙ sym (stands_at m t level block j at_j).place
 
-pub job_number_some : (m t level block n : ℕ) → job_number m t level block ≡ Some n → slice_get (jobs_of m t) n ≡ Some (level, block)
+pub job_number_some : (m t level block n : ℕ) → job_number m t level block ≡ Some n →
+    slice_get (jobs_of m t) n ≡ Some (level, block)
 unfolding job_number
 job_number_some m t level block n e =
     let d : ℕ × ℕ = (level, block) in
     let at' = position-Some (is_job level block) (jobs_of m t) n d e in
     slice_get-get_or (jobs_of m t) n d at'.0 ∙ ap Some (job_from_test level block (get_or (jobs_of m t) n d) at'.1)
 
-pub job_number_is : (m t level block n : ℕ) → slice_get (jobs_of m t) n ≡ Some (level, block) → job_number m t level block ≡ Some n
+pub job_number_is : (m t level block n : ℕ) → slice_get (jobs_of m t) n ≡ Some (level, block) →
+    job_number m t level block ≡ Some n
 unfolding job_number
 job_number_is m t level block n at' =
     let d : ℕ × ℕ = (level, block) in
@@ -92,7 +99,8 @@ job_number_is m t level block n at' =
     let found = lt-ltb n (length (jobs_of m t)) within in
     rw (first, found)
 
-pub number_of_job : (m t level block n : ℕ) → (job_number m t level block ≡ Some n) ↔ (slice_get (jobs_of m t) n ≡ Some (level, block))
+pub number_of_job : (m t level block n : ℕ) →
+    (job_number m t level block ≡ Some n) ↔ (slice_get (jobs_of m t) n ≡ Some (level, block))
 number_of_job m t level block n = (job_number_some m t level block n, job_number_is m t level block n)
 
 -- a block of a level has a number
@@ -101,7 +109,8 @@ pub job_number_at :
     → job_number m t level block ≡ Some n
 job_number_at m t level block n le lt e = job_number_is m t level block n (job_at m t level block n le lt e)
 
-pub job_number_none : (m t level block : ℕ) → ¬ ((level ≤ t) × (block < block_count m level)) → job_number m t level block ≡ None
+pub job_number_none : (m t level block : ℕ) → ¬ ((level ≤ t) × (block < block_count m level)) →
+    job_number m t level block ≡ None
 job_number_none m t level block other = none (job_number m t level block) refl
   where
     none : (o : Option ℕ) → job_number m t level block ≡ o → o ≡ None
@@ -110,7 +119,8 @@ job_number_none m t level block other = none (job_number m t level block) refl
         let stands = stands_at m t level block n (job_number_some m t level block n e) in
         absurd (other (omega (arith, stands.level_below), stands.block_below))
 
-pub has_job_number : (m t level block : ℕ) → IsSome (job_number m t level block) ↔ (level ≤ t) × (block < block_count m level)
+pub has_job_number : (m t level block : ℕ) →
+    IsSome (job_number m t level block) ↔ (level ≤ t) × (block < block_count m level)
 has_job_number m t level block = (
   number (job_number m t level block) refl,
   λ key. rw (job_number_at m t level block (length (jobs_below m level) + block) key.0 key.1 refl) refl,

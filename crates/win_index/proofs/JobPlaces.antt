@@ -33,7 +33,8 @@ pub length-level_jobs : (m level : ℕ) → length (level_jobs m level) ≡ bloc
 length-level_jobs m level = length-map-range_with_len (λ b. (level, b)) 0 (block_count m level)
 
 -- their number
-pub length-jobs_below : (m level : ℕ) → length (jobs_below m (level + 1)) ≡ length (jobs_below m level) + block_count m level
+pub length-jobs_below : (m level : ℕ) →
+    length (jobs_below m (level + 1)) ≡ length (jobs_below m level) + block_count m level
 length-jobs_below m level =
     ap length (jobs_below_more m level) ∙ length-append (jobs_below m level) (level_jobs m level)
     ∙ ap (λ n. length (jobs_below m level) + n) (length-level_jobs m level)
@@ -46,13 +47,15 @@ jobs_are_below m t level e = rw e
 zero-add : (n : ℕ) → 0 + n ≡ n
 zero-add n = omega arith
 
-pub level_job_at : (m level block : ℕ) → block < block_count m level → slice_get (level_jobs m level) block ≡ Some (level, block)
+pub level_job_at : (m level block : ℕ) → block < block_count m level →
+    slice_get (level_jobs m level) block ≡ Some (level, block)
 level_job_at m level block lt =
     let n : ℕ = block_count m level in
     let inside : block < length (range_with_len 0 n) = omega (arith, length-range_with_len 0 n) in
     slice_get-map (λ b. (level, b)) (range_with_len 0 n) block
     ∙ ap (option_map (λ b. (level, b)))
-    (slice_get-get_or (range_with_len 0 n) block 0 inside ∙ ap Some (get_or-range_with_len 0 n block 0 lt ∙ zero-add block))
+    (slice_get-get_or (range_with_len 0 n) block 0 inside
+    ∙ ap Some (get_or-range_with_len 0 n block 0 lt ∙ zero-add block))
 
 -- a block of a level comes after the jobs of the levels below and the blocks before it
 pub job_at :
@@ -63,7 +66,8 @@ job_at m t level block n le lt e =
     let rest : List (ℕ × ℕ) = flat_map (level_jobs m) (range_with_len (level + 1) (t - level)) in
     let all : level + 1 + (t - level) ≡ t + 1 = omega arith in
     let split = range_with_len-append 0 (level + 1) (t - level) (level + 1) (omega arith) in
-    let cut = ap (flat_map (level_jobs m)) (rw all at split) ∙ flat_map-append (level_jobs m) (range_with_len 0 (level + 1)) (range_with_len (level + 1) (t - level)) in
+    let cut = ap (flat_map (level_jobs m)) (rw all at split)
+    ∙ flat_map-append (level_jobs m) (range_with_len 0 (level + 1)) (range_with_len (level + 1) (t - level)) in
     let inside : n < length (jobs_below m (level + 1)) = omega (arith, length-jobs_below m level) in
     ap (λ l. slice_get l n) cut
     ∙ slice_get-append_left (jobs_below m (level + 1)) rest n inside

@@ -19,7 +19,8 @@ range_with_len-append a (suc n) l b e =
     let more : suc n + l ≡ suc (n + l) = omega arith in
     rw more (ap (λ t. a ∷ t) (range_with_len-append (a + 1) n l b (omega arith)))
 
-pub slice_get-append_left : {X : Type 0} (xs ys : List X) (n : ℕ) → n < length xs → slice_get (xs ++ ys) n ≡ slice_get xs n
+pub slice_get-append_left : {X : Type 0} (xs ys : List X) (n : ℕ) → n < length xs →
+    slice_get (xs ++ ys) n ≡ slice_get xs n
 slice_get-append_left [] ys n h = absurd (omega arith)
 slice_get-append_left (x ∷ xs) ys zero h = refl
 slice_get-append_left (x ∷ xs) ys (suc n) h = slice_get-append_left xs ys n (omega arith)
@@ -60,7 +61,8 @@ kept_more p m =
 
 -- after those below low comes the first one from low on
 pub kept_at :
-    (p : ℕ → Bool) (low m : ℕ) → low ≤ m → slice_get (kept p m) (length (kept p low)) ≡ find p (range_with_len low (m - low))
+    (p : ℕ → Bool) (low m : ℕ) → low ≤ m → slice_get (kept p m) (length (kept p low))
+    ≡ find p (range_with_len low (m - low))
 kept_at p low m le =
     let rest : List ℕ = filter p (range_with_len low (m - low)) in
     ap (λ l. slice_get l (length (kept p low))) (kept_split p low m le)
@@ -96,11 +98,14 @@ kept_is p (suc m) place x e =
     let split = rw (kept_suc p m) at e in
     ⊎_elim
     (λ lt.
-    let below = kept_is p m place x (sym (slice_get-append_left (kept p m) (cond (p m) (m ∷ []) []) place lt) ∙ split) in
+    let below =
+    kept_is p m place x (sym (slice_get-append_left (kept p m) (cond (p m) (m ∷ []) []) place lt) ∙ split) in
     record { below = omega (arith, below.below); passes = below.passes; before = below.before })
     (λ le.
     let i : ℕ = place - length (kept p m) in
-    let own = single (p m) m i x (sym (slice_get-append_right (kept p m) (cond (p m) (m ∷ []) []) place i (omega arith)) ∙ split) in
+    let own =
+    single (p m) m i x (sym (slice_get-append_right (kept p m) (cond (p m) (m ∷ []) []) place i (omega arith))
+    ∙ split) in
     let same : m ≡ x = own.2 in
     let before : length (kept p m) ≡ place = omega (arith, own.1) in
     record { below = omega arith; passes = rw same at own.0; before = rw same at before })

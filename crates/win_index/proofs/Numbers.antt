@@ -22,12 +22,17 @@ windows-suc k m = refl
 windows_none : (m n : ℕ) (list : List ℕ) → slice_get ([] ∷ []) n ≡ Some list → IsWindow zero m list
 windows_none m zero list at' =
     let empty : [] ≡ list = same_Some [] list at' in
-    rw (← empty) (record { size = refl; below = All-nil (λ x. x < m); distinct = λ i j d lt within. absurd (omega arith) })
+    rw (← empty) (record {
+      size = refl;
+      below = All-nil (λ x. x < m);
+      distinct = λ i j d lt within. absurd (omega arith);
+    })
 windows_none m (suc n) list at' = absurd (none-some list at')
 
 -- a window with one more number that it lacks is a window
 pub push_window :
-    (k m x : ℕ) (front : List ℕ) → IsWindow k m front → x < m → is_used front x ≡ false → IsWindow (suc k) m (front ++ x ∷ [])
+    (k m x : ℕ) (front : List ℕ) → IsWindow k m front → x < m → is_used front x ≡ false →
+    IsWindow (suc k) m (front ++ x ∷ [])
 push_window k m x front window lt free =
     record {
       size = omega (arith, length_push front x, window.size);
@@ -40,7 +45,8 @@ length-extended k m front window =
     let all = length-map (unused m front) (λ x. front ++ x ∷ []) in
     omega (arith, all, length-unused front m window.distinct window.below, window.size)
 
-map_some : {A B : Type 0} (f : A → B) (o : Option A) (b : B) → option_map f o ≡ Some b → (a : A) × (o ≡ Some a) × (f a ≡ b)
+map_some : {A B : Type 0} (f : A → B) (o : Option A) (b : B) → option_map f o ≡ Some b →
+    (a : A) × (o ≡ Some a) × (f a ≡ b)
 map_some f None b e = absurd (none-some b e)
 map_some f (Some a) b e = (a, refl, same_Some (f a) b e)
 
@@ -69,7 +75,8 @@ extended_at m place front list at' =
     let longer : ℕ → List ℕ = λ x. front ++ x ∷ [] in
     map_some longer (slice_get (unused m front) place) list (sym (slice_get-map longer (unused m front) place) ∙ at')
 
-parts_with : (k m n : ℕ) (list : List ℕ) → HoldsWindows k m → slice_get (windows (suc k) m) n ≡ Some list → Parts k m n list
+parts_with : (k m n : ℕ) (list : List ℕ) → HoldsWindows k m →
+    slice_get (windows (suc k) m) n ≡ Some list → Parts k m n list
 parts_with k m n list all at' =
     let joined = rw (windows-suc k m) at at' in
     let piece = piece_of (extended m) (windows k m) (m - k) n list (pieces_even k m all) joined in
@@ -92,35 +99,41 @@ windows_all (suc k) m n list at' =
     let parts = parts_with k m n list (windows_all k m) at' in
     let last = kept_is (lacks parts.front) m parts.rest parts.last parts.last_at in
     let free = not-true (is_used parts.front parts.last) last.passes in
-    rw parts.whole (push_window k m parts.last parts.front (windows_all k m parts.place parts.front parts.front_at) last.below free)
+    rw parts.whole (push_window k m parts.last parts.front
+    (windows_all k m parts.place parts.front parts.front_at) last.below free)
 
 pub window_parts : (k m n : ℕ) (list : List ℕ) → slice_get (windows (suc k) m) n ≡ Some list → Parts k m n list
 window_parts k m n list at' = parts_with k m n list (windows_all k m) at'
 
 pub window_from_parts :
     (k m place rest last : ℕ) (front : List ℕ) → slice_get (windows k m) place ≡ Some front
-    → slice_get (unused m front) rest ≡ Some last → slice_get (windows (suc k) m) (place * (m - k) + rest) ≡ Some (front ++ last ∷ [])
+    → slice_get (unused m front) rest ≡ Some last → slice_get (windows (suc k) m) (place * (m - k) + rest)
+    ≡ Some (front ++ last ∷ [])
 window_from_parts k m place rest last front front_at last_at =
     let longer : ℕ → List ℕ = λ x. front ++ x ∷ [] in
     let item = slice_get-map longer (unused m front) rest ∙ ap (option_map longer) last_at in
     rw (windows-suc k m)
-    (piece_at (extended m) (windows k m) (m - k) place rest front (front ++ last ∷ []) (pieces_even k m (windows_all k m)) front_at item)
+    (piece_at (extended m) (windows k m) (m - k) place rest front (front ++ last ∷ [])
+    (pieces_even k m (windows_all k m)) front_at item)
 
 pub length-windows : (k m : ℕ) → length (windows k m) ≡ falling m k
 length-windows zero m = rw (windows-zero m)
 length-windows (suc k) m =
     rw (windows-suc k m)
-    (length_pieces (extended m) (windows k m) (m - k) (pieces_even k m (windows_all k m)) ∙ ap (λ n. n * (m - k)) (length-windows k m))
+    (length_pieces (extended m) (windows k m) (m - k) (pieces_even k m (windows_all k m))
+    ∙ ap (λ n. n * (m - k)) (length-windows k m))
 
 -- the number of a window with one identifier more
 pub window_step :
     (k m n x : ℕ) (front : List ℕ) → slice_get (windows k m) n ≡ Some front → x < m → is_used front x ≡ false
     → slice_get (windows (suc k) m) (n * (m - k) + length (unused x front)) ≡ Some (front ++ x ∷ [])
-window_step k m n x front at' lt free = window_from_parts k m n (length (unused x front)) x front at' (unused_at front m x lt free)
+window_step k m n x front at' lt free =
+    window_from_parts k m n (length (unused x front)) x front at' (unused_at front m x lt free)
 
 -- a window has one position
 pub one_place :
-    (k m i j : ℕ) (list : List ℕ) → slice_get (windows k m) i ≡ Some list → slice_get (windows k m) j ≡ Some list → i ≡ j
+    (k m i j : ℕ) (list : List ℕ) → slice_get (windows k m) i ≡ Some list →
+    slice_get (windows k m) j ≡ Some list → i ≡ j
 one_place zero m i j list at_i at_j =
     let first = slice_get_within (windows zero m) i list at_i in
     let second = slice_get_within (windows zero m) j list at_j in
@@ -134,7 +147,9 @@ one_place (suc k) m i j list at_i at_j =
     let last : second.last ≡ first.last = sym same.1 in
     let place = one_place k m first.place second.place first.front first.front_at (rw front at second.front_at) in
     let own = kept_is (lacks first.front) m first.rest first.last first.last_at in
-    let other_at : slice_get (unused m first.front) second.rest ≡ Some first.last = rw (front, last) at second.last_at in
+    let other_at : slice_get (unused m first.front) second.rest ≡ Some first.last =
+    rw (front, last) at second.last_at in
     let other = kept_is (lacks first.front) m second.rest first.last other_at in
     let rest : first.rest ≡ second.rest = sym own.before ∙ other.before in
-    first.number ∙ ap (λ p. p * (m - k) + first.rest) place ∙ ap (λ r. second.place * (m - k) + r) rest ∙ sym second.number
+    first.number ∙ ap (λ p. p * (m - k) + first.rest) place ∙ ap (λ r. second.place * (m - k) + r) rest
+    ∙ sym second.number

@@ -16,7 +16,8 @@ module _ (m : ℕ) (x : List ℕ) where
   apart q i j within clean lt stood =
       let size = length-take-le q x within in
       let first : i < q = omega (arith, stood.0) in
-      clean.distinct i j 0 stood.0 (omega (arith, size)) (get_or-take q x i 0 first ∙ stood.1 ∙ sym (get_or-take q x j 0 lt))
+      clean.distinct i j 0 stood.0 (omega (arith, size))
+      (get_or-take q x i 0 first ∙ stood.1 ∙ sym (get_or-take q x j 0 lt))
 
   -- the identifier of place p is too large, or occurs before it
   abbrev Faulty : ℕ → Type 0
@@ -25,11 +26,13 @@ module _ (m : ℕ) (x : List ℕ) where
   not_before : (p q : ℕ) → q ≤ length x → HasNoFaultBefore q m x → Faulty p → p < q → ⊥
   not_before p q within clean (inl large) lt =
       let size = length-take-le q x within in
-      let below : get_or x p 0 < m = subst (λ n. n < m) (get_or-take q x p 0 lt) (clean.below p 0 (omega (arith, size))) in
+      let below : get_or x p 0 < m =
+      subst (λ n. n < m) (get_or-take q x p 0 lt) (clean.below p 0 (omega (arith, size))) in
       absurd (omega arith)
   not_before p q within clean (inr (i, stood)) lt = apart q i p within clean lt stood
 
-  same_place : (p q : ℕ) → p < length x → q < length x → HasNoFaultBefore p m x → HasNoFaultBefore q m x → Faulty p → Faulty q → p ≡ q
+  same_place : (p q : ℕ) → p < length x → q < length x → HasNoFaultBefore p m x → HasNoFaultBefore q m x →
+      Faulty p → Faulty q → p ≡ q
   same_place p q in_p in_q clean_p clean_q fault_p fault_q =
       elim (cases_order p q) [
         | inl e ↦ e

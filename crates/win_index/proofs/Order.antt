@@ -28,10 +28,16 @@ before_last (c ∷ a) x y lt = inr (refl, before_last a x y lt)
 rest_is_below : (k m n : ℕ) (list : List ℕ) (parts : Parts k m n list) → parts.rest + 1 ≤ m - k
 rest_is_below k m n list parts =
     let window = windows_all k m parts.place parts.front parts.front_at in
-    omega (arith, slice_get_within (unused m parts.front) parts.rest parts.last parts.last_at, length-unused parts.front m window.distinct window.below, window.size)
+    omega (
+      arith,
+      slice_get_within (unused m parts.front) parts.rest parts.last parts.last_at,
+      length-unused parts.front m window.distinct window.below,
+      window.size,
+    )
 
 pub in_order :
-    (k m i j : ℕ) (a b : List ℕ) → i < j → slice_get (windows k m) i ≡ Some a → slice_get (windows k m) j ≡ Some b → StandsBefore a b
+    (k m i j : ℕ) (a b : List ℕ) → i < j → slice_get (windows k m) i ≡ Some a →
+    slice_get (windows k m) j ≡ Some b → StandsBefore a b
 in_order zero m i j a b lt at_i at_j =
     absurd (omega (arith, slice_get_within (windows zero m) j b at_j, length-windows zero m))
 in_order (suc k) m i j a b lt at_i at_j =
@@ -46,13 +52,15 @@ in_order (suc k) m i j a b lt at_i at_j =
     let last_at : slice_get (unused m first.front) second.rest ≡ Some second.last = rw front at second.last_at in
     let before : first.place * (m - k) ≡ second.place * (m - k) = ap (λ p. p * (m - k)) same in
     let later : first.rest < second.rest = omega (arith, first.number, second.number) in
-    let less = kept_increases (lacks first.front) m first.rest second.rest first.last second.last later first.last_at last_at in
+    let less = kept_increases (lacks first.front) m first.rest second.rest first.last second.last later
+    first.last_at last_at in
     rw (first.whole, second.whole, front) (before_last first.front first.last second.last less))
     (λ (other : (first.place < second.place) ⊎ (second.place < first.place)).
     ⊎_elim
     (λ (less : first.place < second.place).
     let before = in_order k m first.place second.place first.front second.front less first.front_at second.front_at in
-    rw (first.whole, second.whole) (before_push first.front second.front first.last second.last (first_size ∙ sym second_size) before))
+    rw (first.whole, second.whole)
+    (before_push first.front second.front first.last second.last (first_size ∙ sym second_size) before))
     (λ (more : second.place < first.place).
     let below = rest_is_below k m j b second in
     let all = mul-le (suc second.place) (m - k) first.place (m - k) more (omega arith) in

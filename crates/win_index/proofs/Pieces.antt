@@ -28,12 +28,14 @@ length_pieces f (x ∷ xs) c each =
 
 pub piece_at :
     {X Y : Type 0} (f : X → List Y) (xs : List X) (c place rest : ℕ) (x : X) (item : Y) → HasPieces f xs c
-    → slice_get xs place ≡ Some x → slice_get (f x) rest ≡ Some item → slice_get (flat_map f xs) (place * c + rest) ≡ Some item
+    → slice_get xs place ≡ Some x → slice_get (f x) rest ≡ Some item →
+    slice_get (flat_map f xs) (place * c + rest) ≡ Some item
 piece_at f [] c place rest x item each source_at item_at = absurd (none-some x source_at)
 piece_at f (y ∷ xs) c zero rest x item each source_at item_at =
     let same : y ≡ x = same_Some y x source_at in
     let number : zero * c + rest ≡ rest = omega arith in
-    rw (number, same) (slice_get-append_left (f x) (flat_map f xs) rest (slice_get_within (f x) rest item item_at) ∙ item_at)
+    rw (number, same) (slice_get-append_left (f x) (flat_map f xs) rest (slice_get_within (f x) rest item item_at)
+    ∙ item_at)
 piece_at f (y ∷ xs) c (suc place) rest x item each source_at item_at =
     let first = each zero y refl in
     let beyond : suc place * c + rest ≡ length (f y) + (place * c + rest) = omega (arith, first, suc-mul place c) in

@@ -47,7 +47,8 @@ number_of_none k m list other = none (number_of k m list) refl
     none (Some n) e = absurd (other (windows_all k m n list (number_of_some k m n list e)))
 
 -- the item at a position does not occur before it
-pub free_at : (list : List ℕ) (j : ℕ) → IsDistinct list → j < length list → is_used (take j list) (get_or list j 0) ≡ false
+pub free_at : (list : List ℕ) (j : ℕ) → IsDistinct list → j < length list →
+    is_used (take j list) (get_or list j 0) ≡ false
 free_at list j distinct lt =
     lacks_from_differs (take j list) (get_or list j 0) (λ k within e.
     let short = length-take-le j list (omega arith) in
@@ -66,13 +67,15 @@ front_more p m list lt window below free =
 -- the number of the first j+1 identifiers of a window, from that of the first j
 pub front_step :
     (k m j n : ℕ) (list : List ℕ) → IsWindow k m list → j < k → slice_get (windows j m) n ≡ Some (take j list)
-    → slice_get (windows (j + 1) m) (n * (m - j) + length (unused (get_or list j 0) (take j list))) ≡ Some (take (j + 1) list)
+    → slice_get (windows (j + 1) m) (n * (m - j) + length (unused (get_or list j 0) (take j list)))
+    ≡ Some (take (j + 1) list)
 front_step k m j n list window lt at' =
     let size = window.size in
     let within : j < length list = omega arith in
     let more = take_more list j 0 within in
     let x : ℕ = get_or list j 0 in
-    let step = window_step j m n x (take j list) at' (window.below j 0 within) (free_at list j window.distinct within) in
+    let step =
+    window_step j m n x (take j list) at' (window.below j 0 within) (free_at list j window.distinct within) in
     rw (more, add-one) step
 
 -- the position of the first j identifiers of a window among the windows of length j
@@ -93,7 +96,11 @@ window_place k m list window =
 
 -- the lists that have a number are the windows
 pub has_number : (k m : ℕ) (list : List ℕ) → IsSome (number_of k m list) ↔ IsWindow k m list
-has_number k m list = (number (number_of k m list) refl, λ window. let place = window_place k m list window in rw (number_of_is k m place.0 list place.1))
+has_number k m list = (
+  number (number_of k m list) refl,
+  λ window. let place = window_place k m list window in
+      rw (number_of_is k m place.0 list place.1),
+)
   where
     number : (o : Option ℕ) → number_of k m list ≡ o → IsSome o → IsWindow k m list
     number None e some = absurd (false≢true some)

@@ -19,7 +19,8 @@ use Rattle.std.proofs.lemmas.List.{take_all}
 
 -- the position of a window, by the numbers of its prefix
 pub at_longer :
-    (k m place : ℕ) (front : RunPrefix) (places : RunPlaces) (window : List ℕ) → 2 ≤ k → IsLonger k m front place window → places.first_gap ≡ front.first_gap
+    (k m place : ℕ) (front : RunPrefix) (places : RunPlaces) (window : List ℕ) → 2 ≤ k →
+    IsLonger k m front place window → places.first_gap ≡ front.first_gap
     → places.second_gap ≡ front.second_gap → places.end + k ≡ m + 2 → IsAtPlace (k - 1) m places window place
 at_longer k m place front places window some is first second end =
     let long : k + 1 ≡ k - 1 + 2 = omega (arith, some) in
@@ -28,12 +29,14 @@ at_longer k m place front places window some is first second end =
     let has = subst (λ n. HasNumbers n m (take n window) front) own is.front in
     record {
       window_is = window_is;
-      run_has = prefix_has_places (k - 1) m window front places (omega (arith, some)) window_is has first second (omega (arith, end, some));
+      run_has = prefix_has_places (k - 1) m window front places (omega (arith, some)) window_is has first second
+          (omega (arith, end, some));
       place_is = subst (λ n. length (unused (get_or window n 0) (drop 2 (take n window))) ≡ place) own is.place_is;
     }
 
 pub longer_at :
-    (k m place : ℕ) (front : RunPrefix) (places : RunPlaces) (window : List ℕ) → 2 ≤ k → IsAtPlace (k - 1) m places window place
+    (k m place : ℕ) (front : RunPrefix) (places : RunPlaces) (window : List ℕ) → 2 ≤ k →
+    IsAtPlace (k - 1) m places window place
     → HasNumbers k m (take k window) front → IsLonger k m front place window
 longer_at k m place front places window some is has =
     let long : k - 1 + 2 ≡ k + 1 = omega (arith, some) in
@@ -46,23 +49,32 @@ longer_at k m place front places window some is has =
 
 -- the next window of the same run
 pub in_run :
-    (k m place next : ℕ) (front : RunPrefix) (places : RunPlaces) (list : List ℕ) → 2 ≤ k → IsLonger k m front place list → places.first_gap ≡ front.first_gap
+    (k m place next : ℕ) (front : RunPrefix) (places : RunPlaces) (list : List ℕ) → 2 ≤ k →
+    IsLonger k m front place list → places.first_gap ≡ front.first_gap
     → places.second_gap ≡ front.second_gap → places.end + k ≡ m + 2
-    → ((k m : ℕ) (window : List ℕ) → 1 ≤ k → IsAtPlace k m places window place → (later : List ℕ) × IsAtPlace k m places later next × (take (k + 1) later ≡ take (k + 1) window) × IsNext (k + 2) m window later)
+    → ((k m : ℕ) (window : List ℕ) → 1 ≤ k → IsAtPlace k m places window place →
+    (later : List ℕ) × IsAtPlace k m places later next × (take (k + 1) later ≡ take (k + 1) window)
+    × IsNext (k + 2) m window later)
     → (later : List ℕ) × IsNext (k + 1) m list later × IsLonger k m front next later
 in_run k m place next front places list some is first second end after =
-    let later = after (k - 1) m list (omega (arith, some)) (at_longer k m place front places list some is first second end) in
+    let later =
+    after (k - 1) m list (omega (arith, some)) (at_longer k m place front places list some is first second end) in
     let own : k - 1 + 1 ≡ k = omega (arith, some) in
     let long : k - 1 + 2 ≡ k + 1 = omega (arith, some) in
     let same : take k later.0 ≡ take k list = subst (λ n. take n later.0 ≡ take n list) own later.2 in
-    let has : HasNumbers k m (take k later.0) front = rw same is.front in
-    (later.0, subst (λ n. IsNext n m list later.0) long later.3, longer_at k m next front places later.0 some later.1 has)
+    let has : HasNumbers k m (take k later.0) front = rw same is.front in (
+      later.0,
+      subst (λ n. IsNext n m list later.0) long later.3,
+      longer_at k m next front places later.0 some later.1 has,
+    )
 
 -- the same for lists of another length that is the same
-pub at_size : (k m k' m' : ℕ) (prefix next : RunPrefix) → k ≡ k' → m ≡ m' → IsNextPrefix k m prefix next → IsNextPrefix k' m' prefix next
+pub at_size : (k m k' m' : ℕ) (prefix next : RunPrefix) → k ≡ k' → m ≡ m' → IsNextPrefix k m prefix next →
+    IsNextPrefix k' m' prefix next
 at_size k m k' m' prefix next len ids steps = rw (← len, ← ids) steps
 
-pub last_at_size : (k m k' m' : ℕ) (prefix : RunPrefix) → k ≡ k' → m ≡ m' → IsLastPrefix k m prefix → IsLastPrefix k' m' prefix
+pub last_at_size : (k m k' m' : ℕ) (prefix : RunPrefix) → k ≡ k' → m ≡ m' → IsLastPrefix k m prefix →
+    IsLastPrefix k' m' prefix
 last_at_size k m k' m' prefix len ids ends = rw (← len, ← ids) ends
 
 -- the window after the last one of a run: the next prefix with the least identifier that it lacks
@@ -74,7 +86,8 @@ pub record Carried (k m : ℕ) (list later : List ℕ) : Type 0 where
   pub follows : IsNext (k + 1) m list window
 
 pub carried :
-    (k m : ℕ) (list later : List ℕ) → k < m → IsWindow (k + 1) m list → IsLastOfRun (k + 1) m list → IsNext k m (take k list) later → Carried k m list later
+    (k m : ℕ) (list later : List ℕ) → k < m → IsWindow (k + 1) m list → IsLastOfRun (k + 1) m list →
+    IsNext k m (take k list) later → Carried k m list later
 carried k m list later short is greatest next =
     let size = is.size in
     let front = shorter_window (k + 1) m k list refl (rw (take_all (k + 1) list (omega (arith, size))) is) in
@@ -82,12 +95,14 @@ carried k m list later short is greatest next =
     let none = run_ends (k + 1) m k list refl is greatest in
     let y : ℕ = get_or (unused m later) 0 0 in
     let many = length-unused later m later_is.distinct later_is.below in
-    let least : slice_get (unused m later) 0 ≡ Some y = slice_get-get_or (unused m later) 0 0 (omega (arith, many, later_is.size, short)) in
+    let least : slice_get (unused m later) 0 ≡ Some y =
+    slice_get-get_or (unused m later) 0 0 (omega (arith, many, later_is.size, short)) in
     let kept = kept_is (lacks later) m 0 y least in
     let long : suc k ≡ k + 1 = omega arith in
     let step = next_front k m (get_or list k 0) y (take k list) later none next least in
     let begins : take k (later ++ y ∷ []) ≡ later = take_front k later y later_is.size in
-    let end : get_or (later ++ y ∷ []) k 0 ≡ y = subst (λ i. get_or (later ++ y ∷ []) i 0 ≡ y) later_is.size (get_or-append_seam later y [] 0) in
+    let end : get_or (later ++ y ∷ []) k 0 ≡ y =
+    subst (λ i. get_or (later ++ y ∷ []) i 0 ≡ y) later_is.size (get_or-append_seam later y [] 0) in
     record {
       window = later ++ y ∷ [];
       window_is = rw long at (push_window k m y later later_is kept.below (not-true (is_used later y) kept.passes));
@@ -97,7 +112,8 @@ carried k m list later short is greatest next =
     }
 
 pub carried_none :
-    (k m : ℕ) (list : List ℕ) → IsWindow (k + 1) m list → IsLastOfRun (k + 1) m list → IsLast k m (take k list) → IsLast (k + 1) m list
+    (k m : ℕ) (list : List ℕ) → IsWindow (k + 1) m list → IsLastOfRun (k + 1) m list →
+    IsLast k m (take k list) → IsLast (k + 1) m list
 carried_none k m list is greatest last =
     let none = run_ends (k + 1) m k list refl is greatest in
     let long : suc k ≡ k + 1 = omega arith in
@@ -105,9 +121,12 @@ carried_none k m list is greatest last =
 
 -- the same by the numbers of the prefixes
 pub carry :
-    (k m place first : ℕ) (front later : RunPrefix) (places : RunPlaces) (list : List ℕ) → 2 ≤ k → k < m → IsLonger k m front place list
-    → IsLastOfRun (k - 1 + 2) m list → IsNextPrefix k m front later → places.first_gap ≡ later.first_gap → places.second_gap ≡ later.second_gap → places.end + k ≡ m + 2
-    → ((k m : ℕ) (window : List ℕ) → 1 ≤ k → IsWindow (k + 2) m window → HasPlaces k m window places → IsFirstOfRun (k + 1) m window → IsAtPlace k m places window first)
+    (k m place first : ℕ) (front later : RunPrefix) (places : RunPlaces) (list : List ℕ) → 2 ≤ k → k < m →
+    IsLonger k m front place list
+    → IsLastOfRun (k - 1 + 2) m list → IsNextPrefix k m front later → places.first_gap ≡ later.first_gap →
+    places.second_gap ≡ later.second_gap → places.end + k ≡ m + 2
+    → ((k m : ℕ) (window : List ℕ) → 1 ≤ k → IsWindow (k + 2) m window → HasPlaces k m window places →
+    IsFirstOfRun (k + 1) m window → IsAtPlace k m places window first)
     → (window : List ℕ) × IsNext (k + 1) m list window × IsLonger k m later first window
 carry k m place first front later places list some short is greatest steps first_gap second_gap end at_first =
     let step = steps (take k list) is.front in
@@ -116,19 +135,25 @@ carry k m place first front later places list some short is greatest steps first
     let got = carried k m list step.0 short is.window_is (subst (λ n. IsLastOfRun n m list) long greatest) step.1 in
     let has : HasNumbers k m (take k got.window) later = rw got.begins step.2 in
     let window_is = subst (λ n. IsWindow n m got.window) (sym long) got.window_is in
-    let places_are = prefix_has_places (k - 1) m got.window later places (omega (arith, some)) window_is (subst (λ n. HasNumbers n m (take n got.window) later) own has) first_gap second_gap (omega (arith, end, some)) in
-    let here = at_first (k - 1) m got.window (omega (arith, some)) window_is places_are (subst (λ n. IsFirstOfRun n m got.window) own got.first) in
+    let places_are =
+    prefix_has_places (k - 1) m got.window later places (omega (arith, some)) window_is
+    (subst (λ n. HasNumbers n m (take n got.window) later) own has) first_gap second_gap
+    (omega (arith, end, some)) in
+    let here = at_first (k - 1) m got.window (omega (arith, some)) window_is places_are
+    (subst (λ n. IsFirstOfRun n m got.window) own got.first) in
     (got.window, got.follows, longer_at k m first later places got.window some here has)
 
 pub carry_none :
-    (k m place : ℕ) (front : RunPrefix) (list : List ℕ) → 2 ≤ k → IsLonger k m front place list → IsLastOfRun (k - 1 + 2) m list → IsLastPrefix k m front → IsLast (k + 1) m list
+    (k m place : ℕ) (front : RunPrefix) (list : List ℕ) → 2 ≤ k → IsLonger k m front place list →
+    IsLastOfRun (k - 1 + 2) m list → IsLastPrefix k m front → IsLast (k + 1) m list
 carry_none k m place front list some is greatest ends =
     let long : k - 1 + 2 ≡ k + 1 = omega (arith, some) in
     carried_none k m list is.window_is (subst (λ n. IsLastOfRun n m list) long greatest) (ends (take k list) is.front)
 
 -- the first window of the run after that of a prefix
 pub begins_run :
-    (k m : ℕ) (prefix next : RunPrefix) (last : List ℕ) → k < m → IsNextPrefix k m prefix next → IsWindow (k + 1) m last → IsLastOfRun (k + 1) m last
+    (k m : ℕ) (prefix next : RunPrefix) (last : List ℕ) → k < m → IsNextPrefix k m prefix next →
+    IsWindow (k + 1) m last → IsLastOfRun (k + 1) m last
     → HasNumbers k m (take k last) prefix → BeginsRun k m last next
 begins_run k m prefix next last short steps is greatest has =
     let later = steps (take k last) has in
@@ -142,10 +167,13 @@ begins_run k m prefix next last short steps is greatest has =
     }
 
 pub next_run_begins :
-    (k m : ℕ) (prefix : RunPrefix) (o : Option RunPrefix) → k < m → IfSome o (IsNextPrefix k m prefix) → IfSome o (IsPrefixOfNextRun k m prefix)
+    (k m : ℕ) (prefix : RunPrefix) (o : Option RunPrefix) → k < m → IfSome o (IsNextPrefix k m prefix) →
+    IfSome o (IsPrefixOfNextRun k m prefix)
 next_run_begins k m prefix None short steps = tt
-next_run_begins k m prefix (Some next) short steps = λ last is greatest has. begins_run k m prefix next last short steps is greatest has
+next_run_begins k m prefix (Some next) short steps =
+    λ last is greatest has. begins_run k m prefix next last short steps is greatest has
 
-pub no_run_follows : (k m : ℕ) (prefix : RunPrefix) (o : Option RunPrefix) → IfNone o (IsLastPrefix k m prefix) → IfNone o (IsPrefixOfLastRun k m prefix)
+pub no_run_follows : (k m : ℕ) (prefix : RunPrefix) (o : Option RunPrefix) → IfNone o (IsLastPrefix k m prefix) →
+    IfNone o (IsPrefixOfLastRun k m prefix)
 no_run_follows k m prefix None ends = λ last is greatest has. carried_none k m last is greatest (ends (take k last) has)
 no_run_follows k m prefix (Some next) ends = tt

@@ -13,11 +13,13 @@ use Rattle.win_index.proofs.Unused.{length-unused, unused_at}
 
 -- each prefix has the same number of windows
 length-windows_more : (k m : ℕ) → length (windows (k + 1) m) ≡ length (windows k m) * (m - k)
-length-windows_more k m = length-windows (k + 1) m ∙ falling-add_one m k ∙ ap (λ n. n * (m - k)) (sym (length-windows k m))
+length-windows_more k m =
+    length-windows (k + 1) m ∙ falling-add_one m k ∙ ap (λ n. n * (m - k)) (sym (length-windows k m))
 
 -- a run starts at the number of its prefix times the length of a run
 pub run_start_is :
-    (k m n first : ℕ) (front : List ℕ) → slice_get (windows k m) n ≡ Some front → first ≡ n * (m - k) → IsRunStart k m front first
+    (k m n first : ℕ) (front : List ℕ) → slice_get (windows k m) n ≡ Some front → first ≡ n * (m - k) →
+    IsRunStart k m front first
 run_start_is k m n first front at' first_is =
     let below : n + 1 ≤ length (windows k m) = omega (arith, slice_get_within (windows k m) n front at') in
     let all = mul-le (n + 1) (m - k) (length (windows k m)) (m - k) below (omega arith) in
@@ -49,4 +51,5 @@ pub run_below :
     (k m first : ℕ) (window : List ℕ) → IsWindow (k + 1) m window → IsRunStart k m (take k window) first
     → first + length (unused (get_or window k 0) (take k window)) < length (windows (k + 1) m)
 run_below k m first window is run =
-    slice_get_within (windows (k + 1) m) (first + length (unused (get_or window k 0) (take k window))) window (run.each window is refl)
+    slice_get_within (windows (k + 1) m) (first + length (unused (get_or window k 0) (take k window))) window
+    (run.each window is refl)

@@ -26,7 +26,8 @@ pub record PartsOf (k m n : ℕ) (front : List ℕ) (x : ℕ) : Type 0 where
   pub front_at : slice_get (windows k m) place ≡ Some front
   pub last_at : slice_get (unused m front) rest ≡ Some x
 
-parts_of : (k m n x : ℕ) (front : List ℕ) → slice_get (windows (suc k) m) n ≡ Some (front ++ x ∷ []) → PartsOf k m n front x
+parts_of : (k m n x : ℕ) (front : List ℕ) → slice_get (windows (suc k) m) n ≡ Some (front ++ x ∷ []) →
+    PartsOf k m n front x
 parts_of k m n x front at' =
     let parts = window_parts k m n (front ++ x ∷ []) at' in
     let same = same_from_push parts.front front parts.last x (sym parts.whole) in
@@ -60,7 +61,8 @@ none_at (x ∷ xs) (suc i) e = omega (arith, none_at xs i e)
 
 -- the last number is followed by another that the prefix lacks
 next_here :
-    (k m x y : ℕ) (front : List ℕ) → first_lacked m front (x + 1) ≡ Some y → IsNext (suc k) m (front ++ x ∷ []) (front ++ y ∷ [])
+    (k m x y : ℕ) (front : List ℕ) → first_lacked m front (x + 1) ≡ Some y →
+    IsNext (suc k) m (front ++ x ∷ []) (front ++ y ∷ [])
 next_here k m x y front found n at' =
     let parts = parts_of k m n x front at' in
     let next_at = after m parts.rest x front parts.last_at ∙ found in
@@ -74,7 +76,8 @@ record IsAtEnd (k m n : ℕ) (front : List ℕ) : Type 0 where
   number : n + 1 ≡ (place + 1) * (m - k)
 
 at_end :
-    (k m n x : ℕ) (front : List ℕ) → first_lacked m front (x + 1) ≡ None → slice_get (windows (suc k) m) n ≡ Some (front ++ x ∷ [])
+    (k m n x : ℕ) (front : List ℕ) → first_lacked m front (x + 1) ≡ None →
+    slice_get (windows (suc k) m) n ≡ Some (front ++ x ∷ [])
     → IsAtEnd k m n front
 at_end k m n x front none at' =
     let parts = parts_of k m n x front at' in
@@ -103,7 +106,8 @@ next_front k m x y front later none next least n at' =
 
 -- there is no next prefix
 pub last_of_all :
-    (k m x : ℕ) (front : List ℕ) → first_lacked m front (x + 1) ≡ None → IsLast k m front → IsLast (suc k) m (front ++ x ∷ [])
+    (k m x : ℕ) (front : List ℕ) → first_lacked m front (x + 1) ≡ None → IsLast k m front →
+    IsLast (suc k) m (front ++ x ∷ [])
 last_of_all k m x front none last n at' =
     let end = at_end k m n x front none at' in
     let all = last end.place end.front_at in
@@ -112,7 +116,8 @@ last_of_all k m x front none last n at' =
 -- ---- the same for the first cells of a list
 
 -- a window without its last number
-pub shorter_window : (k m last : ℕ) (list : List ℕ) → k ≡ last + 1 → IsWindow k m (take k list) → IsWindow last m (take last list)
+pub shorter_window : (k m last : ℕ) (list : List ℕ) → k ≡ last + 1 → IsWindow k m (take k list) →
+    IsWindow last m (take last list)
 shorter_window k m last list more window =
     let whole = take-take last k list (omega arith) in
     let size = window.size in
@@ -121,14 +126,16 @@ shorter_window k m last list more window =
     let distinct : AllPairs (λ a b. a ≢ b) (take last (take k list)) = λ i j d lt within.
     let near : j < last = omega arith in
     let nearer : i < last = omega arith in
-    rw (get_or-take last (take k list) i d nearer, get_or-take last (take k list) j d near) (window.distinct i j d lt (omega arith)) in
+    rw (get_or-take last (take k list) i d nearer, get_or-take last (take k list) j d near)
+    (window.distinct i j d lt (omega arith)) in
     rw whole at
     (let front : IsWindow last m (take last (take k list)) =
     record { size = short; below = All-take (λ x. x < m) last (take k list) window.below; distinct = distinct } in
     front)
 
 pub next_in_last_cell :
-    (k m last y : ℕ) (list : List ℕ) → k ≡ last + 1 → last < length list → first_lacked m (take last list) (get_or list last 0 + 1) ≡ Some y
+    (k m last y : ℕ) (list : List ℕ) → k ≡ last + 1 → last < length list →
+    first_lacked m (take last list) (get_or list last 0 + 1) ≡ Some y
     → IsNext k m (take k list) (take k (set list last y))
 next_in_last_cell k m last y list more lt found =
     let old = take_more list last 0 lt in
@@ -147,7 +154,8 @@ next_with_later_front k m last y list later more lt same none next least =
     rw (more, old, new, add-one) step
 
 pub last_with_last_front :
-    (k m last : ℕ) (list : List ℕ) → k ≡ last + 1 → last < length list → first_lacked m (take last list) (get_or list last 0 + 1) ≡ None
+    (k m last : ℕ) (list : List ℕ) → k ≡ last + 1 → last < length list →
+    first_lacked m (take last list) (get_or list last 0 + 1) ≡ None
     → IsLast last m (take last list) → IsLast k m (take k list)
 last_with_last_front k m last list more lt none all =
     let old = take_more list last 0 lt in
@@ -168,14 +176,16 @@ next_is_window k m window next own after' =
     windows_all k m (place.0 + 1) next (after' place.0 place.1)
 
 -- a later prefix lacks some number if there are more numbers than it has
-pub later_lacks : (last m : ℕ) (front later : List ℕ) → last < m → IsWindow last m front → IsNext last m front later → 0 < length (unused m later)
+pub later_lacks : (last m : ℕ) (front later : List ℕ) → last < m → IsWindow last m front →
+    IsNext last m front later → 0 < length (unused m later)
 later_lacks last m front later lt window next =
     let own = next_is_window last m front later window next in
     omega (arith, length-unused later m own.distinct own.below, own.size)
 
 -- if the prefix lacks no number after the last one, no window with this prefix has a larger one
 pub none_larger :
-    (k m last x : ℕ) (list : List ℕ) → k ≡ last + 1 → last < length list → first_lacked m (take last list) (get_or list last 0 + 1) ≡ None
+    (k m last x : ℕ) (list : List ℕ) → k ≡ last + 1 → last < length list →
+    first_lacked m (take last list) (get_or list last 0 + 1) ≡ None
     → IsWindow k m (set list last x) → x ≤ get_or list last 0
 none_larger k m last x list more lt none window =
     let front : List ℕ = take last list in
@@ -188,11 +198,13 @@ none_larger k m last x list more lt none window =
     let differs : (j : ℕ) → j < length front → get_or front j 0 ≢ x = λ j near same.
     let nearer : j < last = omega (arith, length-take-le last list (omega arith)) in
     let before : get_or (set list last x) j 0 ≡ get_or front j 0 =
-    get_or-set_other list last j x 0 (λ (e : j ≡ last). absurd (omega arith)) ∙ sym (get_or-take last list j 0 nearer) in
+    get_or-set_other list last j x 0 (λ (e : j ≡ last). absurd (omega arith))
+    ∙ sym (get_or-take last list j 0 nearer) in
     window.distinct j last 0 nearer (omega arith) (before ∙ same ∙ sym here) in
     let own = slice_get_within (kept (lacks front) m) (length (kept (lacks front) x)) x
     (kept_own (lacks front) x m below (not_from_false (is_used front x) (lacks_from_differs front x differs))) in
-    let all = none_at (kept (lacks front) m) (length (kept (lacks front) low)) (kept_at (lacks front) low m (omega arith) ∙ none) in
+    let all = none_at (kept (lacks front) m) (length (kept (lacks front) low))
+    (kept_at (lacks front) low m (omega arith) ∙ none) in
     absurd (omega (arith, own, all, kept_rises (lacks front) low x (omega arith))))
     (λ (within : x ≤ get_or list last 0). within)
     (cases_lt (get_or list last 0) x)
@@ -212,10 +224,13 @@ run_ends k m last list more window greatest =
       | None ↦ λ found. refl
       | Some y ↦ λ found.
           let whole : take k list ≡ list = take_all k list (omega arith) in
-          let whole_set : take k (set list last y) ≡ set list last y = take_all k (set list last y) (omega (arith, length-set list last y)) in
-          let step : IsNext k m list (set list last y) = rw (whole, whole_set) at (next_in_last_cell k m last y list more lt found) in
+          let whole_set : take k (set list last y) ≡ set list last y =
+          take_all k (set list last y) (omega (arith, length-set list last y)) in
+          let step : IsNext k m list (set list last y) =
+          rw (whole, whole_set) at (next_in_last_cell k m last y list more lt found) in
           let other = next_is_window k m list (set list last y) window step in
           let within : y ≤ x = rw before at (greatest y (rw before other)) in
-          let kept = kept_is (lacks front) m (length (unused x front) + 1) y (after m (length (unused x front)) x front own ∙ found) in
+          let kept = kept_is (lacks front) m (length (unused x front) + 1) y
+          (after m (length (unused x front)) x front own ∙ found) in
           absurd (omega (arith, kept.before, kept_rises (lacks front) y x within))
     ] refl

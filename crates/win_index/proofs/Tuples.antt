@@ -10,7 +10,8 @@ use Rattle.win_index.proofs.Arcs.{length-arc, get_or-arc, take-arc, drop-arc, ar
 use Rattle.win_index.proofs.Sizes.{window_within}
 
 -- an arc that does not go past the last place is a part of the list
-arc_part : (x : List ℕ) (offset count : ℕ) → offset + count ≤ length x → arc x (offset + length x) count ≡ take count (drop offset x)
+arc_part : (x : List ℕ) (offset count : ℕ) → offset + count ≤ length x →
+    arc x (offset + length x) count ≡ take count (drop offset x)
 arc_part x offset count le =
     let long = length-arc x (offset + length x) count in
     let rest = length-drop offset x in
@@ -19,7 +20,8 @@ arc_part x offset count le =
     let within : k < count = omega arith in
     let inside : offset + k < length x = omega arith in
     let turn : offset + length x + k ≡ length x + (offset + k) = omega arith in
-    let place : (offset + length x + k) % length x ≡ offset + k = ap (λ i. i % length x) turn ∙ add-mod_left (length x) (offset + k) ∙ mod-eq_of_lt inside in
+    let place : (offset + length x + k) % length x ≡ offset + k = ap (λ i. i % length x) turn
+    ∙ add-mod_left (length x) (offset + k) ∙ mod-eq_of_lt inside in
     get_or-arc x (offset + length x) count k 0 within
     ∙ ap (λ i. get_or x i 0) place
     ∙ sym (get_or-drop offset x k 0)
@@ -27,7 +29,8 @@ arc_part x offset count le =
 
 -- a list taken as a ring
 pub tuple_ring : (m t extra : ℕ) (list : List ℕ) → 1 ≤ extra → IsWindow (2 * t + 1 + extra) m list
-    → IsRing m t list × (window_around list t t ≡ part_at t 0 list) × ((step : ℕ) → step ≤ extra → window_around list t (t + step) ≡ part_at t step list)
+    → IsRing m t list × (window_around list t t ≡ part_at t 0 list)
+    × ((step : ℕ) → step ≤ extra → window_around list t (t + step) ≡ part_at t step list)
 tuple_ring m t extra list some window =
     let size = window.size in
     let few = window_within (2 * t + 1 + extra) m list window in
@@ -52,5 +55,6 @@ ring_tuple m t extra place ring is long =
       λ step le.
           let later : start + step ≡ place + step + length ring - t = omega arith in
           ap (take (2 * t + 1)) (drop-arc ring start count step (omega arith))
-          ∙ take-arc ring (start + step) (count - step) (2 * t + 1) (omega arith) ∙ ap (λ i. arc ring i (2 * t + 1)) later,
+          ∙ take-arc ring (start + step) (count - step) (2 * t + 1) (omega arith)
+          ∙ ap (λ i. arc ring i (2 * t + 1)) later,
     )

@@ -36,9 +36,11 @@ pub lacks_differs : (list : List ℕ) (x : ℕ) → is_used list x ≡ false →
 lacks_differs list x free k d lt e =
     false≢true (sym free ∙ list_any_at (λ z. eqb z x) list k d lt (eq-eqb (get_or list k d) x e))
 
-pub lacks_from_differs : (list : List ℕ) (x : ℕ) → ((k : ℕ) → k < length list → get_or list k 0 ≢ x) → is_used list x ≡ false
+pub lacks_from_differs : (list : List ℕ) (x : ℕ) → ((k : ℕ) → k < length list → get_or list k 0 ≢ x) →
+    is_used list x ≡ false
 lacks_from_differs list x differs =
-    list_any_none (λ z. eqb z x) list (λ k d lt. ne_eqb _ _ (λ e. differs k lt (sym (get_or_default_zero list k d lt) ∙ e)))
+    list_any_none (λ z. eqb z x) list
+    (λ k d lt. ne_eqb _ _ (λ e. differs k lt (sym (get_or_default_zero list k d lt) ∙ e)))
 
 rank_zero : (list : List ℕ) → rank list 0 ≡ 0
 rank_zero [] = refl
@@ -60,7 +62,8 @@ rank_push [] x y = elim (nat_lt x y) as (λ b. cond b (1 + 0) 0 ≡ 0 + cond b 1
 ]
 rank_push (z ∷ list) x y =
     let rest = rank_push list x y in
-    elim (nat_lt z y) as (λ b. cond b (1 + rank (list ++ x ∷ []) y) (rank (list ++ x ∷ []) y) ≡ cond b (1 + rank list y) (rank list y) + cond (nat_lt x y) 1 0) [
+    elim (nat_lt z y) as (λ b. cond b (1 + rank (list ++ x ∷ []) y) (rank (list ++ x ∷ []) y)
+    ≡ cond b (1 + rank list y) (rank list y) + cond (nat_lt x y) 1 0) [
       | true ↦ omega (arith, rest)
       | false ↦ omega (arith, rest)
     ]
@@ -103,23 +106,35 @@ length-unused_rank list zero distinct = omega (arith, rank_zero list)
 length-unused_rank list (suc x) distinct =
     let fewer = length-unused_rank list x distinct in
     let one : List ℕ = cond (lacks list x) (x ∷ []) [] in
-    omega (arith, ap length (kept_suc (lacks list) x), length-append (kept (lacks list) x) one, fewer, rank_suc list x distinct, length_single (is_used list x) x)
+    omega (
+      arith,
+      ap length (kept_suc (lacks list) x),
+      length-append (kept (lacks list) x) one,
+      fewer,
+      rank_suc list x distinct,
+      length_single (is_used list x) x,
+    )
 
 -- of m numbers a list of distinct ones below m lacks the others
-pub length-unused : (list : List ℕ) (m : ℕ) → IsDistinct list → All (λ x. x < m) list → length (unused m list) + length list ≡ m
+pub length-unused : (list : List ℕ) (m : ℕ) → IsDistinct list → All (λ x. x < m) list →
+    length (unused m list) + length list ≡ m
 length-unused list m distinct below = omega (arith, length-unused_rank list m distinct, rank_all list m below)
 
 -- a number that the list lacks comes after those below it
-pub unused_at : (list : List ℕ) (m x : ℕ) → x < m → is_used list x ≡ false → slice_get (unused m list) (length (unused x list)) ≡ Some x
+pub unused_at : (list : List ℕ) (m x : ℕ) → x < m → is_used list x ≡ false →
+    slice_get (unused m list) (length (unused x list)) ≡ Some x
 unused_at list m x lt free = kept_own (lacks list) x m lt (not_from_false (is_used list x) free)
 
 -- the number of values below x that the list lacks is x less the number of its elements below x
-pub unused_below : (list : List ℕ) (x : ℕ) → IsDistinct list → length (unused x list) + count_by (λ y. nat_lt y x) list ≡ x
+pub unused_below : (list : List ℕ) (x : ℕ) → IsDistinct list →
+    length (unused x list) + count_by (λ y. nat_lt y x) list ≡ x
 unused_below list x distinct = omega (arith, length-unused_rank list x distinct, rank_is_count list x)
 
 -- one more is counted if the list lacks it
 pub unused_more :
-    (list : List ℕ) (x : ℕ) → (is_used list x ≡ false → length (unused (x + 1) list) ≡ length (unused x list) + 1) × (is_used list x ≡ true → length (unused (x + 1) list) ≡ length (unused x list))
+    (list : List ℕ) (x : ℕ) →
+    (is_used list x ≡ false → length (unused (x + 1) list) ≡ length (unused x list) + 1)
+    × (is_used list x ≡ true → length (unused (x + 1) list) ≡ length (unused x list))
 unused_more list x =
     let one : List ℕ = cond (lacks list x) (x ∷ []) [] in
     let more = ap length (kept_more (lacks list) x) ∙ length-append (kept (lacks list) x) one in (
@@ -141,7 +156,10 @@ unused_few list x (suc more) =
     let one = unused_more list (x + more) in
     let sum : x + suc more ≡ x + more + 1 = omega arith in
     rw sum
-    (elim (is_used list (x + more)) as (λ used. (used ≡ false → length (unused (x + more + 1) list) ≡ length (unused (x + more) list) + 1) → (used ≡ true → length (unused (x + more + 1) list) ≡ length (unused (x + more) list)) → length (unused (x + more + 1) list) ≤ length (unused x list) + suc more) [
+    (elim (is_used list (x + more)) as (λ used.
+    (used ≡ false → length (unused (x + more + 1) list) ≡ length (unused (x + more) list) + 1) →
+    (used ≡ true → length (unused (x + more + 1) list) ≡ length (unused (x + more) list)) →
+    length (unused (x + more + 1) list) ≤ length (unused x list) + suc more) [
       | true ↦ λ free used. omega (arith, fewer, used refl)
       | false ↦ λ free used. omega (arith, fewer, free refl)
     ] one.0 one.1)
@@ -157,7 +175,8 @@ unused_below_bound list x m fewer =
 -- the number before x has this position if the list lacks one more number below x than the position, and no more below
 -- x - 1
 pub unused_before :
-    (list : List ℕ) (m place x : ℕ) → 1 ≤ x → x ≤ m → length (unused (x - 1) list) ≤ place → length (unused x list) ≡ place + 1
+    (list : List ℕ) (m place x : ℕ) → 1 ≤ x → x ≤ m → length (unused (x - 1) list) ≤ place →
+    length (unused x list) ≡ place + 1
     → slice_get (unused m list) place ≡ Some (x - 1)
 unused_before list m place x some le before own =
     let y : ℕ = x - 1 in
@@ -184,7 +203,8 @@ unused_reached list place x more some sum =
 -- if the list lacks more numbers below m than the position, that step stays within m, and finds at most one number more
 -- than the position
 pub reached_inside :
-    (list : List ℕ) (m place x more : ℕ) → 1 ≤ more → length (unused x list) + more ≡ place + 1 → place < length (unused m list)
+    (list : List ℕ) (m place x more : ℕ) → 1 ≤ more → length (unused x list) + more ≡ place + 1 →
+    place < length (unused m list)
     → (length (unused (x + more - 1) list) ≤ place) × (x + more ≤ m) × (length (unused (x + more) list) ≤ place + 1)
 reached_inside list m place x more some sum few =
     let before = unused_reached list place x more some sum in
@@ -194,7 +214,8 @@ reached_inside list m place x more some sum few =
 
 -- a number in front of a list is one that it no longer lacks
 pub unused_in_front :
-    (y x : ℕ) (list : List ℕ) → IsDistinct (y ∷ list) → length (unused x (y ∷ list)) + cond (nat_lt y x) 1 0 ≡ length (unused x list)
+    (y x : ℕ) (list : List ℕ) → IsDistinct (y ∷ list) →
+    length (unused x (y ∷ list)) + cond (nat_lt y x) 1 0 ≡ length (unused x list)
 unused_in_front y x list distinct =
     let longer = length-unused_rank (y ∷ list) x distinct in
     let shorter = length-unused_rank list x (distinct_tail y list distinct) in
@@ -206,9 +227,11 @@ unused_in_front y x list distinct =
 
 -- a number at the end of a list is one that it no longer lacks
 pub unused_at_end :
-    (y x : ℕ) (list : List ℕ) → IsDistinct list → is_used list x ≡ false → length (unused y (list ++ x ∷ [])) + cond (nat_lt x y) 1 0 ≡ length (unused y list)
+    (y x : ℕ) (list : List ℕ) → IsDistinct list → is_used list x ≡ false →
+    length (unused y (list ++ x ∷ [])) + cond (nat_lt x y) 1 0 ≡ length (unused y list)
 unused_at_end y x list distinct free =
-    let longer = length-unused_rank (list ++ x ∷ []) y (all_pairs_push (λ a b. a ≢ b) list x distinct (lacks_differs list x free)) in
+    let longer = length-unused_rank (list ++ x ∷ []) y
+    (all_pairs_push (λ a b. a ≢ b) list x distinct (lacks_differs list x free)) in
     omega (arith, longer, length-unused_rank list y distinct, rank_push list x y)
 
 -- the empty list lacks each number

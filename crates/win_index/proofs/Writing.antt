@@ -10,7 +10,8 @@ use Rattle.win_index.proofs.Numbers.{windows-zero, windows_all, window_from_part
 use Rattle.win_index.proofs.Sizes.{falling-add_one, some_window}
 
 -- the one window of length 0
-pub only_window : (k m n : ℕ) (list : List ℕ) → k ≡ 0 → n < length (windows k m) → slice_get (windows k m) n ≡ Some (take k list)
+pub only_window : (k m n : ℕ) (list : List ℕ) → k ≡ 0 → n < length (windows k m) →
+    slice_get (windows k m) n ≡ Some (take k list)
 only_window k m n list empty lt =
     let one = length-windows zero m in
     let few : n < length (windows zero m) = rw empty at lt in
@@ -37,7 +38,8 @@ rest_below m last n place front at' lt =
 
 pub written :
     (k m last n x : ℕ) (list : List ℕ) → k ≡ last + 1 → last < length list
-    → slice_get (windows last m) (n / (m - last)) ≡ Some (take last list) → slice_get (unused m (take last list)) (n % (m - last)) ≡ Some x
+    → slice_get (windows last m) (n / (m - last)) ≡ Some (take last list) →
+    slice_get (unused m (take last list)) (n % (m - last)) ≡ Some x
     → slice_get (windows k m) n ≡ Some (take k (set list last x))
 written k m last n x list more lt front_at last_at =
     let new = take_more_set list last x lt in

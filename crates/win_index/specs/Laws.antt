@@ -27,7 +27,8 @@ WindowsHaveNumbers = (k m : ℕ) (list : List ℕ) → IsSome (number_of k m lis
 -- of two windows the one with the smaller number stands before the other in lexicographic order
 abbrev pub WindowsAreInOrder : Type 0
 WindowsAreInOrder =
-    (k m i j : ℕ) (a b : List ℕ) → i < j → slice_get (windows k m) i ≡ Some a → slice_get (windows k m) j ≡ Some b → StandsBefore a b
+    (k m i j : ℕ) (a b : List ℕ) → i < j → slice_get (windows k m) i ≡ Some a →
+    slice_get (windows k m) j ≡ Some b → StandsBefore a b
 
 -- there are as many windows of length k below m as the product of the k numbers from m down
 abbrev pub CountOfWindows : Type 0
@@ -65,7 +66,8 @@ BlocksHaveJobs =
 -- the identifiers around a place of a ring are a window
 abbrev pub RingsHaveWindows : Type 0
 RingsHaveWindows =
-    (m t level place : ℕ) (ring : List ℕ) → IsRing m t ring → level ≤ t → IsWindow (2 * level + 1) m (window_around ring level place)
+    (m t level place : ℕ) (ring : List ℕ) → IsRing m t ring → level ≤ t →
+    IsWindow (2 * level + 1) m (window_around ring level place)
 
 -- a list of 2t+1+extra distinct identifiers, taken as a ring, has at place t+step its window from the offset step on
 abbrev pub TuplesAreRings : Type 0

@@ -47,9 +47,11 @@ pub record BeginsRun (k m : ℕ) (last : List ℕ) (prefix : RunPrefix) : Type 0
 -- the run after that of the prefix with these numbers has the prefix with those
 abbrev pub IsPrefixOfNextRun : ℕ → ℕ → RunPrefix → RunPrefix → Type 0
 IsPrefixOfNextRun k m prefix next =
-    (last : List ℕ) → IsWindow (k + 1) m last → IsLastOfRun (k + 1) m last → HasNumbers k m (take k last) prefix → BeginsRun k m last next
+    (last : List ℕ) → IsWindow (k + 1) m last → IsLastOfRun (k + 1) m last →
+    HasNumbers k m (take k last) prefix → BeginsRun k m last next
 
 -- no run is after that of the prefix with these numbers
 abbrev pub IsPrefixOfLastRun : ℕ → ℕ → RunPrefix → Type 0
 IsPrefixOfLastRun k m prefix =
-    (last : List ℕ) → IsWindow (k + 1) m last → IsLastOfRun (k + 1) m last → HasNumbers k m (take k last) prefix → IsLast (k + 1) m last
+    (last : List ℕ) → IsWindow (k + 1) m last → IsLastOfRun (k + 1) m last →
+    HasNumbers k m (take k last) prefix → IsLast (k + 1) m last

@@ -42,8 +42,10 @@ pub record IsReplacedByRun (k m : ℕ) (is_replaced : Bool) (old new : List ℕ)
 -- their suffixes, the windows of length k without the first two identifiers, are consecutive too.
 abbrev pub IsSeries : ℕ → ℕ → List ℕ → ℕ → Type 0
 IsSeries k m first count =
-    (n low j : ℕ) → slice_get (windows (k + 2) m) n ≡ Some first → slice_get (windows k m) low ≡ Some (drop 2 first) → j < count
-    → (window : List ℕ) × (slice_get (windows (k + 2) m) (n + j) ≡ Some window) × (take (k + 1) window ≡ take (k + 1) first)
+    (n low j : ℕ) → slice_get (windows (k + 2) m) n ≡ Some first →
+    slice_get (windows k m) low ≡ Some (drop 2 first) → j < count
+    → (window : List ℕ) × (slice_get (windows (k + 2) m) (n + j) ≡ Some window)
+    × (take (k + 1) window ≡ take (k + 1) first)
     × (slice_get (windows k m) (low + j) ≡ Some (drop 2 window))
 
 -- The position of the number x among those that a window of length k+2 lacks without its last and its first two

@@ -4,7 +4,8 @@ use Rattle.win_index.proofs.Writing.{only_window, some_left, front_below, rest_b
 use Rattle.win_index.proofs.arrangement.+write_list.Goals as goal
 
 pub returns-then-len-eq0-clause-item : goal.returns-then-len-eq0-clause-item
-returns-then-len-eq0-clause-item t c = only_window c.args.len c.args.ids c.args.number c.args.list.now c.if-len-eq0.true c.requires.below
+returns-then-len-eq0-clause-item t c =
+    only_window c.args.len c.args.ids c.args.number c.args.list.now c.if-len-eq0.true c.requires.below
 
 pub returns-then-len-eq0-clause-window : goal.returns-then-len-eq0-clause-window
 returns-then-len-eq0-clause-window t c = windows_all _ _ _ _ (returns-then-len-eq0-clause-item t c)
@@ -35,7 +36,9 @@ nth_unused-requires t c =
     let left = some_left c.args.len c.args.ids last c.args.number (omega arith) c.requires.below in
     record {
       distinct = c.write_list.ensures.window.distinct;
-      place = rw c.from.ensures (rest_below c.args.ids last c.args.number _ (take last c.write_list.new.list) c.write_list.ensures.item left);
+      place =
+          rw c.from.ensures (rest_below c.args.ids last c.args.number _ (take last c.write_list.new.list)
+          c.write_list.ensures.item left);
     }
 
 pub returns-clause-item : goal.returns-clause-item
@@ -43,7 +46,8 @@ returns-clause-item t c =
     let last = c.args.len - 1 in
     let front = rw c.from.ensures at c.write_list.ensures.item in
     let rest = rw c.from.ensures at c.nth_unused.ensures in
-    written c.args.len c.args.ids last c.args.number c.nth_unused.result c.write_list.new.list (omega arith) (omega arith) front rest
+    written c.args.len c.args.ids last c.args.number c.nth_unused.result c.write_list.new.list (omega arith)
+    (omega arith) front rest
 
 pub returns-clause-window : goal.returns-clause-window
 returns-clause-window t c = windows_all _ _ _ _ (returns-clause-item t c)

@@ -4,7 +4,8 @@ use Rattle.win_index.proofs.Successors.{last_of_none, shorter_window, next_in_la
 use Rattle.win_index.proofs.arrangement.+write_next.Goals as goal
 
 pub returns-then-len-eq0-clause-last : goal.returns-then-len-eq0-clause-last
-returns-then-len-eq0-clause-last t c = last_of_none c.args.len c.args.ids (take c.args.len c.args.list.now) c.if-len-eq0.true
+returns-then-len-eq0-clause-last t c =
+    last_of_none c.args.len c.args.ids (take c.args.len c.args.list.now) c.if-len-eq0.true
 
 pub returns-in-Some-clause-next : goal.returns-in-Some-clause-next
 returns-in-Some-clause-next t c =
@@ -13,11 +14,17 @@ returns-in-Some-clause-next t c =
 
 pub returns-in-Some-clause-window : goal.returns-in-Some-clause-window
 returns-in-Some-clause-window t c =
-    next_is_window c.args.len c.args.ids (take c.args.len c.args.list.now) _ c.requires.window (returns-in-Some-clause-next t c)
+    next_is_window c.args.len c.args.ids (take c.args.len c.args.list.now) _ c.requires.window
+    (returns-in-Some-clause-next t c)
 
 pub write_next-requires : goal.write_next-requires
-write_next-requires t c =
-    (omega arith, (omega arith, shorter_window c.args.len c.args.ids (c.args.len - 1) c.args.list.now (omega arith) c.requires.window))
+write_next-requires t c = (
+  omega arith,
+  (
+    omega arith,
+    shorter_window c.args.len c.args.ids (c.args.len - 1) c.args.list.now (omega arith) c.requires.window,
+  ),
+)
 
 pub returns-then-not-write_next-clause-last : goal.returns-then-not-write_next-clause-last
 returns-then-not-write_next-clause-last t c =
@@ -31,12 +38,14 @@ nth_unused-requires t c =
     let within = window_within _ _ _ c.requires.window in
     record {
       distinct = c.if-not-write_next.ensures.window.distinct;
-      place = later_lacks last c.args.ids (take last c.args.list.now) (take last c.write_next.new.list) (omega arith) front c.if-not-write_next.ensures.next;
+      place = later_lacks last c.args.ids (take last c.args.list.now) (take last c.write_next.new.list) (omega arith)
+          front c.if-not-write_next.ensures.next;
     }
 
 pub returns-clause-next : goal.returns-clause-next
 returns-clause-next t c =
-    next_with_later_front c.args.len c.args.ids (c.args.len - 1) c.nth_unused.result c.args.list.now c.write_next.new.list (omega arith) (omega arith)
+    next_with_later_front c.args.len c.args.ids (c.args.len - 1) c.nth_unused.result c.args.list.now
+    c.write_next.new.list (omega arith) (omega arith)
     (omega arith) (sym c.least_unused.ensures ∙ c.in_default.is) c.if-not-write_next.ensures.next c.nth_unused.ensures
 
 pub returns-clause-window : goal.returns-clause-window

@@ -3,13 +3,16 @@ use Rattle.win_index.proofs.Unused.{unused_below, reached_inside, unused_before}
 use Rattle.win_index.proofs.arrangement.nth_unused.Goals as goal
 
 pub overflow_cast-end : goal.overflow_cast-end
-overflow_cast-end c = omega (arith, unused_below c.args.before.now c.args.ids c.requires.distinct, c.requires.place, c.ranges.ids.fits)
+overflow_cast-end c =
+    omega (arith, unused_below c.args.before.now c.args.ids c.requires.distinct, c.requires.place, c.ranges.ids.fits)
 
 pub overflow_add-end : goal.overflow_add-end
-overflow_add-end c = omega (arith, unused_below c.args.before.now c.args.ids c.requires.distinct, c.requires.place, c.ranges.ids.fits)
+overflow_add-end c =
+    omega (arith, unused_below c.args.before.now c.args.ids c.requires.distinct, c.requires.place, c.ranges.ids.fits)
 
 pub overflow_add-lacking : goal.overflow_add-lacking
-overflow_add-lacking c = omega (arith, unused_below c.args.before.now c.args.ids c.requires.distinct, c.requires.place, c.ranges.ids.fits)
+overflow_add-lacking c =
+    omega (arith, unused_below c.args.before.now c.args.ids c.requires.distinct, c.requires.place, c.ranges.ids.fits)
 
 pub overflow_sub-lacking : goal.overflow_sub-lacking
 overflow_sub-lacking c =
@@ -31,13 +34,20 @@ loop-lacking-init c =
 
 pub overflow_cast-end-in-loop-lacking : goal.overflow_cast-end-in-loop-lacking
 overflow_cast-end-in-loop-lacking c =
-    omega (arith, c.loop-lacking.invariant.lacking, unused_below c.args.before.now c.args.ids c.requires.distinct, c.requires.place, c.ranges.ids.fits)
+    omega (
+      arith,
+      c.loop-lacking.invariant.lacking,
+      unused_below c.args.before.now c.args.ids c.requires.distinct,
+      c.requires.place,
+      c.ranges.ids.fits,
+    )
 
 pub overflow_add-end-in-loop-lacking : goal.overflow_add-end-in-loop-lacking
 overflow_add-end-in-loop-lacking c =
     omega (
       arith,
-      (reached_inside c.args.before.now c.args.ids c.args.place c.loop-lacking.end c.loop-lacking.lacking (omega (arith, c.loop-lacking-test.true))
+      (reached_inside c.args.before.now c.args.ids c.args.place c.loop-lacking.end c.loop-lacking.lacking
+          (omega (arith, c.loop-lacking-test.true))
           c.loop-lacking.invariant.lacking c.requires.place).1,
       c.ranges.ids.fits,
     )
@@ -49,14 +59,16 @@ overflow_add-lacking-in-loop-lacking c =
 pub overflow_sub-lacking-in-loop-lacking : goal.overflow_sub-lacking-in-loop-lacking
 overflow_sub-lacking-in-loop-lacking c =
     let list = c.args.before.now in
-    let reached = reached_inside list c.args.ids c.args.place c.loop-lacking.end c.loop-lacking.lacking (omega (arith, c.loop-lacking-test.true))
+    let reached = reached_inside list c.args.ids c.args.place c.loop-lacking.end c.loop-lacking.lacking
+    (omega (arith, c.loop-lacking-test.true))
     c.loop-lacking.invariant.lacking c.requires.place in
     omega (arith, c.unused_below-in-loop-lacking.ensures, reached.2)
 
 pub loop-lacking-preserved : goal.loop-lacking-preserved
 loop-lacking-preserved c =
     let list = c.args.before.now in
-    let reached = reached_inside list c.args.ids c.args.place c.loop-lacking.end c.loop-lacking.lacking (omega (arith, c.loop-lacking-test.true))
+    let reached = reached_inside list c.args.ids c.args.place c.loop-lacking.end c.loop-lacking.lacking
+    (omega (arith, c.loop-lacking-test.true))
     c.loop-lacking.invariant.lacking c.requires.place in
     record {
       some = omega (arith, c.loop-lacking-test.true);
@@ -67,5 +79,6 @@ loop-lacking-preserved c =
 
 pub returns : goal.returns
 returns c =
-    unused_before c.args.before.now c.args.ids c.args.place c.loop-lacking.end c.loop-lacking.invariant.some c.loop-lacking.invariant.inside
+    unused_before c.args.before.now c.args.ids c.args.place c.loop-lacking.end c.loop-lacking.invariant.some
+    c.loop-lacking.invariant.inside
     c.loop-lacking.invariant.before_end (omega (arith, c.loop-lacking.invariant.lacking, c.loop-lacking-test.false))

@@ -5,7 +5,8 @@ use Rattle.win_index.proofs.ring.first_fault.Goals as goal
 
 pub loop-place-preserved : goal.loop-place-preserved
 loop-place-preserved c =
-    front_more _ _ _ c.loop-place-test.true c.loop-place.invariant c.if-id-shape.false (lacks_from_differs _ _ c.in_default.ensures)
+    front_more _ _ _ c.loop-place-test.true c.loop-place.invariant c.if-id-shape.false
+    (lacks_from_differs _ _ c.in_default.ensures)
 
 pub returns : goal.returns
 returns c =

@@ -18,22 +18,30 @@ unused_below-digit-requires c = (windows_all _ _ _ _ c.loop-place.invariant).dis
 
 -- the number after this position
 next :
-    (k m j number free digit : ℕ) (list : List ℕ) → IsWindow k m list → j < k → slice_get (windows j m) number ≡ Some (take j list)
+    (k m j number free digit : ℕ) (list : List ℕ) → IsWindow k m list → j < k →
+    slice_get (windows j m) number ≡ Some (take j list)
     → free ≡ m - j → digit ≡ length (unused (get_or list j 0) (take j list))
     → slice_get (windows (j + 1) m) (number * free + digit) ≡ Some (take (j + 1) list)
-next k m j number free digit list window lt at' free_is digit_is = rw (free_is, digit_is) (front_step k m j number list window lt at')
+next k m j number free digit list window lt at' free_is digit_is =
+    rw (free_is, digit_is) (front_step k m j number list window lt at')
 
 pub loop-place-preserved : goal.loop-place-preserved
 loop-place-preserved c =
     let place = c.loop-place.place in
-    next c.args.self.len c.args.self.ids place c.loop-place.number _ _ c.args.list.now c.requires (omega (arith, c.loop-place-test.true, c.requires.size))
+    next c.args.self.len c.args.self.ids place c.loop-place.number _ _ c.args.list.now c.requires
+    (omega (arith, c.loop-place-test.true, c.requires.size))
     c.loop-place.invariant (ap (λ n. n - place) c.from.ensures) c.unused_below-digit.ensures
 
 -- it is below the number of lists
 pub overflow_add-number : goal.overflow_add-number
 overflow_add-number c =
     let at' = loop-place-preserved c in
-    omega (arith, number_fits c.args.self.ids (c.loop-place.place + 1) c.args.self.len _ _ at' (omega (arith, c.requires.size)) c.args.self.short, c.args.self.few)
+    omega (
+      arith,
+      number_fits c.args.self.ids (c.loop-place.place + 1) c.args.self.len _ _ at'
+          (omega (arith, c.requires.size)) c.args.self.short,
+      c.args.self.few,
+    )
 
 pub overflow_mul-number : goal.overflow_mul-number
 overflow_mul-number c = omega (arith, overflow_add-number c)

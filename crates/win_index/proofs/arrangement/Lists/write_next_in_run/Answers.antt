@@ -12,7 +12,8 @@ returns-in_default c =
       next = search rules;
       front = refl;
       last = λ x window.
-          none_larger len c.args.self.ids (len - 1) x c.args.list.now (omega arith) (omega arith) (sym c.least_unused.ensures ∙ c.in_default.is) window;
+          none_larger len c.args.self.ids (len - 1) x c.args.list.now (omega arith) (omega arith)
+          (sym c.least_unused.ensures ∙ c.in_default.is) window;
       same = refl;
       window = c.requires.window;
     }
@@ -24,8 +25,14 @@ returns c =
     let list = c.args.list.now in
     let size = c.requires.window.size in
     let set_is : IsNext len ids (take len list) (take len (set list (len - 1) c.in-Some.next)) =
-    next_in_last_cell len ids (len - 1) c.in-Some.next list (omega arith) (omega arith) (sym c.least_unused.ensures ∙ c.in-Some.is) in
-    let next = rw (take_all len list (omega arith), take_all len (set list (len - 1) c.in-Some.next) (omega (arith, length-set list (len - 1) c.in-Some.next))) at set_is in
+    next_in_last_cell len ids (len - 1) c.in-Some.next list (omega arith) (omega arith)
+    (sym c.least_unused.ensures ∙ c.in-Some.is) in
+    let next =
+    rw (
+      take_all len list (omega arith),
+      take_all len (set list (len - 1) c.in-Some.next)
+          (omega (arith, length-set list (len - 1) c.in-Some.next)),
+    ) at set_is in
     record {
       next = next;
       front = take-set list (len - 1) c.in-Some.next;

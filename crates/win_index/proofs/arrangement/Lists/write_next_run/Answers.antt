@@ -19,7 +19,8 @@ returns-then-not-write_next c =
           let size = ends.last_is.size in
           let none = run_ends len ids (len - 1) list (omega arith) ends.last_is ends.none_larger in
           let whole : take len list ≡ list = take_all len list (omega arith) in
-          rw whole at (last_with_last_front len ids (len - 1) list (omega arith) (omega arith) none (rw ends.same c.if-not-write_next.ensures.last));
+          rw whole at (last_with_last_front len ids (len - 1) list (omega arith) (omega arith) none
+          (rw ends.same c.if-not-write_next.ensures.last));
       same = c.if-not-write_next.ensures.same;
       window = rw c.if-not-write_next.ensures.same c.requires.window;
     }
@@ -33,7 +34,8 @@ nth_unused-least-requires-clause-place c =
     let whole : take len list ≡ list = take_all len list (omega arith) in
     let front = shorter_window len ids (len - 1) list (omega arith) (rw whole c.requires.window) in
     let within = window_within _ _ _ c.requires.window in
-    later_lacks (len - 1) ids (take (len - 1) list) (take (len - 1) c.write_next.new.list) (omega arith) front c.if-not-write_next.ensures.next
+    later_lacks (len - 1) ids (take (len - 1) list) (take (len - 1) c.write_next.new.list) (omega arith) front
+    c.if-not-write_next.ensures.next
 
 pub returns : goal.returns
 returns c =
@@ -44,12 +46,14 @@ returns c =
     let y = c.nth_unused-least.result in
     let front = take (len - 1) later in
     let kept = kept_is (lacks front) ids 0 y c.nth_unused-least.ensures in
-    let made = push_window (len - 1) ids y front c.if-not-write_next.ensures.window kept.below (not-true (is_used front y) kept.passes) in
+    let made = push_window (len - 1) ids y front c.if-not-write_next.ensures.window kept.below
+    (not-true (is_used front y) kept.passes) in
     let more : suc (len - 1) ≡ len = omega arith in
     let last : len - 1 + 1 ≡ len = omega arith in
     let whole_set : take (len - 1 + 1) (set later (len - 1) y) ≡ set later (len - 1) y =
     take_all (len - 1 + 1) (set later (len - 1) y) (omega (arith, length-set later (len - 1) y)) in
-    let is : front ++ y ∷ [] ≡ set later (len - 1) y = sym (take_more_set later (len - 1) y (omega arith)) ∙ whole_set in
+    let is : front ++ y ∷ [] ≡ set later (len - 1) y = sym (take_more_set later (len - 1) y (omega arith))
+    ∙ whole_set in
     let set_is : take len (set later (len - 1) y) ≡ set later (len - 1) y =
     take_all len (set later (len - 1) y) (omega (arith, length-set later (len - 1) y)) in
     record {
@@ -57,7 +61,8 @@ returns c =
           let size = ends.last_is.size in
           let none = run_ends len ids (len - 1) list (omega arith) ends.last_is ends.none_larger in
           let whole : take len list ≡ list = take_all len list (omega arith) in
-          rw (whole, set_is) at (next_with_later_front len ids (len - 1) y list later (omega arith) (omega arith) (omega arith) none
+          rw (whole, set_is) at (next_with_later_front len ids (len - 1) y list later (omega arith) (omega arith)
+          (omega arith) none
           (rw ends.same c.if-not-write_next.ensures.next) c.nth_unused-least.ensures);
       last = search rules;
       same = search rules;

@@ -11,8 +11,12 @@ overflow_add-result-2 c =
     let lists = c.args.self in
     let prefix = c.args.prefix in
     let free : lists.ids - (lists.len - 1) ≡ lists.ids - lists.len + 1 = omega (arith, lists.some, lists.short) in
-    let middle = rw free at (grown lists.len lists.ids c.args.place prefix c.requires.0 lists.some c.requires.1).middle in
-    let inside = slice_get_within (windows lists.len lists.ids) (prefix.middle * (lists.ids - lists.len + 1) + (c.args.place - below prefix.second_gap c.args.place)) (drop 1 c.requires.0) middle in
+    let middle =
+    rw free at (grown lists.len lists.ids c.args.place prefix c.requires.0 lists.some c.requires.1).middle in
+    let inside =
+    slice_get_within (windows lists.len lists.ids)
+    (prefix.middle * (lists.ids - lists.len + 1) + (c.args.place - below prefix.second_gap c.args.place))
+    (drop 1 c.requires.0) middle in
     omega (arith, inside, length-windows lists.len lists.ids, lists.few, c.one_if_below.ensures.value)
 
 pub overflow_mul-result : goal.overflow_mul-result
@@ -20,8 +24,12 @@ overflow_mul-result c =
     let lists = c.args.self in
     let prefix = c.args.prefix in
     let free : lists.ids - (lists.len - 1) ≡ lists.ids - lists.len + 1 = omega (arith, lists.some, lists.short) in
-    let middle = rw free at (grown lists.len lists.ids c.args.place prefix c.requires.0 lists.some c.requires.1).middle in
-    let inside = slice_get_within (windows lists.len lists.ids) (prefix.middle * (lists.ids - lists.len + 1) + (c.args.place - below prefix.second_gap c.args.place)) (drop 1 c.requires.0) middle in
+    let middle =
+    rw free at (grown lists.len lists.ids c.args.place prefix c.requires.0 lists.some c.requires.1).middle in
+    let inside =
+    slice_get_within (windows lists.len lists.ids)
+    (prefix.middle * (lists.ids - lists.len + 1) + (c.args.place - below prefix.second_gap c.args.place))
+    (drop 1 c.requires.0) middle in
     omega (arith, inside, length-windows lists.len lists.ids, lists.few)
 
 pub overflow_add-result-4 : goal.overflow_add-result-4
@@ -30,7 +38,8 @@ overflow_add-result-4 c =
     let prefix = c.args.prefix in
     let free : lists.ids - (lists.len - 2) ≡ lists.ids - lists.len + 2 = omega (arith, lists.some, lists.short) in
     let last = rw free at (grown lists.len lists.ids c.args.place prefix c.requires.0 lists.some c.requires.1).last in
-    let inside = slice_get_within (windows (lists.len - 1) lists.ids) (prefix.last * (lists.ids - lists.len + 2) + c.args.place) (drop 2 c.requires.0) last in
+    let inside = slice_get_within (windows (lists.len - 1) lists.ids)
+    (prefix.last * (lists.ids - lists.len + 2) + c.args.place) (drop 2 c.requires.0) last in
     let fewer = falling_rises lists.ids (lists.len - 1) lists.len (omega arith) (omega (arith, lists.short)) in
     omega (arith, inside, length-windows (lists.len - 1) lists.ids, fewer, lists.few)
 
@@ -44,5 +53,7 @@ returns c = λ window is.
     let one : lists.ids - lists.len + 1 ≡ lists.ids - (lists.len - 1) = omega (arith, lists.some, lists.short) in
     let two : lists.ids - lists.len + 2 ≡ lists.ids - (lists.len - 2) = omega (arith, lists.some, lists.short) in
     let made = grown lists.len lists.ids c.args.place prefix window lists.some is in
-    grown_numbers lists.len lists.ids c.args.place prefix _ window lists.some is (rw (one, c.one_if_below.ensures.value)) (rw two)
-    (omega (arith, made.first, c.one_if_below-2.ensures.value)) (omega (arith, made.second, c.one_if_below-3.ensures.value))
+    grown_numbers lists.len lists.ids c.args.place prefix _ window lists.some is
+    (rw (one, c.one_if_below.ensures.value)) (rw two)
+    (omega (arith, made.first, c.one_if_below-2.ensures.value))
+    (omega (arith, made.second, c.one_if_below-3.ensures.value))

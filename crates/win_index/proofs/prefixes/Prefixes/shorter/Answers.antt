@@ -9,5 +9,11 @@ invariant_of-result c =
       some = omega (arith, c.requires);
       short = omega (arith, lists.short);
       few_ids = lists.few_ids;
-      few = omega (arith, lists.few, falling_rises lists.ids (lists.len - 1) lists.len (omega arith) (omega (arith, lists.short)));
+      few =
+          omega (
+            arith,
+            lists.few,
+            falling_rises lists.ids (lists.len - 1) lists.len (omega arith)
+                (omega (arith, lists.short)),
+          );
     }

@@ -5,25 +5,29 @@ use Rattle.win_index.proofs.prefixes.Prefixes.without_last.Goals as goal
 pub overflow_add-prefix : goal.overflow_add-prefix
 overflow_add-prefix c =
     let lists = c.args.self in
-    let few = gaps_are_few (lists.len + 1) lists.ids c.requires.list c.args.prefix (omega (arith, lists.some)) c.requires.has in
+    let few = gaps_are_few (lists.len + 1) lists.ids c.requires.list c.args.prefix
+    (omega (arith, lists.some)) c.requires.has in
     omega (arith, few.0, lists.few_ids)
 
 pub overflow_add-prefix-2 : goal.overflow_add-prefix-2
 overflow_add-prefix-2 c =
     let lists = c.args.self in
-    let few = gaps_are_few (lists.len + 1) lists.ids c.requires.list c.args.prefix (omega (arith, lists.some)) c.requires.has in
+    let few = gaps_are_few (lists.len + 1) lists.ids c.requires.list c.args.prefix
+    (omega (arith, lists.some)) c.requires.has in
     omega (arith, few.1, lists.few_ids)
 
 pub overflow_add-shorter-3 : goal.overflow_add-shorter-3
 overflow_add-shorter-3 c =
     let lists = c.args.self in
-    let few = gaps_are_few (lists.len + 1) lists.ids c.requires.list c.args.prefix (omega (arith, lists.some)) c.requires.has in
+    let few = gaps_are_few (lists.len + 1) lists.ids c.requires.list c.args.prefix
+    (omega (arith, lists.some)) c.requires.has in
     omega (arith, few.0, lists.few_ids, c.one_if_below.ensures.few)
 
 pub overflow_add-shorter-4 : goal.overflow_add-shorter-4
 overflow_add-shorter-4 c =
     let lists = c.args.self in
-    let few = gaps_are_few (lists.len + 1) lists.ids c.requires.list c.args.prefix (omega (arith, lists.some)) c.requires.has in
+    let few = gaps_are_few (lists.len + 1) lists.ids c.requires.list c.args.prefix
+    (omega (arith, lists.some)) c.requires.has in
     omega (arith, few.1, lists.few_ids, c.one_if_below-2.ensures.few)
 
 pub returns : goal.returns

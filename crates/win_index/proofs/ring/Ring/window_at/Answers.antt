@@ -8,5 +8,6 @@ returns-clause-window c =
     let filled = rw c.ids-ids.ensures.value at c.loop-k.invariant in
     let place = c.args.place in
     let level = c.args.level in
-    fill_by_all (λ k. get_or x ((place + length x - level + k) % length x) 0) c.loop-k.out (2 * level + 1) 0 (omega arith)
+    fill_by_all (λ k. get_or x ((place + length x - level + k) % length x) 0) c.loop-k.out
+    (2 * level + 1) 0 (omega arith)
     (λ k lt. filled k (omega arith))

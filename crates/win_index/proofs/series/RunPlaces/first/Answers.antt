@@ -9,7 +9,8 @@ returns-clause-place c k m window some is has least =
     record {
       window_is = is;
       run_has = has;
-      place_is = first_place k m _ c.past_gap-2.result c.args.self window some (record { window_is = is; run_has = has; place_is = refl }) least clear;
+      place_is = first_place k m _ c.past_gap-2.result c.args.self window some
+          (record { window_is = is; run_has = has; place_is = refl }) least clear;
     }
 
 pub returns-clause-inside : goal.returns-clause-inside

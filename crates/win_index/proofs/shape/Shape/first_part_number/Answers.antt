@@ -13,4 +13,5 @@ returns c = λ window at'.
     let count : falling (m - 2 * low - 1) 2 ≡ (m - 2 * low - 1) * (m - 2 * low - 1 - 1) =
     ap (λ n. n * (m - 2 * low - 1 - 1)) (omega arith) in
     rw (free, count) at
-    (prefix_number (2 * low + 1) 2 m c.args.number window (subst (λ k. slice_get (windows k m) c.args.number ≡ Some window) long at'))
+    (prefix_number (2 * low + 1) 2 m c.args.number window
+    (subst (λ k. slice_get (windows k m) c.args.number ≡ Some window) long at'))

@@ -10,7 +10,12 @@ returns-then-block-blocks-clause-job c =
 
 pub loop-level-preserved : goal.loop-level-preserved
 loop-level-preserved c =
-    omega (arith, c.loop-level.invariant, c.blocks-blocks.ensures.value, length-jobs_below c.args.self.now.ids c.loop-level.level)
+    omega (
+      arith,
+      c.loop-level.invariant,
+      c.blocks-blocks.ensures.value,
+      length-jobs_below c.args.self.now.ids c.loop-level.level,
+    )
 
 pub unreachable-requires : goal.unreachable-requires
 unreachable-requires c =

@@ -19,7 +19,8 @@ returns-then-level-self-clause-number c =
     let shape = c.args.self.now in
     sym (job_number_none shape.ids shape.rounds c.args.level c.args.block (elim c.then-level-self.branch [
       | then-level-self-via-then-level-self w ↦ λ key. absurd (omega (arith, key.0))
-      | then-level-self-via-else-level-self+then-block-blocks w ↦ λ key. absurd (omega (arith, key.1, w.if-block-blocks.true, w.blocks-else-level-self.ensures.value))
+      | then-level-self-via-else-level-self+then-block-blocks w ↦
+          λ key. absurd (omega (arith, key.1, w.if-block-blocks.true, w.blocks-else-level-self.ensures.value))
     ]))
 
 pub returns-clause-number : goal.returns-clause-number

@@ -14,6 +14,8 @@ pub overflow_mul-result-2 : goal.overflow_mul-result-2
 overflow_mul-result-2 c =
     let shape = c.args.self.now in
     let low : 2 * c.args.below + 2 - 2 ≡ 2 * c.args.below = omega arith in
-    let run = run_start_is (2 * c.args.below) shape.ids c.args.prefix.last _ (drop 2 c.requires.prefix.list) (rw low at c.requires.prefix.has.last) refl in
-    let few = level_is_few shape.ids shape.rounds c.args.below (2 * c.args.below + 1) refl shape.in_range shape.few_windows (omega (arith, c.requires.below)) in
+    let run = run_start_is (2 * c.args.below) shape.ids c.args.prefix.last _ (drop 2 c.requires.prefix.list)
+    (rw low at c.requires.prefix.has.last) refl in
+    let few = level_is_few shape.ids shape.rounds c.args.below (2 * c.args.below + 1) refl shape.in_range
+    shape.few_windows (omega (arith, c.requires.below)) in
     omega (arith, run.within, length-windows (2 * c.args.below + 1) shape.ids, few)

@@ -9,4 +9,5 @@ returns-then-not-has_tuples c =
     let shape = c.args.self.now in
     let len = 2 * shape.rounds + 1 + c.args.extra in
     sym (number_of_none len shape.ids c.args.list.now (λ window.
-    false≢true (sym c.if-not-has_tuples.true ∙ c.has_tuples.ensures.1 (window_within len shape.ids c.args.list.now window))))
+    false≢true (sym c.if-not-has_tuples.true
+    ∙ c.has_tuples.ensures.1 (window_within len shape.ids c.args.list.now window))))
