@@ -94,8 +94,8 @@ at_place g m place f0 f1 x places rest is =
 
 -- the window with these parts, at its position
 pub ends_again :
-    (g m place q f0 f1 x y : ℕ) (places : RunPlaces) (rest : List ℕ) →
-    EndsFront g m places (f0 ∷ f1 ∷ rest) x place → Ends m f0 f1 rest y
+    (g m place q f0 f1 x y : ℕ) (places : RunPlaces) (rest : List ℕ)
+    → EndsFront g m places (f0 ∷ f1 ∷ rest) x place → Ends m f0 f1 rest y
     → length (unused y rest) ≡ q → EndsFront g m places (f0 ∷ f1 ∷ rest) y q
 ends_again g m place q f0 f1 x y places rest is ends at' =
     record {

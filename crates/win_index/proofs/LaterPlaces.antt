@@ -25,8 +25,8 @@ counted list x y free lt =
 
 -- no number ends the prefix at a position between these
 none_between :
-    (g m p q x y f0 f1 : ℕ) (places : RunPlaces) (rest : List ℕ) →
-    EndsFront g m places (f0 ∷ f1 ∷ rest) x p → OnlyGaps places p q → y < m
+    (g m p q x y f0 f1 : ℕ) (places : RunPlaces) (rest : List ℕ)
+    → EndsFront g m places (f0 ∷ f1 ∷ rest) x p → OnlyGaps places p q → y < m
     → is_used (f0 ∷ f1 ∷ rest) y ≡ false → p < length (unused y rest) → length (unused y rest) < q → ⊥
 none_between g m p q x y f0 f1 places rest is only below free from to =
     let three = three_places (g + 2) m y (f0 ∷ f1 ∷ rest) (omega arith) is.front_is below free in
@@ -40,10 +40,10 @@ rest_lacks f0 f1 y rest free =
 
 -- the number at the next position that is no gap is the next one that the prefix lacks
 one_further :
-    (g m p q x z f0 f1 : ℕ) (places : RunPlaces) (rest : List ℕ) →
-    EndsFront g m places (f0 ∷ f1 ∷ rest) x p → OnlyGaps places p q → p < q
-    → EndsFront g m places (f0 ∷ f1 ∷ rest) z q →
-    length (unused z (f0 ∷ f1 ∷ rest)) ≡ length (unused x (f0 ∷ f1 ∷ rest)) + 1
+    (g m p q x z f0 f1 : ℕ) (places : RunPlaces) (rest : List ℕ)
+    → EndsFront g m places (f0 ∷ f1 ∷ rest) x p → OnlyGaps places p q → p < q
+    → EndsFront g m places (f0 ∷ f1 ∷ rest) z q
+    → length (unused z (f0 ∷ f1 ∷ rest)) ≡ length (unused x (f0 ∷ f1 ∷ rest)) + 1
 one_further g m p q x z f0 f1 places rest is only lt there =
     let front : List ℕ = f0 ∷ f1 ∷ rest in
     let x_z : x < z = unused_below_bound rest x z (omega (arith, lt, is.x_at, there.x_at)) in
@@ -73,8 +73,8 @@ pub record Later (k m : ℕ) (places : RunPlaces) (window : List ℕ) (q : ℕ) 
   pub next : IsNext (k + 2) m window later
 
 later_of_front :
-    (g m p q x : ℕ) (places : RunPlaces) (front : List ℕ) → EndsFront g m places front x p →
-    OnlyGaps places p q → p < q → q < places.end
+    (g m p q x : ℕ) (places : RunPlaces) (front : List ℕ) → EndsFront g m places front x p
+    → OnlyGaps places p q → p < q → q < places.end
     → q ≢ places.first_gap → q ≢ places.second_gap → Later (g + 1) m places (front ++ x ∷ []) q
 later_of_front g m p q x places [] is only lt inside not_first not_second = absurd (omega (arith, is.front_is.size))
 later_of_front g m p q x places (f0 ∷ []) is only lt inside not_first not_second =
@@ -103,8 +103,8 @@ later_of_front g m p q x places (f0 ∷ f1 ∷ rest) is only lt inside not_first
     }
 
 pub later_is :
-    (k m p q : ℕ) (places : RunPlaces) (window : List ℕ) → 1 ≤ k → IsAtPlace k m places window p →
-    OnlyGaps places p q → p < q → q < places.end
+    (k m p q : ℕ) (places : RunPlaces) (window : List ℕ) → 1 ≤ k → IsAtPlace k m places window p
+    → OnlyGaps places p q → p < q → q < places.end
     → q ≢ places.first_gap → q ≢ places.second_gap → Later k m places window q
 later_is k m p q places window some is only lt inside not_first not_second =
     let made = later_of_front (k - 1) m p q (get_or window (k + 1) 0) places (take (k + 1) window)
@@ -115,8 +115,8 @@ later_is k m p q places window some is only lt inside not_first not_second =
 
 -- no larger number ends the prefix if there are only gaps up to the end
 none_later_of_front :
-    (g m p q x y : ℕ) (places : RunPlaces) (front : List ℕ) → EndsFront g m places front x p →
-    OnlyGaps places p q → places.end ≤ q → y < m
+    (g m p q x y : ℕ) (places : RunPlaces) (front : List ℕ) → EndsFront g m places front x p
+    → OnlyGaps places p q → places.end ≤ q → y < m
     → is_used front y ≡ false → y ≤ x
 none_later_of_front g m p q x y places [] is only end below free = absurd (omega (arith, is.front_is.size))
 none_later_of_front g m p q x y places (f0 ∷ []) is only end below free = absurd (omega (arith, is.front_is.size))
@@ -131,8 +131,8 @@ none_later_of_front g m p q x y places (f0 ∷ f1 ∷ rest) is only end below fr
     (cases_lt x y)
 
 pub none_later :
-    (k m p q : ℕ) (places : RunPlaces) (window : List ℕ) → 1 ≤ k → IsAtPlace k m places window p →
-    OnlyGaps places p q → places.end ≤ q
+    (k m p q : ℕ) (places : RunPlaces) (window : List ℕ) → 1 ≤ k → IsAtPlace k m places window p
+    → OnlyGaps places p q → places.end ≤ q
     → IsLastOfRun (k + 2) m window
 none_later k m p q places window some is only end y larger =
     let size = is.window_is.size in
@@ -169,8 +169,8 @@ pub record IsNextPlace (places : RunPlaces) (p q : ℕ) : Type 0 where
 
 -- a gap, and perhaps the other after it
 past_one :
-    (from q gap other : ℕ) → from ≡ gap →
-    (q ≡ from + 1) × (from + 1 ≢ gap) × (from + 1 ≢ other) ⊎ (q ≡ from + 2) × (from + 1 ≡ other)
+    (from q gap other : ℕ) → from ≡ gap
+    → (q ≡ from + 1) × (from + 1 ≢ gap) × (from + 1 ≢ other) ⊎ (q ≡ from + 2) × (from + 1 ≡ other)
     → (from ≤ q) × (q ≢ gap) × (q ≢ other) × ((i : ℕ) → from ≤ i → i < q → (i ≡ gap) ⊎ (i ≡ other))
 past_one from q gap other here (inl (near, not_gap, not_other)) = (
   omega (arith, near),
@@ -240,8 +240,8 @@ past_gaps places p a q past again =
 
 -- the first window of a run has the first position that is no gap
 first_of_front :
-    (g m p q x f0 f1 : ℕ) (places : RunPlaces) (rest : List ℕ) → EndsFront g m places (f0 ∷ f1 ∷ rest) x p →
-    IsClearPlace places 0 q
+    (g m p q x f0 f1 : ℕ) (places : RunPlaces) (rest : List ℕ) → EndsFront g m places (f0 ∷ f1 ∷ rest) x p
+    → IsClearPlace places 0 q
     → slice_get (unused m (f0 ∷ f1 ∷ rest)) 0 ≡ Some x → p ≡ q
 first_of_front g m p q x f0 f1 places rest is clear least =
     let front : List ℕ = f0 ∷ f1 ∷ rest in

@@ -28,8 +28,8 @@ length_pieces f (x ∷ xs) c each =
 
 pub piece_at :
     {X Y : Type 0} (f : X → List Y) (xs : List X) (c place rest : ℕ) (x : X) (item : Y) → HasPieces f xs c
-    → slice_get xs place ≡ Some x → slice_get (f x) rest ≡ Some item →
-    slice_get (flat_map f xs) (place * c + rest) ≡ Some item
+    → slice_get xs place ≡ Some x → slice_get (f x) rest ≡ Some item
+    → slice_get (flat_map f xs) (place * c + rest) ≡ Some item
 piece_at f [] c place rest x item each source_at item_at = absurd (none-some x source_at)
 piece_at f (y ∷ xs) c zero rest x item each source_at item_at =
     let same : y ≡ x = same_Some y x source_at in

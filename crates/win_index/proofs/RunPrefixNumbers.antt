@@ -89,8 +89,8 @@ pub record Grown (k m : ℕ) (window : List ℕ) (p : RunPrefix) (place : ℕ) :
   pub second : length (unused (get_or window 1 0) (drop 2 window)) + below place p.second_gap ≡ p.second_gap
 
 grown_front :
-    (k m place x : ℕ) (p : RunPrefix) (front : List ℕ) → 2 ≤ k → HasNumbers k m front p → x < m →
-    is_used front x ≡ false
+    (k m place x : ℕ) (p : RunPrefix) (front : List ℕ) → 2 ≤ k → HasNumbers k m front p → x < m
+    → is_used front x ≡ false
     → length (unused x (drop 2 front)) ≡ place → Grown k m (front ++ x ∷ []) p place
 grown_front k m place x p [] some has x_below x_free x_at = absurd (omega (arith, has.window.size))
 grown_front k m place x p (a ∷ []) some has x_below x_free x_at = absurd (omega (arith, has.window.size))
@@ -147,8 +147,8 @@ grown k m place p window some is =
 pub grown_numbers :
     (k m place : ℕ) (p q : RunPrefix) (window : List ℕ) → 2 ≤ k → IsLonger k m p place window
     → q.middle ≡ p.middle * (m - (k - 1)) + (place - below p.second_gap place) → q.last ≡ p.last * (m - (k - 2)) + place
-    → q.first_gap + below place p.first_gap ≡ p.first_gap →
-    q.second_gap + below place p.second_gap ≡ p.second_gap → HasNumbers (k + 1) m window q
+    → q.first_gap + below place p.first_gap ≡ p.first_gap
+    → q.second_gap + below place p.second_gap ≡ p.second_gap → HasNumbers (k + 1) m window q
 grown_numbers k m place p q window some is middle last first second =
     let made = grown k m place p window some is in
     let one : k + 1 - 1 ≡ k = omega arith in
@@ -180,8 +180,8 @@ record GapsBack (front : List ℕ) (q : RunPrefix) (place : ℕ) : Type 0 where
   pub second : length (unused (get_or front 1 0) (drop 2 front)) ≡ q.second_gap + below place (q.second_gap + 1)
 
 gaps_back :
-    (k m place x : ℕ) (q : RunPrefix) (front : List ℕ) → 2 ≤ k →
-    HasNumbers (k + 1) m (front ++ x ∷ []) q → IsWindow k m front → x < m
+    (k m place x : ℕ) (q : RunPrefix) (front : List ℕ) → 2 ≤ k
+    → HasNumbers (k + 1) m (front ++ x ∷ []) q → IsWindow k m front → x < m
     → is_used front x ≡ false → length (unused x (drop 2 front)) ≡ place → GapsBack front q place
 gaps_back k m place x q [] some has window x_below x_free x_at = absurd (omega (arith, window.size))
 gaps_back k m place x q (a ∷ []) some has window x_below x_free x_at = absurd (omega (arith, window.size))
@@ -212,10 +212,10 @@ gaps_back k m place x q (a ∷ b ∷ rest) some has window x_below x_free x_at =
 
 -- a window by the numbers of its prefix, from its own
 pub shrunk_numbers :
-    (k m place : ℕ) (q p : RunPrefix) (window : List ℕ) → 2 ≤ k → HasNumbers (k + 1) m window q →
-    p.middle ≡ q.middle / (m - (k - 1))
-    → p.last ≡ q.last / (m - (k - 2)) → place ≡ q.last % (m - (k - 2)) →
-    p.first_gap ≡ q.first_gap + below place (q.first_gap + 1)
+    (k m place : ℕ) (q p : RunPrefix) (window : List ℕ) → 2 ≤ k → HasNumbers (k + 1) m window q
+    → p.middle ≡ q.middle / (m - (k - 1))
+    → p.last ≡ q.last / (m - (k - 2)) → place ≡ q.last % (m - (k - 2))
+    → p.first_gap ≡ q.first_gap + below place (q.first_gap + 1)
     → p.second_gap ≡ q.second_gap + below place (q.second_gap + 1) → IsLonger k m p place window
 shrunk_numbers k m place q p window some has middle last place_is first second =
     let size = has.window.size in
@@ -267,10 +267,10 @@ gaps_are_few k m list p some has =
 
 -- the positions for a run follow from the numbers of its prefix
 pub prefix_has_places :
-    (k m : ℕ) (window : List ℕ) (p : RunPrefix) (places : RunPlaces) → 1 ≤ k → IsWindow (k + 2) m window →
-    HasNumbers (k + 1) m (take (k + 1) window) p
-    → places.first_gap ≡ p.first_gap → places.second_gap ≡ p.second_gap → places.end + (k + 1) ≡ m + 2 →
-    HasPlaces k m window places
+    (k m : ℕ) (window : List ℕ) (p : RunPrefix) (places : RunPlaces) → 1 ≤ k → IsWindow (k + 2) m window
+    → HasNumbers (k + 1) m (take (k + 1) window) p
+    → places.first_gap ≡ p.first_gap → places.second_gap ≡ p.second_gap → places.end + (k + 1) ≡ m + 2
+    → HasPlaces k m window places
 prefix_has_places k m window p places some is has first second end =
     record {
       first = rw (get_or-take (k + 1) window 0 0 (omega arith)) at has.first_gap ∙ sym first;

@@ -19,8 +19,8 @@ use Rattle.std.proofs.lemmas.List.{take_all}
 
 -- the position of a window, by the numbers of its prefix
 pub at_longer :
-    (k m place : ℕ) (front : RunPrefix) (places : RunPlaces) (window : List ℕ) → 2 ≤ k →
-    IsLonger k m front place window → places.first_gap ≡ front.first_gap
+    (k m place : ℕ) (front : RunPrefix) (places : RunPlaces) (window : List ℕ) → 2 ≤ k
+    → IsLonger k m front place window → places.first_gap ≡ front.first_gap
     → places.second_gap ≡ front.second_gap → places.end + k ≡ m + 2 → IsAtPlace (k - 1) m places window place
 at_longer k m place front places window some is first second end =
     let long : k + 1 ≡ k - 1 + 2 = omega (arith, some) in
@@ -35,8 +35,8 @@ at_longer k m place front places window some is first second end =
     }
 
 pub longer_at :
-    (k m place : ℕ) (front : RunPrefix) (places : RunPlaces) (window : List ℕ) → 2 ≤ k →
-    IsAtPlace (k - 1) m places window place
+    (k m place : ℕ) (front : RunPrefix) (places : RunPlaces) (window : List ℕ) → 2 ≤ k
+    → IsAtPlace (k - 1) m places window place
     → HasNumbers k m (take k window) front → IsLonger k m front place window
 longer_at k m place front places window some is has =
     let long : k - 1 + 2 ≡ k + 1 = omega (arith, some) in
@@ -49,11 +49,11 @@ longer_at k m place front places window some is has =
 
 -- the next window of the same run
 pub in_run :
-    (k m place next : ℕ) (front : RunPrefix) (places : RunPlaces) (list : List ℕ) → 2 ≤ k →
-    IsLonger k m front place list → places.first_gap ≡ front.first_gap
+    (k m place next : ℕ) (front : RunPrefix) (places : RunPlaces) (list : List ℕ) → 2 ≤ k
+    → IsLonger k m front place list → places.first_gap ≡ front.first_gap
     → places.second_gap ≡ front.second_gap → places.end + k ≡ m + 2
-    → ((k m : ℕ) (window : List ℕ) → 1 ≤ k → IsAtPlace k m places window place →
-    (later : List ℕ) × IsAtPlace k m places later next × (take (k + 1) later ≡ take (k + 1) window)
+    → ((k m : ℕ) (window : List ℕ) → 1 ≤ k → IsAtPlace k m places window place
+    → (later : List ℕ) × IsAtPlace k m places later next × (take (k + 1) later ≡ take (k + 1) window)
     × IsNext (k + 2) m window later)
     → (later : List ℕ) × IsNext (k + 1) m list later × IsLonger k m front next later
 in_run k m place next front places list some is first second end after =
@@ -121,12 +121,12 @@ carried_none k m list is greatest last =
 
 -- the same by the numbers of the prefixes
 pub carry :
-    (k m place first : ℕ) (front later : RunPrefix) (places : RunPlaces) (list : List ℕ) → 2 ≤ k → k < m →
-    IsLonger k m front place list
-    → IsLastOfRun (k - 1 + 2) m list → IsNextPrefix k m front later → places.first_gap ≡ later.first_gap →
-    places.second_gap ≡ later.second_gap → places.end + k ≡ m + 2
-    → ((k m : ℕ) (window : List ℕ) → 1 ≤ k → IsWindow (k + 2) m window → HasPlaces k m window places →
-    IsFirstOfRun (k + 1) m window → IsAtPlace k m places window first)
+    (k m place first : ℕ) (front later : RunPrefix) (places : RunPlaces) (list : List ℕ) → 2 ≤ k → k < m
+    → IsLonger k m front place list
+    → IsLastOfRun (k - 1 + 2) m list → IsNextPrefix k m front later → places.first_gap ≡ later.first_gap
+    → places.second_gap ≡ later.second_gap → places.end + k ≡ m + 2
+    → ((k m : ℕ) (window : List ℕ) → 1 ≤ k → IsWindow (k + 2) m window → HasPlaces k m window places
+    → IsFirstOfRun (k + 1) m window → IsAtPlace k m places window first)
     → (window : List ℕ) × IsNext (k + 1) m list window × IsLonger k m later first window
 carry k m place first front later places list some short is greatest steps first_gap second_gap end at_first =
     let step = steps (take k list) is.front in
@@ -152,8 +152,8 @@ carry_none k m place front list some is greatest ends =
 
 -- the first window of the run after that of a prefix
 pub begins_run :
-    (k m : ℕ) (prefix next : RunPrefix) (last : List ℕ) → k < m → IsNextPrefix k m prefix next →
-    IsWindow (k + 1) m last → IsLastOfRun (k + 1) m last
+    (k m : ℕ) (prefix next : RunPrefix) (last : List ℕ) → k < m → IsNextPrefix k m prefix next
+    → IsWindow (k + 1) m last → IsLastOfRun (k + 1) m last
     → HasNumbers k m (take k last) prefix → BeginsRun k m last next
 begins_run k m prefix next last short steps is greatest has =
     let later = steps (take k last) has in

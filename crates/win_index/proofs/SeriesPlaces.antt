@@ -18,8 +18,8 @@ pub record IsClear (places : RunPlaces) (place end : ℕ) : Type 0 where
 
 -- the windows of a run are in the order of their last identifiers among the numbers that the prefix lacks
 pub along :
-    (k m n j x y : ℕ) (front : List ℕ) → IsWindow k m front → x < m → is_used front x ≡ false → y < m →
-    is_used front y ≡ false
+    (k m n j x y : ℕ) (front : List ℕ) → IsWindow k m front → x < m → is_used front x ≡ false → y < m
+    → is_used front y ≡ false
     → length (unused y front) ≡ length (unused x front) + j → slice_get (windows (suc k) m) n ≡ Some (front ++ x ∷ [])
     → slice_get (windows (suc k) m) (n + j) ≡ Some (front ++ y ∷ [])
 along k m n j x y front window x_below x_free y_below y_free places at' =
@@ -36,8 +36,8 @@ record IsAside (f x y : ℕ) : Type 0 where
   pub differs : f ≢ y
 
 aside :
-    (list : List ℕ) (f x y low high : ℕ) → length (unused x list) ≡ low → low ≤ length (unused y list) →
-    length (unused y list) < high
+    (list : List ℕ) (f x y low high : ℕ) → length (unused x list) ≡ low → low ≤ length (unused y list)
+    → length (unused y list) < high
     → (length (unused f list) < low) ⊎ (high ≤ length (unused f list)) → IsAside f x y
 aside list f x y low high x_at from to (inl before) =
     let below_x = unused_below_bound list f x (omega (arith, before, x_at)) in
@@ -61,14 +61,14 @@ record StandsFurther (g m f0 f1 : ℕ) (rest : List ℕ) (x j y : ℕ) : Type 0 
   pub ends : Ends m f0 f1 rest y
   pub long : (n : ℕ) → slice_get (windows (suc (g + 2)) m) n ≡ Some (f0 ∷ f1 ∷ rest ++ x ∷ [])
       → slice_get (windows (suc (g + 2)) m) (n + j) ≡ Some (f0 ∷ f1 ∷ rest ++ y ∷ [])
-  pub short : (n : ℕ) → slice_get (windows (suc g) m) n ≡ Some (rest ++ x ∷ []) →
-      slice_get (windows (suc g) m) (n + j) ≡ Some (rest ++ y ∷ [])
+  pub short : (n : ℕ) → slice_get (windows (suc g) m) n ≡ Some (rest ++ x ∷ [])
+      → slice_get (windows (suc g) m) (n + j) ≡ Some (rest ++ y ∷ [])
 
 stands_further :
-    (g m p end f0 f1 x j y : ℕ) (places : RunPlaces) (rest : List ℕ) →
-    EndsFront g m places (f0 ∷ f1 ∷ rest) x p → Ends m f0 f1 rest x
-    → IsClear places p end → p + j < end → slice_get (unused m rest) (p + j) ≡ Some y →
-    StandsFurther g m f0 f1 rest x j y
+    (g m p end f0 f1 x j y : ℕ) (places : RunPlaces) (rest : List ℕ)
+    → EndsFront g m places (f0 ∷ f1 ∷ rest) x p → Ends m f0 f1 rest x
+    → IsClear places p end → p + j < end → slice_get (unused m rest) (p + j) ≡ Some y
+    → StandsFurther g m f0 f1 rest x j y
 stands_further g m p end f0 f1 x j y places rest is x_ends clear inside y_at =
     let front_is = is.front_is in
     let rest_is = shorter_by_two g m f0 f1 rest front_is in
@@ -102,8 +102,8 @@ stands_further g m p end f0 f1 x j y places rest is x_ends clear inside y_at =
 
 -- a series up to the end of the positions without a gap
 series_of_front :
-    (g m p count x : ℕ) (places : RunPlaces) (front : List ℕ) → EndsFront g m places front x p →
-    IsClear places p (p + count) → p + count ≤ places.end
+    (g m p count x : ℕ) (places : RunPlaces) (front : List ℕ) → EndsFront g m places front x p
+    → IsClear places p (p + count) → p + count ≤ places.end
     → IsSeries (g + 1) m (front ++ x ∷ []) count
 series_of_front g m p count x places [] is clear within = absurd (omega (arith, is.front_is.size))
 series_of_front g m p count x places (f0 ∷ []) is clear within = absurd (omega (arith, is.front_is.size))
@@ -127,8 +127,8 @@ series_of_front g m p count x places (f0 ∷ f1 ∷ rest) is clear within =
 
 -- the same for a window
 pub series_is :
-    (k m p count : ℕ) (places : RunPlaces) (window : List ℕ) → 1 ≤ k → IsAtPlace k m places window p →
-    IsClear places p (p + count)
+    (k m p count : ℕ) (places : RunPlaces) (window : List ℕ) → 1 ≤ k → IsAtPlace k m places window p
+    → IsClear places p (p + count)
     → p + count ≤ places.end → IsSeries k m window count
 series_is k m p count places window some is clear within =
     let made = series_of_front (k - 1) m p count (get_or window (k + 1) 0) places (take (k + 1) window)
@@ -138,10 +138,10 @@ series_is k m p count places window some is clear within =
 
 -- the last identifiers of two windows with one prefix are in the order of the windows
 places_along :
-    (k m n j x y : ℕ) (front : List ℕ) → IsWindow k m front → x < m → is_used front x ≡ false → y < m →
-    is_used front y ≡ false
-    → slice_get (windows (suc k) m) n ≡ Some (front ++ x ∷ []) →
-    slice_get (windows (suc k) m) (n + j) ≡ Some (front ++ y ∷ [])
+    (k m n j x y : ℕ) (front : List ℕ) → IsWindow k m front → x < m → is_used front x ≡ false → y < m
+    → is_used front y ≡ false
+    → slice_get (windows (suc k) m) n ≡ Some (front ++ x ∷ [])
+    → slice_get (windows (suc k) m) (n + j) ≡ Some (front ++ y ∷ [])
     → length (unused y front) ≡ length (unused x front) + j
 places_along k m n j x y front window x_below x_free y_below y_free x_at y_at =
     let own = window_place k m front window in
@@ -167,8 +167,8 @@ end_is_free g m p q x y f0 f1 places rest is below free at' end =
 
 -- a series goes no further than such a position
 no_longer_of_front :
-    (g m p count x : ℕ) (places : RunPlaces) (front : List ℕ) → EndsFront g m places front x p →
-    IsEnd places (p + count)
+    (g m p count x : ℕ) (places : RunPlaces) (front : List ℕ) → EndsFront g m places front x p
+    → IsEnd places (p + count)
     → IsSeries (g + 1) m (front ++ x ∷ []) (count + 1) → ⊥
 no_longer_of_front g m p count x places [] is end series = absurd (omega (arith, is.front_is.size))
 no_longer_of_front g m p count x places (f0 ∷ []) is end series = absurd (omega (arith, is.front_is.size))
@@ -208,8 +208,8 @@ no_longer_of_front g m p count x places (f0 ∷ f1 ∷ rest) is end series =
     end_is_free g m p (p + count) x y f0 f1 places rest is kept.below y_free (omega (arith, further, is.x_at)) end
 
 pub no_longer :
-    (k m p count : ℕ) (places : RunPlaces) (window : List ℕ) → 1 ≤ k → IsAtPlace k m places window p →
-    IsEnd places (p + count)
+    (k m p count : ℕ) (places : RunPlaces) (window : List ℕ) → 1 ≤ k → IsAtPlace k m places window p
+    → IsEnd places (p + count)
     → IsSeries k m window (count + 1) → ⊥
 no_longer k m p count places window some is end series =
     let level : k ≡ k - 1 + 1 = omega arith in

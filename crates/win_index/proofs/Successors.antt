@@ -76,8 +76,8 @@ record IsAtEnd (k m n : ℕ) (front : List ℕ) : Type 0 where
   number : n + 1 ≡ (place + 1) * (m - k)
 
 at_end :
-    (k m n x : ℕ) (front : List ℕ) → first_lacked m front (x + 1) ≡ None →
-    slice_get (windows (suc k) m) n ≡ Some (front ++ x ∷ [])
+    (k m n x : ℕ) (front : List ℕ) → first_lacked m front (x + 1) ≡ None
+    → slice_get (windows (suc k) m) n ≡ Some (front ++ x ∷ [])
     → IsAtEnd k m n front
 at_end k m n x front none at' =
     let parts = parts_of k m n x front at' in
@@ -134,8 +134,8 @@ shorter_window k m last list more window =
     front)
 
 pub next_in_last_cell :
-    (k m last y : ℕ) (list : List ℕ) → k ≡ last + 1 → last < length list →
-    first_lacked m (take last list) (get_or list last 0 + 1) ≡ Some y
+    (k m last y : ℕ) (list : List ℕ) → k ≡ last + 1 → last < length list
+    → first_lacked m (take last list) (get_or list last 0 + 1) ≡ Some y
     → IsNext k m (take k list) (take k (set list last y))
 next_in_last_cell k m last y list more lt found =
     let old = take_more list last 0 lt in
@@ -154,8 +154,8 @@ next_with_later_front k m last y list later more lt same none next least =
     rw (more, old, new, add-one) step
 
 pub last_with_last_front :
-    (k m last : ℕ) (list : List ℕ) → k ≡ last + 1 → last < length list →
-    first_lacked m (take last list) (get_or list last 0 + 1) ≡ None
+    (k m last : ℕ) (list : List ℕ) → k ≡ last + 1 → last < length list
+    → first_lacked m (take last list) (get_or list last 0 + 1) ≡ None
     → IsLast last m (take last list) → IsLast k m (take k list)
 last_with_last_front k m last list more lt none all =
     let old = take_more list last 0 lt in
@@ -184,8 +184,8 @@ later_lacks last m front later lt window next =
 
 -- if the prefix lacks no number after the last one, no window with this prefix has a larger one
 pub none_larger :
-    (k m last x : ℕ) (list : List ℕ) → k ≡ last + 1 → last < length list →
-    first_lacked m (take last list) (get_or list last 0 + 1) ≡ None
+    (k m last x : ℕ) (list : List ℕ) → k ≡ last + 1 → last < length list
+    → first_lacked m (take last list) (get_or list last 0 + 1) ≡ None
     → IsWindow k m (set list last x) → x ≤ get_or list last 0
 none_larger k m last x list more lt none window =
     let front : List ℕ = take last list in

@@ -175,8 +175,8 @@ unused_below_bound list x m fewer =
 -- the number before x has this position if the list lacks one more number below x than the position, and no more below
 -- x - 1
 pub unused_before :
-    (list : List ℕ) (m place x : ℕ) → 1 ≤ x → x ≤ m → length (unused (x - 1) list) ≤ place →
-    length (unused x list) ≡ place + 1
+    (list : List ℕ) (m place x : ℕ) → 1 ≤ x → x ≤ m → length (unused (x - 1) list) ≤ place
+    → length (unused x list) ≡ place + 1
     → slice_get (unused m list) place ≡ Some (x - 1)
 unused_before list m place x some le before own =
     let y : ℕ = x - 1 in
@@ -203,8 +203,8 @@ unused_reached list place x more some sum =
 -- if the list lacks more numbers below m than the position, that step stays within m, and finds at most one number more
 -- than the position
 pub reached_inside :
-    (list : List ℕ) (m place x more : ℕ) → 1 ≤ more → length (unused x list) + more ≡ place + 1 →
-    place < length (unused m list)
+    (list : List ℕ) (m place x more : ℕ) → 1 ≤ more → length (unused x list) + more ≡ place + 1
+    → place < length (unused m list)
     → (length (unused (x + more - 1) list) ≤ place) × (x + more ≤ m) × (length (unused (x + more) list) ≤ place + 1)
 reached_inside list m place x more some sum few =
     let before = unused_reached list place x more some sum in

@@ -38,8 +38,8 @@ rest_below m last n place front at' lt =
 
 pub written :
     (k m last n x : ℕ) (list : List ℕ) → k ≡ last + 1 → last < length list
-    → slice_get (windows last m) (n / (m - last)) ≡ Some (take last list) →
-    slice_get (unused m (take last list)) (n % (m - last)) ≡ Some x
+    → slice_get (windows last m) (n / (m - last)) ≡ Some (take last list)
+    → slice_get (unused m (take last list)) (n % (m - last)) ≡ Some x
     → slice_get (windows k m) n ≡ Some (take k (set list last x))
 written k m last n x list more lt front_at last_at =
     let new = take_more_set list last x lt in

@@ -1,6 +1,6 @@
--- The definitions that the contracts cite: windows in order and their numbers, how many there are, the
--- window after a window, runs of windows, which numbers make a shape, blocks of windows and jobs, rings, the windows at their
--- places, what is wrong first with a shape or a ring, and the statements of the laws.
+-- The definitions that the contracts cite: windows in order and their numbers, how many there are, the window after a
+-- window, runs of windows, which numbers make a shape, blocks of windows and jobs, rings, the windows at their places,
+-- what is wrong first with a shape or a ring, and the statements of the laws.
 pub mod Windows
 pub mod Falling
 pub mod Lexicographic

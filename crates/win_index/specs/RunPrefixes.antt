@@ -1,5 +1,5 @@
--- The prefixes of runs, by the numbers of their suffixes. A prefix of k identifiers and one more identifier are a window
--- of length k+1.
+-- The prefixes of runs, by the numbers of their suffixes. A prefix of k identifiers and one more identifier are a
+-- window of length k+1.
 use Rattle.std.specs.Prelude.{◌≡◌, ℕ, ◌+◌, ◌-◌, List, take, drop, length, slice_index, slice_get, Some}
 use Rattle.win_index.specs.Runs.{IsFirstOfRun, IsLastOfRun}
 use Rattle.win_index.specs.Successor.{IsNext, IsLast}

@@ -60,7 +60,8 @@ pub record HasPlaces (k m : ℕ) (window : List ℕ) (places : RunPlaces) : Type
   pub second : place_in_run k window (slice_index window 1) ≡ places.second_gap
   pub end : place_in_run k window m ≡ places.end
 
--- the last identifier of a window is the least one that its prefix of k identifiers lacks, so that it is the first of its run
+-- the last identifier of a window is the least one that its prefix of k identifiers lacks, so that it is the first of
+-- its run
 abbrev pub IsFirstOfRun : ℕ → ℕ → List ℕ → Type 0
 IsFirstOfRun k m window = slice_get (unused m (take k window)) 0 ≡ Some (slice_index window k)
 

@@ -1,5 +1,5 @@
-//! The prefixes of runs, by numbers from which those of the parts of their windows follow. A prefix is stepped to the next
-//! one, so that no list is numbered anew.
+//! The prefixes of runs, by numbers from which those of the parts of their windows follow. A prefix
+//! is stepped to the next one, so that no list is numbered anew.
 ghost use Rattle.std.specs.Prelude.{◌≡◌, ℕ, List, ◌+◌, ◌-◌, ◌<◌, ◌≤◌, take, nat_lt, if◌then◌else◌, length, slice_index, IfSome, IfNone};
 ghost use Rattle.win_index.specs.declared.limits.TheConstants.{MAX_IDS, MAX_WINDOWS};
 ghost use Rattle.win_index.specs.Falling.{falling};
@@ -148,8 +148,8 @@ impl Shape {
         }
     }
 
-    /// Returns the prefix of the next run one level above `below`, or `None` if this is the prefix of the
-    /// last one.
+    /// Returns the prefix of the next run one level above `below`, or `None` if this is the prefix
+    /// of the last one.
     pub fn next_run_prefix(&self, below: u32, prefix: RunPrefix) -> Option<RunPrefix>
         requires below { below < self.now.rounds }
         requires prefix { IsPrefix (2 * below + 2) self.now.ids prefix }
@@ -168,8 +168,8 @@ impl Shape {
         self.run_prefixes(below).places(prefix)
     }
 
-    /// Returns the number of the first window in the run of the last parts of the windows with this prefix,
-    /// which are one level above `below`.
+    /// Returns the number of the first window in the run of the last parts of the windows with this
+    /// prefix, which are one level above `below`.
     pub fn last_run_start(&self, below: u32, prefix: RunPrefix) -> u32
         requires below { below < self.now.rounds }
         requires prefix { IsPrefix (2 * below + 2) self.now.ids prefix }

@@ -1,8 +1,8 @@
 //! The prefix of a run, by its numbers.
 
-/// The prefix of a run, all identifiers of its windows but the last, by numbers: those of the prefix
-/// without its first identifier, which is the middle part of each window, and without its first two, and
-/// the positions of these two among the identifiers that the shorter list lacks.
+/// The prefix of a run, all identifiers of its windows but the last, by numbers: those of the
+/// prefix without its first identifier, which is the middle part of each window, and without its
+/// first two, and the positions of these two among the identifiers that the shorter list lacks.
 #[derive(Clone, Copy, Debug, PartialEq, Eq)]
 pub struct RunPrefix {
     /// The number of the middle part.

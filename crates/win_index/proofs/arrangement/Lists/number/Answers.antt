@@ -18,8 +18,8 @@ unused_below-digit-requires c = (windows_all _ _ _ _ c.loop-place.invariant).dis
 
 -- the number after this position
 next :
-    (k m j number free digit : ℕ) (list : List ℕ) → IsWindow k m list → j < k →
-    slice_get (windows j m) number ≡ Some (take j list)
+    (k m j number free digit : ℕ) (list : List ℕ) → IsWindow k m list → j < k
+    → slice_get (windows j m) number ≡ Some (take j list)
     → free ≡ m - j → digit ≡ length (unused (get_or list j 0) (take j list))
     → slice_get (windows (j + 1) m) (number * free + digit) ≡ Some (take (j + 1) list)
 next k m j number free digit list window lt at' free_is digit_is =
