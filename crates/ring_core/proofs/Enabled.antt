@@ -14,7 +14,8 @@ module _ (v : Parts) (kept : FitTogether v) where
   pub is_segment : (s : ℕ) → s < length v.items → s < length (machine_of v).segments
   is_segment s lt = subst (λ g. s < g) (sym (count_is v kept)) lt
 
-  steps_are : (s : ℕ) → s < length v.items → length (part_at v s).segment.plan.program.steps ≡ length v.plan.program.steps
+  steps_are : (s : ℕ) → s < length v.items →
+      length (part_at v s).segment.plan.program.steps ≡ length v.plan.program.steps
   steps_are s lt = ap (λ (a : RingSegment). length a.plan.program.steps) (kept.segments_are s lt)
 
   pub may_send_right : (s : ℕ) → CanSendRight (machine_of v) s → MaySendRight (part_at v s)
@@ -76,5 +77,6 @@ module _ (v : Parts) (kept : FitTogether v) where
       }
 
   -- an unfinished part has a round to do
-  pub unfinished : (s : ℕ) → s < length v.items → MayAdvance v s → round_at v s < length (part_at v s).segment.plan.program.steps
+  pub unfinished : (s : ℕ) → s < length v.items → MayAdvance v s →
+      round_at v s < length (part_at v s).segment.plan.program.steps
   unfinished s lt may = let step = kept.in_step s lt in omega (arith, may.sent_right, step.right_end)

@@ -29,7 +29,8 @@ module _ (v : Parts) (kept : FitTogether v) (s : ℕ) where
   sent_left_fits new lt may is = fits v s new kept lt (sent_left_next v s new kept lt may is)
 
   pub advanced_fits : (new : Progress) → s < length v.items → MayAdvance v s
-      → new ≡ record (part_at v s) { segment = at_round (part_at v s).segment (round_at v s + 1) } → FitTogether (after new)
+      → new ≡ record (part_at v s) { segment = at_round (part_at v s).segment (round_at v s + 1) } →
+      FitTogether (after new)
   advanced_fits new lt may is = fits v s new kept lt (advanced_next v s new kept lt may is)
 
   pub sent_right_steps : (new : Progress) → s < length v.items → MaySendRight (part_at v s)
@@ -50,7 +51,8 @@ module _ (v : Parts) (kept : FitTogether v) (s : ℕ) where
   advance_steps new law lt may is = inl (can_advance v kept s lt may, advance_moves v kept s lt new law may is)
 
   -- a part that may not move stays
-  pub right_idle : (s < length v.items → ¬ MaySendRight (part_at v s)) → Steps (machine_of v) (SendRight s) (machine_of v)
+  pub right_idle : (s < length v.items → ¬ MaySendRight (part_at v s)) →
+      Steps (machine_of v) (SendRight s) (machine_of v)
   right_idle none = inr (λ can. none (is_part v kept s can.is_segment) (may_send_right v kept s can), refl)
 
   pub left_idle : (s < length v.items → ¬ MaySendLeft (part_at v s)) → Steps (machine_of v) (SendLeft s) (machine_of v)

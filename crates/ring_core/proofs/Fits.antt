@@ -23,26 +23,37 @@ fits v s new kept lt next =
     let g = length v.items in
     let size : length (set v.items s new) ≡ g = length-set v.items s new in
     let cases = λ (k : ℕ) (P : Progress → Type 0). set_cases v.items s k new no_part P lt in
-    let right = λ (k : ℕ). cases k (λ p. (part_at v k).rightward ≤ p.rightward) (λ same. omega (arith, next.more_right, ap (λ j. (part_at v j).rightward) same)) (λ _. omega arith) in
-    let left = λ (k : ℕ). cases k (λ p. (part_at v k).leftward ≤ p.leftward) (λ same. omega (arith, next.more_left, ap (λ j. (part_at v j).leftward) same)) (λ _. omega arith) in
+    let right = λ (k : ℕ). cases k (λ p. (part_at v k).rightward ≤ p.rightward)
+    (λ same. omega (arith, next.more_right, ap (λ j. (part_at v j).rightward) same)) (λ _. omega arith) in
+    let left = λ (k : ℕ). cases k (λ p. (part_at v k).leftward ≤ p.leftward)
+    (λ same. omega (arith, next.more_left, ap (λ j. (part_at v j).leftward) same)) (λ _. omega arith) in
     let old = kept.segments_are s lt in
     record {
       some = rw size kept.some;
       few = rw size kept.few;
       segments_are = rw size (λ k below.
-          cases k (λ p. p.segment ≡ record { plan = v.plan; ring = v.ring; segments = g; index = k; round = p.segment.round })
+          cases k (λ p. p.segment ≡ record {
+            plan = v.plan;
+            ring = v.ring;
+            segments = g;
+            index = k;
+            round = p.segment.round;
+          })
           (λ same.
           next.segment ∙ ap (λ (a : RingSegment). at_round a new.segment.round) old
-          ∙ ap (λ j. record { plan = v.plan; ring = v.ring; segments = g; index = j; round = new.segment.round }) (sym same))
+          ∙ ap (λ j. record { plan = v.plan; ring = v.ring; segments = g; index = j; round = new.segment.round })
+          (sym same))
           (λ _. kept.segments_are k below));
       in_step = rw size (λ k below. cases k IsInStep (λ _. next.in_step) (λ _. kept.in_step k below));
       from_left = rw size (λ k below.
           let came = cases k (λ p. p.segment.round ≤ (part_at v (border_before g k)).rightward)
-          (λ same. omega (arith, next.left_came, ap (λ j. (part_at v (border_before g j)).rightward) same)) (λ _. kept.from_left k below) in
+          (λ same. omega (arith, next.left_came, ap (λ j. (part_at v (border_before g j)).rightward) same))
+          (λ _. kept.from_left k below) in
           omega (arith, came, right (border_before g k)));
       from_right = rw size (λ k below.
           let came = cases k (λ p. p.segment.round ≤ (part_at v (segment_after g k)).leftward)
-          (λ same. omega (arith, next.right_came, ap (λ j. (part_at v (segment_after g j)).leftward) same)) (λ _. kept.from_right k below) in
+          (λ same. omega (arith, next.right_came, ap (λ j. (part_at v (segment_after g j)).leftward) same))
+          (λ _. kept.from_right k below) in
           omega (arith, came, left (segment_after g k)));
     }
 

@@ -20,7 +20,8 @@ use Rattle.ring_core.proofs.Views.{value_at, right_message, left_message, plain,
 
 -- one value more
 more_values :
-    (heading : ℕ → Heading) (count : ℕ) → values_under heading (count + 1) ≡ values_under heading count ++ sent_under (heading count) ∷ []
+    (heading : ℕ → Heading) (count : ℕ) →
+    values_under heading (count + 1) ≡ values_under heading count ++ sent_under (heading count) ∷ []
 more_values heading count = map-range_with_len_more (λ k. sent_under (heading k)) 0 count count (omega arith)
 
 -- border b between g parts
@@ -72,7 +73,8 @@ module _ (v : Parts) (kept : FitTogether v) (s : ℕ) (lt : s < length v.items) 
       ∙ ap (λ k. sent_under (leftward_headings (part_at v s).segment k)) now
 
   pub right_moves : (part_at v s).rightward ≡ round_at v s
-      → new ≡ record (part_at v s) { rightward = (part_at v s).rightward + 1 } → machine_of replaced ≡ sent_right (machine_of v) s
+      → new ≡ record (part_at v s) { rightward = (part_at v s).rightward + 1 } →
+      machine_of replaced ≡ sent_right (machine_of v) s
   right_moves now is =
       let g = length v.items in
       let p = part_at v s in
@@ -92,12 +94,14 @@ module _ (v : Parts) (kept : FitTogether v) (s : ℕ) (lt : s < length v.items) 
       (λ k ne below. let other = ap rightward_values (sym (get_or-set_other v.items s k new no_part ne)) in
       let left = same_left (ap leftward_values is) (segment_after g k) in
       λ i. record { rightward = other i; leftward = left i }) in
-      let segments = map-set_same (λ (q : Progress). segment_state q.segment) v.items s new no_part (ap (λ (q : Progress). segment_state q.segment) is) in
+      let segments = map-set_same (λ (q : Progress). segment_state q.segment) v.items s new no_part
+      (ap (λ (q : Progress). segment_state q.segment) is) in
       let all = borders_are ∙ sym borders in
       λ i. record { plan = v.plan; ring = v.ring; segments = segments i; borders = all i }
 
   pub left_moves : (part_at v s).leftward ≡ round_at v s
-      → new ≡ record (part_at v s) { leftward = (part_at v s).leftward + 1 } → machine_of replaced ≡ sent_left (machine_of v) s
+      → new ≡ record (part_at v s) { leftward = (part_at v s).leftward + 1 } →
+      machine_of replaced ≡ sent_left (machine_of v) s
   left_moves now is =
       let g = length v.items in
       let b = border_before g s in
@@ -114,19 +118,22 @@ module _ (v : Parts) (kept : FitTogether v) (s : ℕ) (lt : s < length v.items) 
       let rightward : here.rightward ≡ rightward_values (part_at replaced b) =
       came_rightward v kept s lt ∙ same_right (ap rightward_values is) b in
       let sent : BorderState = record { rightward = here.rightward; leftward = here.leftward ++ message ∷ [] } in
-      let borders = set_made (border_of v.items g) (border_of (set v.items s new) g) g b sent no_messages (before_inside g s kept.some)
+      let borders = set_made (border_of v.items g) (border_of (set v.items s new) g) g b sent no_messages
+      (before_inside g s kept.some)
       (λ i. record { rightward = rightward i; leftward = leftward i })
       (λ k ne below.
       let not_there : segment_after g k ≢ s = λ same. ne (sym (before_after g k below) ∙ ap (border_before g) same) in
       let other = ap leftward_values (sym (get_or-set_other v.items s (segment_after g k) new no_part not_there)) in
       let right = same_right (ap rightward_values is) k in
       λ i. record { rightward = right i; leftward = other i }) in
-      let segments = map-set_same (λ (q : Progress). segment_state q.segment) v.items s new no_part (ap (λ (q : Progress). segment_state q.segment) is) in
+      let segments = map-set_same (λ (q : Progress). segment_state q.segment) v.items s new no_part
+      (ap (λ (q : Progress). segment_state q.segment) is) in
       let all = borders_are ∙ sym borders ∙ ap (λ n. set m.borders (border_before n s) sent) (sym (count_is v kept)) in
       λ i. record { plan = v.plan; ring = v.ring; segments = segments i; borders = all i }
 
   pub advance_moves : StretchesAreRows → MayAdvance v s
-      → new ≡ record (part_at v s) { segment = at_round (part_at v s).segment (round_at v s + 1) } → machine_of replaced ≡ advanced (machine_of v) s
+      → new ≡ record (part_at v s) { segment = at_round (part_at v s).segment (round_at v s + 1) } →
+      machine_of replaced ≡ advanced (machine_of v) s
   advance_moves law may is =
       let g = length v.items in
       let m = machine_of v in
@@ -148,12 +155,18 @@ module _ (v : Parts) (kept : FitTogether v) (s : ℕ) (lt : s < length v.items) 
       ∙ value_at (leftward_headings after.segment) after.leftward r may.right_came
       ∙ ap sent_under (right_needed v kept s r lt) in
       let next = law v.plan.program x r (first_of a) (places_of a) (inside_ring v kept s r lt) in
-      let row : row_after v.plan.program here.round (get_or (left_border m s).rightward here.round 0) here.states (get_or (right_border m s).leftward here.round 0)
+      let row : row_after v.plan.program here.round (get_or (left_border m s).rightward here.round 0) here.states
+      (get_or (right_border m s).leftward here.round 0)
       ≡ states_of (plain v kept s (r + 1)) =
       (λ i. row_after v.plan.program (at i).round (left i) (at i).states (right i)) ∙ sym next in
       let segment : new.segment ≡ plain v kept s (r + 1) =
       ap (λ (q : Progress). q.segment) is ∙ ap (λ (b : RingSegment). at_round b (r + 1)) (kept.segments_are s lt) in
-      let stepped : segment_state new.segment ≡ record { round = here.round + 1; states = row_after v.plan.program here.round (get_or (left_border m s).rightward here.round 0) here.states (get_or (right_border m s).leftward here.round 0) } =
+      let stepped : segment_state new.segment
+      ≡ record {
+        round = here.round + 1;
+        states = row_after v.plan.program here.round (get_or (left_border m s).rightward here.round 0)
+            here.states (get_or (right_border m s).leftward here.round 0);
+      } =
       ap segment_state segment ∙ sym (λ i. record { round = (at i).round + 1; states = row i }) in
       let state_of = λ (q : Progress). segment_state q.segment in
       let segments = map-set state_of v.items s new ∙ ap (set (map state_of v.items) s) stepped in

@@ -79,7 +79,8 @@ left_end x g s lt few =
     ∙ sym (before_mod n (first_place n g s - 1) (first_place n g s) (omega arith) (omega arith)))
     (λ (zero : s ≤ 0).
     let none : s ≡ 0 = omega arith in
-    let before : border_before g s + 1 ≡ g = ap (λ k. border_before g k + 1) none ∙ ap (λ k. k + 1) (before_first g some) ∙ omega arith in
+    let before : border_before g s + 1 ≡ g = ap (λ k. border_before g k + 1) none
+    ∙ ap (λ k. k + 1) (before_first g some) ∙ omega arith in
     let start : first_place n g s ≡ 0 = ap (first_place n g) none ∙ first_place-none n g in
     let small : 0 + n - 1 < n = omega arith in
     ap (λ k. first_place n g k - 1) before ∙ ap (λ k. k - 1) (first_place-all n g some)

@@ -21,4 +21,5 @@ one_step (Advance s) m t u a b = one_change m t u (advanced m s) (CanAdvance m s
 
 pub one_run : OneRun
 one_run m t u [] a b = a ∙ sym b
-one_run m t u (e ∷ es) a b = one_run a.0 t u es a.2 (subst (λ (n : Machine). Runs n es u) (one_step e m b.0 a.0 b.1 a.1) b.2)
+one_run m t u (e ∷ es) a b =
+    one_run a.0 t u es a.2 (subst (λ (n : Machine). Runs n es u) (one_step e m b.0 a.0 b.1 a.1) b.2)

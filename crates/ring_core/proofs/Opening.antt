@@ -44,8 +44,10 @@ module _ (plan : ProgramForIds) (ring : OrientedRing) (g : ℕ) where
   border_is : (b : ℕ) → 1 ≤ g → b < g → border_state opening_parts b ≡ no_messages
   border_is b some lt =
       let right = ap rightward_values (part_is b lt) in
-      let behind : segment_after (length opening_parts.items) b ≡ segment_after g b = ap (λ n. segment_after n b) count_is in
-      let left = ap (λ k. leftward_values (part_at opening_parts k)) behind ∙ ap leftward_values (part_is (segment_after g b) (after_inside g b some)) in
+      let behind : segment_after (length opening_parts.items) b ≡ segment_after g b =
+      ap (λ n. segment_after n b) count_is in
+      let left = ap (λ k. leftward_values (part_at opening_parts k)) behind
+      ∙ ap leftward_values (part_is (segment_after g b) (after_inside g b some)) in
       λ i. record { rightward = right i; leftward = left i }
 
   pub opening_machine : 1 ≤ g → machine_of opening_parts ≡ opening plan ring g
@@ -61,6 +63,7 @@ module _ (plan : ProgramForIds) (ring : OrientedRing) (g : ℕ) where
       ext_get_or no_messages _ _ (size ∙ sym (length-replicate g no_messages))
       (λ b below.
       let lt : b < g = rw size at below in
-      get_or-map-range_with_len (border_state opening_parts) 0 (length items) b b no_messages (rw count_is lt) (omega arith)
+      get_or-map-range_with_len (border_state opening_parts) 0 (length items) b b no_messages
+      (rw count_is lt) (omega arith)
       ∙ border_is b some lt ∙ sym (get_or-replicate g b no_messages no_messages lt)) in
       λ i. record { plan = plan; ring = ring; segments = segments i; borders = borders i }

@@ -26,7 +26,8 @@ if_none (Some x) P Q then p = tt
 values_from :
     (heading : ℕ → Heading) (first : ℕ) (messages : List Msg)
     → ((k : ℕ) (m : Msg) → slice_get messages k ≡ Some m → heading_of m ≡ heading (first + k))
-    → map (λ m. sent_under (heading_of m)) messages ≡ map (λ k. sent_under (heading k)) (range_with_len first (length messages))
+    → map (λ m. sent_under (heading_of m)) messages
+    ≡ map (λ k. sent_under (heading k)) (range_with_len first (length messages))
 values_from heading first [] each = refl
 values_from heading first (m ∷ messages) each =
     let here : heading_of m ≡ heading first = each 0 m refl ∙ ap heading (omega arith) in
@@ -36,14 +37,16 @@ values_from heading first (m ∷ messages) each =
 pub in_order_values :
     (heading : ℕ → Heading) (messages : List Msg) → AreInOrder heading messages
     → map (λ m. sent_under (heading_of m)) messages ≡ values_under heading (length messages)
-in_order_values heading messages each = values_from heading 0 messages (λ k m is. each k m is ∙ ap heading (omega arith))
+in_order_values heading messages each =
+    values_from heading 0 messages (λ k m is. each k m is ∙ ap heading (omega arith))
 
 -- a segment of a machine has as many places as registers for them
 pub places_are : (m : Machine) (s : ℕ) → HasGlobalStates m → s < length m.segments
     → length (segment_at m s).states ≡ places_of (segment_after_rounds m s (segment_at m s).round)
 places_are m s global lt =
     let a = segment_after_rounds m s (segment_at m s).round in
-    ap length (global s lt) ∙ length-map-range_with_len (state a.plan.program a.ring.places a.round) (first_of a) (places_of a)
+    ap length (global s lt) ∙ length-map-range_with_len (state a.plan.program a.ring.places a.round)
+    (first_of a) (places_of a)
 
 module _ (v : Parts) (kept : FitTogether v) where
   -- segment s of the machine is segment s of the ring
@@ -57,7 +60,8 @@ module _ (v : Parts) (kept : FitTogether v) where
       → segment_after_rounds (machine_of v) s (segment_at (machine_of v) s).round ≡ plain v kept s (round_at v s)
   now_is s lt = named_is s (segment_at (machine_of v) s).round (round_at v s) (round_is v kept s lt)
 
-  states_are : (s : ℕ) → s < length v.items → (segment_at (machine_of v) s).states ≡ states_of (plain v kept s (round_at v s))
+  states_are : (s : ℕ) → s < length v.items →
+      (segment_at (machine_of v) s).states ≡ states_of (plain v kept s (round_at v s))
   states_are s lt = ap (λ (a : SegmentState). a.states) (plain_is v kept s lt)
 
   pub is_part : (s : ℕ) → s < length (machine_of v).segments → s < length v.items
@@ -72,10 +76,12 @@ module _ (v : Parts) (kept : FitTogether v) where
   pub right_heading : (b k : ℕ) → b < length v.items
       → rightward_headings (part_at v b).segment k ≡ heading_at (machine_of v) b Rightward k
   right_heading b k lt =
-      ap (λ (a : RingSegment). rightward_headings a k) (kept.segments_are b lt) ∙ ap to_the_right (sym (named_is b k k refl))
+      ap (λ (a : RingSegment). rightward_headings a k) (kept.segments_are b lt)
+      ∙ ap to_the_right (sym (named_is b k k refl))
 
   pub left_heading : (b k : ℕ) → b < length v.items
-      → leftward_headings (part_at v (segment_after (length v.items) b)).segment k ≡ heading_at (machine_of v) b Leftward k
+      → leftward_headings (part_at v (segment_after (length v.items) b)).segment k
+      ≡ heading_at (machine_of v) b Leftward k
   left_heading b k lt =
       let s = segment_after (length v.items) b in
       ap (λ (a : RingSegment). leftward_headings a k) (kept.segments_are s (after_inside (length v.items) b kept.some))
@@ -98,7 +104,8 @@ module _ (v : Parts) (kept : FitTogether v) where
 
   -- the round of the segment after segment s
   after_round : (s : ℕ)
-      → (segment_at (machine_of v) (segment_after (length (machine_of v).segments) s)).round ≡ round_at v (segment_after (length v.items) s)
+      → (segment_at (machine_of v) (segment_after (length (machine_of v).segments) s)).round
+      ≡ round_at v (segment_after (length v.items) s)
   after_round s =
       ap (λ g. (segment_at (machine_of v) (segment_after g s)).round) (count_is v kept)
       ∙ round_is v kept (segment_after (length v.items) s) (after_inside (length v.items) s kept.some)
@@ -116,7 +123,14 @@ module _ (v : Parts) (kept : FitTogether v) where
             let lt = is_part s below in
             let here = kept.in_step s lt in
             let came = kept.from_left (segment_after g s) (after_inside g s kept.some) in
-            omega (arith, round_is v kept s lt, after_round s, came, ap (λ k. (part_at v k).rightward) (before_after g s lt), here.right_high);
+            omega (
+              arith,
+              round_is v kept s lt,
+              after_round s,
+              came,
+              ap (λ k. (part_at v k).rightward) (before_after g s lt),
+              here.right_high,
+            );
       }
 
   -- the messages of a segment's neighbours in a round are those that it needs
@@ -127,7 +141,8 @@ module _ (v : Parts) (kept : FitTogether v) where
       let b = border_before (length v.items) s in
       ap (λ g. to_the_right (segment_after_rounds (machine_of v) (border_before g s) r)) (count_is v kept)
       ∙ ap to_the_right (named_is b r r refl)
-      ∙ sym (ap (λ (a : RingSegment). rightward_headings a r) (kept.segments_are b (before_inside (length v.items) s kept.some)))
+      ∙ sym (ap (λ (a : RingSegment). rightward_headings a r)
+      (kept.segments_are b (before_inside (length v.items) s kept.some)))
       ∙ left_needed v kept s r lt ∙ ap from_left (sym (named_is s r r refl))
 
   pub right_beside : (s r : ℕ) → s < length v.items
@@ -137,11 +152,13 @@ module _ (v : Parts) (kept : FitTogether v) where
       let b = segment_after (length v.items) s in
       ap (λ g. to_the_left (segment_after_rounds (machine_of v) (segment_after g s) r)) (count_is v kept)
       ∙ ap to_the_left (named_is b r r refl)
-      ∙ sym (ap (λ (a : RingSegment). leftward_headings a r) (kept.segments_are b (after_inside (length v.items) s kept.some)))
+      ∙ sym (ap (λ (a : RingSegment). leftward_headings a r)
+      (kept.segments_are b (after_inside (length v.items) s kept.some)))
       ∙ right_needed v kept s r lt ∙ ap from_right (sym (named_is s r r refl))
 
 -- the left border of the next segment is the right border of a segment
-pub same_border : (m : Machine) (s : ℕ) → s < length m.segments → left_border m (segment_after (length m.segments) s) ≡ right_border m s
+pub same_border : (m : Machine) (s : ℕ) → s < length m.segments →
+    left_border m (segment_after (length m.segments) s) ≡ right_border m s
 same_border m s lt = ap (border_at m) (before_after (length m.segments) s lt)
 
 -- the registers that a segment lends are those of the machine
@@ -152,7 +169,8 @@ pub rows_are :
     → rows (length m.plan.program.start) (length (segment_at m s).states) cells ≡ (segment_at m s).states
 rows_are m s a cells global lt is held =
     ap (λ n. rows (length m.plan.program.start) n cells) (places_are m s global lt)
-    ∙ subst (λ (b : RingSegment). rows (length b.plan.program.start) (places_of b) cells ≡ states_of b) is held ∙ sym (global s lt)
+    ∙ subst (λ (b : RingSegment). rows (length b.plan.program.start) (places_of b) cells ≡ states_of b) is held
+    ∙ sym (global s lt)
 
 -- messages in order have the values at their border
 pub values_are :

@@ -7,7 +7,8 @@ use Rattle.ring_core.specs.Machine.{Machine, Steps, Runs}
 
 -- a run, and one more event
 pub run_more :
-    (m u t : Machine) (events : List RingEvent) (e : RingEvent) → Runs m events u → Steps u e t → Runs m (events ++ e ∷ []) t
+    (m u t : Machine) (events : List RingEvent) (e : RingEvent) → Runs m events u → Steps u e t →
+    Runs m (events ++ e ∷ []) t
 run_more m u t [] e run step = (t, subst (λ (n : Machine). Steps n e t) run step, refl)
 run_more m u t (f ∷ events) e run step = (run.0, run.1, run_more run.0 u t events e run.2 step)
 
@@ -19,14 +20,17 @@ pub record IsSameRing (m t : Machine) : Type 0 where
 
 -- a change that keeps these is a change of the same ring, and so is no change
 changed :
-    (m t after : Machine) (Can : Type 0) → IsSameRing m after → (Can × (t ≡ after)) ⊎ ((¬ Can) × (t ≡ m)) → IsSameRing m t
+    (m t after : Machine) (Can : Type 0) → IsSameRing m after →
+    (Can × (t ≡ after)) ⊎ ((¬ Can) × (t ≡ m)) → IsSameRing m t
 changed m t after Can same (inl a) = subst (IsSameRing m) (sym a.1) same
-changed m t after Can same (inr a) = subst (IsSameRing m) (sym a.1) (record { plan = refl; ring = refl; segments = refl })
+changed m t after Can same (inr a) =
+    subst (IsSameRing m) (sym a.1) (record { plan = refl; ring = refl; segments = refl })
 
 step_same : (e : RingEvent) (m t : Machine) → Steps m e t → IsSameRing m t
 step_same (SendRight s) m t step = changed m t _ _ (record { plan = refl; ring = refl; segments = refl }) step
 step_same (SendLeft s) m t step = changed m t _ _ (record { plan = refl; ring = refl; segments = refl }) step
-step_same (Advance s) m t step = changed m t _ _ (record { plan = refl; ring = refl; segments = length-set m.segments s _ }) step
+step_same (Advance s) m t step =
+    changed m t _ _ (record { plan = refl; ring = refl; segments = length-set m.segments s _ }) step
 
 pub run_same : (events : List RingEvent) (m t : Machine) → Runs m events t → IsSameRing m t
 run_same [] m t run = subst (IsSameRing m) (sym run) (record { plan = refl; ring = refl; segments = refl })

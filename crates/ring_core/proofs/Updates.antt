@@ -22,7 +22,8 @@ pub set_unseen :
     {X Y : Type 0} (f : X → Y) (all : List X) (s : ℕ) (y d : X) → s < length all → f y ≡ f (get_or all s d)
     → (k : ℕ) → f (get_or all k d) ≡ f (get_or (set all s y) k d)
 set_unseen f all s y d lt same k =
-    set_cases all s k y d (λ x. f (get_or all k d) ≡ f x) lt (λ at. ap (λ j. f (get_or all j d)) at ∙ sym same) (λ _. refl)
+    set_cases all s k y d (λ x. f (get_or all k d) ≡ f x) lt
+    (λ at. ap (λ j. f (get_or all j d)) at ∙ sym same) (λ _. refl)
 
 -- a list made from a function of the index
 pub set_made :

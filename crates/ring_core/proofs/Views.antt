@@ -38,7 +38,8 @@ pub left_message :
     → to_left a.plan.program a.round (first_state (segment_state a)) ≡ sent_under (to_the_left a)
 left_message a some =
     ap (to_left a.plan.program a.round)
-    (get_or-map-range_with_len (state a.plan.program a.ring.places a.round) (first_of a) (places_of a) 0 (first_of a) [] some (omega arith))
+    (get_or-map-range_with_len (state a.plan.program a.ring.places a.round) (first_of a) (places_of a) 0 (first_of a) []
+    some (omega arith))
 
 module _ (v : Parts) (kept : FitTogether v) where
   -- segment s of the ring, after r rounds
@@ -64,7 +65,8 @@ module _ (v : Parts) (kept : FitTogether v) where
       let b = border_before g s in
       let up = first_place-grows (length v.ring.places) g b kept.some kept.few in
       let place : first_of (plain b r) + places_of (plain b r) - 1 ≡ left_of v.ring.places (first_of (plain s r)) =
-      (let e : first_of (plain b r) + places_of (plain b r) - 1 ≡ first_place (length v.ring.places) g (b + 1) - 1 = omega arith in e)
+      (let e : first_of (plain b r) + places_of (plain b r) - 1 ≡ first_place (length v.ring.places) g (b + 1) - 1 =
+      omega arith in e)
       ∙ left_end v.ring.places g s lt kept.few in
       ap (λ (a : RingSegment). rightward_headings a r) (kept.segments_are b (before_inside g s kept.some))
       ∙ ap (λ i. record { plan = v.plan; ring = v.ring; place = i; side = Rightward; round = r }) place
@@ -77,7 +79,9 @@ module _ (v : Parts) (kept : FitTogether v) where
       let up = first_place-grows (length v.ring.places) g s kept.some kept.few in
       let place : first_of (plain b r) ≡ right_of v.ring.places (first_of (plain s r) + places_of (plain s r) - 1) =
       right_end v.ring.places g s lt kept.few
-      ∙ ap (right_of v.ring.places) (let e : first_place (length v.ring.places) g (s + 1) - 1 ≡ first_of (plain s r) + places_of (plain s r) - 1 = omega arith in e) in
+      ∙ ap (right_of v.ring.places)
+      (let e : first_place (length v.ring.places) g (s + 1) - 1 ≡ first_of (plain s r) + places_of (plain s r)
+      - 1 = omega arith in e) in
       ap (λ (a : RingSegment). leftward_headings a r) (kept.segments_are b (after_inside g s kept.some))
       ∙ ap (λ i. record { plan = v.plan; ring = v.ring; place = i; side = Leftward; round = r }) place
 
@@ -100,18 +104,21 @@ module _ (v : Parts) (kept : FitTogether v) where
   pub before_is : border_before (length (machine_of v).segments) ≡ border_before (length v.items)
   before_is = ap border_before count_is
 
-  pub left_border_is : (s : ℕ) → s < length v.items → left_border (machine_of v) s ≡ border_state v (border_before (length v.items) s)
+  pub left_border_is : (s : ℕ) → s < length v.items →
+      left_border (machine_of v) s ≡ border_state v (border_before (length v.items) s)
   left_border_is s lt =
       ap (λ g. border_at (machine_of v) (border_before g s)) count_is
       ∙ border_is (border_before (length v.items) s) (before_inside (length v.items) s kept.some)
 
   -- the leftward list of the border before a part is what the part has sent
-  pub own_leftward : (s : ℕ) → s < length v.items → (left_border (machine_of v) s).leftward ≡ leftward_values (part_at v s)
+  pub own_leftward : (s : ℕ) → s < length v.items →
+      (left_border (machine_of v) s).leftward ≡ leftward_values (part_at v s)
   own_leftward s lt =
       ap (λ (b : BorderState). b.leftward) (left_border_is s lt)
       ∙ ap (λ k. leftward_values (part_at v k)) (after_before (length v.items) s lt)
 
-  pub own_rightward : (s : ℕ) → s < length v.items → (right_border (machine_of v) s).rightward ≡ rightward_values (part_at v s)
+  pub own_rightward : (s : ℕ) → s < length v.items →
+      (right_border (machine_of v) s).rightward ≡ rightward_values (part_at v s)
   own_rightward s lt = ap (λ (b : BorderState). b.rightward) (border_is s lt)
 
   -- the messages that came to a part
@@ -124,11 +131,15 @@ module _ (v : Parts) (kept : FitTogether v) where
   came_leftward s lt = ap (λ (b : BorderState). b.leftward) (border_is s lt)
 
   -- their number
-  pub own_right_size : (s : ℕ) → s < length v.items → length (right_border (machine_of v) s).rightward ≡ (part_at v s).rightward
-  own_right_size s lt = ap length (own_rightward s lt) ∙ values_size (rightward_headings (part_at v s).segment) (part_at v s).rightward
+  pub own_right_size : (s : ℕ) → s < length v.items →
+      length (right_border (machine_of v) s).rightward ≡ (part_at v s).rightward
+  own_right_size s lt =
+      ap length (own_rightward s lt) ∙ values_size (rightward_headings (part_at v s).segment) (part_at v s).rightward
 
-  pub own_left_size : (s : ℕ) → s < length v.items → length (left_border (machine_of v) s).leftward ≡ (part_at v s).leftward
-  own_left_size s lt = ap length (own_leftward s lt) ∙ values_size (leftward_headings (part_at v s).segment) (part_at v s).leftward
+  pub own_left_size : (s : ℕ) → s < length v.items →
+      length (left_border (machine_of v) s).leftward ≡ (part_at v s).leftward
+  own_left_size s lt =
+      ap length (own_leftward s lt) ∙ values_size (leftward_headings (part_at v s).segment) (part_at v s).leftward
 
   pub came_right_size : (s : ℕ) → s < length v.items
       → length (left_border (machine_of v) s).rightward ≡ (part_at v (border_before (length v.items) s)).rightward

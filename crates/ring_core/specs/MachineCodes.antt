@@ -27,5 +27,6 @@ machine_code =
 
 abbrev pub progress_code : Coded Progress
 progress_code =
-    code_by (RingSegment × (ℕ × ℕ)) (coded× segment_code (coded× coded_ℕ coded_ℕ)) (λ p. (p.segment, (p.rightward, p.leftward)))
+    code_by (RingSegment × (ℕ × ℕ)) (coded× segment_code (coded× coded_ℕ coded_ℕ))
+    (λ p. (p.segment, (p.rightward, p.leftward)))
     (λ t. record { segment = t.0; rightward = t.1.0; leftward = t.1.1 }) (λ _. refl)

@@ -14,7 +14,8 @@ segment_after_rounds m s r = record { plan = m.plan; ring = m.ring; segments = l
 -- each segment has the registers of global rounds, after as many rounds as it has done
 abbrev pub HasGlobalStates : Machine → Type 0
 HasGlobalStates m =
-    (s : ℕ) → s < length m.segments → (segment_at m s).states ≡ states_of (segment_after_rounds m s (segment_at m s).round)
+    (s : ℕ) → s < length m.segments →
+    (segment_at m s).states ≡ states_of (segment_after_rounds m s (segment_at m s).round)
 
 -- the messages sent over border b to a side
 abbrev pub sent_at : Machine → ℕ → Side → List ℕ

@@ -89,7 +89,8 @@ pub record FitTogether (v : Parts) : Type 0 where
   pub some : 0 < length v.items
   pub few : length v.items ≤ length v.ring.places
   pub segments_are : (s : ℕ) → s < length v.items
-      → (part_at v s).segment ≡ record { plan = v.plan; ring = v.ring; segments = length v.items; index = s; round = round_at v s }
+      → (part_at v s).segment
+      ≡ record { plan = v.plan; ring = v.ring; segments = length v.items; index = s; round = round_at v s }
   pub in_step : (s : ℕ) → s < length v.items → IsInStep (part_at v s)
   pub from_left : (s : ℕ) → s < length v.items → round_at v s ≤ (part_at v (border_before (length v.items) s)).rightward
   pub from_right : (s : ℕ) → s < length v.items → round_at v s ≤ (part_at v (segment_after (length v.items) s)).leftward

@@ -29,9 +29,11 @@ module _ (c : After-index_mut) where
   may : MayAdvance before c.args.segment
   may = may_advance before c.self.invariant c.args.segment can
 
-  segment_is : (λ (m : Machine). segment_after_rounds m c.args.segment (segment_at m c.args.segment).round) c.args.self.now ≡ c.index_mut.result.now.segment
+  segment_is : (λ (m : Machine). segment_after_rounds m c.args.segment (segment_at m c.args.segment).round)
+      c.args.self.now ≡ c.index_mut.result.now.segment
   segment_is =
-      ap (λ (m : Machine). segment_after_rounds m c.args.segment (segment_at m c.args.segment).round) (sym c.self.view_is)
+      ap (λ (m : Machine). segment_after_rounds m c.args.segment (segment_at m c.args.segment).round)
+      (sym c.self.view_is)
       ∙ now_is before c.self.invariant c.args.segment inside ∙ sym (c.self.invariant.segments_are c.args.segment inside)
       ∙ ap (λ (p : Progress). p.segment) (sym part_is)
 
@@ -52,12 +54,16 @@ advance-requires-clause-right c =
 pub invariant_of-self : goal.invariant_of-self
 invariant_of-self c =
     let d = (goal.at.invariant_of-self c).After-index_mut in
-    let new = c.advance.ensures ∙ ap (λ (p : Progress). record p { segment = at_round p.segment (p.segment.round + 1) }) (part_is d) in
+    let new = c.advance.ensures
+    ∙ ap (λ (p : Progress). record p { segment = at_round p.segment (p.segment.round + 1) }) (part_is d) in
     advanced_fits (before d) c.self.invariant c.args.segment c.advance.new.self (inside d) (may d) new
 
 pub returns-in-Some : goal.returns-in-Some
 returns-in-Some c =
     let d = (goal.at.returns-in-Some c).After-index_mut in
-    let new = c.advance.ensures ∙ ap (λ (p : Progress). record p { segment = at_round p.segment (p.segment.round + 1) }) (part_is d) in
-    subst (λ (m : Machine). Steps m (Advance c.args.segment) (machine_of (after (before d) c.self.invariant c.args.segment c.advance.new.self))) c.self.view_is
-    (advance_steps (before d) c.self.invariant c.args.segment c.advance.new.self c.stretches_are_rows.ensures (inside d) (may d) new)
+    let new = c.advance.ensures
+    ∙ ap (λ (p : Progress). record p { segment = at_round p.segment (p.segment.round + 1) }) (part_is d) in
+    subst (λ (m : Machine). Steps m (Advance c.args.segment)
+    (machine_of (after (before d) c.self.invariant c.args.segment c.advance.new.self))) c.self.view_is
+    (advance_steps (before d) c.self.invariant c.args.segment c.advance.new.self c.stretches_are_rows.ensures
+    (inside d) (may d) new)

@@ -7,7 +7,8 @@ pub invariant_of-result : goal.invariant_of-result
 invariant_of-result c =
     let plan = c.args.plan.now in
     let ring = c.args.ring.now in
-    subst (λ (items : List Progress). FitTogether record { plan = plan; ring = ring; items = items }) (sym c.in_ok-parts.ensures)
+    subst (λ (items : List Progress). FitTogether record { plan = plan; ring = ring; items = items })
+    (sym c.in_ok-parts.ensures)
     (opening_fits plan ring c.args.segments c.requires.some c.requires.few)
 
 pub returns : goal.returns

@@ -21,7 +21,8 @@ module _ (c : In_ok-send_left) where
       subst MaySendLeft (c.index.ensures ∙ get_or_default before.items c.args.segment c.index.result.now no_part inside)
       (c.may_send_left.ensures.0 c.if-may_send_left.true)
 
-  sent : c.send_left.new.self ≡ record (part_at before c.args.segment) { leftward = (part_at before c.args.segment).leftward + 1 }
+  sent : c.send_left.new.self ≡ record (part_at before c.args.segment)
+      { leftward = (part_at before c.args.segment).leftward + 1 }
   sent =
       c.in_ok-send_left.ensures.sent
       ∙ ap (λ (p : Progress). record p { leftward = p.leftward + 1 })
@@ -35,7 +36,8 @@ invariant_of-self-then-may_send_left c =
 pub returns-in_ok-send_left : goal.returns-in_ok-send_left
 returns-in_ok-send_left c =
     let d = (goal.at.returns-in_ok-send_left c).In_ok-send_left in
-    subst (λ (m : Machine). Steps m (SendLeft c.args.segment) (machine_of (after (before d) c.self.invariant c.args.segment c.send_left.new.self))) c.self.view_is
+    subst (λ (m : Machine). Steps m (SendLeft c.args.segment)
+    (machine_of (after (before d) c.self.invariant c.args.segment c.send_left.new.self))) c.self.view_is
     (sent_left_steps (before d) c.self.invariant c.args.segment c.send_left.new.self (inside d) (may d) (sent d))
 
 pub returns-else-index-len : goal.returns-else-index-len
@@ -46,7 +48,8 @@ returns-else-index-len c =
     subst (λ (m : Machine). Steps m (SendLeft s) m) c.self.view_is
     (left_idle v c.self.invariant s (λ lt may. elim c.else-index-len.branch [
       | else-index-len-via-then-index-len+else-may_send_left w ↦
-          let read : w.index.result.now ≡ part_at v s = w.index.ensures ∙ get_or_default v.items s w.index.result.now no_part lt in
+          let read : w.index.result.now ≡ part_at v s = w.index.ensures
+          ∙ get_or_default v.items s w.index.result.now no_part lt in
           let can = w.may_send_left.ensures.1 (subst MaySendLeft (sym read) may) in
           search rules
       | else-index-len-via-else-index-len w ↦ absurd (search rules)

@@ -18,10 +18,12 @@ module _ (c : In_ok-send_right) where
 
   may : MaySendRight (part_at before c.args.segment)
   may =
-      subst MaySendRight (c.index.ensures ∙ get_or_default before.items c.args.segment c.index.result.now no_part inside)
+      subst MaySendRight (c.index.ensures
+      ∙ get_or_default before.items c.args.segment c.index.result.now no_part inside)
       (c.may_send_right.ensures.0 c.if-may_send_right.true)
 
-  sent : c.send_right.new.self ≡ record (part_at before c.args.segment) { rightward = (part_at before c.args.segment).rightward + 1 }
+  sent : c.send_right.new.self ≡ record (part_at before c.args.segment)
+      { rightward = (part_at before c.args.segment).rightward + 1 }
   sent =
       c.in_ok-send_right.ensures.sent
       ∙ ap (λ (p : Progress). record p { rightward = p.rightward + 1 })
@@ -35,7 +37,8 @@ invariant_of-self-then-may_send_right c =
 pub returns-in_ok-send_right : goal.returns-in_ok-send_right
 returns-in_ok-send_right c =
     let d = (goal.at.returns-in_ok-send_right c).In_ok-send_right in
-    subst (λ (m : Machine). Steps m (SendRight c.args.segment) (machine_of (after (before d) c.self.invariant c.args.segment c.send_right.new.self))) c.self.view_is
+    subst (λ (m : Machine). Steps m (SendRight c.args.segment)
+    (machine_of (after (before d) c.self.invariant c.args.segment c.send_right.new.self))) c.self.view_is
     (sent_right_steps (before d) c.self.invariant c.args.segment c.send_right.new.self (inside d) (may d) (sent d))
 
 pub returns-else-index-len : goal.returns-else-index-len
@@ -46,7 +49,8 @@ returns-else-index-len c =
     subst (λ (m : Machine). Steps m (SendRight s) m) c.self.view_is
     (right_idle v c.self.invariant s (λ lt may. elim c.else-index-len.branch [
       | else-index-len-via-then-index-len+else-may_send_right w ↦
-          let read : w.index.result.now ≡ part_at v s = w.index.ensures ∙ get_or_default v.items s w.index.result.now no_part lt in
+          let read : w.index.result.now ≡ part_at v s = w.index.ensures
+          ∙ get_or_default v.items s w.index.result.now no_part lt in
           let can = w.may_send_right.ensures.1 (subst MaySendRight (sym read) may) in
           search rules
       | else-index-len-via-else-index-len w ↦ absurd (search rules)

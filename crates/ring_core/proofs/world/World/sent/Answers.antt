@@ -13,7 +13,8 @@ returns-in-Rightward-clause-value c =
     let b = c.args.border in
     let size = c.rightward.ensures.size ∙ c.part.ensures.rightward in
     values_are m b Rightward c.rightward.result.now c.promises.ensures.messages c.requires size
-    (λ k message at. c.rightward.ensures.each k message at ∙ ap (λ (a : RingSegment). rightward_headings a k) c.part.ensures.segment)
+    (λ k message at. c.rightward.ensures.each k message at ∙ ap (λ (a : RingSegment). rightward_headings a k)
+    c.part.ensures.segment)
     ∙ ap (sent_at m b) (sym c.in-Rightward.is)
 
 pub returns-in-Leftward-clause-value : goal.returns-in-Leftward-clause-value
