@@ -29,8 +29,8 @@ module _ (v : Parts) (kept : FitTogether v) (s : ℕ) where
   sent_left_fits new lt may is = fits v s new kept lt (sent_left_next v s new kept lt may is)
 
   pub advanced_fits : (new : Progress) → s < length v.items → MayAdvance v s
-      → new ≡ record (part_at v s) { segment = at_round (part_at v s).segment (round_at v s + 1) } →
-      FitTogether (after new)
+      → new ≡ record (part_at v s) { segment = at_round (part_at v s).segment (round_at v s + 1) }
+      → FitTogether (after new)
   advanced_fits new lt may is = fits v s new kept lt (advanced_next v s new kept lt may is)
 
   pub sent_right_steps : (new : Progress) → s < length v.items → MaySendRight (part_at v s)

@@ -73,8 +73,8 @@ module _ (v : Parts) (kept : FitTogether v) (s : ℕ) (lt : s < length v.items) 
       ∙ ap (λ k. sent_under (leftward_headings (part_at v s).segment k)) now
 
   pub right_moves : (part_at v s).rightward ≡ round_at v s
-      → new ≡ record (part_at v s) { rightward = (part_at v s).rightward + 1 } →
-      machine_of replaced ≡ sent_right (machine_of v) s
+      → new ≡ record (part_at v s) { rightward = (part_at v s).rightward + 1 }
+      → machine_of replaced ≡ sent_right (machine_of v) s
   right_moves now is =
       let g = length v.items in
       let p = part_at v s in
@@ -100,8 +100,8 @@ module _ (v : Parts) (kept : FitTogether v) (s : ℕ) (lt : s < length v.items) 
       λ i. record { plan = v.plan; ring = v.ring; segments = segments i; borders = all i }
 
   pub left_moves : (part_at v s).leftward ≡ round_at v s
-      → new ≡ record (part_at v s) { leftward = (part_at v s).leftward + 1 } →
-      machine_of replaced ≡ sent_left (machine_of v) s
+      → new ≡ record (part_at v s) { leftward = (part_at v s).leftward + 1 }
+      → machine_of replaced ≡ sent_left (machine_of v) s
   left_moves now is =
       let g = length v.items in
       let b = border_before g s in
@@ -132,8 +132,8 @@ module _ (v : Parts) (kept : FitTogether v) (s : ℕ) (lt : s < length v.items) 
       λ i. record { plan = v.plan; ring = v.ring; segments = segments i; borders = all i }
 
   pub advance_moves : StretchesAreRows → MayAdvance v s
-      → new ≡ record (part_at v s) { segment = at_round (part_at v s).segment (round_at v s + 1) } →
-      machine_of replaced ≡ advanced (machine_of v) s
+      → new ≡ record (part_at v s) { segment = at_round (part_at v s).segment (round_at v s + 1) }
+      → machine_of replaced ≡ advanced (machine_of v) s
   advance_moves law may is =
       let g = length v.items in
       let m = machine_of v in

@@ -1,5 +1,5 @@
-//! The segment machine: the state of the segments of a ring and of the borders between them, after a
-//! list of events. No thread runs it: it is a model beside `ring_exec`.
+//! The segment machine: the state of the segments of a ring and of the borders between them, after
+//! a list of events. No thread runs it: it is a model beside `ring_exec`.
 #![tactic(auto)]
 
 mod event;
