@@ -8,12 +8,24 @@ use Rattle.ring_segments.specs.Segments.{RingSegment, first_of, places_of}
 -- from its left it needs the message of the left neighbour of its first place to the right
 abbrev pub from_left : RingSegment → Heading
 from_left s =
-    record { plan = s.plan; ring = s.ring; place = left_of s.ring.places (first_of s); side = Rightward; round = s.round }
+    record {
+      plan = s.plan;
+      ring = s.ring;
+      place = left_of s.ring.places (first_of s);
+      side = Rightward;
+      round = s.round;
+    }
 
 -- from its right it needs the message of the right neighbour of its last place to the left
 abbrev pub from_right : RingSegment → Heading
 from_right s =
-    record { plan = s.plan; ring = s.ring; place = right_of s.ring.places (first_of s + places_of s - 1); side = Leftward; round = s.round }
+    record {
+      plan = s.plan;
+      ring = s.ring;
+      place = right_of s.ring.places (first_of s + places_of s - 1);
+      side = Leftward;
+      round = s.round;
+    }
 
 -- its last place sends to the right, and its first place to the left
 abbrev pub to_the_right : RingSegment → Heading

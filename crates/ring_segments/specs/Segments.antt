@@ -39,4 +39,5 @@ pub record KeepsSegment (s : RingSegment) (first end spare : ℕ) (cells : List 
   pub inside : end ≤ length s.ring.places
   pub size : length cells ≡ (end - first) * length s.plan.program.start
   pub spare_size : spare ≡ length cells
-  pub rows_are : rows (length s.plan.program.start) (end - first) cells ≡ stretch s.plan.program s.ring.places s.round first (end - first)
+  pub rows_are : rows (length s.plan.program.start) (end - first) cells
+      ≡ stretch s.plan.program s.ring.places s.round first (end - first)

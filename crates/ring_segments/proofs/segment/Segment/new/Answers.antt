@@ -21,12 +21,16 @@ invariant_of-result c =
     let end = (s + 1) * c.len-places.result / g in
     let first_is : first ≡ first_place (length x) g s = rw places refl in
     let end_is : end ≡ first_place (length x) g (s + 1) = rw places refl in
-    let some : first < end = rw (first_is, end_is) (first_place-grows (length x) g s (omega (arith, c.requires.index)) enough) in
-    let inside : end ≤ length x = rw end_is (first_place-inside (length x) g (s + 1) (omega (arith, c.requires.index))) in
+    let some : first < end =
+    rw (first_is, end_is) (first_place-grows (length x) g s (omega (arith, c.requires.index)) enough) in
+    let inside : end ≤ length x =
+    rw end_is (first_place-inside (length x) g (s + 1) (omega (arith, c.requires.index))) in
     let long : length (slice_range x first end) ≡ end - first = simp (length-take, length-drop) (omega arith) in
     let written =
-    with_items_is c.in_ok-states.states c.start_of_row.new.states (c.start_of_row.auto.states ∙ c.deref_mut.ensures.len) in
-    let started : rows (length p.start) (end - first) c.start_of_row.new.states ≡ map (start p) (slice_range x first end) =
+    with_items_is c.in_ok-states.states c.start_of_row.new.states
+    (c.start_of_row.auto.states ∙ c.deref_mut.ensures.len) in
+    let started : rows (length p.start) (end - first) c.start_of_row.new.states
+    ≡ map (start p) (slice_range x first end) =
     rw (c.ids-ids.ensures.value, long) at c.start_of_row.ensures in
     record {
       ids = c.requires.ids;
