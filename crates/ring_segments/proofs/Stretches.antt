@@ -26,16 +26,16 @@ start_stretch p x first end le inside =
 
 -- a row of a stretch holds the registers of its place
 pub row_of_stretch :
-    (p : ProgramTree) (x : List ℕ) (r first count j i : ℕ) (held : List (List ℕ)) (own : List ℕ) →
-    held ≡ stretch p x r first count
+    (p : ProgramTree) (x : List ℕ) (r first count j i : ℕ) (held : List (List ℕ)) (own : List ℕ)
+    → held ≡ stretch p x r first count
     → j < count → first + j ≡ i → get_or held j [] ≡ own → own ≡ state p x r i
 row_of_stretch p x r first count j i held own is lt place row =
     sym row ∙ ap (λ u. get_or u j []) is ∙ get_or-map-range_with_len (state p x r) first count j i [] lt place
 
 -- a segment stays right through a round with the messages that it needs
 pub advance_keeps :
-    StretchesAreRows → (s : RingSegment) (first end spare used left right : ℕ) (cells after : List ℕ) →
-    KeepsSegment s first end spare cells
+    StretchesAreRows → (s : RingSegment) (first end spare used left right : ℕ) (cells after : List ℕ)
+    → KeepsSegment s first end spare cells
     → s.round < length s.plan.program.steps → used ≡ length cells → length after ≡ length cells
     → left ≡ to_right s.plan.program s.round (state s.plan.program s.ring.places s.round (left_of s.ring.places first))
     → right ≡ to_left s.plan.program s.round
