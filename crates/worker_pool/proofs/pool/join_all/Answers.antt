@@ -12,5 +12,8 @@ loop-handle-preserved g c =
       room = search rules;
       count = search rules;
       rest = rw c.push_reserved.ensures.len numbers.1;
-      workers = rw c.push_reserved.ensures.items (numbered_snoc outcome_worker c.loop-handle.outcomes.items c.join.result inv.workers (let kept = c.join.ensures in let first = numbers.0 in search rules));
+      workers =
+          rw c.push_reserved.ensures.items
+          (numbered_snoc outcome_worker c.loop-handle.outcomes.items c.join.result inv.workers
+          (let kept = c.join.ensures in let first = numbers.0 in search rules));
     }

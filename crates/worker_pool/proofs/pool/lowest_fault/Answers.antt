@@ -12,9 +12,12 @@ returns-in-Err c =
     let at = c.loop-outcome.outcome-index in
     let this = c.outcome-item.result in
     let below : at < length list = search rules in
-    let number : outcome_worker this ≡ at = c.requires at this (slice_get-get_or list at this below ∙ ap Some (sym c.outcome-item.is)) in
-    let lower : (k : ℕ) (d : Outcome) → k < length list → outcome_worker (get_or list k d) < outcome_worker this → IsOk (get_or list k d).answer =
+    let number : outcome_worker this ≡ at =
+    c.requires at this (slice_get-get_or list at this below ∙ ap Some (sym c.outcome-item.is)) in
+    let lower : (k : ℕ) (d : Outcome) → k < length list →
+    outcome_worker (get_or list k d) < outcome_worker this → IsOk (get_or list k d).answer =
     λ k d within less.
-    let own : outcome_worker (get_or list k d) ≡ k = c.requires k (get_or list k d) (slice_get-get_or list k d within) in
+    let own : outcome_worker (get_or list k d) ≡ k =
+    c.requires k (get_or list k d) (slice_get-get_or list k d within) in
     c.loop-outcome.invariant k d (omega arith) in
     (this, record { one_of = (at, below, sym c.outcome-item.is); fault_is = search rules; none_lower = lower })

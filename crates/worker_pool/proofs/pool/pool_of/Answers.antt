@@ -10,7 +10,8 @@ all_first P x xs h = (h 0 x (omega arith), λ k d below. h (suc k) d (omega arit
 pub invariant_of-push_reserved : goal.invariant_of-push_reserved
 invariant_of-push_reserved g c =
     let P = IsFreshTicketOf c.args.desk.now in
-    let first = all_first P c.in-Some.ticket _ (subst (All P) c.in-Some.ensures.steps.0 c.loop-ticket.invariant.ready) in
+    let first =
+    all_first P c.in-Some.ticket _ (subst (All P) c.in-Some.ensures.steps.0 c.loop-ticket.invariant.ready) in
     record { ticket_of = first.0; total = c.requires.jobs }
 
 pub loop-ticket-preserved : goal.loop-ticket-preserved
@@ -24,5 +25,8 @@ loop-ticket-preserved g c =
       room = search rules;
       count = search rules;
       rest = rw c.push_reserved.ensures.len numbers.1;
-      workers = rw c.push_reserved.ensures.items (numbered_snoc (λ w. worker_of w.ticket) c.loop-ticket.pool.items _ inv.workers (let number = numbers.0 in search rules));
+      workers =
+          rw c.push_reserved.ensures.items
+          (numbered_snoc (λ w. worker_of w.ticket) c.loop-ticket.pool.items _ inv.workers
+          (let number = numbers.0 in search rules));
     }

@@ -12,5 +12,7 @@ loop-worker-preserved g c =
       room = search rules;
       count = search rules;
       rest = rw c.push_reserved.ensures.len numbers.1;
-      workers = rw c.push_reserved.ensures.items (numbered_snoc (λ h. h.promise.0) c.loop-worker.handles.items _ inv.workers (search rules));
+      workers =
+          rw c.push_reserved.ensures.items
+          (numbered_snoc (λ h. h.promise.0) c.loop-worker.handles.items _ inv.workers (search rules));
     }
