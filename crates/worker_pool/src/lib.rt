@@ -1,5 +1,5 @@
-//! Workers that fill jobs: they draw them at one desk, each worker on a thread of its own if there are
-//! several.
+//! Workers that fill jobs: they draw them at one desk, each worker on a thread of its own if there
+//! are several.
 #![tactic(auto)]
 
 mod fault;

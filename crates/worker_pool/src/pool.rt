@@ -27,8 +27,9 @@ impl Promise<Outcome> for OutcomeOf {
 // A worker's thread.
 type Handle = PromisedHandle<Outcome, OutcomeOf>;
 
-/// Fills jobs with `workers` workers, 1 to `MAX_THREADS`, that draw them at one desk. A single worker
-/// runs on the calling thread, and what it knows then is returned; several run on a thread each.
+/// Fills jobs with `workers` workers, 1 to `MAX_THREADS`, that draw them at one desk. A single
+/// worker runs on the calling thread, and what it knows then is returned; several run on a thread
+/// each.
 ///
 /// Fails with `NoThread` if the start of a thread was refused, else with the fault of the lowest
 /// worker that has one. All workers that were started have ended before the call returns. Memory of
