@@ -1,18 +1,18 @@
 -- The states of windows after a round, from their first two parts and from messages from the right, if the round reads
 -- these.
-use Rattle.std.proofs.Common.{◌≡◌, inl, ℕ, ◌+◌, ◌*◌, ◌<◌, ◌≤◌, Bool, true, false, List, [], length, get_or, refl, sym, subst, ap, ◌∙◌, arith}
+use Rattle.std.proofs.Common.{◌≡◌, inl, ℕ, ◌+◌, ◌*◌, ◌<◌, ◌≤◌, Bool, true, false, List, [], length, map, take, get_or, refl, sym, subst, ap, ◌∙◌, arith}
 use Rattle.std.proofs.lemmas.Bool.{false≢true}
-use Rattle.node_program.specs.Node.{to_left, to_right, next}
+use Rattle.std.specs.List.{range_with_len}
+use Rattle.node_program.specs.Node.{next}
 use Rattle.round_columns.specs.States.{AreRewritten}
-use Rattle.window_states.specs.BlockStates.{block_state}
 use Rattle.window_states.specs.Entries.{Entries}
 use Rattle.window_states.specs.Laws.{PartsAreJoined}
 use Rattle.unroll.specs.Parts.{window_in}
-use Rattle.unroll.specs.WideColumns.{part_state, AreWritten, AreGathered, HasFronts, HoldFronts, HoldLasts}
+use Rattle.unroll.specs.WideColumns.{part_state, left_message, right_message, state_in, AreWritten, AreGathered, HasFronts, HoldFronts, HoldLasts}
 use Rattle.unroll.specs.declared.part_columns.Scratch.{Scratch}
 use Rattle.unroll.specs.declared.run.Run.{Run}
 use Rattle.unroll.specs.declared.upper_block.UpperBlock.{UpperBlock}
-use Rattle.unroll.proofs.ColumnStates.{below_sum, held_more}
+use Rattle.unroll.proofs.ColumnStates.{below_sum, held_more, take_states}
 
 -- what holds whether or not a test does
 either : {P : Type 0} (b : Bool) → (b ≡ true → P) → (b ≡ false → P) → P
@@ -20,80 +20,85 @@ either true holds fails = holds refl
 either false holds fails = fails refl
 
 -- the message from the right is that of the last part, or does not matter
-module _ (block : UpperBlock) (count i : ℕ) (sent : List ℕ) where
-  with_last :
-      (own : List ℕ) (left : ℕ) → HoldLasts block count sent → i < count
-      → next block.plan.now.program block.below own left (get_or sent i 0)
-      ≡ next block.plan.now.program block.below own left (to_left block.plan.now.program block.below (part_state block.plan.now block.below block.number 2 i))
-  with_last own left lasts lt =
-      either block.reads_right (λ reads. ap (next block.plan.now.program block.below own left) (lasts reads i lt))
-      (λ none. block.ignores none own left (get_or sent i 0) (to_left block.plan.now.program block.below (part_state block.plan.now block.below block.number 2 i)))
+with_last :
+    (block : UpperBlock) (count i : ℕ) (sent own : List ℕ) (left : ℕ) → HoldLasts block count sent → i < count
+    → next block.plan.now.program block.below own left (get_or sent i 0)
+    ≡ next block.plan.now.program block.below own left (right_message block i)
+with_last block count i sent own left lasts lt =
+    either block.reads_right (λ reads. ap (next block.plan.now.program block.below own left) (lasts reads i lt))
+    (λ none. block.ignores none own left (get_or sent i 0) (right_message block i))
 
-  -- so the state of a window follows from its parts in columns
-  pub state_in_columns :
-      PartsAreJoined → (scratch : Scratch) → block.once_a_run ≡ false → HoldFronts block count scratch → HoldLasts block count sent → i < count
-      → next block.plan.now.program block.below (get_or scratch.parts.own.states i []) (get_or scratch.parts.from_left.items i 0) (get_or sent i 0)
-      ≡ block_state block.plan.now (block.below + 1) block.number i
-  state_in_columns joined scratch each held lasts lt =
-      let p = block.plan.now.program in
-      let low = block.below in
-      with_last (get_or scratch.parts.own.states i []) (get_or scratch.parts.from_left.items i 0) lasts lt
-      ∙ (λ j. next p low (held.own each i lt j) (held.left each i lt j) (to_left p low (part_state block.plan.now low block.number 2 i)))
-      ∙ sym (joined p low (window_in block i) (held.sizes i lt))
+-- so the states of all windows follow from their parts in columns
+pub states_in_columns :
+    PartsAreJoined → (block : UpperBlock) (count : ℕ) (scratch : Scratch) (made : List (List ℕ)) → block.once_a_run ≡ false
+    → count ≤ length made → HoldFronts block count scratch → HoldLasts block count scratch.parts.from_right.items
+    → ((i : ℕ) → i < count → get_or made i [] ≡ next block.plan.now.program block.below (get_or scratch.parts.own.states i [])
+    (get_or scratch.parts.from_left.items i 0) (get_or scratch.parts.from_right.items i 0))
+    → take count made ≡ map (state_in block) (range_with_len 0 count)
+states_in_columns joined block count scratch made each fits held lasts stepped =
+    let p = block.plan.now.program in
+    let low = block.below in
+    let parts = scratch.parts in
+    take_states count made (state_in block) fits
+    (λ i lt.
+    stepped i lt
+    ∙ with_last block count i parts.from_right.items (get_or parts.own.states i []) (get_or parts.from_left.items i 0) lasts lt
+    ∙ (λ j. next p low (held.own each i lt j) (held.left each i lt j) (right_message block i))
+    ∙ sym (joined p low (window_in block i) (held.sizes i lt)))
 
 -- a state that is evaluated once is that of each window of the run
 state_of_run :
     PartsAreJoined → (block : UpperBlock) (run : Run) (i : ℕ) → block.once_a_run ≡ true → HasFronts block run i
-    → next block.plan.now.program block.below run.own.now run.first.sent 0 ≡ block_state block.plan.now (block.below + 1) block.number i
+    → next block.plan.now.program block.below run.own.now run.first.sent 0 ≡ state_in block i
 state_of_run joined block run i once fronts =
     let p = block.plan.now.program in
     let low = block.below in
-    let last : ℕ = to_left p low (part_state block.plan.now low block.number 2 i) in
-    block.alike once run.own.now run.first.sent 0 last
-    ∙ (λ j. next p low (fronts.own j) (fronts.left j) last)
+    block.alike once run.own.now run.first.sent 0 (right_message block i)
+    ∙ (λ j. next p low (fronts.own j) (fronts.left j) (right_message block i))
     ∙ sym (joined p low (window_in block i) fronts.size)
 
 -- the windows of a run, after those before them
-module _ (block : UpperBlock) (run : Run) (from count end : ℕ) (sum : from + count ≡ end) (old now : Scratch) (held : HoldFronts block from old) (fronts : (i : ℕ) → from ≤ i → i < end → HasFronts block run i) where
-  later : (i : ℕ) → i < count → HasFronts block run (from + i)
-  later i lt = fronts (from + i) (omega arith) (omega (arith, sum, lt))
+module _
+    (block : UpperBlock) (run : Run) (from count end : ℕ) (sum : from + count ≡ end) (old now : Scratch) (held : HoldFronts block from old)
+    (fronts : (i : ℕ) → from ≤ i → i < end → HasFronts block run i)
+  where
+    later : (i : ℕ) → i < count → HasFronts block run (from + i)
+    later i lt = fronts (from + i) (omega arith) (omega (arith, sum, lt))
 
-  sizes_more : (i : ℕ) → i < from + count → length (window_in block i) ≡ 2 * block.below + 3
-  sizes_more = below_sum (λ i. length (window_in block i) ≡ 2 * block.below + 3) from count held.sizes (λ i lt. (later i lt).size)
+    sizes_more : (i : ℕ) → i < from + count → length (window_in block i) ≡ 2 * block.below + 3
+    sizes_more = below_sum (λ i. length (window_in block i) ≡ 2 * block.below + 3) from count held.sizes (λ i lt. (later i lt).size)
 
-  -- in columns
-  pub columns_more :
-      block.once_a_run ≡ false → AreWritten ℕ 0 old.parts.from_left.items now.parts.from_left.items from count (λ _. run.first.sent)
-      → AreWritten (List ℕ) [] old.parts.own.states now.parts.own.states from count (λ _. run.own.now) → HoldFronts block end now
-  columns_more each lefts owns =
-      let plan = block.plan.now in
-      let low = block.below in
-      subst (λ n. HoldFronts block n now) sum
-      (record {
-        sizes = sizes_more;
-        left = λ _. held_more ℕ 0 from count old.parts.from_left.items now.parts.from_left.items (λ _. run.first.sent)
-            (λ i. to_right plan.program low (part_state plan low block.number 0 i)) (held.left each) lefts (λ i lt. (later i lt).left);
-        own = λ _. held_more (List ℕ) [] from count old.parts.own.states now.parts.own.states (λ _. run.own.now)
-            (part_state plan low block.number 1) (held.own each) owns (λ i lt. (later i lt).own);
-        states = λ once. absurd (false≢true (sym each ∙ once));
-      })
+    -- in columns
+    pub columns_more :
+        block.once_a_run ≡ false → AreWritten ℕ 0 old.parts.from_left.items now.parts.from_left.items from count (λ _. run.first.sent)
+        → AreWritten (List ℕ) [] old.parts.own.states now.parts.own.states from count (λ _. run.own.now) → HoldFronts block end now
+    columns_more each lefts owns =
+        subst (λ n. HoldFronts block n now) sum
+        (record {
+          sizes = sizes_more;
+          left = λ _. held_more ℕ 0 from count old.parts.from_left.items now.parts.from_left.items (λ _. run.first.sent)
+              (left_message block) (held.left each) lefts (λ i lt. (later i lt).left);
+          own = λ _. held_more (List ℕ) [] from count old.parts.own.states now.parts.own.states (λ _. run.own.now)
+              (part_state block 1) (held.own each) owns (λ i lt. (later i lt).own);
+          states = λ once. absurd (false≢true (sym each ∙ once));
+        })
 
-  -- by one state
-  pub states_more :
-      PartsAreJoined → (state : List ℕ) → block.once_a_run ≡ true → length now.made.states ≡ length old.made.states
-      → from + count ≤ length old.made.states → AreRewritten old.made.states now.made.states from count (λ _. state)
-      → state ≡ next block.plan.now.program block.below run.own.now run.first.sent 0 → HoldFronts block end now
-  states_more joined state once size fits written is =
-      subst (λ n. HoldFronts block n now) sum
-      (record {
-        sizes = sizes_more;
-        left = λ each. absurd (false≢true (sym each ∙ once));
-        own = λ each. absurd (false≢true (sym each ∙ once));
-        states = λ _. held_more (List ℕ) [] from count old.made.states now.made.states (λ _. state)
-            (block_state block.plan.now (block.below + 1) block.number) (held.states once)
-            (record { size = size; here = written.written; before = λ i lt. written.others i (omega (arith, fits)) (inl lt) })
-            (λ i lt. is ∙ state_of_run joined block run (from + i) once (later i lt));
-      })
+    -- by one state
+    pub states_more :
+        PartsAreJoined → (state : List ℕ) → block.once_a_run ≡ true → length now.made.states ≡ length old.made.states
+        → from + count ≤ length old.made.states → AreRewritten old.made.states now.made.states from count (λ _. state)
+        → state ≡ next block.plan.now.program block.below run.own.now run.first.sent 0 → HoldFronts block end now
+    states_more joined state once size fits written is =
+        subst (λ n. HoldFronts block n now) sum
+        (record {
+          sizes = sizes_more;
+          left = λ each. absurd (false≢true (sym each ∙ once));
+          own = λ each. absurd (false≢true (sym each ∙ once));
+          states = λ _. held_more (List ℕ) [] from count old.made.states now.made.states (λ _. state)
+              (state_in block) (held.states once)
+              (record { size = size; here = written.written; before = λ i lt. written.others i (omega (arith, fits)) (inl lt) })
+              (λ i lt. is ∙ state_of_run joined block run (from + i) once (later i lt));
+        })
 
 -- before any window is taken
 pub none_gathered : (entries : Entries) (block : UpperBlock) (scratch : Scratch) → AreGathered entries block 0 scratch

@@ -17,7 +17,7 @@ use Rattle.window_states.specs.Entries.{Entries, Grows}
 use Rattle.window_states.specs.Line.{middle_state}
 use Rattle.unroll.specs.Parts.{KnowsParts, KnowsBelow, IsRun}
 use Rattle.unroll.specs.declared.run.Run.{Run}
-use Rattle.unroll.specs.WideColumns.{part_state, HasFronts, HoldLasts, AreWritten}
+use Rattle.unroll.specs.WideColumns.{right_message, HasFronts, HoldLasts, AreWritten}
 use Rattle.unroll.specs.declared.upper_block.UpperBlock.{UpperBlock}
 use Rattle.unroll.proofs.ColumnStates.{below_sum, held_more}
 use Rattle.unroll.proofs.Known.{still_known, knows_three, window_at}
@@ -163,8 +163,8 @@ pub hold_series :
 hold_series block entries place c index count w run old now held written stands =
     let plan = block.plan.now in
     let low = block.below in
-    λ reads. held_more ℕ 0 place count old now (λ i. to_left plan.program low (block_state plan low c (index + i)))
-    (λ i. to_left plan.program low (part_state plan low block.number 2 i)) (held reads) (written reads)
+    λ reads. held_more ℕ 0 place count old now (λ i. to_left plan.program low (block_state plan low c (index + i))) (right_message block)
+    (held reads) (written reads)
     (λ i lt. ap (to_left plan.program low)
     (ap (middle_state plan.program low) (window_at plan.ids low (BLOCK_WINDOWS * c + (index + i)) (part (stands i lt).next low 2) (stands i lt).right_at)
     ∙ ap (λ w. middle_state plan.program low (part w low 2)) (sym (stands i lt).numbered)))

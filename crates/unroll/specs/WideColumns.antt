@@ -7,7 +7,7 @@ use Rattle.lang_check.specs.Plans.{ProgramForIds}
 use Rattle.round_columns.specs.States.{HasSize}
 use Rattle.column_machine.specs.StackNeed.{most_columns}
 use Rattle.unroll.specs.Below.{part}
-use Rattle.window_states.specs.BlockStates.{MadeBlock, window_numbered, block_len, block_state}
+use Rattle.window_states.specs.BlockStates.{MadeBlock, block_len, block_state}
 use Rattle.window_states.specs.Line.{middle_state}
 use Rattle.window_states.specs.Entries.{Entries}
 use Rattle.unroll.specs.Parts.{window_in, IsKnownBlock, KnowsBelow, EndsAt}
@@ -19,35 +19,42 @@ use Rattle.unroll.specs.declared.upper_block.UpperBlock.{UpperBlock}
 
 -- columns for the registers of the plan and for a message from each side at BLOCK_WINDOWS windows
 abbrev pub AreWide : ProgramForIds → PartColumns → Type 0
-AreWide plan parts = (length parts.from_left.items ≡ BLOCK_WINDOWS) × HasSize BLOCK_WINDOWS (length plan.program.start) parts.own × (length parts.from_right.items ≡ BLOCK_WINDOWS)
+AreWide plan parts = (length parts.from_left.items ≡ BLOCK_WINDOWS) × HasSize BLOCK_WINDOWS (length plan.program.start) parts.own
+    × (length parts.from_right.items ≡ BLOCK_WINDOWS)
 
--- the state of the part at offset d of window i of block b of the level above low
-abbrev pub part_state : ProgramForIds → ℕ → ℕ → ℕ → ℕ → List ℕ
-part_state plan low b d i = middle_state plan.program low (part (window_numbered plan.ids (low + 1) (BLOCK_WINDOWS * b + i)) low d)
+-- the state of the part at offset d of window i of an upper block
+abbrev pub part_state : UpperBlock → ℕ → ℕ → List ℕ
+part_state block d i = middle_state block.plan.now.program block.below (part (window_in block i) block.below d)
 
--- the first two parts of window i of an upper block are those of a run: the message of the first part's node to the right
--- in the next round, and the registers of the middle part's node
+-- the message of the first part's node to the right in the next round, which the middle part's node gets from its left
+abbrev pub left_message : UpperBlock → ℕ → ℕ
+left_message block i = to_right block.plan.now.program block.below (part_state block 0 i)
+
+-- the message of the last part's node to the left
+abbrev pub right_message : UpperBlock → ℕ → ℕ
+right_message block i = to_left block.plan.now.program block.below (part_state block 2 i)
+
+-- the state of window i of an upper block
+abbrev pub state_in : UpperBlock → ℕ → List ℕ
+state_in block i = block_state block.plan.now (block.below + 1) block.number i
+
+-- the first two parts of window i of an upper block are those of a run
 pub record HasFronts (block : UpperBlock) (run : Run) (i : ℕ) : Type 0 where
   pub size : length (window_in block i) ≡ 2 * block.below + 3
-  pub left : run.first.sent ≡ to_right block.plan.now.program block.below (part_state block.plan.now block.below block.number 0 i)
-  pub own : run.own.now ≡ part_state block.plan.now block.below block.number 1 i
+  pub left : run.first.sent ≡ left_message block i
+  pub own : run.own.now ≡ part_state block 1 i
 
--- the first `count` windows of an upper block, without their last parts: item i of the columns is what HasFronts says of
--- window i, or, where the round is evaluated once a run, the state of this window after the round
+-- the first `count` windows of an upper block, without their last parts: item i of the columns is the message of window
+-- i from the left and the state of its middle part, or, where the round is evaluated once a run, the state of window i
 pub record HoldFronts (block : UpperBlock) (count : ℕ) (scratch : Scratch) : Type 0 where
   pub sizes : (i : ℕ) → i < count → length (window_in block i) ≡ 2 * block.below + 3
-  pub left : block.once_a_run ≡ false → (i : ℕ) → i < count → slice_index scratch.parts.from_left.items i
-      ≡ to_right block.plan.now.program block.below (part_state block.plan.now block.below block.number 0 i)
-  pub own : block.once_a_run ≡ false → (i : ℕ) → i < count → slice_index_or scratch.parts.own.states i []
-      ≡ part_state block.plan.now block.below block.number 1 i
-  pub states : block.once_a_run ≡ true → (i : ℕ) → i < count → slice_index_or scratch.made.states i []
-      ≡ block_state block.plan.now (block.below + 1) block.number i
+  pub left : block.once_a_run ≡ false → (i : ℕ) → i < count → slice_index scratch.parts.from_left.items i ≡ left_message block i
+  pub own : block.once_a_run ≡ false → (i : ℕ) → i < count → slice_index_or scratch.parts.own.states i [] ≡ part_state block 1 i
+  pub states : block.once_a_run ≡ true → (i : ℕ) → i < count → slice_index_or scratch.made.states i [] ≡ state_in block i
 
--- item i of a list is the message of the last part's node of window i of an upper block to the left in the next round,
--- if the round reads it
+-- item i of a list is the message of window i of an upper block from the right, if the round reads it
 abbrev pub HoldLasts : UpperBlock → ℕ → List ℕ → Type 0
-HoldLasts block count sent = block.reads_right ≡ true → (i : ℕ) → i < count → slice_index sent i
-    ≡ to_left block.plan.now.program block.below (part_state block.plan.now block.below block.number 2 i)
+HoldLasts block count sent = block.reads_right ≡ true → (i : ℕ) → i < count → slice_index sent i ≡ right_message block i
 
 -- the first `count` windows of an upper block are taken, and the blocks of their parts are known
 pub record AreGathered (entries : Entries) (block : UpperBlock) (count : ℕ) (scratch : Scratch) : Type 0 where
@@ -57,7 +64,8 @@ pub record AreGathered (entries : Entries) (block : UpperBlock) (count : ℕ) (s
 
 -- the windows of an upper block from an index to the index `end`, where their run ends, or the block, after the last
 -- parts of all windows before `end` were taken; the known block `last` holds the last part of the window before `end`
-pub record IsRunGathered (entries : Entries) (block : UpperBlock) (run : Run) (from end : ℕ) (last : MadeBlock) (sent : List ℕ) : Type 0 where
+pub record IsRunGathered
+    (entries : Entries) (block : UpperBlock) (run : Run) (from end : ℕ) (last : MadeBlock) (sent : List ℕ) : Type 0 where
   pub later : from < end
   pub within : end ≤ block_len block.plan.now.ids (block.below + 1) block.number
   pub ended : end < block_len block.plan.now.ids (block.below + 1) block.number
@@ -73,11 +81,12 @@ pub record AreWritten (A : Type 0) (none : A) (old new : List A) (place count : 
   pub here : (i : ℕ) → i < count → slice_index_or new (place + i) none ≡ item i
   pub before : (i : ℕ) → i < place → slice_index_or new i none ≡ slice_index_or old i none
 
--- scratch for the blocks of a plan: room for its expressions, which rounds cannot depend on the message from the right, and
--- columns for its registers
+-- scratch for the blocks of a plan: room for its expressions, columns for its registers, and which of its rounds may read
+-- the message from the right
 pub record IsReady (plan : ProgramForIds) (scratch : Scratch) : Type 0 where
   pub room : most_columns (terms plan.program) ≤ scratch.work.columns
   pub width : scratch.work.width ≡ BLOCK_WINDOWS
-  pub reads : (k : ℕ) → k < length plan.program.steps → slice_index_or scratch.reads_right k true ≡ false → IgnoresRight plan.program k
+  pub reads : (k : ℕ) → k < length plan.program.steps → slice_index_or scratch.reads_right k true ≡ false
+      → IgnoresRight plan.program k
   pub parts_wide : AreWide plan scratch.parts
   pub made_wide : HasSize BLOCK_WINDOWS (length plan.program.start) scratch.made

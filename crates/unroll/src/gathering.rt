@@ -170,6 +170,7 @@ pub(crate) fn write_states<'s, S: Source<'s>>(
         × KnowsAllBelow (S.entries source.new) code.now.ids level number) }
     ensures missing { IfErr result (IsMissingBelow (S.entries source.new) code.now.ids level number) }
 {
+    states_from_parts();
     let plan = code.plan();
     let shape = plan.shape();
     let mut ids = [0; MAX_WINDOW_LEN];
@@ -183,23 +184,8 @@ pub(crate) fn write_states<'s, S: Source<'s>>(
     let reads_right = scratch.reads_right[below as usize];
     let upper = UpperBlock::new(plan, below, number, reads_right);
     gather(upper, source, window, scratch)?;
-    step_parts(code, upper, scratch);
-    Ok(())
-}
-
-// Writes the states of the windows of an upper block, from their parts, if gathering has not
-// written them.
-fn step_parts(code: &Code<'_>, upper: UpperBlock<'_>, scratch: &mut Scratch)
-    requires plan { upper.plan.now ≡ code.now }
-    requires ready { IsReady code.now scratch.old }
-    ensures ready { IsReady code.now scratch.new }
-    ensures states { (count : ℕ) → count ≤ BLOCK_WINDOWS → HoldFronts upper.entry count scratch.old
-        → HoldLasts upper.entry count scratch.old.parts.from_right.items
-        → take count scratch.new.made.states ≡ first_states code.now (upper.entry.below + 1) upper.entry.number count }
-{
-    states_from_parts();
     if upper.once_a_run {
-        return;
+        return Ok(());
     }
     let Scratch {
         work,
@@ -209,13 +195,14 @@ fn step_parts(code: &Code<'_>, upper: UpperBlock<'_>, scratch: &mut Scratch)
     } = scratch;
     next_columns(
         code,
-        upper.below,
+        below,
         &parts.from_left,
         &parts.own,
         &parts.from_right,
         work,
         made,
     );
+    Ok(())
 }
 
 // Writes the states of the windows of a block of level 0. `window` is the block's first window, and

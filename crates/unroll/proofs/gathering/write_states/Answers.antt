@@ -1,8 +1,15 @@
-use Rattle.std.proofs.Common.{◌≡◌, ℕ, ◌+◌, ◌-◌, take, subst, arith}
+use Rattle.std.proofs.Common.{◌≡◌, ℕ, ◌+◌, ◌-◌, List, take, subst, arith}
 use Rattle.window_states.specs.BlockStates.{block_len}
 use Rattle.window_states.specs.HeldStates.{first_states}
+use Rattle.unroll.specs.MakeFaults.{KnowsAllBelow}
 use Rattle.unroll.specs.Parts.{KnowsBelow}
+use Rattle.unroll.specs.WideColumns.{state_in}
+use Rattle.unroll.specs.declared.upper_block.UpperBlock.{UpperBlock}
+use Rattle.unroll.proofs.ColumnStates.{take_states}
+use Rattle.unroll.proofs.Fronts.{states_in_columns}
 use Rattle.unroll.proofs.Known.{knows_all_below}
+use Rattle.unroll.proofs.gathering.write_states.Given.{Over}
+use Rattle.unroll.proofs.gathering.write_states.Goals.{In_ok-gather}
 use Rattle.unroll.proofs.gathering.write_states.Goals as goal
 
 -- A block of level 0 has none below.
@@ -10,22 +17,50 @@ pub returns-then-level-eq0-clause-made : goal.returns-then-level-eq0-clause-made
 returns-then-level-eq0-clause-made g c =
     (rw c.if-level-eq0.true c.start_states.ensures.states, λ low number below. absurd (omega (arith, below.one_lower, c.if-level-eq0.true)))
 
+-- the number of windows of an upper block
+abbrev len_in : UpperBlock → ℕ
+len_in block = block_len block.plan.now.ids (block.below + 1) block.number
+
 -- Above it the parts of all windows are known.
-pub returns-clause-made : goal.returns-clause-made
-returns-clause-made g c =
+upper_states :
+    (g : Over) (c : In_ok-gather g) (made : List (List ℕ)) → let upper = c.new-upper.result in
+    take (len_in upper) made ≡ first_states upper.plan.now (upper.below + 1) upper.number (len_in upper)
+    → (take (block_len c.args.code.now.ids c.args.level c.args.number) made
+    ≡ first_states c.args.code.now c.args.level c.args.number (block_len c.args.code.now.ids c.args.level c.args.number))
+    × KnowsAllBelow (g.S.Source.entries c.gather.new.source) c.args.code.now.ids c.args.level c.args.number
+upper_states g c made states =
     let plan = c.args.code.now in
     let b = c.args.number in
     let above : c.args.level - 1 + 1 ≡ c.args.level = omega (arith, c.if-level-eq0.false) in
-    let entries = g.S.Source.entries c.gather.new.source in
-    let all = c.in_ok-gather.ensures.gathered in
     let block = c.new-upper.ensures in
-    let upper = c.new-upper.result in
-    let known = rw (block.plan, block.below, block.number, c.plan-plan.ensures) at all.known in
-    let made = c.step_parts.new.scratch.made.states in
-    let len : ℕ = block_len upper.plan.now.ids (upper.below + 1) upper.number in
-    let all_states : take len made ≡ first_states plan (upper.below + 1) upper.number len =
-    c.step_parts.ensures.states len (omega arith) all.fronts all.lasts in
-    let states = rw (block.plan, block.below, block.number, c.plan-plan.ensures) at all_states in (
-      subst (λ r. take (block_len plan.ids r b) made ≡ first_states plan r b (block_len plan.ids r b)) above states,
-      knows_all_below entries plan.ids c.args.level b (subst (λ r. KnowsBelow entries plan.ids r b (block_len plan.ids r b)) above known),
+    let here = rw (block.plan, block.below, block.number, c.plan-plan.ensures) at states in
+    let known = rw (block.plan, block.below, block.number, c.plan-plan.ensures) at c.in_ok-gather.ensures.gathered.known in (
+      subst (λ r. take (block_len plan.ids r b) made ≡ first_states plan r b (block_len plan.ids r b)) above here,
+      knows_all_below (g.S.Source.entries c.gather.new.source) plan.ids c.args.level b
+          (subst (λ r. KnowsBelow (g.S.Source.entries c.gather.new.source) plan.ids r b (block_len plan.ids r b)) above known),
     )
+
+pub returns-then-upper-clause-made : goal.returns-then-upper-clause-made
+returns-then-upper-clause-made g c =
+    let d = (goal.at.returns-then-upper-clause-made g c).In_ok-gather in
+    let upper = c.new-upper.result in
+    let gathered = c.in_ok-gather.ensures.gathered in
+    let made = c.gather.new.scratch.made.states in
+    upper_states g d made
+    (take_states (len_in upper) made (state_in upper)
+    (omega (arith, c.in_ok-gather.ensures.ready.made_wide.0)) (gathered.fronts.states c.if-upper.true))
+
+pub returns-clause-made : goal.returns-clause-made
+returns-clause-made g c =
+    let d = (goal.at.returns-clause-made g c).In_ok-gather in
+    let upper = c.new-upper.result in
+    let gathered = c.in_ok-gather.ensures.gathered in
+    let ready = c.in_ok-gather.ensures.ready in
+    let block = c.new-upper.ensures in
+    let made = c.next_columns.new.out.states in
+    upper_states g d made
+    (states_in_columns c.states_from_parts.ensures.next upper (len_in upper) c.gather.new.scratch made c.if-upper.false
+    (omega (arith, c.next_columns.ensures.size.0, ready.made_wide.0)) gathered.fronts gathered.lasts
+    (λ i lt.
+    let stepped = c.next_columns.ensures.states i (omega (arith, lt, ready.parts_wide.1.0)) in
+    rw (block.plan, block.below, c.plan-plan.ensures) (rw (c.deref.ensures.value, c.deref-2.ensures.value) at stepped)))
