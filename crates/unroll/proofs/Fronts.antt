@@ -9,7 +9,7 @@ use Rattle.window_states.specs.Entries.{Entries}
 use Rattle.window_states.specs.Laws.{PartsAreJoined}
 use Rattle.unroll.specs.Parts.{window_in}
 use Rattle.unroll.specs.WideColumns.{part_state, left_message, right_message, state_in, AreWritten, AreGathered, HasFronts, HoldFronts, HoldLasts}
-use Rattle.unroll.specs.declared.part_columns.Scratch.{Scratch}
+use Rattle.unroll.specs.declared.scratch.Scratch.{Scratch}
 use Rattle.unroll.specs.declared.run.Run.{Run}
 use Rattle.unroll.specs.declared.upper_block.UpperBlock.{UpperBlock}
 use Rattle.unroll.proofs.ColumnStates.{below_sum, held_more, take_states}
@@ -31,18 +31,17 @@ with_last block count i sent own left lasts lt =
 -- so the states of all windows follow from their parts in columns
 pub states_in_columns :
     PartsAreJoined → (block : UpperBlock) (count : ℕ) (scratch : Scratch) (made : List (List ℕ)) → block.once_a_run ≡ false
-    → count ≤ length made → HoldFronts block count scratch → HoldLasts block count scratch.parts.from_right.items
-    → ((i : ℕ) → i < count → get_or made i [] ≡ next block.plan.now.program block.below (get_or scratch.parts.own.states i [])
-    (get_or scratch.parts.from_left.items i 0) (get_or scratch.parts.from_right.items i 0))
+    → count ≤ length made → HoldFronts block count scratch → HoldLasts block count scratch.from_right.items
+    → ((i : ℕ) → i < count → get_or made i [] ≡ next block.plan.now.program block.below (get_or scratch.own.states i [])
+    (get_or scratch.from_left.items i 0) (get_or scratch.from_right.items i 0))
     → take count made ≡ map (state_in block) (range_with_len 0 count)
 states_in_columns joined block count scratch made each fits held lasts stepped =
     let p = block.plan.now.program in
     let low = block.below in
-    let parts = scratch.parts in
     take_states count made (state_in block) fits
     (λ i lt.
     stepped i lt
-    ∙ with_last block count i parts.from_right.items (get_or parts.own.states i []) (get_or parts.from_left.items i 0) lasts lt
+    ∙ with_last block count i scratch.from_right.items (get_or scratch.own.states i []) (get_or scratch.from_left.items i 0) lasts lt
     ∙ (λ j. next p low (held.own each i lt j) (held.left each i lt j) (right_message block i))
     ∙ sym (joined p low (window_in block i) (held.sizes i lt)))
 
@@ -57,6 +56,13 @@ state_of_run joined block run i once fronts =
     ∙ (λ j. next p low (fronts.own j) (fronts.left j) (right_message block i))
     ∙ sym (joined p low (window_in block i) fronts.size)
 
+-- what a fill writes
+filled :
+    (old new : List (List ℕ)) (from count : ℕ) (state : List ℕ) → length new ≡ length old → from + count ≤ length old
+    → AreRewritten old new from count (λ _. state) → AreWritten (List ℕ) [] old new from count (λ _. state)
+filled old new from count state size fits written =
+    record { size = size; here = written.written; before = λ i lt. written.others i (omega (arith, fits)) (inl lt) }
+
 -- the windows of a run, after those before them
 module _
     (block : UpperBlock) (run : Run) (from count end : ℕ) (sum : from + count ≡ end) (old now : Scratch) (held : HoldFronts block from old)
@@ -70,16 +76,18 @@ module _
 
     -- in columns
     pub columns_more :
-        block.once_a_run ≡ false → AreWritten ℕ 0 old.parts.from_left.items now.parts.from_left.items from count (λ _. run.first.sent)
-        → AreWritten (List ℕ) [] old.parts.own.states now.parts.own.states from count (λ _. run.own.now) → HoldFronts block end now
-    columns_more each lefts owns =
+        block.once_a_run ≡ false → AreWritten ℕ 0 old.from_left.items now.from_left.items from count (λ _. run.first.sent)
+        → length now.own.states ≡ length old.own.states → from + count ≤ length old.own.states
+        → AreRewritten old.own.states now.own.states from count (λ _. run.own.now) → HoldFronts block end now
+    columns_more each lefts size fits owns =
         subst (λ n. HoldFronts block n now) sum
         (record {
           sizes = sizes_more;
-          left = λ _. held_more ℕ 0 from count old.parts.from_left.items now.parts.from_left.items (λ _. run.first.sent)
+          left = λ _. held_more ℕ 0 from count old.from_left.items now.from_left.items (λ _. run.first.sent)
               (left_message block) (held.left each) lefts (λ i lt. (later i lt).left);
-          own = λ _. held_more (List ℕ) [] from count old.parts.own.states now.parts.own.states (λ _. run.own.now)
-              (part_state block 1) (held.own each) owns (λ i lt. (later i lt).own);
+          own = λ _. held_more (List ℕ) [] from count old.own.states now.own.states (λ _. run.own.now)
+              (part_state block 1) (held.own each) (filled old.own.states now.own.states from count run.own.now size fits owns)
+              (λ i lt. (later i lt).own);
           states = λ once. absurd (false≢true (sym each ∙ once));
         })
 
@@ -96,7 +104,7 @@ module _
           own = λ each. absurd (false≢true (sym each ∙ once));
           states = λ _. held_more (List ℕ) [] from count old.made.states now.made.states (λ _. state)
               (state_in block) (held.states once)
-              (record { size = size; here = written.written; before = λ i lt. written.others i (omega (arith, fits)) (inl lt) })
+              (filled old.made.states now.made.states from count state size fits written)
               (λ i lt. is ∙ state_of_run joined block run (from + i) once (later i lt));
         })
 

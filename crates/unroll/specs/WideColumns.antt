@@ -12,15 +12,9 @@ use Rattle.window_states.specs.Line.{middle_state}
 use Rattle.window_states.specs.Entries.{Entries}
 use Rattle.unroll.specs.Parts.{window_in, IsKnownBlock, KnowsBelow, EndsAt}
 use Rattle.unroll.specs.Reading.{IgnoresRight}
-use Rattle.unroll.specs.declared.part_columns.PartColumns.{PartColumns}
-use Rattle.unroll.specs.declared.part_columns.Scratch.{Scratch}
+use Rattle.unroll.specs.declared.scratch.Scratch.{Scratch}
 use Rattle.unroll.specs.declared.run.Run.{Run}
 use Rattle.unroll.specs.declared.upper_block.UpperBlock.{UpperBlock}
-
--- columns for the registers of the plan and for a message from each side at BLOCK_WINDOWS windows
-abbrev pub AreWide : ProgramForIds → PartColumns → Type 0
-AreWide plan parts = (length parts.from_left.items ≡ BLOCK_WINDOWS) × HasSize BLOCK_WINDOWS (length plan.program.start) parts.own
-    × (length parts.from_right.items ≡ BLOCK_WINDOWS)
 
 -- the state of the part at offset d of window i of an upper block
 abbrev pub part_state : UpperBlock → ℕ → ℕ → List ℕ
@@ -48,8 +42,8 @@ pub record HasFronts (block : UpperBlock) (run : Run) (i : ℕ) : Type 0 where
 -- i from the left and the state of its middle part, or, where the round is evaluated once a run, the state of window i
 pub record HoldFronts (block : UpperBlock) (count : ℕ) (scratch : Scratch) : Type 0 where
   pub sizes : (i : ℕ) → i < count → length (window_in block i) ≡ 2 * block.below + 3
-  pub left : block.once_a_run ≡ false → (i : ℕ) → i < count → slice_index scratch.parts.from_left.items i ≡ left_message block i
-  pub own : block.once_a_run ≡ false → (i : ℕ) → i < count → slice_index_or scratch.parts.own.states i [] ≡ part_state block 1 i
+  pub left : block.once_a_run ≡ false → (i : ℕ) → i < count → slice_index scratch.from_left.items i ≡ left_message block i
+  pub own : block.once_a_run ≡ false → (i : ℕ) → i < count → slice_index_or scratch.own.states i [] ≡ part_state block 1 i
   pub states : block.once_a_run ≡ true → (i : ℕ) → i < count → slice_index_or scratch.made.states i [] ≡ state_in block i
 
 -- item i of a list is the message of window i of an upper block from the right, if the round reads it
@@ -59,7 +53,7 @@ HoldLasts block count sent = block.reads_right ≡ true → (i : ℕ) → i < co
 -- the first `count` windows of an upper block are taken, and the blocks of their parts are known
 pub record AreGathered (entries : Entries) (block : UpperBlock) (count : ℕ) (scratch : Scratch) : Type 0 where
   pub fronts : HoldFronts block count scratch
-  pub lasts : HoldLasts block count scratch.parts.from_right.items
+  pub lasts : HoldLasts block count scratch.from_right.items
   pub known : KnowsBelow entries block.plan.now.ids (block.below + 1) block.number count
 
 -- the windows of an upper block from an index to the index `end`, where their run ends, or the block, after the last
@@ -88,5 +82,7 @@ pub record IsReady (plan : ProgramForIds) (scratch : Scratch) : Type 0 where
   pub width : scratch.work.width ≡ BLOCK_WINDOWS
   pub reads : (k : ℕ) → k < length plan.program.steps → slice_index_or scratch.reads_right k true ≡ false
       → IgnoresRight plan.program k
-  pub parts_wide : AreWide plan scratch.parts
+  pub from_left_wide : length scratch.from_left.items ≡ BLOCK_WINDOWS
+  pub own_wide : HasSize BLOCK_WINDOWS (length plan.program.start) scratch.own
+  pub from_right_wide : length scratch.from_right.items ≡ BLOCK_WINDOWS
   pub made_wide : HasSize BLOCK_WINDOWS (length plan.program.start) scratch.made

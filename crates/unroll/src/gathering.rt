@@ -9,9 +9,9 @@ ghost use Rattle.unroll.specs.WideColumns.{AreGathered, HasFronts, HoldFronts, H
 ghost use Rattle.win_index.specs.Blocks.{block_count};
 
 use crate::fault::MakeFault;
-use crate::part_columns::Scratch;
 use crate::parts::{LastParts, numbered_block, put_lasts};
 use crate::run::{Near, Reached, Run, start_run};
+use crate::scratch::{Scratch, fill_some};
 use crate::upper_block::UpperBlock;
 use node_program::MAX_REGISTERS;
 use round_columns::{Code, next_columns, start_columns, to_left_columns, to_right_columns};
@@ -54,7 +54,7 @@ pub(crate) fn gather<'s, S: Source<'s>>(
             run,
             last: near.last,
         };
-        let (after, block) = gather_run(upper, source, reached, &mut scratch.parts.from_right)?;
+        let (after, block) = gather_run(upper, source, reached, &mut scratch.from_right)?;
         take_fronts(upper, run, index, after, scratch);
         if after == len {
             return Ok(());
@@ -134,15 +134,14 @@ fn take_fronts(upper: UpperBlock<'_>, run: Run<'_>, from: u32, end: u32, scratch
     requires held { HoldFronts upper from scratch.old }
     ensures ready { IsReady upper.entry.plan.now scratch.new }
     ensures held { HoldFronts upper.entry end scratch.new }
-    ensures right { scratch.new.parts.from_right ≡ scratch.old.parts.from_right }
+    ensures right { scratch.new.from_right ≡ scratch.old.from_right }
 {
     states_from_parts();
     let place = from as usize;
     let count = (end - from) as usize;
     if !upper.once_a_run {
-        scratch
-            .parts
-            .put_fronts(place, count, run.first.sent, run.own);
+        fill_some(&mut scratch.from_left, place, count, run.first.sent);
+        scratch.own.fill_states(place, count, run.own);
         return;
     }
     let mut cells = [0; MAX_REGISTERS as usize];
@@ -187,20 +186,14 @@ pub(crate) fn write_states<'s, S: Source<'s>>(
     if upper.once_a_run {
         return Ok(());
     }
-    let Scratch {
-        work,
-        parts,
-        made,
-        ..
-    } = scratch;
     next_columns(
         code,
         below,
-        &parts.from_left,
-        &parts.own,
-        &parts.from_right,
-        work,
-        made,
+        &scratch.from_left,
+        &scratch.own,
+        &scratch.from_right,
+        &mut scratch.work,
+        &mut scratch.made,
     );
     Ok(())
 }

@@ -5,10 +5,10 @@ mod fault;
 mod gathering;
 mod maker;
 mod making;
-mod part_columns;
 mod parts;
 mod right_reads;
 mod run;
+mod scratch;
 mod upper_block;
 
 pub use fault::MakeFault;

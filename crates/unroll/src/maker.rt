@@ -1,7 +1,7 @@
 //! A maker of blocks, which keeps its columns.
 use crate::fault::MakeFault;
 use crate::gathering::{send_states, write_states};
-use crate::part_columns::{Scratch, zeros};
+use crate::scratch::{Scratch, zeros};
 use node_program::OutOfMemory;
 use round_columns::Code;
 use round_eval::{rows_are_taken, width_of};

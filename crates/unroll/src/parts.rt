@@ -9,7 +9,7 @@ ghost use Rattle.unroll.specs.WideColumns.{AreWritten};
 ghost use Rattle.win_index.specs.Blocks.{window_count};
 
 use crate::fault::MakeFault;
-use crate::part_columns::copy_some;
+use crate::scratch::copy_some;
 use crate::upper_block::UpperBlock;
 use lang_check::Plan;
 use win_index::BLOCK_WINDOWS;

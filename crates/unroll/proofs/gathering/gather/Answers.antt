@@ -66,7 +66,7 @@ gather_run-requires g c κs =
                 (λ b is. entry_grows plan old new low b.now.number b.now grows is) before.near.last;
           },
           (
-            ap length c.deref_mut.ensures.value ∙ before.ready.parts_wide.2,
+            ap length c.deref_mut.ensures.value ∙ before.ready.from_right_wide,
             (
               rw c.deref_mut.ensures.value before.gathered.lasts,
               λ lower j one lt n is. still_known old new lower (n / BLOCK_WINDOWS) grows (before.gathered.known lower j one lt n is),
@@ -88,7 +88,7 @@ returns-then-after-len-clause-asked g c =
 module _ (g : Over) (c : After-take_fronts g) where
   gathered : AreGathered (g.S.Source.entries c.gather_run.new.source) c.args.upper c.in_ok-after.after c.take_fronts.new.scratch
   gathered =
-      let list = c.loop-run.scratch.parts.from_right in
+      let list = c.loop-run.scratch.from_right in
       let cells = c.gather_run.new.sent in
       let whole : take list.len (cells ++ drop (length cells) list.items) ≡ cells =
       take_at cells _ list.len (c.gather_run.auto.sent ∙ c.deref_mut.ensures.len) in

@@ -62,5 +62,5 @@ returns-clause-made g c =
     (states_in_columns c.states_from_parts.ensures.next upper (len_in upper) c.gather.new.scratch made c.if-upper.false
     (omega (arith, c.next_columns.ensures.size.0, ready.made_wide.0)) gathered.fronts gathered.lasts
     (λ i lt.
-    let stepped = c.next_columns.ensures.states i (omega (arith, lt, ready.parts_wide.1.0)) in
+    let stepped = c.next_columns.ensures.states i (omega (arith, lt, ready.own_wide.0)) in
     rw (block.plan, block.below, c.plan-plan.ensures) (rw (c.deref.ensures.value, c.deref-2.ensures.value) at stepped)))

@@ -1,7 +1,7 @@
-//! The columns that a maker of blocks reuses.
-ghost use Rattle.std.specs.Prelude.{◌≡◌, ◌+◌, ◌≤◌, [], ℕ, List, length, replicate, slice_index, IfOk};
+//! What a maker of blocks reuses.
+ghost use Rattle.std.specs.Prelude.{◌≡◌, ◌+◌, ◌≤◌, ℕ, length, replicate, slice_index, IfOk};
 ghost use Rattle.round_columns.specs.States.{HasSize};
-ghost use Rattle.unroll.specs.WideColumns.{AreWide, AreWritten, IsReady};
+ghost use Rattle.unroll.specs.WideColumns.{AreWritten, IsReady};
 
 use crate::right_reads::rounds_use_right;
 use lang_check::Plan;
@@ -11,56 +11,17 @@ use round_eval::width_of;
 use std::alloc::Global;
 use win_index::BLOCK_WINDOWS;
 
-// The columns of the parts of up to `BLOCK_WINDOWS` windows, from which the states one level above
-// are computed: the message to the right of the first part's node in the next
-// round, the registers of the middle part's node, and the message to the left of the last part's
-// node.
-#[derive(Drop)]
-pub(crate) struct PartColumns {
-    pub(crate) from_left: Vec<u32>,
-    pub(crate) own: Columns,
-    pub(crate) from_right: Vec<u32>,
-}
-
-impl PartColumns {
-    // Allocates columns for the parts of `BLOCK_WINDOWS` windows.
-    pub(crate) fn new(alloc: Global, plan: &Plan) -> Result<PartColumns, OutOfMemory>
-        ensures { IfOk result (AreWide plan.now) }
-    {
-        let from_left = zeros(alloc, BLOCK_WINDOWS as usize)?;
-        let own = wide_columns(alloc, plan)?;
-        let from_right = zeros(alloc, BLOCK_WINDOWS as usize)?;
-        Ok(PartColumns {
-            from_left,
-            own,
-            from_right,
-        })
-    }
-
-    // Writes the first two parts of `count` consecutive windows from `place` on, which all have the
-    // same ones.
-    pub(crate) fn put_fronts(&mut self, place: usize, count: usize, from_left: u32, own: &[u32])
-        requires left { place + count ≤ length self.old.from_left.items }
-        requires own { place + count ≤ length self.old.own.states }
-        requires cells { length own.now ≡ self.old.own.registers }
-        ensures left { AreWritten ℕ 0 self.old.from_left.items self.new.from_left.items place count (λ _. from_left) }
-        ensures registers { self.new.own.registers ≡ self.old.own.registers }
-        ensures own { AreWritten (List ℕ) [] self.old.own.states self.new.own.states place count (λ _. own.now) }
-        ensures right { self.new.from_right ≡ self.old.from_right }
-    {
-        fill_some(&mut self.from_left, place, count, from_left);
-        self.own.fill_states(place, count, own);
-    }
-}
-
 // What a maker of blocks reuses: which rounds read the message from the right, scratch for the
-// plan's expressions, the columns of the parts of a block's windows, and the states of these
-// windows.
+// plan's expressions, the parts of a block's windows, and the states of these windows. The parts are
+// the message to the right of the first part's node in the next round, the registers of the middle
+// part's node, and the message to the left of the last part's node.
 #[derive(Drop)]
 pub(crate) struct Scratch {
     pub(crate) reads_right: [bool; MAX_ROUNDS as usize],
     pub(crate) work: Work,
-    pub(crate) parts: PartColumns,
+    pub(crate) from_left: Vec<u32>,
+    pub(crate) own: Columns,
+    pub(crate) from_right: Vec<u32>,
     pub(crate) made: Columns,
 }
 
@@ -70,12 +31,16 @@ impl Scratch {
         ensures { IfOk result (IsReady code.now) }
     {
         let work = Work::new(alloc, code, BLOCK_WINDOWS as usize)?;
-        let parts = PartColumns::new(alloc, code.plan())?;
+        let from_left = zeros(alloc, BLOCK_WINDOWS as usize)?;
+        let own = wide_columns(alloc, code.plan())?;
+        let from_right = zeros(alloc, BLOCK_WINDOWS as usize)?;
         let made = wide_columns(alloc, code.plan())?;
         Ok(Scratch {
             reads_right: rounds_use_right(code.plan()),
             work,
-            parts,
+            from_left,
+            own,
+            from_right,
             made,
         })
     }
@@ -85,7 +50,7 @@ impl Scratch {
 const CHUNK: usize = 16;
 
 // Writes a number to `count` cells from `place` on, and perhaps to some after them.
-fn fill_some(cells: &mut [u32], place: usize, count: usize, number: u32)
+pub(crate) fn fill_some(cells: &mut [u32], place: usize, count: usize, number: u32)
     requires { place + count ≤ length cells.old }
     ensures { AreWritten ℕ 0 cells.old cells.new place count (λ _. number) }
 {

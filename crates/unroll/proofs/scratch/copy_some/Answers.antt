@@ -1,5 +1,5 @@
 use Rattle.unroll.proofs.SomeWritten.{some_copied}
-use Rattle.unroll.proofs.part_columns.copy_some.Goals as goal
+use Rattle.unroll.proofs.scratch.copy_some.Goals as goal
 
 pub returns-then-index-numbers : goal.returns-then-index-numbers
 returns-then-index-numbers c =

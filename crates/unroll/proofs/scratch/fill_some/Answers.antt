@@ -1,5 +1,5 @@
 use Rattle.unroll.proofs.SomeWritten.{some_filled}
-use Rattle.unroll.proofs.part_columns.fill_some.Goals as goal
+use Rattle.unroll.proofs.scratch.fill_some.Goals as goal
 
 pub returns-then-place-cells : goal.returns-then-place-cells
 returns-then-place-cells c =
