@@ -42,9 +42,12 @@ pub record HasFronts (block : UpperBlock) (run : Run) (i : ℕ) : Type 0 where
 -- i from the left and the state of its middle part, or, where the round is evaluated once a run, the state of window i
 pub record HoldFronts (block : UpperBlock) (count : ℕ) (scratch : Scratch) : Type 0 where
   pub sizes : (i : ℕ) → i < count → length (window_in block i) ≡ 2 * block.below + 3
-  pub left : block.once_a_run ≡ false → (i : ℕ) → i < count → slice_index scratch.from_left.items i ≡ left_message block i
-  pub own : block.once_a_run ≡ false → (i : ℕ) → i < count → slice_index_or scratch.own.states i [] ≡ part_state block 1 i
-  pub states : block.once_a_run ≡ true → (i : ℕ) → i < count → slice_index_or scratch.made.states i [] ≡ state_in block i
+  pub left : block.once_a_run ≡ false → (i : ℕ) → i < count
+      → slice_index scratch.from_left.items i ≡ left_message block i
+  pub own : block.once_a_run ≡ false → (i : ℕ) → i < count
+      → slice_index_or scratch.own.states i [] ≡ part_state block 1 i
+  pub states : block.once_a_run ≡ true → (i : ℕ) → i < count
+      → slice_index_or scratch.made.states i [] ≡ state_in block i
 
 -- item i of a list is the message of window i of an upper block from the right, if the round reads it
 abbrev pub HoldLasts : UpperBlock → ℕ → List ℕ → Type 0
@@ -59,7 +62,8 @@ pub record AreGathered (entries : Entries) (block : UpperBlock) (count : ℕ) (s
 -- the windows of an upper block from an index to the index `end`, where their run ends, or the block, after the last
 -- parts of all windows before `end` were taken; the known block `last` holds the last part of the window before `end`
 pub record IsRunGathered
-    (entries : Entries) (block : UpperBlock) (run : Run) (from end : ℕ) (last : MadeBlock) (sent : List ℕ) : Type 0 where
+    (entries : Entries) (block : UpperBlock) (run : Run) (from end : ℕ) (last : MadeBlock) (sent : List ℕ)
+    : Type 0 where
   pub later : from < end
   pub within : end ≤ block_len block.plan.now.ids (block.below + 1) block.number
   pub ended : end < block_len block.plan.now.ids (block.below + 1) block.number
@@ -75,8 +79,8 @@ pub record AreWritten (A : Type 0) (none : A) (old new : List A) (place count : 
   pub here : (i : ℕ) → i < count → slice_index_or new (place + i) none ≡ item i
   pub before : (i : ℕ) → i < place → slice_index_or new i none ≡ slice_index_or old i none
 
--- scratch for the blocks of a plan: room for its expressions, columns for its registers, and which of its rounds may read
--- the message from the right
+-- scratch for the blocks of a plan: room for its expressions, columns for its registers, and which of its rounds may
+-- read the message from the right
 pub record IsReady (plan : ProgramForIds) (scratch : Scratch) : Type 0 where
   pub room : most_columns (terms plan.program) ≤ scratch.work.columns
   pub width : scratch.work.width ≡ BLOCK_WINDOWS

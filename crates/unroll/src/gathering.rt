@@ -19,7 +19,8 @@ use round_eval::{step, width_of};
 use win_index::{BLOCK_WINDOWS, MAX_WINDOW_LEN, Shape, number_of_window, windows_have_numbers};
 use window_states::{Block, Source, block_len, first_number, states_from_parts};
 
-// Gathers the windows of a block, of which `window` is the first, run by run.
+// Gathers the parts of each window of a block, whose first window is `window`, run by run. Where the
+// round is evaluated once a run, it writes the states after it in place of the parts.
 pub(crate) fn gather<'s, S: Source<'s>>(
     upper: UpperBlock<'_>,
     source: &mut S,
@@ -73,9 +74,10 @@ pub(crate) fn gather<'s, S: Source<'s>>(
     }
 }
 
-// Asks for the blocks of the last parts of the windows in the run of the place that is reached, from
-// that place on, and writes the messages of these parts to `sent` if the round reads them. Returns
-// the index of the end of these windows, and the block that holds the last part of the last of them.
+// Asks for the blocks of the last parts of the windows in the run of the place that is reached,
+// from that place on, and writes the messages of these parts to `sent` if the round reads them.
+// Returns the index of the end of these windows, and the block that holds the last part of the last
+// of them.
 fn gather_run<'s, S: Source<'s>>(
     upper: UpperBlock<'_>,
     source: &mut S,
@@ -88,7 +90,8 @@ fn gather_run<'s, S: Source<'s>>(
     requires lasts { HoldLasts upper reached.index sent.old }
     requires known { KnowsBelow (S.entries source.old) upper.plan.now.ids (upper.below + 1) upper.number reached.index }
     ensures asked { Asked S.plan S.fixed S.entries source.old source.new }
-    ensures gathered { IfOk result (λ r. IsRunGathered (S.entries source.new) upper.entry reached.entry.run reached.entry.index r.0 r.1.now sent.new) }
+    ensures gathered { IfOk result (λ r. IsRunGathered (S.entries source.new) upper.entry reached.entry.run
+        reached.entry.index r.0 r.1.now sent.new) }
     ensures missing { IfErr result (IsMissingBelow (S.entries source.new) upper.entry.plan.now.ids (upper.entry.below + 1) upper.entry.number) }
 {
     number_of_window();
@@ -124,8 +127,9 @@ fn gather_run<'s, S: Source<'s>>(
     }
 }
 
-// Takes the first two parts of the windows of an upper block from one index to another, which are in
-// one run.
+// Takes the first two parts of the windows of an upper block from one index to another, which are
+// in one run: writes them to columns or, where the round is evaluated once a run, the windows'
+// state after it.
 fn take_fronts(upper: UpperBlock<'_>, run: Run<'_>, from: u32, end: u32, scratch: &mut Scratch)
     requires range { (from ≤ end) × (end ≤ BLOCK_WINDOWS) }
     requires ready { IsReady upper.plan.now scratch.old }

@@ -10,7 +10,8 @@ use node_program::{Expr, MAX_ROUNDS};
 // Returns for each round of a plan whether its assignments read the message from the right, and
 // true for each number that is no round's.
 pub(crate) fn rounds_use_right(plan: &Plan) -> [bool; MAX_ROUNDS as usize]
-    ensures { (k : ℕ) → k < length plan.now.program.steps → slice_index_or result k true ≡ false → IgnoresRight plan.now.program k }
+    ensures { (k : ℕ) → k < length plan.now.program.steps → slice_index_or result k true ≡ false
+        → IgnoresRight plan.now.program k }
 {
     let mut uses = [true; MAX_ROUNDS as usize];
     let program = plan.program();

@@ -12,9 +12,9 @@ use std::alloc::Global;
 use win_index::BLOCK_WINDOWS;
 
 // What a maker of blocks reuses: which rounds read the message from the right, scratch for the
-// plan's expressions, the parts of a block's windows, and the states of these windows. The parts are
-// the message to the right of the first part's node in the next round, the registers of the middle
-// part's node, and the message to the left of the last part's node.
+// plan's expressions, the parts of a block's windows, and the states of these windows. The parts
+// are the message to the right of the first part's node in the next round, the registers of the
+// middle part's node, and the message to the left of the last part's node.
 #[derive(Drop)]
 pub(crate) struct Scratch {
     pub(crate) reads_right: [bool; MAX_ROUNDS as usize],
@@ -88,7 +88,7 @@ pub(crate) fn zeros(alloc: Global, len: usize) -> Result<Vec<u32>, OutOfMemory>
 }
 
 // Columns for the states of `BLOCK_WINDOWS` windows.
-pub(crate) fn wide_columns(alloc: Global, plan: &Plan) -> Result<Columns, OutOfMemory>
+fn wide_columns(alloc: Global, plan: &Plan) -> Result<Columns, OutOfMemory>
     ensures { IfOk result (HasSize BLOCK_WINDOWS (length plan.now.program.start)) }
 {
     Columns::new(alloc, width_of(plan), BLOCK_WINDOWS as usize)

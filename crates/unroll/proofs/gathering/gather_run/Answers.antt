@@ -38,6 +38,7 @@ module _ (g : Over) (c : After-put_lasts g) where
       series_at c.number_of_window.ensures c.windows_have_numbers.ensures plan after low c.args.upper.number c.loop-block.place block.number c.in_ok-block.index c.series-count.result w run
       (omega (arith, size)) before.here.1 right (c.series-count.ensures.series (2 * low + 1) plan.ids w (omega arith) before.here.3) run_is
 
+  -- their first two parts are those of the run
   fronts : (i : ℕ) → c.args.reached.index ≤ i → i < c.loop-block.place + c.series-count.result → HasFronts c.args.upper c.args.reached.run i
   fronts = λ i late lt.
       below_sum (λ i. c.args.reached.index ≤ i → HasFronts c.args.upper c.args.reached.run i) c.loop-block.place c.series-count.result
@@ -45,12 +46,14 @@ module _ (g : Over) (c : After-put_lasts g) where
       (λ i lt late. series_fronts c.args.upper (g.S.Source.entries c.numbered_block.new.source) c.loop-block.place c.in_ok-block.block.now.number
       c.in_ok-block.index i c.loop-block.invariant.here.0 c.args.reached.run (stands i lt)) i lt late
 
+  -- the messages of the last parts up to their end
   lasts : HoldLasts c.args.upper (c.loop-block.place + c.series-count.result) c.put_lasts.new.cells
   lasts =
       hold_series c.args.upper (g.S.Source.entries c.numbered_block.new.source) c.loop-block.place c.in_ok-block.block.now.number c.in_ok-block.index
       c.series-count.result c.loop-block.invariant.here.0 c.args.reached.run c.loop-block.sent c.put_lasts.new.cells c.loop-block.invariant.lasts
       c.put_lasts.ensures stands
 
+  -- the parts of the windows up to their end are known
   known : KnowsBelow (g.S.Source.entries c.numbered_block.new.source) c.args.upper.plan.now.ids (c.args.upper.below + 1) c.args.upper.number (c.loop-block.place + c.series-count.result)
   known =
       let plan = c.args.upper.plan.now in
