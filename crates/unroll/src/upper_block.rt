@@ -7,8 +7,8 @@ ghost use Rattle.window_states.specs.BlockStates.{block_len};
 use lang_check::Plan;
 use window_states::block_len;
 
-// The number of windows from which on a run is long: evaluating a round once for all of them, at one
-// node, is then faster than in columns.
+// The number of windows from which on a run is long: evaluating a round once for all of them, at
+// one node, is then faster than in columns.
 const LONG_RUN: u32 = 16;
 
 // A block above level 0 that is to be made: its plan, the level one below its own, its number, the
