@@ -1,8 +1,8 @@
 -- The places of identifiers among those that a list lacks.
-use Rattle.std.proofs.Common.{◌≡◌, ◌≢◌, ℕ, zero, suc, ◌+◌, ◌-◌, ◌<◌, ◌≤◌, true, false, not, cond, eqb, nat_lt, List, length, get_or, refl, sym, ap, ◌∙◌, arith, ⊎_elim}
-use Rattle.std.proofs.lemmas.Bool.{cases_lt, cases_eq, lt-ltb, le-ltb, ne_eqb}
+use Rattle.std.proofs.Common.{◌≡◌, ◌≢◌, ℕ, zero, suc, ◌+◌, ◌-◌, ◌<◌, ◌≤◌, true, false, not, ◌||◌, cond, eqb, nat_lt, List, [], ◌∷◌, ◌++◌, append-nil, length, get_or, refl, sym, ap, ◌∙◌, arith, ⊎_elim}
+use Rattle.std.proofs.lemmas.Bool.{cases_lt, cases_eq, lt-ltb, le-ltb, eq-eqb, ne_eqb, or_right}
 use Rattle.std.proofs.lemmas.Grind.{get_or_default_zero}
-use Rattle.std.proofs.lemmas.List.Folds.{list_any_none}
+use Rattle.std.proofs.lemmas.List.Folds.{list_any_none, list_any-append}
 use Rattle.std.proofs.lemmas.List.Sums.{length-filter}
 use Rattle.std.specs.List.{range_with_len}
 use Rattle.win_index.specs.Windows.{is_used, unused}
@@ -68,3 +68,17 @@ module _ (list longer : List ℕ) (y : ℕ) (free : is_used list y ≡ false) (h
       (cases_lt y x) in
       omega (arith, rest, rank_suc list x, rank_suc longer x, both, kept))
       (cases_eq x y)
+
+-- the place of an identifier in a list, and in the list with x at any index
+pub rank_among : (u v : List ℕ) (x : ℕ) → is_used (u ++ v) x ≡ false → (y : ℕ) → rank (u ++ v) y ≡ rank (u ++ x ∷ v) y + cond (nat_lt x y) 1 0
+rank_among u v x free =
+    rank_without (u ++ v) (u ++ x ∷ v) x free
+    (list_any-append (λ w. eqb w x) u (x ∷ v) ∙ or_right (is_used u x) (is_used (x ∷ v) x) (ap (λ b. b || is_used v x) (eq-eqb x x refl)))
+    (λ z other.
+    list_any-append (λ w. eqb w z) u (x ∷ v) ∙ ap (λ b. is_used u z || (b || is_used v z)) (ne_eqb x z (λ e. other (sym e)))
+    ∙ sym (list_any-append (λ w. eqb w z) u v))
+
+-- the same for x at the end
+pub rank_pushed : (list : List ℕ) (x : ℕ) → is_used list x ≡ false → (y : ℕ) → rank list y ≡ rank (list ++ x ∷ []) y + cond (nat_lt x y) 1 0
+rank_pushed list x free y =
+    ap (λ l. rank l y) (sym (append-nil list)) ∙ rank_among list [] x (ap (λ l. is_used l x) (append-nil list) ∙ free) y

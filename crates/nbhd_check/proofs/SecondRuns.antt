@@ -1,11 +1,9 @@
 -- The second windows after the windows of a run.
-use Rattle.std.proofs.Common.{◌≡◌, ◌≢◌, ℕ, ◌+◌, ◌-◌, ◌*◌, ◌<◌, ◌≤◌, Bool, true, false, ◌||◌, cond, eqb, nat_lt, List, [], ◌∷◌, ◌++◌, length, get_or, take, drop, slice_get, Some, subst, sym, ap, ◌∙◌, arith, refl, ⊎_elim, length-drop}
+use Rattle.std.proofs.Common.{◌≡◌, ◌≢◌, ℕ, ◌+◌, ◌-◌, ◌*◌, ◌<◌, ◌≤◌, true, false, cond, nat_lt, List, [], ◌∷◌, ◌++◌, length, get_or, take, drop, slice_get, Some, subst, sym, ap, ◌∙◌, arith, refl, ⊎_elim, length-drop}
 use Rattle.std.proofs.Math.Nat.{mul-le-mul_left}
-use Rattle.std.proofs.lemmas.Bool.{cases_lt, lt-ltb, le-ltb, ne_eqb, eq-eqb, or_right}
+use Rattle.std.proofs.lemmas.Bool.{cases_lt, lt-ltb, le-ltb}
 use Rattle.std.proofs.lemmas.List.{get_or-take, get_or-drop, length-take-le, take_more, take_all}
-use Rattle.std.proofs.lemmas.List.Folds.{list_any-append}
 use Rattle.std.proofs.lemmas.Option.{same_Some, slice_get-get_or, slice_get_within}
-use Rattle.std.specs.List.{list_any}
 use Rattle.std.specs.Int.{abs_diff}
 use Rattle.win_index.specs.Laws.{CountOfWindows}
 use Rattle.win_index.specs.Runs.{IsRunStart}
@@ -18,11 +16,7 @@ use Rattle.nbhd_check.specs.Runs.{SecondRunsOf, second_run, second_gap, wide, Ar
 use Rattle.nbhd_check.proofs.Suffixes.{number_of_next, all_within, run_within}
 use Rattle.nbhd_check.proofs.Prefixes.{place_of_last, in_run, one_run, window_at}
 use Rattle.nbhd_check.proofs.Runs.{AreChannelsAfter, gap_inside, none_close_after, none_begins_near, channel_at, channels_after}
-use Rattle.nbhd_check.proofs.Ranks.{rank, lacks, rank_mono, rank_rises, rank_without}
-
-or_nothing : (b : Bool) → (b || false) ≡ b
-or_nothing true = refl
-or_nothing false = refl
+use Rattle.nbhd_check.proofs.Ranks.{rank, lacks, rank_mono, rank_rises, rank_among, rank_pushed}
 
 -- x and y are not in the list; the place of y in the list with x, and of x in the list with y, if the list alone has them
 -- at the places p and q
@@ -30,8 +24,8 @@ shifted : (list : List ℕ) (y x : ℕ) → is_used list y ≡ false → is_used
     → (rank list x ≡ rank (y ∷ list) x + cond (nat_lt (rank (y ∷ list) x) (rank list y)) 0 1)
     × (rank list y ≡ rank (list ++ x ∷ []) y + cond (nat_lt (rank (y ∷ list) x) (rank list y)) 1 0)
 shifted list y x free_y free_x other =
-    let more = rank_without list (y ∷ list) y free_y (in_front list y) (λ z differs. behind list y z differs) in
-    let end = rank_without list (list ++ x ∷ []) x free_x (at_end list x) (λ z differs. before_end list x z differs) in
+    let more = rank_among [] list y free_y in
+    let end = rank_pushed list x free_x in
     let p : ℕ = rank (y ∷ list) x in
     let own : rank list y ≡ rank (y ∷ list) y + cond (nat_lt y y) 1 0 = more y in
     let never : cond {A = ℕ} (nat_lt y y) 1 0 ≡ 0 = ap (λ b. cond b 1 0) (le-ltb y y (omega arith)) in
@@ -55,18 +49,6 @@ shifted list y x free_y free_x other =
     let none : cond {A = ℕ} (nat_lt p (rank list y)) 1 0 ≡ 1 = ap (λ b. cond b 1 0) test in
     (omega (arith, more x, up, one), omega (arith, end y, down, none)))
     (cases_lt y x)
-  where
-    in_front : (list : List ℕ) (y : ℕ) → is_used (y ∷ list) y ≡ true
-    in_front list y = rw (eq-eqb y y refl) refl
-
-    behind : (list : List ℕ) (y z : ℕ) → z ≢ y → is_used (y ∷ list) z ≡ is_used list z
-    behind list y z differs = rw (ne_eqb y z (λ e. differs (sym e))) refl
-
-    at_end : (list : List ℕ) (x : ℕ) → is_used (list ++ x ∷ []) x ≡ true
-    at_end list x = list_any-append (λ v. eqb v x) list (x ∷ []) ∙ or_right (is_used list x) (list_any (λ v. eqb v x) (x ∷ [])) (in_front [] x)
-
-    before_end : (list : List ℕ) (x z : ℕ) → z ≢ x → is_used (list ++ x ∷ []) z ≡ is_used list z
-    before_end list x z differs = list_any-append (λ v. eqb v z) list (x ∷ []) ∙ ap (λ b. is_used list z || b) (behind [] x z differs) ∙ or_nothing (is_used list z)
 
 -- where the second windows after one window of a run are
 module _ (laws : WindowsAreNumbered) (t : ChannelTable) (runs : SecondRuns) (place : ℕ) (window : List ℕ) (are : SecondRunsOf t runs) (inside : place < wide t) (item : slice_get (windows_of t) (runs.run * wide t + place) ≡ Some window) where

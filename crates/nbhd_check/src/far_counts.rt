@@ -20,7 +20,7 @@ use channel_tables::Table;
 use std::alloc::Global;
 use std::sync::atomic::{AtomicU32, Ordering};
 use std::thread::Threads;
-use win_index::{MAX_WINDOW_LEN, count_of_windows, windows_are_in_order};
+use win_index::{MAX_WINDOW_LEN, count_of_windows, place_among_unused, windows_are_in_order};
 
 /// The search for windows that begin a tuple whose third window is closer than `distance`, which is
 /// at least 1. All channels are below `limit`.
@@ -90,6 +90,7 @@ impl<'a> FarCounts<'a> {
                 table: self.table,
                 distance: self.distance,
                 shared,
+                number,
                 counts: &counts,
                 each,
             };
@@ -137,11 +138,14 @@ struct Family<'b> {
     table: &'b Table,
     distance: u32,
     shared: &'b [u32],
+    // The number of the shared identifiers, as a list.
+    number: u32,
     counts: &'b Counts,
     // The number of windows that begin with the same two identifiers.
     each: u32,
     ghost some: { (1 ≤ table.now.rounds) × (1 ≤ distance) },
     ghost window: { IsWindow (shared_len table.now) table.now.ids shared.now },
+    ghost numbered: { slice_get (shared_lists table.now) number ≡ Some shared.now },
     ghost fit: { CountsFit table.now counts.now },
     ghost each_is: { (each ≡ falling (table.now.ids - 2) (shared_len table.now)) × (each ≤ length (windows_of table.now)) },
 }
@@ -244,23 +248,24 @@ impl<'b> Family<'b> {
         }
     }
 
-    // Returns the number of the window of the shared identifiers and then these two.
+    // Returns the number of the window of the shared identifiers and then these two, by their places
+    // in the family.
     fn number_after(self, one: u32, other: u32) -> u32
         requires { IsWindow (2 * self.table.now.rounds + 1) self.table.now.ids (self.shared.now ++ one ∷ other ∷ []) }
         ensures { slice_get (windows_of self.entry.table.now) result ≡ Some (self.entry.shared.now ++ one ∷ other ∷ []) }
     {
-        let shape = self.table.shape();
-        let level = shape.rounds();
-        let mut cells = [0; MAX_WINDOW_LEN];
-        let window = &mut cells[..2 * level as usize + 1];
-        write_after(window, self.shared, one, other);
-        shape.window_number(level, window)
+        numbers_of_windows();
+        let free = self.table.shape().ids() - self.shared.len() as u32;
+        let place = place_among_unused(self.shared, one);
+        let next = place_among_unused(self.shared, other) - u32::from(one < other);
+        (self.number * free + place) * (free - 1) + next
     }
 
     // Like `free`, for the window of these two identifiers and the shared ones.
     fn free_with_both(self, first: u32, second: u32, numbers: PairNumbers, least: u32) -> u32
         requires counted { AreCountsOf self.table.now self.shared.now self.counts.now }
         requires numbers { ArePairNumbers self.table.now self.shared.now first second numbers }
+        requires ids { (first < self.table.now.ids) × (second < self.table.now.ids) }
         ensures less { result ≤ least }
         ensures free { AreFarFreeIn self.entry.table.now self.entry.distance result (λ window. window ≡ first ∷ second ∷ self.entry.shared.now) }
     {
@@ -277,6 +282,7 @@ impl<'b> Family<'b> {
     fn may_begin_far_tuple(self, first: u32, second: u32, numbers: PairNumbers) -> bool
         requires counted { AreCountsOf self.table.now self.shared.now self.counts.now }
         requires numbers { ArePairNumbers self.table.now self.shared.now first second numbers }
+        requires ids { (first < self.table.now.ids) × (second < self.table.now.ids) }
         ensures { OnFalse result (¬ BeginsFarTuple self.entry.table.now self.entry.distance (first ∷ second ∷ self.entry.shared.now)) }
     {
         numbers_of_windows();
@@ -287,7 +293,7 @@ impl<'b> Family<'b> {
             ..
         } = self;
         let ids = table.shape().ids();
-        let channel = table.entry(numbers.before);
+        let channel = self.channel_at(numbers.before);
         let all = close_count(table, counts, ids, channel, distance);
         let with_first = close_count(table, counts, first, channel, distance);
         let with_second = close_count(table, counts, second, channel, distance);
@@ -301,14 +307,23 @@ impl<'b> Family<'b> {
     // Returns 1 if the channel of the window with this number is closer than the distance to
     // `channel`, else 0. Returns 1 without a look at the window unless it `decides`.
     fn close_one(self, number: u32, channel: u32, decides: bool) -> u64
-        requires { number < length self.table.now.entries }
+        requires { (window : List ℕ) × (slice_get (windows_of self.table.now) number ≡ Some window) }
         ensures few { result ≤ 1 }
         ensures close { abs_diff channel (slice_index self.entry.table.now.entries number) < self.entry.distance → 1 ≤ result }
     {
         if !decides {
             return 1;
         }
-        u64::from(channel.abs_diff(self.table.entry(number)) < self.distance)
+        u64::from(channel.abs_diff(self.channel_at(number)) < self.distance)
+    }
+
+    // Returns the channel of the window with this number.
+    fn channel_at(self, number: u32) -> u32
+        requires { (window : List ℕ) × (slice_get (windows_of self.table.now) number ≡ Some window) }
+        ensures value { result ≡ slice_index self.entry.table.now.entries number }
+        ensures few { result < self.entry.counts.now.limit }
+    {
+        u32::from(self.table.entries()[number as usize])
     }
 }
 
@@ -335,15 +350,4 @@ fn write_before(out: &mut [u32], first: u32, second: u32, others: &[u32])
     out[0] = first;
     out[1] = second;
     out[2..].copy_from_slice(others);
-}
-
-// Writes the others and then two identifiers.
-fn write_after(out: &mut [u32], others: &[u32], one: u32, other: u32)
-    requires { length out.old ≡ length others.now + 2 }
-    ensures { out.new ≡ others.now ++ one ∷ other ∷ [] }
-{
-    let len = others.len();
-    out[..len].copy_from_slice(others);
-    out[len] = one;
-    out[len + 1] = other;
 }
