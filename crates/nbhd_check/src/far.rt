@@ -39,6 +39,9 @@ pub(crate) fn far_free_windows<R: Threads + Sync>(
         return free_windows(rt, &TupleScan { tuples }, most, threads);
     }
     let masks = family_masks(alloc, table, distance);
+    if masks.is_empty() {
+        return free_by_counts(rt, alloc, tuples, most, threads);
+    }
     let search = FarMasks {
         table,
         distance,

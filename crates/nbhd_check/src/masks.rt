@@ -44,6 +44,11 @@ impl Masks {
         }
     }
 
+    /// Returns whether there are no masks.
+    pub(crate) fn is_empty(&self) -> bool {
+        self.words.is_empty()
+    }
+
     /// Returns `false` only if no channel of the group is close to this one.
     pub(crate) fn may_hold(&self, group: usize, channel: u16) -> bool
         requires { group < 2 ^ 32 }
