@@ -17,6 +17,13 @@ pub count_few : (t : ChannelTable) (first n x : ℕ) (passes : ℕ → Bool) →
 count_few t first n x passes =
     omega (arith, count_by-le-length (λ k. passes (get_or t.entries k 0) && is_held t x k) (range_with_len first n), length-range_with_len first n)
 
+none : (a b c : Bool) → cond {A = ℕ} (a && false) 1 0 + cond (b && false) 1 0 ≡ cond (c && false) 1 0
+none a b c = rw (and_false a, and_false b, and_false c) refl
+  where
+    and_false : (b : Bool) → b && false ≡ false
+    and_false true = refl
+    and_false false = refl
+
 -- a channel below a limit is the last one below it, or it is below that one
 one_step : (row e : ℕ) (h : Bool) → 1 ≤ row → cond (eqb row (e + 1) && h) 1 0 + cond (ltb e (row - 1) && h) 1 0 ≡ cond (ltb e row && h) 1 0
 one_step row e true some =
@@ -28,16 +35,6 @@ one_step row e true some =
     order)
     (cases_order (e + 1) row)
 one_step row e false some = none (eqb row (e + 1)) (ltb e (row - 1)) (ltb e row)
-  where
-    none : (a b c : Bool) → cond (a && false) 1 0 + cond (b && false) 1 0 ≡ cond (c && false) 1 0
-    none true true true = refl
-    none true true false = refl
-    none true false true = refl
-    none true false false = refl
-    none false true true = refl
-    none false true false = refl
-    none false false true = refl
-    none false false false = refl
 
 pub below_step :
     (t : ChannelTable) (first n x row : ℕ) → 1 ≤ row
@@ -60,16 +57,6 @@ one_close channel distance low high e most true some below low_is high_is =
     (cases_lt e high))
     (cases_lt e low)
 one_close channel distance low high e most false some below low_is high_is = none (ltb e low) (ltb (abs_diff channel e) distance) (ltb e high)
-  where
-    none : (a b c : Bool) → cond (a && false) 1 0 + cond (b && false) 1 0 ≡ cond (c && false) 1 0
-    none true true true = refl
-    none true true false = refl
-    none true false true = refl
-    none true false false = refl
-    none false true true = refl
-    none false true false = refl
-    none false false true = refl
-    none false false false = refl
 
 pub close_of_sums :
     (t : ChannelTable) (first n x channel distance low high most : ℕ) → 1 ≤ distance → ((k : ℕ) → get_or t.entries k 0 < most)
