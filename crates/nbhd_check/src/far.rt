@@ -1,5 +1,5 @@
 //! Windows that begin a bad tuple, if the channels of places at distance two are judged too.
-ghost use Rattle.std.specs.Prelude.{◌≡◌, ◌+◌, ◌*◌, ◌^◌, ◌<◌, ◌≤◌, length};
+ghost use Rattle.std.specs.Prelude.{◌≡◌, ◌+◌, ◌*◌, ◌^◌, ◌<◌, ◌≤◌, All, length};
 ghost use Rattle.channel_tables.specs.Tables.{windows_of};
 ghost use Rattle.nbhd_check.specs.Runs.{AreFree, BeginsBadTuple};
 ghost use Rattle.nbhd_check.specs.FarSearch.{IsFarSearch};
@@ -68,7 +68,7 @@ fn free_by_counts<R: Threads + Sync>(
     numbers_of_windows();
     let Tuples { table, separation } = tuples;
     let distance = separation.far;
-    let limit = channel_limit(table);
+    let limit = limit_of_rows(table);
     if are_worth_counting(table, limit) {
         let counts = FarCounts {
             table,
@@ -102,6 +102,28 @@ fn is_long_search(table: &Table, most: u32) -> bool
     4 * u64::from(most) * family > u64::from(window_count(table))
 }
 
+// Returns a number above all channels. That of the declared channels serves if so many rows of counts
+// take less time than a look at all entries.
+fn limit_of_rows(table: &Table) -> u32
+    requires some { 1 ≤ table.now.rounds }
+    ensures limit { All (λ channel. channel < result) table.now.entries }
+    ensures few { result < 2 ^ 17 }
+{
+    let channels = table.channels();
+    if cells_of_rows(table, channels) > 2 * windows_per_family(table) as u64 {
+        return channel_limit(table);
+    }
+    channels
+}
+
+// Returns the number of cells of this many rows of counts.
+fn cells_of_rows(table: &Table, rows: u32) -> u64
+    requires { rows < 2 ^ 17 }
+    ensures { result < 2 ^ 28 }
+{
+    u64::from(rows) * (u64::from(table.shape().ids()) + 1)
+}
+
 // Estimates whether counting a family takes less time than testing the tuples with third windows in
 // it, one by one.
 fn are_worth_counting(table: &Table, limit: u32) -> bool
@@ -109,6 +131,5 @@ fn are_worth_counting(table: &Table, limit: u32) -> bool
     requires few { limit < 2 ^ 17 }
 {
     let family = windows_per_family(table) as u64;
-    let cells = u64::from(limit) * (u64::from(table.shape().ids()) + 1);
-    8 * family * family > 4 * family + cells
+    8 * family * family > 4 * family + cells_of_rows(table, limit)
 }
