@@ -84,6 +84,9 @@ impl<'a> FarCounts<'a> {
         let each = windows_per_pair(self.table);
         let mut least = best.load(Ordering::SeqCst);
         for number in low..high {
+            if least == 0 {
+                return 0;
+            }
             shape.window(below, number, shared);
             count_family(self.table, shared, &mut counts);
             let family = Family {
