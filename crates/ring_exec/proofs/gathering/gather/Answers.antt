@@ -11,7 +11,8 @@ use Rattle.ring_exec.proofs.gathering.gather.Goals as goal
 
 pub loop-index-init : goal.loop-index-init
 loop-index-init c =
-    let cover = c.segments_cover_the_ring.ensures (length c.args.ring.now.places) c.args.segments c.requires.range.some c.requires.range.enough in
+    let cover = c.segments_cover_the_ring.ensures (length c.args.ring.now.places) c.args.segments c.requires.range.some
+    c.requires.range.enough in
     record {
       left = omega (arith, c.requires.all);
       first = sym cover.0;
@@ -29,7 +30,8 @@ overflow_add-end c = record { fits = omega (arith, c.loop-index-test.true, c.ran
 pub overflow_mul-end : goal.overflow_mul-end
 overflow_mul-end c =
     record {
-      fits = product_fits c.loop-index.index c.len-places.result (omega (arith, c.loop-index-test.true, c.requires.range.few)) c.len-places.ensures.few;
+      fits = product_fits c.loop-index.index c.len-places.result
+          (omega (arith, c.loop-index-test.true, c.requires.range.few)) c.len-places.ensures.few;
     }
 
 pub nonzero_div-end : goal.nonzero_div-end
@@ -52,10 +54,12 @@ write_part-requires-clause-plan c = ap (λ (s : RingSegment). s.plan) (c.is_of.e
 pub write_part-requires-clause-done : goal.write_part-requires-clause-done
 write_part-requires-clause-done c =
     let same = c.is_of.ensures.0 c.if-not-is_of.false in
-    sym c.round.ensures.value ∙ c.if-round-rounds.false ∙ c.rounds.ensures.value ∙ ap (λ (s : RingSegment). length s.plan.program.steps) same
+    sym c.round.ensures.value ∙ c.if-round-rounds.false ∙ c.rounds.ensures.value
+    ∙ ap (λ (s : RingSegment). length s.plan.program.steps) same
 
 pub write_part-requires-clause-first : goal.write_part-requires-clause-first
-write_part-requires-clause-first c = c.loop-index.invariant.first ∙ sym (ap first_of (c.is_of.ensures.0 c.if-not-is_of.false))
+write_part-requires-clause-first c =
+    c.loop-index.invariant.first ∙ sym (ap first_of (c.is_of.ensures.0 c.if-not-is_of.false))
 
 pub write_part-requires-clause-room : goal.write_part-requires-clause-room
 write_part-requires-clause-room c =

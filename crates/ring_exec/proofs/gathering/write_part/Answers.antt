@@ -29,4 +29,5 @@ loop-place-preserved c =
     ∙ ap (channel c.args.plan.now.program) row
     ∙ (λ i. channel c.args.plan.now.program (state (c.requires.plan i).program x (c.requires.done i) place)) in
     rw made
-    (fill_by_more (channel_at c.args.plan.now.program x) c.loop-place.channels place 0 (omega (arith, c.requires.room)) c.loop-place.invariant)
+    (fill_by_more (channel_at c.args.plan.now.program x) c.loop-place.channels place 0 (omega (arith, c.requires.room))
+    c.loop-place.invariant)

@@ -8,7 +8,9 @@ none_done : (f : ℕ → RingSegment) → ((i : ℕ) → (f i).round ≡ 0) → 
     → ((i : ℕ) → IfSome (slice_get xs i) (λ s. s ≡ f i)) → All (λ (s : RingSegment). s.round ≡ 0) xs
 none_done f none [] each k d lt = absurd (omega arith)
 none_done f none (x ∷ xs) each zero d lt = ap (λ (s : RingSegment). s.round) (each zero) ∙ none zero
-none_done f none (x ∷ xs) each (suc k) d lt = none_done (λ i. f (suc i)) (λ i. none (suc i)) xs (λ i. each (suc i)) k d (omega arith)
+none_done f none (x ∷ xs) each (suc k) d lt =
+    none_done (λ i. f (suc i)) (λ i. none (suc i)) xs (λ i. each (suc i)) k d (omega arith)
 
 pub invariant_of-result-clause-unstarted : goal.invariant_of-result-clause-unstarted
-invariant_of-result-clause-unstarted c = none_done _ (λ _. refl) c.in_ok-waiting.waiting.items c.in_ok-waiting.ensures.opening
+invariant_of-result-clause-unstarted c =
+    none_done _ (λ _. refl) c.in_ok-waiting.waiting.items c.in_ok-waiting.ensures.opening
