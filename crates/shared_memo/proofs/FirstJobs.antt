@@ -1,23 +1,12 @@
 -- The jobs of a level are consecutive, from its first block on.
-use Rattle.std.proofs.Common.{◌≡◌, ℕ, zero, suc, ◌+◌, ◌<◌, ◌≤◌, List, [], ◌∷◌, ◌++◌, flat_map, length, slice_get, Some, refl, ◌∙◌, ap, arith}
+use Rattle.std.proofs.Common.{◌≡◌, ℕ, zero, suc, ◌+◌, ◌<◌, ◌≤◌, flat_map, length, slice_get, Some, ◌∙◌, ap, arith}
 use Rattle.std.specs.List.{range_with_len}
 use Rattle.std.proofs.lemmas.Option.{slice_get-get_or}
 use Rattle.std.proofs.lemmas.List.FromFn.{length-map-range_with_len, get_or-map-range_with_len}
 use Rattle.win_index.specs.Blocks.{block_count}
 use Rattle.win_index.specs.Jobs.{level_jobs, jobs_of, job_number}
-use Rattle.shared_memo.proofs.Sets.{StandAtNumbers}
-
-slice_get-append_left : {X : Type 0} (xs ys : List X) (n : ℕ) → n < length xs → slice_get (xs ++ ys) n ≡ slice_get xs n
-slice_get-append_left [] ys n h = absurd (omega arith)
-slice_get-append_left (x ∷ xs) ys zero h = refl
-slice_get-append_left (x ∷ xs) ys (suc n) h = slice_get-append_left xs ys n (omega arith)
-
-slice_get-append_right : {X : Type 0} (xs ys : List X) (n i : ℕ) → n ≡ length xs + i →
-    slice_get (xs ++ ys) n ≡ slice_get ys i
-slice_get-append_right [] ys n i e = let same : n ≡ i = omega arith in rw same
-slice_get-append_right (x ∷ xs) ys n i e =
-    let more : n ≡ suc (length xs + i) = omega arith in
-    rw more (slice_get-append_right xs ys (length xs + i) i refl)
+use Rattle.win_index.specs.Laws.{JobsStandAtNumbers}
+use Rattle.win_index.proofs.Kept.{slice_get-append_left, slice_get-append_right}
 
 -- the number of blocks of the k levels from level a on
 abbrev pub blocks_from : ℕ → ℕ → ℕ → ℕ
@@ -74,6 +63,6 @@ job_below m t level b few lt =
     rw none at (job_from m 0 (t + 1) level b (omega arith) own)
 
 -- the number of the job for a block of a level
-pub job_number_from : (m t level b n : ℕ) → StandAtNumbers → level ≤ t → b < block_count m level →
+pub job_number_from : (m t level b n : ℕ) → JobsStandAtNumbers → level ≤ t → b < block_count m level →
     n ≡ blocks_from m 0 level → job_number m t level b ≡ Some (n + b)
 job_number_from m t level b n law few lt is = (law m t level b (n + b)).1 (rw is (job_below m t level b few lt))

@@ -5,15 +5,13 @@ use denote.Ref.{Bor}
 use Rattle.window_states.specs.BlockStates.{MadeBlock}
 use Rattle.shared_memo.specs.declared.memo.Stranger.{Stranger}
 use Rattle.shared_memo.specs.Looks.{IsLook}
+use Rattle.shared_memo.proofs.Sets.{some_is}
 
 abbrev Outcome : Type 0
 Outcome = Result (Option (Bor MadeBlock)) Stranger
 
 none_some : (o : Option MadeBlock) (b : MadeBlock) → o ≡ None → o ≡ Some b → ⊥
 none_some o b none some = let e : None ≡ Some b = sym none ∙ some in cc
-
-some_is : (b d : MadeBlock) → Some b ≡ Some d → b ≡ d
-some_is b d e = cc
 
 -- a block that is known then is right
 pub look_right :

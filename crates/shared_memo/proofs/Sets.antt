@@ -1,13 +1,12 @@
 -- What a pass knows after one of its entries changed.
-use Rattle.std.proofs.Common.{◌≡◌, ◌≢◌, ℕ, ◌+◌, ◌<◌, ◌≤◌, List, map, length, get_or, set, None, Some, ◌↔◌, ◌⊎◌, inl, inr, ⊎_elim, refl, sym, ap, ◌∙◌, subst, arith, get_or-set_same, get_or-set_other}
+use Rattle.std.proofs.Common.{◌≡◌, ◌≢◌, ℕ, ◌+◌, ◌<◌, ◌≤◌, List, map, length, get_or, set, None, Some, ◌⊎◌, inl, inr, ⊎_elim, refl, sym, ap, ◌∙◌, subst, arith, get_or-set_same, get_or-set_other}
 use Rattle.std.specs.Prelude.{Option}
 use mathlib.Core.Logic.{dite}
 use native.Mathlib.Decide.{ℕ_discrete}
 use Rattle.std.proofs.lemmas.List.{get_or-map, map-set, length-map, get_or_past}
 use Rattle.std.proofs.Math.Seq.{map-set_same}
 use Rattle.std.proofs.lemmas.Option.{some_pair_parts}
-use Rattle.std.specs.Prelude.{slice_get}
-use Rattle.win_index.specs.Jobs.{jobs_of, job_number}
+use Rattle.win_index.specs.Laws.{JobsStandAtNumbers}
 use Rattle.lang_check.specs.Plans.{ProgramForIds}
 use Rattle.window_states.specs.BlockStates.{MadeBlock}
 use Rattle.shared_memo.specs.declared.entry.Entry.{Entry}
@@ -76,13 +75,8 @@ cell_at es cs at e x same h is =
     ∙ ap (λ (l : List ℕ). get_or l at 0) same ∙ get_or-map cell_name cs at x 0 below
     ∙ ap cell_name (sym is)
 
--- each job is at its number and nowhere else
-abbrev pub StandAtNumbers : Type 0
-StandAtNumbers = (m t level block n : ℕ) →
-    (job_number m t level block ≡ Some n) ↔ (slice_get (jobs_of m t) n ≡ Some (level, block))
-
 -- two keys with the same job are equal
-one_key : (p : ProgramForIds) (level number r b job : ℕ) → StandAtNumbers → job_of p level number ≡ Some job →
+one_key : (p : ProgramForIds) (level number r b job : ℕ) → JobsStandAtNumbers → job_of p level number ≡ Some job →
     job_of p r b ≡ Some job → (r ≡ level) × (b ≡ number)
 one_key p level number r b job law here there =
     let t : ℕ = length p.program.steps in
@@ -92,7 +86,7 @@ to_place : (p q : ProgramForIds) (level number at : ℕ) (b : MadeBlock) → p �
     job_of q level number ≡ Some at → IsKeyedBlock q level number b → IsBlockOf p at b
 to_place p q level number at b same is key = (key.0 ∙ sym same, (λ i. job_of (same i) (key.1 i) (key.2 i)) ∙ is)
 
-to_key : (p q : ProgramForIds) (level number at : ℕ) (b : MadeBlock) → StandAtNumbers → p ≡ q →
+to_key : (p q : ProgramForIds) (level number at : ℕ) (b : MadeBlock) → JobsStandAtNumbers → p ≡ q →
     job_of q level number ≡ Some at → IsBlockOf p at b → IsKeyedBlock q level number b
 to_key p q level number at b law same is place =
     let parts = one_key q level number b.level b.number at law is
@@ -100,7 +94,7 @@ to_key p q level number at b law same is place =
     (place.0 ∙ same, parts.0, parts.1)
 
 -- the block known at an index is that of its level and number
-pub right_at : (p q : ProgramForIds) (es : List Entry) (level number at : ℕ) (e : Entry) → StandAtNumbers →
+pub right_at : (p q : ProgramForIds) (es : List Entry) (level number at : ℕ) (e : Entry) → JobsStandAtNumbers →
     p ≡ q → job_of q level number ≡ Some at → IsAt es at e → AllInPlace p es → (b : MadeBlock) →
     known_of e ≡ Some b → IsKeyedBlock q level number b
 right_at p q es level number at e law same job h keeps b is =
@@ -116,7 +110,7 @@ pub in_range : (es : List Entry) (cs : List Cell) (n at : ℕ) → cells_of es �
     length cs ≡ n → at < n → at < length es
 in_range es cs n at same whole below = let p = as_long es cs same in omega arith
 
-some_is : (b d : MadeBlock) → Some b ≡ Some d → b ≡ d
+pub some_is : (b d : MadeBlock) → Some b ≡ Some d → b ≡ d
 some_is b d e = cc
 
 -- the block known at an index after a put is that of the index
@@ -207,7 +201,7 @@ pub knows_same : (p : ProgramForIds) (es fs : List Entry) → ((k : ℕ) → kno
 knows_same p es fs same = λ l n. same_by es fs (job_of p l n) same
 
 learns_at :
-    (p q : ProgramForIds) (es fs : List Entry) (level number at : ℕ) → StandAtNumbers → p ≡ q →
+    (p q : ProgramForIds) (es fs : List Entry) (level number at : ℕ) → JobsStandAtNumbers → p ≡ q →
     job_of q level number ≡ Some at
     → ((k : ℕ) (b : MadeBlock) → known_in es k ≡ Some b → known_in fs k ≡ Some b)
     → ((k : ℕ) (b : MadeBlock) → known_in fs k ≡ Some b → (k ≡ at) ⊎ (known_in es k ≡ Some b)) →
@@ -229,7 +223,8 @@ learns_at p q es fs level number at law same job kept only =
         (only k b e)
 
 -- if one entry is put, what its job's block is may be learned
-pub learns_set : (p q : ProgramForIds) (es : List Entry) (level number at : ℕ) (d e : Entry) → StandAtNumbers → p ≡ q →
+pub learns_set : (p q : ProgramForIds) (es : List Entry) (level number at : ℕ) (d e : Entry) →
+    JobsStandAtNumbers → p ≡ q →
     job_of q level number ≡ Some at → IsAt es at d → ((b : MadeBlock) → known_of d ≡ Some b → known_of e ≡ Some b) →
     LearnsAt level number (known_by p es) (known_by p (set es at e))
 learns_set p q es level number at d e law same job here kept =
