@@ -1,7 +1,6 @@
 -- Numbers after their names, and the first two lines of a table text.
 use Rattle.std.proofs.Common.{◌≡◌, ℕ, ◌^◌, ◌<◌, List, [], ◌∷◌, ◌++◌, get_or, refl, sym, ap, ◌∙◌, arith}
 use Rattle.std.specs.Prelude.{codes}
-use Rattle.std.specs.Fmt.{decimal}
 use Rattle.std.proofs.lemmas.List.{append_cancel_left}
 use Rattle.channel_tables.specs.declared.separation.Separation.{Separation}
 use Rattle.table_text.specs.declared.version.Version.{Version}
@@ -24,47 +23,19 @@ sizes_fit rounds ids channels are =
       channels_fit = omega (arith, are.few_channels);
     }
 
--- the text after the first number of the second line
-pub after_rounds : (rounds other : ℕ) (x y : List ℕ) → rounds < 2 ^ 32 → other < 2 ^ 32
-    → codes "rounds " ++ (decimal rounds ++ 32 ∷ x) ≡ codes "rounds " ++ (decimal other ++ 32 ∷ y) →
-    (rounds ≡ other) × (x ≡ y)
-after_rounds rounds other x y p q same = field_once (codes "rounds ") 32 rounds other x y (omega arith) p q same
-
--- the text after the second number
-pub after_ids : (ids other : ℕ) (x y : List ℕ) → ids < 2 ^ 32 → other < 2 ^ 32
-    → codes "ids " ++ (decimal ids ++ 32 ∷ x) ≡ codes "ids " ++ (decimal other ++ 32 ∷ y) → (ids ≡ other) × (x ≡ y)
-after_ids ids other x y p q same = field_once (codes "ids ") 32 ids other x y (omega arith) p q same
-
--- the text after the third number
-pub after_channels : (end channels other : ℕ) (x y : List ℕ) → end < 48 → channels < 2 ^ 32 → other < 2 ^ 32
-    → codes "channels " ++ (decimal channels ++ end ∷ x) ≡ codes "channels " ++ (decimal other ++ end ∷ y) →
-    (channels ≡ other) × (x ≡ y)
-after_channels end channels other x y small p q same =
-    field_once (codes "channels ") end channels other x y small p q same
-
 -- the second line begins with one number of rounds, one of identifiers and one of channels
 pub counts_once : (end r i k s j l : ℕ) (x y : List ℕ) → end < 48 → Fit r i k → Fit s j l →
     counts_then r i k end x ≡ counts_then s j l end y
     → (r ≡ s) × (i ≡ j) × (k ≡ l) × (x ≡ y)
 counts_once end r i k s j l x y small p q same =
-    let rounds = after_rounds r s _ _ p.rounds_fit q.rounds_fit same in
-    let ids = after_ids i j _ _ p.ids_fit q.ids_fit rounds.1 in
-    let channels = after_channels end k l x y small p.channels_fit q.channels_fit ids.1 in
+    let rounds = field_once (codes "rounds ") 32 r s _ _ (omega arith) p.rounds_fit q.rounds_fit same in
+    let ids = field_once (codes "ids ") 32 i j _ _ (omega arith) p.ids_fit q.ids_fit rounds.1 in
+    let channels = field_once (codes "channels ") end k l x y small p.channels_fit q.channels_fit ids.1 in
     (rounds.0, ids.0, channels.0, channels.1)
 
 pub counts_end_small : (version : Version) → counts_end version < 48
 counts_end_small One = omega arith
 counts_end_small Two = omega arith
-
--- the text after near
-pub after_near : (near other : ℕ) (x y : List ℕ) → near < 2 ^ 32 → other < 2 ^ 32
-    → codes "near " ++ (decimal near ++ 32 ∷ x) ≡ codes "near " ++ (decimal other ++ 32 ∷ y) → (near ≡ other) × (x ≡ y)
-after_near near other x y p q same = field_once (codes "near ") 32 near other x y (omega arith) p q same
-
--- the text after far
-pub after_far : (far other : ℕ) (x y : List ℕ) → far < 2 ^ 32 → other < 2 ^ 32
-    → codes "far " ++ (decimal far ++ 10 ∷ x) ≡ codes "far " ++ (decimal other ++ 10 ∷ y) → (far ≡ other) × (x ≡ y)
-after_far far other x y p q same = field_once (codes "far ") 10 far other x y (omega arith) p q same
 
 -- two distances in one text are the same
 pub two_once : (near far near' far' : ℕ) (x y : List ℕ) → near < 2 ^ 32 → far < 2 ^ 32 → near' < 2 ^ 32 → far' < 2 ^ 32
@@ -72,8 +43,8 @@ pub two_once : (near far near' far' : ℕ) (x y : List ℕ) → near < 2 ^ 32 �
     ≡ distances_then Two (record { near = near'; far = far' }) y
     → (near ≡ near') × (far ≡ far') × (x ≡ y)
 two_once near far near' far' x y p q p' q' same =
-    let first = after_near near near' _ _ p p' same in
-    let second = after_far far far' x y q q' first.1 in
+    let first = field_once (codes "near ") 32 near near' _ _ (omega arith) p p' same in
+    let second = field_once (codes "far ") 10 far far' x y (omega arith) q q' first.1 in
     (first.0, second.0, second.1)
 
 -- a text of one version gives one separation
