@@ -2,12 +2,9 @@
 use Rattle.std.proofs.Common.{◌≡◌, ℕ, zero, suc, ◌+◌, ◌-◌, ◌<◌, ◌≤◌, ◌⊎◌, Bool, true, false, [], ◌∷◌, ◌++◌, length, min, refl, sym, ap, ◌∙◌, arith, add-one, ltb, cond, length-append, append-nil, ⊎_elim, inl, inr}
 use Rattle.std.specs.Int.{abs_diff}
 use Rattle.std.proofs.lemmas.Bool.{lt-ltb, ltb-true, ltb-false}
+use Rattle.clause_check.proofs.Truth.{truth}
 use Rattle.table_formula.specs.Formula.{close_to}
 use Rattle.table_formula.proofs.Clauses.{close_more}
-
-truth : (b : Bool) → (b ≡ true) ⊎ (b ≡ false)
-truth true = inl refl
-truth false = inr refl
 
 -- whether a number is below another
 is_below : (a b : ℕ) → ((ltb a b ≡ true) × (a < b)) ⊎ ((ltb a b ≡ false) × (b ≤ a))

@@ -1,5 +1,5 @@
--- The formula of a problem: variables that say which window has which channel, and clauses that hold for each table that
--- is asked for.
+-- The formula of a problem: variables that say which window has which channel, and clauses that hold for each table
+-- that is asked for.
 use Rattle.std.specs.Prelude.{◌==◌, ℕ, ◌+◌, ◌*◌, ◌/◌, ◌%◌, ◌<◌, ◌≤◌, Bool, true, false, List, [], ◌∷◌, ◌++◌, map, filter, length, max, nat_lt, unwrap_or, slice_index}
 use Rattle.std.specs.Int.{abs_diff}
 use Rattle.std.specs.List.{range_with_len, flat_map}
@@ -58,7 +58,8 @@ close_to channels step distance first =
 abbrev pub close_pairs : ℕ → ℕ → ℕ → List Conflict
 close_pairs channels step distance = flat_map (close_to channels step distance) (range_with_len 0 channels)
 
--- the pairs of channels below a number that a separation forbids: those of neighbours, then those of places at distance two
+-- the pairs of channels below a number that a separation forbids: those of neighbours, then those of places at distance
+-- two
 abbrev pub close_in : ℕ → Separation → List Conflict
 close_in channels s = close_pairs channels 1 s.near ++ close_pairs channels 2 s.far
 

@@ -19,7 +19,8 @@ pub record HasTables (p : Problem) : Type 0 where
   pub some_channels : 1 ≤ p.channels
   pub few_channels : p.channels ≤ MAX_CHANNELS
 
--- values that make all clauses hold describe a table that is asked for, so the formula asks for no more than the problem
+-- values that make all clauses hold describe a table that is asked for, so the formula asks for no more than the
+-- problem
 abbrev pub ModelsGiveSolutions : Type 0
 ModelsGiveSolutions =
     (p : Problem) (values : ℕ → Bool) → HasTables p → All (Holds values) (formula p) →

@@ -116,8 +116,8 @@ impl Formula {
         1.max(self.channels) as usize
     }
 
-    /// Writes the clause with this index in the formula to the first cells of `out`, and returns the
-    /// number of its literals. The other cells can be overwritten too.
+    /// Writes the clause with this index in the formula to the first cells of `out`, and returns
+    /// the number of its literals. The other cells can be overwritten too.
     pub fn write_clause(&self, index: u64, out: &mut [Literal]) -> usize
         requires index { index < length (formula self.now) }
         requires room { longest_len (formula self.now) ≤ length out.old }
