@@ -64,7 +64,7 @@ stops_there {tree = tree} {part} {high} {j} {parts} {now = now} f h done stopped
 )
 
 -- readers in a row in two groupings, if they behave the same after the first
-same_after : {A B : Type 0} (first : Read A) (second other : A → ℕ → List Lexeme → Read B) →
+pub same_after : {A B : Type 0} (first : Read A) (second other : A → ℕ → List Lexeme → Read B) →
     ((a : A) (n : ℕ) (l : List Lexeme) → second a n l ≡ other a n l) →
     go_on first second ≡ go_on first other
 same_after (Got a n l) second other same = same a n l

@@ -195,7 +195,7 @@ one_earlier : (f : List Mark → List Mark) (m : Mark) → Completed (λ ms. f (
 one_earlier f m c = record { program = c.program; more = m ∷ c.more; each_register = c.each_register; are = c.are }
 
 -- some program with this prefix
-completed : (w : Rest) (f : List Mark → List Mark) → Ends f w → Completed f
+pub completed : (w : Rest) (f : List Mark → List Mark) → Ends f w → Completed f
 completed (Nothing p) f h = record { program = p; more = []; each_register = h.each_register; are = h.are }
 completed (AToken t w) f h = one_earlier f (plain t) (completed w _ h)
 completed (AnExpression d w) f h = one_earlier f (node token.Id (d + 1)) (completed (w Identifier) _ (h Identifier))

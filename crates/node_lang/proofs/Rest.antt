@@ -11,7 +11,7 @@ use Rattle.node_lang.specs.declared.token.Token.TheVariants as token
 use Rattle.node_program.specs.Term.{Term, Literal, Identifier, LeftMessage, RightMessage, RegisterValue, One, Two, Choose, Round, ProgramTree}
 use Rattle.node_lang.specs.Reading.{same_token, fault_of, Read, Reader, Got, Fault, go_on, done, refuse, ◌>>=◌, ◌>>◌, exactly, node, one_of, two_of, three_of, operand, expression, number, end, each, assign, assigns, round, rounds, header, program}
 use Rattle.node_lang.specs.Lexemes.{Lexeme}
-use Rattle.node_lang.proofs.Parsing.{go_on_assoc, operand_is}
+use Rattle.node_lang.proofs.Parsing.{go_on_assoc, operand_is, same_after}
 
 -- Nothing, with the program that was read; or a token, an expression under this many others, or a number of the header,
 -- and then the rest.
@@ -123,12 +123,6 @@ abbrev pub went : ℕ → ℕ → List Lexeme → Met → Read ProgramTree
 went nodes from ls (Stops k) = Fault k from
 went nodes from ls (Goes v) = read v nodes ls
 
--- readers that go on alike
-go_on_same : {A B : Type 0} (r : Read A) (f g : A → ℕ → List Lexeme → Read B) →
-    ((a : A) (n : ℕ) (ls : List Lexeme) → f a n ls ≡ g a n ls) → go_on r f ≡ go_on r g
-go_on_same (Got a n ls) f g h = h a n ls
-go_on_same (Fault k from) f g h = refl
-
 -- an expected token
 abbrev matched : Bool → Lexeme → Reader (Unit {0})
 matched b l = if b then done tt else refuse kind.Unexpected l
@@ -236,13 +230,13 @@ body_read c i r n ls =
     let last : List Term → List Round → Rest =
     λ es ss. AToken token.Finish
     (AnExpression 0 (λ e. Nothing (record { channels = c; start = es; steps = ss; finish = e }))) in
-    go_on_same (assigns r n ls) _ _ (λ es m left. rounds_read i r 0 [] (last es) m left)
+    same_after (assigns r n ls) _ _ (λ es m left. rounds_read i r 0 [] (last es) m left)
     ∙ assigns_read r 0 [] (λ es. some_rounds i r (last es)) n ls
 
 -- reading a program is reading the rest before its first token
 pub program_read : (n : ℕ) (ls : List Lexeme) → program n ls ≡ read a_program n ls
 unfolding program header
 program_read n ls =
-    go_on_same (header n ls) _ (λ c m left. read (a_body c.rounds c.channels c.registers) m left)
+    same_after (header n ls) _ (λ c m left. read (a_body c.rounds c.channels c.registers) m left)
     (λ c m left. body_read c.channels c.rounds c.registers m left)
     ∙ simp go_on_assoc
