@@ -19,8 +19,8 @@ use round_eval::{step, width_of};
 use win_index::{BLOCK_WINDOWS, MAX_WINDOW_LEN, Shape, number_of_window, windows_have_numbers};
 use window_states::{Block, Source, block_len, first_number, states_from_parts};
 
-// Gathers the parts of each window of a block, whose first window is `window`, run by run. Where the
-// round is evaluated once a run, it writes the states after it in place of the parts.
+// Gathers the parts of each window of a block, whose first window is `window`, run by run. Where
+// the round is evaluated once a run, it writes the states after it in place of the parts.
 pub(crate) fn gather<'s, S: Source<'s>>(
     upper: UpperBlock<'_>,
     source: &mut S,
