@@ -12,6 +12,7 @@ use Rattle.unroll.specs.WideColumns.{part_state, left_message, right_message, st
 use Rattle.unroll.specs.declared.scratch.Scratch.{Scratch}
 use Rattle.unroll.specs.declared.run.Run.{Run}
 use Rattle.unroll.specs.declared.upper_block.UpperBlock.{UpperBlock}
+use Rattle.unroll.proofs.IgnoredRight.{round_ignores}
 use Rattle.unroll.proofs.ColumnStates.{below_sum, held_more, take_states}
 
 -- what holds whether or not a test does
@@ -26,7 +27,7 @@ with_last :
     ≡ next block.plan.now.program block.below own left (right_message block i)
 with_last block count i sent own left lasts lt =
     either block.reads_right (λ reads. ap (next block.plan.now.program block.below own left) (lasts reads i lt))
-    (λ none. block.ignores none own left (get_or sent i 0) (right_message block i))
+    (λ none. round_ignores block.plan.now.program block.below (sym block.reads ∙ none) own left (get_or sent i 0) (right_message block i))
 
 -- so the states of all windows follow from their parts in columns
 pub states_in_columns :
@@ -52,7 +53,7 @@ state_of_run :
 state_of_run joined block run i once fronts =
     let p = block.plan.now.program in
     let low = block.below in
-    block.alike once run.own.now run.first.sent 0 (right_message block i)
+    round_ignores p low (sym block.reads ∙ block.once once) run.own.now run.first.sent 0 (right_message block i)
     ∙ (λ j. next p low (fronts.own j) (fronts.left j) (right_message block i))
     ∙ sym (joined p low (window_in block i) fronts.size)
 

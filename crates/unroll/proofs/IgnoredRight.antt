@@ -1,14 +1,14 @@
 -- A round whose assignments do not read the message from the right does not depend on it.
-use Rattle.std.proofs.Common.{◌≡◌, ℕ, Bool, true, false, ◌||◌, List, [], ◌∷◌, map, Some, slice_get, refl, sym, ap, ◌∙◌}
+use Rattle.std.proofs.Common.{◌≡◌, ℕ, Bool, true, false, ◌||◌, List, [], ◌∷◌, map, Option, None, Some, slice_get, refl, sym, ap, ◌∙◌}
 use Rattle.std.proofs.lemmas.Bool.{false≢true}
 use Rattle.std.specs.List.{list_any}
 use Rattle.node_program.specs.Node.{reading_messages, assigned_values, next}
 use Rattle.node_program.specs.Operations.{unary_value}
-use Rattle.node_program.specs.Term.{Term, Literal, Identifier, LeftMessage, RightMessage, RegisterValue, One, Two, Choose, ProgramTree, term_of}
-use Rattle.node_program.specs.Term as tree
+use Rattle.node_program.specs.Term.{Term, Literal, Identifier, LeftMessage, RightMessage, RegisterValue, One, Two, Choose, Round, ProgramTree, term_of, step_of}
+use Rattle.node_program.specs.declared.tree.Round as code
 use Rattle.node_program.specs.Value.{value}
 use Rattle.node_program.specs.declared.tree.Expr.{Expr}
-use Rattle.unroll.specs.Reading.{reads_right, IgnoresRight}
+use Rattle.unroll.specs.Reading.{reads_right, assignments_read_right, round_reads_right}
 
 -- two tests of which neither holds
 neither : (a b : Bool) → (a || b) ≡ false → (a ≡ false) × (b ≡ false)
@@ -33,21 +33,31 @@ module _ (own : List ℕ) (left right other : ℕ) where
       rw (value_ignores c all.0, value_ignores a both.0, value_ignores b both.1) refl
 
   values_ignore :
-      (es : List Expr) → list_any (λ e. reads_right (term_of e)) es ≡ false
-      → map (λ e. value e (reading_messages own left right)) (map term_of es) ≡ map (λ e. value e (reading_messages own left other)) (map term_of es)
+      (es : List Term) → list_any reads_right es ≡ false
+      → map (λ e. value e (reading_messages own left right)) es ≡ map (λ e. value e (reading_messages own left other)) es
   values_ignore [] none = refl
   values_ignore (e ∷ es) none =
-      let both = neither (reads_right (term_of e)) (list_any (λ e. reads_right (term_of e)) es) none in
-      λ i. value_ignores (term_of e) both.0 i ∷ values_ignore es both.1 i
+      let both = neither (reads_right e) (list_any reads_right es) none in
+      λ i. value_ignores e both.0 i ∷ values_ignore es both.1 i
 
--- a round with such assignments
+  assigned_ignore :
+      (round : Option Round) → assignments_read_right round ≡ false → assigned_values round own left right ≡ assigned_values round own left other
+  assigned_ignore None none = refl
+  assigned_ignore (Some round) none = values_ignore round.next none
+
 pub round_ignores :
-    (p : ProgramTree) (k : ℕ) (round : tree.Round) (es : List Expr) → slice_get p.steps k ≡ Some round → round.next ≡ map term_of es
-    → list_any (λ e. reads_right (term_of e)) es ≡ false → IgnoresRight p k
-unfolding next
-round_ignores p k round es here next_is none own left right other =
-    ap (λ o. assigned_values o own left right) here
-    ∙ ap (map (λ e. value e (reading_messages own left right))) next_is
-    ∙ values_ignore own left right other es none
-    ∙ sym (ap (map (λ e. value e (reading_messages own left other))) next_is)
-    ∙ sym (ap (λ o. assigned_values o own left other) here)
+    (p : ProgramTree) (k : ℕ) → round_reads_right p k ≡ false
+    → (own : List ℕ) (left right other : ℕ) → next p k own left right ≡ next p k own left other
+unfolding next round_reads_right
+round_ignores p k none own left right other = assigned_ignore own left right other (slice_get p.steps k) none
+
+-- whether a round of the code reads the message from the right
+mapped : (es : List Expr) → list_any reads_right (map term_of es) ≡ list_any (λ e. reads_right (term_of e)) es
+mapped [] = refl
+mapped (e ∷ es) = ap (λ b. reads_right (term_of e) || b) (mapped es)
+
+pub round_reads :
+    (p : ProgramTree) (k : ℕ) (round : code.Round) → slice_get p.steps k ≡ Some (step_of round)
+    → list_any (λ e. reads_right (term_of e)) round.next.items ≡ round_reads_right p k
+unfolding round_reads_right
+round_reads p k round here = sym (ap assignments_read_right here ∙ mapped round.next.items)

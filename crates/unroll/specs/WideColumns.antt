@@ -11,7 +11,7 @@ use Rattle.window_states.specs.BlockStates.{MadeBlock, block_len, block_state}
 use Rattle.window_states.specs.Line.{middle_state}
 use Rattle.window_states.specs.Entries.{Entries}
 use Rattle.unroll.specs.Parts.{window_in, IsKnownBlock, KnowsBelow, EndsAt}
-use Rattle.unroll.specs.Reading.{IgnoresRight}
+use Rattle.unroll.specs.Reading.{round_reads_right}
 use Rattle.unroll.specs.declared.scratch.Scratch.{Scratch}
 use Rattle.unroll.specs.declared.run.Run.{Run}
 use Rattle.unroll.specs.declared.upper_block.UpperBlock.{UpperBlock}
@@ -79,13 +79,12 @@ pub record AreWritten (A : Type 0) (none : A) (old new : List A) (place count : 
   pub here : (i : ℕ) → i < count → slice_index_or new (place + i) none ≡ item i
   pub before : (i : ℕ) → i < place → slice_index_or new i none ≡ slice_index_or old i none
 
--- scratch for the blocks of a plan: room for its expressions, columns for its registers, and which of its rounds may
--- read the message from the right
+-- scratch for the blocks of a plan: room for its expressions, columns for its registers, and which of its rounds read the
+-- message from the right
 pub record IsReady (plan : ProgramForIds) (scratch : Scratch) : Type 0 where
   pub room : most_columns (terms plan.program) ≤ scratch.work.columns
   pub width : scratch.work.width ≡ BLOCK_WINDOWS
-  pub reads : (k : ℕ) → k < length plan.program.steps → slice_index_or scratch.reads_right k true ≡ false
-      → IgnoresRight plan.program k
+  pub reads : (k : ℕ) → k < length plan.program.steps → slice_index_or scratch.reads_right k true ≡ round_reads_right plan.program k
   pub from_left_wide : length scratch.from_left.items ≡ BLOCK_WINDOWS
   pub own_wide : HasSize BLOCK_WINDOWS (length plan.program.start) scratch.own
   pub from_right_wide : length scratch.from_right.items ≡ BLOCK_WINDOWS

@@ -1,8 +1,8 @@
 //! Which rounds read the message from the right.
-ghost use Rattle.std.specs.Prelude.{◌≡◌, ℕ, ◌<◌, true, false, length, slice_index_or};
+ghost use Rattle.std.specs.Prelude.{◌≡◌, ℕ, ◌<◌, true, length, slice_index_or};
 ghost use Rattle.std.specs.List.{list_any};
 ghost use Rattle.node_program.specs.Term.{term_of};
-ghost use Rattle.unroll.specs.Reading.{reads_right, IgnoresRight};
+ghost use Rattle.unroll.specs.Reading.{reads_right, round_reads_right};
 
 use lang_check::Plan;
 use node_program::{Expr, MAX_ROUNDS};
@@ -10,8 +10,8 @@ use node_program::{Expr, MAX_ROUNDS};
 // Returns for each round of a plan whether its assignments read the message from the right, and
 // true for each number that is no round's.
 pub(crate) fn rounds_use_right(plan: &Plan) -> [bool; MAX_ROUNDS as usize]
-    ensures { (k : ℕ) → k < length plan.now.program.steps → slice_index_or result k true ≡ false
-        → IgnoresRight plan.now.program k }
+    ensures { (k : ℕ) → k < length plan.now.program.steps
+        → slice_index_or result k true ≡ round_reads_right plan.now.program k }
 {
     let mut uses = [true; MAX_ROUNDS as usize];
     let program = plan.program();

@@ -1,6 +1,6 @@
 //! Blocks above level 0, which are made from those one level below.
 ghost use Rattle.std.specs.Prelude.{◌≡◌, ◌+◌, ◌<◌, ◌^◌, true, false, length};
-ghost use Rattle.unroll.specs.Reading.{IgnoresRight};
+ghost use Rattle.unroll.specs.Reading.{round_reads_right};
 ghost use Rattle.win_index.specs.Blocks.{block_count, window_count};
 ghost use Rattle.window_states.specs.BlockStates.{block_len};
 
@@ -26,16 +26,16 @@ pub(crate) struct UpperBlock<'p> {
     pub(crate) ghost inside: { number < block_count plan.now.ids (below + 1) },
     pub(crate) ghost len_is: { len ≡ block_len plan.now.ids (below + 1) number },
     pub(crate) ghost few: { window_count plan.now.ids below < 2 ^ 32 },
-    pub(crate) ghost ignores: { reads_right ≡ false → IgnoresRight plan.now.program below },
-    pub(crate) ghost alike: { once_a_run ≡ true → IgnoresRight plan.now.program below },
+    pub(crate) ghost reads: { reads_right ≡ round_reads_right plan.now.program below },
+    pub(crate) ghost once: { once_a_run ≡ true → reads_right ≡ false },
 }
 
 impl<'p> UpperBlock<'p> {
-    // Returns the block one level above `below` with this number. The round from that level can
-    // depend on the message from the right only if `reads_right`.
+    // Returns the block one level above `below` with this number. `reads_right` says whether the
+    // round from that level reads the message from the right.
     pub(crate) fn new(plan: &'p Plan, below: u32, number: u32, reads_right: bool) -> UpperBlock<'p>
         requires below { below < length plan.now.program.steps }
-        requires reads { reads_right ≡ false → IgnoresRight plan.now.program below }
+        requires reads { reads_right ≡ round_reads_right plan.now.program below }
         requires number { number < block_count plan.now.ids (below + 1) }
         ensures plan { result.plan.now ≡ plan.entry.now }
         ensures below { result.below ≡ below }

@@ -1,11 +1,11 @@
-use Rattle.std.proofs.Common.{◌≡◌, ◌≢◌, ◌<◌, true, false, map, length, get_or, slice_get, Some, refl, sym, ap, ◌∙◌, arith, below_more, length-set}
+use Rattle.std.proofs.Common.{◌≡◌, ◌≢◌, ◌<◌, true, map, length, get_or, slice_get, Some, sym, ap, ◌∙◌, arith, below_more, length-set}
 use Rattle.std.proofs.lemmas.List.{get_or-set_same, get_or-set_other, length-map}
 use Rattle.std.proofs.lemmas.Option.{slice_get-map, slice_get-get_or}
 use Rattle.std.specs.Option.{option_map}
 use Rattle.std.specs.Prelude.{slice_set}
 use Rattle.node_program.specs.Term.{ProgramTree, step_of}
-use Rattle.unroll.specs.Reading.{IgnoresRight}
-use Rattle.unroll.proofs.IgnoredRight.{round_ignores}
+use Rattle.unroll.specs.Reading.{round_reads_right}
+use Rattle.unroll.proofs.IgnoredRight.{round_reads}
 use Rattle.unroll.proofs.right_reads.rounds_use_right.Goals as goal
 
 pub loop-round-preserved : goal.loop-round-preserved
@@ -22,12 +22,20 @@ loop-round-preserved c =
     ap (λ list. slice_get list i) (sym same) ∙ slice_get-map step_of steps i ∙ ap (option_map step_of) item in
     record {
       size = length-set uses i c.any_uses_right.result ∙ c.loop-round.invariant.size;
-      ignored = below_more (λ k. get_or now k true ≡ false → IgnoresRight p k) i
-          (λ k lt none.
+      read = below_more (λ k. get_or now k true ≡ round_reads_right p k) i
+          (λ k lt.
           let other : k ≢ i = λ same. omega (arith, same, lt) in
-          c.loop-round.invariant.ignored k lt (sym (get_or-set_other uses i k c.any_uses_right.result true other) ∙ none))
-          (λ none.
-          let within : i < length uses = omega (arith, c.loop-round-test.true, ap length c.steps-step-items.ensures.value, length-map steps step_of, c.steps-step-items.ensures.limits.rounds, c.loop-round.invariant.size) in
-          round_ignores p i (step_of step) step.next.items here refl
-          (sym (rw c.deref.ensures.value at c.any_uses_right.ensures) ∙ sym (get_or-set_same uses i c.any_uses_right.result true within) ∙ none));
+          get_or-set_other uses i k c.any_uses_right.result true other ∙ c.loop-round.invariant.read k lt)
+          (let within : i < length uses =
+          omega (
+            arith,
+            c.loop-round-test.true,
+            ap length c.steps-step-items.ensures.value,
+            length-map steps step_of,
+            c.steps-step-items.ensures.limits.rounds,
+            c.loop-round.invariant.size,
+          ) in
+          get_or-set_same uses i c.any_uses_right.result true within
+          ∙ rw c.deref.ensures.value at c.any_uses_right.ensures
+          ∙ round_reads p i step here);
     }
