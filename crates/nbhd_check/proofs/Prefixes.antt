@@ -1,6 +1,8 @@
 -- Windows and the windows that they begin with.
-use Rattle.std.proofs.Common.{◌≡◌, ◌≢◌, ℕ, zero, suc, ◌+◌, ◌-◌, ◌*◌, ◌<◌, ◌≤◌, Option, List, [], ◌∷◌, ◌++◌, get_or, take, drop, slice_get, Some, None, IsSome, subst, sym, ap, ◌∙◌, arith, refl, ⊎_elim, length-drop, Bool, true, false, length}
-use Rattle.std.proofs.Math.Nat.{suc-mul, add-mul, mul_assoc, mul-le-mul_right}
+use Rattle.std.proofs.Common.{◌≡◌, ◌≢◌, ℕ, zero, suc, ◌+◌, ◌-◌, ◌*◌, ◌/◌, ◌%◌, ◌<◌, ◌≤◌, Option, List, [], ◌∷◌, ◌++◌, get_or, take, drop, slice_get, Some, None, IsSome, subst, sym, ap, ◌∙◌, arith, refl, ⊎_elim, length-drop, Bool, true, false, length}
+use Rattle.std.proofs.Math.Nat.{suc-mul, mul-le-mul_right, mod-lt}
+use Rattle.std.proofs.lemmas.Nat.{div-add-mod'}
+use Rattle.nbhd_check.proofs.RunLengths.{falling-add}
 use Rattle.std.proofs.lemmas.Bool.{cases_lt, false≢true, OnTrue_at, OnFalse_at}
 use Rattle.std.proofs.lemmas.List.{get_or-take, get_or-drop, length-take-le, length_push, get_or_default, take_all, take-take}
 use Rattle.std.proofs.lemmas.List.Elements.{All-take, All-drop, All-push}
@@ -98,15 +100,6 @@ pub record InLongerRun (k m more n : ℕ) (longer : List ℕ) : Type 0 where
   pub inside : rest < falling (m - k) more
   pub number_is : n ≡ number * falling (m - k) more + rest
 
--- the numbers of a run of runs
-run_of_runs : (number rest place runs c : ℕ) → rest < runs → place < c
-    → (rest * c + place < runs * c) × ((number * runs + rest) * c + place ≡ number * (runs * c) + (rest * c + place))
-run_of_runs number rest place runs c below inside =
-    let le : suc rest ≤ runs = omega arith in
-    let more = mul-le-mul_right c le in
-    let apart : (number * runs + rest) * c ≡ number * (runs * c) + rest * c = add-mul (number * runs) rest c ∙ ap (λ n. n + rest * c) (mul_assoc number runs c) in
-    (omega (arith, more, suc-mul rest c), omega (arith, apart))
-
 module _ (laws : WindowsAreNumbered) where
   -- each window has a number
   pub number_of_window : (k m : ℕ) (window : List ℕ) → IsWindow k m window → (n : ℕ) × (slice_get (windows k m) n ≡ Some window)
@@ -147,33 +140,22 @@ module _ (laws : WindowsAreNumbered) where
 
   -- a longer window is in the run of the window of k identifiers that it begins with
   pub in_longer_run : (k m more n : ℕ) (longer : List ℕ) → slice_get (windows (k + more) m) n ≡ Some longer → InLongerRun k m more n longer
-  in_longer_run k m zero n longer at' =
-      let same : k + zero ≡ k = omega arith in
-      let item : slice_get (windows k m) n ≡ Some longer = subst (λ j. slice_get (windows j m) n ≡ Some longer) same at' in
-      let own = window_at k m n longer item in
-      let size = own.size in
+  in_longer_run k m more n longer at' =
+      let each : ℕ = falling (m - k) more in
+      let all : length (windows (k + more) m) ≡ falling m k * each = laws.count (k + more) m ∙ falling-add m k more in
+      let some : 0 < each =
+      ⊎_elim
+      (λ (lt : 0 < each). lt)
+      (λ (none : each ≤ 0).
+      let zero_is : each ≡ 0 = omega arith in
+      absurd (omega (arith, slice_get_within (windows (k + more) m) n longer at', all, ap (λ e. falling m k * e) zero_is)))
+      (cases_lt 0 each) in
       record {
-        number = n;
-        rest = 0;
-        front_at = item ∙ ap Some (sym (take_all k longer (omega arith)));
-        inside = omega arith;
-        number_is = omega arith;
-      }
-  in_longer_run k m (suc more) n longer at' =
-      let size : k + suc more ≡ k + more + 1 = omega arith in
-      let last = in_run (k + more) m n longer (subst (λ j. slice_get (windows j m) n ≡ Some longer) size at') in
-      let first = in_longer_run k m more last.number (take (k + more) longer) last.front_at in
-      let free : m - (k + more) ≡ m - k - more = omega arith in
-      let place : ℕ = place_of_last (k + more) longer in
-      let inside : place < m - k - more = subst (λ c. place < c) free last.inside in
-      let numbers = run_of_runs first.number first.rest place (falling (m - k) more) (m - k - more) first.inside inside in
-      let own : n ≡ last.number * (m - k - more) + place = last.number_is ∙ ap (λ c. last.number * c + place) free in
-      record {
-        number = first.number;
-        rest = first.rest * (m - k - more) + place;
-        front_at = first.front_at ∙ ap Some (take-take k (k + more) longer (omega arith));
-        inside = numbers.0;
-        number_is = own ∙ ap (λ i. i * (m - k - more) + place) first.number_is ∙ numbers.1;
+        number = n / each;
+        rest = n % each;
+        front_at = laws.prefix k more m n longer at';
+        inside = mod-lt n some;
+        number_is = sym (div-add-mod' n each);
       }
 
 -- a window of a table has an entry

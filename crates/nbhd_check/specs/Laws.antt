@@ -1,6 +1,6 @@
 -- The statements of the laws of this crate, one definition each.
 use Rattle.std.specs.Prelude.{◌≡◌, ◌↔◌, ℕ, ◌+◌, ◌*◌, ◌<◌, ◌≤◌, ◌⊎◌, Option, List, length}
-use Rattle.win_index.specs.Laws.{NumberOfWindow, WindowOfNumber, WindowsHaveNumbers, LongerWindowsHaveNumbers}
+use Rattle.win_index.specs.Laws.{CountOfWindows, NumberOfWindow, PrefixesHaveNumbers, WindowOfNumber, WindowsHaveNumbers, LongerWindowsHaveNumbers}
 use Rattle.win_index.specs.Ring.{IsRing}
 use Rattle.win_index.specs.Arcs.{window_around}
 use Rattle.win_index.specs.Windows.{IsWindow}
@@ -61,3 +61,5 @@ pub record WindowsAreNumbered : Type 0 where
   pub item_of : WindowOfNumber
   pub has_number : WindowsHaveNumbers
   pub longer_number : LongerWindowsHaveNumbers
+  pub prefix : PrefixesHaveNumbers
+  pub count : CountOfWindows

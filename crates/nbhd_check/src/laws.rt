@@ -3,8 +3,9 @@ ghost use Rattle.nbhd_check.specs.Laws as law;
 ghost use Rattle.nbhd_check.specs.Pairs.{PairsThatAvoidTwo};
 
 use win_index::{
-    longer_windows_have_numbers, number_of_window, rings_have_tuples, rings_have_windows,
-    tuples_are_rings, window_of_number, windows_have_numbers,
+    count_of_windows, longer_windows_have_numbers, number_of_window, prefixes_have_numbers,
+    rings_have_tuples, rings_have_windows, tuples_are_rings, window_of_number,
+    windows_have_numbers,
 };
 
 /// No tuple breaks a separation exactly if no ring with as many nodes as a tuple or more does. A
@@ -72,4 +73,6 @@ pub(crate) fn numbers_of_windows()
     window_of_number();
     windows_have_numbers();
     longer_windows_have_numbers();
+    prefixes_have_numbers();
+    count_of_windows();
 }
