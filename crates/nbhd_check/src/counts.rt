@@ -11,7 +11,7 @@ use crate::search::window_count;
 use channel_tables::Table;
 use node_program::OutOfMemory;
 use std::alloc::Global;
-use win_index::{MAX_WINDOW_LEN, count_of_windows};
+use win_index::MAX_WINDOW_LEN;
 
 /// The counts of one family: of the windows that begin with the same identifiers, all but two.
 #[derive(Drop)]
@@ -126,7 +126,6 @@ fn count_cells(table: &Table, shared: &[u32], limit: u32, cells: &mut [u32])
     ensures { (first : ℕ) × ((count : ℕ) × (IsFamily table.now shared.now first count × AreSums table.now first count cells.new)) }
 {
     numbers_of_windows();
-    count_of_windows();
     let shape = table.shape();
     let others = shape.ids() - shared.len() as u32;
     let count = others * (others - 1);

@@ -48,7 +48,6 @@ impl<'a> FarCounts<'a> {
         ensures free { AreFree self.entry.table.now (BeginsFarTuple self.entry.table.now self.entry.distance) 0 result }
     {
         numbers_of_windows();
-        count_of_windows();
         let families = family_count(self.table);
         let parts = part_count(window_count(self.table), threads);
         let each = families.div_ceil(parts);
@@ -225,7 +224,6 @@ impl<'b> Family<'b> {
             → ArePairNumbers self.entry.table.now self.entry.shared.now first (second + 1) result }
     {
         numbers_of_windows();
-        count_of_windows();
         let free = self.table.shape().ids() - self.shared.len() as u32;
         PairNumbers {
             before: numbers.before + self.each,
@@ -338,7 +336,6 @@ fn start_of(table: &Table, first: u32) -> u64
         → first ≤ slice_index window 0 → result ≤ number }
 {
     numbers_of_windows();
-    count_of_windows();
     windows_are_in_order();
     let shape = table.shape();
     let each = window_count(table) / shape.ids();

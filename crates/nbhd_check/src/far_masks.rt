@@ -14,7 +14,7 @@ use crate::laws::numbers_of_windows;
 use crate::masks::Masks;
 use crate::search::{Search, windows_per_run};
 use channel_tables::Table;
-use win_index::{RunPlaces, count_of_windows};
+use win_index::RunPlaces;
 
 /// The search for windows of which masks do not show that they begin no tuple whose third window is
 /// closer than `distance`.
@@ -55,7 +55,6 @@ impl<'a> FarMasks<'a> {
             (run * wide self.now.table.now) (run * wide self.now.table.now + wide self.now.table.now) result }
     {
         numbers_of_windows();
-        count_of_windows();
         let entries = self.table.entries();
         let each = windows_per_run(self.table) as u32;
         let mut place = place;

@@ -139,7 +139,6 @@ impl<'a> NearSearch<'a> {
             (runs.run * wide self.now.table.now + place) (runs.run * wide self.now.table.now + place + 1)) }
     {
         numbers_of_windows();
-        count_of_windows();
         let each = windows_per_run(self.table);
         let channel = self.table.entries()[runs.run * each + place];
         let next = runs.run_at(place);
@@ -160,7 +159,6 @@ fn second_runs(table: &Table, window: &[u32], run: usize) -> SecondRuns
     ensures run { result.run ≡ run }
 {
     numbers_of_windows();
-    count_of_windows();
     let shape = table.shape();
     let level = shape.rounds();
     let shared = &window[1..2 * level as usize];

@@ -7,7 +7,6 @@ use crate::laws::numbers_of_windows;
 use crate::search::{Search, windows_per_run};
 use crate::tuples::Tuples;
 use channel_tables::Table;
-use win_index::count_of_windows;
 
 /// The search for windows that begin a bad tuple.
 #[derive(Clone, Copy)]
@@ -26,7 +25,6 @@ impl<'a> Search for TupleScan<'a> {
 
     fn first_in_run(&self, window: &[u32], run: u32) -> Option<u32> {
         numbers_of_windows();
-        count_of_windows();
         let each = self.tuples.per_window();
         let windows = windows_per_run(self.tuples.table) as u64;
         let low = u64::from(run) * windows * each;

@@ -9,7 +9,7 @@ use crate::parallel::{least_of_parts, part_count};
 use channel_tables::Table;
 use std::sync::atomic::{AtomicU32, Ordering};
 use std::thread::Threads;
-use win_index::{MAX_WINDOW_LEN, count_of_windows};
+use win_index::MAX_WINDOW_LEN;
 
 /// A search for the windows of a table that are bad in some sense.
 pub(crate) trait Search: Sync {
@@ -43,7 +43,6 @@ pub(crate) fn free_windows<R: Threads + Sync, S: Search>(
     ensures free { AreFree (S.searched search.now) (S.Bad search.now) 0 result }
 {
     numbers_of_windows();
-    count_of_windows();
     let runs = most.div_ceil(windows_per_run(search.table()) as u32);
     let parts = part_count(most, threads);
     let each = runs.div_ceil(parts);

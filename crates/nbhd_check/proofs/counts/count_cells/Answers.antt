@@ -37,7 +37,7 @@ module _ (c : After-window_number) where
 
   within : c.window_number.result * count + count ≤ length (windows_of c.args.table.now)
   within =
-      family_within c.args.table.now c.window_number.result count c.count_of_windows.ensures c.requires.some count_is
+      family_within c.args.table.now c.window_number.result count c.numbers_of_windows.ensures.count c.requires.some count_is
       (slice_get_within (shared_lists c.args.table.now) c.window_number.result c.args.shared.now item)
 
 pub overflow_mul-first : goal.overflow_mul-first

@@ -11,7 +11,7 @@ returns c = λ number window item le.
     let each_is : c.from-2.result ≡ length (windows_of t) / t.ids = c.from-2.ensures ∙ (λ q. c.window_count.ensures.value q / ids_is q) in
     let enough = c.shape-shape.result.in_range.enough in
     let own = from_start c.numbers_of_windows.ensures t c.args.first c.window_number.result c.from-2.result number window
-    c.count_of_windows.ensures c.windows_are_in_order.ensures (omega arith) each_is
+    c.numbers_of_windows.ensures.count c.windows_are_in_order.ensures (omega arith) each_is
     (at_ids c.shape-shape.result.ids t.ids c.args.first c.window_number.result c.shape-shape.ensures.ids c.window_number.ensures.item) item le in
     subst (λ n. n * c.from-2.result ≤ number) (sym c.from.ensures) own
   where

@@ -18,7 +18,7 @@ least_of_parts-least-requires-clause-each g c κs within part lt =
     let upto : (part + 1) * each ≤ parts * each = mul-le-mul_right each (omega arith) in
     let all : each * parts < families + parts =
     subst (λ n. n * parts < families + parts) (sym c.div_ceil-each.ensures) (div_ceil_times families parts c.part_count-parts.ensures.some).1 in
-    let many = families_few c.count_of_windows.ensures t c.args.self.some.0 shape.ids.enough in
+    let many = families_few c.numbers_of_windows.ensures.count t c.args.self.some.0 shape.ids.enough in
     let few : part * each + each < 2 ^ 32 =
     omega (arith, upto, row_more part each, all, mul_comm each parts, many, c.family_count-families.ensures, shape.few_windows, c.part_count-parts.ensures.few) in
     (few, c.family_count-families.ensures)

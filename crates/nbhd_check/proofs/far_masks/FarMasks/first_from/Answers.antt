@@ -22,7 +22,7 @@ module _ (c : In-loop-number) where
   few : c.args.first + c.loop-number.place < length c.args.self.now.table.now.entries
   few =
       let t = c.args.self.now.table.now in
-      family_few c.count_of_windows.ensures t (c.args.first + c.loop-number.place) (drop 2 own.0) c.args.self.now.some
+      family_few c.numbers_of_windows.ensures.count t (c.args.first + c.loop-number.place) (drop 2 own.0) c.args.self.now.some
       c.windows_per_run-each.ensures.table.begun.shape.ids.enough c.windows_per_run-each.ensures.table.size
       (family_at c.numbers_of_windows.ensures t c.loop-number.number own.0 c.args.first c.args.places c.loop-number.place c.args.self.now.some own.1)
 
@@ -50,7 +50,7 @@ pub loop-number-preserved : goal.loop-number-preserved
 loop-number-preserved c =
     let t = c.args.self.now.table.now in
     let laws = c.numbers_of_windows.ensures in
-    let counts = c.count_of_windows.ensures in
+    let counts = c.numbers_of_windows.ensures.count in
     let d = (goal.at.loop-number-preserved c).In-loop-number in
     let number : ℕ = c.loop-number.number in
     let here = own d in

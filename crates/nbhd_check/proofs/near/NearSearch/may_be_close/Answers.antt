@@ -10,7 +10,7 @@ use Rattle.nbhd_check.proofs.near.NearSearch.may_be_close.Goals as goal
 -- the window at the place, and the run of its second windows
 module _ (c : After-entries) where
   here : AtPlace c.args.self.now.table.now c.args.runs c.args.place
-  here = at_place c.numbers_of_windows.ensures c.count_of_windows.ensures c.args.self.now.table.now c.args.runs c.args.place c.entries.ensures.table.size c.requires.runs c.requires.place
+  here = at_place c.numbers_of_windows.ensures c.numbers_of_windows.ensures.count c.args.self.now.table.now c.args.runs c.args.place c.entries.ensures.table.size c.requires.runs c.requires.place
 
   -- its channel
   channel_is : get_or c.entries.result.now (c.args.runs.run * c.windows_per_run-each.result + c.args.place) 0

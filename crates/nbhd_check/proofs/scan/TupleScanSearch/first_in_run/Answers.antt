@@ -24,11 +24,11 @@ pub least_bad-requires-clause-within : goal.least_bad-requires-clause-within
 least_bad-requires-clause-within c =
     let t = c.args.self.now.tuples.table.now in
     let s = c.args.self.now.tuples.separation in
-    let within = run_end c.numbers_of_windows.ensures c.count_of_windows.ensures t c.args.run c.args.window.now c.requires in
+    let within = run_end c.numbers_of_windows.ensures c.numbers_of_windows.ensures.count t c.args.run c.args.window.now c.requires in
     omega (
       arith,
       mul-le-mul_right (run_len t s) within,
-      all_runs t s c.count_of_windows.ensures,
+      all_runs t s c.numbers_of_windows.ensures.count,
       end_is t s c.args.run c.from.result c.windows_per_run-windows.result c.per_window-each.result c.from.ensures c.windows_per_run-windows.ensures.value c.per_window-each.ensures.value,
     )
 
@@ -53,7 +53,7 @@ overflow_cast-result c =
     let each : ℕ = c.per_window-each.result in
     let end = end_is t s c.args.run c.from.result c.windows_per_run-windows.result each c.from.ensures c.windows_per_run-windows.ensures.value c.per_window-each.ensures.value in
     let below : c.in_ok-number.number < (c.args.run * w + w) * each = omega (arith, c.in_ok-number.ensures.0, end, ap (λ n. (c.args.run * w + w) * n) c.per_window-each.ensures.value) in
-    let within = run_end c.numbers_of_windows.ensures c.count_of_windows.ensures t c.args.run c.args.window.now c.requires in
+    let within = run_end c.numbers_of_windows.ensures c.numbers_of_windows.ensures.count t c.args.run c.args.window.now c.requires in
     omega (arith, quotient_below c.in_ok-number.number each (c.args.run * w + w) below, within, c.windows_per_run-windows.ensures.table.begun.shape.few_windows)
 
 pub returns : goal.returns
