@@ -1,11 +1,10 @@
 -- Windows that begin no tuple with a close third window, and the families of these third windows.
-use Rattle.std.proofs.Common.{◌≡◌, ◌≢◌, ℕ, ◌+◌, ◌-◌, ◌*◌, ◌/◌, ◌<◌, ◌≤◌, ◌⊎◌, List, [], ◌∷◌, Contains, length, get_or, take, drop, slice_get, Some, subst, sym, ap, ◌∙◌, arith, refl, inl, inr, ⊎_elim}
-use Rattle.std.proofs.Math.Nat.{mul-div_cancel_left, one-mul}
+use Rattle.std.proofs.Common.{◌≡◌, ◌≢◌, ℕ, ◌+◌, ◌-◌, ◌*◌, ◌<◌, ◌≤◌, ◌⊎◌, List, ◌∷◌, Contains, length, get_or, take, drop, slice_get, Some, subst, sym, ap, ◌∙◌, arith, inl, inr, ⊎_elim}
 use Rattle.std.proofs.lemmas.Bool.{cases_lt}
 use Rattle.std.proofs.lemmas.Option.{same_Some, slice_get_within}
 use Rattle.std.proofs.lemmas.Nat.{mul-le}
 use Rattle.win_index.specs.Falling.{falling}
-use Rattle.win_index.specs.Laws.{CountOfWindows, WindowsAreInOrder}
+use Rattle.win_index.specs.Laws.{CountOfWindows}
 use Rattle.win_index.specs.Windows.{windows, IsWindow}
 use Rattle.channel_tables.specs.Tables.{ChannelTable, windows_of}
 use Rattle.nbhd_check.specs.Counts.{shared_len, shared_lists, IsFamily}
@@ -111,36 +110,6 @@ module _ (laws : WindowsAreNumbered) where
       let family = number_of_window laws (shared_len t) t.ids (drop 2 window) rest in
       let within = slice_get_within (shared_lists t) family.0 (drop 2 window) family.1 in
       free number window below item (family.0, omega arith, omega arith, family.1)
-
-  -- the windows that begin with an identifier or a greater one
-  pub from_start :
-      (t : ChannelTable) (first start each number : ℕ) (window : List ℕ) → CountOfWindows → WindowsAreInOrder → 0 < t.ids
-      → each ≡ length (windows_of t) / t.ids → slice_get (windows 1 t.ids) start ≡ Some (first ∷ [])
-      → slice_get (windows_of t) number ≡ Some window → first ≤ get_or window 0 0 → start * each ≤ number
-  from_start t first start each number window counts order some each_is at_first item le =
-      let len : ℕ = 2 * t.rounds in
-      let size : len + 1 ≡ 1 + len = omega arith in
-      let run = in_longer_run laws 1 t.ids len number window (subst (λ k. slice_get (windows k t.ids) number ≡ Some window) size item) in
-      let is = window_at laws (len + 1) t.ids number window item in
-      let long = is.size in
-      let one : falling t.ids 1 ≡ t.ids = one-mul (t.ids - 0) ∙ (let back : t.ids - 0 ≡ t.ids = omega arith in back) in
-      let all : length (windows_of t) ≡ t.ids * falling (t.ids - 1) len =
-      counts (len + 1) t.ids ∙ ap (falling t.ids) size ∙ falling-add t.ids 1 len ∙ ap (λ n. n * falling (t.ids - 1) len) one in
-      let own : each ≡ falling (t.ids - 1) len = each_is ∙ ap (λ n. n / t.ids) all ∙ mul-div_cancel_left (falling (t.ids - 1) len) some in
-      let number_is : number ≡ run.number * each + run.rest = run.number_is ∙ (λ q. run.number * sym own q + run.rest) in
-      let at_own : slice_get (windows 1 t.ids) run.number ≡ Some (get_or window 0 0 ∷ []) = run.front_at ∙ ap Some (first_of window (omega arith)) in
-      let before : start ≤ run.number = ⊎_elim
-      (λ (lt : run.number < start). absurd (⊎_elim
-      (λ (less : get_or window 0 0 < first). let none : ⊥ = omega arith in none)
-      (λ (same : (get_or window 0 0 ≡ first) × ⊥). same.1)
-      (order 1 t.ids run.number start (get_or window 0 0 ∷ []) (first ∷ []) lt at_own at_first)))
-      (λ (ge : start ≤ run.number). ge)
-      (cases_lt run.number start) in
-      omega (arith, mul-le start each run.number each before (omega arith), number_is)
-    where
-      first_of : (window : List ℕ) → 1 ≤ length window → take 1 window ≡ get_or window 0 0 ∷ []
-      first_of [] size = absurd (omega arith)
-      first_of (x ∷ window) size = refl
 
 -- the windows of a family are numbered within those of the table
 pub family_within : (t : ChannelTable) (number count : ℕ) → CountOfWindows → 1 ≤ t.rounds → count ≡ falling (t.ids - shared_len t) 2

@@ -1,10 +1,10 @@
 -- Windows and the windows that they begin with.
-use Rattle.std.proofs.Common.{◌≡◌, ◌≢◌, ℕ, zero, suc, ◌+◌, ◌-◌, ◌*◌, ◌/◌, ◌%◌, ◌<◌, ◌≤◌, Option, List, [], ◌∷◌, ◌++◌, get_or, take, drop, slice_get, Some, None, IsSome, subst, sym, ap, ◌∙◌, arith, refl, ⊎_elim, length-drop, Bool, true, false, length}
+use Rattle.std.proofs.Common.{◌≡◌, ◌≢◌, ℕ, suc, ◌+◌, ◌-◌, ◌*◌, ◌/◌, ◌%◌, ◌<◌, ◌≤◌, Option, List, [], ◌∷◌, ◌++◌, get_or, take, drop, slice_get, Some, None, IsSome, subst, sym, ap, ◌∙◌, arith, refl, ⊎_elim, length-drop, Bool, true, false, length}
 use Rattle.std.proofs.Math.Nat.{suc-mul, mul-le-mul_right, mod-lt}
 use Rattle.std.proofs.lemmas.Nat.{div-add-mod'}
 use Rattle.nbhd_check.proofs.RunLengths.{falling-add}
 use Rattle.std.proofs.lemmas.Bool.{cases_lt, false≢true, OnTrue_at, OnFalse_at}
-use Rattle.std.proofs.lemmas.List.{get_or-take, get_or-drop, length-take-le, length_push, get_or_default, take_all, take-take}
+use Rattle.std.proofs.lemmas.List.{get_or-take, get_or-drop, length-take-le, length_push, get_or_default}
 use Rattle.std.proofs.lemmas.List.Elements.{All-take, All-drop, All-push}
 use Rattle.std.proofs.lemmas.List.Quantifiers.{all_pairs_push}
 use Rattle.std.proofs.lemmas.Option.{same_Some, slice_get_within}

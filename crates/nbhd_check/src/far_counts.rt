@@ -20,7 +20,7 @@ use channel_tables::Table;
 use std::alloc::Global;
 use std::sync::atomic::{AtomicU32, Ordering};
 use std::thread::Threads;
-use win_index::{MAX_WINDOW_LEN, count_of_windows, place_among_unused, windows_are_in_order};
+use win_index::{MAX_WINDOW_LEN, count_of_windows, place_among_unused};
 
 /// The search for windows that begin a tuple whose third window is closer than `distance`, which is
 /// at least 1. All channels are below `limit`.
@@ -163,9 +163,6 @@ impl<'b> Family<'b> {
         numbers_of_windows();
         let mut least = least;
         for first in 0..self.table.shape().ids() {
-            if start_of(self.table, first) >= u64::from(least) {
-                return least;
-            }
             least = self.free_with_first(first, least);
         }
         least
@@ -326,20 +323,6 @@ impl<'b> Family<'b> {
     {
         u32::from(self.table.entries()[number as usize])
     }
-}
-
-// Returns the number of the first window that begins with this identifier. No window that begins
-// with it or with a greater one has a lower number.
-fn start_of(table: &Table, first: u32) -> u64
-    requires { first < table.now.ids }
-    ensures { (number : ℕ) (window : List ℕ) → slice_get (windows_of table.now) number ≡ Some window
-        → first ≤ slice_index window 0 → result ≤ number }
-{
-    numbers_of_windows();
-    windows_are_in_order();
-    let shape = table.shape();
-    let each = window_count(table) / shape.ids();
-    u64::from(shape.window_number(0, &[first])) * u64::from(each)
 }
 
 // Writes two identifiers and then the others.

@@ -3,13 +3,6 @@ use Rattle.std.proofs.lemmas.Bool.{cases_lt}
 use Rattle.nbhd_check.proofs.FarFree.{free_in_two, all_firsts}
 use Rattle.nbhd_check.proofs.far_counts.Family.free.Goals as goal
 
-pub returns-then-start_of-from-clause-free : goal.returns-then-start_of-from-clause-free
-returns-then-start_of-from-clause-free c = λ number window below item own.
-    ⊎_elim
-    (λ (lt : get_or window 0 0 < c.loop-first.first). c.loop-first.invariant.1 number window below item (lt, own))
-    (λ (ge : c.loop-first.first ≤ get_or window 0 0). absurd (omega (arith, c.start_of.ensures number window item ge)))
-    (cases_lt (get_or window 0 0) c.loop-first.first)
-
 pub loop-first-preserved : goal.loop-first-preserved
 loop-first-preserved c = (
   omega (arith, c.free_with_first-least.ensures.less, c.loop-first.invariant.0),
