@@ -111,17 +111,21 @@ module _ (laws : WindowsAreNumbered) where
       let within = slice_get_within (shared_lists t) family.0 (drop 2 window) family.1 in
       free number window below item (family.0, omega arith, omega arith, family.1)
 
+-- the windows of a table, by families
+pub all_of_families : (t : ChannelTable) (count : ℕ) → CountOfWindows → 1 ≤ t.rounds → count ≡ falling (t.ids - shared_len t) 2
+    → length (windows_of t) ≡ length (shared_lists t) * count
+all_of_families t count counts some count_is =
+    let shared : ℕ = shared_len t in
+    let size : 2 * t.rounds + 1 ≡ shared + 2 = omega arith in
+    ap (λ k. length (windows k t.ids)) size ∙ counts (shared + 2) t.ids ∙ falling-add t.ids shared 2
+    ∙ (λ q. sym (counts shared t.ids) q * sym count_is q)
+
 -- the windows of a family are numbered within those of the table
 pub family_within : (t : ChannelTable) (number count : ℕ) → CountOfWindows → 1 ≤ t.rounds → count ≡ falling (t.ids - shared_len t) 2
     → number < length (shared_lists t) → number * count + count ≤ length (windows_of t)
 family_within t number count counts some count_is below =
-    let shared : ℕ = shared_len t in
-    let size : 2 * t.rounds + 1 ≡ shared + 2 = omega arith in
-    let all : length (windows_of t) ≡ length (shared_lists t) * count =
-    ap (λ k. length (windows k t.ids)) size ∙ counts (shared + 2) t.ids ∙ falling-add t.ids shared 2
-    ∙ (λ q. sym (counts shared t.ids) q * sym count_is q) in
     let le : number + 1 ≤ length (shared_lists t) = omega arith in
-    omega (arith, all, row_more number count, mul-le (number + 1) count (length (shared_lists t)) count le (omega arith))
+    omega (arith, all_of_families t count counts some count_is, row_more number count, mul-le (number + 1) count (length (shared_lists t)) count le (omega arith))
 
 pub some_product : (a b : ℕ) → 1 ≤ a → 1 ≤ b → 1 ≤ a * b
 some_product a b some_a some_b = omega (arith, mul-le 1 1 a b some_a some_b)

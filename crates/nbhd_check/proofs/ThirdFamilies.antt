@@ -19,7 +19,7 @@ use Rattle.nbhd_check.specs.Laws.{WindowsAreNumbered}
 use Rattle.nbhd_check.specs.Masks.{NoneClose}
 use Rattle.nbhd_check.specs.Runs.{BeginsFarTuple, wide}
 use Rattle.nbhd_check.proofs.Close.{close_along}
-use Rattle.nbhd_check.proofs.FarFree.{family_is, family_within, some_product}
+use Rattle.nbhd_check.proofs.FarFree.{all_of_families, family_is, family_within, some_product}
 use Rattle.nbhd_check.proofs.Prefixes.{place_of_last, in_run, one_run, window_at, window_take, window_drop}
 use Rattle.nbhd_check.proofs.Ranks.{rank, lacks, rank_mono, rank_rises}
 use Rattle.nbhd_check.proofs.RunLengths.{two_more}
@@ -171,10 +171,4 @@ pub families_few : (counts : CountOfWindows) (t : ChannelTable) → 1 ≤ t.roun
 families_few counts t some enough =
     let wide : ℕ = t.ids - shared_len t in
     let len : 1 ≤ family_len t = some_product wide (wide - 1) (omega arith) (omega arith) in
-    ⊎_elim
-    (λ (is : 0 < length (shared_lists t)).
-    let last : ℕ = length (shared_lists t) - 1 in
-    let within = family_within t last (family_len t) counts some (sym (two_more (t.ids - shared_len t) 2 (t.ids - shared_len t) refl refl)) (omega arith) in
-    omega (arith, within, mul-le-mul_left last len))
-    (λ (none : length (shared_lists t) ≤ 0). omega arith)
-    (cases_lt 0 (length (shared_lists t)))
+    omega (arith, all_of_families t (family_len t) counts some (sym (two_more wide 2 wide refl refl)), mul-le-mul_left (length (shared_lists t)) len)
