@@ -11,7 +11,7 @@ use Rattle.nbhd_check.specs.FarSearch.{ArePairNumbers}
 use Rattle.nbhd_check.specs.Laws.{WindowsAreNumbered}
 use Rattle.nbhd_check.specs.declared.far_counts.PairNumbers.{PairNumbers}
 use Rattle.nbhd_check.proofs.Ends.{window_moved}
-use Rattle.nbhd_check.proofs.Prefixes.{place_of_last, in_run, window_take}
+use Rattle.nbhd_check.proofs.Prefixes.{place_of_last, in_run, window_at, window_take}
 use Rattle.nbhd_check.proofs.Ranks.{rank, lacks, rank_suc, rank_among, rank_pushed}
 use Rattle.nbhd_check.proofs.RunLengths.{one_more}
 
@@ -41,45 +41,44 @@ same_rank u v x y free free_next other =
     (cases_lt x y) in
     omega (arith, one, rank_among u v x free y, rank_among u v (suc x) free_next y)
 
--- a window with one more identifier at its end, and the number of the window without it
-record IsPushed (m n y : ℕ) (list : List ℕ) : Type 0 where
-  number : ℕ
-  item : slice_get (windows (length list) m) number ≡ Some list
-  number_is : n ≡ number * (m - length list) + rank list y
-  is : IsWindow (length list + 1) m (list ++ y ∷ [])
+-- the list is the window with this number, among those as long as it
+abbrev IsNumbered : ℕ → ℕ → List ℕ → Type 0
+IsNumbered m n list = slice_get (windows (length list) m) n ≡ Some list
+
+without_last : (m y : ℕ) (list : List ℕ) → IsWindow (length (list ++ y ∷ [])) m (list ++ y ∷ []) → IsWindow (length list) m list
+without_last m y list is =
+    subst (IsWindow (length list) m) (take_at list (y ∷ []) (length list) refl)
+    (window_take (length (list ++ y ∷ [])) m (length list) (list ++ y ∷ []) (omega (arith, length_push list y)) is)
 
 module _ (laws : WindowsAreNumbered) where
   last_place : (y : ℕ) (list : List ℕ) → place_of_last (length list) (list ++ y ∷ []) ≡ rank list y
   last_place y list = λ q. rank (take_at list (y ∷ []) (length list) refl q) (at_end list [] y q)
 
-  pushed : (m n y : ℕ) (list : List ℕ) → slice_get (windows (length list + 1) m) n ≡ Some (list ++ y ∷ []) → IsPushed m n y list
+  -- a window without its last identifier
+  pushed : (m n y : ℕ) (list : List ℕ) → IsNumbered m n (list ++ y ∷ [])
+      → (number : ℕ) × IsNumbered m number list × (n ≡ number * (m - length list) + rank list y)
   pushed m n y list item =
-      let run = in_run laws (length list) m n (list ++ y ∷ []) item in
-      record {
-        number = run.number;
-        item = run.front_at ∙ ap Some (take_at list (y ∷ []) (length list) refl);
-        number_is = run.number_is ∙ ap (λ p. run.number * (m - length list) + p) (last_place y list);
-        is = run.is;
-      }
+      let run = in_run laws (length list) m n (list ++ y ∷ []) (subst (λ l. slice_get (windows l m) n ≡ Some (list ++ y ∷ [])) (length_push list y) item) in
+      (run.number, run.front_at ∙ ap Some (take_at list (y ∷ []) (length list) refl), run.number_is ∙ ap (λ p. run.number * (m - length list) + p) (last_place y list))
 
-  -- one more identifier at the end of a window
-  pub number_pushed : (m n y : ℕ) (list : List ℕ) → slice_get (windows (length list) m) n ≡ Some list → IsWindow (length list + 1) m (list ++ y ∷ [])
-      → slice_get (windows (length list + 1) m) (n * (m - length list) + rank list y) ≡ Some (list ++ y ∷ [])
+  -- a window with one more identifier at its end
+  number_pushed : (m n y : ℕ) (list : List ℕ) → IsNumbered m n list → IsWindow (length (list ++ y ∷ [])) m (list ++ y ∷ [])
+      → IsNumbered m (n * (m - length list) + rank list y) (list ++ y ∷ [])
   number_pushed m n y list item is =
-      ap (λ p. slice_get (windows (length list + 1) m) (n * (m - length list) + p)) (sym (last_place y list))
-      ∙ (laws.longer_number (length list) m n (list ++ y ∷ []) is (item ∙ ap Some (sym (take_at list (y ∷ []) (length list) refl)))).1
+      let long = length_push list y in
+      (λ q. slice_get (windows (long q) m) (n * (m - length list) + sym (last_place y list) q))
+      ∙ (laws.longer_number (length list) m n (list ++ y ∷ []) (subst (λ l. IsWindow l m (list ++ y ∷ [])) long is) (item ∙ ap Some (sym (take_at list (y ∷ []) (length list) refl)))).1
 
   -- If an identifier is replaced by the next one, the number rises by that of the windows that begin with the
   -- identifiers up to it.
-  stepped : (m x : ℕ) (u v : List ℕ) (j n : ℕ) → length v ≡ j → slice_get (windows (length u + 1 + j) m) n ≡ Some (u ++ x ∷ v)
-      → IsWindow (length u + 1 + j) m (u ++ suc x ∷ v) → slice_get (windows (length u + 1 + j) m) (n + falling (m - (length u + 1)) j) ≡ Some (u ++ suc x ∷ v)
+  stepped : (m x : ℕ) (u v : List ℕ) (j n : ℕ) → length v ≡ j → IsNumbered m n (u ++ x ∷ v) → IsWindow (length (u ++ suc x ∷ v)) m (u ++ suc x ∷ v)
+      → IsNumbered m (n + falling (m - (length u + 1)) j) (u ++ suc x ∷ v)
   stepped m x u [] zero n size item is =
-      let len : length u + 1 + zero ≡ length u + 1 = omega arith in
-      let old = pushed m n x u (subst (λ l. slice_get (windows l m) n ≡ Some (u ++ x ∷ [])) len item) in
-      let one : cond {A = ℕ} (not (is_used u x)) 1 0 ≡ 1 = ap (λ b. cond (not b) 1 0) (lacks_last u x old.is.distinct) in
-      let number : old.number * (m - length u) + rank u (suc x) ≡ n + 1 = omega (arith, old.number_is, rank_suc u x, one) in
-      (λ q. slice_get (windows (len q) m) (sym number q))
-      ∙ number_pushed m old.number (suc x) u old.item (subst (λ l. IsWindow l m (u ++ suc x ∷ [])) len is)
+      let old = pushed m n x u item in
+      let own = window_at laws (length (u ++ x ∷ [])) m n (u ++ x ∷ []) item in
+      let one : cond {A = ℕ} (not (is_used u x)) 1 0 ≡ 1 = ap (λ b. cond (not b) 1 0) (lacks_last u x own.distinct) in
+      let number : old.0 * (m - length u) + rank u (suc x) ≡ n + 1 = omega (arith, old.2, rank_suc u x, one) in
+      ap (slice_get (windows (length (u ++ suc x ∷ [])) m)) (sym number) ∙ number_pushed m old.0 (suc x) u old.1 is
   stepped m x u (y ∷ v) zero n size item is = absurd (omega arith)
   stepped m x u v (suc j) n size item is =
       let front = take j v in
@@ -90,30 +89,21 @@ module _ (laws : WindowsAreNumbered) where
       let b = u ++ suc x ∷ front in
       let a_is : u ++ x ∷ v ≡ a ++ y ∷ [] = ap (λ l. u ++ x ∷ l) whole ∙ sym (append_assoc u (x ∷ front) (y ∷ [])) in
       let b_is : u ++ suc x ∷ v ≡ b ++ y ∷ [] = ap (λ l. u ++ suc x ∷ l) whole ∙ sym (append_assoc u (suc x ∷ front) (y ∷ [])) in
-      let k : ℕ = length u + 1 + j in
-      let len_a : length a ≡ k = omega (arith, short, length-append u (x ∷ front)) in
-      let len_b : length b ≡ k = omega (arith, short, length-append u (suc x ∷ front)) in
-      let size : length u + 1 + suc j ≡ k + 1 = omega arith in
-      let more_a : length u + 1 + suc j ≡ length a + 1 = omega (arith, len_a) in
-      let more_b : length u + 1 + suc j ≡ length b + 1 = omega (arith, len_b) in
-      let old = pushed m n y a ((λ q. slice_get (windows (sym more_a q) m) n) ∙ item ∙ ap Some a_is) in
-      let new = subst (λ l. IsWindow l m (b ++ y ∷ [])) more_b (subst (IsWindow (length u + 1 + suc j) m) b_is is) in
-      let part_a = window_take (length a + 1) m (length a) (a ++ y ∷ []) (omega arith) old.is in
-      let part_b = window_take (length b + 1) m (length b) (b ++ y ∷ []) (omega arith) new in
-      let is_a : IsWindow (length a) m a = subst (IsWindow (length a) m) (take_at a (y ∷ []) (length a) refl) part_a in
-      let is_b : IsWindow (length b) m b = subst (IsWindow (length b) m) (take_at b (y ∷ []) (length b) refl) part_b in
+      let item_a = subst (IsNumbered m n) a_is item in
+      let new = subst (λ l. IsWindow (length l) m l) b_is is in
+      let is_a = without_last m y a (window_at laws (length (a ++ y ∷ [])) m n (a ++ y ∷ []) item_a) in
+      let is_b = without_last m y b new in
       let fewer : ℕ = falling (m - (length u + 1)) j in
-      let before = stepped m x u front j old.number short (subst (λ l. slice_get (windows l m) old.number ≡ Some a) len_a old.item)
-      (subst (λ l. IsWindow l m b) len_b is_b) in
-      let other : y ≢ suc x = λ e. new.distinct (length u) (length b) 0 (omega arith) (omega (arith, length_push b y))
+      let old = pushed m n y a item_a in
+      let before = stepped m x u front j old.0 short old.1 is_b in
+      let other : y ≢ suc x = λ e. new.distinct (length u) (length b) 0 (omega (arith, length-append u (suc x ∷ front))) (omega (arith, length_push b y))
       (ap (λ l. get_or l (length u) 0) (sym b_is) ∙ at_end u v (suc x) ∙ sym e ∙ sym (at_end b [] y)) in
       let ranks = same_rank u front x y (lacks_rest u front x is_a.distinct) (lacks_rest u front (suc x) is_b.distinct) other in
-      let free : m - length b ≡ m - (length u + 1) - j = omega arith in
-      let free_a : m - length a ≡ m - (length u + 1) - j = omega arith in
-      let number : (old.number + fewer) * (m - length b) + rank b y ≡ n + fewer * (m - (length u + 1) - j) =
-      omega (arith, old.number_is, ranks, add-mul old.number fewer (m - (length u + 1) - j), ap (λ f. (old.number + fewer) * f) free, ap (λ f. old.number * f) free_a) in
-      (λ q. slice_get (windows (more_b q) m) (sym number q))
-      ∙ number_pushed m (old.number + fewer) y b (subst (λ l. slice_get (windows l m) (old.number + fewer) ≡ Some b) (sym len_b) before) new ∙ ap Some (sym b_is)
+      let free : (c : ℕ) → m - length (u ++ c ∷ front) ≡ m - (length u + 1) - j = λ c. omega (arith, short, length-append u (c ∷ front)) in
+      let number : (old.0 + fewer) * (m - length b) + rank b y ≡ n + fewer * (m - (length u + 1) - j) =
+      omega (arith, old.2, ranks, add-mul old.0 fewer (m - (length u + 1) - j), ap (λ f. (old.0 + fewer) * f) (free (suc x)), ap (λ f. old.0 * f) (free x)) in
+      subst (IsNumbered m (n + fewer * (m - (length u + 1) - j))) (sym b_is)
+      (ap (slice_get (windows (length (b ++ y ∷ [])) m)) (sym number) ∙ number_pushed m (old.0 + fewer) y b before new)
 
 -- the shared identifiers followed by the two, in either order
 pub moved : (t : ChannelTable) (z : List ℕ) (a b i j : ℕ) → 1 ≤ t.rounds → IsWindow (2 * t.rounds + 1) t.ids (a ∷ b ∷ z) → i < 2 → j < 2 → i ≢ j
@@ -131,9 +121,10 @@ module _ (laws : WindowsAreNumbered) (t : ChannelTable) (b : ℕ) where
       → slice_get (windows_of t) (n + more) ≡ Some new
   next_number j n more u v new size len more_is new_is item is =
       let own : new ≡ u ++ suc b ∷ v = new_is ∙ ap (λ x. u ++ x ∷ v) (add-one b) in
-      (λ q. slice_get (windows (sym len q) t.ids) (n + sym more_is q))
-      ∙ stepped laws t.ids b u v j n size (subst (λ l. slice_get (windows l t.ids) n ≡ Some (u ++ b ∷ v)) (sym len) item)
-      (subst (λ l. IsWindow l t.ids (u ++ suc b ∷ v)) (sym len) (subst (IsWindow (2 * t.rounds + 1) t.ids) own is)) ∙ ap Some (sym own)
+      let long : (c : ℕ) → 2 * t.rounds + 1 ≡ length (u ++ c ∷ v) = λ c. omega (arith, length-append u (c ∷ v), size, len) in
+      (λ q. slice_get (windows (long (suc b) q) t.ids) (n + sym more_is q))
+      ∙ stepped laws t.ids b u v j n size (subst (λ l. slice_get (windows l t.ids) n ≡ Some (u ++ b ∷ v)) (long b) item)
+      (subst (λ l. IsWindow l t.ids (u ++ suc b ∷ v)) (long (suc b)) (subst (IsWindow (2 * t.rounds + 1) t.ids) own is)) ∙ ap Some (sym own)
 
   -- the numbers for the next second identifier
   pub next_numbers :
@@ -164,16 +155,14 @@ module _ (laws : WindowsAreNumbered) (t : ChannelTable) (z : List ℕ) (a b : �
   list : z ++ a ∷ b ∷ [] ≡ one ++ b ∷ []
   list = sym (append_assoc z (a ∷ []) (b ∷ []))
 
-  len : 2 * t.rounds + 1 ≡ length one + 1
-  len = omega (arith, length_push z a, size, some)
+  len : 2 * t.rounds + 1 ≡ length (one ++ b ∷ [])
+  len = omega (arith, length_push z a, length_push one b, size, some)
 
-  whole : IsWindow (length one + 1) t.ids (one ++ b ∷ [])
+  whole : IsWindow (length (one ++ b ∷ [])) t.ids (one ++ b ∷ [])
   whole = subst (λ l. IsWindow l t.ids (one ++ b ∷ [])) len (subst (IsWindow (2 * t.rounds + 1) t.ids) list is)
 
   part : IsWindow (length one) t.ids one
-  part =
-      subst (IsWindow (length one) t.ids) (take_at one (b ∷ []) (length one) refl)
-      (window_take (length one + 1) t.ids (length one) (one ++ b ∷ []) (omega arith) whole)
+  part = without_last t.ids b one whole
 
   -- the place of the second among those that are not shared, and among those that the first is not one of either
   pub next_place : rank z b ≡ rank one b + cond (nat_lt a b) 1 0
@@ -183,9 +172,7 @@ module _ (laws : WindowsAreNumbered) (t : ChannelTable) (z : List ℕ) (a b : �
   pub number_after : (number place next free : ℕ) → slice_get (shared_lists t) number ≡ Some z → free ≡ t.ids - length z → place ≡ rank z a → next ≡ rank one b
       → slice_get (windows_of t) ((number * free + place) * (free - 1) + next) ≡ Some (z ++ a ∷ b ∷ [])
   number_after number place next free item free_is place_is next_is =
-      let long = length_push z a in
-      let first = number_pushed laws t.ids number a z (subst (λ l. slice_get (windows l t.ids) number ≡ Some z) (sym size) item) (subst (λ l. IsWindow l t.ids one) long part) in
-      let second = number_pushed laws t.ids (number * (t.ids - length z) + rank z a) b one
-      (subst (λ l. slice_get (windows l t.ids) (number * (t.ids - length z) + rank z a) ≡ Some one) (sym long) first) whole in
-      let other : free - 1 ≡ t.ids - length one = omega arith in
+      let first = number_pushed laws t.ids number a z (subst (λ l. slice_get (windows l t.ids) number ≡ Some z) (sym size) item) part in
+      let second = number_pushed laws t.ids (number * (t.ids - length z) + rank z a) b one first whole in
+      let other : free - 1 ≡ t.ids - length one = omega (arith, length_push z a, free_is) in
       (λ q. slice_get (windows (len q) t.ids) ((number * free_is q + place_is q) * other q + next_is q)) ∙ second ∙ ap Some (sym list)

@@ -4,6 +4,7 @@ use Rattle.std.proofs.Math.Nat.{mul-le-mul_left}
 use Rattle.std.proofs.lemmas.Option.{slice_get_within}
 use Rattle.win_index.specs.declared.limits.TheConstants.{MAX_WINDOWS}
 use Rattle.channel_tables.specs.Tables.{windows_of}
+use Rattle.nbhd_check.proofs.Ranks.{rank}
 use Rattle.nbhd_check.proofs.Steps.{next_place, number_after}
 use Rattle.nbhd_check.proofs.far_counts.Family.number_after.Goals.{After-from}
 use Rattle.nbhd_check.proofs.far_counts.Family.number_after.Goals as goal
@@ -24,20 +25,17 @@ module _ (c : After-from) where
   abbrev number : ℕ
   number = c.args.self.number * free + c.place_among_unused-place.result
 
-  before : c.from.result ≤ c.place_among_unused.result
-  before =
-      let places = next_place c.numbers_of_windows.ensures c.args.self.table.now c.args.self.shared.now c.args.one c.args.other c.args.self.window.size
+  places : c.place_among_unused.result ≡ rank (c.args.self.shared.now ++ c.args.one ∷ []) c.args.other + c.from.result
+  places =
+      let own = next_place c.numbers_of_windows.ensures c.args.self.table.now c.args.self.shared.now c.args.one c.args.other c.args.self.window.size
       c.args.self.some.0 c.requires in
-      omega (arith, places, c.place_among_unused.ensures, c.from.ensures, byte_is (nat_lt c.args.one c.args.other))
+      omega (arith, own, c.place_among_unused.ensures, c.from.ensures, byte_is (nat_lt c.args.one c.args.other))
 
   item : slice_get (windows_of c.args.self.table.now) (number * (free - 1) + next) ≡ Some (c.args.self.shared.now ++ c.args.one ∷ c.args.other ∷ [])
   item =
-      let t = c.args.self.table.now in
-      let z = c.args.self.shared.now in
-      let places = next_place c.numbers_of_windows.ensures t z c.args.one c.args.other c.args.self.window.size c.args.self.some.0 c.requires in
-      number_after c.numbers_of_windows.ensures t z c.args.one c.args.other c.args.self.window.size c.args.self.some.0 c.requires c.args.self.number
-      c.place_among_unused-place.result next free c.args.self.numbered (omega (arith, c.ids.ensures, c.shape.ensures.ids)) c.place_among_unused-place.ensures
-      (omega (arith, places, before, c.place_among_unused.ensures, c.from.ensures, byte_is (nat_lt c.args.one c.args.other)))
+      number_after c.numbers_of_windows.ensures c.args.self.table.now c.args.self.shared.now c.args.one c.args.other c.args.self.window.size c.args.self.some.0
+      c.requires c.args.self.number c.place_among_unused-place.result next free c.args.self.numbered (omega (arith, c.ids.ensures, c.shape.ensures.ids))
+      c.place_among_unused-place.ensures (omega (arith, places))
 
   -- the number is small, and what it is made of is not greater
   few : (number ≤ number * (free - 1)) × (number * (free - 1) + next < MAX_WINDOWS)
@@ -50,7 +48,7 @@ module _ (c : After-from) where
       (omega (arith, mul-le-mul_left number some), omega (arith, within, c.shape.ensures.table.begun.shape.few_windows))
 
 pub overflow_sub-next : goal.overflow_sub-next
-overflow_sub-next c = before ((goal.at.overflow_sub-next c).After-from)
+overflow_sub-next c = omega (arith, places ((goal.at.overflow_sub-next c).After-from))
 
 pub overflow_mul-result : goal.overflow_mul-result
 overflow_mul-result c = let own = few ((goal.at.overflow_mul-result c).After-from) in omega (arith, own.0, own.1)
