@@ -15,12 +15,12 @@ use Rattle.node_program.specs.Term.{Term, Literal, Identifier, LeftMessage, Righ
 use Rattle.node_lang.specs.Lexemes.{lexemes_of, tokens_of}
 use Rattle.node_lang.specs.Grammar.{body, Reads}
 use Rattle.node_lang.specs.Reading.{Read, Got, Fault, same_token, program}
-use Rattle.node_lang.specs.Viable.{IsProgram, IsViable, IsWhole, Mark, node, plain, marks, unmarked, BeginsNode, IsOutside, IsOutOfRange, rounds, channels, registers, Stands, unknown, large, out_of_range, unexpected, too_deep, too_many}
+use Rattle.node_lang.specs.Viable.{IsProgram, IsViable, IsWhole, Mark, node, marks, unmarked, BeginsNode, IsOutside, IsOutOfRange, rounds, channels, registers, Stands, unknown, large, out_of_range, unexpected, too_deep, too_many}
 use Rattle.node_lang.specs.Faults.{FaultsAt, too_long, not_ascii, in_lexemes}
 use Rattle.node_lang.proofs.Parsing.{same_token_is}
 use Rattle.node_lang.proofs.Rest.{Rest, Nothing, AToken, AnExpression, ANumber, following, step, counted, Met, Stops, Goes, checked, meets, a_program}
 use Rattle.node_lang.proofs.Marks.{program_matches}
-use Rattle.node_lang.proofs.Places.{Place, Ends, Completed, next_of, none_of, Says, says}
+use Rattle.node_lang.proofs.Places.{Place, Ends, Completed, completed, next_of, none_of, Says, says}
 use Rattle.node_lang.proofs.Judging.{stops_at_first_fault, readable_is_read}
 use Rattle.fault_notes.specs.declared.wanted.TheConstants.{WORDS}
 use Rattle.fault_notes.specs.declared.wanted.Wanted.{Wanted}
@@ -30,18 +30,11 @@ use Rattle.fault_notes.specs.Probes.{IsOpen, probe_of, IsProbe, IsWordOf, WordsP
 use Rattle.fault_notes.proofs.Appended.{tokens_of-append}
 use Rattle.fault_notes.proofs.Reached.{Came, Halted, At, come, come_on, come-append, went_on, Matches, program_matches_come, IsFixed, AllFixed, Reaches, program_reaches}
 
--- some program has these first marks
-one_earlier : (f : List Mark → List Mark) (m : Mark) → Completed (λ ms. f (m ∷ ms)) → Completed f
-one_earlier f m c = record { program = c.program; more = m ∷ c.more; each_register = c.each_register; are = c.are }
+-- a test that failed
+pub fails : {P : Type 0} (b : Bool) → (P → b ≡ true) → b ≡ false → P → ⊥
+fails b h e p = let both = sym e ∙ h p in cc
 
-completed : (w : Rest) (f : List Mark → List Mark) → Ends f w → Completed f
-completed (Nothing p) f h = record { program = p; more = []; each_register = h.each_register; are = h.are }
-completed (AToken t w) f h = one_earlier f (plain t) (completed w _ h)
-completed (AnExpression d w) f h = one_earlier f (node token.Id (d + 1)) (completed (w Identifier) _ (h Identifier))
-completed (ANumber low high w) f h =
-    one_earlier f (plain (token.Number low)) (completed (w low) _ (h.2 low (omega arith) h.0))
-
--- so its first tokens go on to a program
+-- the first tokens of some program go on to it
 viable_marks : {before : List Token} (t : Token) (p : ProgramTree) (ms more : List Mark) (d : ℕ) → IsProgram p →
     unmarked ms ≡ before → marks p ≡ ms ++ node t d ∷ more →
     IsViable (before ++ t ∷ [])

@@ -20,14 +20,14 @@ pub three_pieces : {n m k j a : List ℕ} (b d : List ℕ) → n ≡ a → m ≡
 three_pieces {a = a} b d p q s t =
     t ∙ ap (λ x. x ++ d) (s ∙ ap (λ x. x ++ 10 ∷ []) (q ∙ ap (λ x. x ++ b) p)) ∙ regroup_three a b d
 
-regroup_five : (o a b c d e : List ℕ) → ((((o ++ a) ++ b) ++ c) ++ d) ++ e ≡ o ++ (a ++ (b ++ (c ++ (d ++ e))))
-regroup_five o a b c d e = simp append_assoc
+regroup_six : (a b c d e f : List ℕ) → ((((a ++ b) ++ c) ++ d) ++ e) ++ f ≡ a ++ (b ++ (c ++ (d ++ (e ++ f))))
+regroup_six a b c d e f = simp append_assoc
 
 pub five_pieces : {n m l k j : List ℕ} (o a b c d e : List ℕ) → n ≡ o ++ a → m ≡ n ++ b → l ≡ m ++ c →
     k ≡ l ++ d → j ≡ k ++ e → j ≡ o ++ (a ++ (b ++ (c ++ (d ++ e))))
 five_pieces o a b c d e p q r s t =
     t ∙ ap (λ x. x ++ e) (s ∙ ap (λ x. x ++ d) (r ∙ ap (λ x. x ++ c) (q ∙ ap (λ x. x ++ b) p)))
-    ∙ regroup_five o a b c d e
+    ∙ regroup_six o a b c d e
 
 regroup_note : (o a b c d : List ℕ) → ((((o ++ a) ++ b) ++ c) ++ 10 ∷ []) ++ d ≡ o ++ (a ++ (b ++ (c ++ 10 ∷ d)))
 regroup_note o a b c d = simp append_assoc
@@ -43,9 +43,6 @@ pub pushed : {T E : Type 0} (r : Result T E) (new old added : List ℕ) →
     new ≡ cond (is_ok r) (old ++ added) old → OnOk r (new ≡ old ++ added)
 pushed (Ok x) new old added is = is
 pushed (Err e) new old added is = tt
-
-regroup_six : (a b c d e f : List ℕ) → ((((a ++ b) ++ c) ++ d) ++ e) ++ f ≡ a ++ (b ++ (c ++ (d ++ (e ++ f))))
-regroup_six a b c d e f = simp append_assoc
 
 pub six_pieces : {n m l k j i a : List ℕ} (b c d e f : List ℕ) → n ≡ a → m ≡ n ++ b → l ≡ m ++ c → k ≡ l ++ d →
     j ≡ k ++ e → i ≡ j ++ f → i ≡ a ++ (b ++ (c ++ (d ++ (e ++ f))))

@@ -2,6 +2,7 @@
 use Rattle.std.proofs.Common.{◌≡◌, ℕ, zero, suc, ◌+◌, ◌-◌, ◌<◌, ◌≤◌, ◌==◌, Bool, true, false, cond, List, [], ◌∷◌, ◌++◌, length, take, refl, sym, ap, ◌∙◌, subst, arith, append-nil}
 use Rattle.node_lang.specs.Words.{is_blank, is_word_byte, word_token, mark_token}
 use Rattle.node_lang.specs.Lexemes.{Lexeme, Split, blanked, joined, put_before, split_of, lexemes_of, tokens_in, tokens_of}
+use Rattle.node_lang.proofs.Placing.{length-blanked}
 use Rattle.fault_notes.proofs.Appended.{Extends, put_extends, joined_extends, tokens_split, tokens_of-split}
 
 -- lexemes that begin at most this many bytes before the end
@@ -215,15 +216,6 @@ blanked-take false (suc n) (b ∷ bs) =
       | true ↦ ap (λ (t : List ℕ). 32 ∷ t) (blanked-take true n bs)
       | false ↦ ap (λ (t : List ℕ). b ∷ t) (blanked-take false n bs)
     ]
-
-length-blanked : (inside : Bool) (text : List ℕ) → length (blanked inside text) ≡ length text
-length-blanked inside [] = refl
-length-blanked true (b ∷ bs) =
-    elim (b == 10) as (λ t. length (cond t (10 ∷ blanked false bs) (32 ∷ blanked true bs)) ≡ suc (length bs))
-    [ true ↦ ap suc (length-blanked false bs) | false ↦ ap suc (length-blanked true bs) ]
-length-blanked false (b ∷ bs) =
-    elim (b == 35) as (λ t. length (cond t (32 ∷ blanked true bs) (b ∷ blanked false bs)) ≡ suc (length bs))
-    [ true ↦ ap suc (length-blanked true bs) | false ↦ ap suc (length-blanked false bs) ]
 
 -- the tokens of the text before a lexeme are those before it
 pub tokens_of-before : (text : List ℕ) (before more : List Lexeme) (l : Lexeme) →

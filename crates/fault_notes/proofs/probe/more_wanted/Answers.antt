@@ -1,13 +1,8 @@
-use Rattle.std.proofs.Common.{◌≡◌, Bool, true, false, sym, ◌∙◌}
-use Rattle.fault_notes.proofs.Following.{finds_expression, finds_number, finds_all}
+use Rattle.fault_notes.proofs.Following.{fails, finds_expression, finds_number, finds_all}
 use Rattle.fault_notes.proofs.probe.more_wanted.Goals as goal
 
 pub returns-then-branch : goal.returns-then-branch
 returns-then-branch c = finds_expression c.args.text.now c.requires (c.in_ok-can_follow.ensures.0 c.if-branch.true)
-
--- a test that failed
-fails : {P : Type 0} (b : Bool) → (P → b ≡ true) → b ≡ false → P → ⊥
-fails b h e p = let both = sym e ∙ h p in cc
 
 pub returns-then-branch-2 : goal.returns-then-branch-2
 returns-then-branch-2 c =

@@ -1,7 +1,8 @@
-use Rattle.std.proofs.Common.{◌≡◌, ◌+◌, ◌-◌, Bool, true, false, sym, ◌∙◌, subst, inl, inr, arith}
+use Rattle.std.proofs.Common.{◌≡◌, ◌+◌, ◌-◌, subst, inl, inr, arith}
 use Rattle.std.proofs.lemmas.Bool.{cases_order}
 use Rattle.win_index.specs.declared.limits.TheConstants.{MAX_IDS}
 use Rattle.win_index.specs.ShapeRange.{IsShape}
+use Rattle.fault_notes.proofs.Following.{fails}
 use Rattle.fault_notes.proofs.MostIds.{shapes_between}
 use Rattle.fault_notes.proofs.programs.most_ids.Goals as goal
 
@@ -17,10 +18,6 @@ returns-then-makes_shape-clause-most c =
       between = λ m enough le. shapes_between c.count_of_windows.ensures c.args.rounds (MAX_IDS - c.fewer.fewer)
           m makes enough le;
     }
-
--- a test that failed
-fails : {P : Type 0} (b : Bool) → (P → b ≡ true) → b ≡ false → P → ⊥
-fails b h e p = let both = sym e ∙ h p in cc
 
 pub fewer-preserved : goal.fewer-preserved
 fewer-preserved c = λ m h s. elim (cases_order (m + c.fewer.fewer) MAX_IDS) [
