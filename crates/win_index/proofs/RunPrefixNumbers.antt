@@ -143,6 +143,14 @@ grown k m place p window some is =
     (free_at window k is.window_is.distinct inside) is.place_is in
     rw (whole_list k m window is.window_is) at made
 
+-- the middle of its list is one of the windows
+pub middle_within : (k m place : ℕ) (p : RunPrefix) (window : List ℕ) → 2 ≤ k → k < m → IsLonger k m p place window →
+    p.middle * (m - k + 1) + (place - below p.second_gap place) < length (windows k m)
+middle_within k m place p window some short is =
+    let free : m - (k - 1) ≡ m - k + 1 = omega (arith, some, short) in
+    let middle = rw free at (grown k m place p window some is).middle in
+    slice_get_within (windows k m) (p.middle * (m - k + 1) + (place - below p.second_gap place)) (drop 1 window) middle
+
 -- the prefix that has these numbers after it was grown
 pub grown_numbers :
     (k m place : ℕ) (p q : RunPrefix) (window : List ℕ) → 2 ≤ k → IsLonger k m p place window

@@ -2,34 +2,22 @@ use Rattle.std.proofs.Common.{◌≡◌, ◌+◌, ◌-◌, ◌*◌, drop, arith}
 use Rattle.std.proofs.lemmas.Option.{slice_get_within}
 use Rattle.win_index.specs.Windows.{windows}
 use Rattle.win_index.proofs.Numbers.{length-windows}
-use Rattle.win_index.proofs.RunPrefixNumbers.{grown, grown_numbers, below}
+use Rattle.win_index.proofs.RunPrefixNumbers.{grown, grown_numbers, middle_within}
 use Rattle.win_index.proofs.Sizes.{falling_rises}
 use Rattle.win_index.proofs.prefixes.Prefixes.longer.Goals as goal
 
 pub overflow_add-result-2 : goal.overflow_add-result-2
 overflow_add-result-2 c =
     let lists = c.args.self in
-    let prefix = c.args.prefix in
-    let free : lists.ids - (lists.len - 1) ≡ lists.ids - lists.len + 1 = omega (arith, lists.some, lists.short) in
-    let middle =
-    rw free at (grown lists.len lists.ids c.args.place prefix c.requires.0 lists.some c.requires.1).middle in
-    let inside =
-    slice_get_within (windows lists.len lists.ids)
-    (prefix.middle * (lists.ids - lists.len + 1) + (c.args.place - below prefix.second_gap c.args.place))
-    (drop 1 c.requires.0) middle in
+    let inside = middle_within lists.len lists.ids c.args.place c.args.prefix c.requires.0 lists.some lists.short
+    c.requires.1 in
     omega (arith, inside, length-windows lists.len lists.ids, lists.few, c.one_if_below.ensures.value)
 
 pub overflow_mul-result : goal.overflow_mul-result
 overflow_mul-result c =
     let lists = c.args.self in
-    let prefix = c.args.prefix in
-    let free : lists.ids - (lists.len - 1) ≡ lists.ids - lists.len + 1 = omega (arith, lists.some, lists.short) in
-    let middle =
-    rw free at (grown lists.len lists.ids c.args.place prefix c.requires.0 lists.some c.requires.1).middle in
-    let inside =
-    slice_get_within (windows lists.len lists.ids)
-    (prefix.middle * (lists.ids - lists.len + 1) + (c.args.place - below prefix.second_gap c.args.place))
-    (drop 1 c.requires.0) middle in
+    let inside = middle_within lists.len lists.ids c.args.place c.args.prefix c.requires.0 lists.some lists.short
+    c.requires.1 in
     omega (arith, inside, length-windows lists.len lists.ids, lists.few)
 
 pub overflow_add-result-4 : goal.overflow_add-result-4
