@@ -59,16 +59,30 @@ module _ (readable : ReadTextsAreReadable) (stops : ReadingStopsAtFirstFault) (n
       let k = met.0 in
       let offset = met.1 in (
         refuse (report.text_fault_line k offset) Refused (of_text k offset),
-        text_refused (record { kind = k; offset = offset; none = λ p reads. no_fault input p k offset reads met.2; fault = met.2; says = (refl, refl, refl) }),
+        text_refused (record {
+          kind = k;
+          offset = offset;
+          none = λ p reads. no_fault input p k offset reads met.2;
+          fault = met.2;
+          says = (refl, refl, refl);
+        }),
       )
 
-  on_program : (m : ℕ) (answer : ProgramTree → Report → Type 0) → ((p : ProgramTree) → Some-report (answer p)) → (input : List ℕ) → TextAnswer input
+  on_program : (m : ℕ) (answer : ProgramTree → Report → Type 0)
+      → ((p : ProgramTree) → Some-report (answer p)) → (input : List ℕ) → TextAnswer input
       → Some-report (IsProgramReport m answer input)
   on_program m answer each input (inr met) =
       let k = met.0 in
       let offset = met.1 in (
         refuse (report.text_fault_line k offset) Refused (of_text k offset),
-        program_refused (text_fault (record { kind = k; offset = offset; none = λ p reads. no_fault input p k offset reads met.2; fault = met.2; says = (refl, refl, refl) })),
+        program_refused (text_fault
+            (record {
+              kind = k;
+              offset = offset;
+              none = λ p reads. no_fault input p k offset reads met.2;
+              fault = met.2;
+              says = (refl, refl, refl);
+            })),
       )
   on_program m answer each input (inl read) = go (program_answer m read.0)
     where
@@ -79,34 +93,49 @@ module _ (readable : ReadTextsAreReadable) (stops : ReadingStopsAtFirstFault) (n
         program_refused (check_fault read.0 met.0 read.1 met.1 (refl, refl, refl)),
       )
 
-  on_list : (m t : ℕ) (x : List ℕ) (said : Report → Type 0) → Some-report said → RingAnswer m t x → Some-report (IsAnswerOnRing m t x said)
+  on_list : (m t : ℕ) (x : List ℕ) (said : Report → Type 0) → Some-report said → RingAnswer m t x →
+      Some-report (IsAnswerOnRing m t x said)
   on_list m t x said some (inl ring) = (some.0, on_ring ring some.1)
-  on_list m t x said some (inr met) =
-      (refuse (report.ring_fault_line met.0) RingRefused (of_ring m t x met.0), ring_fault met.0 met.1 (refl, refl, refl))
+  on_list m t x said some (inr met) = (
+    refuse (report.ring_fault_line met.0) RingRefused (of_ring m t x met.0),
+    ring_fault met.0 met.1 (refl, refl, refl),
+  )
 
-  on_run : (p : ProgramTree) (x : List ℕ) (segments : ℕ) → IsSegmentCount segments (length x) ⊎ (¬ IsSegmentCount segments (length x))
+  on_run : (p : ProgramTree) (x : List ℕ) (segments : ℕ)
+      → IsSegmentCount segments (length x) ⊎ (¬ IsSegmentCount segments (length x))
       → Some-report (IsRunAnswer p x segments)
-  on_run p x segments (inl within) = let said = say (line (numbers_text (channels_of p x) ∷ [])) Done in (said.0, ran within said.1)
+  on_run p x segments (inl within) = let said = say (line (numbers_text (channels_of p x) ∷ [])) Done in
+      (said.0, ran within said.1)
   on_run p x segments (inr out) =
       (refuse report.segments_fault_line Words (of_segments segments (length x)), out_of_range out (refl, refl, refl))
 
-  on_place : (b : Base) (p : ProgramTree) (x : List ℕ) (place : ℕ) → (place < length x) ⊎ (length x ≤ place) → Some-report (IsExplainAnswer b p x place)
+  on_place : (b : Base) (p : ProgramTree) (x : List ℕ) (place : ℕ) →
+      (place < length x) ⊎ (length x ≤ place) → Some-report (IsExplainAnswer b p x place)
   on_place b p x place (inl within) = let said = say (explanation b p x place) Done in (said.0, explained within said.1)
-  on_place b p x place (inr beyond) =
-      (refuse (report.place_fault_line place) RingRefused (of_place place (length x)), no_place beyond (refl, refl, refl))
+  on_place b p x place (inr beyond) = (
+    refuse (report.place_fault_line place) RingRefused (of_place place (length x)),
+    no_place beyond (refl, refl, refl),
+  )
 
   on_judgement : (t : ChannelTable) (s : Separation) → JudgeAnswer t s → Some-report (IsJudgement t s)
   on_judgement t s (apart is) =
-      let count = length (tuples t s) in
-      (record { bytes = report.good_line count; status = Done; cause = report.yes_cause t s count }, good is (refl, refl, refl))
-  on_judgement t s (not_apart ring places channels is) =
-      (refuse (report.no_line s ring places channels) No (of_no t.rounds ring places channels), bad ring places channels is (refl, refl, refl))
+      let count = length (tuples t s) in (
+        record { bytes = report.good_line count; status = Done; cause = report.yes_cause t s count },
+        good is (refl, refl, refl),
+      )
+  on_judgement t s (not_apart ring places channels is) = (
+    refuse (report.no_line s ring places channels) No (of_no t.rounds ring places channels),
+    bad ring places channels is (refl, refl, refl),
+  )
 
-  on_table : (answer : ChannelTable → Separation → Report → Type 0) → ((t : ChannelTable) (s : Separation) → Some-report (answer t s)) → (input : List ℕ)
+  on_table : (answer : ChannelTable → Separation → Report → Type 0)
+      → ((t : ChannelTable) (s : Separation) → Some-report (answer t s)) → (input : List ℕ)
       → TableAnswer input → Some-report (IsTableReport answer input)
   on_table answer each input (is_text t s told) = let said = each t s in (said.0, of_table t s told said.1)
-  on_table answer each input (has_fault f known is) =
-      (refuse (report.table_fault_line f) Refused (of_table_text f), table_refused (record { what = f; known = known; fault = is; says = (refl, refl, refl) }))
+  on_table answer each input (has_fault f known is) = (
+    refuse (report.table_fault_line f) Refused (of_table_text f),
+    table_refused (record { what = f; known = known; fault = is; says = (refl, refl, refl) }),
+  )
 
   refusal : (p : Problem) (met : (f : ProblemFault) × IsProblemFault p f) → Some-report (formulas.IsFormulaRefusal p)
   refusal p met = (
@@ -122,10 +151,13 @@ module _ (readable : ReadTextsAreReadable) (stops : ReadingStopsAtFirstFault) (n
   on_refutation p input (inr met) = let refused = refusal p met in (refused.0, not_asked refused.1)
   on_refutation p input (inl has) = go (verdict p input)
     where
-      go : IsRefutation p input ⊎ ((f : RefuteError) × (f ≢ refute.OutOfMemory) × IsFault p input f) → Some-report (IsRefuteReport p input)
+      go : IsRefutation p input ⊎ ((f : RefuteError) × (f ≢ refute.OutOfMemory) × IsFault p input f) →
+          Some-report (IsRefuteReport p input)
       go (inl is) = let said = say (formulas.refuted_line p) Done in (said.0, refuted has is said.1)
-      go (inr met) =
-          (refuse (formulas.refutation_fault_line met.0) Refused (of_refutation met.0), not_refuted has met.0 met.1 met.2 (refl, refl, refl))
+      go (inr met) = (
+        refuse (formulas.refutation_fault_line met.0) Refused (of_refutation met.0),
+        not_refuted has met.0 met.1 met.2 (refl, refl, refl),
+      )
 
   pub each_task_has_a_report : EachTaskHasAReport
   each_task_has_a_report task input = go task
@@ -136,23 +168,29 @@ module _ (readable : ReadTextsAreReadable) (stops : ReadingStopsAtFirstFault) (n
       go : (task : Task) → HasReport task input
       go (Check m) = on_program m _ (λ p. say (report.accepted_line m p) Done) input text
       go Print = on_print input text
-      go (Table m workers near far) = on_program m _ (λ p. say (table_text (table_of p m) (record { near = near; far = far })) Done) input text
+      go (Table m workers near far) =
+          on_program m _ (λ p. say (table_text (table_of p m) (record { near = near; far = far })) Done) input text
       go (Judge m workers near far) =
           let s : Separation = record { near = near; far = far } in
           on_program m _ (λ p. on_judgement (table_of p m) s (judged (table_of p m) s)) input text
       go (Run m ring segments) =
           let x = ring.items in
-          on_program m _ (λ p. on_list m (length p.steps) x _ (on_run p x segments (segments_answer segments (length x))) (ring_answer m (length p.steps) x)) input text
+          on_program m _ (λ p. on_list m (length p.steps) x _
+          (on_run p x segments (segments_answer segments (length x))) (ring_answer m (length p.steps) x)) input text
       go (Trace m ring base) =
           let x = ring.items in
-          on_program m _ (λ p. on_list m (length p.steps) x _ (say (trace_lines base p x) Done) (ring_answer m (length p.steps) x)) input text
+          on_program m _ (λ p. on_list m (length p.steps) x _ (say (trace_lines base p x) Done)
+          (ring_answer m (length p.steps) x)) input text
       go (Explain m ring place base) =
           let x = ring.items in
-          on_program m _ (λ p. on_list m (length p.steps) x _ (on_place base p x place (cases_lt place (length x))) (ring_answer m (length p.steps) x)) input text
+          on_program m _ (λ p. on_list m (length p.steps) x _ (on_place base p x place (cases_lt place (length x)))
+          (ring_answer m (length p.steps) x)) input text
       go (Plan m ring workers) =
           let x = ring.items in
-          on_program m _ (λ p. on_list m (length p.steps) x _ (say (report.place_lines p x) Done) (ring_answer m (length p.steps) x)) input text
+          on_program m _ (λ p. on_list m (length p.steps) x _ (say (report.place_lines p x) Done)
+          (ring_answer m (length p.steps) x)) input text
       go Audit = on_table IsJudgement (λ t s. on_judgement t s (judged t s)) input (table_answer input)
       go Migrate = on_table IsTableText (λ t s. say (table_text t s) Done) input (table_answer input)
       go (Formula m t channels near far) = let p = problem m t channels near far in on_formula p (formula_answer p)
-      go (Refute m t channels near far) = let p = problem m t channels near far in on_refutation p input (formula_answer p)
+      go (Refute m t channels near far) = let p = problem m t channels near far in
+          on_refutation p input (formula_answer p)

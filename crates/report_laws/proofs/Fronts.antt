@@ -35,12 +35,15 @@ find_byte b (c ∷ cs) = go (cases_eq c b)
 pub byte : (b : ℕ) → IsPart (λ rest. b ∷ rest)
 byte b = record { find = find_byte b; once = λ x y is. ap (λ (l : List ℕ). drop 1 l) is }
 
-find_both : (part other : List ℕ → List ℕ) → IsPart part → IsPart other → (text : List ℕ) → Decided (Follows (λ rest. part (other rest)) text)
+find_both : (part other : List ℕ → List ℕ) → IsPart part → IsPart other → (text : List ℕ) →
+    Decided (Follows (λ rest. part (other rest)) text)
 find_both part other first second text = go (first.find text)
   where
-    next : (met : Follows part text) → Decided (Follows other met.rest) → Decided (Follows (λ rest. part (other rest)) text)
+    next : (met : Follows part text) → Decided (Follows other met.rest) →
+        Decided (Follows (λ rest. part (other rest)) text)
     next met (inl more) = inl (record { rest = more.rest; is = met.is ∙ ap part more.is })
-    next met (inr none) = inr (λ all. none (record { rest = all.rest; is = first.once met.rest (other all.rest) (sym met.is ∙ all.is) }))
+    next met (inr none) =
+        inr (λ all. none (record { rest = all.rest; is = first.once met.rest (other all.rest) (sym met.is ∙ all.is) }))
 
     go : Decided (Follows part text) → Decided (Follows (λ rest. part (other rest)) text)
     go (inl met) = next met (second.find met.rest)
@@ -102,9 +105,12 @@ lists bound zero P decide = go (decide [])
     go : Decided (P []) → Decided (Lists bound zero P)
     go (inl is) = inl (record { list = []; size = refl; fit = All-nil (λ n. n < bound); is = is })
     go (inr none) = inr (λ some. none (only some.list some.size some.is))
-lists bound (suc w) P decide = go (below bound (λ n. Lists bound w (λ l. P (n ∷ l))) (λ n. lists bound w (λ l. P (n ∷ l)) (λ l. decide (n ∷ l))))
+lists bound (suc w) P decide =
+    go (below bound (λ n. Lists bound w (λ l. P (n ∷ l)))
+    (λ n. lists bound w (λ l. P (n ∷ l)) (λ l. decide (n ∷ l))))
   where
-    split : ¬ Below bound (λ n. Lists bound w (λ l. P (n ∷ l))) → (l : List ℕ) → length l ≡ suc w → All (λ n. n < bound) l → P l → ⊥
+    split : ¬ Below bound (λ n. Lists bound w (λ l. P (n ∷ l))) → (l : List ℕ) → length l ≡ suc w →
+        All (λ n. n < bound) l → P l → ⊥
     split none [] size fit is = omega (arith, size)
     split none (n ∷ ns) size fit is = none (record {
       number = n;

@@ -23,18 +23,34 @@ pub record IsFirst (P : List ℕ → Type 0) (xs : List (List ℕ)) : Type 0 whe
   pub before : (k : ℕ) (y : List ℕ) → k < number → slice_get xs k ≡ Some y → ¬ P y
 
 -- none of these is so, or there is a first one
-first_of : (P : List ℕ → Type 0) → ((x : List ℕ) → P x ⊎ (¬ P x)) → (xs : List (List ℕ)) → All (λ x. ¬ P x) xs ⊎ IsFirst P xs
+first_of : (P : List ℕ → Type 0) → ((x : List ℕ) → P x ⊎ (¬ P x)) → (xs : List (List ℕ)) →
+    All (λ x. ¬ P x) xs ⊎ IsFirst P xs
 first_of P decide [] = inl (All-nil (λ (x : List ℕ). ¬ P x))
 first_of P decide (x ∷ xs) = go (decide x) (first_of P decide xs)
   where
-    earlier : ¬ P x → (first : IsFirst P xs) → (k : ℕ) (y : List ℕ) → k < suc first.number → slice_get (x ∷ xs) k ≡ Some y → ¬ P y
+    earlier : ¬ P x → (first : IsFirst P xs) → (k : ℕ) (y : List ℕ) → k < suc first.number →
+        slice_get (x ∷ xs) k ≡ Some y → ¬ P y
     earlier not first zero y less item = λ is. not (subst P (sym (same_Some x y item)) is)
     earlier not first (suc k) y less item = first.before k y (omega (arith, less)) item
 
     go : P x ⊎ (¬ P x) → All (λ x. ¬ P x) xs ⊎ IsFirst P xs → All (λ x. ¬ P x) (x ∷ xs) ⊎ IsFirst P (x ∷ xs)
-    go (inl is) rest = inr (record { number = 0; list = x; item = refl; is = is; before = λ k y less item. absurd (omega (arith, less)) })
+    go (inl is) rest =
+        inr (record {
+          number = 0;
+          list = x;
+          item = refl;
+          is = is;
+          before = λ k y less item. absurd (omega (arith, less));
+        })
     go (inr not) (inl all) = inl (All-cons (λ (x : List ℕ). ¬ P x) x xs not all)
-    go (inr not) (inr first) = inr (record { number = suc first.number; list = first.list; item = first.item; is = first.is; before = earlier not first })
+    go (inr not) (inr first) =
+        inr (record {
+          number = suc first.number;
+          list = first.list;
+          item = first.item;
+          is = first.is;
+          before = earlier not first;
+        })
 
 close_or_not : (d : ℕ) (o p : Option ℕ) → AreClose d o p ⊎ (¬ AreClose d o p)
 close_or_not d (Some a) (Some b) = go (cases_lt (abs_diff a b) d)
@@ -52,8 +68,10 @@ bad_or_not t s tuple = go (close_or_not s.near (at 0) (at 1)) (close_or_not s.fa
     at : ℕ → Option ℕ
     at step = channel_of t (part_at t.rounds step tuple)
 
-    go : AreClose s.near (at 0) (at 1) ⊎ (¬ AreClose s.near (at 0) (at 1)) → AreClose s.far (at 0) (at 2) ⊎ (¬ AreClose s.far (at 0) (at 2))
-        → (AreClose s.near (at 0) (at 1) ⊎ AreClose s.far (at 0) (at 2)) ⊎ (¬ (AreClose s.near (at 0) (at 1) ⊎ AreClose s.far (at 0) (at 2)))
+    go : AreClose s.near (at 0) (at 1) ⊎ (¬ AreClose s.near (at 0) (at 1))
+        → AreClose s.far (at 0) (at 2) ⊎ (¬ AreClose s.far (at 0) (at 2))
+        → (AreClose s.near (at 0) (at 1) ⊎ AreClose s.far (at 0) (at 2)) ⊎
+        (¬ (AreClose s.near (at 0) (at 1) ⊎ AreClose s.far (at 0) (at 2)))
     go (inl near) far = inl (inl near)
     go (inr apart) (inl far) = inl (inr far)
     go (inr apart) (inr wide) = inr neither
@@ -73,7 +91,8 @@ pub data JudgeAnswer (t : ChannelTable) (s : Separation) : Type 0 where
   apart : IsApartEverywhere t s → JudgeAnswer t s
   not_apart : (ring : List ℕ) (places channels : ℕ × ℕ) → IsWitness t s ring places channels → JudgeAnswer t s
 
-module _ (suffice : TuplesSuffice) (bad_ring : BadTuplesAreRings) (number_at : NumberOfWindow) (have_numbers : WindowsHaveNumbers) where
+module _ (suffice : TuplesSuffice) (bad_ring : BadTuplesAreRings) (number_at : NumberOfWindow)
+    (have_numbers : WindowsHaveNumbers) where
   witness : (t : ChannelTable) (s : Separation) → IsFirst (IsBad t s) (tuples t s) → JudgeAnswer t s
   witness t s first = go (close_or_not s.near (at t.rounds) (at (t.rounds + 1))) broken
     where
@@ -90,10 +109,16 @@ module _ (suffice : TuplesSuffice) (bad_ring : BadTuplesAreRings) (number_at : N
       broken = (bad_ring t s ring is_window first.is).1
 
       least : IsLeastBad t s 0 first.number ring
-      least = record { from_low = omega arith; item = first.item; bad = first.is; least = λ k y low less item. first.before k y less item }
+      least = record {
+        from_low = omega arith;
+        item = first.item;
+        bad = first.is;
+        least = λ k y low less item. first.before k y less item;
+      }
 
       -- the two places are so many steps apart
-      broken_at : (distance step : ℕ) → AreClose distance (at t.rounds) (at (t.rounds + step)) → IsStep t s ring step → JudgeAnswer t s
+      broken_at : (distance step : ℕ) → AreClose distance (at t.rounds) (at (t.rounds + step)) →
+          IsStep t s ring step → JudgeAnswer t s
       broken_at distance step close is =
           let told = channels_of_close distance (at t.rounds) (at (t.rounds + step)) close in
           not_apart ring (t.rounds, t.rounds + step) (told.0, told.1) (record {
@@ -108,7 +133,8 @@ module _ (suffice : TuplesSuffice) (bad_ring : BadTuplesAreRings) (number_at : N
           })
 
       go : AreClose s.near (at t.rounds) (at (t.rounds + 1)) ⊎ (¬ AreClose s.near (at t.rounds) (at (t.rounds + 1)))
-          → AreClose s.near (at t.rounds) (at (t.rounds + 1)) ⊎ AreClose s.far (at t.rounds) (at (t.rounds + 2)) → JudgeAnswer t s
+          → AreClose s.near (at t.rounds) (at (t.rounds + 1)) ⊎ AreClose s.far (at t.rounds) (at (t.rounds + 2))
+          → JudgeAnswer t s
       go (inl near) some = broken_at s.near 1 near (inl (near, refl))
       go (inr wide) (inl near) = absurd (wide near)
       go (inr wide) (inr far) = broken_at s.far 2 far (inr (wide, refl))

@@ -33,39 +33,56 @@ use Rattle.plan_print.specs.TaskReport.{problem, IsReport}
 use Rattle.report_laws.specs.Laws.{OneReport}
 
 -- two reports with the same bytes, the same status and the same cause are equal
-told_once : (bytes other : List ℕ) (status : Status) (cause why : Option Reason) (r s : Report) → bytes ≡ other → cause ≡ why
-    → (r.bytes ≡ bytes) × (r.status ≡ status) × (r.cause ≡ cause) → (s.bytes ≡ other) × (s.status ≡ status) × (s.cause ≡ why) → r ≡ s
+told_once : (bytes other : List ℕ) (status : Status) (cause why : Option Reason) (r s : Report)
+    → bytes ≡ other → cause ≡ why
+    → (r.bytes ≡ bytes) × (r.status ≡ status) × (r.cause ≡ cause)
+    → (s.bytes ≡ other) × (s.status ≡ status) × (s.cause ≡ why) → r ≡ s
 told_once bytes other status cause why r s same alike says says' =
-    λ i. record { bytes = (says.0 ∙ same ∙ sym says'.0) i; status = (says.1 ∙ sym says'.1) i; cause = (says.2 ∙ alike ∙ sym says'.2) i }
+    λ i. record {
+      bytes = (says.0 ∙ same ∙ sym says'.0) i;
+      status = (says.1 ∙ sym says'.1) i;
+      cause = (says.2 ∙ alike ∙ sym says'.2) i;
+    }
 
-said_once : (bytes other : List ℕ) (status : Status) (r s : Report) → bytes ≡ other → Says bytes status r → Says other status s → r ≡ s
+said_once : (bytes other : List ℕ) (status : Status) (r s : Report) → bytes ≡ other → Says bytes status r →
+    Says other status s → r ≡ s
 said_once bytes other status r s same says says' = told_once bytes other status _ _ r s same refl says says'
 
-refused_once : (bytes other : List ℕ) (status : Status) (cause why : Reason) (r s : Report) → bytes ≡ other → cause ≡ why
+refused_once : (bytes other : List ℕ) (status : Status) (cause why : Reason) (r s : Report)
+    → bytes ≡ other → cause ≡ why
     → Refuses bytes status cause r → Refuses other status why s → r ≡ s
-refused_once bytes other status cause why r s same alike says says' = told_once bytes other status _ _ r s same (ap (λ c. Some c) alike) says says'
+refused_once bytes other status cause why r s same alike says says' =
+    told_once bytes other status _ _ r s same (ap (λ c. Some c) alike) says says'
 
 one_judgement : OneWitness → ApartTablesHaveNoWitness → (t : ChannelTable) (d : Separation) (r s : Report)
     → IsJudgement t d r → IsJudgement t d s → r ≡ s
 one_judgement one no_witness t d r s (good is says) (good is' says') = told_once _ _ _ _ _ r s refl refl says says'
-one_judgement one no_witness t d r s (good is says) (bad ring i c witness says') = absurd (no_witness t d ring i c is witness)
-one_judgement one no_witness t d r s (bad ring i c witness says) (good is says') = absurd (no_witness t d ring i c is witness)
+one_judgement one no_witness t d r s (good is says) (bad ring i c witness says') =
+    absurd (no_witness t d ring i c is witness)
+one_judgement one no_witness t d r s (bad ring i c witness says) (good is says') =
+    absurd (no_witness t d ring i c is witness)
 one_judgement one no_witness t d r s (bad ring i c witness says) (bad other j e witness' says') =
     let same = one t d ring other i j c e witness witness' in
-    refused_once _ _ _ _ _ r s (λ k. report.no_line d (same.0 k) (same.1 k) (same.2 k)) (λ k. of_no t.rounds (same.0 k) (same.1 k) (same.2 k)) says says'
+    refused_once _ _ _ _ _ r s (λ k. report.no_line d (same.0 k) (same.1 k) (same.2 k))
+    (λ k. of_no t.rounds (same.0 k) (same.1 k) (same.2 k)) says says'
 
 -- there is one report on a list of identifiers, if there is one on a ring
-one_on_ring : OneRingFault → RingsHaveNoFault → (m t : ℕ) (x : List ℕ) (said : Report → Type 0) → ((r s : Report) → said r → said s → r ≡ s)
+one_on_ring : OneRingFault → RingsHaveNoFault → (m t : ℕ) (x : List ℕ) (said : Report → Type 0)
+    → ((r s : Report) → said r → said s → r ≡ s)
     → (r s : Report) → IsAnswerOnRing m t x said r → IsAnswerOnRing m t x said s → r ≡ s
 one_on_ring one no_fault m t x said once r s (ring_fault f first says) (ring_fault g first' says') =
     let same = one m t x f g first first' in
     refused_once _ _ _ _ _ r s (ap report.ring_fault_line same) (ap (of_ring m t x) same) says says'
-one_on_ring one no_fault m t x said once r s (ring_fault f first says) (on_ring ring says') = absurd (no_fault m t x f ring first)
-one_on_ring one no_fault m t x said once r s (on_ring ring says) (ring_fault f first says') = absurd (no_fault m t x f ring first)
+one_on_ring one no_fault m t x said once r s (ring_fault f first says) (on_ring ring says') =
+    absurd (no_fault m t x f ring first)
+one_on_ring one no_fault m t x said once r s (on_ring ring says) (ring_fault f first says') =
+    absurd (no_fault m t x f ring first)
 one_on_ring one no_fault m t x said once r s (on_ring ring says) (on_ring ring' says') = once r s says says'
 
-one_run : (p : ProgramTree) (x : List ℕ) (segments : ℕ) (r s : Report) → IsRunAnswer p x segments r → IsRunAnswer p x segments s → r ≡ s
-one_run p x segments r s (out_of_range out says) (out_of_range out' says') = refused_once _ _ _ _ _ r s refl refl says says'
+one_run : (p : ProgramTree) (x : List ℕ) (segments : ℕ) (r s : Report) → IsRunAnswer p x segments r →
+    IsRunAnswer p x segments s → r ≡ s
+one_run p x segments r s (out_of_range out says) (out_of_range out' says') =
+    refused_once _ _ _ _ _ r s refl refl says says'
 one_run p x segments r s (out_of_range out says) (ran within says') = absurd (out within)
 one_run p x segments r s (ran within says) (out_of_range out says') = absurd (out within)
 one_run p x segments r s (ran within says) (ran within' says') = said_once _ _ _ r s refl says says'
@@ -73,24 +90,34 @@ one_run p x segments r s (ran within says) (ran within' says') = said_once _ _ _
 no_such_place : (x : List ℕ) (place : ℕ) → length x ≤ place → place < length x → ⊥
 no_such_place x place beyond within = omega arith
 
-one_explanation : (b : Base) (p : ProgramTree) (x : List ℕ) (place : ℕ) (r s : Report) → IsExplainAnswer b p x place r → IsExplainAnswer b p x place s → r ≡ s
-one_explanation b p x place r s (no_place beyond says) (no_place beyond' says') = refused_once _ _ _ _ _ r s refl refl says says'
-one_explanation b p x place r s (no_place beyond says) (explained within says') = absurd (no_such_place x place beyond within)
-one_explanation b p x place r s (explained within says) (no_place beyond says') = absurd (no_such_place x place beyond within)
+one_explanation : (b : Base) (p : ProgramTree) (x : List ℕ) (place : ℕ) (r s : Report) →
+    IsExplainAnswer b p x place r → IsExplainAnswer b p x place s → r ≡ s
+one_explanation b p x place r s (no_place beyond says) (no_place beyond' says') =
+    refused_once _ _ _ _ _ r s refl refl says says'
+one_explanation b p x place r s (no_place beyond says) (explained within says') =
+    absurd (no_such_place x place beyond within)
+one_explanation b p x place r s (explained within says) (no_place beyond says') =
+    absurd (no_such_place x place beyond within)
 one_explanation b p x place r s (explained within says) (explained within' says') = said_once _ _ _ r s refl says says'
 
 one_table_text : (t : ChannelTable) (d : Separation) (r s : Report) → IsTableText t d r → IsTableText t d s → r ≡ s
 one_table_text t d r s says says' = said_once _ _ _ r s refl says says'
 
-one_text_refusal : OneTextFault → (input : List ℕ) (r s : Report) → IsTextRefusal input r → IsTextRefusal input s → r ≡ s
+one_text_refusal : OneTextFault → (input : List ℕ) (r s : Report) → IsTextRefusal input r →
+    IsTextRefusal input s → r ≡ s
 one_text_refusal one_text_fault input r s first second =
     let same = one_text_fault input first.kind second.kind first.offset second.offset first.fault second.fault in
-    refused_once _ _ _ _ _ r s (λ n. report.text_fault_line (same.0 n) (same.1 n)) (λ n. of_text (same.0 n) (same.1 n)) first.says second.says
+    refused_once _ _ _ _ _ r s (λ n. report.text_fault_line (same.0 n) (same.1 n))
+    (λ n. of_text (same.0 n) (same.1 n)) first.says second.says
 
-one_print : OneReading → OneTextFault → (input : List ℕ) (r s : Report) → IsPrintReport input r → IsPrintReport input s → r ≡ s
-one_print one_reading one_text_fault input r s (text_refused first) (text_refused second) = one_text_refusal one_text_fault input r s first second
-one_print one_reading one_text_fault input r s (text_refused first) (in_print p reads says) = absurd (first.none p reads)
-one_print one_reading one_text_fault input r s (in_print p reads says) (text_refused second) = absurd (second.none p reads)
+one_print : OneReading → OneTextFault → (input : List ℕ) (r s : Report) → IsPrintReport input r →
+    IsPrintReport input s → r ≡ s
+one_print one_reading one_text_fault input r s (text_refused first) (text_refused second) =
+    one_text_refusal one_text_fault input r s first second
+one_print one_reading one_text_fault input r s (text_refused first) (in_print p reads says) =
+    absurd (first.none p reads)
+one_print one_reading one_text_fault input r s (in_print p reads says) (text_refused second) =
+    absurd (second.none p reads)
 one_print one_reading one_text_fault input r s (in_print p reads says) (in_print q reads' says') =
     said_once _ _ _ r s (ap printed (one_reading input p q reads reads')) says says'
 
@@ -98,48 +125,61 @@ one_program_refusal : OneTextFault → OneReading → OneRefusal → (m : ℕ) (
     → IsProgramRefusal m input r → IsProgramRefusal m input s → r ≡ s
 one_program_refusal one_text_fault one_reading one_refusal m input r s (text_fault first) (text_fault second) =
     one_text_refusal one_text_fault input r s first second
-one_program_refusal one_text_fault one_reading one_refusal m input r s (text_fault first) (check_fault p f reads refused says') =
+one_program_refusal one_text_fault one_reading one_refusal m input r s (text_fault first)
+    (check_fault p f reads refused says') =
     absurd (first.none p reads)
-one_program_refusal one_text_fault one_reading one_refusal m input r s (check_fault p f reads refused says) (text_fault second) =
+one_program_refusal one_text_fault one_reading one_refusal m input r s (check_fault p f reads refused says)
+    (text_fault second) =
     absurd (second.none p reads)
-one_program_refusal one_text_fault one_reading one_refusal m input r s (check_fault p f reads refused says) (check_fault q g reads' refused' says') =
+one_program_refusal one_text_fault one_reading one_refusal m input r s (check_fault p f reads refused says)
+    (check_fault q g reads' refused' says') =
     let program = one_reading input p q reads reads' in
     let refused'' = subst (λ h. IsFirstRefusal m h g) (sym program) refused' in
     let same = one_refusal m p f g refused refused'' in
     refused_once _ _ _ _ _ r s (ap report.check_fault_line same) (λ n. of_program (program n) m (same n)) says says'
 
 -- an accepted program is not refused
-pub accepted_or_refused : OneReading → AcceptedProgramsHaveNoRefusal → (m : ℕ) (input : List ℕ) (r : Report) (p : ProgramTree)
+pub accepted_or_refused : OneReading → AcceptedProgramsHaveNoRefusal
+    → (m : ℕ) (input : List ℕ) (r : Report) (p : ProgramTree)
     → Reads input p → IsAccepted m p → IsProgramRefusal m input r → ⊥
 accepted_or_refused one_reading no_refusal m input r p reads accepted (text_fault refused) = refused.none p reads
 accepted_or_refused one_reading no_refusal m input r p reads accepted (check_fault q f reads' refused says) =
     no_refusal m q f (subst (IsAccepted m) (one_reading input p q reads reads') accepted) refused
 
 -- there is one report on a program text, if there is one on each program
-one_program_report : OneReading → OneTextFault → OneRefusal → AcceptedProgramsHaveNoRefusal → (m : ℕ) (answer : ProgramTree → Report → Type 0)
+one_program_report : OneReading → OneTextFault → OneRefusal → AcceptedProgramsHaveNoRefusal
+    → (m : ℕ) (answer : ProgramTree → Report → Type 0)
     → ((p : ProgramTree) (r s : Report) → answer p r → answer p s → r ≡ s)
     → (input : List ℕ) (r s : Report) → IsProgramReport m answer input r → IsProgramReport m answer input s → r ≡ s
-one_program_report one_reading one_text_fault one_refusal no_refusal m answer once input r s (program_refused first) (program_refused second) =
+one_program_report one_reading one_text_fault one_refusal no_refusal m answer once input r s (program_refused first)
+    (program_refused second) =
     one_program_refusal one_text_fault one_reading one_refusal m input r s first second
-one_program_report one_reading one_text_fault one_refusal no_refusal m answer once input r s (program_refused first) (answered p reads accepted said) =
+one_program_report one_reading one_text_fault one_refusal no_refusal m answer once input r s (program_refused first)
+    (answered p reads accepted said) =
     absurd (accepted_or_refused one_reading no_refusal m input r p reads accepted first)
-one_program_report one_reading one_text_fault one_refusal no_refusal m answer once input r s (answered p reads accepted said) (program_refused second) =
+one_program_report one_reading one_text_fault one_refusal no_refusal m answer once input r s
+    (answered p reads accepted said) (program_refused second) =
     absurd (accepted_or_refused one_reading no_refusal m input s p reads accepted second)
-one_program_report one_reading one_text_fault one_refusal no_refusal m answer once input r s (answered p reads accepted said) (answered q reads' accepted' said') =
+one_program_report one_reading one_text_fault one_refusal no_refusal m answer once input r s
+    (answered p reads accepted said) (answered q reads' accepted' said') =
     once p r s said (subst (λ h. answer h s) (one_reading input q p reads' reads) said')
 
-one_table_refusal : OneTableFault → (input : List ℕ) (r s : Report) → IsTableRefusal input r → IsTableRefusal input s → r ≡ s
+one_table_refusal : OneTableFault → (input : List ℕ) (r s : Report) → IsTableRefusal input r →
+    IsTableRefusal input s → r ≡ s
 one_table_refusal one_fault input r s first second =
     let same = one_fault input first.what second.what first.known second.known first.fault second.fault in
     refused_once _ _ _ _ _ r s (ap report.table_fault_line same) (ap of_table_text same) first.says second.says
 
 -- a table text is not refused
-told_or_refused : TableTextsAreRead → (input : List ℕ) (r : Report) (t : ChannelTable) (d : Separation) → IsTextOf input t d → IsTableRefusal input r → ⊥
+told_or_refused : TableTextsAreRead → (input : List ℕ) (r : Report) (t : ChannelTable) (d : Separation) →
+    IsTextOf input t d → IsTableRefusal input r → ⊥
 told_or_refused read input r t d told refused =
-    refused.known (read (written told.0 t d) refused.what told.1 (subst (λ x. IsFault x refused.what) told.2 refused.fault))
+    refused.known (read (written told.0 t d) refused.what told.1
+    (subst (λ x. IsFault x refused.what) told.2 refused.fault))
 
 -- a text gives one table and one separation
-one_telling : TableTextsAreApart → (input : List ℕ) (t u : ChannelTable) (d e : Separation) → IsTextOf input t d → IsTextOf input u e → (t ≡ u) × (d ≡ e)
+one_telling : TableTextsAreApart → (input : List ℕ) (t u : ChannelTable) (d e : Separation) →
+    IsTextOf input t d → IsTextOf input u e → (t ≡ u) × (d ≡ e)
 one_telling apart input t u d e told told' =
     let v = written told.0 t d in
     let w = written told'.0 u e in
@@ -147,12 +187,16 @@ one_telling apart input t u d e told told' =
     (ap (λ (x : Written). x.table) same, ap (λ (x : Written). x.separation) same)
 
 -- there is one report on a table text, if there is one on each table and separation
-one_table_report : OneTableFault → TableTextsAreApart → TableTextsAreRead → (answer : ChannelTable → Separation → Report → Type 0)
+one_table_report : OneTableFault → TableTextsAreApart → TableTextsAreRead
+    → (answer : ChannelTable → Separation → Report → Type 0)
     → ((t : ChannelTable) (d : Separation) (r s : Report) → answer t d r → answer t d s → r ≡ s)
     → (input : List ℕ) (r s : Report) → IsTableReport answer input r → IsTableReport answer input s → r ≡ s
-one_table_report one_fault apart read answer once input r s (table_refused first) (table_refused second) = one_table_refusal one_fault input r s first second
-one_table_report one_fault apart read answer once input r s (table_refused first) (of_table t d told said) = absurd (told_or_refused read input r t d told first)
-one_table_report one_fault apart read answer once input r s (of_table t d told said) (table_refused second) = absurd (told_or_refused read input s t d told second)
+one_table_report one_fault apart read answer once input r s (table_refused first) (table_refused second) =
+    one_table_refusal one_fault input r s first second
+one_table_report one_fault apart read answer once input r s (table_refused first) (of_table t d told said) =
+    absurd (told_or_refused read input r t d told first)
+one_table_report one_fault apart read answer once input r s (of_table t d told said) (table_refused second) =
+    absurd (told_or_refused read input s t d told second)
 one_table_report one_fault apart read answer once input r s (of_table t d told said) (of_table u e told' said') =
     let same = one_telling apart input u t e d told' told in
     once t d r s said (subst (λ x. answer t x s) same.1 (subst (λ x. answer x e s) same.0 said'))
@@ -185,33 +229,46 @@ no_problem_fault p TooManyClauses has is = is.1.1 has.limits.few_clauses
 one_formula_refusal : (p : Problem) (r s : Report) → IsFormulaRefusal p r → IsFormulaRefusal p s → r ≡ s
 one_formula_refusal p r s first second =
     let same = one_problem_fault p first.what second.what first.fault second.fault in
-    refused_once _ _ _ _ _ r s (ap formulas.formula_fault_line same) (ap (of_formula p.ids p.rounds) same) first.says second.says
+    refused_once _ _ _ _ _ r s (ap formulas.formula_fault_line same) (ap (of_formula p.ids p.rounds) same)
+    first.says second.says
 
 one_formula_report : (p : Problem) (r s : Report) → IsFormulaReport p r → IsFormulaReport p s → r ≡ s
 one_formula_report p r s (no_formula first) (no_formula second) = one_formula_refusal p r s first second
 one_formula_report p r s (no_formula first) (has_text has says) = absurd (no_problem_fault p first.what has first.fault)
-one_formula_report p r s (has_text has says) (no_formula second) = absurd (no_problem_fault p second.what has second.fault)
+one_formula_report p r s (has_text has says) (no_formula second) =
+    absurd (no_problem_fault p second.what has second.fault)
 one_formula_report p r s (has_text has says) (has_text has' says') = said_once _ _ _ r s refl says says'
 
-one_refute_report : OneRefutationFault → RefutationsAreRight → (p : Problem) (input : List ℕ) (r s : Report) → IsRefuteReport p input r → IsRefuteReport p input s → r ≡ s
+one_refute_report : OneRefutationFault → RefutationsAreRight → (p : Problem) (input : List ℕ) (r s : Report) →
+    IsRefuteReport p input r → IsRefuteReport p input s → r ≡ s
 one_refute_report one right p input r s (not_asked first) (not_asked second) = one_formula_refusal p r s first second
-one_refute_report one right p input r s (not_asked first) (refuted has is says) = absurd (no_problem_fault p first.what has first.fault)
-one_refute_report one right p input r s (not_asked first) (not_refuted has f known is says) = absurd (no_problem_fault p first.what has first.fault)
-one_refute_report one right p input r s (refuted has is says) (not_asked second) = absurd (no_problem_fault p second.what has second.fault)
-one_refute_report one right p input r s (refuted has is says) (refuted has' is' says') = said_once _ _ _ r s refl says says'
-one_refute_report one right p input r s (refuted has is says) (not_refuted has' f known is' says') = absurd (known (right p input f is is'))
-one_refute_report one right p input r s (not_refuted has f known is says) (not_asked second) = absurd (no_problem_fault p second.what has second.fault)
-one_refute_report one right p input r s (not_refuted has f known is says) (refuted has' is' says') = absurd (known (right p input f is' is))
+one_refute_report one right p input r s (not_asked first) (refuted has is says) =
+    absurd (no_problem_fault p first.what has first.fault)
+one_refute_report one right p input r s (not_asked first) (not_refuted has f known is says) =
+    absurd (no_problem_fault p first.what has first.fault)
+one_refute_report one right p input r s (refuted has is says) (not_asked second) =
+    absurd (no_problem_fault p second.what has second.fault)
+one_refute_report one right p input r s (refuted has is says) (refuted has' is' says') =
+    said_once _ _ _ r s refl says says'
+one_refute_report one right p input r s (refuted has is says) (not_refuted has' f known is' says') =
+    absurd (known (right p input f is is'))
+one_refute_report one right p input r s (not_refuted has f known is says) (not_asked second) =
+    absurd (no_problem_fault p second.what has second.fault)
+one_refute_report one right p input r s (not_refuted has f known is says) (refuted has' is' says') =
+    absurd (known (right p input f is' is))
 one_refute_report one right p input r s (not_refuted has f known is says) (not_refuted has' g known' is' says') =
     let same = one p input f g known known' is is' in
     refused_once _ _ _ _ _ r s (ap formulas.refutation_fault_line same) (ap of_refutation same) says says'
 
-pub one_report : OneReading → OneTextFault → OneRefusal → AcceptedProgramsHaveNoRefusal → OneRingFault → RingsHaveNoFault → OneWitness → ApartTablesHaveNoWitness
+pub one_report : OneReading → OneTextFault → OneRefusal → AcceptedProgramsHaveNoRefusal → OneRingFault
+    → RingsHaveNoFault → OneWitness → ApartTablesHaveNoWitness
     → OneTableFault → TableTextsAreApart → TableTextsAreRead → OneRefutationFault → RefutationsAreRight → OneReport
-one_report one_reading one_text_fault one_refusal no_refusal one_fault no_fault one_witness no_witness one_table_fault apart read one_refutation right task =
+one_report one_reading one_text_fault one_refusal no_refusal one_fault no_fault one_witness no_witness one_table_fault
+    apart read one_refutation right task =
     go task
   where
-    of_program : (m : ℕ) (answer : ProgramTree → Report → Type 0) → ((p : ProgramTree) (r s : Report) → answer p r → answer p s → r ≡ s)
+    of_program : (m : ℕ) (answer : ProgramTree → Report → Type 0)
+        → ((p : ProgramTree) (r s : Report) → answer p r → answer p s → r ≡ s)
         → (input : List ℕ) (r s : Report) → IsProgramReport m answer input r → IsProgramReport m answer input s → r ≡ s
     of_program = one_program_report one_reading one_text_fault one_refusal no_refusal
 
@@ -223,10 +280,14 @@ one_report one_reading one_text_fault one_refusal no_refusal one_fault no_fault 
     go Print = one_print one_reading one_text_fault
     go (Table ids workers near far) = of_program ids _ (λ p. one_table_text _ _)
     go (Judge ids workers near far) = of_program ids _ (λ p. judged_once _ _)
-    go (Run ids ring segments) = of_program ids _ (λ p. one_on_ring one_fault no_fault _ _ _ _ (one_run p ring.items segments))
-    go (Trace ids ring base) = of_program ids _ (λ p. one_on_ring one_fault no_fault _ _ _ _ (λ r s. said_once _ _ _ r s refl))
-    go (Explain ids ring place base) = of_program ids _ (λ p. one_on_ring one_fault no_fault _ _ _ _ (one_explanation base p ring.items place))
-    go (Plan ids ring workers) = of_program ids _ (λ p. one_on_ring one_fault no_fault _ _ _ _ (λ r s. said_once _ _ _ r s refl))
+    go (Run ids ring segments) =
+        of_program ids _ (λ p. one_on_ring one_fault no_fault _ _ _ _ (one_run p ring.items segments))
+    go (Trace ids ring base) =
+        of_program ids _ (λ p. one_on_ring one_fault no_fault _ _ _ _ (λ r s. said_once _ _ _ r s refl))
+    go (Explain ids ring place base) =
+        of_program ids _ (λ p. one_on_ring one_fault no_fault _ _ _ _ (one_explanation base p ring.items place))
+    go (Plan ids ring workers) =
+        of_program ids _ (λ p. one_on_ring one_fault no_fault _ _ _ _ (λ r s. said_once _ _ _ r s refl))
     go Audit = one_table_report one_table_fault apart read IsJudgement judged_once
     go Migrate = one_table_report one_table_fault apart read IsTableText one_table_text
     go (Formula m t channels near far) = λ input. one_formula_report (problem m t channels near far)

@@ -30,15 +30,19 @@ ProgramAnswer m p = IsAccepted m p ⊎ ((f : CheckFault) × IsFirstRefusal m p f
 
 of_shape : (m : ℕ) (p : ProgramTree) → IsShape m (length p.steps) → ProgramAnswer m p
 of_shape m p is =
-    go (first_missing_register p) (reads_id_outside_start p) (reads_message_outside_step p) refl refl refl (cases_lt (finish_bound p m) p.channels)
+    go (first_missing_register p) (reads_id_outside_start p) (reads_message_outside_step p) refl refl refl
+    (cases_lt (finish_bound p m) p.channels)
   where
-    go : (o : Option ℕ) (a b : Bool) → first_missing_register p ≡ o → reads_id_outside_start p ≡ a → reads_message_outside_step p ≡ b
+    go : (o : Option ℕ) (a b : Bool) → first_missing_register p ≡ o → reads_id_outside_start p ≡ a
+        → reads_message_outside_step p ≡ b
         → (finish_bound p m < p.channels) ⊎ (p.channels ≤ finish_bound p m) → ProgramAnswer m p
     go (Some j) a b missing id message bound = inr (RegisterOutOfRange j, (is, missing))
     go None true b missing id message bound = inr (IdOutsideStart, (is, missing, id))
     go None false true missing id message bound = inr (MessageOutsideStep, (is, missing, id, message))
-    go None false false missing id message (inl below) = inl (record { shape = is; registers = missing; identifiers = id; messages = message; bound = below })
-    go None false false missing id message (inr over) = inr (ChannelBound (finish_bound p m), (is, missing, id, message, over, refl))
+    go None false false missing id message (inl below) =
+        inl (record { shape = is; registers = missing; identifiers = id; messages = message; bound = below })
+    go None false false missing id message (inr over) =
+        inr (ChannelBound (finish_bound p m), (is, missing, id, message, over, refl))
 
 pub program_answer : (m : ℕ) (p : ProgramTree) → ProgramAnswer m p
 program_answer m p = go (cases_lt m (2 * t + 2)) (cases_lt MAX_IDS m) (cases_lt MAX_WINDOWS count)
@@ -49,11 +53,14 @@ program_answer m p = go (cases_lt m (2 * t + 2)) (cases_lt MAX_IDS m) (cases_lt 
     count : ℕ
     count = length (windows (2 * t + 1) m)
 
-    go : (m < 2 * t + 2) ⊎ (2 * t + 2 ≤ m) → (MAX_IDS < m) ⊎ (m ≤ MAX_IDS) → (MAX_WINDOWS < count) ⊎ (count ≤ MAX_WINDOWS) → ProgramAnswer m p
+    go : (m < 2 * t + 2) ⊎ (2 * t + 2 ≤ m) → (MAX_IDS < m) ⊎ (m ≤ MAX_IDS) →
+        (MAX_WINDOWS < count) ⊎ (count ≤ MAX_WINDOWS) → ProgramAnswer m p
     go (inl less) few windows = inr (IdsOutOfRange, λ has. omega (arith, less, has.enough))
     go (inr enough) (inl more) windows = inr (IdsOutOfRange, λ has. omega (arith, more, has.few))
-    go (inr enough) (inr few) (inl many) = inr (TooManyWindows, (record { enough = enough; few = few }, λ has. omega (arith, many, has)))
-    go (inr enough) (inr few) (inr within) = of_shape m p (record { ids = record { enough = enough; few = few }; few_windows = within })
+    go (inr enough) (inr few) (inl many) =
+        inr (TooManyWindows, (record { enough = enough; few = few }, λ has. omega (arith, many, has)))
+    go (inr enough) (inr few) (inr within) =
+        of_shape m p (record { ids = record { enough = enough; few = few }; few_windows = within })
 
 -- the list is a ring, or has a fault
 abbrev pub RingAnswer : ℕ → ℕ → List ℕ → Type 0
@@ -71,17 +78,24 @@ met_before x id (suc k) = go (cases_eq (get_or x k 0) id) (met_before x id k)
         at (inl same) = rw same here
         at (inr other) = before j (omega (arith, lt, other))
 
-    go : (get_or x k 0 ≡ id) ⊎ (get_or x k 0 ≢ id) → ((j : ℕ) → j < k → get_or x j 0 ≢ id) ⊎ ((j : ℕ) × (j < k) × (get_or x j 0 ≡ id))
+    go : (get_or x k 0 ≡ id) ⊎ (get_or x k 0 ≢ id)
+        → ((j : ℕ) → j < k → get_or x j 0 ≢ id) ⊎ ((j : ℕ) × (j < k) × (get_or x j 0 ≡ id))
         → ((j : ℕ) → j < suc k → get_or x j 0 ≢ id) ⊎ ((j : ℕ) × (j < suc k) × (get_or x j 0 ≡ id))
     go (inl here) before = inr (k, omega arith, here)
     go (inr differs) (inl before) = inl (last before differs)
     go (inr differs) (inr met) = inr (met.0, omega (arith, met.1), met.2)
 
 -- the first n places have no fault, or the first fault is at one of them
-front_answer : (m t : ℕ) (x : List ℕ) → HasRingLength m t x → (n : ℕ) → n ≤ length x → HasNoFaultBefore n m x ⊎ ((f : RingFault) × IsFirstFault m t x f)
+front_answer : (m t : ℕ) (x : List ℕ) → HasRingLength m t x → (n : ℕ) → n ≤ length x →
+    HasNoFaultBefore n m x ⊎ ((f : RingFault) × IsFirstFault m t x f)
 front_answer m t x size zero le =
-    inl (record { size = refl; below = All-nil (λ id. id < m); distinct = λ i j d less within. absurd (omega (arith, within)) })
-front_answer m t x size (suc n) le = go (front_answer m t x size n (omega (arith, le))) (cases_lt (get_or x n 0) m) (met_before x (get_or x n 0) n)
+    inl (record {
+      size = refl;
+      below = All-nil (λ id. id < m);
+      distinct = λ i j d less within. absurd (omega (arith, within));
+    })
+front_answer m t x size (suc n) le =
+    go (front_answer m t x size n (omega (arith, le))) (cases_lt (get_or x n 0) m) (met_before x (get_or x n 0) n)
   where
     id : ℕ
     id = get_or x n 0
@@ -97,18 +111,26 @@ front_answer m t x size (suc n) le = go (front_answer m t x size n (omega (arith
     go (inl before) (inl below) (inr met) = inr (Repeated met.0 n, (size, lt, before, below, met.1, met.2))
     go (inl before) (inl below) (inl differs) =
         let other : (k : ℕ) → k < length (take n x) → get_or (take n x) k 0 ≢ id =
-        λ k less. let within : k < n = omega (arith, less, before.size) in rw (get_or-take n x k 0 within) (differs k within) in
-        let next : HasNoFaultBefore (n + 1) m x = front_more n m x lt before below (lacks_from_differs (take n x) id other) in
+        λ k less. let within : k < n = omega (arith, less, before.size) in
+        rw (get_or-take n x k 0 within) (differs k within) in
+        let next : HasNoFaultBefore (n + 1) m x =
+        front_more n m x lt before below (lacks_from_differs (take n x) id other) in
         inl (rw (add-one n) at next)
 
 pub ring_answer : (m t : ℕ) (x : List ℕ) → RingAnswer m t x
 ring_answer m t x = by_length (cases_lt (length x) (2 * t + 2)) (cases_lt m (length x))
   where
-    whole : HasRingLength m t x → HasNoFaultBefore (length x) m x ⊎ ((f : RingFault) × IsFirstFault m t x f) → RingAnswer m t x
+    whole : HasRingLength m t x → HasNoFaultBefore (length x) m x ⊎ ((f : RingFault) × IsFirstFault m t x f) →
+        RingAnswer m t x
     whole size (inr fault) = inr fault
     whole size (inl front) =
         let all = take_all (length x) x (omega arith) in
-        inl (record { long = size.long; short = size.short; below = rw all at front.below; distinct = rw all at front.distinct })
+        inl (record {
+          long = size.long;
+          short = size.short;
+          below = rw all at front.below;
+          distinct = rw all at front.distinct;
+        })
 
     by_length : (length x < 2 * t + 2) ⊎ (2 * t + 2 ≤ length x) → (m < length x) ⊎ (length x ≤ m) → RingAnswer m t x
     by_length (inl less) many = inr (TooShort, less)
@@ -120,7 +142,8 @@ ring_answer m t x = by_length (cases_lt (length x) (2 * t + 2)) (cases_lt m (len
 pub segments_answer : (segments places : ℕ) → IsSegmentCount segments places ⊎ (¬ IsSegmentCount segments places)
 segments_answer segments places = go (cases_lt segments 1) (cases_lt MAX_SEGMENTS segments) (cases_lt places segments)
   where
-    go : (segments < 1) ⊎ (1 ≤ segments) → (MAX_SEGMENTS < segments) ⊎ (segments ≤ MAX_SEGMENTS) → (places < segments) ⊎ (segments ≤ places)
+    go : (segments < 1) ⊎ (1 ≤ segments) → (MAX_SEGMENTS < segments) ⊎ (segments ≤ MAX_SEGMENTS)
+        → (places < segments) ⊎ (segments ≤ places)
         → IsSegmentCount segments places ⊎ (¬ IsSegmentCount segments places)
     go (inl none) few enough = inr (λ is. omega (arith, none, is.some))
     go (inr some) (inl many) enough = inr (λ is. omega (arith, many, is.few))

@@ -26,15 +26,18 @@ not_done status refused done = let both : Refused ≡ Done = sym refused ∙ don
 
 -- a separation of a text of some version can be written in version 2
 in_range : (version : Version) (s : Separation) → IsSeparationOf version s → IsSeparation s
-in_range One s told = subst IsSeparation (sym told) (record { some_near = omega arith; small_near = lit≤ tt; small_far = omega arith })
+in_range One s told =
+    subst IsSeparation (sym told) (record { some_near = omega arith; small_near = lit≤ tt; small_far = omega arith })
 in_range Two s told = told
 
 module _ (texts_apart : TableTextsAreApart) (read : TableTextsAreRead) where
   -- the report on a text of version 2 is that of its table and its separation
-  on_text : (answer : ChannelTable → Separation → Report → Type 0) (t : ChannelTable) (s : Separation) (r : Report) → IsTable t → IsSeparation s
+  on_text : (answer : ChannelTable → Separation → Report → Type 0) (t : ChannelTable) (s : Separation)
+      (r : Report) → IsTable t → IsSeparation s
       → IsTableReport answer (table_text t s) r → answer t s r
   on_text answer t s r table range (table_refused refused) =
-      absurd (refused.known (read (written Two t s) refused.what (record { table = table; told = range }) refused.fault))
+      absurd (refused.known (read (written Two t s) refused.what
+      (record { table = table; told = range }) refused.fault))
   on_text answer t s r table range (of_table u v told said) =
       let same : text_of (written Two t s) ≡ text_of (written told.0 u v) = told.2 in
       let one = (texts_apart (written told.0 u v) (written Two t s) [] told.1 (record { table = table; told = range })
@@ -47,15 +50,20 @@ module _ (texts_apart : TableTextsAreApart) (read : TableTextsAreRead) where
   pub twice : MigrateTwiceIsOnce
   twice input r q (table_refused refused) done again = absurd (not_done r.status refused.says.1 done)
   twice input r q (of_table t s told said) done again =
-      let text : IsTableReport IsTableText (table_text t s) q = subst (λ (bytes : List ℕ). IsTableReport IsTableText bytes q) said.0 again in
+      let text : IsTableReport IsTableText (table_text t s) q =
+      subst (λ (bytes : List ℕ). IsTableReport IsTableText bytes q) said.0 again in
       let says = keeps t s q told.1.table (in_range told.0 s told.1.told) text in
       λ i. record { bytes = (says.0 ∙ sym said.0) i; status = (says.1 ∙ sym said.1) i; cause = (says.2 ∙ sym said.2) i }
 
   pub audit : ProgramTablesAreTables → AuditOfTableIsJudge
-  audit tables m v w near far input r q is_near is_far (program_refused (text_fault refused)) done again = absurd (not_done r.status refused.says.1 done)
-  audit tables m v w near far input r q is_near is_far (program_refused (check_fault p f reads first says)) done again = absurd (not_done r.status says.1 done)
+  audit tables m v w near far input r q is_near is_far (program_refused (text_fault refused)) done again =
+      absurd (not_done r.status refused.says.1 done)
+  audit tables m v w near far input r q is_near is_far (program_refused (check_fault p f reads first says)) done again =
+      absurd (not_done r.status says.1 done)
   audit tables m v w near far input r q is_near is_far (answered p reads accepted said) done again =
       let s : Separation = record { near = near; far = far } in
-      let range : IsSeparation s = record { some_near = is_near.some; small_near = is_near.small; small_far = is_far } in
-      let text : IsTableReport IsJudgement (table_text (table_of p m) s) q = subst (λ (bytes : List ℕ). IsTableReport IsJudgement bytes q) said.0 again in
+      let range : IsSeparation s =
+      record { some_near = is_near.some; small_near = is_near.small; small_far = is_far } in
+      let text : IsTableReport IsJudgement (table_text (table_of p m) s) q =
+      subst (λ (bytes : List ℕ). IsTableReport IsJudgement bytes q) said.0 again in
       answered p reads accepted (on_text IsJudgement (table_of p m) s q (tables p m reads.limits accepted) range text)

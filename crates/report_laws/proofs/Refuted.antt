@@ -24,13 +24,15 @@ use Rattle.report_laws.proofs.SeenTables.{seen_table, seen_is_table, seen_is_apa
 use Rattle.report_laws.proofs.ToldRounds.{judge_tells}
 
 -- a report with the status of a refuted formula is on a refutation of it, and the formula's numbers are a shape
-impossible : RefutationsAreSound → (p : Problem) (input : List ℕ) (r : Report) → IsRefuteReport p input r → r.status ≡ Done → IsImpossible p × IsShape p.ids p.rounds
+impossible : RefutationsAreSound → (p : Problem) (input : List ℕ) (r : Report) → IsRefuteReport p input r →
+    r.status ≡ Done → IsImpossible p × IsShape p.ids p.rounds
 impossible sound p input r (not_asked refusal) done = let both = sym refusal.says.1 ∙ done in cc
 impossible sound p input r (refuted has is says) done = (sound p input is, has.shape)
 impossible sound p input r (not_refuted has f known is says) done = let both = sym says.1 ∙ done in cc
 
 -- a table fails on a ring if its channels are not apart everywhere
-fails : (table : ChannelTable) (s : Separation) → ¬ IsApartEverywhere table s → JudgeAnswer table s → FailsOnARing table s
+fails : (table : ChannelTable) (s : Separation) → ¬ IsApartEverywhere table s → JudgeAnswer table s →
+    FailsOnARing table s
 fails table s not (apart is) = absurd (not is)
 fails table s not (not_apart ring places channels is) = (ring, places, channels, is)
 
@@ -39,7 +41,8 @@ enough_for_fewer : (few t ids a b : ℕ) → few ≤ t → (a ≡ b) ⊎ (2 * t 
 enough_for_fewer few t ids a b fewer (inl same) = inl same
 enough_for_fewer few t ids a b fewer (inr enough) = inr (omega (arith, enough))
 
-module _ (sound : RefutationsAreSound) (less : LessIsApart) (number : NumberOfWindow) (item : WindowOfNumber) (have : WindowsHaveNumbers)
+module _ (sound : RefutationsAreSound) (less : LessIsApart) (number : NumberOfWindow) (item : WindowOfNumber)
+    (have : WindowsHaveNumbers)
     (rings : RingsHaveWindows) (count : CountOfWindows) (arcs : LengthOfArcs) (items : ItemsOfArcs) where
   pub no_table : NoTableIfRefuted
   no_table m t channels s own table is keeps more rounds few asks are =
@@ -51,18 +54,24 @@ module _ (sound : RefutationsAreSound) (less : LessIsApart) (number : NumberOfWi
         rounds = refl;
         channels = few;
         apart =
-            seen_is_apart arcs items number item have rings table m t s more rounds (less table own s asks.near_more asks.far_more enough are);
+            seen_is_apart arcs items number item have rings table m t s more rounds
+            (less table own s asks.near_more asks.far_more enough are);
       })
 
-  pub no_program : OneReading → AcceptedProgramsHaveNoRefusal → ApartTablesHaveNoWitness → ProgramTablesAreTables → ProgramTablesAreApart
+  pub no_program : OneReading → AcceptedProgramsHaveNoRefusal → ApartTablesHaveNoWitness
+      → ProgramTablesAreTables → ProgramTablesAreApart
       → ((t : ChannelTable) (s : Separation) → JudgeAnswer t s) → NoProgramIfRefuted
   unfolding table_of
-  no_program one_reading no_refusal no_witness tables apart_tables judged m t channels ids s own text p is accepted more rounds few asks =
+  no_program one_reading no_refusal no_witness tables apart_tables judged m t channels ids s own text p is accepted
+      more rounds few asks =
       let none : ¬ IsApartEverywhere (table_of p ids) own =
-      no_table m t channels s own (table_of p ids) is (tables p ids accepted.0.limits accepted.1) more rounds few asks in
+      no_table m t channels s own (table_of p ids) is (tables p ids accepted.0.limits accepted.1) more
+      rounds few asks in
       record {
         rounds = λ are. none ((apart_tables p ids own).1 are);
         ring = fails (table_of p ids) own none (judged (table_of p ids) own);
-        judged = λ workers r report. (judge_tells one_reading no_refusal no_witness apart_tables ids workers own.near own.far text p r accepted report).1.1
+        judged =
+            λ workers r report. (judge_tells one_reading no_refusal no_witness apart_tables ids workers own.near own.far
+            text p r accepted report).1.1
             (λ are. none ((apart_tables p ids own).1 are));
       }

@@ -26,7 +26,8 @@ middle_channel t rounds window = channel_or_0 t (part_at t.rounds (rounds - t.ro
 
 -- the table for m identifiers and so many rounds, with the channels at the middles of its windows
 abbrev pub seen_table : ChannelTable → ℕ → ℕ → ChannelTable
-seen_table t m rounds = record t { ids = m; rounds = rounds; entries = map (middle_channel t rounds) (windows (2 * rounds + 1) m) }
+seen_table t m rounds =
+    record t { ids = m; rounds = rounds; entries = map (middle_channel t rounds) (windows (2 * rounds + 1) m) }
 
 some_number : (o : Option ℕ) → IsSome o → o ≡ Some (unwrap_or o 0)
 some_number None h = cc
@@ -49,11 +50,13 @@ ring_more m n few rounds ring le fewer is =
     }
 
 -- an entry of a list, or 0 past its end, is below a bound of the entries
-entry_below : (xs : List ℕ) (n c : ℕ) → All (λ x. x < c) xs → 0 < c → (n < length xs) ⊎ (length xs ≤ n) → slice_index xs n < c
+entry_below : (xs : List ℕ) (n c : ℕ) → All (λ x. x < c) xs → 0 < c →
+    (n < length xs) ⊎ (length xs ≤ n) → slice_index xs n < c
 entry_below xs n c all some (inl within) = all n 0 within
 entry_below xs n c all some (inr past) = let e = get_or_past xs n 0 past in omega (arith, e)
 
-channel_below : (t : ChannelTable) (o : Option ℕ) → IsTable t → unwrap_or (option_map (slice_index t.entries) o) 0 < t.channels
+channel_below : (t : ChannelTable) (o : Option ℕ) → IsTable t →
+    unwrap_or (option_map (slice_index t.entries) o) 0 < t.channels
 channel_below t None is = let some = is.begun.some_channels in omega arith
 channel_below t (Some n) is =
     let some = is.begun.some_channels in
@@ -103,7 +106,8 @@ module _ (count : CountOfWindows) where
           size = omega (arith, size);
           below =
               All-map (λ (c : ℕ). c < t.channels) (middle_channel t rounds) ws
-              (λ k d within. channel_below t (number_of (2 * t.rounds + 1) t.ids (part_at t.rounds (rounds - t.rounds) (get_or ws k d))) is);
+              (λ k d within. channel_below t
+              (number_of (2 * t.rounds + 1) t.ids (part_at t.rounds (rounds - t.rounds) (get_or ws k d))) is);
         };
         size = size;
       }
@@ -124,13 +128,17 @@ module _ (len : LengthOfArcs) (item : ItemsOfArcs) where
       (λ j within.
       let lt : j < k = omega (arith, within, front) in
       let e : place + n - rounds + (d + j) ≡ place + n - few + j = omega arith in
-      get_or-take k (drop d whole) j 0 lt ∙ get_or-drop d whole j 0 ∙ item ring (place + n - rounds) (2 * rounds + 1) (d + j) 0 (omega arith)
+      get_or-take k (drop d whole) j 0 lt ∙ get_or-drop d whole j 0
+      ∙ item ring (place + n - rounds) (2 * rounds + 1) (d + j) 0 (omega arith)
       ∙ ap (λ (p : ℕ). slice_index ring (p % n)) e ∙ sym (item ring (place + n - few) k j 0 lt))
 
-  module _ (number : NumberOfWindow) (at_number : WindowOfNumber) (have : WindowsHaveNumbers) (rings : RingsHaveWindows) where
+  module _ (number : NumberOfWindow) (at_number : WindowOfNumber) (have : WindowsHaveNumbers)
+      (rings : RingsHaveWindows) where
     -- at each place of a ring the table has the same channel
-    same_channel : (t : ChannelTable) (m rounds place : ℕ) (ring : List ℕ) → m ≤ t.ids → t.rounds ≤ rounds → IsRing m rounds ring
-        → channel_of (seen_table t m rounds) (window_around ring rounds place) ≡ channel_of t (window_around ring t.rounds place)
+    same_channel : (t : ChannelTable) (m rounds place : ℕ) (ring : List ℕ) → m ≤ t.ids
+        → t.rounds ≤ rounds → IsRing m rounds ring
+        → channel_of (seen_table t m rounds) (window_around ring rounds place)
+        ≡ channel_of t (window_around ring t.rounds place)
     same_channel t m rounds place ring le fewer is =
         let k = 2 * rounds + 1 in
         let ws = windows k m in
@@ -138,24 +146,34 @@ module _ (len : LengthOfArcs) (item : ItemsOfArcs) where
         let here = window_around ring t.rounds place in
         let long = is.long in
         let n = unwrap_or (number_of k m window) 0 in
-        let numbered = some_number (number_of k m window) ((have k m window).1 (rings m rounds rounds place ring is (omega arith))) in
+        let numbered = some_number (number_of k m window)
+        ((have k m window).1 (rings m rounds rounds place ring is (omega arith))) in
         let at = at_number k m n window numbered in
         let within = slice_get_within ws n window at in
         let entry : slice_index (map (middle_channel t rounds) ws) n ≡ channel_or_0 t here =
-        get_or-map (middle_channel t rounds) ws n [] 0 within ∙ ap (middle_channel t rounds) (get_or_from_slice_get ws n window [] at)
+        get_or-map (middle_channel t rounds) ws n [] 0 within
+        ∙ ap (middle_channel t rounds) (get_or_from_slice_get ws n window [] at)
         ∙ ap (channel_or_0 t) (middle_is ring place t.rounds rounds fewer (omega arith)) in
-        let own_window = rings t.ids t.rounds t.rounds place ring (ring_more m t.ids t.rounds rounds ring le fewer is) (omega arith) in
-        let own = some_channel (slice_index t.entries) (number_of (2 * t.rounds + 1) t.ids here) ((have (2 * t.rounds + 1) t.ids here).1 own_window) in
-        ap (option_map (slice_index (map (middle_channel t rounds) ws))) numbered ∙ ap (λ (c : ℕ). Some c) entry ∙ sym (some_number (channel_of t here) own)
+        let own_window = rings t.ids t.rounds t.rounds place ring
+        (ring_more m t.ids t.rounds rounds ring le fewer is) (omega arith) in
+        let own = some_channel (slice_index t.entries) (number_of (2 * t.rounds + 1) t.ids here)
+        ((have (2 * t.rounds + 1) t.ids here).1 own_window) in
+        ap (option_map (slice_index (map (middle_channel t rounds) ws))) numbered ∙ ap (λ (c : ℕ). Some c) entry
+        ∙ sym (some_number (channel_of t here) own)
 
     two_apart : (distance : ℕ) (a b c d : Option ℕ) → a ≡ c → b ≡ d → AreApart distance c d → AreApart distance a b
-    two_apart distance a b c d e f h = subst (λ (x : Option ℕ). AreApart distance x b) (sym e) (subst (λ (x : Option ℕ). AreApart distance c x) (sym f) h)
+    two_apart distance a b c d e f h = subst (λ (x : Option ℕ). AreApart distance x b) (sym e)
+        (subst (λ (x : Option ℕ). AreApart distance c x) (sym f) h)
 
     -- so it keeps each separation that the table keeps
-    pub seen_is_apart : (t : ChannelTable) (m rounds : ℕ) (s : Separation) → m ≤ t.ids → t.rounds ≤ rounds → IsApartEverywhere t s
+    pub seen_is_apart : (t : ChannelTable) (m rounds : ℕ) (s : Separation) → m ≤ t.ids → t.rounds ≤ rounds
+        → IsApartEverywhere t s
         → IsApartEverywhere (seen_table t m rounds) s
     seen_is_apart t m rounds s le fewer apart ring place is long within =
-        let same : (i : ℕ) → channel_of (seen_table t m rounds) (window_around ring rounds i) ≡ channel_of t (window_around ring t.rounds i) =
+        let same : (i : ℕ) → channel_of (seen_table t m rounds) (window_around ring rounds i)
+        ≡ channel_of t (window_around ring t.rounds i) =
         λ i. same_channel t m rounds i ring le fewer is in
-        let both = apart ring place (ring_more m t.ids t.rounds rounds ring le fewer is) (omega arith) within in
-        (two_apart s.near _ _ _ _ (same place) (same (place + 1)) both.0, two_apart s.far _ _ _ _ (same place) (same (place + 2)) both.1)
+        let both = apart ring place (ring_more m t.ids t.rounds rounds ring le fewer is) (omega arith) within in (
+          two_apart s.near _ _ _ _ (same place) (same (place + 1)) both.0,
+          two_apart s.far _ _ _ _ (same place) (same (place + 2)) both.1,
+        )

@@ -29,7 +29,8 @@ title Two = both (λ rest. codes "nbhd-table 2" ++ rest) (λ rest. 10 ∷ rest) 
 
 counts : (r i c end : ℕ) → IsPart (counts_then r i c end)
 counts r i c end =
-    both (λ rest. codes "rounds " ++ (decimal r ++ 32 ∷ rest)) (λ rest. codes "ids " ++ (decimal i ++ 32 ∷ (codes "channels " ++ (decimal c ++ end ∷ rest))))
+    both (λ rest. codes "rounds " ++ (decimal r ++ 32 ∷ rest))
+    (λ rest. codes "ids " ++ (decimal i ++ 32 ∷ (codes "channels " ++ (decimal c ++ end ∷ rest))))
     (field (codes "rounds ") r 32)
     (both (λ rest. codes "ids " ++ (decimal i ++ 32 ∷ rest)) (λ rest. codes "channels " ++ (decimal c ++ end ∷ rest))
     (field (codes "ids ") i 32) (field (codes "channels ") c end))
@@ -41,14 +42,16 @@ distances Two s =
     (field (codes "near ") s.near 32) (field (codes "far ") s.far 10)
 
 sizes : (version : Version) (r i c : ℕ) (s : Separation) → IsPart (sizes_then version r i c s)
-sizes version r i c s = both (counts_then r i c (counts_end version)) (distances_then version s) (counts r i c (counts_end version)) (distances version s)
+sizes version r i c s = both (counts_then r i c (counts_end version)) (distances_then version s)
+    (counts r i c (counts_end version)) (distances version s)
 
 ids_part : (ids : List ℕ) → IsPart (ids_then ids)
 ids_part [] = nothing
 ids_part (id ∷ ids) = both (λ rest. decimal id ++ 32 ∷ rest) (ids_then ids) (number id 32) (ids_part ids)
 
 entry : (ids : List ℕ) (channel : ℕ) → IsPart (entry_then ids channel)
-entry ids channel = both (ids_then ids) (λ rest. codes ": " ++ (decimal channel ++ 10 ∷ rest)) (ids_part ids) (field (codes ": ") channel 10)
+entry ids channel = both (ids_then ids) (λ rest. codes ": " ++ (decimal channel ++ 10 ∷ rest)) (ids_part ids)
+    (field (codes ": ") channel 10)
 
 ending : IsPart end_then
 ending = both (λ rest. codes "end" ++ rest) (λ rest. 10 ∷ rest) (bytes (codes "end")) (byte 10)
@@ -68,10 +71,12 @@ has_title text = go ((title One).find text) ((title Two).find text)
 
 are_sizes : (r i c : ℕ) → Decided (AreSizes r i c)
 are_sizes r i c =
-    go (cases_lt MAX_ROUNDS r) (cases_lt i (2 * r + 2)) (cases_lt MAX_IDS i) (cases_lt MAX_WINDOWS (length (windows (2 * r + 1) i))) (cases_lt c 1) (cases_lt MAX_CHANNELS c)
+    go (cases_lt MAX_ROUNDS r) (cases_lt i (2 * r + 2)) (cases_lt MAX_IDS i)
+    (cases_lt MAX_WINDOWS (length (windows (2 * r + 1) i))) (cases_lt c 1) (cases_lt MAX_CHANNELS c)
   where
     go : (MAX_ROUNDS < r) ⊎ (r ≤ MAX_ROUNDS) → (i < 2 * r + 2) ⊎ (2 * r + 2 ≤ i) → (MAX_IDS < i) ⊎ (i ≤ MAX_IDS)
-        → (MAX_WINDOWS < length (windows (2 * r + 1) i)) ⊎ (length (windows (2 * r + 1) i) ≤ MAX_WINDOWS) → (c < 1) ⊎ (1 ≤ c) → (MAX_CHANNELS < c) ⊎ (c ≤ MAX_CHANNELS)
+        → (MAX_WINDOWS < length (windows (2 * r + 1) i)) ⊎ (length (windows (2 * r + 1) i) ≤ MAX_WINDOWS)
+        → (c < 1) ⊎ (1 ≤ c) → (MAX_CHANNELS < c) ⊎ (c ≤ MAX_CHANNELS)
         → Decided (AreSizes r i c)
     go (inl bad) b d e f g = inr (λ are. omega (arith, bad, are.few_rounds))
     go (inr a) (inl bad) d e f g = inr (λ are. omega (arith, bad, are.shape.ids.enough))
@@ -95,7 +100,8 @@ is_separation One s = go (cases_eq s.near 1) (cases_eq s.far 0)
     go (inr bad) far = inr (λ is. bad (ap (λ (u : Separation). u.near) is))
 is_separation Two s = go (cases_lt s.near 1) (cases_lt MAX_CHANNELS s.near) (cases_lt MAX_CHANNELS s.far)
   where
-    go : (s.near < 1) ⊎ (1 ≤ s.near) → (MAX_CHANNELS < s.near) ⊎ (s.near ≤ MAX_CHANNELS) → (MAX_CHANNELS < s.far) ⊎ (s.far ≤ MAX_CHANNELS)
+    go : (s.near < 1) ⊎ (1 ≤ s.near) → (MAX_CHANNELS < s.near) ⊎ (s.near ≤ MAX_CHANNELS)
+        → (MAX_CHANNELS < s.far) ⊎ (s.far ≤ MAX_CHANNELS)
         → Decided (IsSeparationOf Two s)
     go (inl bad) b d = inr (λ is. omega (arith, bad, is.some_near))
     go (inr a) (inl bad) d = inr (λ is. omega (arith, bad, is.small_near))
@@ -122,7 +128,8 @@ sized version text r i c near far = go (are_sizes r i c) (is_separation version 
     s : Separation
     s = record { near = near; far = far }
 
-    go : Decided (AreSizes r i c) → Decided (IsSeparationOf version s) → Decided (Follows (sizes_then version r i c s) text)
+    go : Decided (AreSizes r i c) → Decided (IsSeparationOf version s)
+        → Decided (Follows (sizes_then version r i c s) text)
         → Decided (Sized version text r i c near far)
     go (inl are) (inl is) (inl rest) = inl (record { sizes = are; told = is; rest = rest })
     go (inl are) (inl is) (inr bad) = inr (λ all. bad all.rest)
@@ -145,7 +152,9 @@ has_sizes version text = go (below (MAX_ROUNDS + 1) OfRounds of_rounds)
     OfRounds r = Below (MAX_IDS + 1) (OfIds r)
 
     of_rounds : (r : ℕ) → Decided (OfRounds r)
-    of_rounds r = below (MAX_IDS + 1) (OfIds r) (λ i. below (MAX_CHANNELS + 1) (OfChannels r i) (λ c. below (MAX_CHANNELS + 1) (OfNear r i c)
+    of_rounds r =
+        below (MAX_IDS + 1) (OfIds r)
+        (λ i. below (MAX_CHANNELS + 1) (OfChannels r i) (λ c. below (MAX_CHANNELS + 1) (OfNear r i c)
         (λ near. below (MAX_CHANNELS + 1) (Sized version text r i c near) (sized version text r i c near))))
 
     found : Below (MAX_ROUNDS + 1) OfRounds → HasSizes version text
@@ -153,8 +162,16 @@ has_sizes version text = go (below (MAX_ROUNDS + 1) OfRounds of_rounds)
         let i = r.is in
         let c = i.is in
         let near = c.is in
-        let far = near.is in
-        (r.number, i.number, c.number, record { near = near.number; far = far.number }, far.is.rest.rest, far.is.sizes, far.is.told, far.is.rest.is)
+        let far = near.is in (
+          r.number,
+          i.number,
+          c.number,
+          record { near = near.number; far = far.number },
+          far.is.rest.rest,
+          far.is.sizes,
+          far.is.told,
+          far.is.rest.is,
+        )
 
     none : ¬ Below (MAX_ROUNDS + 1) OfRounds → HasSizes version text → ⊥
     none bad (r, i, c, s, rest, are, told, is) = bad (record {
@@ -187,7 +204,8 @@ has_sizes version text = go (below (MAX_ROUNDS + 1) OfRounds of_rounds)
     go (inr bad) = inr (none bad)
 
 has_entry : (width : ℕ) (text : List ℕ) → Decided (HasEntry width text)
-has_entry width text = go (lists (2 ^ 32) width OfIds (λ ids. below (2 ^ 32) (OfChannel ids) (λ channel. (entry ids channel).find text)))
+has_entry width text =
+    go (lists (2 ^ 32) width OfIds (λ ids. below (2 ^ 32) (OfChannel ids) (λ channel. (entry ids channel).find text)))
   where
     OfChannel : List ℕ → ℕ → Type 0
     OfChannel ids channel = Follows (entry_then ids channel) text
@@ -196,7 +214,13 @@ has_entry width text = go (lists (2 ^ 32) width OfIds (λ ids. below (2 ^ 32) (O
     OfIds ids = Below (2 ^ 32) (OfChannel ids)
 
     go : Decided (Lists (2 ^ 32) width OfIds) → Decided (HasEntry width text)
-    go (inl l) = inl (l.list, l.is.number, l.is.is.rest, record { size = l.size; ids_fit = l.fit; channel_fits = l.is.less; spelled = l.is.is.is })
+    go (inl l) =
+        inl (
+          l.list,
+          l.is.number,
+          l.is.is.rest,
+          record { size = l.size; ids_fit = l.fit; channel_fits = l.is.less; spelled = l.is.is.is },
+        )
     go (inr bad) = inr (λ has. bad (record {
       list = has.0;
       size = has.3.size;
@@ -210,7 +234,8 @@ same_or_not a b = go ((bytes b).find a)
   where
     ends : (rest : List ℕ) → a ≡ b ++ rest → Decided (a ≡ b)
     ends [] is = inl (is ∙ append-nil b)
-    ends (c ∷ cs) is = inr (λ same. let e : length b ≡ length (b ++ c ∷ cs) = ap length (sym same ∙ is) in omega (arith, e, length-append b (c ∷ cs)))
+    ends (c ∷ cs) is = inr (λ same. let e : length b ≡ length (b ++ c ∷ cs) = ap length (sym same ∙ is) in
+        omega (arith, e, length-append b (c ∷ cs)))
 
     go : Decided (Follows (λ rest. b ++ rest) a) → Decided (a ≡ b)
     go (inl met) = ends met.rest met.is
@@ -231,7 +256,8 @@ pub data TableAnswer (text : List ℕ) : Type 0 where
 
 malformed : (text rest : List ℕ) → length text ≤ LONGEST_TABLE_TEXT → IsMalformed text rest → TableAnswer text
 malformed text rest short is =
-    has_fault (Syntax (length text - length rest)) (λ same. cc) (inr (short, rest, is, omega (arith, rest_within text rest is)))
+    has_fault (Syntax (length text - length rest)) (λ same. cc)
+    (inr (short, rest, is, omega (arith, rest_within text rest is)))
 
 module _ (text : List ℕ) (short : length text ≤ LONGEST_TABLE_TEXT) where
   at_end : (w : Written) (here : List ℕ) → IsWritten w → text ≡ lines_then w here → TableAnswer text
@@ -246,20 +272,26 @@ module _ (text : List ℕ) (short : length text ≤ LONGEST_TABLE_TEXT) where
       go (inl met) = ends met.rest met.is
       go (inr bad) = malformed text here short (no_end w is read (λ has. bad (record { rest = has.0; is = has.1 })))
 
-  at_line : (left : ℕ) (w : Written) (here : List ℕ) → IsBegunText w → text ≡ lines_then w here → length w.table.entries + left ≡ length (windows_of w.table) → TableAnswer text
-  at_line zero w here begun read size = at_end w here (record { table = record { begun = begun.begun; size = omega (arith, size) }; told = begun.told }) read
-  at_line (suc left) w here begun read size = go (λ v rest. at_line left v rest) (has_entry (2 * w.table.rounds + 1) here)
+  at_line : (left : ℕ) (w : Written) (here : List ℕ) → IsBegunText w → text ≡ lines_then w here →
+      length w.table.entries + left ≡ length (windows_of w.table) → TableAnswer text
+  at_line zero w here begun read size =
+      at_end w here (record { table = record { begun = begun.begun; size = omega (arith, size) }; told = begun.told })
+      read
+  at_line (suc left) w here begun read size =
+      go (λ v rest. at_line left v rest) (has_entry (2 * w.table.rounds + 1) here)
     where
       t : ChannelTable
       t = w.table
 
       More : Type 0
-      More = (v : Written) (rest : List ℕ) → IsBegunText v → text ≡ lines_then v rest → length v.table.entries + left ≡ length (windows_of v.table) → TableAnswer text
+      More = (v : Written) (rest : List ℕ) → IsBegunText v → text ≡ lines_then v rest →
+          length v.table.entries + left ≡ length (windows_of v.table) → TableAnswer text
 
       within : IsWithin text w here
       within = record { begun = begun; before = read; more = omega (arith, size) }
 
-      channel_of_line : More → (ids : List ℕ) (channel : ℕ) (rest : List ℕ) → IsEntry (2 * t.rounds + 1) here ids channel rest → IsNextWindow t ids
+      channel_of_line : More → (ids : List ℕ) (channel : ℕ) (rest : List ℕ)
+          → IsEntry (2 * t.rounds + 1) here ids channel rest → IsNextWindow t ids
           → (channel < t.channels) ⊎ (t.channels ≤ channel) → TableAnswer text
       channel_of_line more ids channel rest is next (inl less) =
           more (written w.version (record t { entries = t.entries ++ channel ∷ [] }) w.separation) rest
@@ -267,18 +299,24 @@ module _ (text : List ℕ) (short : length text ≤ LONGEST_TABLE_TEXT) where
           (lines_more w.version t w.separation text here ids channel rest read next is.spelled)
           (omega (arith, size, length-append t.entries (channel ∷ [])))
       channel_of_line more ids channel rest is next (inr large) =
-          has_fault (ChannelTooLarge (length t.entries + 3)) (λ same. cc) (short, w, ids, channel, (here, rest, within, is), next, large, refl)
+          has_fault (ChannelTooLarge (length t.entries + 3)) (λ same. cc)
+          (short, w, ids, channel, (here, rest, within, is), next, large, refl)
 
-      window_of_line : More → (ids : List ℕ) (channel : ℕ) (rest : List ℕ) → IsEntry (2 * t.rounds + 1) here ids channel rest → Decided (IsNextWindow t ids) → TableAnswer text
-      window_of_line more ids channel rest is (inl next) = channel_of_line more ids channel rest is next (cases_lt channel t.channels)
+      window_of_line : More → (ids : List ℕ) (channel : ℕ) (rest : List ℕ) →
+          IsEntry (2 * t.rounds + 1) here ids channel rest → Decided (IsNextWindow t ids) → TableAnswer text
+      window_of_line more ids channel rest is (inl next) =
+          channel_of_line more ids channel rest is next (cases_lt channel t.channels)
       window_of_line more ids channel rest is (inr wrong) =
-          has_fault (WrongWindow (length t.entries + 3)) (λ same. cc) (short, w, ids, channel, (here, rest, within, is), wrong, refl)
+          has_fault (WrongWindow (length t.entries + 3)) (λ same. cc)
+          (short, w, ids, channel, (here, rest, within, is), wrong, refl)
 
       go : More → Decided (HasEntry (2 * t.rounds + 1) here) → TableAnswer text
-      go more (inl has) = window_of_line more has.0 has.1 has.2 has.3 (is_next (slice_get (windows_of t) (length t.entries)) has.0)
+      go more (inl has) =
+          window_of_line more has.0 has.1 has.2 has.3 (is_next (slice_get (windows_of t) (length t.entries)) has.0)
       go more (inr bad) = malformed text here short (no_entry w within bad)
 
-  at_sizes : (version : Version) (here : List ℕ) → text ≡ title_then version here → Decided (HasSizes version here) → TableAnswer text
+  at_sizes : (version : Version) (here : List ℕ) → text ≡ title_then version here →
+      Decided (HasSizes version here) → TableAnswer text
   unfolding lines_then
   at_sizes version here read (inr bad) = malformed text here short (no_sizes version read bad)
   at_sizes version here read (inl (r, i, c, s, rest, are, told, is)) =

@@ -33,7 +33,8 @@ use Rattle.report_laws.specs.Laws.{IsAcceptedText, JudgeTellsRounds, RunTellsRou
 use Rattle.report_laws.proofs.OneReport.{accepted_or_refused}
 
 -- the report on an accepted program is that of the task on the program
-answer_on : OneReading → AcceptedProgramsHaveNoRefusal → (m : ℕ) (answer : ProgramTree → Report → Type 0) (input : List ℕ) (p : ProgramTree) (r : Report)
+answer_on : OneReading → AcceptedProgramsHaveNoRefusal
+    → (m : ℕ) (answer : ProgramTree → Report → Type 0) (input : List ℕ) (p : ProgramTree) (r : Report)
     → IsAcceptedText input m p → IsProgramReport m answer input r → answer p r
 answer_on one_reading no_refusal m answer input p r text (program_refused refused) =
     absurd (accepted_or_refused one_reading no_refusal m input r p text.0 text.1 refused)
@@ -41,7 +42,8 @@ answer_on one_reading no_refusal m answer input p r text (answered q reads accep
     subst (λ h. answer h r) (one_reading input q p reads text.0) said
 
 -- a judgement on a table decides whether the channels of global rounds are apart
-judgement_tells : ApartTablesHaveNoWitness → ProgramTablesAreApart → (p : ProgramTree) (m : ℕ) (s : Separation) (r : Report) → IsJudgement (table_of p m) s r
+judgement_tells : ApartTablesHaveNoWitness → ProgramTablesAreApart
+    → (p : ProgramTree) (m : ℕ) (s : Separation) (r : Report) → IsJudgement (table_of p m) s r
     → ((r.status ≡ Done) ↔ ChannelsAreApart p m s) × ((r.status ≡ No) ↔ (¬ ChannelsAreApart p m s))
 judgement_tells no_witness tables p m s r (good apart says) =
     let rounds = (tables p m s).0 apart in (
@@ -49,21 +51,26 @@ judgement_tells no_witness tables p m s r (good apart says) =
       (λ no. absurd (let both : Done ≡ No = sym says.1 ∙ no in cc), λ not. absurd (not rounds)),
     )
 judgement_tells no_witness tables p m s r (bad ring places channels witness says) =
-    let not : ¬ ChannelsAreApart p m s = λ are. no_witness (table_of p m) s ring places channels ((tables p m s).1 are) witness in (
+    let not : ¬ ChannelsAreApart p m s =
+    λ are. no_witness (table_of p m) s ring places channels ((tables p m s).1 are) witness in (
       (λ done. absurd (let both : No ≡ Done = sym says.1 ∙ done in cc), λ are. absurd (not are)),
       (λ no. not, λ n. says.1),
     )
 
-pub judge_tells : OneReading → AcceptedProgramsHaveNoRefusal → ApartTablesHaveNoWitness → ProgramTablesAreApart → JudgeTellsRounds
+pub judge_tells : OneReading → AcceptedProgramsHaveNoRefusal → ApartTablesHaveNoWitness →
+    ProgramTablesAreApart → JudgeTellsRounds
 judge_tells one_reading no_refusal no_witness tables m workers near far input p r text is =
-    judgement_tells no_witness tables p m (record { near = near; far = far }) r (answer_on one_reading no_refusal m _ input p r text is)
+    judgement_tells no_witness tables p m (record { near = near; far = far }) r
+    (answer_on one_reading no_refusal m _ input p r text is)
 
 -- the report on a ring
-on_this_ring : RingsHaveNoFault → (m t : ℕ) (places : List ℕ) (said : Report → Type 0) (r : Report) → IsRing m t places → IsAnswerOnRing m t places said r → said r
+on_this_ring : RingsHaveNoFault → (m t : ℕ) (places : List ℕ) (said : Report → Type 0) (r : Report) →
+    IsRing m t places → IsAnswerOnRing m t places said r → said r
 on_this_ring no_fault m t places said r ring (ring_fault f first says) = absurd (no_fault m t places f ring first)
 on_this_ring no_fault m t places said r ring (on_ring is says) = says
 
-run_in_range : (p : ProgramTree) (places : List ℕ) (segments : ℕ) (r : Report) → IsSegmentCount segments (length places) → IsRunAnswer p places segments r
+run_in_range : (p : ProgramTree) (places : List ℕ) (segments : ℕ) (r : Report)
+    → IsSegmentCount segments (length places) → IsRunAnswer p places segments r
     → Says (line (numbers_text (channels_of p places) ∷ [])) Done r
 run_in_range p places segments r within (out_of_range out says) = absurd (out within)
 run_in_range p places segments r within (ran is says) = says
@@ -71,14 +78,17 @@ run_in_range p places segments r within (ran is says) = says
 pub run_tells : OneReading → AcceptedProgramsHaveNoRefusal → RingsHaveNoFault → RunTellsRounds
 run_tells one_reading no_refusal no_fault m segments ring input p r text is_ring within is =
     run_in_range p ring.items segments r within
-    (on_this_ring no_fault m (length p.steps) ring.items _ r is_ring (answer_on one_reading no_refusal m _ input p r text is))
+    (on_this_ring no_fault m (length p.steps) ring.items _ r is_ring
+    (answer_on one_reading no_refusal m _ input p r text is))
 
 pub trace_tells : OneReading → AcceptedProgramsHaveNoRefusal → RingsHaveNoFault → TraceTellsRounds
 trace_tells one_reading no_refusal no_fault m ring base input p r text is_ring is =
-    on_this_ring no_fault m (length p.steps) ring.items _ r is_ring (answer_on one_reading no_refusal m _ input p r text is)
+    on_this_ring no_fault m (length p.steps) ring.items _ r is_ring
+    (answer_on one_reading no_refusal m _ input p r text is)
 
 -- at a place of the ring
-at_place : (b : Base) (p : ProgramTree) (x : List ℕ) (place : ℕ) (r : Report) → place < length x → IsExplainAnswer b p x place r
+at_place : (b : Base) (p : ProgramTree) (x : List ℕ) (place : ℕ) (r : Report) → place < length x
+    → IsExplainAnswer b p x place r
     → Says (explanation b p x place) Done r
 at_place b p x place r within (no_place beyond says) = absurd (omega arith)
 at_place b p x place r within (explained is says) = says
@@ -86,9 +96,11 @@ at_place b p x place r within (explained is says) = says
 pub explain_tells : OneReading → AcceptedProgramsHaveNoRefusal → RingsHaveNoFault → ExplainTellsRounds
 explain_tells one_reading no_refusal no_fault m place ring base input p r text is_ring within is =
     at_place base p ring.items place r within
-    (on_this_ring no_fault m (length p.steps) ring.items _ r is_ring (answer_on one_reading no_refusal m _ input p r text is))
+    (on_this_ring no_fault m (length p.steps) ring.items _ r is_ring
+    (answer_on one_reading no_refusal m _ input p r text is))
 
-pub explain_shows : ExplanationsShowTraces → OneReading → AcceptedProgramsHaveNoRefusal → RingsHaveNoFault → ExplainShowsTrace
+pub explain_shows : ExplanationsShowTraces → OneReading → AcceptedProgramsHaveNoRefusal →
+    RingsHaveNoFault → ExplainShowsTrace
 explain_shows shown one_reading no_refusal no_fault m place ring base input p r text is_ring within is =
     let says = explain_tells one_reading no_refusal no_fault m place ring base input p r text is_ring within is in
     subst (ShowsTrace base p ring.items place) (sym says.0) (shown base p ring.items place within)
@@ -106,7 +118,8 @@ all_plain ms (n ∷ ns) = ap₂ (λ a b. a ++ b) (plain ms n) (all_plain ms ns)
 -- a row in base ten is a blank and the line of its numbers
 row_is_line : (ns : List ℕ) → 0 < length ns → row Ten ns ≡ codes " " ++ line (numbers_text ns ∷ [])
 row_is_line [] some = absurd (omega arith)
-row_is_line (n ∷ ns) some = ap (λ l. l ++ codes "\n") (all_plain (n ∷ ns) (n ∷ ns) ∙ ap (λ l. 32 ∷ l) (joined_after decimal 32 n ns))
+row_is_line (n ∷ ns) some =
+    ap (λ l. l ++ codes "\n") (all_plain (n ∷ ns) (n ∷ ns) ∙ ap (λ l. 32 ∷ l) (joined_after decimal 32 n ns))
 
 some_channels : (p : ProgramTree) (x : List ℕ) → 0 < length x → 0 < length (channels_of p x)
 some_channels p x some = omega (arith, length-map-range_with_len (channel_at p x) 0 (length x))
@@ -114,7 +127,8 @@ some_channels p x some = omega (arith, length-map-range_with_len (channel_at p x
 -- a trace is some lines followed by the line of its channels
 ends : (p : ProgramTree) (x : List ℕ) → 0 < length x
     → trace_lines Ten p x
-    ≡ (row_line Ten (codes "ring") x ++ (register_lines Ten p x 0 ++ flat_map (round_lines Ten p x) (range_with_len 0 (length p.steps))))
+    ≡ (row_line Ten (codes "ring") x
+    ++ (register_lines Ten p x 0 ++ flat_map (round_lines Ten p x) (range_with_len 0 (length p.steps))))
     ++ (codes "finish " ++ line (numbers_text (channels_of p x) ∷ []))
 ends p x some =
     let ring : List ℕ = row_line Ten (codes "ring") x in
@@ -122,7 +136,8 @@ ends p x some =
     let rounds : List ℕ = flat_map (round_lines Ten p x) (range_with_len 0 (length p.steps)) in
     let last : List ℕ = row_line Ten (codes "finish") (channels_of p x) in
     ap (λ l. ring ++ l) (sym (append_assoc start rounds last)) ∙ sym (append_assoc ring (start ++ rounds) last)
-    ∙ ap (λ l. (ring ++ (start ++ rounds)) ++ (codes "finish" ++ l)) (row_is_line (channels_of p x) (some_channels p x some))
+    ∙ ap (λ l. (ring ++ (start ++ rounds)) ++ (codes "finish" ++ l))
+    (row_is_line (channels_of p x) (some_channels p x some))
 
 pub trace_ends : OneReading → AcceptedProgramsHaveNoRefusal → RingsHaveNoFault → TraceEndsWithRun
 trace_ends one_reading no_refusal no_fault m segments ring input p r s text is_ring within trace run =
@@ -130,7 +145,8 @@ trace_ends one_reading no_refusal no_fault m segments ring input p r s text is_r
     let lines = trace_tells one_reading no_refusal no_fault m ring Ten input p r text is_ring trace in
     let channels = run_tells one_reading no_refusal no_fault m segments ring input p s text is_ring within run in
     let some : 0 < length x = omega (arith, is_ring.long) in
-    let front = row_line Ten (codes "ring") x ++ (register_lines Ten p x 0 ++ flat_map (round_lines Ten p x) (range_with_len 0 (length p.steps))) in
+    let front = row_line Ten (codes "ring") x
+    ++ (register_lines Ten p x 0 ++ flat_map (round_lines Ten p x) (range_with_len 0 (length p.steps))) in
     (front, lines.0 ∙ ends p x some ∙ ap (λ l. front ++ (codes "finish " ++ l)) (sym channels.0))
 
 pub print_tells : OneReading → PrintedIsRead → PrintsAreReadBack
@@ -142,7 +158,8 @@ print_tells one_reading read input p r reads (in_print q reads' says) =
 
 pub plan_tells : OneReading → AcceptedProgramsHaveNoRefusal → RingsHaveNoFault → PlanTellsRounds
 plan_tells one_reading no_refusal no_fault m workers ring input p r text is_ring is =
-    on_this_ring no_fault m (length p.steps) ring.items _ r is_ring (answer_on one_reading no_refusal m _ input p r text is)
+    on_this_ring no_fault m (length p.steps) ring.items _ r is_ring
+    (answer_on one_reading no_refusal m _ input p r text is)
 
 pub table_tells : OneReading → AcceptedProgramsHaveNoRefusal → TableHasTheChannelsOfRounds → TableTellsRounds
 table_tells one_reading no_refusal has m workers near far input p r text is =
@@ -152,10 +169,12 @@ pub same_for_workers : SameForWorkers
 same_for_workers m v w near far ring input r = (λ is. is, λ is. is, λ is. is)
 
 -- the report of a run in one number of segments is one in another
-run_in_others : (m t : ℕ) (p : ProgramTree) (places : List ℕ) (g h : ℕ) (r : Report) → IsSegmentCount g (length places) → IsSegmentCount h (length places)
+run_in_others : (m t : ℕ) (p : ProgramTree) (places : List ℕ) (g h : ℕ) (r : Report)
+    → IsSegmentCount g (length places) → IsSegmentCount h (length places)
     → IsAnswerOnRing m t places (IsRunAnswer p places g) r → IsAnswerOnRing m t places (IsRunAnswer p places h) r
 run_in_others m t p places g h r within within' (ring_fault f first says) = ring_fault f first says
-run_in_others m t p places g h r within within' (on_ring is said) = on_ring is (ran within' (run_in_range p places g r within said))
+run_in_others m t p places g h r within within' (on_ring is said) =
+    on_ring is (ran within' (run_in_range p places g r within said))
 
 pub same_for_segments : SameForSegments
 same_for_segments m g h ring input r within within' (program_refused refused) = program_refused refused

@@ -52,7 +52,8 @@ IsAcceptedText input m p = Reads input p × IsAccepted m p
 -- rounds are as far apart as requested, and that of a no exactly if they are not
 abbrev pub JudgeTellsRounds : Type 0
 JudgeTellsRounds =
-    (m workers near far : ℕ) (input : List ℕ) (p : ProgramTree) (r : Report) → IsAcceptedText input m p → IsReport (Judge m workers near far) input r
+    (m workers near far : ℕ) (input : List ℕ) (p : ProgramTree) (r : Report) → IsAcceptedText input m p →
+    IsReport (Judge m workers near far) input r
     → ((r.status ≡ Done) ↔ ChannelsAreApart p m (record { near = near; far = far }))
     × ((r.status ≡ No) ↔ (¬ ChannelsAreApart p m (record { near = near; far = far })))
 
@@ -60,20 +61,24 @@ JudgeTellsRounds =
 abbrev pub RunTellsRounds : Type 0
 RunTellsRounds =
     (m segments : ℕ) (ring : Vec ℕ Global) (input : List ℕ) (p : ProgramTree) (r : Report) → IsAcceptedText input m p
-    → IsRing m (length p.steps) ring.items → IsSegmentCount segments (length ring.items) → IsReport (Run m ring segments) input r
+    → IsRing m (length p.steps) ring.items → IsSegmentCount segments (length ring.items) →
+    IsReport (Run m ring segments) input r
     → Says (line (numbers_text (channels_of p ring.items) ∷ [])) Done r
 
--- the report of a trace on a ring is the lines of the identifiers, the registers and the messages of its places in global
--- rounds
+-- the report of a trace on a ring is the lines of the identifiers, the registers and the messages of its places in
+-- global rounds
 abbrev pub TraceTellsRounds : Type 0
 TraceTellsRounds =
-    (m : ℕ) (ring : Vec ℕ Global) (base : Base) (input : List ℕ) (p : ProgramTree) (r : Report) → IsAcceptedText input m p
-    → IsRing m (length p.steps) ring.items → IsReport (Trace m ring base) input r → Says (trace_lines base p ring.items) Done r
+    (m : ℕ) (ring : Vec ℕ Global) (base : Base) (input : List ℕ) (p : ProgramTree) (r : Report) →
+    IsAcceptedText input m p
+    → IsRing m (length p.steps) ring.items → IsReport (Trace m ring base) input r →
+    Says (trace_lines base p ring.items) Done r
 
 -- the report of an explanation on a ring is how the place computes in global rounds
 abbrev pub ExplainTellsRounds : Type 0
 ExplainTellsRounds =
-    (m place : ℕ) (ring : Vec ℕ Global) (base : Base) (input : List ℕ) (p : ProgramTree) (r : Report) → IsAcceptedText input m p
+    (m place : ℕ) (ring : Vec ℕ Global) (base : Base) (input : List ℕ) (p : ProgramTree) (r : Report) →
+    IsAcceptedText input m p
     → IsRing m (length p.steps) ring.items → place < length ring.items → IsReport (Explain m ring place base) input r
     → Says (explanation base p ring.items place) Done r
 
@@ -81,12 +86,13 @@ ExplainTellsRounds =
 -- `finish` the one that a run has there
 abbrev pub ExplainShowsTrace : Type 0
 ExplainShowsTrace =
-    (m place : ℕ) (ring : Vec ℕ Global) (base : Base) (input : List ℕ) (p : ProgramTree) (r : Report) → IsAcceptedText input m p
+    (m place : ℕ) (ring : Vec ℕ Global) (base : Base) (input : List ℕ) (p : ProgramTree) (r : Report) →
+    IsAcceptedText input m p
     → IsRing m (length p.steps) ring.items → place < length ring.items → IsReport (Explain m ring place base) input r
     → ShowsTrace base p ring.items place r.bytes
 
--- in base ten the last line of a trace is a word, followed by the report of a run on the ring, in any number of segments in
--- its range
+-- in base ten the last line of a trace is a word, followed by the report of a run on the ring, in any number of
+-- segments in its range
 abbrev pub TraceEndsWithRun : Type 0
 TraceEndsWithRun =
     (m segments : ℕ) (ring : Vec ℕ Global) (input : List ℕ) (p : ProgramTree) (r s : Report) → IsAcceptedText input m p
@@ -104,20 +110,22 @@ PrintsAreReadBack =
 abbrev pub PlanTellsRounds : Type 0
 PlanTellsRounds =
     (m workers : ℕ) (ring : Vec ℕ Global) (input : List ℕ) (p : ProgramTree) (r : Report) → IsAcceptedText input m p
-    → IsRing m (length p.steps) ring.items → IsReport (Plan m ring workers) input r → Says (place_lines p ring.items) Done r
+    → IsRing m (length p.steps) ring.items → IsReport (Plan m ring workers) input r →
+    Says (place_lines p ring.items) Done r
 
 -- the report of a table is the text of a table that has the channel of global rounds at the window of each place of
 -- every ring
 abbrev pub TableTellsRounds : Type 0
 TableTellsRounds =
-    (m workers near far : ℕ) (input : List ℕ) (p : ProgramTree) (r : Report) → IsAcceptedText input m p → IsReport (Table m workers near far) input r
+    (m workers near far : ℕ) (input : List ℕ) (p : ProgramTree) (r : Report) → IsAcceptedText input m p →
+    IsReport (Table m workers near far) input r
     → Says (table_text (table_of p m) (record { near = near; far = far })) Done r
     × ((ring : List ℕ) (place : ℕ) → IsRing m (length p.steps) ring → place < length ring
     → channel_of (table_of p m) (window_around ring (length p.steps) place) ≡ Some (channel_at p ring place))
 
 -- The reports on an accepted program agree with global rounds: the status of a judge, the line of a run, the lines of a
--- trace, which end with those of a run, those of an explanation, which shows what a trace and a run have, those of a plan,
--- and the text of a table.
+-- trace, which end with those of a run, those of an explanation, which shows what a trace and a run have, those of a
+-- plan, and the text of a table.
 pub record ReportsTellRounds : Type 0 where
   pub judge : JudgeTellsRounds
   pub run : RunTellsRounds
@@ -139,13 +147,15 @@ SameForWorkers =
 -- the report of a run is the same for every number of segments in its range
 abbrev pub SameForSegments : Type 0
 SameForSegments =
-    (m g h : ℕ) (ring : Vec ℕ Global) (input : List ℕ) (r : Report) → IsSegmentCount g (length ring.items) → IsSegmentCount h (length ring.items)
+    (m g h : ℕ) (ring : Vec ℕ Global) (input : List ℕ) (r : Report) → IsSegmentCount g (length ring.items) →
+    IsSegmentCount h (length ring.items)
     → IsReport (Run m ring g) input r → IsReport (Run m ring h) input r
 
 -- the report of migrate on a text of version 2 is that text
 abbrev pub MigrateKeepsNewTexts : Type 0
 MigrateKeepsNewTexts =
-    (t : ChannelTable) (s : Separation) (r : Report) → IsTable t → IsSeparation s → IsReport Migrate (table_text t s) r → Says (table_text t s) Done r
+    (t : ChannelTable) (s : Separation) (r : Report) → IsTable t → IsSeparation s →
+    IsReport Migrate (table_text t s) r → Says (table_text t s) Done r
 
 -- a second migrate changes nothing
 abbrev pub MigrateTwiceIsOnce : Type 0
@@ -155,11 +165,12 @@ MigrateTwiceIsOnce =
 -- the report of audit on the report of table is that of judge, with the same near and far
 abbrev pub AuditOfTableIsJudge : Type 0
 AuditOfTableIsJudge =
-    (m v w near far : ℕ) (input : List ℕ) (r s : Report) → IsNear near → IsFar far → IsReport (Table m v near far) input r → r.status ≡ Done
+    (m v w near far : ℕ) (input : List ℕ) (r s : Report) → IsNear near → IsFar far →
+    IsReport (Table m v near far) input r → r.status ≡ Done
     → IsReport Audit r.bytes s → IsReport (Judge m w near far) input s
 
--- the cause is a list that is no ring, a place that a ring has not, a number of segments, a fault of a refutation, a no, or a
--- yes over no tuples: its note has no advice
+-- the cause is a list that is no ring, a place that a ring has not, a number of segments, a fault of a refutation, a
+-- no, or a yes over no tuples: its note has no advice
 abbrev pub HasNoAdvice : Reason → Type 0
 HasNoAdvice (of_ring m t places f) = ⊤
 HasNoAdvice (of_place place places) = ⊤
@@ -171,7 +182,8 @@ HasNoAdvice _ = ⊥
 
 -- such a cause has one note
 abbrev pub OneNote : Type 0
-OneNote = (input : List ℕ) (cause : Reason) (note other : List ℕ) → HasNoAdvice cause → IsNote input cause note → IsNote input cause other → note ≡ other
+OneNote = (input : List ℕ) (cause : Reason) (note other : List ℕ) → HasNoAdvice cause →
+    IsNote input cause note → IsNote input cause other → note ≡ other
 
 -- the report of refute on a text is that the formula is refuted
 pub record IsRefuted (m t channels : ℕ) (s : Separation) : Type 0 where
@@ -187,19 +199,20 @@ pub record AsksForAsMuch (ids t : ℕ) (own s : Separation) : Type 0 where
   pub far_more : s.far ≤ own.far
   pub rings : (extra s ≡ extra own) ⊎ (2 * t + 3 ≤ ids)
 
--- then no table with at least as many identifiers, at most as many rounds and at most as many channels keeps a separation
--- that asks for at least as much
+-- then no table with at least as many identifiers, at most as many rounds and at most as many channels keeps a
+-- separation that asks for at least as much
 abbrev pub NoTableIfRefuted : Type 0
 NoTableIfRefuted =
-    (m t channels : ℕ) (s own : Separation) (table : ChannelTable) → IsRefuted m t channels s → IsTable table → m ≤ table.ids → table.rounds ≤ t
+    (m t channels : ℕ) (s own : Separation) (table : ChannelTable) → IsRefuted m t channels s → IsTable table →
+    m ≤ table.ids → table.rounds ≤ t
     → table.channels ≤ channels → AsksForAsMuch table.ids t own s → ¬ IsApartEverywhere table own
 
 -- two channels of the table are too close on some ring
 abbrev pub FailsOnARing : ChannelTable → Separation → Type 0
 FailsOnARing table s = (ring : List ℕ) × (places : ℕ × ℕ) × (channels : ℕ × ℕ) × IsWitness table s ring places channels
 
--- the program fails: the channels of its global rounds are not apart on every ring, its table fails on some ring, and the
--- report of a judge on its text is a no
+-- the program fails: the channels of its global rounds are not apart on every ring, its table fails on some ring, and
+-- the report of a judge on its text is a no
 pub record Fails (m : ℕ) (s : Separation) (text : List ℕ) (p : ProgramTree) : Type 0 where
   pub rounds : ¬ ChannelsAreApart p m s
   pub ring : FailsOnARing (table_of p m) s
@@ -208,5 +221,6 @@ pub record Fails (m : ℕ) (s : Separation) (text : List ℕ) (p : ProgramTree) 
 -- and every accepted program with these numbers fails
 abbrev pub NoProgramIfRefuted : Type 0
 NoProgramIfRefuted =
-    (m t channels ids : ℕ) (s own : Separation) (text : List ℕ) (p : ProgramTree) → IsRefuted m t channels s → IsAcceptedText text ids p → m ≤ ids
+    (m t channels ids : ℕ) (s own : Separation) (text : List ℕ) (p : ProgramTree) → IsRefuted m t channels s →
+    IsAcceptedText text ids p → m ≤ ids
     → length p.steps ≤ t → p.channels ≤ channels → AsksForAsMuch ids t own s → Fails ids own text p

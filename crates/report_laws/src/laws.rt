@@ -1,4 +1,5 @@
-//! Reports of tasks: a task has one report on an input, and what reports tell of synchronous rounds.
+//! Reports of tasks: a task has one report on an input, and what reports tell of synchronous
+//! rounds.
 
 ghost use Rattle.report_laws.specs.Laws as law;
 
@@ -111,8 +112,8 @@ pub fn refuted_is_impossible()
     places_of_arcs();
 }
 
-/// The note on a list that is no ring, on a place that a ring has not, on a number of segments, on a
-/// fault of a refutation, on a no or on a yes over no tuples is one text.
+/// The note on a list that is no ring, on a place that a ring has not, on a number of segments, on
+/// a fault of a refutation, on a no or on a yes over no tuples is one text.
 #[tactic(auto, using(crate::proofs::OneNote::one_note))]
 pub fn one_note()
     ensures { law.OneNote }

@@ -8,4 +8,5 @@ pub returns-clause-twice : goal.returns-clause-twice
 returns-clause-twice c = twice c.table_texts_are_apart.ensures c.table_texts_are_read.ensures
 
 pub returns-clause-audit : goal.returns-clause-audit
-returns-clause-audit c = audit c.table_texts_are_apart.ensures c.table_texts_are_read.ensures c.program_tables_are_tables.ensures
+returns-clause-audit c =
+    audit c.table_texts_are_apart.ensures c.table_texts_are_read.ensures c.program_tables_are_tables.ensures
