@@ -32,6 +32,7 @@ module _ (own : List ℕ) (left right other : ℕ) where
       let both = neither (reads_right a) (reads_right b) all.1 in
       rw (value_ignores c all.0, value_ignores a both.0, value_ignores b both.1) refl
 
+  -- the values of several such expressions, and so the assignments of a round
   values_ignore :
       (es : List Term) → list_any reads_right es ≡ false
       → map (λ e. value e (reading_messages own left right)) es ≡ map (λ e. value e (reading_messages own left other)) es
@@ -45,6 +46,7 @@ module _ (own : List ℕ) (left right other : ℕ) where
   assigned_ignore None none = refl
   assigned_ignore (Some round) none = values_ignore round.next none
 
+-- the registers after such a round are the same for every message from the right
 pub round_ignores :
     (p : ProgramTree) (k : ℕ) → round_reads_right p k ≡ false
     → (own : List ℕ) (left right other : ℕ) → next p k own left right ≡ next p k own left other
