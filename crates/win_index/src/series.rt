@@ -55,14 +55,6 @@ impl RunPlaces {
     ghost use Rattle.win_index.specs.Successor.{IsNext};
     ghost use Rattle.win_index.specs.Windows.{IsWindow};
 
-    /// Returns the number of positions from this one to the end, gaps included.
-    pub fn rest(self, place: u32) -> u32
-        requires { place ≤ self.end }
-        ensures { result + place ≡ self.end }
-    {
-        self.end - place
-    }
-
     /// Returns the length of the longest series from the window at this position, at least 1 and at
     /// most `most`: consecutive windows of the run whose suffixes are consecutive.
     pub fn series(self, place: u32, most: u32) -> u32
