@@ -1,6 +1,7 @@
 //! Windows that begin a tuple whose third window is too close, found by counts, family by family. For
 //! a list `z` of `2t-1` identifiers, the third windows of the tuples that begin with `(a, b, z)` are
-//! the windows that begin with `z` and hold neither `a` nor `b`.
+//! the windows that begin with `z` and hold neither `a` nor `b`. From one `b` to the next one the
+//! numbers of `(a, b, z)`, `(z, a, b)` and `(z, b, a)` rise by constants, if both are free.
 ghost use Rattle.std.specs.Prelude.{◌≡◌, ◌≢◌, ℕ, ◌+◌, ◌-◌, ◌*◌, ◌^◌, ◌<◌, ◌≤◌, [], ◌∷◌, ◌++◌, All, Contains, IfSome, List, MatchOption, Some, length, drop, slice_get, slice_index};
 ghost use Rattle.std.specs.Bool.{OnFalse};
 ghost use Rattle.std.specs.Int.{abs_diff};
