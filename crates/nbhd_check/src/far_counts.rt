@@ -150,7 +150,8 @@ struct Family<'b> {
     ghost window: { IsWindow (shared_len table.now) table.now.ids shared.now },
     ghost numbered: { slice_get (shared_lists table.now) number ≡ Some shared.now },
     ghost fit: { CountsFit table.now counts.now },
-    ghost each_is: { (each ≡ falling (table.now.ids - 2) (shared_len table.now)) × (each ≤ length (windows_of table.now)) },
+    ghost each_is: { (each ≡ falling (table.now.ids - 2) (shared_len table.now))
+        × (each ≤ length (windows_of table.now)) },
 }
 
 impl<'b> Family<'b> {
@@ -201,8 +202,10 @@ impl<'b> Family<'b> {
     ) -> Option<PairNumbers>
         requires ids { (first < self.table.now.ids) × (second < self.table.now.ids) }
         requires lacks { ¬ Contains self.shared.now first }
-        requires last { IfSome last (λ numbers. (before : ℕ) × (second ≡ before + 1) × ArePairNumbers self.table.now self.shared.now first before numbers) }
-        ensures { MatchOption result (¬ IsWindow (2 * self.entry.table.now.rounds + 1) self.entry.table.now.ids (first ∷ second ∷ self.entry.shared.now))
+        requires last { IfSome last (λ numbers. (before : ℕ) × (second ≡ before + 1)
+            × ArePairNumbers self.table.now self.shared.now first before numbers) }
+        ensures { MatchOption result
+            (¬ IsWindow (2 * self.entry.table.now.rounds + 1) self.entry.table.now.ids (first ∷ second ∷ self.entry.shared.now))
             (ArePairNumbers self.entry.table.now self.entry.shared.now first second) }
     {
         if first == second || contains(self.shared, second) {
@@ -218,7 +221,8 @@ impl<'b> Family<'b> {
     fn stepped(self, numbers: PairNumbers) -> PairNumbers
         requires { (first : ℕ) × ((second : ℕ) × ArePairNumbers self.table.now self.shared.now first second numbers) }
         ensures { (first second : ℕ) → ArePairNumbers self.entry.table.now self.entry.shared.now first second numbers
-            → IsWindow (2 * self.entry.table.now.rounds + 1) self.entry.table.now.ids (first ∷ (second + 1) ∷ self.entry.shared.now)
+            → IsWindow (2 * self.entry.table.now.rounds + 1) self.entry.table.now.ids
+            (first ∷ (second + 1) ∷ self.entry.shared.now)
             → ArePairNumbers self.entry.table.now self.entry.shared.now first (second + 1) result }
     {
         numbers_of_windows();
@@ -308,7 +312,8 @@ impl<'b> Family<'b> {
     fn close_one(self, number: u32, channel: u32, decides: bool) -> u64
         requires { (window : List ℕ) × (slice_get (windows_of self.table.now) number ≡ Some window) }
         ensures few { result ≤ 1 }
-        ensures close { abs_diff channel (slice_index self.entry.table.now.entries number) < self.entry.distance → 1 ≤ result }
+        ensures close { abs_diff channel (slice_index self.entry.table.now.entries number) < self.entry.distance
+            → 1 ≤ result }
     {
         if !decides {
             return 1;
