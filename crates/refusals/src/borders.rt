@@ -3,33 +3,12 @@ ghost use Rattle.std.specs.Prelude.{◌≡◌, ◌<◌, ◌^◌, ◌+◌, OnOk, 
 
 use crate::miss::Miss;
 use crate::tell::tell;
-use border_exchange::{Border, Dated, PutFault, Seat, Side, Totals};
+use border_exchange::{Border, PutFault, Seat, Side, Totals};
 use std::alloc::Global;
 use std::marker::Brand;
 use std::sync::Wait;
 use std::sync::ledger::{Blank, Ledger};
-
-/// A message with a value.
-#[derive(Clone, Copy, PartialEq, Eq, Drop)]
-struct Note {
-    side: Side,
-    round: u32,
-    value: u32,
-}
-
-impl Dated for Note {
-    ghost side_of = { λ note. note.side };
-
-    ghost round_of = { λ note. note.round };
-
-    fn side(&self) -> Side {
-        self.side
-    }
-
-    fn round(&self) -> u32 {
-        self.round
-    }
-}
+use test_programs::{Note, to_the_left, to_the_right};
 
 /// The outcome of a border: it could not be made, or its results were printed.
 #[derive(Clone, Copy)]
@@ -216,22 +195,4 @@ fn tell_totals<R: Print>(rt: &R, totals: &Totals<Note>) -> Result<Outcome, Miss>
         println!(rt; "{}", note.value)?;
     }
     Ok(Outcome::Told)
-}
-
-// Returns a message to the right of this round.
-fn to_the_right(round: u32, value: u32) -> Note {
-    Note {
-        side: Side::Rightward,
-        round,
-        value,
-    }
-}
-
-// Returns a message to the left of this round.
-fn to_the_left(round: u32, value: u32) -> Note {
-    Note {
-        side: Side::Leftward,
-        round,
-        value,
-    }
 }

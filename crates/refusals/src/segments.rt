@@ -6,20 +6,8 @@ use crate::plans::{plan_of, ring_for};
 use crate::tell::{retried, tell_numbers, value_or_refusal};
 use lang_check::Plan;
 use ring_core::{RingEvent, World, replay};
-use test_programs::CV1;
+use test_programs::{CV1, EVENTS};
 use win_index::Ring;
-
-/// Events in which segment 0 advances at the third try, and then segment 1.
-const EVENTS: [RingEvent; 8] = [
-    RingEvent::SendRight(0),
-    RingEvent::SendLeft(0),
-    RingEvent::Advance(0),
-    RingEvent::SendRight(1),
-    RingEvent::Advance(0),
-    RingEvent::SendLeft(1),
-    RingEvent::Advance(0),
-    RingEvent::Advance(1),
-];
 
 /// `ring_core::replay`: prints the rounds and the registers of both segments after seven events and
 /// after one more.

@@ -38,8 +38,8 @@ fn a_segment_sends_what_its_ends_send(rt: HostRuntime) -> Result<(), Fail> {
     Ok(())
 }
 
-// Returns whether one of three segments begins at the place and holds the identifiers of `part`. RED
-// starts on its identifier.
+// Returns whether one of three segments begins at the place and holds the identifiers of `part`.
+// RED starts on its identifier.
 fn holds(alloc: Global, plan: &Plan, ring: &Ring, index: u32, part: (u32, &[u32])) -> Option<bool>
     requires ids { ring.now.ids ≡ plan.now.ids }
     requires rounds { ring.now.rounds ≡ length plan.now.program.steps }

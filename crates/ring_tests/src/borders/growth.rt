@@ -1,12 +1,12 @@
 //! Tests of a border whose lists are refused memory.
 ghost use Rattle.std.specs.Prelude.{◌≡◌, ◌<◌, ◌^◌};
 
-use super::{Note, to_the_right};
 use border_exchange::{Border, PutFault, Seat, Side};
 use std::alloc::Global;
 use std::marker::Brand;
 use std::sync::Wait;
 use std::sync::ledger::{Blank, Ledger};
+use test_programs::{Note, to_the_right};
 
 // Puts a message, a second time if memory for it was refused.
 fn put_again<R: Ledger, L: Ledger, W: Wait>(

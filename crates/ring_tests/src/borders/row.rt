@@ -1,7 +1,6 @@
 //! Tests of a border in one thread.
 ghost use Rattle.std.specs.Prelude.{◌≡◌};
 
-use super::{Note, to_the_left, to_the_right};
 use border_exchange::{Border, PutFault, Seat, Side};
 use std::alloc::Global;
 use std::marker::Brand;
@@ -9,6 +8,7 @@ use std::process::Abort;
 use std::sync::Wait;
 use std::sync::ledger::{Blank, Ledger};
 use std::test::Fail;
+use test_programs::{Note, to_the_left, to_the_right};
 
 // Puts a message at a seat with few puts.
 fn put<R: Ledger, L: Ledger, W: Wait>(

@@ -1,7 +1,6 @@
 //! Tests of a border between threads.
 ghost use Rattle.std.specs.Prelude.{◌≡◌};
 
-use super::{Note, to_the_right};
 use border_exchange::{Border, Seat, Side};
 use std::alloc::Global;
 use std::marker::Brand;
@@ -11,6 +10,7 @@ use std::sync::atomic::Ordering::SeqCst;
 use std::sync::ledger::{Blank, Ledger};
 use std::thread;
 use std::thread::Threads;
+use test_programs::{Note, to_the_right};
 
 // The maximum number of reads of a counter.
 const TURNS: u64 = 1_000_000_000;

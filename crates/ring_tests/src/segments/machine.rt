@@ -7,21 +7,8 @@ use lang_check::Plan;
 use ring_core::{RingEvent, World, replay};
 use std::alloc::Global;
 use std::test::Fail;
-use test_programs::{CV1, plan_of};
+use test_programs::{CV1, EVENTS, plan_of};
 use win_index::Ring;
-
-// Events of CV1 on the ring 5 1 3 7 in two segments, 5 1 and 3 7. Segment 0 advances at the third
-// try, and then segment 1.
-const EVENTS: [RingEvent; 8] = [
-    RingEvent::SendRight(0),
-    RingEvent::SendLeft(0),
-    RingEvent::Advance(0),
-    RingEvent::SendRight(1),
-    RingEvent::Advance(0),
-    RingEvent::SendLeft(1),
-    RingEvent::Advance(0),
-    RingEvent::Advance(1),
-];
 
 // Returns two segments after these events.
 fn after<'a>(
