@@ -179,7 +179,8 @@ at_end k m order is full =
 item_after : (before after : List ℕ) (x : ℕ) → slice_get (before ++ x ∷ after) (length before) ≡ Some x
 item_after before after x = slice_get-append_right before (x ∷ after) (length before) 0 (omega arith)
 
--- the parts of a window from its prefix and its last number, which is at this position among those that the prefix lacks
+-- the parts of a window from its prefix and its last number, which is at this position among those that the prefix
+-- lacks
 record Ends (k m n i : ℕ) (front : List ℕ) : Type 0 where
   place : ℕ
   front_at : slice_get (windows k m) place ≡ Some front

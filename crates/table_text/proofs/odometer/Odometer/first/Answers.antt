@@ -10,7 +10,8 @@ show-requires-clause-ids c =
     let k = c.args.front in
     let m = c.args.ids in
     let le : k ≤ m = omega (arith, c.requires.within) in
-    let made = first_order k m (take m order) le (subst (IsOrder 0 m) (sym c.rising-order.ensures) (rising_order m)) in (
+    let made = first_order k m (take m order) le
+    (subst (IsOrder 0 m) (sym c.rising-order.ensures) (rising_order m)) in (
       c.requires.pieces.0,
       rw c.requires.pieces.1 (subst (λ l. All (λ x. x < m) l) (take-take k m order le) made.0.window.below),
     )
