@@ -1,5 +1,5 @@
--- Each program is accepted or refused, each list of identifiers is a ring or has a fault, and each number of segments is
--- in its range or not.
+-- Each program is accepted or refused, each list of identifiers is a ring or has a fault, and each number of segments
+-- is in its range or not.
 use Rattle.std.proofs.Common.{◌≡◌, ◌≢◌, ℕ, zero, suc, ◌+◌, ◌*◌, ◌<◌, ◌≤◌, Bool, true, false, Option, Some, None, List, length, take, get_or, inl, inr, refl, arith, add-one}
 use Rattle.std.specs.Prelude.{◌⊎◌}
 use Rattle.std.proofs.lemmas.Bool.{cases_lt, cases_eq}

@@ -82,8 +82,8 @@ ExplainTellsRounds =
     → IsRing m (length p.steps) ring.items → place < length ring.items → IsReport (Explain m ring place base) input r
     → Says (explanation base p ring.items place) Done r
 
--- so below each heading it has a tree whose first line has the number that the line of a trace has at the place, and below
--- `finish` the one that a run has there
+-- so below each heading it has a tree whose first line has the number that the line of a trace has at the place, and
+-- below `finish` the one that a run has there
 abbrev pub ExplainShowsTrace : Type 0
 ExplainShowsTrace =
     (m place : ℕ) (ring : Vec ℕ Global) (base : Base) (input : List ℕ) (p : ProgramTree) (r : Report) →
