@@ -1,5 +1,8 @@
 //! Messages of a border.
 
+ghost use Rattle.std.specs.Prelude.{◌≡◌};
+ghost use Rattle.border_exchange.specs.declared.Side.TheVariants.{Leftward, Rightward};
+
 use border_exchange::{Dated, Side};
 
 /// A message with a value.
@@ -25,7 +28,9 @@ impl Dated for Note {
 }
 
 /// Returns a message to the right of this round.
-pub fn to_the_right(round: u32, value: u32) -> Note {
+pub fn to_the_right(round: u32, value: u32) -> Note
+    ensures { result ≡ record { side = Rightward; round = round; value = value } }
+{
     Note {
         side: Side::Rightward,
         round,
@@ -34,7 +39,9 @@ pub fn to_the_right(round: u32, value: u32) -> Note {
 }
 
 /// Returns a message to the left of this round.
-pub fn to_the_left(round: u32, value: u32) -> Note {
+pub fn to_the_left(round: u32, value: u32) -> Note
+    ensures { result ≡ record { side = Leftward; round = round; value = value } }
+{
     Note {
         side: Side::Leftward,
         round,
