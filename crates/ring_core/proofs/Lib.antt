@@ -1,5 +1,4 @@
 -- Lemmas that several proofs share.
-mod Places
 mod Neighbours
 mod Updates
 mod Fits

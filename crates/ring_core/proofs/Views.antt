@@ -11,7 +11,7 @@ use Rattle.ring_segments.specs.Segments.{RingSegment, first_of, places_of, state
 use Rattle.ring_segments.specs.Needs.{from_left, from_right, to_the_left, to_the_right}
 use Rattle.ring_core.specs.Machine.{SegmentState, BorderState, no_places, no_messages, segment_at, border_at, left_border, right_border, border_before, segment_after, first_state, last_state}
 use Rattle.ring_core.specs.Parts.{Progress, Parts, FitTogether, no_part, part_at, round_at, rightward_headings, leftward_headings, segment_state, values_under, rightward_values, leftward_values, border_state, machine_of}
-use Rattle.ring_core.proofs.Places.{first_place-grows, first_place-inside}
+use Rattle.ring_segments.proofs.Places.{first_place-grows, first_place-inside}
 use Rattle.ring_core.proofs.Neighbours.{before_inside, after_inside, after_before, left_end, right_end}
 
 -- the values of these headings

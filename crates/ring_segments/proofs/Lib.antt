@@ -1,3 +1,3 @@
 -- Lemmas that several proofs share.
-mod Places
+pub mod Places
 mod Stretches
