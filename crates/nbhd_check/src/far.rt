@@ -17,6 +17,10 @@ use std::alloc::Global;
 use std::thread::Threads;
 use win_index::count_of_windows;
 
+// The number of tuples that are tested before masks are made, so that an early no does not pay for
+// them.
+const FIRST_TUPLES: usize = 1 << 16;
+
 /// Returns a number of windows such that none of the windows below it begins a bad tuple, if none
 /// below `most` begins one whose second window is too close. At most `threads` threads search.
 ///
@@ -33,11 +37,32 @@ pub(crate) fn far_free_windows<R: Threads + Sync>(
     ensures { AreFree tuples.entry.table.now (BeginsBadTuple tuples.entry.table.now tuples.entry.separation) 0 result }
 {
     numbers_of_windows();
-    let Tuples { table, separation } = tuples;
-    let distance = separation.far;
+    let table = tuples.table;
     if !is_long_search(table, most) {
         return free_windows(rt, &TupleScan { tuples }, most, threads);
     }
+    let few = most.min((FIRST_TUPLES / windows_per_family(table).max(1)) as u32);
+    let first = free_windows(rt, &TupleScan { tuples }, few, 1);
+    if first < few {
+        return first;
+    }
+    free_by_masks(rt, alloc, tuples, most, threads)
+}
+
+// Like `far_free_windows`, by masks of third windows, or by counts if masks do not decide.
+fn free_by_masks<R: Threads + Sync>(
+    rt: &R,
+    alloc: Global,
+    tuples: Tuples,
+    most: u32,
+    threads: u32,
+) -> u32
+    requires { IsFarSearch tuples.table.now tuples.separation most }
+    ensures { AreFree tuples.entry.table.now (BeginsBadTuple tuples.entry.table.now tuples.entry.separation) 0 result }
+{
+    numbers_of_windows();
+    let Tuples { table, separation } = tuples;
+    let distance = separation.far;
     let masks = family_masks(alloc, table, distance);
     if masks.is_empty() {
         return free_by_counts(rt, alloc, tuples, most, threads);

@@ -1,6 +1,6 @@
 use Rattle.std.proofs.Common.{arith}
 use Rattle.nbhd_check.proofs.Runs.{free_of_both}
-use Rattle.nbhd_check.proofs.far.far_free_windows.Goals as goal
+use Rattle.nbhd_check.proofs.far.free_by_masks.Goals as goal
 
 pub returns-then-free-most : goal.returns-then-free-most
 returns-then-free-most g c =
