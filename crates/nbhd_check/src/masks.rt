@@ -104,7 +104,7 @@ fn group_masks(alloc: Global, table: &Table, len: usize, distance: u32) -> Masks
     let words = channels.div_ceil(64) as usize;
     let per_group = words.min((MAX_WORDS / groups.max(1)).max(1));
     let made = groups.min(MAX_WORDS / per_group);
-    if is_full(&entries[..len.min(entries.len())], channels) {
+    if is_full(&entries[..len.min(entries.len())]) {
         return Masks::none(alloc);
     }
     let Ok(mut words) = vec![in alloc; 0u64; made * per_group] else {
@@ -114,14 +114,16 @@ fn group_masks(alloc: Global, table: &Table, len: usize, distance: u32) -> Masks
     Masks { words, per_group }
 }
 
-// Estimates whether a mask of these channels has nearly as many bits as there are channels in all,
+// Estimates whether a mask of these channels has nearly all bits up to that of the greatest channel,
 // so that it hardly helps.
-fn is_full(channels: &[u16], all: u32) -> bool {
+fn is_full(channels: &[u16]) -> bool {
     let mut words = [0u64; 64];
     add_group(&mut words, 0, 64, channels, 1);
     let mut bits = 0u32;
+    let mut all = 0u32;
     for word in &words {
         bits = bits.saturating_add(word.count_ones());
+        all = all.saturating_add(64 - word.leading_zeros());
     }
     bits.saturating_mul(16) > all.saturating_mul(15)
 }
@@ -173,8 +175,20 @@ fn add_channel(words: &mut [u64], start: usize, count: usize, channel: u32, dist
     }
 }
 
-// Sets a bit of a word.
+// Sets a bit of a word. Most bits are set already, and a word that is only read takes less time.
 fn set_bit(words: &mut [u64], word: usize, bit: u32)
+    requires word { word < length words.old }
+    requires bit { bit < 64 }
+    ensures more { AreMore words.old words.new }
+    ensures set { HasBit words.new word bit }
+{
+    if words[word] >> bit & 1 == 0 {
+        write_bit(words, word, bit);
+    }
+}
+
+// Like `set_bit`, if the bit is not set.
+fn write_bit(words: &mut [u64], word: usize, bit: u32)
     requires word { word < length words.old }
     requires bit { bit < 64 }
     ensures more { AreMore words.old words.new }

@@ -3,7 +3,7 @@ use Rattle.std.proofs.lemmas.Bool.{cases_eq}
 use Rattle.std.proofs.lemmas.List.{get_or-set_same, get_or-set_other}
 use Rattle.std.proofs.lemmas.Nat.Bits.{bit_at_set_same, bit_at_set_other}
 use Rattle.std.specs.Int.{bit_at}
-use Rattle.nbhd_check.proofs.masks.set_bit.Goals as goal
+use Rattle.nbhd_check.proofs.masks.write_bit.Goals as goal
 
 pub returns-clause-set : goal.returns-clause-set
 returns-clause-set c =
