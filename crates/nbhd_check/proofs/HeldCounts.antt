@@ -2,8 +2,8 @@
 use Rattle.std.proofs.Common.{◌≡◌, ◌≢◌, ℕ, ◌+◌, ◌-◌, ◌*◌, ◌<◌, ◌≤◌, Bool, true, false, ◌&&◌, ◌||◌, ◌==◌, eqb, ltb, nat_lt, cond, min, List, [], length, get_or, slice_get, Some, All, subst, sym, ap, ◌∙◌, arith, refl, ⊎_elim}
 use Rattle.std.specs.Int.{abs_diff}
 use Rattle.std.specs.List.{range_with_len}
-use Rattle.std.proofs.lemmas.Bool.{false≢true, cases_lt, cases_order, lt-ltb, le-ltb, ne_eqb, eq-eqb}
-use Rattle.std.proofs.lemmas.Bool.Decides.{eqb_tells}
+use Rattle.std.proofs.lemmas.Bool.{false≢true, cases_lt, cases_Bool}
+use Rattle.std.proofs.lemmas.Bool.Decides.{nat_tests}
 use Rattle.std.proofs.lemmas.List.Sums.{count_by-le-length}
 use Rattle.std.proofs.lemmas.List.FromFn.{length-range_with_len}
 use Rattle.std.proofs.lemmas.List.{get_or_past}
@@ -17,24 +17,9 @@ pub count_few : (t : ChannelTable) (first n x : ℕ) (passes : ℕ → Bool) →
 count_few t first n x passes =
     omega (arith, count_by-le-length (λ k. passes (get_or t.entries k 0) && is_held t x k) (range_with_len first n), length-range_with_len first n)
 
-none : (a b c : Bool) → cond {A = ℕ} (a && false) 1 0 + cond (b && false) 1 0 ≡ cond (c && false) 1 0
-none a b c = rw (and_false a, and_false b, and_false c) refl
-  where
-    and_false : (b : Bool) → b && false ≡ false
-    and_false true = refl
-    and_false false = refl
-
 -- a channel below a limit is the last one below it, or it is below that one
 one_step : (row e : ℕ) (h : Bool) → 1 ≤ row → cond (eqb row (e + 1) && h) 1 0 + cond (ltb e (row - 1) && h) 1 0 ≡ cond (ltb e row && h) 1 0
-one_step row e true some =
-    ⊎_elim
-    (λ (same : e + 1 ≡ row). rw (eq-eqb row (e + 1) (sym same), le-ltb e (row - 1) (omega arith), lt-ltb e row (omega arith)) refl)
-    (λ order. ⊎_elim
-    (λ (less : e + 1 < row). rw (ne_eqb row (e + 1) (λ q. omega (arith, q)), lt-ltb e (row - 1) (omega arith), lt-ltb e row (omega arith)) refl)
-    (λ (more : row < e + 1). rw (ne_eqb row (e + 1) (λ q. omega (arith, q)), le-ltb e (row - 1) (omega arith), le-ltb e row (omega arith)) refl)
-    order)
-    (cases_order (e + 1) row)
-one_step row e false some = none (eqb row (e + 1)) (ltb e (row - 1)) (ltb e row)
+one_step row e h some = grind (arith, nat_tests, cases_Bool h)
 
 pub below_step :
     (t : ChannelTable) (first n x row : ℕ) → 1 ≤ row
@@ -48,15 +33,7 @@ below_step t first n x row some =
 one_close : (channel distance low high e most : ℕ) (h : Bool) → 1 ≤ distance → e < most → low ≡ channel + 1 - distance
     → high ≡ min (channel + distance) most
     → cond (ltb e low && h) 1 0 + cond (ltb (abs_diff channel e) distance && h) 1 0 ≡ cond (ltb e high && h) 1 0
-one_close channel distance low high e most true some below low_is high_is =
-    ⊎_elim
-    (λ (less : e < low). rw (lt-ltb e low less, le-ltb (abs_diff channel e) distance (omega arith), lt-ltb e high (omega arith)) refl)
-    (λ (from : low ≤ e). ⊎_elim
-    (λ (inside : e < high). rw (le-ltb e low from, lt-ltb (abs_diff channel e) distance (omega arith), lt-ltb e high inside) refl)
-    (λ (past : high ≤ e). rw (le-ltb e low from, le-ltb (abs_diff channel e) distance (omega arith), le-ltb e high past) refl)
-    (cases_lt e high))
-    (cases_lt e low)
-one_close channel distance low high e most false some below low_is high_is = none (ltb e low) (ltb (abs_diff channel e) distance) (ltb e high)
+one_close channel distance low high e most h some below low_is high_is = grind (arith, nat_tests, cases_Bool h)
 
 pub close_of_sums :
     (t : ChannelTable) (first n x channel distance low high most : ℕ) → 1 ≤ distance → ((k : ℕ) → get_or t.entries k 0 < most)
@@ -82,15 +59,7 @@ one_mark true false false false none_pq none_pr none_qr = refl
 one_mark false p q r none_pq none_pr none_qr = refl
 
 not_both : (x y z : ℕ) → y ≢ z → (eqb x y && eqb x z) ≡ false
-not_both x y z other =
-    ⊎_elim
-    (λ (own : (eqb x y ≡ true) × (x ≡ y)).
-    ⊎_elim
-    (λ (also : (eqb x z ≡ true) × (x ≡ z)). absurd (other (sym own.1 ∙ also.1)))
-    (λ (no : (eqb x z ≡ false) × (x ≢ z)). rw (own.0, no.0) refl)
-    (eqb_tells x z))
-    (λ (no : (eqb x y ≡ false) × (x ≢ y)). rw no.0 refl)
-    (eqb_tells x y)
+not_both x y z other = grind (arith, nat_tests)
 
 -- one more window is counted in three cells of the row after that of its channel
 pub window_counted :
