@@ -1,15 +1,16 @@
 -- Channels that are close, and channels that are apart.
-use Rattle.std.proofs.Common.{◌≤◌, ◌≡◌, ℕ, ◌<◌, Option, Some, None, IsSome, subst, ap, arith, refl, ltb, sym, IsTrue, ◌↔◌}
+use Rattle.std.proofs.Common.{◌≤◌, ◌≡◌, ℕ, ◌<◌, ◌⊎◌, Option, Some, None, IsSome, subst, ap, arith, ltb, inl, inr, ⊎_elim, IsTrue, ◌↔◌}
 use Rattle.std.proofs.lemmas.Bool.{false≢true, ltb-true, lt-ltb}
 use Rattle.std.specs.Int.{abs_diff}
-use Rattle.nbhd_check.specs.Apart.{AreClose, AreApart}
+use Rattle.channel_tables.specs.declared.separation.Separation.{Separation}
+use Rattle.nbhd_check.specs.Apart.{extra, AreClose, AreApart}
 
-pub apart_not_close : (distance : ℕ) (a b : Option ℕ) → AreApart distance a b → ¬ AreClose distance a b
+apart_not_close : (distance : ℕ) (a b : Option ℕ) → AreApart distance a b → ¬ AreClose distance a b
 apart_not_close distance (Some c) (Some d) apart close = omega arith
 apart_not_close distance (Some c) None apart close = close
 apart_not_close distance None b apart close = close
 
-pub apart_of_not_close : (distance : ℕ) (a b : Option ℕ) → IsSome a → IsSome b → ¬ AreClose distance a b → AreApart distance a b
+apart_of_not_close : (distance : ℕ) (a b : Option ℕ) → IsSome a → IsSome b → ¬ AreClose distance a b → AreApart distance a b
 apart_of_not_close distance (Some c) (Some d) some_a some_b other =
     let none : ¬ (abs_diff c d < distance) = other in
     omega arith
@@ -22,8 +23,14 @@ some_distance distance (Some c) (Some d) close = omega arith
 some_distance distance (Some c) None close = absurd close
 some_distance distance None b close = absurd close
 
+-- far is not 0 if channels are closer than far, so a tuple has a third window
+pub two_of_far : (s : Separation) (a b : Option ℕ) → AreClose s.far a b → 2 ≤ extra s
+two_of_far s a b close =
+    let some = some_distance s.far a b close in
+    omega arith
+
 -- channels that are closer than 1 are the same
-pub same_of_close : (a b : Option ℕ) → AreClose 1 a b → a ≡ b
+same_of_close : (a b : Option ℕ) → AreClose 1 a b → a ≡ b
 same_of_close (Some c) (Some d) close =
     let equal : c ≡ d = omega arith in
     ap Some equal
@@ -38,22 +45,41 @@ close_of_same a b some same = subst (AreClose 1 a) same (own a some)
     own None some = absurd (false≢true some)
 
 -- equal channels are equally close
-pub close_along : (distance : ℕ) (a b c d : Option ℕ) → a ≡ c → b ≡ d → AreClose distance a b → AreClose distance c d
-close_along distance a b c d first second close = subst (AreClose distance c) second (subst (λ o. AreClose distance o b) first close)
-
-pub some_of_apart : (distance : ℕ) (a b : Option ℕ) → AreApart distance a b → IsSome a
-some_of_apart distance (Some c) b apart = refl
-some_of_apart distance None b apart = absurd apart
+pub close_along : (distance : ℕ) {a b c d : Option ℕ} → a ≡ c → b ≡ d → AreClose distance a b → AreClose distance c d
+close_along distance first second close = rw (← first, ← second) close
 
 -- a test of the difference of two channels tells whether they are close
 pub close_by_test : (distance c d n : ℕ) (a b : Option ℕ) → n ≡ abs_diff c d → a ≡ Some c → b ≡ Some d → IsTrue (ltb n distance) ↔ AreClose distance a b
-close_by_test distance c d n a b n_is a_is b_is = (
-  λ is. subst (λ o. AreClose distance o b) (sym a_is) (subst (AreClose distance (Some c)) (sym b_is) (subst (λ m. m < distance) n_is (ltb-true n distance is))),
-  λ close. lt-ltb n distance (subst (λ m. m < distance) (sym n_is) (subst (AreClose distance (Some c)) b_is (subst (λ o. AreClose distance o b) a_is close))),
-)
+close_by_test distance c d n a b n_is a_is b_is = rw (n_is, a_is, b_is) (ltb-true (abs_diff c d) distance, lt-ltb (abs_diff c d) distance)
 
 -- channels that are closer than a distance are closer than a greater one
 pub closer : (less distance : ℕ) (a b : Option ℕ) → less ≤ distance → AreClose less a b → AreClose distance a b
 closer less distance (Some c) (Some d) le close = omega (arith, le, close)
 closer less distance (Some c) None le close = absurd close
 closer less distance None b le close = absurd close
+
+-- the first channel and the second one, or the first one and the third one, are too close
+abbrev pub AreTooClose : Separation → Option ℕ → Option ℕ → Option ℕ → Type 0
+AreTooClose s a b c = AreClose s.near a b ⊎ AreClose s.far a c
+
+pub too_close_along : (s : Separation) {a b c d e f : Option ℕ} → a ≡ d → b ≡ e → (2 ≤ extra s → c ≡ f) → AreTooClose s a b c → AreTooClose s d e f
+too_close_along s {a} {b} {c} {d} {e} {f} first second third close =
+    ⊎_elim (λ (near : AreClose s.near a b). inl (close_along s.near first second near))
+    (λ (far : AreClose s.far a c). inr (close_along s.far first (third (two_of_far s a c far)) far)) close
+
+pub too_close_for_more : (less s : Separation) (a b c : Option ℕ) → less.near ≤ s.near → less.far ≤ s.far → AreTooClose less a b c → AreTooClose s a b c
+too_close_for_more less s a b c near far close =
+    ⊎_elim (λ (own : AreClose less.near a b). inl (closer less.near s.near a b near own))
+    (λ (own : AreClose less.far a c). inr (closer less.far s.far a c far own)) close
+
+pub same_of_too_close : (a b c : Option ℕ) → AreTooClose (record { near = 1; far = 0 }) a b c → a ≡ b
+same_of_too_close a b c close =
+    ⊎_elim (same_of_close a b) (λ (far : AreClose 0 a c). let some = some_distance 0 a c far in absurd (omega arith)) close
+
+pub apart_not_too_close : (s : Separation) (a b c : Option ℕ) → AreApart s.near a b × AreApart s.far a c → ¬ AreTooClose s a b c
+apart_not_too_close s a b c apart = ⊎_elim (apart_not_close s.near a b apart.0) (apart_not_close s.far a c apart.1)
+
+pub apart_of_not_too_close :
+    (s : Separation) (a b c : Option ℕ) → IsSome a → IsSome b → IsSome c → ¬ AreTooClose s a b c → AreApart s.near a b × AreApart s.far a c
+apart_of_not_too_close s a b c some_a some_b some_c other =
+    (apart_of_not_close s.near a b some_a some_b (λ close. other (inl close)), apart_of_not_close s.far a c some_a some_c (λ close. other (inr close)))

@@ -1,131 +1,131 @@
 -- Windows that begin no tuple with a close third window, and the families of these third windows.
-use Rattle.std.proofs.Common.{◌≡◌, ◌≢◌, ℕ, ◌+◌, ◌-◌, ◌*◌, ◌<◌, ◌≤◌, ◌⊎◌, List, ◌∷◌, Contains, length, get_or, take, drop, slice_get, Some, subst, sym, ap, ◌∙◌, arith, inl, inr, ⊎_elim}
-use Rattle.std.proofs.lemmas.Bool.{cases_lt}
+use Rattle.std.proofs.Common.{◌≡◌, ◌≢◌, ℕ, ◌+◌, ◌-◌, ◌*◌, ◌<◌, ◌≤◌, List, length, get_or, take, drop, slice_get, Some, sym, ap, ◌∙◌, arith}
+use Rattle.std.proofs.lemmas.List.{get_or-take, get_or-drop, take-take, drop-take}
 use Rattle.std.proofs.lemmas.Option.{same_Some, slice_get_within}
 use Rattle.std.proofs.lemmas.Nat.{mul-le}
-use Rattle.win_index.specs.Falling.{falling}
-use Rattle.win_index.specs.Laws.{CountOfWindows}
-use Rattle.win_index.specs.Windows.{windows, IsWindow}
-use Rattle.channel_tables.specs.Tables.{ChannelTable, windows_of}
-use Rattle.nbhd_check.specs.Counts.{shared_len, shared_lists, IsFamily}
+use Rattle.std.specs.Int.{abs_diff}
+use Rattle.win_index.specs.Arcs.{part_at}
+use Rattle.win_index.specs.Windows.{IsWindow}
+use Rattle.win_index.proofs.FrontPlaces.{slice_window}
+use Rattle.win_index.proofs.Numbers.{length-windows, one_place, windows_all}
+use Rattle.win_index.proofs.Positions.{window_place}
+use Rattle.channel_tables.specs.Tables.{ChannelTable, channel_of, windows_of}
+use Rattle.nbhd_check.specs.Apart.{AreClose}
+use Rattle.nbhd_check.specs.Counts.{family_len, shared_len, shared_lists, IsFamily}
 use Rattle.nbhd_check.specs.FarSearch.{AreFarFreeIn, HasFamilyIn}
 use Rattle.nbhd_check.specs.Runs.{AreFree, BeginsFarTuple}
-use Rattle.nbhd_check.specs.Laws.{WindowsAreNumbered}
 use Rattle.nbhd_check.proofs.Cells.{row_more}
-use Rattle.nbhd_check.proofs.Ends.{before_window, by_first}
-use Rattle.nbhd_check.proofs.Prefixes.{number_of_window, one_number, window_at, window_drop, in_longer_run, one_run}
-use Rattle.nbhd_check.proofs.RunLengths.{falling-add}
+use Rattle.nbhd_check.proofs.Close.{close_along}
+use Rattle.nbhd_check.proofs.Prefixes.{window_drop, in_longer_run, one_run}
+use Rattle.nbhd_check.proofs.RunLengths.{falling-add, falling_two}
+use Rattle.nbhd_check.proofs.Witnesses.{channel_at}
 
--- windows that pass one test or the other
-pub free_in_two :
-    (t : ChannelTable) (distance a b less : ℕ) (first second both : List ℕ → Type 0) → less ≤ a → less ≤ b
-    → ((number : ℕ) (window : List ℕ) → slice_get (windows_of t) number ≡ Some window → both window → first window ⊎ second window)
-    → AreFarFreeIn t distance a first → AreFarFreeIn t distance b second → AreFarFreeIn t distance less both
-free_in_two t distance a b less first second both le_a le_b split free_a free_b number window below item own =
-    ⊎_elim
-    (λ (is : first window). free_a number window (omega arith) item is)
-    (λ (is : second window). free_b number window (omega arith) item is)
-    (split number window item own)
+-- the first two identifiers of a window of a table
+pub first_two : (t : ChannelTable) (number : ℕ) (window : List ℕ) → 1 ≤ t.rounds → slice_get (windows_of t) number ≡ Some window
+    → (2 ≤ length window) × (get_or window 0 0 < t.ids) × (get_or window 1 0 < t.ids)
+first_two t number window some item =
+    let is = windows_all (2 * t.rounds + 1) t.ids number window item in
+    let size = is.size in
+    (omega arith, is.below 0 0 (omega arith), is.below 1 0 (omega arith))
 
--- a window's first two identifiers differ and are not among the shared ones
-pub apart : (t : ChannelTable) (first second : ℕ) (z : List ℕ) → 1 ≤ t.rounds → IsWindow (2 * t.rounds + 1) t.ids (first ∷ second ∷ z)
-    → (first ≢ second) × (¬ Contains z first) × (¬ Contains z second)
-apart t first second z some is =
-    let size : 2 * t.rounds + 1 ≡ shared_len t + 2 = omega arith in
-    before_window (shared_len t) t.ids first second z (subst (λ k. IsWindow k t.ids (first ∷ second ∷ z)) size is)
+-- a window of a table by its family, the windows with the same identifiers but the last two
+record InFamily (t : ChannelTable) (number : ℕ) (window : List ℕ) : Type 0 where
+  family : ℕ
+  place : ℕ
+  shared_at : slice_get (shared_lists t) family ≡ Some (take (shared_len t) window)
+  number_is : number ≡ family * family_len t + place
+  inside : place < family_len t
 
-module _ (laws : WindowsAreNumbered) where
-  -- the windows that begin with a list of shared identifiers
-  pub family_is : (t : ChannelTable) (z : List ℕ) (number count : ℕ) → 1 ≤ t.rounds → slice_get (shared_lists t) number ≡ Some z
-      → count ≡ falling (t.ids - shared_len t) 2 → number * count + count ≤ length (windows_of t) → IsFamily t z (number * count) count
-  family_is t z number count some item count_is within =
-      let shared : ℕ = shared_len t in
-      let size : 2 * t.rounds + 1 ≡ shared + 2 = omega arith in
+module _ (t : ChannelTable) (some : 1 ≤ t.rounds) where
+  size : 2 * t.rounds + 1 ≡ shared_len t + 2
+  size = omega arith
+
+  in_family : (number : ℕ) (window : List ℕ) → slice_get (windows_of t) number ≡ Some window → InFamily t number window
+  in_family number window item =
+      let run = in_longer_run (shared_len t) t.ids 2 number window (rw size at item) in
+      let len = falling_two (t.ids - shared_len t) in
       record {
-        within = within;
-        stands = λ window is begins.
-            let numbered = number_of_window laws (2 * t.rounds + 1) t.ids window is in
-            let run = in_longer_run laws shared t.ids 2 numbered.0 window (subst (λ k. slice_get (windows k t.ids) numbered.0 ≡ Some window) size numbered.1) in
-            let same : run.number ≡ number = one_number laws shared t.ids run.number number z (run.front_at ∙ ap Some begins) item in
-            let inside : run.rest < count = subst (λ c. run.rest < c) (sym count_is) run.inside in
-            let own : numbered.0 ≡ number * count + run.rest = run.number_is ∙ (λ q. same q * sym count_is q + run.rest) in
-            (numbered.0, omega arith, omega arith, numbered.1);
-        begins = λ k window from to at'.
-            let run = in_longer_run laws shared t.ids 2 k window (subst (λ l. slice_get (windows l t.ids) k ≡ Some window) size at') in
-            let inside : run.rest < count = subst (λ c. run.rest < c) (sym count_is) run.inside in
-            let own : k ≡ run.number * count + run.rest = run.number_is ∙ (λ q. run.number * sym count_is q + run.rest) in
-            let same = one_run count run.number run.rest number k inside own from to in
-            same_Some (take shared window) z (sym run.front_at ∙ ap (slice_get (windows shared t.ids)) same ∙ item);
+        family = run.number;
+        place = run.rest;
+        shared_at = run.front_at;
+        number_is = rw (← len) run.number_is;
+        inside = rw (← len) run.inside;
       }
 
-  -- a list that is not a window is not one of the windows
-  pub none_at : (t : ChannelTable) (distance least : ℕ) (list : List ℕ) → ¬ IsWindow (2 * t.rounds + 1) t.ids list
-      → AreFarFreeIn t distance least (λ window. window ≡ list)
-  none_at t distance least list none number window below item own =
-      absurd (none (subst (IsWindow (2 * t.rounds + 1) t.ids) own (window_at laws (2 * t.rounds + 1) t.ids number window item)))
+  -- the windows of a table, by families
+  pub all_of_families : length (windows_of t) ≡ length (shared_lists t) * family_len t
+  all_of_families =
+      rw (size, length-windows (shared_len t + 2) t.ids, length-windows (shared_len t) t.ids, ← falling_two (t.ids - shared_len t))
+      (falling-add t.ids (shared_len t) 2)
 
-  -- one more second identifier
-  pub more_seconds :
-      (t : ChannelTable) (distance first second least less : ℕ) (z list : List ℕ) → 1 ≤ t.rounds → less ≤ least → list ≡ first ∷ second ∷ z
-      → AreFarFreeIn t distance least (λ window. (get_or window 0 0 ≡ first) × (get_or window 1 0 < second) × (drop 2 window ≡ z))
-      → AreFarFreeIn t distance less (λ window. window ≡ list)
-      → AreFarFreeIn t distance less (λ window. (get_or window 0 0 ≡ first) × (get_or window 1 0 < second + 1) × (drop 2 window ≡ z))
-  more_seconds t distance first second least less z list some le list_is before here =
-      free_in_two t distance least less less _ _ _ le (omega arith) (λ number window item own.
-      let is = window_at laws (2 * t.rounds + 1) t.ids number window item in
-      let size = is.size in
-      ⊎_elim
-      (λ (lt : get_or window 1 0 < second). inl (own.0, lt, own.2))
-      (λ (ge : second ≤ get_or window 1 0).
-      let same : get_or window 1 0 ≡ second = omega (arith, own.1) in
-      inr (by_first window (omega arith) ∙ (λ q. own.0 q ∷ same q ∷ own.2 q) ∙ sym list_is))
-      (cases_lt (get_or window 1 0) second)) before here
+  -- the windows of a family are numbered within those of the table
+  pub family_within : (number : ℕ) → number < length (shared_lists t) → number * family_len t + family_len t ≤ length (windows_of t)
+  family_within number below =
+      omega (arith, all_of_families, row_more number (family_len t), mul-le (number + 1) (family_len t) (length (shared_lists t)) (family_len t) (omega arith) (omega arith))
 
-  pub all_seconds :
-      (t : ChannelTable) (distance first least end : ℕ) (z : List ℕ) → 1 ≤ t.rounds → t.ids ≤ end
-      → AreFarFreeIn t distance least (λ window. (get_or window 0 0 ≡ first) × (get_or window 1 0 < end) × (drop 2 window ≡ z))
-      → AreFarFreeIn t distance least (λ window. (get_or window 0 0 ≡ first) × (drop 2 window ≡ z))
-  all_seconds t distance first least end z some le free number window below item own =
-      let is = window_at laws (2 * t.rounds + 1) t.ids number window item in
-      let size = is.size in
-      free number window below item (own.0, omega (arith, is.below 1 0 (omega arith)), own.1)
-
-  pub all_firsts :
-      (t : ChannelTable) (distance least end : ℕ) (z : List ℕ) → 1 ≤ t.rounds → t.ids ≤ end
-      → AreFarFreeIn t distance least (λ window. (get_or window 0 0 < end) × (drop 2 window ≡ z))
-      → AreFarFreeIn t distance least (λ window. drop 2 window ≡ z)
-  all_firsts t distance least end z some le free number window below item own =
-      let is = window_at laws (2 * t.rounds + 1) t.ids number window item in
-      let size = is.size in
-      free number window below item (omega (arith, is.below 0 0 (omega arith)), own)
+  -- the windows that begin with a list of shared identifiers
+  pub family_is : (z : List ℕ) (number : ℕ) → slice_get (shared_lists t) number ≡ Some z → IsFamily t z (number * family_len t) (family_len t)
+  family_is z number item =
+      record {
+        within = family_within number (slice_get_within (shared_lists t) number z item);
+        stands = λ window is begins.
+            let place = window_place (2 * t.rounds + 1) t.ids window is in
+            let own = in_family place.0 window place.1 in
+            let same = one_place (shared_len t) t.ids own.family number z (own.shared_at ∙ ap Some begins) item in
+            let number_is : place.0 ≡ number * family_len t + own.place = own.number_is ∙ ap (λ n. n * family_len t + own.place) same in
+            let inside = own.inside in
+            (place.0, omega arith, omega arith, place.1);
+        begins = λ k window from to at'.
+            let own = in_family k window at' in
+            let same = one_run (family_len t) own.family own.place number k own.inside own.number_is from to in
+            same_Some (take (shared_len t) window) z (sym own.shared_at ∙ ap (slice_get (shared_lists t)) same ∙ item);
+      }
 
   -- every window has a family
-  pub all_families :
-      (t : ChannelTable) (distance least end : ℕ) → 1 ≤ t.rounds → length (shared_lists t) ≤ end
+  pub all_families : (distance least end : ℕ) → length (shared_lists t) ≤ end
       → AreFarFreeIn t distance least (HasFamilyIn t 0 end) → AreFree t (BeginsFarTuple t distance) 0 least
-  all_families t distance least end some le free number window from below item =
-      let is = window_at laws (2 * t.rounds + 1) t.ids number window item in
-      let size : 2 * t.rounds + 1 ≡ 2 + shared_len t = omega arith in
-      let rest = window_drop (shared_len t) t.ids 2 window (subst (λ k. IsWindow k t.ids window) size is) in
-      let family = number_of_window laws (shared_len t) t.ids (drop 2 window) rest in
+  all_families distance least end le free number window from below item =
+      let turn : 2 * t.rounds + 1 ≡ 2 + shared_len t = omega arith in
+      let rest = window_drop (shared_len t) t.ids 2 window (rw turn at (windows_all (2 * t.rounds + 1) t.ids number window item)) in
+      let family = window_place (shared_len t) t.ids (drop 2 window) rest in
       let within = slice_get_within (shared_lists t) family.0 (drop 2 window) family.1 in
       free number window below item (family.0, omega arith, omega arith, family.1)
 
--- the windows of a table, by families
-pub all_of_families : (t : ChannelTable) (count : ℕ) → CountOfWindows → 1 ≤ t.rounds → count ≡ falling (t.ids - shared_len t) 2
-    → length (windows_of t) ≡ length (shared_lists t) * count
-all_of_families t count counts some count_is =
-    let shared : ℕ = shared_len t in
-    let size : 2 * t.rounds + 1 ≡ shared + 2 = omega arith in
-    ap (λ k. length (windows k t.ids)) size ∙ counts (shared + 2) t.ids ∙ falling-add t.ids shared 2
-    ∙ (λ q. sym (counts shared t.ids) q * sym count_is q)
+-- the third window of a tuple that begins with the window, if it is closer than the distance
+pub record FarThird (t : ChannelTable) (distance : ℕ) (window : List ℕ) : Type 0 where
+  pub third : List ℕ
+  pub is : IsWindow (2 * t.rounds + 1) t.ids third
+  pub shared : take (shared_len t) third ≡ drop 2 window
+  pub close : AreClose distance (channel_of t window) (channel_of t third)
+  pub apart : (i j : ℕ) → i < 2 → j < 2 * t.rounds + 1 → get_or window i 0 ≢ get_or third j 0
 
--- the windows of a family are numbered within those of the table
-pub family_within : (t : ChannelTable) (number count : ℕ) → CountOfWindows → 1 ≤ t.rounds → count ≡ falling (t.ids - shared_len t) 2
-    → number < length (shared_lists t) → number * count + count ≤ length (windows_of t)
-family_within t number count counts some count_is below =
-    let le : number + 1 ≤ length (shared_lists t) = omega arith in
-    omega (arith, all_of_families t count counts some count_is, row_more number count, mul-le (number + 1) count (length (shared_lists t)) count le (omega arith))
+pub far_third : (t : ChannelTable) (distance : ℕ) (window : List ℕ) → 1 ≤ t.rounds → BeginsFarTuple t distance window → FarThird t distance window
+unfolding BeginsFarTuple
+far_third t distance window some far =
+    let len : ℕ = 2 * t.rounds + 1 in
+    let tuple = far.0 in
+    let is = far.1 in
+    let size = is.size in
+    let turn : 2 + shared_len t ≡ len = omega arith in
+    record {
+      third = part_at t.rounds 2 tuple;
+      is = slice_window t.ids (2 * t.rounds + 3) 2 len tuple is (omega arith);
+      shared = take-take (shared_len t) len (drop 2 tuple) (omega arith) ∙ sym (drop-take 2 (shared_len t) tuple) ∙ ap (λ l. drop 2 (take l tuple)) turn ∙ ap (drop 2) far.2;
+      close = rw (← far.2) far.3;
+      apart = λ i j in_i in_j same.
+          is.distinct i (2 + j) 0 (omega arith) (omega arith) (sym (get_or-take len tuple i 0 (omega arith)) ∙ ap (λ l. get_or l i 0) far.2
+          ∙ same ∙ get_or-take len (drop 2 tuple) j 0 in_j ∙ get_or-drop 2 tuple j 0);
+    }
+
+-- its number in the family of the third windows, and that its channel is close to that of the window
+pub third_in_family :
+    (t : ChannelTable) (distance number first n : ℕ) (window : List ℕ) → slice_get (windows_of t) number ≡ Some window
+    → IsFamily t (drop 2 window) first n → (own : FarThird t distance window)
+    → (k : ℕ) × (first ≤ k) × (k < first + n) × (slice_get (windows_of t) k ≡ Some own.third)
+    × (abs_diff (get_or t.entries number 0) (get_or t.entries k 0) < distance)
+third_in_family t distance number first n window item family own =
+    let found = family.stands own.third own.is own.shared in
+    (found.0, found.1, found.2, found.3, close_along distance (channel_at t number window item) (channel_at t found.0 own.third found.3) own.close)
 
 pub some_product : (a b : ℕ) → 1 ≤ a → 1 ≤ b → 1 ≤ a * b
 some_product a b some_a some_b = omega (arith, mul-le 1 1 a b some_a some_b)

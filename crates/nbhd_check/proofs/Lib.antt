@@ -11,7 +11,6 @@ pub mod LeastFrom
 pub mod FarCounts
 pub mod FarFree
 pub mod Parts
-pub mod Ranks
 pub mod Steps
 pub mod Runs
 pub mod RunSteps

@@ -8,8 +8,7 @@ use Rattle.channel_tables.specs.Tables.{ChannelTable, channel_of}
 use Rattle.channel_tables.specs.declared.separation.Separation.{Separation}
 use Rattle.nbhd_check.specs.Apart.{AreClose, IsBad}
 use Rattle.nbhd_check.specs.Runs.{BeginsBadTuple}
-use Rattle.nbhd_check.proofs.Close.{closer}
-use Rattle.nbhd_check.proofs.Witnesses.{two_of_far}
+use Rattle.nbhd_check.proofs.Close.{closer, two_of_far}
 
 one_at : (i : ℕ) (list : List ℕ) → i < length list → take 1 (drop i list) ≡ get_or list i 0 ∷ []
 one_at i [] lt = absurd (omega arith)

@@ -1,178 +1,136 @@
 -- The numbers of windows, as identifiers are added at the end or one is replaced by the next one.
-use Rattle.std.proofs.Common.{◌≡◌, ◌≢◌, ℕ, zero, suc, ◌+◌, ◌-◌, ◌*◌, ◌<◌, ◌≤◌, false, not, cond, nat_lt, List, [], ◌∷◌, ◌++◌, AllPairs, length, get_or, take, slice_get, Some, subst, sym, ap, ◌∙◌, arith, add-one, refl, ⊎_elim, append-nil, length-append}
+use Rattle.std.proofs.Common.{◌≡◌, ◌≢◌, ℕ, zero, suc, ◌+◌, ◌-◌, ◌*◌, ◌/◌, ◌<◌, ◌≤◌, false, cond, nat_lt, List, [], ◌∷◌, ◌++◌, count_by, length, get_or, set, take, slice_get, Some, sym, ap, ◌∙◌, arith, add-one, refl, length-append}
 use Rattle.std.proofs.Math.Nat.{add-mul}
-use Rattle.std.proofs.lemmas.Bool.{cases_lt, lt-ltb, le-ltb, ne_eqb}
-use Rattle.std.proofs.lemmas.List.{append_assoc, length-take-le, length_push, take_all, take_at, take_more}
+use Rattle.std.proofs.Math.Seq.{get_or-append_seam, set-append_seam, take-append_seam, take-set-lt}
+use Rattle.std.proofs.lemmas.Bool.Decides.{nat_tests}
+use Rattle.std.proofs.lemmas.List.{append_assoc, get_or-set_same, get_or-set_other, get_or-take, length_push, take_all, take-set, take-take}
+use Rattle.std.proofs.lemmas.List.Sums.{sum_by-set}
+use Rattle.std.proofs.lemmas.Nat.{div-add-mod'}
 use Rattle.win_index.specs.Falling.{falling}
-use Rattle.win_index.specs.Windows.{is_used, windows, IsWindow}
+use Rattle.win_index.specs.Windows.{is_used, unused, windows, IsWindow}
+use Rattle.win_index.proofs.FrontPlaces.{slice_window}
+use Rattle.win_index.proofs.Numbers.{window_step, windows_all}
+use Rattle.win_index.proofs.Positions.{free_at, front_step}
+use Rattle.win_index.proofs.RunPrefixNumbers.{shorter_number}
+use Rattle.win_index.proofs.Unused.{IsDistinct, unused_at_end, unused_below, unused_more}
 use Rattle.channel_tables.specs.Tables.{ChannelTable, windows_of}
-use Rattle.nbhd_check.specs.Counts.{shared_len, shared_lists}
+use Rattle.nbhd_check.specs.Counts.{shared_len}
 use Rattle.nbhd_check.specs.FarSearch.{ArePairNumbers}
-use Rattle.nbhd_check.specs.Laws.{WindowsAreNumbered}
 use Rattle.nbhd_check.specs.declared.far_counts.PairNumbers.{PairNumbers}
 use Rattle.nbhd_check.proofs.Ends.{window_moved}
-use Rattle.nbhd_check.proofs.Prefixes.{place_of_last, in_run, window_at, window_take}
-use Rattle.nbhd_check.proofs.Ranks.{rank, lacks, rank_suc, rank_among, rank_pushed}
-use Rattle.nbhd_check.proofs.RunLengths.{one_more}
+use Rattle.nbhd_check.proofs.RunLengths.{falling_one}
 
-at_end : (u v : List ℕ) (x : ℕ) → get_or (u ++ x ∷ v) (length u) 0 ≡ x
-at_end [] v x = refl
-at_end (y ∷ u) v x = at_end u v x
+-- the place of an identifier among those that a list lacks
+abbrev rank : List ℕ → ℕ → ℕ
+rank list x = length (unused x list)
 
--- an identifier of a list of distinct ones is not among the others
-lacks_rest : (u v : List ℕ) (x : ℕ) → AllPairs (λ a b. a ≢ b) (u ++ x ∷ v) → is_used (u ++ v) x ≡ false
-lacks_rest [] v x distinct = lacks v x (λ i lt e. distinct 0 (suc i) 0 (omega arith) (omega arith) (sym e))
-lacks_rest (y ∷ u) v x distinct =
-    let rest = lacks_rest u v x (λ i j d lt within. distinct (suc i) (suc j) d (omega arith) (omega arith)) in
-    let other : y ≢ x = λ e. distinct 0 (suc (length u)) 0 (omega arith) (omega (arith, length-append u (x ∷ v))) (e ∙ sym (at_end u v x)) in
-    rw (ne_eqb y x other) rest
+-- it is the same whether the list has x or the next one
+same_rank : (list : List ℕ) (i x y : ℕ) → i < length list → get_or list i 0 ≡ x → IsDistinct list → IsDistinct (set list i (x + 1)) → y ≢ x + 1
+    → rank (set list i (x + 1)) y ≡ rank list y
+same_rank list i x y lt own distinct next other =
+    let written : count_by (λ w. nat_lt w y) (set list i (x + 1)) + cond (nat_lt (get_or list i 0) y) 1 0 ≡ count_by (λ w. nat_lt w y) list + cond (nat_lt (x + 1) y) 1 0 =
+    sum_by-set (λ w. cond (nat_lt w y) 1 0) list i (x + 1) 0 lt in
+    let old = unused_below list y distinct in
+    let new = unused_below (set list i (x + 1)) y next in
+    grind (arith, nat_tests, written, old, new)
 
-lacks_last : (list : List ℕ) (x : ℕ) → AllPairs (λ a b. a ≢ b) (list ++ x ∷ []) → is_used list x ≡ false
-lacks_last list x distinct = ap (λ l. is_used l x) (sym (append-nil list)) ∙ lacks_rest list [] x distinct
+-- the number of the first j identifiers of a window, from that of one more
+front_number : (m j n : ℕ) (list : List ℕ) → slice_get (windows (j + 1) m) n ≡ Some (take (j + 1) list)
+    → (slice_get (windows j m) (n / (m - j)) ≡ Some (take j list)) × (n ≡ n / (m - j) * (m - j) + rank (take j list) (get_or list j 0))
+front_number m j n list at' =
+    let next : j + 1 ≡ suc j = add-one j in
+    let parts = shorter_number j m n (take (suc j) list) (rw next at at') in
+    let front = take-take j (suc j) list (omega arith) in
+    (rw front at parts.0, omega (arith, div-add-mod' n (m - j), rw (front, get_or-take (suc j) list j 0 (omega arith)) at parts.1))
 
--- an identifier has the same place whether a list has x or the next one
-same_rank : (u v : List ℕ) (x y : ℕ) → is_used (u ++ v) x ≡ false → is_used (u ++ v) (suc x) ≡ false → y ≢ suc x
-    → rank (u ++ suc x ∷ v) y ≡ rank (u ++ x ∷ v) y
-same_rank u v x y free free_next other =
-    let one : cond {A = ℕ} (nat_lt x y) 1 0 ≡ cond (nat_lt (suc x) y) 1 0 =
-    ⊎_elim
-    (λ (lt : x < y). ap (λ b. cond b 1 0) (lt-ltb x y lt ∙ sym (lt-ltb (suc x) y (omega (arith, lt, other)))))
-    (λ (le : y ≤ x). ap (λ b. cond b 1 0) (le-ltb x y le ∙ sym (le-ltb (suc x) y (omega arith))))
-    (cases_lt x y) in
-    omega (arith, one, rank_among u v x free y, rank_among u v (suc x) free_next y)
+-- If an identifier is replaced by the next one, the number rises by that of the windows that begin with the identifiers
+-- up to it.
+module _ (k m i x : ℕ) (list : List ℕ) (lt : i < k) (own : get_or list i 0 ≡ x) (is : IsWindow k m list) (new_is : IsWindow k m (set list i (x + 1))) where
+  stepped : (d n : ℕ) → i + 1 + d ≤ k → slice_get (windows (i + 1 + d) m) n ≡ Some (take (i + 1 + d) list)
+      → slice_get (windows (i + 1 + d) m) (n + falling (m - (i + 1)) d) ≡ Some (take (i + 1 + d) (set list i (x + 1)))
+  stepped zero n within at' =
+      let size = is.size in
+      let plain : i + 1 + zero ≡ i + 1 = omega arith in
+      let parts = front_number m i n list (rw plain at at') in
+      let step = front_step k m i (n / (m - i)) (set list i (x + 1)) new_is lt (parts.0 ∙ ap Some (sym (take-set list i (x + 1)))) in
+      let more = (unused_more (take i list) x).0 (rw own at (free_at list i is.distinct (omega arith))) in
+      let number : n / (m - i) * (m - i) + rank (take i list) (x + 1) ≡ n + 1 = omega (arith, rw own at parts.1, more) in
+      rw plain (ap (slice_get (windows (i + 1) m)) (sym number) ∙ rw (get_or-set_same list i (x + 1) 0 (omega arith), take-set list i (x + 1)) at step)
+  stepped (suc d) n within at' =
+      let j : ℕ = i + 1 + d in
+      let new = set list i (x + 1) in
+      let size = is.size in
+      let new_size = new_is.size in
+      let more : i + 1 + suc d ≡ j + 1 = omega arith in
+      let parts = front_number m j n list (rw more at at') in
+      let q : ℕ = n / (m - j) in
+      let fewer : ℕ = falling (m - (i + 1)) d in
+      let step = front_step k m j (q + fewer) new new_is (omega arith) (stepped d q (omega arith) parts.0) in
+      let kept = get_or-set_other list i j (x + 1) 0 (λ e. omega (arith, e)) in
+      let front = take-set-lt j list i (x + 1) (omega arith) in
+      let front_is = slice_window m k 0 j list is (omega arith) in
+      let front_size = front_is.size in
+      let new_front = rw front at (slice_window m k 0 j new new_is (omega arith)) in
+      let same = same_rank (take j list) i x (get_or list j 0) (omega arith) (get_or-take j list i 0 (omega arith) ∙ own) front_is.distinct new_front.distinct
+      (λ e. new_is.distinct i j 0 (omega arith) (omega arith) (get_or-set_same list i (x + 1) 0 (omega arith) ∙ sym e ∙ sym kept)) in
+      let number : (q + fewer) * (m - j) + rank (set (take j list) i (x + 1)) (get_or list j 0) ≡ n + fewer * (m - j) =
+      omega (arith, same, parts.1, add-mul q fewer (m - j)) in
+      let free : m - (i + 1) - d ≡ m - j = omega arith in
+      rw (more, free) (ap (slice_get (windows (j + 1) m)) (sym number) ∙ rw (kept, front) at step)
 
--- the list is the window with this number, among those as long as it
-abbrev IsNumbered : ℕ → ℕ → List ℕ → Type 0
-IsNumbered m n list = slice_get (windows (length list) m) n ≡ Some list
-
-without_last : (m y : ℕ) (list : List ℕ) → IsWindow (length (list ++ y ∷ [])) m (list ++ y ∷ []) → IsWindow (length list) m list
-without_last m y list is =
-    subst (IsWindow (length list) m) (take_at list (y ∷ []) (length list) refl)
-    (window_take (length (list ++ y ∷ [])) m (length list) (list ++ y ∷ []) (omega (arith, length_push list y)) is)
-
-module _ (laws : WindowsAreNumbered) where
-  last_place : (y : ℕ) (list : List ℕ) → place_of_last (length list) (list ++ y ∷ []) ≡ rank list y
-  last_place y list = λ q. rank (take_at list (y ∷ []) (length list) refl q) (at_end list [] y q)
-
-  -- a window without its last identifier
-  pushed : (m n y : ℕ) (list : List ℕ) → IsNumbered m n (list ++ y ∷ [])
-      → (number : ℕ) × IsNumbered m number list × (n ≡ number * (m - length list) + rank list y)
-  pushed m n y list item =
-      let run = in_run laws (length list) m n (list ++ y ∷ []) (subst (λ l. slice_get (windows l m) n ≡ Some (list ++ y ∷ [])) (length_push list y) item) in
-      (run.number, run.front_at ∙ ap Some (take_at list (y ∷ []) (length list) refl), run.number_is ∙ ap (λ p. run.number * (m - length list) + p) (last_place y list))
-
-  -- a window with one more identifier at its end
-  number_pushed : (m n y : ℕ) (list : List ℕ) → IsNumbered m n list → IsWindow (length (list ++ y ∷ [])) m (list ++ y ∷ [])
-      → IsNumbered m (n * (m - length list) + rank list y) (list ++ y ∷ [])
-  number_pushed m n y list item is =
-      let long = length_push list y in
-      (λ q. slice_get (windows (long q) m) (n * (m - length list) + sym (last_place y list) q))
-      ∙ (laws.longer_number (length list) m n (list ++ y ∷ []) (subst (λ l. IsWindow l m (list ++ y ∷ [])) long is) (item ∙ ap Some (sym (take_at list (y ∷ []) (length list) refl)))).1
-
-  -- If an identifier is replaced by the next one, the number rises by that of the windows that begin with the
-  -- identifiers up to it.
-  stepped : (m x : ℕ) (u v : List ℕ) (j n : ℕ) → length v ≡ j → IsNumbered m n (u ++ x ∷ v) → IsWindow (length (u ++ suc x ∷ v)) m (u ++ suc x ∷ v)
-      → IsNumbered m (n + falling (m - (length u + 1)) j) (u ++ suc x ∷ v)
-  stepped m x u [] zero n size item is =
-      let old = pushed m n x u item in
-      let own = window_at laws (length (u ++ x ∷ [])) m n (u ++ x ∷ []) item in
-      let one : cond {A = ℕ} (not (is_used u x)) 1 0 ≡ 1 = ap (λ b. cond (not b) 1 0) (lacks_last u x own.distinct) in
-      let number : old.0 * (m - length u) + rank u (suc x) ≡ n + 1 = omega (arith, old.2, rank_suc u x, one) in
-      ap (slice_get (windows (length (u ++ suc x ∷ [])) m)) (sym number) ∙ number_pushed m old.0 (suc x) u old.1 is
-  stepped m x u (y ∷ v) zero n size item is = absurd (omega arith)
-  stepped m x u v (suc j) n size item is =
-      let front = take j v in
-      let y : ℕ = get_or v j 0 in
-      let short : length front ≡ j = length-take-le j v (omega arith) in
-      let whole : v ≡ front ++ y ∷ [] = sym (take_all (j + 1) v (omega arith)) ∙ take_more v j 0 (omega arith) in
-      let a = u ++ x ∷ front in
-      let b = u ++ suc x ∷ front in
-      let a_is : u ++ x ∷ v ≡ a ++ y ∷ [] = ap (λ l. u ++ x ∷ l) whole ∙ sym (append_assoc u (x ∷ front) (y ∷ [])) in
-      let b_is : u ++ suc x ∷ v ≡ b ++ y ∷ [] = ap (λ l. u ++ suc x ∷ l) whole ∙ sym (append_assoc u (suc x ∷ front) (y ∷ [])) in
-      let item_a = subst (IsNumbered m n) a_is item in
-      let new = subst (λ l. IsWindow (length l) m l) b_is is in
-      let is_a = without_last m y a (window_at laws (length (a ++ y ∷ [])) m n (a ++ y ∷ []) item_a) in
-      let is_b = without_last m y b new in
-      let fewer : ℕ = falling (m - (length u + 1)) j in
-      let old = pushed m n y a item_a in
-      let before = stepped m x u front j old.0 short old.1 is_b in
-      let other : y ≢ suc x = λ e. new.distinct (length u) (length b) 0 (omega (arith, length-append u (suc x ∷ front))) (omega (arith, length_push b y))
-      (ap (λ l. get_or l (length u) 0) (sym b_is) ∙ at_end u v (suc x) ∙ sym e ∙ sym (at_end b [] y)) in
-      let ranks = same_rank u front x y (lacks_rest u front x is_a.distinct) (lacks_rest u front (suc x) is_b.distinct) other in
-      let free : (c : ℕ) → m - length (u ++ c ∷ front) ≡ m - (length u + 1) - j = λ c. omega (arith, short, length-append u (c ∷ front)) in
-      let number : (old.0 + fewer) * (m - length b) + rank b y ≡ n + fewer * (m - (length u + 1) - j) =
-      omega (arith, old.2, ranks, add-mul old.0 fewer (m - (length u + 1) - j), ap (λ f. (old.0 + fewer) * f) (free (suc x)), ap (λ f. old.0 * f) (free x)) in
-      subst (IsNumbered m (n + fewer * (m - (length u + 1) - j))) (sym b_is)
-      (ap (slice_get (windows (length (b ++ y ∷ [])) m)) (sym number) ∙ number_pushed m (old.0 + fewer) y b before new)
-
--- the shared identifiers followed by the two, in either order
-pub moved : (t : ChannelTable) (z : List ℕ) (a b i j : ℕ) → 1 ≤ t.rounds → IsWindow (2 * t.rounds + 1) t.ids (a ∷ b ∷ z) → i < 2 → j < 2 → i ≢ j
-    → IsWindow (2 * t.rounds + 1) t.ids (z ++ get_or (a ∷ b ∷ z) i 0 ∷ get_or (a ∷ b ∷ z) j 0 ∷ [])
-moved t z a b i j some is in_i in_j other =
-    let window = a ∷ b ∷ z in
-    let size : 2 * t.rounds + 1 ≡ shared_len t + 2 = omega (arith, some) in
-    subst (λ k. IsWindow k t.ids (z ++ get_or window i 0 ∷ get_or window j 0 ∷ [])) (sym size)
-    (window_moved (shared_len t) t.ids i j window (subst (λ k. IsWindow k t.ids window) size is) in_i in_j other)
-
-module _ (laws : WindowsAreNumbered) (t : ChannelTable) (b : ℕ) where
-  -- the number of a window of the table in which b is replaced by the next number
-  next_number : (j n more : ℕ) (u v new : List ℕ) → length v ≡ j → length u + 1 + j ≡ 2 * t.rounds + 1 → falling (t.ids - (length u + 1)) j ≡ more
-      → new ≡ u ++ (b + 1) ∷ v → slice_get (windows_of t) n ≡ Some (u ++ b ∷ v) → IsWindow (2 * t.rounds + 1) t.ids new
-      → slice_get (windows_of t) (n + more) ≡ Some new
-  next_number j n more u v new size len more_is new_is item is =
-      let own : new ≡ u ++ suc b ∷ v = new_is ∙ ap (λ x. u ++ x ∷ v) (add-one b) in
-      let long : (c : ℕ) → 2 * t.rounds + 1 ≡ length (u ++ c ∷ v) = λ c. omega (arith, length-append u (c ∷ v), size, len) in
-      (λ q. slice_get (windows (long (suc b) q) t.ids) (n + sym more_is q))
-      ∙ stepped laws t.ids b u v j n size (subst (λ l. slice_get (windows l t.ids) n ≡ Some (u ++ b ∷ v)) (long b) item)
-      (subst (λ l. IsWindow l t.ids (u ++ suc b ∷ v)) (long (suc b)) (subst (IsWindow (2 * t.rounds + 1) t.ids) own is)) ∙ ap Some (sym own)
+module _ (t : ChannelTable) where
+  -- the number of a window of the table in which x is replaced by the next number
+  next_number : (n more x : ℕ) (u v : List ℕ) → falling (t.ids - (length u + 1)) (length v) ≡ more → slice_get (windows_of t) n ≡ Some (u ++ x ∷ v)
+      → IsWindow (2 * t.rounds + 1) t.ids (u ++ (x + 1) ∷ v) → slice_get (windows_of t) (n + more) ≡ Some (u ++ (x + 1) ∷ v)
+  next_number n more x u v more_is item new_is =
+      let k : ℕ = 2 * t.rounds + 1 in
+      let list = u ++ x ∷ v in
+      let is = windows_all k t.ids n list item in
+      let size = is.size in
+      let written = set-append_seam u x v (x + 1) in
+      let len : length u + 1 + length v ≡ k = omega (arith, length-append u (x ∷ v)) in
+      let step = stepped k t.ids (length u) x list (omega arith) (get_or-append_seam u x v 0) is (rw written new_is) (length v) n (omega arith)
+      (rw (len, take_all k list (omega arith)) item) in
+      rw (len, more_is, written, take_all k (u ++ (x + 1) ∷ v) (omega (arith, new_is.size))) at step
 
   -- the numbers for the next second identifier
   pub next_numbers :
-      (z : List ℕ) (a free : ℕ) (old new : PairNumbers) → 1 ≤ t.rounds → length z ≡ shared_len t
+      (z : List ℕ) (a b free : ℕ) (old new : PairNumbers) → length z ≡ shared_len t
       → ArePairNumbers t z a b old → IsWindow (2 * t.rounds + 1) t.ids (a ∷ (b + 1) ∷ z) → free ≡ t.ids - length z
       → new.before ≡ old.before + falling (t.ids - 2) (shared_len t) → new.after ≡ old.after + 1 → new.turned ≡ old.turned + (free - 1)
       → ArePairNumbers t z a (b + 1) new
-  next_numbers z a free old new some size are is free_is before_is after_is turned_is =
-      let long = length_push z a in
+  next_numbers z a b free old new size are is free_is before_is after_is turned_is =
+      let moved = window_moved (2 * t.rounds + 1) t.ids a (b + 1) z is in
       let split = λ (c : ℕ). append_assoc z (a ∷ []) (c ∷ []) in
-      let last : falling (t.ids - (length z + 1)) 1 ≡ free - 1 = one_more (t.ids - (length z + 1)) 1 (free - 1) refl (omega arith) in
+      let last : falling (t.ids - (length z + 1)) 1 ≡ free - 1 = falling_one (t.ids - (length z + 1)) ∙ omega arith in
       record {
-        before = ap (slice_get (windows_of t)) before_is
-            ∙ next_number (shared_len t) old.before (falling (t.ids - 2) (shared_len t)) (a ∷ []) z _ size (omega arith) refl refl are.before is;
-        after = ap (slice_get (windows_of t)) after_is
-            ∙ next_number 0 old.after 1 (z ++ a ∷ []) [] _ refl (omega arith) refl (sym (split (b + 1))) (are.after ∙ ap Some (sym (split b)))
-            (moved t z a (b + 1) 0 1 some is (omega arith) (omega arith) (λ e. omega (arith, e)));
-        turned = ap (slice_get (windows_of t)) turned_is
-            ∙ next_number 1 old.turned (free - 1) z (a ∷ []) _ refl (omega arith) last refl are.turned
-            (moved t z a (b + 1) 1 0 some is (omega arith) (omega arith) (λ e. omega (arith, e)));
+        before = rw before_is (next_number old.before (falling (t.ids - 2) (shared_len t)) b (a ∷ []) z (ap (falling (t.ids - 2)) size) are.before is);
+        after = rw (after_is, ← split (b + 1)) (next_number old.after 1 b (z ++ a ∷ []) [] refl (are.after ∙ ap Some (sym (split b))) (rw split moved.0));
+        turned = rw turned_is (next_number old.turned (free - 1) b z (a ∷ []) last are.turned moved.1);
       }
 
--- the window of the shared identifiers and then two others
-module _ (laws : WindowsAreNumbered) (t : ChannelTable) (z : List ℕ) (a b : ℕ) (size : length z ≡ shared_len t) (some : 1 ≤ t.rounds) (is : IsWindow (2 * t.rounds + 1) t.ids (z ++ a ∷ b ∷ [])) where
-  abbrev pub one : List ℕ
-  one = z ++ a ∷ []
+-- an identifier of a list of distinct ones is not among those before it
+seam_free : (u v : List ℕ) (x : ℕ) → IsDistinct (u ++ x ∷ v) → is_used u x ≡ false
+seam_free u v x distinct =
+    rw (take-append_seam u (x ∷ v), get_or-append_seam u x v 0) at (free_at (u ++ x ∷ v) (length u) distinct (omega (arith, length-append u (x ∷ v))))
 
-  list : z ++ a ∷ b ∷ [] ≡ one ++ b ∷ []
-  list = sym (append_assoc z (a ∷ []) (b ∷ []))
-
-  len : 2 * t.rounds + 1 ≡ length (one ++ b ∷ [])
-  len = omega (arith, length_push z a, length_push one b, size, some)
-
-  whole : IsWindow (length (one ++ b ∷ [])) t.ids (one ++ b ∷ [])
-  whole = subst (λ l. IsWindow l t.ids (one ++ b ∷ [])) len (subst (IsWindow (2 * t.rounds + 1) t.ids) list is)
-
-  part : IsWindow (length one) t.ids one
-  part = without_last t.ids b one whole
-
-  -- the place of the second among those that are not shared, and among those that the first is not one of either
-  pub next_place : rank z b ≡ rank one b + cond (nat_lt a b) 1 0
-  next_place = rank_pushed z a (lacks_last z a part.distinct) b
-
-  -- its number, by the places of the two
-  pub number_after : (number place next free : ℕ) → slice_get (shared_lists t) number ≡ Some z → free ≡ t.ids - length z → place ≡ rank z a → next ≡ rank one b
-      → slice_get (windows_of t) ((number * free + place) * (free - 1) + next) ≡ Some (z ++ a ∷ b ∷ [])
-  number_after number place next free item free_is place_is next_is =
-      let first = number_pushed laws t.ids number a z (subst (λ l. slice_get (windows l t.ids) number ≡ Some z) (sym size) item) part in
-      let second = number_pushed laws t.ids (number * (t.ids - length z) + rank z a) b one first whole in
-      let other : free - 1 ≡ t.ids - length one = omega (arith, length_push z a, free_is) in
-      (λ q. slice_get (windows (len q) t.ids) ((number * free_is q + place_is q) * other q + next_is q)) ∙ second ∙ ap Some (sym list)
+-- the number of the window of the identifiers z, which have a number as a list, and then two others, by the places of
+-- these among those that are not in z
+pub number_after : (s m number a b place next free : ℕ) (z : List ℕ) → IsWindow (s + 2) m (z ++ a ∷ b ∷ []) → slice_get (windows s m) number ≡ Some z
+    → free ≡ m - s → place ≡ rank z a → next ≡ rank z b - cond (nat_lt a b) 1 0
+    → (cond (nat_lt a b) 1 0 ≤ rank z b) × (slice_get (windows (s + 2) m) ((number * free + place) * (free - 1) + next) ≡ Some (z ++ a ∷ b ∷ []))
+number_after s m number a b place next free z is item free_is place_is next_is =
+    let size = is.size in
+    let one = z ++ a ∷ [] in
+    let split = append_assoc z (a ∷ []) (b ∷ []) in
+    let z_is = windows_all s m number z item in
+    let free_a = seam_free z (b ∷ []) a is.distinct in
+    let free_b = seam_free one [] b (rw (← split) at is.distinct) in
+    let in_a = rw (get_or-append_seam z a (b ∷ []) 0) at (is.below (length z) 0 (omega (arith, length-append z (a ∷ b ∷ [])))) in
+    let in_b = rw (← split, get_or-append_seam one b [] 0) at (is.below (length one) 0 (omega (arith, length-append z (a ∷ b ∷ []), length_push z a))) in
+    let second = window_step (suc s) m (number * (m - s) + rank z a) b one (window_step s m number a z item in_a free_a) in_b free_b in
+    let len : suc (suc s) ≡ s + 2 = omega arith in
+    let fewer : m - suc s ≡ m - s - 1 = omega arith in
+    let end = unused_at_end b a z z_is.distinct free_a in
+    let last : next ≡ rank one b = omega arith in
+    (omega arith, rw (free_is, place_is, last) (rw (len, fewer, split) at second))

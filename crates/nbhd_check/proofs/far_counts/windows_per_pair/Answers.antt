@@ -3,7 +3,7 @@ use Rattle.std.proofs.Math.Nat.{mul-div_cancel_left}
 use Rattle.win_index.specs.Falling.{falling}
 use Rattle.nbhd_check.specs.Counts.{shared_len}
 use Rattle.nbhd_check.proofs.FarFree.{some_product}
-use Rattle.nbhd_check.proofs.RunLengths.{falling-add, two_more}
+use Rattle.nbhd_check.proofs.RunLengths.{falling-add, falling_two}
 use Rattle.nbhd_check.proofs.far_counts.windows_per_pair.Goals as goal
 
 pub returns-clause-value : goal.returns-clause-value
@@ -16,6 +16,5 @@ returns-clause-value c =
     let some : 0 < m * (m - 1) = some_product m (m - 1) (omega arith) (omega arith) in
     let size : 2 * t.rounds + 1 ≡ 2 + shared_len t = omega (arith, c.requires) in
     let all : c.window_count.result ≡ m * (m - 1) * each =
-    c.window_count.ensures.value ∙ c.count_of_windows.ensures (2 * t.rounds + 1) t.ids ∙ ap (falling t.ids) size ∙ falling-add t.ids 2 (shared_len t)
-    ∙ ap (λ n. n * each) (two_more t.ids 2 m refl ids_is) in
+    c.window_count.ensures.value ∙ rw (size, c.count_of_windows.ensures (2 + shared_len t) t.ids, falling-add t.ids 2 (shared_len t), falling_two t.ids, ids_is) refl in
     ap (λ n. n / (m * (m - 1))) all ∙ mul-div_cancel_left each some

@@ -13,4 +13,4 @@ returns c =
     let low : c.min.result ≤ c.args.first * run_len t s = omega (arith, c.min.ensures, low_is) in
     subst (λ n. IsLeastIn t s 0 n c.least_bad.result) c.count-count.ensures
     (least_from_low t s c.min.result c.count-count.result c.least_bad.result
-    (none_of_free c.numbers_of_windows.ensures t s c.min.result c.args.first c.requires low) c.least_bad.ensures)
+    (none_of_free t s c.min.result c.args.first c.requires low) c.least_bad.ensures)

@@ -3,7 +3,7 @@ use Rattle.std.proofs.lemmas.Bool.{false≢true}
 use Rattle.win_index.specs.Arcs.{part_at}
 use Rattle.channel_tables.specs.Tables.{channel_of}
 use Rattle.nbhd_check.specs.Apart.{AreClose, IsBad}
-use Rattle.nbhd_check.proofs.Witnesses.{two_of_far}
+use Rattle.nbhd_check.proofs.Close.{two_of_far}
 use Rattle.nbhd_check.proofs.verdict.broken_step.Goals as goal
 
 pub returns-else-is_close_next-clause-few : goal.returns-else-is_close_next-clause-few

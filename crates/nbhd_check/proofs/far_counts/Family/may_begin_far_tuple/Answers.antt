@@ -1,11 +1,9 @@
-use Rattle.std.proofs.Common.{◌≡◌, ℕ, ◌+◌, ◌*◌, ◌∷◌, Some, nat_lt, sym, ap, ◌∙◌, arith}
+use Rattle.std.proofs.Common.{◌≡◌, ℕ, ◌+◌, ◌∷◌, nat_lt, ap, ◌∙◌, arith}
 use Rattle.std.specs.Int.{abs_diff}
 use Rattle.std.proofs.lemmas.Bool.{OnFalse_from, ltb-false}
 use Rattle.nbhd_check.specs.Counts.{held_count}
 use Rattle.nbhd_check.specs.Runs.{BeginsFarTuple}
 use Rattle.nbhd_check.proofs.FarCounts.{none_far}
-use Rattle.nbhd_check.proofs.Prefixes.{window_at}
-use Rattle.nbhd_check.proofs.Runs.{channel_at}
 use Rattle.nbhd_check.proofs.far_counts.Family.may_begin_far_tuple.Goals as goal
 
 pub channel_at-channel-requires : goal.channel_at-channel-requires
@@ -20,14 +18,10 @@ close_one-other-requires c = (_, c.requires.numbers.turned)
 pub returns : goal.returns
 returns c =
     let t = c.args.self.table.now in
-    let laws = c.numbers_of_windows.ensures in
     let numbers = c.args.numbers in
     let list = c.args.first ∷ c.args.second ∷ c.args.self.shared.now in
-    let is = window_at laws (2 * t.rounds + 1) t.ids numbers.before list c.requires.numbers.before in
-    let here = channel_at laws t numbers.before list c.requires.numbers.before ∙ ap Some (sym c.channel_at-channel.ensures.value) in
     let low = c.requires.counted.0 in
     let n = c.requires.counted.1.0 in
-    let family = c.requires.counted.1.1.0 in
     let sums = c.requires.counted.1.1.1 in
     let count : ℕ → ℕ = λ x. held_count t low n x (λ other. nat_lt (abs_diff c.channel_at-channel.result other) c.args.self.distance) in
     let ids_is : c.ids-ids.result ≡ t.ids = c.ids-ids.ensures ∙ c.shape.ensures.ids in
@@ -36,7 +30,7 @@ returns c =
     let close : ℕ = c.from-all.result + c.close_one-one.result + c.close_one-other.result in
     OnFalse_from (nat_lt held close) (¬ BeginsFarTuple t c.args.self.distance list)
     (λ no.
-    none_far laws t c.args.self.distance c.channel_at-channel.result low n numbers.after numbers.turned c.close_one-one.result c.close_one-other.result list
-    c.args.self.some.0 is here family c.requires.numbers.after c.requires.numbers.turned
+    none_far t c.args.self.distance numbers.before c.channel_at-channel.result low n numbers.after numbers.turned c.close_one-one.result c.close_one-other.result list
+    c.args.self.some.0 c.requires.numbers.before c.channel_at-channel.ensures.value c.requires.counted.1.1.0 c.requires.numbers.after c.requires.numbers.turned
     c.close_one-one.ensures.close c.close_one-other.ensures.close
     (omega (arith, ltb-false held close no, all_is, c.close_count-with_first.ensures low n sums, c.close_count-with_second.ensures low n sums)))

@@ -1,11 +1,11 @@
-use Rattle.std.proofs.Common.{◌≡◌, ℕ, ◌+◌, ◌-◌, ◌*◌, ◌<◌, ◌≤◌, Bool, true, false, cond, nat_lt, refl, [], ◌∷◌, ◌++◌, length, slice_get, Some, arith}
+use Rattle.std.proofs.Common.{◌≡◌, ℕ, ◌+◌, ◌-◌, ◌*◌, ◌<◌, ◌≤◌, Bool, true, false, cond, nat_lt, refl, [], ◌∷◌, ◌++◌, length, slice_get, Some, ◌∙◌, arith}
 use mir.Val.{bool_byte}
 use Rattle.std.proofs.Math.Nat.{mul-le-mul_left}
 use Rattle.std.proofs.lemmas.Option.{slice_get_within}
 use Rattle.win_index.specs.declared.limits.TheConstants.{MAX_WINDOWS}
 use Rattle.channel_tables.specs.Tables.{windows_of}
-use Rattle.nbhd_check.proofs.Ranks.{rank}
-use Rattle.nbhd_check.proofs.Steps.{next_place, number_after}
+use Rattle.nbhd_check.specs.Counts.{shared_len}
+use Rattle.nbhd_check.proofs.Steps.{number_after}
 use Rattle.nbhd_check.proofs.far_counts.Family.number_after.Goals.{After-from}
 use Rattle.nbhd_check.proofs.far_counts.Family.number_after.Goals as goal
 
@@ -25,17 +25,15 @@ module _ (c : After-from) where
   abbrev number : ℕ
   number = c.args.self.number * free + c.place_among_unused-place.result
 
-  places : c.place_among_unused.result ≡ rank (c.args.self.shared.now ++ c.args.one ∷ []) c.args.other + c.from.result
-  places =
-      let own = next_place c.numbers_of_windows.ensures c.args.self.table.now c.args.self.shared.now c.args.one c.args.other c.args.self.window.size
-      c.args.self.some.0 c.requires in
-      omega (arith, own, c.place_among_unused.ensures, c.from.ensures, byte_is (nat_lt c.args.one c.args.other))
-
-  item : slice_get (windows_of c.args.self.table.now) (number * (free - 1) + next) ≡ Some (c.args.self.shared.now ++ c.args.one ∷ c.args.other ∷ [])
-  item =
-      number_after c.numbers_of_windows.ensures c.args.self.table.now c.args.self.shared.now c.args.one c.args.other c.args.self.window.size c.args.self.some.0
-      c.requires c.args.self.number c.place_among_unused-place.result next free c.args.self.numbered (omega (arith, c.ids.ensures, c.shape.ensures.ids))
-      c.place_among_unused-place.ensures (omega (arith, places))
+  placed : (c.from.result ≤ c.place_among_unused.result)
+      × (slice_get (windows_of c.args.self.table.now) (number * (free - 1) + next) ≡ Some (c.args.self.shared.now ++ c.args.one ∷ c.args.other ∷ []))
+  placed =
+      let t = c.args.self.table.now in
+      let some = c.args.self.some.0 in
+      let len : 2 * t.rounds + 1 ≡ shared_len t + 2 = omega arith in
+      let byte = c.from.ensures ∙ byte_is (nat_lt c.args.one c.args.other) in
+      rw (len, c.place_among_unused.ensures, byte) (number_after (shared_len t) t.ids c.args.self.number c.args.one c.args.other c.place_among_unused-place.result _ free c.args.self.shared.now
+      (rw len at c.requires) c.args.self.numbered (omega (arith, c.args.self.window.size, c.ids.ensures, c.shape.ensures.ids)) c.place_among_unused-place.ensures refl)
 
   -- the number is small, and what it is made of is not greater
   few : (number ≤ number * (free - 1)) × (number * (free - 1) + next < MAX_WINDOWS)
@@ -44,11 +42,11 @@ module _ (c : After-from) where
       let enough = c.shape.result.in_range.enough in
       let size = c.args.self.window.size in
       let some : 1 ≤ free - 1 = omega (arith, c.args.self.some.0, c.ids.ensures) in
-      let within = slice_get_within (windows_of t) (number * (free - 1) + next) _ item in
+      let within = slice_get_within (windows_of t) (number * (free - 1) + next) _ placed.1 in
       (omega (arith, mul-le-mul_left number some), omega (arith, within, c.shape.ensures.table.begun.shape.few_windows))
 
 pub overflow_sub-next : goal.overflow_sub-next
-overflow_sub-next c = omega (arith, places ((goal.at.overflow_sub-next c).After-from))
+overflow_sub-next c = (placed ((goal.at.overflow_sub-next c).After-from)).0
 
 pub overflow_mul-result : goal.overflow_mul-result
 overflow_mul-result c = let own = few ((goal.at.overflow_mul-result c).After-from) in omega (arith, own.0, own.1)
@@ -63,4 +61,4 @@ pub overflow_add-result-2 : goal.overflow_add-result-2
 overflow_add-result-2 c = let own = few ((goal.at.overflow_add-result-2 c).After-from) in omega (arith, own.1)
 
 pub returns : goal.returns
-returns c = item ((goal.at.returns c).After-from)
+returns c = (placed ((goal.at.returns c).After-from)).1

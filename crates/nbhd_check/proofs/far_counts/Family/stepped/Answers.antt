@@ -11,5 +11,5 @@ returns c = λ first second are is.
     let size = c.args.self.window.size in
     let each = c.args.self.each_is.0 in
     let new : PairNumbers = record { before = old.before + c.args.self.each; after = old.after + 1; turned = old.turned + (free - 1) } in
-    next_numbers c.numbers_of_windows.ensures t second c.args.self.shared.now first free old new c.args.self.some.0 size are is
+    next_numbers t c.args.self.shared.now first second free old new size are is
     (omega arith) (omega arith) refl refl

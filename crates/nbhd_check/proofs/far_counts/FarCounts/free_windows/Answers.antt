@@ -18,7 +18,7 @@ least_of_parts-least-requires-clause-each g c κs within part lt =
     let upto : (part + 1) * each ≤ parts * each = mul-le-mul_right each (omega arith) in
     let all : each * parts < families + parts =
     subst (λ n. n * parts < families + parts) (sym c.div_ceil-each.ensures) (div_ceil_times families parts c.part_count-parts.ensures.some).1 in
-    let many = families_few c.numbers_of_windows.ensures.count t c.args.self.some.0 shape.ids.enough in
+    let many = families_few t c.args.self.some.0 shape.ids.enough in
     let few : part * each + each < 2 ^ 32 =
     omega (arith, upto, row_more part each, all, mul_comm each parts, many, c.family_count-families.ensures, shape.few_windows, c.part_count-parts.ensures.few) in
     (few, c.family_count-families.ensures)
@@ -35,4 +35,4 @@ returns-clause-free g c =
     let high : own.0 < here.part * each + each = subst (λ n. own.0 < here.part * n + n) (sym c.div_ceil-each.ensures) here.high in
     let found = c.least_of_parts-least.ensures here.part here.few in
     found.1 number window (omega (arith, below, c.min.ensures, found.2)) item (own.0, low, high, own.3) in
-    all_families c.numbers_of_windows.ensures t c.args.self.distance c.min.result families c.args.self.some.0 (omega (arith, c.family_count-families.ensures)) all
+    all_families t c.args.self.some.0 c.args.self.distance c.min.result families (omega (arith, c.family_count-families.ensures)) all

@@ -43,7 +43,7 @@ returns-in_err-number c =
     c.in_err-number.ensures in
     let end = end_is t s c.args.run c.from.result c.windows_per_run-windows.result c.per_window-each.result c.from.ensures c.windows_per_run-windows.ensures.value c.per_window-each.ensures.value in
     subst (AreFreeUntil t (BeginsBadTuple t s) (c.args.run * w) (c.args.run * w + w)) (sym c.from_residual.ensures)
-    (free_of_none c.numbers_of_windows.ensures t s (c.args.run * w) (c.args.run * w + w) high none (omega (arith, end)))
+    (free_of_none t s (c.args.run * w) (c.args.run * w + w) high none (omega (arith, end)))
 
 pub overflow_cast-result : goal.overflow_cast-result
 overflow_cast-result c =
@@ -66,5 +66,5 @@ returns c =
     let none : NoneIsBad t s (c.args.run * w * run_len t s) n =
     subst (λ m. NoneIsBad t s m n) (low_is t s c.args.run c.from.result c.windows_per_run-windows.result each c.from.ensures c.windows_per_run-windows.ensures.value c.per_window-each.ensures.value)
     c.in_ok-number.ensures.1.1.least in
-    free_of_none c.numbers_of_windows.ensures t s (c.args.run * w) (n / each) n none
+    free_of_none t s (c.args.run * w) (n / each) n none
     (omega (arith, div-mul-le_self n each, ap (λ k. n / each * k) c.per_window-each.ensures.value))
