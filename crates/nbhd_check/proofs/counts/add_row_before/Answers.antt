@@ -1,10 +1,15 @@
-use Rattle.std.proofs.Common.{◌+◌, ◌*◌, ◌<◌, length, arith}
-use Rattle.nbhd_check.proofs.Cells.{cell_added, row_more}
+use Rattle.std.proofs.Common.{ℕ, ◌+◌, ◌-◌, ◌*◌, get_or, arith}
+use Rattle.std.proofs.lemmas.Bool.Decides.{nat_tests}
+use Rattle.nbhd_check.proofs.Cells.{cell_set, row_more}
 use Rattle.nbhd_check.proofs.counts.add_row_before.Goals as goal
 
 pub loop-x-preserved : goal.loop-x-preserved
-loop-x-preserved c =
+loop-x-preserved c = λ v y lt.
     let row = c.args.row in
     let wide = c.args.wide in
-    let inside : row * wide + c.loop-x.x < length c.loop-x.cells = omega (arith, row_more row wide) in
-    cell_added c.loop-x.cells c.args.cells.now wide row c.loop-x.x c.requires.row c.loop-x-test.true inside c.loop-x.invariant
+    let cells = c.loop-x.cells in
+    let new : ℕ = get_or cells (row * wide + c.loop-x.x) 0 + get_or cells ((row - 1) * wide + c.loop-x.x) 0 in
+    let written = cell_set cells wide row c.loop-x.x v y new lt c.loop-x-test.true (omega (arith, row_more row wide)) in
+    let here = c.loop-x.invariant row c.loop-x.x c.loop-x-test.true in
+    let before = c.loop-x.invariant (row - 1) c.loop-x.x c.loop-x-test.true in
+    grind (arith, nat_tests, written, here, before, c.loop-x.invariant v y lt)
