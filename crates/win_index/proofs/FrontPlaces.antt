@@ -1,207 +1,179 @@
--- The positions of a run's windows, from their prefix and their last identifiers.
-use Rattle.std.proofs.Common.{◌≡◌, ◌≢◌, ℕ, suc, ◌+◌, ◌-◌, ◌<◌, ◌≤◌, false, List, [], ◌∷◌, ◌++◌, length, get_or, take, drop, slice_get, sym, ap, subst, ◌∙◌, arith}
-use Rattle.std.proofs.Math.Seq.{take-append_seam, get_or-append_seam}
-use Rattle.std.proofs.lemmas.List.{take_all, take_more, length-drop, length-take-le, get_or-take, get_or-drop}
-use Rattle.std.proofs.lemmas.List.Elements.{All-tail}
-use Rattle.std.proofs.lemmas.Option.{slice_get_within, same_Some}
-use Rattle.win_index.specs.Runs.{IsAtPlace, place_in_run}
-use Rattle.win_index.specs.Windows.{is_used, unused, IsWindow}
-use Rattle.win_index.specs.declared.series.RunPlaces.{RunPlaces}
-use Rattle.win_index.proofs.Numbers.{push_window}
-use Rattle.win_index.proofs.Positions.{free_at}
-use Rattle.win_index.proofs.Successors.{shorter_window}
-use Rattle.win_index.proofs.Unused.{IsDistinct, lacks_differs, lacks_from_differs, distinct_head, distinct_tail, unused_at, length-unused}
-
--- the number x ends a window with this prefix: it has this position among the numbers that the prefix lacks without its
--- first two
-pub record EndsFront (g m : ℕ) (places : RunPlaces) (front : List ℕ) (x place : ℕ) : Type 0 where
-  pub front_is : IsWindow (g + 2) m front
-  pub below : x < m
-  pub free : is_used front x ≡ false
-  pub first : length (unused (get_or front 0 0) (drop 2 front)) ≡ places.first_gap
-  pub second : length (unused (get_or front 1 0) (drop 2 front)) ≡ places.second_gap
-  pub end : length (unused m (drop 2 front)) ≡ places.end
-  pub x_at : length (unused x (drop 2 front)) ≡ place
-
--- a window is its prefix and its last identifier
-pub whole_window : (k m : ℕ) (window : List ℕ) → IsWindow (k + 2) m window →
-    take (k + 1) window ++ get_or window (k + 1) 0 ∷ [] ≡ window
-whole_window k m window is =
-    let size = is.size in
-    let level : k + 1 + 1 ≡ k + 2 = omega arith in
-    let all : take (k + 1 + 1) window ≡ window = take_all (k + 1 + 1) window (omega arith) in
-    sym (take_more window (k + 1) 0 (omega arith)) ∙ all
-
-pub window_front : (k m : ℕ) (window : List ℕ) → IsWindow (k + 2) m window → IsWindow (k + 1) m (take (k + 1) window)
-window_front k m window is =
-    let size = is.size in
-    let all : take (k + 2) window ≡ window = take_all (k + 2) window (omega arith) in
-    shorter_window (k + 2) m (k + 1) window (omega arith) (rw all is)
-
-pub ends_front :
-    (k m place : ℕ) (places : RunPlaces) (window : List ℕ) → 1 ≤ k → IsAtPlace k m places window place
-    → EndsFront (k - 1) m places (take (k + 1) window) (get_or window (k + 1) 0) place
-ends_front k m place places window some is =
-    let size = is.window_is.size in
-    let inside : k + 1 < length window = omega arith in
-    let shared : k + 1 ≡ k - 1 + 2 = omega arith in
-    record {
-      front_is = subst (λ n. IsWindow n m (take (k + 1) window)) shared (window_front k m window is.window_is);
-      below = is.window_is.below (k + 1) 0 inside;
-      free = free_at window (k + 1) is.window_is.distinct inside;
-      first = rw (get_or-take (k + 1) window 0 0 (omega arith)) is.run_has.first;
-      second = rw (get_or-take (k + 1) window 1 0 (omega arith)) is.run_has.second;
-      end = is.run_has.end;
-      x_at = is.place_is;
-    }
-
--- the last identifiers of a run's windows: the numbers that their prefix lacks
-pub record Ends (m f0 f1 : ℕ) (rest : List ℕ) (x : ℕ) : Type 0 where
-  pub below : x < m
-  pub free : is_used (f0 ∷ f1 ∷ rest) x ≡ false
-  pub rest_free : is_used rest x ≡ false
-
--- all identifiers of a longer list but the last
-pub take_front : (n : ℕ) (front : List ℕ) (x : ℕ) → length front ≡ n → take n (front ++ x ∷ []) ≡ front
-take_front n front x size = rw (← size) (take-append_seam front (x ∷ []))
-
--- a window without its first two identifiers
-pub shorter_by_two : (g m f0 f1 : ℕ) (rest : List ℕ) → IsWindow (g + 2) m (f0 ∷ f1 ∷ rest) → IsWindow g m rest
-shorter_by_two g m f0 f1 rest window =
-    record {
-      size = omega (arith, window.size);
-      below = All-tail (λ x. x < m) f1 rest (All-tail (λ x. x < m) f0 (f1 ∷ rest) window.below);
-      distinct = distinct_tail f1 rest (distinct_tail f0 (f1 ∷ rest) window.distinct);
-    }
-
--- a prefix with such a number is a window at a position
-pub at_place :
-    (g m place f0 f1 x : ℕ) (places : RunPlaces) (rest : List ℕ) → EndsFront g m places (f0 ∷ f1 ∷ rest) x place
-    → IsAtPlace (g + 1) m places (f0 ∷ f1 ∷ rest ++ x ∷ []) place
-at_place g m place f0 f1 x places rest is =
-    let front : List ℕ = f0 ∷ f1 ∷ rest in
-    let size : length front ≡ g + 1 + 1 = omega (arith, is.front_is.size) in
-    let longer : suc (g + 2) ≡ g + 1 + 2 = omega arith in
-    let took = take_front (g + 1 + 1) front x size in
-    let last : get_or (front ++ x ∷ []) (g + 1 + 1) 0 ≡ x =
-    subst (λ n. get_or (front ++ x ∷ []) n 0 ≡ x) size (get_or-append_seam front x [] 0) in
-    record {
-      window_is = subst (λ n. IsWindow n m (front ++ x ∷ [])) longer
-          (push_window (g + 2) m x front is.front_is is.below is.free);
-      run_has = record { first = rw took is.first; second = rw took is.second; end = rw took is.end };
-      place_is = rw (took, last) is.x_at;
-    }
-
--- the window with these parts, at its position
-pub ends_again :
-    (g m place q f0 f1 x y : ℕ) (places : RunPlaces) (rest : List ℕ)
-    → EndsFront g m places (f0 ∷ f1 ∷ rest) x place → Ends m f0 f1 rest y
-    → length (unused y rest) ≡ q → EndsFront g m places (f0 ∷ f1 ∷ rest) y q
-ends_again g m place q f0 f1 x y places rest is ends at' =
-    record {
-      front_is = is.front_is;
-      below = ends.below;
-      free = ends.free;
-      first = is.first;
-      second = is.second;
-      end = is.end;
-      x_at = at';
-    }
-
--- the number of values below m that a window without its first two identifiers lacks
-pub unused_but_two : (k m : ℕ) (front : List ℕ) → 2 ≤ k → IsWindow k m front →
-    length (unused m (drop 2 front)) + length (drop 2 front) ≡ m
-unused_but_two k m [] some window = absurd (omega (arith, window.size))
-unused_but_two k m (f0 ∷ []) some window = absurd (omega (arith, window.size))
-unused_but_two k m (f0 ∷ f1 ∷ rest) some window =
-    let size : k ≡ k - 2 + 2 = omega arith in
-    let shorter = shorter_by_two (k - 2) m f0 f1 rest (rw (← size) window) in
-    length-unused rest m shorter.distinct shorter.below
-
--- two numbers that a list lacks have different positions
-apart :
-    (list : List ℕ) (m x y : ℕ) → x < m → is_used list x ≡ false → y < m → is_used list y ≡ false → x ≢ y
-    → length (unused x list) ≢ length (unused y list)
-apart list m x y x_below x_free y_below y_free differs same =
-    let at_x = unused_at list m x x_below x_free in
-    let at_y = unused_at list m y y_below y_free in
-    differs (same_Some x y (sym at_x ∙ ap (slice_get (unused m list)) same ∙ at_y))
-
--- three numbers that a window lacks without its last and its first two identifiers have different positions
-pub record ThreePlaces (m : ℕ) (front : List ℕ) (x : ℕ) : Type 0 where
-  pub inside : length (unused x (drop 2 front)) < length (unused m (drop 2 front))
-  pub first : length (unused (get_or front 0 0) (drop 2 front)) ≢ length (unused x (drop 2 front))
-  pub second : length (unused (get_or front 1 0) (drop 2 front)) ≢ length (unused x (drop 2 front))
-
-pub three_places : (k m x : ℕ) (front : List ℕ) → 2 ≤ k → IsWindow k m front → x < m →
-    is_used front x ≡ false → ThreePlaces m front x
-three_places k m x [] some window below free = absurd (omega (arith, window.size))
-three_places k m x (f0 ∷ []) some window below free = absurd (omega (arith, window.size))
-three_places k m x (f0 ∷ f1 ∷ rest) some window below free =
-    let rest_free =
-    lacks_from_differs rest x
-    (λ i lt. lacks_differs (f0 ∷ f1 ∷ rest) x free (suc (suc i)) 0 (omega arith)) in
-    let f0_free =
-    lacks_from_differs rest f0
-    (λ i lt. lacks_differs (f1 ∷ rest) f0 (distinct_head f0 (f1 ∷ rest) window.distinct) (suc i)
-    0 (omega arith)) in
-    let f1_free = distinct_head f1 rest (distinct_tail f0 (f1 ∷ rest) window.distinct) in
-    record {
-      inside = slice_get_within (unused m rest) (length (unused x rest)) x (unused_at rest m x below rest_free);
-      first = apart rest m f0 x (window.below 0 0 (omega arith)) f0_free below rest_free
-          (lacks_differs (f0 ∷ f1 ∷ rest) x free 0 0 (omega arith));
-      second = apart rest m f1 x (window.below 1 0 (omega arith)) f1_free below rest_free
-          (lacks_differs (f0 ∷ f1 ∷ rest) x free 1 0 (omega arith));
-    }
-
--- these three numbers of a window, and the end
-pub last_inside : (k m : ℕ) (window : List ℕ) → 1 ≤ k → IsWindow (k + 2) m window →
-    place_in_run k window (get_or window (k + 1) 0) < place_in_run k window m
-last_inside k m window some is =
-    let size = is.size in
-    let inside : k + 1 < length window = omega arith in
-    (three_places (k + 1) m (get_or window (k + 1) 0) (take (k + 1) window) (omega arith) (window_front k m window is)
-    (is.below (k + 1) 0 inside)
-    (free_at window (k + 1) is.distinct inside)).inside
-
-pub place_inside : (k m place : ℕ) (places : RunPlaces) (window : List ℕ) → 1 ≤ k →
-    IsAtPlace k m places window place → place < places.end
-place_inside k m place places window some is =
-    omega (arith, last_inside k m window some is.window_is, is.place_is, is.run_has.end)
-
-pub places_end : (k m : ℕ) (window : List ℕ) → 1 ≤ k → IsWindow (k + 2) m window → place_in_run k window m + (k - 1) ≡ m
-places_end k m window some is =
-    let front = window_front k m window is in
-    let all = unused_but_two (k + 1) m (take (k + 1) window) (omega arith) front in
-    omega (arith, all, length-drop 2 (take (k + 1) window), front.size)
-
--- the prefix of a window, without its first two identifiers, has distinct numbers
-pub rest_distinct : (k m : ℕ) (window : List ℕ) → IsWindow (k + 2) m window → IsDistinct (drop 2 (take (k + 1) window))
-rest_distinct k m window is =
-    let front = window_front k m window is in
-    λ i j e lt within.
-    let rest = length-drop 2 (take (k + 1) window) in
-    rw (get_or-drop 2 (take (k + 1) window) i e, get_or-drop 2 (take (k + 1) window) j e)
-    (front.distinct (2 + i) (2 + j) e (omega arith) (omega arith))
+-- A window by its prefix and its last identifier, and the positions of these among the identifiers that a list lacks.
+use Rattle.std.proofs.Common.{◌≡◌, ◌≢◌, ℕ, zero, suc, ◌+◌, ◌-◌, ◌*◌, ◌/◌, ◌%◌, ◌<◌, ◌≤◌, false, nat_lt, cond, List, [], ◌∷◌, length, get_or, take, drop, set, slice_get, Some, sym, ap, ◌∙◌, arith}
+use Rattle.std.proofs.lemmas.Bool.{not-true, ne_eqb}
+use Rattle.std.proofs.lemmas.List.{take_all, take_more, drop-take, take-set, get_or-set_same, length-set, length-drop, length-take-le, get_or-drop, take_at, get_or_push}
+use Rattle.std.proofs.lemmas.Nat.{div-mul-add, mod-mul-add, div-add-mod'}
+use Rattle.std.proofs.lemmas.List.Elements.{All-take, All-drop, All-tail}
+use Rattle.std.proofs.lemmas.Option.{slice_get_within}
+use Rattle.win_index.specs.Windows.{is_used, unused, windows, IsWindow}
+use Rattle.win_index.proofs.Kept.{kept_is}
+use Rattle.win_index.proofs.Numbers.{window_parts, windows_all, one_place}
+use Rattle.win_index.proofs.Positions.{free_at, front_more, front_step, window_place}
+use Rattle.win_index.proofs.Unused.{lacks, lacks_both, distinct_take, distinct_drop, distinct_head, distinct_tail, counted, apart, same_order, unused_in_front, unused_at_end, length-unused}
 
 -- consecutive numbers of a window are a window
 pub slice_window : (m n d len : ℕ) (w : List ℕ) → IsWindow n m w → d + len ≤ n → IsWindow len m (take len (drop d w))
 slice_window m n d len w is fits =
     let size = is.size in
-    let many = length-drop d w in
-    let long : length (take len (drop d w)) ≡ len = length-take-le len (drop d w) (omega arith) in
     record {
-      size = long;
-      below = λ i e lt.
-          let short : i < len = omega arith in
-          rw (get_or-take len (drop d w) i e short, get_or-drop d w i e) (is.below (d + i) e (omega arith));
-      distinct = λ i j e lt within.
-          let short : j < len = omega arith in
-          let before : i < len = omega arith in
-          rw (
-            get_or-take len (drop d w) i e before,
-            get_or-take len (drop d w) j e short,
-            get_or-drop d w i e,
-            get_or-drop d w j e,
-          ) (is.distinct (d + i) (d + j) e (omega arith) (omega arith));
+      size = length-take-le len (drop d w) (omega (arith, length-drop d w));
+      below = All-take (λ x. x < m) len (drop d w) (All-drop (λ x. x < m) d w is.below);
+      distinct = distinct_take len (drop d w) (distinct_drop d w is.distinct);
+    }
+
+-- a window without its last identifier
+pub window_front : (k l m : ℕ) (window : List ℕ) → l ≡ k + 1 → IsWindow l m window → IsWindow k m (take k window)
+window_front k l m window long is = slice_window m l 0 k window is (omega arith)
+
+-- a window with another last identifier that its prefix lacks
+pub window_with : (k l m x : ℕ) (window : List ℕ) → l ≡ k + 1 → IsWindow l m window → x < m
+    → is_used (take k window) x ≡ false → IsWindow l m (set window k x)
+window_with k l m x window long is below free =
+    let size = is.size in
+    let inside : k < length (set window k x) = omega (arith, length-set window k x) in
+    let same = take-set window k x in
+    let here = get_or-set_same window k x 0 (omega arith) in
+    let all = take_all (k + 1) (set window k x) (omega (arith, length-set window k x)) in
+    let made = front_more k m (set window k x) inside (rw same (window_front k l m window long is)) (rw here below)
+    (rw (here, same) free) in
+    rw (← long) at (rw all at made)
+
+-- the number of a window without its last identifier, and the position of that one among those that the others lack
+pub shorter_number :
+    (k m n : ℕ) (list : List ℕ) → slice_get (windows (suc k) m) n ≡ Some list
+    → (slice_get (windows k m) (n / (m - k)) ≡ Some (take k list))
+    × (n % (m - k) ≡ length (unused (get_or list k 0) (take k list)))
+shorter_number k m n list at' =
+    let parts = window_parts k m n list at' in
+    let front = windows_all k m parts.place parts.front parts.front_at in
+    let own = kept_is (lacks parts.front) m parts.rest parts.last parts.last_at in
+    let inside = slice_get_within (unused m parts.front) parts.rest parts.last parts.last_at in
+    let many = length-unused parts.front m front.distinct front.below in
+    let size = front.size in
+    let small : parts.rest < m - k = omega (arith, inside, many, size) in
+    let place = ap (λ i. i / (m - k)) parts.number ∙ div-mul-add parts.place (m - k) parts.rest small in
+    let rest = ap (λ i. i % (m - k)) parts.number ∙ mod-mul-add parts.place (m - k) parts.rest small in
+    let took = ap (take k) parts.whole ∙ take_at parts.front (parts.last ∷ []) k size in
+    let last = ap (λ l. get_or l k 0) parts.whole ∙ get_or_push parts.front parts.last 0 k size in
+    (rw (place, took) parts.front_at, rw (rest, took, last) (sym own.before))
+
+-- the position of the identifier after the first k among those that these without the first i lack
+abbrev pub last_place : ℕ → ℕ → List ℕ → ℕ
+last_place i k window = length (unused (get_or window k 0) (drop i (take k window)))
+
+-- a list without its first i elements, and the front of it
+pub part_front :
+    (i k low : ℕ) (list : List ℕ) → k ≡ i + low → take low (drop i list) ≡ drop i (take k list)
+part_front i k low list all = sym (rw (← all) at (drop-take i low list))
+
+-- a window of length j without its first i identifiers, by its prefix and the position of its last identifier
+module _ (i k low j l m : ℕ) (all : k ≡ i + low) (long : j ≡ k + 1) (short : l ≡ low + 1) where
+  part_last : (window : List ℕ) → get_or (drop i window) low 0 ≡ get_or window k 0
+  part_last window = rw (← all) at (get_or-drop i window low 0)
+
+  pub part_window : (window : List ℕ) → IsWindow j m window → IsWindow l m (drop i window)
+  part_window window is =
+      let size = is.size in
+      let whole = take_all l (drop i window) (omega (arith, length-drop i window)) in
+      rw whole at (slice_window m j i l window is (omega arith))
+
+  pub part_longer :
+      (n : ℕ) (window : List ℕ) → IsWindow j m window → slice_get (windows low m) n ≡ Some (drop i (take k window))
+      → slice_get (windows l m) (n * (m - low) + last_place i k window) ≡ Some (drop i window)
+  part_longer n window is at' =
+      let own = part_window window is in
+      let size = own.size in
+      let step = front_step l m low n (drop i window) own (omega arith) (rw (part_front i k low window all) at') in
+      rw (take_all (low + 1) (drop i window) (omega arith), part_last window, part_front i k low window all, ← short) at step
+
+  pub part_shorter :
+      (n : ℕ) (window : List ℕ) → slice_get (windows l m) n ≡ Some (drop i window)
+      → (slice_get (windows low m) (n / (m - low)) ≡ Some (drop i (take k window)))
+      × (n % (m - low) ≡ last_place i k window)
+  part_shorter n window at' =
+      let next : l ≡ suc low = omega (arith, short) in
+      rw (part_last window, part_front i k low window all) at (shorter_number low m n (drop i window) (rw next at at'))
+
+  -- two windows with the same prefix are as far apart as their last identifiers
+  pub part_apart :
+      (n o : ℕ) (v w : List ℕ) → take k w ≡ take k v → slice_get (windows l m) n ≡ Some (drop i v)
+      → slice_get (windows l m) o ≡ Some (drop i w) → n + last_place i k w ≡ o + last_place i k v
+  part_apart n o v w same at_v at_w =
+      let first = part_shorter n v at_v in
+      let second = part_shorter o w at_w in
+      let place = one_place low m (n / (m - low)) (o / (m - low)) (drop i (take k v)) first.0 (rw same at second.0) in
+      let rows = ap (λ q. q * (m - low)) place in
+      omega (arith, div-add-mod' n (m - low), div-add-mod' o (m - low), first.1, second.1, rows)
+
+  pub part_along :
+      (n t : ℕ) (v w : List ℕ) → IsWindow j m w → take k w ≡ take k v → last_place i k w ≡ last_place i k v + t
+      → slice_get (windows l m) n ≡ Some (drop i v) → slice_get (windows l m) (n + t) ≡ Some (drop i w)
+  part_along n t v w is same further at_v =
+      let own = window_place l m (drop i w) (part_window w is) in
+      let there : own.0 ≡ n + t = omega (arith, part_apart n own.0 v w same at_v own.1, further) in
+      rw there at own.1
+
+-- 1 if a is below b, else 0
+abbrev pub below : ℕ → ℕ → ℕ
+below a b = cond (nat_lt a b) 1 0
+
+-- the position p of the last identifier of a window of length k+1 among the e that its prefix lacks without its first
+-- two identifiers, whose positions are g and h
+pub record Placed (k m g h e p : ℕ) (window : List ℕ) : Type 0 where
+  pub first : g ≢ p
+  pub second : h ≢ p
+  pub differ : g ≢ h
+  pub inside : p < e
+  pub first_inside : g < e
+  pub second_inside : h < e
+  pub all : e + k ≡ m + 2
+  pub own : last_place 0 k window + below g p + below h p ≡ p
+  pub middle : last_place 1 k window + below h p ≡ p
+  pub first_grown : length (unused (get_or window 0 0) (drop 2 window)) + below p g ≡ g
+  pub second_grown : length (unused (get_or window 1 0) (drop 2 window)) + below p h ≡ h
+  pub other : (q z : ℕ) → slice_get (unused m (drop 2 (take k window))) q ≡ Some z → g ≢ q → h ≢ q
+      → (z < m) × (is_used (take k window) z ≡ false) × (length (unused z (drop 2 (take k window))) ≡ q)
+
+pub placed :
+    (k j m : ℕ) (window : List ℕ) → 2 ≤ k → j ≡ k + 1 → IsWindow j m window
+    → let at' = λ (y : ℕ). length (unused y (drop 2 (take k window))) in
+    Placed k m (at' (get_or window 0 0)) (at' (get_or window 1 0)) (at' m) (at' (get_or window k 0)) window
+placed zero j m window some long is = absurd (omega (arith, some))
+placed (suc zero) j m window some long is = absurd (omega (arith, some))
+placed (suc (suc k)) j m [] some long is = absurd (omega (arith, is.size))
+placed (suc (suc k)) j m (a ∷ []) some long is = absurd (omega (arith, is.size))
+placed (suc (suc k)) j m (a ∷ b ∷ list) some long is =
+    let size = is.size in
+    let rest : List ℕ = take k list in
+    let x : ℕ = get_or list k 0 in
+    let front = window_front (suc (suc k)) j m (a ∷ b ∷ list) long is in
+    let shorter = distinct_tail a (b ∷ rest) front.distinct in
+    let distinct = distinct_tail b rest shorter in
+    let free = free_at (a ∷ b ∷ list) (suc (suc k)) is.distinct (omega arith) in
+    let x_a = lacks_both a x (b ∷ rest) free in
+    let x_b = lacks_both b x rest x_a.1 in
+    let b_a = lacks_both b a rest (distinct_head a (b ∷ rest) front.distinct) in
+    let b_free = distinct_head b rest shorter in
+    let whole = sym (take_more list k 0 (omega arith)) ∙ take_all (k + 1) list (omega arith) in
+    record {
+      first = apart rest a x b_a.1 x_b.1 x_a.0;
+      second = apart rest b x b_free x_b.1 x_b.0;
+      differ = apart rest a b b_a.1 b_free (λ e. b_a.0 (sym e));
+      inside = counted rest x m x_b.1 (is.below (suc (suc k)) 0 (omega arith));
+      first_inside = counted rest a m b_a.1 (is.below 0 0 (omega arith));
+      second_inside = counted rest b m b_free (is.below 1 0 (omega arith));
+      all = omega (arith, length-unused rest m distinct (All-tail (λ y. y < m) b rest (All-tail (λ y. y < m) a (b ∷ rest) front.below)), front.size);
+      own = omega (
+        arith,
+        rw (same_order rest a x b_a.1) at (unused_in_front a x (b ∷ rest) front.distinct),
+        rw (same_order rest b x b_free) at (unused_in_front b x rest shorter),
+      );
+      middle = rw (same_order rest b x b_free) at (unused_in_front b x rest shorter);
+      first_grown = rw (same_order rest x a x_b.1, whole) at (unused_at_end a x rest distinct x_b.1);
+      second_grown = rw (same_order rest x b x_b.1, whole) at (unused_at_end b x rest distinct x_b.1);
+      other = λ q z at' not_first not_second.
+          let kept = kept_is (lacks rest) m q z at' in
+          let a_z : a ≢ z = λ e. not_first (ap (λ y. length (unused y rest)) e ∙ kept.before) in
+          let b_z : b ≢ z = λ e. not_second (ap (λ y. length (unused y rest)) e ∙ kept.before) in
+          (kept.below, rw (ne_eqb a z a_z, ne_eqb b z b_z) (not-true (is_used rest z) kept.passes), kept.before);
     }

@@ -11,7 +11,6 @@ pub mod Levels
 pub mod RunStarts
 pub mod FrontPlaces
 pub mod SeriesPlaces
-pub mod LaterPlaces
 pub mod RunPrefixNumbers
 pub mod RunPrefixSteps
 pub mod Arcs

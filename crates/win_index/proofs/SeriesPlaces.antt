@@ -1,219 +1,171 @@
--- The positions of the windows of a series.
-use Rattle.std.proofs.Common.{◌≡◌, ◌≢◌, ◌⊎◌, ℕ, suc, ◌+◌, ◌-◌, ◌*◌, ◌<◌, ◌≤◌, false, nat_lt, List, [], ◌∷◌, ◌++◌, length, get_or, take, drop, slice_get, Some, inl, inr, ⊎_elim, sym, ap, subst, ◌∙◌, arith}
+-- The positions of the windows of a run and of a series.
+use Rattle.std.proofs.Common.{◌≡◌, ◌≢◌, ◌⊎◌, ℕ, ◌+◌, ◌-◌, ◌<◌, ◌≤◌, false, List, length, get_or, take, drop, set, slice_get, Some, ⊎_elim, sym, ap, ◌∙◌, arith}
+use Rattle.std.proofs.lemmas.Bool.Decides.{nat_tests}
+use Rattle.std.proofs.lemmas.List.{take-set, get_or-set_same, get_or-take, length-set}
 use Rattle.std.proofs.lemmas.Option.{slice_get-get_or}
-use Rattle.std.proofs.lemmas.Bool.{lt-ltb, le-ltb, ne_eqb, not-true}
-use Rattle.win_index.specs.Runs.{IsSeries, IsAtPlace}
+use Rattle.win_index.specs.Runs.{IsSeries, IsAtPlace, IsFirstOfRun, IsLastOfRun}
+use Rattle.win_index.specs.Successor.{IsNext}
 use Rattle.win_index.specs.Windows.{is_used, unused, windows, IsWindow}
 use Rattle.win_index.specs.declared.series.RunPlaces.{RunPlaces}
+use Rattle.win_index.proofs.Numbers.{windows_all}
+use Rattle.win_index.proofs.Positions.{window_place, free_at}
+use Rattle.win_index.proofs.FrontPlaces.{Placed, placed, below, last_place, window_front, window_with, part_apart, part_along, part_window}
 use Rattle.win_index.proofs.Kept.{kept_is}
-use Rattle.win_index.proofs.Numbers.{push_window, window_parts, window_step, windows_all, one_place}
-use Rattle.win_index.proofs.Positions.{window_place}
-use Rattle.win_index.proofs.FrontPlaces.{EndsFront, Ends, ends_front, whole_window, take_front, shorter_by_two, three_places}
-use Rattle.win_index.proofs.Unused.{lacks, lacks_differs, lacks_from_differs, distinct_tail, unused_below_bound, unused_in_front}
+use Rattle.win_index.proofs.Unused.{counted, lacks, length-unused}
 
--- neither gap is after the position and before the end
-pub record IsClear (places : RunPlaces) (place end : ℕ) : Type 0 where
-  pub first : (places.first_gap ≤ place) ⊎ (end ≤ places.first_gap)
-  pub second : (places.second_gap ≤ place) ⊎ (end ≤ places.second_gap)
+-- the position, or the next one if it is a gap
+abbrev pub IsPast : ℕ → ℕ → ℕ → ℕ → Type 0
+IsPast g h place past =
+    ((past ≡ place) × (place ≢ g) × (place ≢ h)) ⊎ ((past ≡ place + 1) × ((place ≡ g) ⊎ (place ≡ h)))
 
--- the windows of a run are in the order of their last identifiers among the numbers that the prefix lacks
-pub along :
-    (k m n j x y : ℕ) (front : List ℕ) → IsWindow k m front → x < m → is_used front x ≡ false → y < m
-    → is_used front y ≡ false
-    → length (unused y front) ≡ length (unused x front) + j → slice_get (windows (suc k) m) n ≡ Some (front ++ x ∷ [])
-    → slice_get (windows (suc k) m) (n + j) ≡ Some (front ++ y ∷ [])
-along k m n j x y front window x_below x_free y_below y_free places at' =
-    let own = window_place k m front window in
-    let from = window_step k m own.0 x front own.1 x_below x_free in
-    let to = window_step k m own.0 y front own.1 y_below y_free in
-    let n_is = one_place (suc k) m n (own.0 * (m - k) + length (unused x front)) (front ++ x ∷ []) at' from in
-    let there : own.0 * (m - k) + length (unused y front) ≡ n + j = omega (arith, n_is, places) in
-    rw there at to
+-- after a position that is no gap
+past_both :
+    (g h p a q : ℕ) → g ≢ h → g ≢ p → h ≢ p → IsPast g h (p + 1) a → IsPast g h a q
+    → (p < q) × (g ≢ q) × (h ≢ q) × (q + below g p + below h p ≡ p + 1 + below g q + below h q)
+past_both g h p a q differ first second past again = (grind arith, grind arith, grind arith, grind (arith, nat_tests))
 
--- a number that comes before or after two others among those that a list lacks
-record IsAside (f x y : ℕ) : Type 0 where
-  pub same : nat_lt f x ≡ nat_lt f y
-  pub differs : f ≢ y
+-- from the first position on
+first_rank :
+    (g h p a q rank : ℕ) → rank ≡ 0 → rank + below g p + below h p ≡ p → g ≢ h → g ≢ p → h ≢ p → IsPast g h 0 a
+    → IsPast g h a q → p ≡ q
+first_rank g h p a q rank none own differ first second past again = grind (arith, nat_tests)
 
-aside :
-    (list : List ℕ) (f x y low high : ℕ) → length (unused x list) ≡ low → low ≤ length (unused y list)
-    → length (unused y list) < high
-    → (length (unused f list) < low) ⊎ (high ≤ length (unused f list)) → IsAside f x y
-aside list f x y low high x_at from to (inl before) =
-    let below_x = unused_below_bound list f x (omega (arith, before, x_at)) in
-    let below_y = unused_below_bound list f y (omega (arith, before, from)) in
-    record { same = lt-ltb f x below_x ∙ sym (lt-ltb f y below_y); differs = λ e. absurd (omega (arith, e, below_y)) }
-aside list f x y low high x_at from to (inr after) =
-    let above_x = unused_below_bound list x f (omega (arith, after, x_at, from, to)) in
-    let above_y = unused_below_bound list y f (omega (arith, after, to)) in
-    record {
-      same = le-ltb f x (omega (arith, above_x)) ∙ sym (le-ltb f y (omega (arith, above_y)));
-      differs = λ e. absurd (omega (arith, e, above_y));
-    }
+-- a position past the end
+end_rank :
+    (g h p q rank all end : ℕ) → rank + below g p + below h p ≡ p → q + below g p + below h p ≡ p + 1 + below g q + below h q
+    → end ≤ q → g < end → h < end → all + 2 ≡ end → all ≤ rank + 1
+end_rank g h p q rank all end own next past first second many = grind (arith, nat_tests)
 
--- a gap at a position or before it is before it, if a window has the position
-gap_aside : (gap place end : ℕ) → gap ≢ place → (gap ≤ place) ⊎ (end ≤ gap) → (gap < place) ⊎ (end ≤ gap)
-gap_aside gap place end differs clear =
-    ⊎_elim (λ (before : gap ≤ place). inl (omega (arith, before, differs))) (λ after. inr after) clear
+-- a gap that is not among these positions
+clear_of : (g p j count : ℕ) → g ≢ p → (g ≤ p) ⊎ (p + count ≤ g) → j < count → (g ≢ p + j) × (below g (p + j) ≡ below g p)
+clear_of g p j count differ clear lt = (grind arith, grind (arith, nat_tests))
 
--- the window with this end instead of x is j further, and so is its suffix
-record StandsFurther (g m f0 f1 : ℕ) (rest : List ℕ) (x j y : ℕ) : Type 0 where
-  pub ends : Ends m f0 f1 rest y
-  pub long : (n : ℕ) → slice_get (windows (suc (g + 2)) m) n ≡ Some (f0 ∷ f1 ∷ rest ++ x ∷ [])
-      → slice_get (windows (suc (g + 2)) m) (n + j) ≡ Some (f0 ∷ f1 ∷ rest ++ y ∷ [])
-  pub short : (n : ℕ) → slice_get (windows (suc g) m) n ≡ Some (rest ++ x ∷ [])
-      → slice_get (windows (suc g) m) (n + j) ≡ Some (rest ++ y ∷ [])
+-- no identifier is larger than the last one if the prefix lacks no further one
+last_of_run :
+    (k l m : ℕ) (window : List ℕ) → l ≡ k + 1 → IsWindow l m window
+    → length (unused m (take k window)) ≤ last_place 0 k window + 1 → IsLastOfRun l m window
+last_of_run k l m window long is few y larger =
+    let size = is.size in
+    let last : l - 1 ≡ k = omega arith in
+    let other : IsWindow l m (set window k y) = rw last at larger in
+    let here = get_or-set_same window k y 0 (omega arith) in
+    let inside : k < length (set window k y) = omega (arith, length-set window k y) in
+    let below : y < m = rw here at (other.below k 0 inside) in
+    let free : is_used (take k window) y ≡ false =
+    rw (here, take-set window k y) at (free_at (set window k y) k other.distinct inside) in
+    let own = free_at window k is.distinct (omega arith) in
+    rw last
+    (grind (arith, counted (take k window) y m free below, counted (take k window) (get_or window k 0) y own))
 
-stands_further :
-    (g m p end f0 f1 x j y : ℕ) (places : RunPlaces) (rest : List ℕ)
-    → EndsFront g m places (f0 ∷ f1 ∷ rest) x p → Ends m f0 f1 rest x
-    → IsClear places p end → p + j < end → slice_get (unused m rest) (p + j) ≡ Some y
-    → StandsFurther g m f0 f1 rest x j y
-stands_further g m p end f0 f1 x j y places rest is x_ends clear inside y_at =
-    let front_is = is.front_is in
-    let rest_is = shorter_by_two g m f0 f1 rest front_is in
-    let x_at = is.x_at in
-    let kept = kept_is (lacks rest) m (p + j) y y_at in
-    let y_rest : is_used rest y ≡ false = not-true (is_used rest y) kept.passes in
-    let from : p ≤ length (unused y rest) = omega (arith, kept.before) in
-    let to : length (unused y rest) < end = omega (arith, kept.before, inside) in
-    let three = three_places (g + 2) m x (f0 ∷ f1 ∷ rest) (omega arith) front_is x_ends.below x_ends.free in
-    let gap_0 = gap_aside places.first_gap p end (λ e. three.first (is.first ∙ e ∙ sym x_at)) clear.first in
-    let gap_1 = gap_aside places.second_gap p end (λ e. three.second (is.second ∙ e ∙ sym x_at)) clear.second in
-    let first = aside rest f0 x y p end x_at from to (rw is.first gap_0) in
-    let second = aside rest f1 x y p end x_at from to (rw is.second gap_1) in
-    let distinct = front_is.distinct in
-    let shorter = distinct_tail f0 (f1 ∷ rest) distinct in
-    let y_free : is_used (f0 ∷ f1 ∷ rest) y ≡ false =
-    rw (ne_eqb f0 y first.differs, ne_eqb f1 y second.differs) y_rest in
-    let x_0 = unused_in_front f0 x (f1 ∷ rest) distinct in
-    let x_1 = unused_in_front f1 x rest shorter in
-    let y_0 = rw (← first.same) at (unused_in_front f0 y (f1 ∷ rest) distinct) in
-    let y_1 = rw (← second.same) at (unused_in_front f1 y rest shorter) in
-    let further : length (unused y (f0 ∷ f1 ∷ rest)) ≡ length (unused x (f0 ∷ f1 ∷ rest)) + j =
-    omega (arith, x_0, x_1, y_0, y_1, kept.before, x_at) in
-    record {
-      ends = record { below = kept.below; free = y_free; rest_free = y_rest };
-      long = λ n at'. along (g + 2) m n j x y (f0 ∷ f1 ∷ rest) front_is x_ends.below x_ends.free kept.below
-          y_free further at';
-      short = λ n at'. along g m n j x y rest rest_is x_ends.below x_ends.rest_free kept.below y_rest
-          (omega (arith, kept.before, x_at)) at';
-    }
+pub at_place :
+    (k m p : ℕ) (places : RunPlaces) (window : List ℕ) → 1 ≤ k → IsAtPlace k m places window p
+    → Placed (k + 1) m places.first_gap places.second_gap places.end p window
+at_place k m p places window some is =
+    rw (is.run_has.first, is.run_has.second, is.run_has.end, is.place_is) at
+    (placed (k + 1) (k + 2) m window (omega arith) (omega arith) is.window_is)
 
--- a series up to the end of the positions without a gap
-series_of_front :
-    (g m p count x : ℕ) (places : RunPlaces) (front : List ℕ) → EndsFront g m places front x p
-    → IsClear places p (p + count) → p + count ≤ places.end
-    → IsSeries (g + 1) m (front ++ x ∷ []) count
-series_of_front g m p count x places [] is clear within = absurd (omega (arith, is.front_is.size))
-series_of_front g m p count x places (f0 ∷ []) is clear within = absurd (omega (arith, is.front_is.size))
-series_of_front g m p count x places (f0 ∷ f1 ∷ rest) is clear within =
-    λ n low j at' low_at lt.
-    let rest_free =
-    lacks_from_differs rest x
-    (λ k lt. lacks_differs (f0 ∷ f1 ∷ rest) x is.free (suc (suc k)) 0 (omega arith)) in
-    let ends : Ends m f0 f1 rest x = record { below = is.below; free = is.free; rest_free = rest_free } in
-    let size : length (f0 ∷ f1 ∷ rest) ≡ g + 1 + 1 = omega (arith, is.front_is.size) in
-    let longer : suc (g + 2) ≡ g + 1 + 2 = omega arith in
-    let short : suc g ≡ g + 1 = omega arith in
-    let z : ℕ = get_or (unused m rest) (p + j) 0 in
-    let z_at = slice_get-get_or (unused m rest) (p + j) 0 (omega (arith, within, is.end, lt)) in
-    let there = stands_further g m p (p + count) f0 f1 x j z places rest is ends clear (omega (arith, lt)) z_at in (
-      f0 ∷ f1 ∷ rest ++ z ∷ [],
-      rw longer at (there.long n (rw (← longer) at at')),
-      take_front (g + 1 + 1) (f0 ∷ f1 ∷ rest) z size ∙ sym (take_front (g + 1 + 1) (f0 ∷ f1 ∷ rest) x size),
-      rw short at (there.short low (rw (← short) at low_at)),
-    )
+module _ (k m p : ℕ) (places : RunPlaces) (window : List ℕ) (some : 1 ≤ k) (is : IsAtPlace k m places window p) where
+  -- a window with the same prefix has the position of its last identifier
+  same_run :
+      (w : List ℕ) (q : ℕ) → take (k + 1) w ≡ take (k + 1) window → IsWindow (k + 2) m w
+      → last_place 2 (k + 1) w ≡ q → IsAtPlace k m places w q
+  same_run w q same w_is at' =
+      let item = λ (i : ℕ) (lt : i < k + 1).
+      sym (get_or-take (k + 1) w i 0 lt) ∙ ap (λ l. get_or l i 0) same ∙ get_or-take (k + 1) window i 0 lt in
+      record {
+        window_is = w_is;
+        run_has = record {
+          first = rw (item 0 (omega arith), same) is.run_has.first;
+          second = rw (item 1 (omega arith), same) is.run_has.second;
+          end = rw same is.run_has.end;
+        };
+        place_is = at';
+      }
 
--- the same for a window
-pub series_is :
-    (k m p count : ℕ) (places : RunPlaces) (window : List ℕ) → 1 ≤ k → IsAtPlace k m places window p
-    → IsClear places p (p + count)
-    → p + count ≤ places.end → IsSeries k m window count
-series_is k m p count places window some is clear within =
-    let made = series_of_front (k - 1) m p count (get_or window (k + 1) 0) places (take (k + 1) window)
-    (ends_front k m p places window some is) clear within in
-    let level : k - 1 + 1 ≡ k = omega arith in
-    rw (level, whole_window k m window is.window_is) at made
+  -- each position below the end that is no gap has a window, as many windows further as the gaps leave
+  window_at :
+      (q t : ℕ) → q < places.end → places.first_gap ≢ q → places.second_gap ≢ q
+      → q + below places.first_gap p + below places.second_gap p
+      ≡ p + t + below places.first_gap q + below places.second_gap q
+      → (w : List ℕ) × IsAtPlace k m places w q × (take (k + 1) w ≡ take (k + 1) window)
+      × ((n : ℕ) → slice_get (windows (k + 2) m) n ≡ Some window → slice_get (windows (k + 2) m) (n + t) ≡ Some w)
+  window_at q t inside not_first not_second rank =
+      let size = is.window_is.size in
+      let rest : List ℕ = drop 2 (take (k + 1) window) in
+      let z : ℕ = get_or (unused m rest) q 0 in
+      let at_p = at_place k m p places window some is in
+      let z_at = at_p.other q z (slice_get-get_or (unused m rest) q 0 (omega (arith, inside, is.run_has.end)))
+      not_first not_second in
+      let w = set window (k + 1) z in
+      let same = take-set window (k + 1) z in
+      let here = get_or-set_same window (k + 1) z 0 (omega arith) in
+      let w_is = window_with (k + 1) (k + 2) m z window (omega arith) is.window_is z_at.0 z_at.1 in
+      let at_q = same_run w q same w_is (rw (here, same) z_at.2) in
+      let own = at_p.own in
+      let other = (at_place k m q places w some at_q).own in (
+        w,
+        at_q,
+        same,
+        λ n at'. part_along 0 (k + 1) (k + 1) (k + 2) (k + 2) m (omega arith) (omega arith) (omega arith) n t window w
+            w_is same (omega (arith, own, other, rank)) at',
+      )
 
--- the last identifiers of two windows with one prefix are in the order of the windows
-places_along :
-    (k m n j x y : ℕ) (front : List ℕ) → IsWindow k m front → x < m → is_used front x ≡ false → y < m
-    → is_used front y ≡ false
-    → slice_get (windows (suc k) m) n ≡ Some (front ++ x ∷ [])
-    → slice_get (windows (suc k) m) (n + j) ≡ Some (front ++ y ∷ [])
-    → length (unused y front) ≡ length (unused x front) + j
-places_along k m n j x y front window x_below x_free y_below y_free x_at y_at =
-    let own = window_place k m front window in
-    let from = one_place (suc k) m n (own.0 * (m - k) + length (unused x front)) (front ++ x ∷ []) x_at
-    (window_step k m own.0 x front own.1 x_below x_free) in
-    let to = one_place (suc k) m (n + j) (own.0 * (m - k) + length (unused y front)) (front ++ y ∷ []) y_at
-    (window_step k m own.0 y front own.1 y_below y_free) in
-    omega (arith, from, to)
+  -- the window at the first position after p that is no gap is the next one
+  pub later_is :
+      (a q : ℕ) → IsPast places.first_gap places.second_gap (p + 1) a → IsPast places.first_gap places.second_gap a q
+      → q < places.end
+      → (w : List ℕ) × IsAtPlace k m places w q × (take (k + 1) w ≡ take (k + 1) window) × IsNext (k + 2) m window w
+  later_is a q past again inside =
+      let at_p = at_place k m p places window some is in
+      let got = past_both places.first_gap places.second_gap p a q at_p.differ at_p.first at_p.second past again in
+      window_at q 1 inside got.1 got.2 got.3
 
--- a position at which a series ends: the end, or a gap
-abbrev pub IsEnd : RunPlaces → ℕ → Type 0
-IsEnd places place = (place ≡ places.end) ⊎ ((place ≡ places.first_gap) ⊎ (place ≡ places.second_gap))
+  -- and if that is past the end, p is the last of its run
+  pub none_later :
+      (a q : ℕ) → IsPast places.first_gap places.second_gap (p + 1) a → IsPast places.first_gap places.second_gap a q
+      → places.end ≤ q → IsLastOfRun (k + 2) m window
+  none_later a q past again end =
+      let at_p = at_place k m p places window some is in
+      let got = past_both places.first_gap places.second_gap p a q at_p.differ at_p.first at_p.second past again in
+      let front = window_front (k + 1) (k + 2) m window (omega arith) is.window_is in
+      let many = length-unused (take (k + 1) window) m front.distinct front.below in
+      last_of_run (k + 1) (k + 2) m window (omega arith) is.window_is (end_rank _ _ p q (last_place 0 (k + 1) window) _ places.end at_p.own got.3 end at_p.first_inside at_p.second_inside (omega (arith, many, front.size, at_p.all)))
 
--- no number that ends the prefix has this position
-pub end_is_free :
-    (g m p q x y f0 f1 : ℕ) (places : RunPlaces) (rest : List ℕ) → EndsFront g m places (f0 ∷ f1 ∷ rest) x p → y < m
-    → is_used (f0 ∷ f1 ∷ rest) y ≡ false → length (unused y rest) ≡ q → IsEnd places q → ⊥
-end_is_free g m p q x y f0 f1 places rest is below free at' end =
-    let three = three_places (g + 2) m y (f0 ∷ f1 ∷ rest) (omega arith) is.front_is below free in
-    ⊎_elim (λ last. absurd (omega (arith, three.inside, at', last, is.end)))
-    (λ gap. ⊎_elim (λ first. three.first (is.first ∙ sym first ∙ sym at'))
-    (λ second. three.second (is.second ∙ sym second ∙ sym at')) gap) end
+  -- a series up to the end of the positions without a gap
+  pub series_is :
+      (count : ℕ) → (places.first_gap ≤ p) ⊎ (p + count ≤ places.first_gap)
+      → (places.second_gap ≤ p) ⊎ (p + count ≤ places.second_gap) → p + count ≤ places.end
+      → IsSeries k m window count
+  series_is count clear_first clear_second within n low j at' low_at lt =
+      let at_p = at_place k m p places window some is in
+      let first = clear_of places.first_gap p j count at_p.first clear_first lt in
+      let second = clear_of places.second_gap p j count at_p.second clear_second lt in
+      let got = window_at (p + j) j (omega (arith, within, lt)) first.0 second.0 (omega (arith, first.1, second.1)) in (
+        got.0,
+        got.3 n at',
+        got.2,
+        part_along 2 (k + 1) (k - 1) (k + 2) k m (omega (arith, some)) (omega arith) (omega (arith, some)) low j window
+            got.0 got.1.window_is got.2 (got.1.place_is ∙ rw is.place_is) low_at,
+      )
 
--- a series goes no further than such a position
-no_longer_of_front :
-    (g m p count x : ℕ) (places : RunPlaces) (front : List ℕ) → EndsFront g m places front x p
-    → IsEnd places (p + count)
-    → IsSeries (g + 1) m (front ++ x ∷ []) (count + 1) → ⊥
-no_longer_of_front g m p count x places [] is end series = absurd (omega (arith, is.front_is.size))
-no_longer_of_front g m p count x places (f0 ∷ []) is end series = absurd (omega (arith, is.front_is.size))
-no_longer_of_front g m p count x places (f0 ∷ f1 ∷ rest) is end series =
-    let front : List ℕ = f0 ∷ f1 ∷ rest in
-    let window = is.front_is in
-    let x_below = is.below in
-    let x_free = is.free in
-    let rest_is = shorter_by_two g m f0 f1 rest window in
-    let rest_free = lacks_from_differs rest x (λ i lt. lacks_differs front x x_free (suc (suc i)) 0 (omega arith)) in
-    let long : suc (g + 2) ≡ g + 1 + 2 = omega arith in
-    let short : suc g ≡ g + 1 = omega arith in
-    let size : length front ≡ g + 1 + 1 = omega (arith, window.size) in
-    let n = window_place (suc (g + 2)) m (front ++ x ∷ []) (push_window (g + 2) m x front window x_below x_free) in
-    let low_n = window_place (suc g) m (rest ++ x ∷ []) (push_window g m x rest rest_is x_below rest_free) in
-    let own : slice_get (windows (g + 1 + 2) m) n.0 ≡ Some (front ++ x ∷ []) =
-    subst (λ k. slice_get (windows k m) n.0 ≡ Some (front ++ x ∷ [])) long n.1 in
-    let last : slice_get (windows (g + 1) m) low_n.0 ≡ Some (rest ++ x ∷ []) =
-    subst (λ k. slice_get (windows k m) low_n.0 ≡ Some (rest ++ x ∷ [])) short low_n.1 in
-    let got = series n.0 low_n.0 count own last (omega arith) in
-    let there : slice_get (windows (suc (g + 2)) m) (n.0 + count) ≡ Some got.0 =
-    subst (λ k. slice_get (windows k m) (n.0 + count) ≡ Some got.0) (sym long) got.1 in
-    let parts = window_parts (g + 2) m (n.0 + count) got.0 there in
-    let kept = kept_is (lacks parts.front) m parts.rest parts.last parts.last_at in
-    let parts_size = (windows_all (g + 2) m parts.place parts.front parts.front_at).size in
-    let same : parts.front ≡ front = sym (take_front (g + 1 + 1) parts.front parts.last (omega (arith, parts_size)))
-    ∙ ap (take (g + 1 + 1)) (sym parts.whole) ∙ got.2 ∙ take_front (g + 1 + 1) front x size in
-    let y : ℕ = parts.last in
-    let y_free : is_used front y ≡ false =
-    subst (λ list. is_used list y ≡ false) same (not-true (is_used parts.front y) kept.passes) in
-    let y_rest = lacks_from_differs rest y (λ i lt. lacks_differs front y y_free (suc (suc i)) 0 (omega arith)) in
-    let whole : got.0 ≡ front ++ y ∷ [] = parts.whole ∙ ap (λ list. list ++ y ∷ []) same in
-    let below : slice_get (windows (suc g) m) (low_n.0 + count) ≡ Some (rest ++ y ∷ []) =
-    subst (λ k. slice_get (windows k m) (low_n.0 + count) ≡ Some (drop 2 got.0)) (sym short) got.3
-    ∙ ap (λ list. Some (drop 2 list)) whole in
-    let further = places_along g m low_n.0 count x y rest rest_is x_below rest_free kept.below y_rest low_n.1 below in
-    end_is_free g m p (p + count) x y f0 f1 places rest is kept.below y_free (omega (arith, further, is.x_at)) end
+  -- a series goes no further than the end or a gap
+  pub no_longer :
+      (count : ℕ) → (p + count ≡ places.end) ⊎ ((p + count ≡ places.first_gap) ⊎ (p + count ≡ places.second_gap))
+      → IsSeries k m window (count + 1) → ⊥
+  no_longer count end series =
+      let n = window_place (k + 2) m window is.window_is in
+      let low = window_place k m (drop 2 window) (part_window 2 (k + 1) (k - 1) (k + 2) k m (omega (arith, some)) (omega arith) (omega (arith, some)) window is.window_is) in
+      let got = series n.0 low.0 count n.1 low.1 (omega arith) in
+      let apart = part_apart 2 (k + 1) (k - 1) (k + 2) k m (omega (arith, some)) (omega arith) (omega (arith, some)) low.0 (low.0 + count) window got.0 got.2 low.1 got.3 in
+      let w_is = windows_all (k + 2) m (n.0 + count) got.0 got.1 in
+      let there = at_place k m (p + count) places got.0 some (same_run got.0 (p + count) got.2 w_is (omega (arith, apart, is.place_is))) in
+      ⊎_elim (λ last. absurd (omega (arith, there.inside, last)))
+      (λ gap. ⊎_elim (λ first. there.first (sym first)) (λ second. there.second (sym second)) gap) end
 
-pub no_longer :
-    (k m p count : ℕ) (places : RunPlaces) (window : List ℕ) → 1 ≤ k → IsAtPlace k m places window p
-    → IsEnd places (p + count)
-    → IsSeries k m window (count + 1) → ⊥
-no_longer k m p count places window some is end series =
-    let level : k ≡ k - 1 + 1 = omega arith in
-    let all = whole_window k m window is.window_is in
-    no_longer_of_front (k - 1) m p count (get_or window (k + 1) 0) places (take (k + 1) window)
-    (ends_front k m p places window some is) end
-    (subst (λ n. IsSeries n m (take (k + 1) window ++ get_or window (k + 1) 0 ∷ []) (count + 1)) level (rw all series))
+  -- the first window of the run is at the first position that is no gap
+  pub first_place : (a q : ℕ) → IsFirstOfRun (k + 1) m window → IsPast places.first_gap places.second_gap 0 a
+      → IsPast places.first_gap places.second_gap a q → p ≡ q
+  first_place a q least past again =
+      let at_p = at_place k m p places window some is in
+      let none = (kept_is (lacks (take (k + 1) window)) m 0 (get_or window (k + 1) 0) least).before in
+      first_rank places.first_gap places.second_gap p a q (last_place 0 (k + 1) window) none at_p.own at_p.differ at_p.first at_p.second past again

@@ -1,5 +1,5 @@
 -- The next window: the next number in the last cell, or else the next prefix with its least number.
-use Rattle.std.proofs.Common.{◌≡◌, ◌≢◌, ℕ, zero, suc, ◌+◌, ◌-◌, ◌*◌, ◌<◌, ◌≤◌, cond, Option, List, [], ◌∷◌, ◌++◌, length, get_or, take, set, find, slice_get, Some, None, AllPairs, refl, sym, ap, ◌∙◌, arith, length-append, add-one, ⊎_elim}
+use Rattle.std.proofs.Common.{◌≡◌, ◌≢◌, ℕ, zero, suc, ◌+◌, ◌-◌, ◌*◌, ◌<◌, ◌≤◌, cond, Option, List, [], ◌∷◌, ◌++◌, length, get_or, take, set, find, slice_get, Some, None, refl, sym, ap, ◌∙◌, arith, length-append, add-one, ⊎_elim}
 use Rattle.std.specs.List.{range_with_len}
 use Rattle.std.proofs.Math.Nat.{suc-mul}
 use Rattle.std.proofs.lemmas.List.{take_all, length-set, same_from_push, take_more, take_more_set, take-take, length-take-le, get_or-take, get_or-set_same, get_or-set_other}
@@ -10,7 +10,7 @@ use Rattle.win_index.specs.Windows.{is_used, unused, windows, IsWindow}
 use Rattle.win_index.specs.Runs.{IsLastOfRun}
 use Rattle.win_index.specs.Successor.{IsNext, IsLast}
 use Rattle.win_index.proofs.Kept.{kept, kept_at, kept_is, kept_suc, kept_own, kept_rises}
-use Rattle.win_index.proofs.Unused.{lacks, length-unused, lacks_from_differs, unused_at}
+use Rattle.win_index.proofs.Unused.{lacks, distinct_take, length-unused, lacks_from_differs, unused_at}
 use Rattle.win_index.proofs.Positions.{window_place, free_at}
 use Rattle.win_index.proofs.Numbers.{window_parts, window_from_parts, windows_all, length-windows}
 
@@ -119,19 +119,14 @@ last_of_all k m x front none last n at' =
 pub shorter_window : (k m last : ℕ) (list : List ℕ) → k ≡ last + 1 → IsWindow k m (take k list) →
     IsWindow last m (take last list)
 shorter_window k m last list more window =
-    let whole = take-take last k list (omega arith) in
     let size = window.size in
-    let long : last ≤ length (take k list) = omega arith in
-    let short : length (take last (take k list)) ≡ last = length-take-le last (take k list) long in
-    let distinct : AllPairs (λ a b. a ≢ b) (take last (take k list)) = λ i j d lt within.
-    let near : j < last = omega arith in
-    let nearer : i < last = omega arith in
-    rw (get_or-take last (take k list) i d nearer, get_or-take last (take k list) j d near)
-    (window.distinct i j d lt (omega arith)) in
-    rw whole at
-    (let front : IsWindow last m (take last (take k list)) =
-    record { size = short; below = All-take (λ x. x < m) last (take k list) window.below; distinct = distinct } in
-    front)
+    let front : IsWindow last m (take last (take k list)) = record {
+      size = length-take-le last (take k list) (omega arith);
+      below = All-take (λ x. x < m) last (take k list) window.below;
+      distinct = distinct_take last (take k list) window.distinct;
+    } in
+    let whole = take-take last k list (omega arith) in
+    rw whole at front
 
 pub next_in_last_cell :
     (k m last y : ℕ) (list : List ℕ) → k ≡ last + 1 → last < length list

@@ -1,7 +1,8 @@
 -- The numbers below a bound that a list of distinct numbers lacks.
-use Rattle.std.proofs.Common.{◌≡◌, ◌≢◌, ◌⊎◌, ℕ, zero, suc, ◌+◌, ◌-◌, ◌<◌, ◌≤◌, Bool, true, false, not, cond, nat_lt, eqb, List, [], ◌∷◌, ◌++◌, length, get_or, count_by, slice_get, Some, All, AllPairs, refl, sym, ap, subst, ◌∙◌, arith, length-append, ⊎_elim}
+use Rattle.std.proofs.Common.{◌≡◌, ◌≢◌, ◌⊎◌, ℕ, zero, suc, ◌+◌, ◌-◌, ◌<◌, ◌≤◌, Bool, true, false, not, cond, nat_lt, eqb, List, [], ◌∷◌, ◌++◌, length, get_or, take, drop, count_by, slice_get, Some, All, AllPairs, refl, sym, ap, subst, ◌∙◌, arith, length-append, ⊎_elim}
 use Rattle.std.proofs.lemmas.Bool.{cases_lt, cases_order, lt-ltb, le-ltb, eq-eqb, ne_eqb, false≢true, not_from_false}
 use Rattle.std.proofs.lemmas.Grind.{get_or_default_zero}
+use Rattle.std.proofs.lemmas.List.{length-take, length-drop, get_or-take, get_or-drop}
 use Rattle.std.proofs.lemmas.List.Elements.{All-head, All-tail}
 use Rattle.std.proofs.lemmas.List.Folds.{list_any_none, list_any_at}
 use Rattle.std.proofs.lemmas.List.Quantifiers.{all_pairs_push}
@@ -27,6 +28,18 @@ IsDistinct list = AllPairs (λ a b. a ≢ b) list
 pub distinct_tail : (y : ℕ) (list : List ℕ) → IsDistinct (y ∷ list) → IsDistinct list
 distinct_tail y list h = λ i j d lt within. h (suc i) (suc j) d (omega arith) (omega arith)
 
+pub distinct_take : (n : ℕ) (list : List ℕ) → IsDistinct list → IsDistinct (take n list)
+distinct_take n list h = λ i j d lt within.
+    let size = length-take n list in
+    let near : j < n = omega arith in
+    let nearer : i < n = omega arith in
+    rw (get_or-take n list i d nearer, get_or-take n list j d near) (h i j d lt (omega arith))
+
+pub distinct_drop : (n : ℕ) (list : List ℕ) → IsDistinct list → IsDistinct (drop n list)
+distinct_drop n list h = λ i j d lt within.
+    rw (get_or-drop n list i d, get_or-drop n list j d)
+    (h (n + i) (n + j) d (omega arith) (omega (arith, length-drop n list)))
+
 pub distinct_head : (y : ℕ) (list : List ℕ) → IsDistinct (y ∷ list) → is_used list y ≡ false
 distinct_head y list h =
     list_any_none (λ z. eqb z y) list (λ k d lt. ne_eqb _ _ (λ e. h 0 (suc k) d (omega arith) (omega arith) (sym e)))
@@ -41,6 +54,13 @@ pub lacks_from_differs : (list : List ℕ) (x : ℕ) → ((k : ℕ) → k < leng
 lacks_from_differs list x differs =
     list_any_none (λ z. eqb z x) list
     (λ k d lt. ne_eqb _ _ (λ e. differs k lt (sym (get_or_default_zero list k d lt) ∙ e)))
+
+-- a longer list lacks what its first number is not and its rest lacks
+pub lacks_both : (y x : ℕ) (list : List ℕ) → is_used (y ∷ list) x ≡ false → (y ≢ x) × (is_used list x ≡ false)
+lacks_both y x list free = (
+  lacks_differs (y ∷ list) x free 0 0 (omega arith),
+  lacks_from_differs list x (λ k lt. lacks_differs (y ∷ list) x free (suc k) 0 (omega arith)),
+)
 
 rank_zero : (list : List ℕ) → rank list 0 ≡ 0
 rank_zero [] = refl
@@ -171,6 +191,26 @@ unused_below_bound list x m fewer =
     (λ (lt : x < m). lt)
     (λ (le : m ≤ x). absurd (omega (arith, kept_rises (lacks list) m x le, fewer)))
     (cases_lt x m)
+
+-- a number that a list lacks is counted below each larger one
+pub counted : (list : List ℕ) (x y : ℕ) → is_used list x ≡ false → x < y →
+    length (unused x list) < length (unused y list)
+counted list x y free lt =
+    omega (arith, (unused_more list x).0 free, kept_rises (lacks list) (x + 1) y (omega arith))
+
+-- two numbers that a list lacks have different positions
+pub apart : (list : List ℕ) (x y : ℕ) → is_used list x ≡ false → is_used list y ≡ false → x ≢ y →
+    length (unused x list) ≢ length (unused y list)
+apart list x y x_free y_free differs = grind (arith, counted list x y x_free, counted list y x y_free)
+
+-- a number that a list lacks is in the order of the positions
+pub same_order : (list : List ℕ) (x y : ℕ) → is_used list x ≡ false →
+    nat_lt x y ≡ nat_lt (length (unused x list)) (length (unused y list))
+same_order list x y free =
+    ⊎_elim
+    (λ (less : x < y). lt-ltb x y less ∙ sym (lt-ltb _ _ (counted list x y free less)))
+    (λ (more : y ≤ x). le-ltb x y more ∙ sym (le-ltb _ _ (kept_rises (lacks list) y x more)))
+    (cases_lt x y)
 
 -- the number before x has this position if the list lacks one more number below x than the position, and no more below
 -- x - 1

@@ -4,6 +4,8 @@ ghost use Rattle.std.specs.Prelude.{◌≡◌, ℕ, List, ◌+◌, ◌-◌, ◌<
 ghost use Rattle.win_index.specs.declared.limits.TheConstants.{MAX_IDS, MAX_WINDOWS};
 ghost use Rattle.win_index.specs.Falling.{falling};
 ghost use Rattle.win_index.specs.RunPrefixes.{HasNumbers, IsLonger, IsPrefix, IsNextPrefix, IsLastPrefix};
+ghost use Rattle.win_index.specs.Runs.{HasPlaces};
+ghost use Rattle.win_index.specs.Windows.{IsWindow};
 
 use crate::arrangement::Lists;
 use crate::run_prefix::RunPrefix;
@@ -36,9 +38,8 @@ impl Prefixes {
 
     // Returns the positions for the lists that are one identifier longer than this one.
     pub(crate) fn places(self, prefix: RunPrefix) -> RunPlaces
-        ensures first { result.first_gap ≡ prefix.first_gap }
-        ensures second { result.second_gap ≡ prefix.second_gap }
-        ensures end { result.end + self.len ≡ self.ids + 2 }
+        ensures { (window : List ℕ) → IsWindow (self.len + 1) self.ids window → HasNumbers self.len self.ids (take self.len window) prefix
+            → HasPlaces (self.len - 1) self.ids window result }
     {
         RunPlaces {
             first_gap: prefix.first_gap,
@@ -54,10 +55,10 @@ impl Prefixes {
     {
         let free = self.ids - self.len;
         RunPrefix {
-            middle: prefix.middle * (free + 1) + (place - one_if_below(prefix.second_gap, place)),
+            middle: prefix.middle * (free + 1) + (place - u32::from(prefix.second_gap < place)),
             last: prefix.last * (free + 2) + place,
-            first_gap: prefix.first_gap - one_if_below(place, prefix.first_gap),
-            second_gap: prefix.second_gap - one_if_below(place, prefix.second_gap),
+            first_gap: prefix.first_gap - u32::from(place < prefix.first_gap),
+            second_gap: prefix.second_gap - u32::from(place < prefix.second_gap),
         }
     }
 
@@ -71,8 +72,8 @@ impl Prefixes {
         let shorter = RunPrefix {
             middle: prefix.middle / (free + 1),
             last: prefix.last / (free + 2),
-            first_gap: prefix.first_gap + one_if_below(place, prefix.first_gap + 1),
-            second_gap: prefix.second_gap + one_if_below(place, prefix.second_gap + 1),
+            first_gap: prefix.first_gap + u32::from(place <= prefix.first_gap),
+            second_gap: prefix.second_gap + u32::from(place <= prefix.second_gap),
         };
         (shorter, place)
     }
@@ -116,14 +117,6 @@ fn next_pair(ids: u32, prefix: RunPrefix) -> Option<RunPrefix>
         first_gap: pair[0],
         second_gap: pair[1],
     })
-}
-
-// 1 if `low` is below `high`, else 0.
-fn one_if_below(low: u32, high: u32) -> u32
-    ensures few { result ≤ 1 }
-    ensures value { result ≡ (if nat_lt low high then 1 else 0) }
-{
-    u32::from(low < high)
 }
 
 impl Shape {

@@ -1,5 +1,5 @@
 //! Series: consecutive windows whose suffixes are consecutive too.
-ghost use Rattle.std.specs.Prelude.{◌≡◌, ◌≢◌, ◌⊎◌, ◌+◌, ◌*◌, ◌<◌, ◌≤◌, length, take, drop};
+ghost use Rattle.std.specs.Prelude.{◌≡◌, ◌≢◌, ◌⊎◌, ◌+◌, ◌*◌, ◌<◌, ◌≤◌, length, take, drop, AllPairs};
 ghost use Rattle.win_index.specs.declared.limits.TheConstants.{MAX_IDS};
 
 use crate::limits::MAX_IDS;
@@ -123,8 +123,10 @@ impl RunPlaces {
 
 // Returns the identifiers of a window one level above `below`, without the first two and the last.
 fn rest_of(below: u32, window: &[u32]) -> &[u32]
-    requires { length window.now ≡ 2 * below + 3 }
-    ensures { result.now ≡ drop 2 (take (2 * below + 1 + 1) window.now) }
+    requires length { length window.now ≡ 2 * below + 3 }
+    requires distinct { AllPairs (λ a b. a ≢ b) window.now }
+    ensures value { result.now ≡ drop 2 (take (2 * below + 1 + 1) window.now) }
+    ensures distinct { AllPairs (λ a b. a ≢ b) result.now }
 {
     &window[2..2 * below as usize + 2]
 }

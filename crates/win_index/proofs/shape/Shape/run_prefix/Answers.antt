@@ -1,6 +1,6 @@
-use Rattle.std.proofs.Common.{◌≡◌, ◌+◌, ◌-◌, ◌*◌, take, drop, sym, subst, arith}
-use Rattle.std.proofs.lemmas.List.{drop-take, get_or-take}
-use Rattle.win_index.proofs.FrontPlaces.{slice_window}
+use Rattle.std.proofs.Common.{◌≡◌, ◌+◌, ◌-◌, ◌*◌, arith}
+use Rattle.std.proofs.lemmas.List.{get_or-take}
+use Rattle.win_index.proofs.FrontPlaces.{slice_window, part_front}
 use Rattle.win_index.proofs.shape.Shape.run_prefix.Goals as goal
 
 pub front_number-requires-clause-front : goal.front_number-requires-clause-front
@@ -18,14 +18,9 @@ returns c =
     let places = c.run_places-places.ensures in
     let one : 2 * low + 2 - 1 ≡ 2 * low + 1 = omega arith in
     let two : 2 * low + 2 - 2 ≡ 2 * low = omega arith in
-    let by_one : 1 + (2 * low + 1) ≡ 2 * low + 2 = omega arith in
-    let by_two : 2 + 2 * low ≡ 2 * low + 2 = omega arith in
     let front : 2 * low + 1 + 1 ≡ 2 * low + 2 = omega arith in
-    let took_one : take (2 * low + 1) (drop 1 w) ≡ drop 1 (take (2 * low + 2) w) =
-    sym (subst (λ i. drop 1 (take i w) ≡ take (2 * low + 1) (drop 1 w)) by_one
-    (drop-take 1 (2 * low + 1) w)) in
-    let took_two : take (2 * low) (drop 2 w) ≡ drop 2 (take (2 * low + 2) w) =
-    sym (subst (λ i. drop 2 (take i w) ≡ take (2 * low) (drop 2 w)) by_two (drop-take 2 (2 * low) w)) in
+    let took_one = part_front 1 (2 * low + 2) (2 * low + 1) w (omega arith) in
+    let took_two = part_front 2 (2 * low + 2) (2 * low) w (omega arith) in
     record {
       window = slice_window m (2 * low + 3) 0 (2 * low + 2) w c.requires.window (omega arith);
       middle = rw (one, ← took_one) (rw one at c.window_number.ensures.item);
