@@ -3,7 +3,7 @@ use Rattle.std.proofs.Common.{◌≡◌, ◌≢◌, ℕ, zero, suc, ◌+◌, ◌
 use Rattle.std.proofs.lemmas.Bool.{not-true, ne_eqb}
 use Rattle.std.proofs.lemmas.List.{take_all, take_more, drop-take, take-set, get_or-set_same, length-set, length-drop, length-take-le, get_or-drop, take_at, get_or_push}
 use Rattle.std.proofs.lemmas.Nat.{div-mul-add, mod-mul-add, div-add-mod'}
-use Rattle.std.proofs.lemmas.List.Elements.{All-take, All-drop, All-tail}
+use Rattle.std.proofs.lemmas.List.Elements.{All-take, All-drop}
 use Rattle.std.proofs.lemmas.Option.{slice_get_within}
 use Rattle.win_index.specs.Windows.{is_used, unused, windows, IsWindow}
 use Rattle.win_index.proofs.Kept.{kept_is}
@@ -62,14 +62,22 @@ abbrev pub last_place : ℕ → ℕ → List ℕ → ℕ
 last_place i k window = length (unused (get_or window k 0) (drop i (take k window)))
 
 -- a list without its first i elements, and the front of it
-pub part_front :
-    (i k low : ℕ) (list : List ℕ) → k ≡ i + low → take low (drop i list) ≡ drop i (take k list)
+pub part_front : (i k low : ℕ) (list : List ℕ) → k ≡ i + low → take low (drop i list) ≡ drop i (take k list)
 part_front i k low list all = sym (rw (← all) at (drop-take i low list))
 
--- a window of length j without its first i identifiers, by its prefix and the position of its last identifier
-module _ (i k low j l m : ℕ) (all : k ≡ i + low) (long : j ≡ k + 1) (short : l ≡ low + 1) where
+-- lists of length j = k+1, and of length l = low+1 without their first i elements
+pub record Part (i k low j l : ℕ) : Type 0 where
+  pub all : k ≡ i + low
+  pub long : j ≡ k + 1
+  pub short : l ≡ low + 1
+
+-- such a part of a window by its prefix and the position of its last identifier
+module _ {i k low j l : ℕ} (m : ℕ) (part : Part i k low j l) where
+  part_front_is : (window : List ℕ) → take low (drop i window) ≡ drop i (take k window)
+  part_front_is window = part_front i k low window part.all
+
   part_last : (window : List ℕ) → get_or (drop i window) low 0 ≡ get_or window k 0
-  part_last window = rw (← all) at (get_or-drop i window low 0)
+  part_last window = rw (← part.all) at (get_or-drop i window low 0)
 
   pub part_window : (window : List ℕ) → IsWindow j m window → IsWindow l m (drop i window)
   part_window window is =
@@ -83,16 +91,17 @@ module _ (i k low j l m : ℕ) (all : k ≡ i + low) (long : j ≡ k + 1) (short
   part_longer n window is at' =
       let own = part_window window is in
       let size = own.size in
-      let step = front_step l m low n (drop i window) own (omega arith) (rw (part_front i k low window all) at') in
-      rw (take_all (low + 1) (drop i window) (omega arith), part_last window, part_front i k low window all, ← short) at step
+      let step = front_step l m low n (drop i window) own (omega arith) (rw (part_front_is window) at') in
+      let all = take_all (low + 1) (drop i window) (omega arith) in
+      rw (all, part_last window, part_front_is window, ← part.short) at step
 
   pub part_shorter :
       (n : ℕ) (window : List ℕ) → slice_get (windows l m) n ≡ Some (drop i window)
       → (slice_get (windows low m) (n / (m - low)) ≡ Some (drop i (take k window)))
       × (n % (m - low) ≡ last_place i k window)
   part_shorter n window at' =
-      let next : l ≡ suc low = omega (arith, short) in
-      rw (part_last window, part_front i k low window all) at (shorter_number low m n (drop i window) (rw next at at'))
+      let next : l ≡ suc low = omega arith in
+      rw (part_last window, part_front_is window) at (shorter_number low m n (drop i window) (rw next at at'))
 
   -- two windows with the same prefix are as far apart as their last identifiers
   pub part_apart :
@@ -149,6 +158,7 @@ placed (suc (suc k)) j m (a ∷ b ∷ list) some long is =
     let front = window_front (suc (suc k)) j m (a ∷ b ∷ list) long is in
     let shorter = distinct_tail a (b ∷ rest) front.distinct in
     let distinct = distinct_tail b rest shorter in
+    let below = All-drop (λ y. y < m) 2 (a ∷ b ∷ rest) front.below in
     let free = free_at (a ∷ b ∷ list) (suc (suc k)) is.distinct (omega arith) in
     let x_a = lacks_both a x (b ∷ rest) free in
     let x_b = lacks_both b x rest x_a.1 in
@@ -162,7 +172,7 @@ placed (suc (suc k)) j m (a ∷ b ∷ list) some long is =
       inside = counted rest x m x_b.1 (is.below (suc (suc k)) 0 (omega arith));
       first_inside = counted rest a m b_a.1 (is.below 0 0 (omega arith));
       second_inside = counted rest b m b_free (is.below 1 0 (omega arith));
-      all = omega (arith, length-unused rest m distinct (All-tail (λ y. y < m) b rest (All-tail (λ y. y < m) a (b ∷ rest) front.below)), front.size);
+      all = omega (arith, length-unused rest m distinct below, front.size);
       own = omega (
         arith,
         rw (same_order rest a x b_a.1) at (unused_in_front a x (b ∷ rest) front.distinct),

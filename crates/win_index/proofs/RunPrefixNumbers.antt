@@ -10,7 +10,7 @@ use Rattle.win_index.specs.Falling.{falling}
 use Rattle.win_index.specs.Windows.{unused, windows, IsWindow}
 use Rattle.win_index.specs.declared.run_prefix.RunPrefix.{RunPrefix}
 use Rattle.win_index.specs.declared.series.RunPlaces.{RunPlaces}
-use Rattle.win_index.proofs.FrontPlaces.{Placed, placed, below, last_place, window_front, shorter_number, part_longer, part_shorter}
+use Rattle.win_index.proofs.FrontPlaces.{Part, Placed, placed, below, last_place, window_front, shorter_number, part_longer, part_shorter}
 use Rattle.win_index.proofs.Numbers.{windows-zero, window_step, windows_all, length-windows}
 use Rattle.win_index.proofs.Sizes.{falling_rises}
 use Rattle.win_index.proofs.Unused.{unused_all}
@@ -32,8 +32,11 @@ prefix_number k (suc j) m n window at' =
     div-div-eq-div-mul n (m - k - j) (falling (m - k) j) ∙ ap (λ d. n / d) (mul_comm (m - k - j) (falling (m - k) j)) in
     rw (number, take-take k (k + j) window (omega arith)) at prefix
 
+part_of : (i k : ℕ) → i ≤ k → Part i k (k - i) (k + 1) (k + 1 - i)
+part_of i k le = record { all = omega arith; long = refl; short = omega arith }
+
 -- a window of length k+1 by the numbers of its prefix and the position of its last identifier
-module _ (k m place : ℕ) (p : RunPrefix) (window : List ℕ) (some : 2 ≤ k) (is : IsLonger k m p place window) where
+module _ {k m place : ℕ} {p : RunPrefix} {window : List ℕ} (some : 2 ≤ k) (is : IsLonger k m p place window) where
   own : Placed k m p.first_gap p.second_gap (length (unused m (drop 2 (take k window)))) place window
   own =
       let first = rw (get_or-take k window 0 0 (omega arith)) at is.front.first_gap in
@@ -45,13 +48,11 @@ module _ (k m place : ℕ) (p : RunPrefix) (window : List ℕ) (some : 2 ≤ k) 
       ≡ Some (drop 1 window)
   middle_at =
       let rank : last_place 1 k window ≡ place - below p.second_gap place = omega (arith, own.middle) in
-      rw rank at (part_longer 1 k (k - 1) (k + 1) (k + 1 - 1) m (omega arith) refl (omega arith) p.middle window
-      is.window_is is.front.middle)
+      rw rank at (part_longer m (part_of 1 k (omega arith)) p.middle window is.window_is is.front.middle)
 
   last_at : slice_get (windows (k + 1 - 2) m) (p.last * (m - (k - 2)) + place) ≡ Some (drop 2 window)
   last_at =
-      rw is.place_is at (part_longer 2 k (k - 2) (k + 1) (k + 1 - 2) m (omega arith) refl (omega arith) p.last window
-      is.window_is is.front.last)
+      rw is.place_is at (part_longer m (part_of 2 k some) p.last window is.window_is is.front.last)
 
   pub grown_few : k < m → (p.middle * (m - k + 1) + (place - below p.second_gap place) < falling m k)
       × (p.last * (m - k + 2) + place < falling m k)
@@ -83,7 +84,7 @@ gap_back : (f g p : ℕ) → f + below p g ≡ g → g ≢ p → g ≡ f + cond 
 gap_back f g p sum differs = grind (arith, nat_tests)
 
 -- a window of length k+1 by its own numbers
-module _ (k m : ℕ) (q : RunPrefix) (window : List ℕ) (some : 2 ≤ k) (has : HasNumbers (k + 1) m window q) where
+module _ {k m : ℕ} {q : RunPrefix} {window : List ℕ} (some : 2 ≤ k) (has : HasNumbers (k + 1) m window q) where
   -- the positions of its first two identifiers are below the number of all identifiers
   pub gaps_are_few : (q.first_gap < m) × (q.second_gap < m)
   gaps_are_few =
@@ -100,10 +101,8 @@ module _ (k m : ℕ) (q : RunPrefix) (window : List ℕ) (some : 2 ≤ k) (has :
   shrunk_numbers p place short middle last place_is first second =
       let one : m - k + 1 ≡ m - (k - 1) = omega arith in
       let two : m - k + 2 ≡ m - (k - 2) = omega arith in
-      let middle_at = part_shorter 1 k (k - 1) (k + 1) (k + 1 - 1) m (omega arith) refl (omega arith) q.middle window
-      has.middle in
-      let last_at = part_shorter 2 k (k - 2) (k + 1) (k + 1 - 2) m (omega arith) refl (omega arith) q.last window
-      has.last in
+      let middle_at = part_shorter m (part_of 1 k (omega arith)) q.middle window has.middle in
+      let last_at = part_shorter m (part_of 2 k some) q.last window has.last in
       let x_at : last_place 2 k window ≡ place = rw (place_is, two) (sym last_at.1) in
       let own = rw x_at at (placed k (k + 1) m window some refl has.window) in
       let first_back = gap_back q.first_gap _ place (rw has.first_gap at own.first_grown) own.first in

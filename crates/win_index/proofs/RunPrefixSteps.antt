@@ -27,8 +27,8 @@ module _ (k m : ℕ) (last : List ℕ) (is : IsWindow (k + 1) m last) (greatest 
       (last_of_all k m (get_or last k 0) (take k last) (run_ends (k + 1) m k last refl is greatest) none)
 
   -- the window after it is the next prefix with the least identifier that this lacks
-  pub begins_run : (prefix next : RunPrefix) → k < m → IsNextPrefix k m prefix next → HasNumbers k m (take k last) prefix
-      → BeginsRun k m last next
+  pub begins_run : (prefix next : RunPrefix) → k < m → IsNextPrefix k m prefix next →
+      HasNumbers k m (take k last) prefix → BeginsRun k m last next
   begins_run prefix next short steps has =
       let step = steps (take k last) has in
       let later = step.0 in
@@ -60,21 +60,19 @@ abbrev pub GivesPlaces : ℕ → ℕ → RunPrefix → RunPlaces → Type 0
 GivesPlaces k m prefix places = (window : List ℕ) → IsWindow (k + 1) m window → HasNumbers k m (take k window) prefix
     → HasPlaces (k - 1) m window places
 
--- each window with this prefix and position has a next one, which has that prefix and position
-abbrev pub Steps : ℕ → ℕ → RunPrefix → ℕ → RunPrefix → ℕ → Type 0
-Steps k m front place later next = (window : List ℕ) → IsLonger k m front place window
-    → (after : List ℕ) × IsNext (k + 1) m window after × IsLonger k m later next after
-
-longer_at : (k m place : ℕ) (front : RunPrefix) (places : RunPlaces) (window : List ℕ) → 2 ≤ k
+longer_at :
+    {k m place : ℕ} (front : RunPrefix) {places : RunPlaces} {window : List ℕ} → 2 ≤ k
     → HasNumbers k m (take k window) front → IsAtPlace (k - 1) m places window place → IsLonger k m front place window
-longer_at k m place front places window some has is =
+longer_at {k} front some has is =
     let long : k - 1 + 2 ≡ k + 1 = omega arith in
     let own : k - 1 + 1 ≡ k = omega arith in
     record { window_is = rw long at is.window_is; front = has; place_is = rw own at is.place_is }
 
-module _ (k m place : ℕ) (front : RunPrefix) (places : RunPlaces) (some : 2 ≤ k) (gives : GivesPlaces k m front places) where
-  pub at_longer : (window : List ℕ) → IsLonger k m front place window → IsAtPlace (k - 1) m places window place
-  at_longer window is =
+-- the windows after one by the numbers of its prefix and the position of its last identifier
+module _ {k m place : ℕ} {front : RunPrefix} {window : List ℕ} (places : RunPlaces) (some : 2 ≤ k)
+    (gives : GivesPlaces k m front places) (is : IsLonger k m front place window) where
+  pub at_longer : IsAtPlace (k - 1) m places window place
+  at_longer =
       let long : k + 1 ≡ k - 1 + 2 = omega arith in
       let own : k ≡ k - 1 + 1 = omega arith in
       record {
@@ -83,43 +81,47 @@ module _ (k m place : ℕ) (front : RunPrefix) (places : RunPlaces) (some : 2 �
         place_is = rw own at is.place_is;
       }
 
-  -- within a run
+  -- a window that has these numbers is the next one
+  abbrev Steps : RunPrefix → ℕ → Type 0
+  Steps later next = (after : List ℕ) × IsNext (k + 1) m window after × IsLonger k m later next after
+
   pub in_run :
       (next : ℕ)
       → ((k m : ℕ) (window : List ℕ) → 1 ≤ k → IsAtPlace k m places window place
       → (later : List ℕ) × IsAtPlace k m places later next × (take (k + 1) later ≡ take (k + 1) window)
       × IsNext (k + 2) m window later)
-      → Steps k m front place front next
-  in_run next after window is =
-      let later = after (k - 1) m window (omega arith) (at_longer window is) in
+      → Steps front next
+  in_run next after =
+      let later = after (k - 1) m window (omega arith) at_longer in
       let own : k - 1 + 1 ≡ k = omega arith in
       let long : k - 1 + 2 ≡ k + 1 = omega arith in
       let same = rw own at later.2 in
-      (later.0, rw long at later.3, longer_at k m next front places later.0 some (rw same is.front) later.1)
+      (later.0, rw long at later.3, longer_at front some (rw same is.front) later.1)
 
-  -- from the end of a run
-  module _ (ends : (k m : ℕ) (window : List ℕ) → 1 ≤ k → IsAtPlace k m places window place → IsLastOfRun (k + 2) m window) where
-    ends_run : (window : List ℕ) → IsLonger k m front place window → IsLastOfRun (k + 1) m window
-    ends_run window is =
+  -- the window is the last one of its run
+  module _ (ends : (k m : ℕ) (window : List ℕ) → 1 ≤ k → IsAtPlace k m places window place
+      → IsLastOfRun (k + 2) m window) where
+    ends_run : IsLastOfRun (k + 1) m window
+    ends_run =
         let long : k - 1 + 2 ≡ k + 1 = omega arith in
-        rw long at (ends (k - 1) m window (omega arith) (at_longer window is))
+        rw long at (ends (k - 1) m window (omega arith) at_longer)
+
+    pub no_next_run : IsLastPrefix k m front → IsLast (k + 1) m window
+    no_next_run last = last_of_last k m window is.window_is ends_run (last (take k window) is.front)
 
     pub to_next_run :
-        (first : ℕ) (later : RunPrefix) (next : RunPlaces) → k < m → IsNextPrefix k m front later → GivesPlaces k m later next
+        (first : ℕ) (later : RunPrefix) (next : RunPlaces) → k < m → IsNextPrefix k m front later
+        → GivesPlaces k m later next
         → ((k m : ℕ) (window : List ℕ) → 1 ≤ k → IsWindow (k + 2) m window → HasPlaces k m window next
         → IsFirstOfRun (k + 1) m window → IsAtPlace k m next window first)
-        → Steps k m front place later first
-    to_next_run first later next short steps next_gives at_first window is =
-        let got = begins_run k m window is.window_is (ends_run window is) front later short steps is.front in
+        → Steps later first
+    to_next_run first later next short steps next_gives at_first =
+        let got = begins_run k m window is.window_is ends_run front later short steps is.front in
         let own : k ≡ k - 1 + 1 = omega arith in
         let long : k + 1 ≡ k - 1 + 2 = omega arith in
         let here = at_first (k - 1) m got.window (omega arith) (rw long at got.window_is)
         (next_gives got.window got.window_is got.has) (subst (λ n. IsFirstOfRun n m got.window) own got.first) in
-        (got.window, got.follows, longer_at k m first later next got.window some got.has here)
-
-    pub no_next_run : (window : List ℕ) → IsLastPrefix k m front → IsLonger k m front place window → IsLast (k + 1) m window
-    no_next_run window last is =
-        last_of_last k m window is.window_is (ends_run window is) (last (take k window) is.front)
+        (got.window, got.follows, longer_at later some got.has here)
 
 -- the same for lists of a length that is the same
 pub at_size : (k m j l : ℕ) (P : ℕ → ℕ → Type 0) → k ≡ j → m ≡ l → P k m → P j l

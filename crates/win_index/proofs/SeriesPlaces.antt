@@ -9,7 +9,7 @@ use Rattle.win_index.specs.Windows.{is_used, unused, windows, IsWindow}
 use Rattle.win_index.specs.declared.series.RunPlaces.{RunPlaces}
 use Rattle.win_index.proofs.Numbers.{windows_all}
 use Rattle.win_index.proofs.Positions.{window_place, free_at}
-use Rattle.win_index.proofs.FrontPlaces.{Placed, placed, below, last_place, window_front, window_with, part_apart, part_along, part_window}
+use Rattle.win_index.proofs.FrontPlaces.{Placed, placed, below, last_place, window_front, window_with, Part, part_apart, part_along, part_window}
 use Rattle.win_index.proofs.Kept.{kept_is}
 use Rattle.win_index.proofs.Unused.{counted, lacks, length-unused}
 
@@ -32,12 +32,14 @@ first_rank g h p a q rank none own differ first second past again = grind (arith
 
 -- a position past the end
 end_rank :
-    (g h p q rank all end : ℕ) → rank + below g p + below h p ≡ p → q + below g p + below h p ≡ p + 1 + below g q + below h q
-    → end ≤ q → g < end → h < end → all + 2 ≡ end → all ≤ rank + 1
+    (g h p q rank all end : ℕ) → rank + below g p + below h p ≡ p
+    → q + below g p + below h p ≡ p + 1 + below g q + below h q → end ≤ q → g < end → h < end → all + 2 ≡ end
+    → all ≤ rank + 1
 end_rank g h p q rank all end own next past first second many = grind (arith, nat_tests)
 
 -- a gap that is not among these positions
-clear_of : (g p j count : ℕ) → g ≢ p → (g ≤ p) ⊎ (p + count ≤ g) → j < count → (g ≢ p + j) × (below g (p + j) ≡ below g p)
+clear_of : (g p j count : ℕ) → g ≢ p → (g ≤ p) ⊎ (p + count ≤ g) → j < count →
+    (g ≢ p + j) × (below g (p + j) ≡ below g p)
 clear_of g p j count differ clear lt = (grind arith, grind (arith, nat_tests))
 
 -- no identifier is larger than the last one if the prefix lacks no further one
@@ -58,13 +60,17 @@ last_of_run k l m window long is few y larger =
     (grind (arith, counted (take k window) y m free below, counted (take k window) (get_or window k 0) y own))
 
 pub at_place :
-    (k m p : ℕ) (places : RunPlaces) (window : List ℕ) → 1 ≤ k → IsAtPlace k m places window p
+    {k m p : ℕ} {places : RunPlaces} {window : List ℕ} → 1 ≤ k → IsAtPlace k m places window p
     → Placed (k + 1) m places.first_gap places.second_gap places.end p window
-at_place k m p places window some is =
+at_place {k} {m} {p} {places} {window} some is =
     rw (is.run_has.first, is.run_has.second, is.run_has.end, is.place_is) at
     (placed (k + 1) (k + 2) m window (omega arith) (omega arith) is.window_is)
 
-module _ (k m p : ℕ) (places : RunPlaces) (window : List ℕ) (some : 1 ≤ k) (is : IsAtPlace k m places window p) where
+module _ {k m p : ℕ} {places : RunPlaces} {window : List ℕ} (some : 1 ≤ k) (is : IsAtPlace k m places window p) where
+  -- the windows without their first two identifiers
+  suffix : Part 2 (k + 1) (k - 1) (k + 2) k
+  suffix = record { all = omega arith; long = omega arith; short = omega arith }
+
   -- a window with the same prefix has the position of its last identifier
   same_run :
       (w : List ℕ) (q : ℕ) → take (k + 1) w ≡ take (k + 1) window → IsWindow (k + 2) m w
@@ -93,7 +99,7 @@ module _ (k m p : ℕ) (places : RunPlaces) (window : List ℕ) (some : 1 ≤ k)
       let size = is.window_is.size in
       let rest : List ℕ = drop 2 (take (k + 1) window) in
       let z : ℕ = get_or (unused m rest) q 0 in
-      let at_p = at_place k m p places window some is in
+      let at_p = at_place some is in
       let z_at = at_p.other q z (slice_get-get_or (unused m rest) q 0 (omega (arith, inside, is.run_has.end)))
       not_first not_second in
       let w = set window (k + 1) z in
@@ -101,13 +107,17 @@ module _ (k m p : ℕ) (places : RunPlaces) (window : List ℕ) (some : 1 ≤ k)
       let here = get_or-set_same window (k + 1) z 0 (omega arith) in
       let w_is = window_with (k + 1) (k + 2) m z window (omega arith) is.window_is z_at.0 z_at.1 in
       let at_q = same_run w q same w_is (rw (here, same) z_at.2) in
+      let whole : Part 0 (k + 1) (k + 1) (k + 2) (k + 2) = record {
+        all = omega arith;
+        long = omega arith;
+        short = omega arith;
+      } in
       let own = at_p.own in
-      let other = (at_place k m q places w some at_q).own in (
+      let other = (at_place some at_q).own in (
         w,
         at_q,
         same,
-        λ n at'. part_along 0 (k + 1) (k + 1) (k + 2) (k + 2) m (omega arith) (omega arith) (omega arith) n t window w
-            w_is same (omega (arith, own, other, rank)) at',
+        λ n at'. part_along m whole n t window w w_is same (omega (arith, own, other, rank)) at',
       )
 
   -- the window at the first position after p that is no gap is the next one
@@ -116,7 +126,7 @@ module _ (k m p : ℕ) (places : RunPlaces) (window : List ℕ) (some : 1 ≤ k)
       → q < places.end
       → (w : List ℕ) × IsAtPlace k m places w q × (take (k + 1) w ≡ take (k + 1) window) × IsNext (k + 2) m window w
   later_is a q past again inside =
-      let at_p = at_place k m p places window some is in
+      let at_p = at_place some is in
       let got = past_both places.first_gap places.second_gap p a q at_p.differ at_p.first at_p.second past again in
       window_at q 1 inside got.1 got.2 got.3
 
@@ -125,11 +135,13 @@ module _ (k m p : ℕ) (places : RunPlaces) (window : List ℕ) (some : 1 ≤ k)
       (a q : ℕ) → IsPast places.first_gap places.second_gap (p + 1) a → IsPast places.first_gap places.second_gap a q
       → places.end ≤ q → IsLastOfRun (k + 2) m window
   none_later a q past again end =
-      let at_p = at_place k m p places window some is in
+      let at_p = at_place some is in
       let got = past_both places.first_gap places.second_gap p a q at_p.differ at_p.first at_p.second past again in
       let front = window_front (k + 1) (k + 2) m window (omega arith) is.window_is in
       let many = length-unused (take (k + 1) window) m front.distinct front.below in
-      last_of_run (k + 1) (k + 2) m window (omega arith) is.window_is (end_rank _ _ p q (last_place 0 (k + 1) window) _ places.end at_p.own got.3 end at_p.first_inside at_p.second_inside (omega (arith, many, front.size, at_p.all)))
+      last_of_run (k + 1) (k + 2) m window (omega arith) is.window_is
+      (end_rank _ _ p q (last_place 0 (k + 1) window) _ places.end at_p.own got.3 end at_p.first_inside
+      at_p.second_inside (omega (arith, many, front.size, at_p.all)))
 
   -- a series up to the end of the positions without a gap
   pub series_is :
@@ -137,14 +149,14 @@ module _ (k m p : ℕ) (places : RunPlaces) (window : List ℕ) (some : 1 ≤ k)
       → (places.second_gap ≤ p) ⊎ (p + count ≤ places.second_gap) → p + count ≤ places.end
       → IsSeries k m window count
   series_is count clear_first clear_second within n low j at' low_at lt =
-      let at_p = at_place k m p places window some is in
+      let at_p = at_place some is in
       let first = clear_of places.first_gap p j count at_p.first clear_first lt in
       let second = clear_of places.second_gap p j count at_p.second clear_second lt in
       let got = window_at (p + j) j (omega (arith, within, lt)) first.0 second.0 (omega (arith, first.1, second.1)) in (
         got.0,
         got.3 n at',
         got.2,
-        part_along 2 (k + 1) (k - 1) (k + 2) k m (omega (arith, some)) (omega arith) (omega (arith, some)) low j window
+        part_along m suffix low j window
             got.0 got.1.window_is got.2 (got.1.place_is ∙ rw is.place_is) low_at,
       )
 
@@ -154,11 +166,11 @@ module _ (k m p : ℕ) (places : RunPlaces) (window : List ℕ) (some : 1 ≤ k)
       → IsSeries k m window (count + 1) → ⊥
   no_longer count end series =
       let n = window_place (k + 2) m window is.window_is in
-      let low = window_place k m (drop 2 window) (part_window 2 (k + 1) (k - 1) (k + 2) k m (omega (arith, some)) (omega arith) (omega (arith, some)) window is.window_is) in
+      let low = window_place k m (drop 2 window) (part_window m suffix window is.window_is) in
       let got = series n.0 low.0 count n.1 low.1 (omega arith) in
-      let apart = part_apart 2 (k + 1) (k - 1) (k + 2) k m (omega (arith, some)) (omega arith) (omega (arith, some)) low.0 (low.0 + count) window got.0 got.2 low.1 got.3 in
+      let apart = part_apart m suffix low.0 (low.0 + count) window got.0 got.2 low.1 got.3 in
       let w_is = windows_all (k + 2) m (n.0 + count) got.0 got.1 in
-      let there = at_place k m (p + count) places got.0 some (same_run got.0 (p + count) got.2 w_is (omega (arith, apart, is.place_is))) in
+      let there = at_place some (same_run got.0 (p + count) got.2 w_is (omega (arith, apart, is.place_is))) in
       ⊎_elim (λ last. absurd (omega (arith, there.inside, last)))
       (λ gap. ⊎_elim (λ first. there.first (sym first)) (λ second. there.second (sym second)) gap) end
 
@@ -166,6 +178,7 @@ module _ (k m p : ℕ) (places : RunPlaces) (window : List ℕ) (some : 1 ≤ k)
   pub first_place : (a q : ℕ) → IsFirstOfRun (k + 1) m window → IsPast places.first_gap places.second_gap 0 a
       → IsPast places.first_gap places.second_gap a q → p ≡ q
   first_place a q least past again =
-      let at_p = at_place k m p places window some is in
+      let at_p = at_place some is in
       let none = (kept_is (lacks (take (k + 1) window)) m 0 (get_or window (k + 1) 0) least).before in
-      first_rank places.first_gap places.second_gap p a q (last_place 0 (k + 1) window) none at_p.own at_p.differ at_p.first at_p.second past again
+      first_rank places.first_gap places.second_gap p a q (last_place 0 (k + 1) window) none at_p.own at_p.differ
+      at_p.first at_p.second past again

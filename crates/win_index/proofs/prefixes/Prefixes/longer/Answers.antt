@@ -7,19 +7,19 @@ use Rattle.win_index.proofs.prefixes.Prefixes.longer.Goals as goal
 pub overflow_add-result-2 : goal.overflow_add-result-2
 overflow_add-result-2 c =
     let lists = c.args.self in
-    let few = grown_few lists.len lists.ids c.args.place c.args.prefix c.requires.0 lists.some c.requires.1 lists.short in
+    let few = grown_few lists.some c.requires.1 lists.short in
     grind (arith, common_steps, nat_tests, few.0)
 
 pub overflow_mul-result : goal.overflow_mul-result
 overflow_mul-result c =
     let lists = c.args.self in
-    let few = grown_few lists.len lists.ids c.args.place c.args.prefix c.requires.0 lists.some c.requires.1 lists.short in
+    let few = grown_few lists.some c.requires.1 lists.short in
     omega (arith, few.0, lists.few)
 
 pub overflow_add-result-4 : goal.overflow_add-result-4
 overflow_add-result-4 c =
     let lists = c.args.self in
-    let few = grown_few lists.len lists.ids c.args.place c.args.prefix c.requires.0 lists.some c.requires.1 lists.short in
+    let few = grown_few lists.some c.requires.1 lists.short in
     omega (arith, few.1, lists.few)
 
 pub overflow_mul-result-2 : goal.overflow_mul-result-2
@@ -28,5 +28,5 @@ overflow_mul-result-2 c = omega (arith, overflow_add-result-4 c)
 pub returns : goal.returns
 returns c = λ window is.
     let lists = c.args.self in
-    grown_numbers lists.len lists.ids c.args.place c.args.prefix window lists.some is _ lists.short
-    (grind (arith, common_steps, nat_tests)) refl (grind (arith, common_steps, nat_tests)) (grind (arith, common_steps, nat_tests))
+    grown_numbers lists.some is _ lists.short (grind (arith, common_steps, nat_tests)) refl
+    (grind (arith, common_steps, nat_tests)) (grind (arith, common_steps, nat_tests))

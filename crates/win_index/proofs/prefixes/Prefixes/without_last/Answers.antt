@@ -7,17 +7,17 @@ use Rattle.win_index.proofs.prefixes.Prefixes.without_last.Goals as goal
 pub returns : goal.returns
 returns c = λ window has.
     let lists = c.args.self in
-    shrunk_numbers lists.len lists.ids c.args.prefix window lists.some has _ _ lists.short refl refl refl
+    shrunk_numbers lists.some has _ _ lists.short refl refl refl
     (grind (arith, common_steps, nat_tests)) (grind (arith, common_steps, nat_tests))
 
 pub overflow_add-shorter-3 : goal.overflow_add-shorter-3
 overflow_add-shorter-3 c =
     let lists = c.args.self in
-    let few = gaps_are_few lists.len lists.ids c.args.prefix c.requires.list lists.some c.requires.has in
+    let few = gaps_are_few lists.some c.requires.has in
     grind (arith, common_steps, few.0)
 
 pub overflow_add-shorter-4 : goal.overflow_add-shorter-4
 overflow_add-shorter-4 c =
     let lists = c.args.self in
-    let few = gaps_are_few lists.len lists.ids c.args.prefix c.requires.list lists.some c.requires.has in
+    let few = gaps_are_few lists.some c.requires.has in
     grind (arith, common_steps, few.1)

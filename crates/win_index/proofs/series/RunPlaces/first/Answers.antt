@@ -9,9 +9,9 @@ returns-clause-place c k m window some is has least =
     record {
       window_is = is;
       run_has = has;
-      place_is = first_place k m _ c.args.self window some at' _ _ least c.past_gap.ensures c.past_gap-2.ensures;
+      place_is = first_place some at' _ _ least c.past_gap.ensures c.past_gap-2.ensures;
     }
 
 pub returns-clause-inside : goal.returns-clause-inside
 returns-clause-inside c k m window some is has least =
-    (at_place k m _ c.args.self window some (returns-clause-place c k m window some is has least)).inside
+    (at_place some (returns-clause-place c k m window some is has least)).inside

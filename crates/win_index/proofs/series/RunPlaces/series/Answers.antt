@@ -4,9 +4,9 @@ use Rattle.win_index.proofs.series.RunPlaces.series.Goals as goal
 
 pub returns-clause-series : goal.returns-clause-series
 returns-clause-series c k m first some is =
-    series_is k m c.args.place c.args.self first some is c.min.result (grind arith) (grind arith) (grind arith)
+    series_is some is c.min.result (grind arith) (grind arith) (grind arith)
 
 pub returns-clause-whole : goal.returns-clause-whole
 returns-clause-whole c k m first some is fewer =
     let end : c.clear_end.result ≡ c.args.place + c.min.result = omega arith in
-    no_longer k m c.args.place c.args.self first some is c.min.result (rw end at c.clear_end.ensures.end)
+    no_longer some is c.min.result (rw end at c.clear_end.ensures.end)
