@@ -122,7 +122,3 @@ module _ {k m place : ℕ} {front : RunPrefix} {window : List ℕ} (places : Run
         let here = at_first (k - 1) m got.window (omega arith) (rw long at got.window_is)
         (next_gives got.window got.window_is got.has) (subst (λ n. IsFirstOfRun n m got.window) own got.first) in
         (got.window, got.follows, longer_at later some got.has here)
-
--- the same for lists of a length that is the same
-pub at_size : (k m j l : ℕ) (P : ℕ → ℕ → Type 0) → k ≡ j → m ≡ l → P k m → P j l
-at_size k m j l P len ids own = rw (← len, ← ids) own

@@ -24,18 +24,6 @@ pub(crate) struct Prefixes {
 }
 
 impl Prefixes {
-    // Returns the lists that are one identifier shorter.
-    fn shorter(self) -> Prefixes
-        requires { 3 ≤ self.len }
-        ensures ids { result.ids ≡ self.ids }
-        ensures len { result.len + 1 ≡ self.len }
-    {
-        Prefixes {
-            ids: self.ids,
-            len: self.len - 1,
-        }
-    }
-
     // Returns the positions for the lists that are one identifier longer than this one.
     pub(crate) fn places(self, prefix: RunPrefix) -> RunPlaces
         ensures { (window : List ℕ) → IsWindow (self.len + 1) self.ids window → HasNumbers self.len self.ids (take self.len window) prefix
@@ -87,7 +75,10 @@ impl Prefixes {
         if self.len == 2 {
             return next_pair(self.ids, prefix);
         }
-        let shorter = self.shorter();
+        let shorter = Prefixes {
+            ids: self.ids,
+            len: self.len - 1,
+        };
         let (front, place) = shorter.without_last(prefix);
         if let Some(next) = shorter.places(front).after(place) {
             return Some(shorter.longer(front, next));
