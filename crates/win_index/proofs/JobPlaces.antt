@@ -1,5 +1,5 @@
 -- The positions of the jobs of a level among all jobs.
-use Rattle.std.proofs.Common.{◌≡◌, ℕ, ◌+◌, ◌-◌, ◌*◌, ◌<◌, ◌≤◌, List, ◌++◌, flat_map, length, slice_get, Some, option_map, refl, ap, ◌∙◌, arith, length-append, append-nil}
+use Rattle.std.proofs.Common.{◌≡◌, ℕ, ◌+◌, ◌-◌, ◌*◌, ◌<◌, ◌≤◌, List, ◌++◌, flat_map, length, slice_get, Some, option_map, ap, ◌∙◌, arith, length-append, append-nil}
 use Rattle.std.specs.List.{range_with_len}
 use Rattle.std.proofs.lemmas.List.FromFn.{length-range_with_len, length-map-range_with_len, get_or-range_with_len}
 use Rattle.std.proofs.lemmas.List.Concat.{flat_map-append}
@@ -8,15 +8,13 @@ use Rattle.win_index.specs.declared.limits.TheConstants.{MAX_BLOCKS}
 use Rattle.win_index.specs.Blocks.{block_count}
 use Rattle.win_index.specs.Jobs.{level_jobs, jobs_of}
 use Rattle.win_index.specs.ShapeRange.{HasIds, HasFewWindows}
-use Rattle.win_index.proofs.Levels.{level_is_few}
-use Rattle.win_index.proofs.Numbers.{length-windows}
+use Rattle.win_index.proofs.Levels.{few_shorter}
 use Rattle.win_index.proofs.Kept.{range_with_len-append, slice_get-append_left, slice_get-append_right}
 
 -- at most MAX_WINDOWS windows fill at most MAX_BLOCKS blocks
 pub few_blocks : (m t level : ℕ) → HasIds m t → HasFewWindows m t → level ≤ t → block_count m level ≤ MAX_BLOCKS
 few_blocks m t level ids few le =
-    let most = level_is_few m t level (2 * level + 1) refl ids few le in
-    omega (arith, most, length-windows (2 * level + 1) m)
+    omega (arith, few_shorter m t (2 * level + 1) ids few (omega arith))
 
 -- the jobs of the levels below
 abbrev pub jobs_below : ℕ → ℕ → List (ℕ × ℕ)

@@ -1,5 +1,5 @@
 -- The number of a window, from that of the window without its last identifier.
-use Rattle.std.proofs.Common.{◌≡◌, ◌≢◌, ℕ, zero, suc, ◌+◌, ◌-◌, ◌*◌, ◌<◌, false, Option, List, [], ◌∷◌, ◌++◌, length, flat_map, slice_get, Some, None, refl, sym, ap, ◌∙◌, arith, option_map}
+use Rattle.std.proofs.Common.{◌≡◌, ◌≢◌, ℕ, zero, suc, ◌+◌, ◌-◌, ◌*◌, ◌<◌, false, Option, List, [], ◌∷◌, ◌++◌, length, flat_map, slice_get, Some, None, refl, sym, ap, ◌∙◌, arith, option_map, add-one}
 use Rattle.std.proofs.lemmas.Bool.{not-true}
 use Rattle.std.proofs.lemmas.List.{length-map, same_from_push, length_push}
 use Rattle.std.proofs.lemmas.List.Elements.{All-nil, All-push}
@@ -116,12 +116,16 @@ window_from_parts k m place rest last front front_at last_at =
     (piece_at (extended m) (windows k m) (m - k) place rest front (front ++ last ∷ [])
     (pieces_even k m (windows_all k m)) front_at item)
 
+-- each window has as many longer ones
+pub windows_more : (k m : ℕ) → length (windows (k + 1) m) ≡ length (windows k m) * (m - k)
+windows_more k m =
+    rw (add-one, windows-suc k m)
+    (length_pieces (extended m) (windows k m) (m - k) (pieces_even k m (windows_all k m)))
+
 pub length-windows : (k m : ℕ) → length (windows k m) ≡ falling m k
 length-windows zero m = rw (windows-zero m)
 length-windows (suc k) m =
-    rw (windows-suc k m)
-    (length_pieces (extended m) (windows k m) (m - k) (pieces_even k m (windows_all k m))
-    ∙ ap (λ n. n * (m - k)) (length-windows k m))
+    rw add-one at (windows_more k m) ∙ ap (λ n. n * (m - k)) (length-windows k m)
 
 -- the number of a window with one identifier more
 pub window_step :

@@ -11,8 +11,7 @@ use Rattle.win_index.specs.Windows.{unused, windows, IsWindow}
 use Rattle.win_index.specs.declared.run_prefix.RunPrefix.{RunPrefix}
 use Rattle.win_index.specs.declared.series.RunPlaces.{RunPlaces}
 use Rattle.win_index.proofs.FrontPlaces.{Part, Placed, placed, below, last_place, window_front, shorter_number, part_longer, part_shorter}
-use Rattle.win_index.proofs.Numbers.{windows-zero, window_step, windows_all, length-windows}
-use Rattle.win_index.proofs.Sizes.{falling_rises}
+use Rattle.win_index.proofs.Numbers.{windows-zero, window_step, windows_all}
 use Rattle.win_index.proofs.Unused.{unused_all}
 
 -- the number of a prefix of a window
@@ -54,15 +53,17 @@ module _ {k m place : ℕ} {p : RunPrefix} {window : List ℕ} (some : 2 ≤ k) 
   last_at =
       rw is.place_is at (part_longer m (part_of 2 k some) p.last window is.window_is is.front.last)
 
-  pub grown_few : k < m → (p.middle * (m - k + 1) + (place - below p.second_gap place) < falling m k)
-      × (p.last * (m - k + 2) + place < falling m k)
-  grown_few short =
+  pub grown_few :
+      (most : ℕ) → k < m → ((l : ℕ) → l ≤ k → length (windows l m) ≤ most)
+      → (p.middle * (m - k + 1) + (place - below p.second_gap place) < most)
+      × (p.last * (m - k + 2) + place < most)
+  grown_few most short few =
       let one : m - (k - 1) ≡ m - k + 1 = omega arith in
       let two : m - (k - 2) ≡ m - k + 2 = omega arith in
       let middle = rw one at (slice_get_within (windows (k + 1 - 1) m) _ (drop 1 window) middle_at) in
       let last = rw two at (slice_get_within (windows (k + 1 - 2) m) _ (drop 2 window) last_at) in (
-        omega (arith, middle, length-windows (k + 1 - 1) m, falling_rises m (k + 1 - 1) k (omega arith) (omega arith)),
-        omega (arith, last, length-windows (k + 1 - 2) m, falling_rises m (k + 1 - 2) k (omega arith) (omega arith)),
+        omega (arith, middle, few (k + 1 - 1) (omega arith)),
+        omega (arith, last, few (k + 1 - 2) (omega arith)),
       )
 
   pub grown_numbers :

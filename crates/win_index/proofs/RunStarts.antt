@@ -6,15 +6,9 @@ use Rattle.std.proofs.lemmas.Nat.{mul-le}
 use Rattle.win_index.specs.Laws.{LongerWindowsHaveNumbers}
 use Rattle.win_index.specs.Runs.{IsRunStart}
 use Rattle.win_index.specs.Windows.{unused, windows, IsWindow}
-use Rattle.win_index.proofs.Numbers.{length-windows, windows_all}
-use Rattle.win_index.proofs.Sizes.{falling-add_one}
+use Rattle.win_index.proofs.Numbers.{windows_more, windows_all}
 use Rattle.win_index.proofs.Positions.{free_at, front_step}
 use Rattle.win_index.proofs.Unused.{length-unused, unused_at}
-
--- each prefix has the same number of windows
-length-windows_more : (k m : ℕ) → length (windows (k + 1) m) ≡ length (windows k m) * (m - k)
-length-windows_more k m =
-    length-windows (k + 1) m ∙ falling-add_one m k ∙ ap (λ n. n * (m - k)) (sym (length-windows k m))
 
 -- a run starts at the number of its prefix times the length of a run
 pub run_start_is :
@@ -24,7 +18,7 @@ run_start_is k m n first front at' first_is =
     let below : n + 1 ≤ length (windows k m) = omega (arith, slice_get_within (windows k m) n front at') in
     let all = mul-le (n + 1) (m - k) (length (windows k m)) (m - k) below (omega arith) in
     record {
-      within = omega (arith, first_is, all, length-windows_more k m);
+      within = omega (arith, first_is, all, windows_more k m);
       each = λ window is begins.
           let size = is.size in
           let own : slice_get (windows k m) n ≡ Some (take k window) = at' ∙ ap Some (sym begins) in

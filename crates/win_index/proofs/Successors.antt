@@ -12,7 +12,7 @@ use Rattle.win_index.specs.Successor.{IsNext, IsLast}
 use Rattle.win_index.proofs.Kept.{kept, kept_at, kept_is, kept_suc, kept_own, kept_rises}
 use Rattle.win_index.proofs.Unused.{lacks, distinct_take, length-unused, lacks_from_differs, unused_at}
 use Rattle.win_index.proofs.Positions.{window_place, free_at}
-use Rattle.win_index.proofs.Numbers.{window_parts, window_from_parts, windows_all, length-windows}
+use Rattle.win_index.proofs.Numbers.{window_parts, window_from_parts, windows_all, windows_more, length-windows}
 
 -- the first number from low on that the list lacks
 abbrev pub first_lacked : ℕ → List ℕ → ℕ → Option ℕ
@@ -111,7 +111,7 @@ pub last_of_all :
 last_of_all k m x front none last n at' =
     let end = at_end k m n x front none at' in
     let all = last end.place end.front_at in
-    end.number ∙ ap (λ p. p * (m - k)) all ∙ ap (λ p. p * (m - k)) (length-windows k m) ∙ sym (length-windows (suc k) m)
+    end.number ∙ ap (λ p. p * (m - k)) all ∙ sym (rw add-one at (windows_more k m))
 
 -- ---- the same for the first cells of a list
 

@@ -1,13 +1,12 @@
 -- A window from its number: the quotient is the number of the window without its last identifier, and the remainder is
 -- the position of that identifier among those that are left.
-use Rattle.std.proofs.Common.{◌≡◌, ℕ, zero, ◌+◌, ◌-◌, ◌*◌, ◌/◌, ◌%◌, ◌<◌, List, length, take, set, slice_get, Some, arith, add-one}
+use Rattle.std.proofs.Common.{◌≡◌, ℕ, zero, ◌+◌, ◌-◌, ◌/◌, ◌%◌, ◌<◌, List, length, take, set, slice_get, Some, arith, add-one}
 use Rattle.std.proofs.lemmas.List.{take_more_set}
 use Rattle.std.proofs.lemmas.Nat.{div_below, mod_below, div-add-mod'}
 use Rattle.win_index.specs.Windows.{unused, windows}
-use Rattle.win_index.specs.Falling.{falling}
 use Rattle.win_index.proofs.Unused.{length-unused}
-use Rattle.win_index.proofs.Numbers.{windows-zero, windows_all, window_from_parts, length-windows}
-use Rattle.win_index.proofs.Sizes.{falling-add_one, some_window}
+use Rattle.win_index.proofs.Numbers.{windows-zero, windows_all, window_from_parts, windows_more, length-windows}
+use Rattle.win_index.proofs.Sizes.{some_window}
 
 -- the one window of length 0
 pub only_window : (k m n : ℕ) (list : List ℕ) → k ≡ 0 → n < length (windows k m) →
@@ -24,10 +23,8 @@ some_left k m last n more lt = omega (arith, some_window k m n lt)
 pub front_below : (k m last n : ℕ) → k ≡ last + 1 → n < length (windows k m) → n / (m - last) < length (windows last m)
 front_below k m last n more lt =
     let left = some_left k m last n more lt in
-    let here : n < length (windows (last + 1) m) = rw more at lt in
-    let all : n < falling m last * (m - last) =
-    rw (length-windows (last + 1) m, falling-add_one m last) at here in
-    rw (length-windows last m) (div_below n (m - last) (falling m last) (omega arith) all)
+    let all = rw (more, windows_more last m) at lt in
+    div_below n (m - last) (length (windows last m)) (omega arith) all
 
 pub rest_below :
     (m last n place : ℕ) (front : List ℕ) → slice_get (windows last m) place ≡ Some front → last < m

@@ -3,21 +3,21 @@ ghost use Rattle.std.specs.Prelude.{◌≡◌, ◌≢◌, ℕ, ◌+◌, ◌-◌,
 ghost use Rattle.std.specs.Bool.{OnTrue, OnFalse};
 ghost use Rattle.std.specs.List.{range_with_len};
 ghost use Rattle.win_index.specs.Windows.{is_used, unused, windows, number_of, IsWindow};
-ghost use Rattle.win_index.specs.Falling.{falling};
 ghost use Rattle.win_index.specs.Runs.{IsRunStart, IsReplacedInRun, IsReplacedByRun};
 ghost use Rattle.win_index.specs.Successor.{IsNext, IsLast, IsReplaced};
 
-// The lists of one length, in order. There are fewer than 2^64 of them.
+// The lists of one length, in order. There are fewer than 2^64 of them, and of each smaller length.
 #[derive(Clone, Copy)]
 pub(crate) struct Lists {
     pub(crate) ids: u32,
     pub(crate) len: usize,
     pub(crate) ghost short: { len ≤ ids },
-    pub(crate) ghost few: { falling ids len < 2 ^ 64 },
+    pub(crate) ghost few: { (k : ℕ) → k ≤ len → length (windows k ids) < 2 ^ 64 },
 }
 
 impl Lists {
     // Returns the number of lists.
+    #[tactic(auto, using(crate::proofs::Numbers::windows_more, crate::proofs::Sizes::some_windows, crate::proofs::Sizes::one_window))]
     pub(crate) fn count(self) -> u64
         ensures value { result ≡ length (windows self.len self.ids) }
         ensures some { 0 < result }
@@ -125,6 +125,7 @@ impl Lists {
 }
 
 // Returns whether there are at most `most` lists of this length.
+#[tactic(auto, using(crate::proofs::Numbers::windows_more, crate::proofs::Sizes::one_window))]
 pub(crate) fn are_few(ids: u32, len: usize, most: u32) -> bool
     requires { len ≤ ids }
     ensures { IsTrue result ↔ (length (windows len ids) ≤ most) }

@@ -2,10 +2,9 @@
 //! is stepped to the next one, so that no list is numbered anew.
 ghost use Rattle.std.specs.Prelude.{◌≡◌, ℕ, List, ◌+◌, ◌-◌, ◌<◌, ◌≤◌, take, nat_lt, if◌then◌else◌, length, slice_index, IfSome, IfNone};
 ghost use Rattle.win_index.specs.declared.limits.TheConstants.{MAX_IDS, MAX_WINDOWS};
-ghost use Rattle.win_index.specs.Falling.{falling};
 ghost use Rattle.win_index.specs.RunPrefixes.{HasNumbers, IsLonger, IsPrefix, IsNextPrefix, IsLastPrefix};
 ghost use Rattle.win_index.specs.Runs.{HasPlaces};
-ghost use Rattle.win_index.specs.Windows.{IsWindow};
+ghost use Rattle.win_index.specs.Windows.{windows, IsWindow};
 
 use crate::arrangement::Lists;
 use crate::run_prefix::RunPrefix;
@@ -20,7 +19,7 @@ pub(crate) struct Prefixes {
     pub(crate) ghost some: { 2 ≤ len },
     pub(crate) ghost short: { len < ids },
     pub(crate) ghost few_ids: { ids ≤ MAX_IDS },
-    pub(crate) ghost few: { falling ids len ≤ MAX_WINDOWS },
+    pub(crate) ghost few: { (k : ℕ) → k ≤ len → length (windows k ids) ≤ MAX_WINDOWS },
 }
 
 impl Prefixes {
@@ -73,7 +72,7 @@ impl Prefixes {
         ensures last { IfNone result (IsLastPrefix self.len self.ids prefix) }
     {
         if self.len == 2 {
-            return next_pair(self.ids, prefix);
+            return self.next_pair(prefix);
         }
         let shorter = Prefixes {
             ids: self.ids,
@@ -88,26 +87,28 @@ impl Prefixes {
         };
         Some(shorter.longer(later, shorter.places(later).first()))
     }
-}
 
-// Returns the next prefix of two identifiers, or `None` if this is the last one.
-fn next_pair(ids: u32, prefix: RunPrefix) -> Option<RunPrefix>
-    requires ids { 2 < ids × ids ≤ MAX_IDS }
-    requires prefix { IsPrefix 2 ids prefix }
-    ensures next { IfSome result (IsNextPrefix 2 ids prefix) }
-    ensures last { IfNone result (IsLastPrefix 2 ids prefix) }
-{
-    let mut pair = [prefix.first_gap, prefix.second_gap];
-    let pairs = Lists { ids, len: 2 };
-    if !pairs.write_next(&mut pair) {
-        return None;
+    // Returns the next prefix of two identifiers, or `None` if this is the last one.
+    fn next_pair(self, prefix: RunPrefix) -> Option<RunPrefix>
+        requires { IsPrefix 2 self.ids prefix }
+        ensures next { IfSome result (IsNextPrefix 2 self.ids prefix) }
+        ensures last { IfNone result (IsLastPrefix 2 self.ids prefix) }
+    {
+        let mut pair = [prefix.first_gap, prefix.second_gap];
+        let pairs = Lists {
+            ids: self.ids,
+            len: 2,
+        };
+        if !pairs.write_next(&mut pair) {
+            return None;
+        }
+        Some(RunPrefix {
+            middle: pair[1],
+            last: 0,
+            first_gap: pair[0],
+            second_gap: pair[1],
+        })
     }
-    Some(RunPrefix {
-        middle: pair[1],
-        last: 0,
-        first_gap: pair[0],
-        second_gap: pair[1],
-    })
 }
 
 impl Shape {
@@ -174,6 +175,7 @@ impl Shape {
     }
 
     // Returns the number of a prefix of a window of this level, all its identifiers but the last.
+    #[tactic(auto, using(crate::proofs::Levels::few_of_shape))]
     fn front_number(&self, level: u32, front: &[u32]) -> u32
         requires level { level ≤ self.now.rounds }
         requires front { IsWindow (2 * level) self.now.ids front.now }
@@ -183,6 +185,7 @@ impl Shape {
     }
 
     // Returns the prefixes of the runs one level above `below`.
+    #[tactic(auto, using(crate::proofs::Levels::few_of_shape))]
     fn run_prefixes(&self, below: u32) -> Prefixes
         requires { below < self.now.rounds }
         ensures ids { result.ids ≡ self.now.ids }

@@ -199,6 +199,7 @@ impl Shape {
     }
 
     // Returns the windows of this level.
+    #[tactic(auto, using(crate::proofs::Levels::few_of_shape))]
     fn windows(&self, level: u32) -> Lists
         requires { level ≤ self.now.rounds }
         ensures ids { result.ids ≡ self.now.ids }
@@ -212,6 +213,7 @@ impl Shape {
     }
 
     // Returns the prefixes of the windows of this level, all identifiers but the last.
+    #[tactic(auto, using(crate::proofs::Levels::few_of_shape))]
     pub(crate) fn fronts(&self, level: u32) -> Lists
         requires { level ≤ self.now.rounds }
         ensures ids { result.ids ≡ self.now.ids }
@@ -233,6 +235,7 @@ impl Shape {
         2 * self.rounds + 1 + extra <= self.ids
     }
 
+    #[tactic(auto, using(crate::proofs::Levels::few_tuples))]
     fn all_tuples(&self, extra: u32) -> Lists
         requires few { extra ≤ MAX_EXTRA }
         requires enough { 2 * self.now.rounds + 1 + extra ≤ self.now.ids }

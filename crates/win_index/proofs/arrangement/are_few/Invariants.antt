@@ -1,6 +1,6 @@
-use Rattle.std.proofs.Common.{◌≡◌, ◌^◌, ◌<◌}
-use Rattle.win_index.specs.Falling.{falling}
+use Rattle.std.proofs.Common.{◌≡◌, length, ◌^◌, ◌<◌}
+use Rattle.win_index.specs.Windows.{windows}
 use Rattle.win_index.proofs.arrangement.are_few.Given as goal
 
 abbrev pub invariant-loop-place : goal.invariant-loop-place
-invariant-loop-place l = (l.count ≡ falling l.ids l.place) × (l.count < 2 ^ 32)
+invariant-loop-place l = (l.count ≡ length (windows l.place l.ids)) × (l.count < 2 ^ 32)

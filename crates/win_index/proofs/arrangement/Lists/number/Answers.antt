@@ -1,10 +1,9 @@
-use Rattle.std.proofs.Common.{◌≡◌, ◌+◌, ◌-◌, ℕ, ◌*◌, ◌<◌, List, length, get_or, take, slice_get, Some, sym, ap, ◌∙◌, arith}
+use Rattle.std.proofs.Common.{◌≡◌, ◌+◌, length, Some, sym, ap, ◌∙◌, arith}
 use Rattle.std.proofs.lemmas.List.{take_all}
 use Rattle.std.proofs.lemmas.Option.{slice_get_within}
-use Rattle.win_index.specs.Windows.{unused, windows, IsWindow}
+use Rattle.win_index.specs.Windows.{windows}
 use Rattle.win_index.proofs.Numbers.{windows-zero, windows_all}
 use Rattle.win_index.proofs.Positions.{front_step}
-use Rattle.win_index.proofs.Sizes.{number_fits}
 use Rattle.win_index.proofs.arrangement.Lists.number.Goals as goal
 
 pub loop-place-init : goal.loop-place-init
@@ -16,32 +15,17 @@ overflow_sub-free c = omega (arith, c.from.ensures, c.requires.size, c.args.self
 pub unused_below-digit-requires : goal.unused_below-digit-requires
 unused_below-digit-requires c = (windows_all _ _ _ _ c.loop-place.invariant).distinct
 
--- the number after this position
-next :
-    (k m j number free digit : ℕ) (list : List ℕ) → IsWindow k m list → j < k
-    → slice_get (windows j m) number ≡ Some (take j list)
-    → free ≡ m - j → digit ≡ length (unused (get_or list j 0) (take j list))
-    → slice_get (windows (j + 1) m) (number * free + digit) ≡ Some (take (j + 1) list)
-next k m j number free digit list window lt at' free_is digit_is =
-    rw (free_is, digit_is) (front_step k m j number list window lt at')
-
 pub loop-place-preserved : goal.loop-place-preserved
 loop-place-preserved c =
-    let place = c.loop-place.place in
-    next c.args.self.len c.args.self.ids place c.loop-place.number _ _ c.args.list.now c.requires
-    (omega (arith, c.loop-place-test.true, c.requires.size))
-    c.loop-place.invariant (ap (λ n. n - place) c.from.ensures) c.unused_below-digit.ensures
+    rw (c.from.ensures, c.unused_below-digit.ensures) (front_step c.args.self.len c.args.self.ids c.loop-place.place
+    c.loop-place.number c.args.list.now c.requires (omega (arith, c.requires.size)) c.loop-place.invariant)
 
 -- it is below the number of lists
 pub overflow_add-number : goal.overflow_add-number
 overflow_add-number c =
     let at' = loop-place-preserved c in
-    omega (
-      arith,
-      number_fits c.args.self.ids (c.loop-place.place + 1) c.args.self.len _ _ at'
-          (omega (arith, c.requires.size)) c.args.self.short,
-      c.args.self.few,
-    )
+    let within = slice_get_within (windows (c.loop-place.place + 1) c.args.self.ids) _ _ at' in
+    omega (arith, within, c.args.self.few (c.loop-place.place + 1) (omega (arith, c.requires.size)))
 
 pub overflow_mul-number : goal.overflow_mul-number
 overflow_mul-number c = omega (arith, overflow_add-number c)

@@ -2,13 +2,7 @@ use Rattle.std.proofs.Common.{◌≡◌, ◌≤◌, ◌+◌, ◌-◌, subst, ari
 use Rattle.win_index.specs.RunPrefixes.{IsNextPrefix, IsLastPrefix}
 use Rattle.win_index.proofs.RunPrefixSteps.{at_longer, in_run, to_next_run, no_next_run}
 use Rattle.win_index.proofs.SeriesPlaces.{at_place}
-use Rattle.win_index.proofs.Sizes.{falling_rises}
 use Rattle.win_index.proofs.prefixes.Prefixes.+next.Goals as goal
-
-pub invariant_of-shorter-clause-few : goal.invariant_of-shorter-clause-few
-invariant_of-shorter-clause-few t c =
-    let lists = c.args.self in
-    omega (arith, lists.few, falling_rises lists.ids (lists.len - 1) lists.len (omega arith) (omega arith))
 
 pub after-requires : goal.after-requires
 after-requires t c =
