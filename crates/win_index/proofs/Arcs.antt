@@ -9,12 +9,12 @@ use Rattle.win_index.specs.Ring.{IsRing}
 use Rattle.win_index.specs.Arcs.{arc, window_around}
 use Rattle.win_index.specs.Windows.{IsWindow}
 
-pub length-arc : (x : List ℕ) (start count : ℕ) → length (arc x start count) ≡ count
-length-arc x start count = length-map-range_with_len (λ k. get_or x ((start + k) % length x) 0) 0 count
+pub length_arc : (x : List ℕ) (start count : ℕ) → length (arc x start count) ≡ count
+length_arc x start count = length-map-range_with_len (λ k. get_or x ((start + k) % length x) 0) 0 count
 
-pub get_or-arc : (x : List ℕ) (start count k d : ℕ) → k < count →
+pub item_of_arc : (x : List ℕ) (start count k d : ℕ) → k < count →
     get_or (arc x start count) k d ≡ get_or x ((start + k) % length x) 0
-get_or-arc x start count k d lt =
+item_of_arc x start count k d lt =
     get_or-map-range_with_len (λ i. get_or x ((start + i) % length x) 0) 0 count k k d lt (omega arith)
 
 -- a prefix of an arc is an arc
@@ -24,17 +24,17 @@ take-arc x start count j le = take-map-range_with_len (λ k. get_or x ((start + 
 -- and so is a suffix
 pub drop-arc : (x : List ℕ) (start count j : ℕ) → j ≤ count → drop j (arc x start count) ≡ arc x (start + j) (count - j)
 drop-arc x start count j le =
-    let long = length-arc x start count in
+    let long = length_arc x start count in
     let rest = length-drop j (arc x start count) in
-    let short = length-arc x (start + j) (count - j) in
+    let short = length_arc x (start + j) (count - j) in
     same_number_lists (drop j (arc x start count)) (arc x (start + j) (count - j)) (omega arith) (λ k lt.
     let far : j + k < count = omega arith in
     let near : k < count - j = omega arith in
     let place : start + (j + k) ≡ start + j + k = omega arith in
     get_or-drop j (arc x start count) k 0
-    ∙ get_or-arc x start count (j + k) 0 far
+    ∙ item_of_arc x start count (j + k) 0 far
     ∙ ap (λ i. get_or x (i % length x) 0) place
-    ∙ sym (get_or-arc x (start + j) (count - j) k 0 near))
+    ∙ sym (item_of_arc x (start + j) (count - j) k 0 near))
 
 -- two places that are less than the ring's length apart are different
 places_differ : (n a b : ℕ) → a < b → b < a + n → a % n ≢ b % n
@@ -66,16 +66,16 @@ arc_window m t start count x ring le =
     let n : ℕ = length x in
     let long = ring.long in
     let some : 0 < n = omega arith in
-    let size = length-arc x start count in
+    let size = length_arc x start count in
     record {
       size = size;
       below = λ k d lt.
           let within : k < count = omega arith in
-          rw (get_or-arc x start count k d within) (ring.below ((start + k) % n) 0 (mod_below (start + k) n some));
+          rw (item_of_arc x start count k d within) (ring.below ((start + k) % n) 0 (mod_below (start + k) n some));
       distinct = λ i j d lt inside.
           let far : j < count = omega arith in
           let near : i < count = omega arith in
-          rw (get_or-arc x start count i d near, get_or-arc x start count j d far)
+          rw (item_of_arc x start count i d near, item_of_arc x start count j d far)
           (differ_at x ((start + i) % n) ((start + j) % n) ring.distinct (mod_below (start + i) n some)
           (mod_below (start + j) n some)
           (places_differ n (start + i) (start + j) (omega arith) (omega arith)));

@@ -6,14 +6,14 @@ use Rattle.std.proofs.lemmas.List.{get_or-take, length-take-le}
 use Rattle.win_index.specs.Ring.{IsRing}
 use Rattle.win_index.specs.Arcs.{arc, window_around, part_at}
 use Rattle.win_index.specs.Windows.{IsWindow}
-use Rattle.win_index.proofs.Arcs.{length-arc, get_or-arc, take-arc, drop-arc, arc_window}
+use Rattle.win_index.proofs.Arcs.{length_arc, item_of_arc, take-arc, drop-arc, arc_window}
 use Rattle.win_index.proofs.Sizes.{window_within}
 
 -- an arc that does not go past the last place is a part of the list
 arc_part : (x : List ℕ) (offset count : ℕ) → offset + count ≤ length x →
     arc x (offset + length x) count ≡ take count (drop offset x)
 arc_part x offset count le =
-    let long = length-arc x (offset + length x) count in
+    let long = length_arc x (offset + length x) count in
     let rest = length-drop offset x in
     let short = length-take-le count (drop offset x) (omega arith) in
     same_number_lists (arc x (offset + length x) count) (take count (drop offset x)) (omega arith) (λ k lt.
@@ -22,7 +22,7 @@ arc_part x offset count le =
     let turn : offset + length x + k ≡ length x + (offset + k) = omega arith in
     let place : (offset + length x + k) % length x ≡ offset + k = ap (λ i. i % length x) turn
     ∙ add-mod_left (length x) (offset + k) ∙ mod-eq_of_lt inside in
-    get_or-arc x (offset + length x) count k 0 within
+    item_of_arc x (offset + length x) count k 0 within
     ∙ ap (λ i. get_or x i 0) place
     ∙ sym (get_or-drop offset x k 0)
     ∙ sym (get_or-take count (drop offset x) k 0 within))

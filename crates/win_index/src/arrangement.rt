@@ -166,6 +166,7 @@ fn smaller_before(before: &[u32], x: u32) -> usize
 }
 
 // Returns the number of values below `x` that are not in `before`, whose elements are distinct.
+#[tactic(auto, using(crate::proofs::Unused::unused_below))]
 pub(crate) fn unused_below(before: &[u32], x: u32) -> u64
     requires { AllPairs (λ a b. a ≢ b) before.now }
     ensures { result ≡ length (unused x before.now) }

@@ -14,11 +14,13 @@ pub fn window_of_number()
 {}
 
 /// A list has a number if and only if its elements are `k` distinct numbers below `m`.
+#[tactic(auto, using(crate::proofs::Positions::has_number))]
 pub fn windows_have_numbers()
     ensures { law.WindowsHaveNumbers }
 {}
 
 /// The windows are in lexicographic order.
+#[tactic(auto, using(crate::proofs::Order::in_order))]
 pub fn windows_are_in_order()
     ensures { law.WindowsAreInOrder }
 {}
@@ -60,18 +62,21 @@ pub fn rings_have_tuples()
 
 /// An arc has the requested number of identifiers; the `k`-th is that of the place `k` steps after
 /// its start, around the ring.
+#[tactic(auto, using(crate::proofs::Arcs::length_arc, crate::proofs::Arcs::item_of_arc))]
 pub fn places_of_arcs()
     ensures length { law.LengthOfArcs }
     ensures item { law.ItemsOfArcs }
 {}
 
 /// The windows of a level of a shape fill at most `MAX_BLOCKS` blocks.
+#[tactic(auto, using(crate::proofs::JobPlaces::few_blocks))]
 pub fn blocks_are_few()
     ensures { law.BlocksAreFew }
 {}
 
 /// Each job is at its number and nowhere else. A block of a level has a job if and only if the
 /// level is at most the number of rounds and the block is below the level's number of blocks.
+#[tactic(auto, using(crate::proofs::JobNumbers::number_of_job, crate::proofs::JobNumbers::has_job_number))]
 pub fn jobs_have_numbers()
     ensures at { law.JobsStandAtNumbers }
     ensures exact { law.BlocksHaveJobs }

@@ -251,6 +251,7 @@ impl Shape {
 
 /// Returns the number of identifiers below `id` that are not in a list of distinct ones. It is the
 /// position of `id` among the identifiers that the list lacks, if `id` is one of them.
+#[tactic(auto, using(crate::proofs::Unused::unused_below))]
 pub fn place_among_unused(list: &[u32], id: u32) -> u32
     requires { AllPairs (λ a b. a ≢ b) list.now }
     ensures { result ≡ length (unused id list.now) }

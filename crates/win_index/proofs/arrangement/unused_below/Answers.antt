@@ -4,6 +4,3 @@ use Rattle.win_index.proofs.arrangement.unused_below.Goals as goal
 
 pub overflow_sub-result : goal.overflow_sub-result
 overflow_sub-result c = omega (arith, unused_below c.args.before.now c.args.x c.requires)
-
-pub returns : goal.returns
-returns c = omega (arith, unused_below c.args.before.now c.args.x c.requires)
