@@ -1,90 +1,42 @@
-use Rattle.std.proofs.Common.{set, ◌∙◌}
-use Rattle.shared_memo.proofs.Sets.{placed_in, cell_at, right_put, keeps_set, known_here, known_set_here, cells_set, same_set, learns_set, knows_same, at_key}
+use Rattle.std.proofs.Common.{◌≡◌, Some, ◌∙◌, ⊎_elim, sym}
+use Rattle.shared_memo.specs.PlanJobs.{job_of}
+use Rattle.shared_memo.specs.Known.{known_of}
+use Rattle.shared_memo.proofs.Sets.{IsAt, cell_at, cells_put, item_here, keeps_put, learns_put, is_installed}
+use Rattle.shared_memo.proofs.memo.Memo.keep.Goals.{After-job_at-at}
 use Rattle.shared_memo.proofs.memo.Memo.keep.Goals as goal
+
+-- the job is that of the block
+job_is : (c : After-job_at-at) → job_of c.args.self.now.plan.now c.args.block.value.level c.args.block.value.number ≡ Some c.job_at-at.result
+job_is c = rw (c.level.ensures.value, c.deref.ensures, c.number.ensures.value, c.deref-2.ensures) at c.job_at-at.ensures.at
 
 pub put-requires : goal.put-requires
 put-requires c =
-    let q = c.args.self.now.plan.now in
-    let es = c.args.pass.now.entries.items in
-    let placed = placed_in q es _ c.deref.ensures c.job_of_block-at.ensures.at
-    c.job_of_block-at.ensures.below c.requires.pass.1
-    c.args.self.now.whole in
-    cell_at _ _ _ _ _ c.requires.pass.1 (placed.1, c.index_mut.ensures.value) c.index-cell.ensures
+    let within = c.job_at-at.ensures.within in
+    cell_at _ _ _ _ _ c.requires.pass.1 (within.1, c.index_mut.ensures.value) within.0 c.index-cell.ensures
 
 pub invariant_of-pass : goal.invariant_of-pass
 invariant_of-pass c =
-    let q = c.args.self.now.plan.now in
-    let es = c.args.pass.now.entries.items in
-    let at' = c.job_of_block-at.result in
-    let placed = placed_in q es _ c.deref.ensures c.job_of_block-at.ensures.at
-    c.job_of_block-at.ensures.below c.requires.pass.1
-    c.args.self.now.whole in
+    let job = job_is (goal.at.invariant_of-pass c).After-job_at-at in
+    let here : IsAt c.args.pass.now.entries.items c.job_at-at.result c.index_mut.result.now = (c.job_at-at.ensures.within.1, c.index_mut.ensures.value) in
     record {
-      keeps = keeps_set c.args.pass.now.plan.now es at' c.put.new.self placed.1 c.args.pass.now.keeps
-          (right_put c.args.pass.now.plan.now q es at' c.index_mut.result.now c.put.new.self c.args.block.value
-          c.requires.pass.0 placed.0 c.requires.plan
-          (placed.1, c.index_mut.ensures.value) c.args.pass.now.keeps c.put.ensures.only);
+      keeps = keeps_put _ _ _ c.index_mut.result.now c.put.new.self here c.args.pass.now.keeps (λ b is.
+          ⊎_elim (λ (old : known_of c.put.new.self ≡ known_of c.index_mut.result.now). c.args.pass.now.keeps _ b (item_here known_of _ _ _ here ∙ sym old ∙ is))
+          (λ (new : known_of c.put.new.self ≡ Some c.args.block.value).
+          let same : b ≡ c.args.block.value = cc in
+          rw (same, c.requires.pass.0) (c.requires.plan, job))
+          c.put.ensures.only);
     }
 
-pub returns-in-Ok-clause-pass : goal.returns-in-Ok-clause-pass
-returns-in-Ok-clause-pass c =
-    (c.requires.pass.0, cells_set _ _ _ _ c.index_mut.ensures.value c.put.ensures.cell ∙ c.requires.pass.1)
+pub returns-clause-pass : goal.returns-clause-pass
+returns-clause-pass c =
+    (c.requires.pass.0, cells_put _ _ _ _ c.index_mut.ensures.value c.put.ensures.cell ∙ c.requires.pass.1)
 
-pub returns-in-Ok-clause-learns : goal.returns-in-Ok-clause-learns
-returns-in-Ok-clause-learns c =
-    let q = c.args.self.now.plan.now in
-    let es = c.args.pass.now.entries.items in
-    let at' = c.job_of_block-at.result in
-    let placed = placed_in q es _ c.deref.ensures c.job_of_block-at.ensures.at
-    c.job_of_block-at.ensures.below c.requires.pass.1
-    c.args.self.now.whole in
-    learns_set _ q es _ _ at' c.index_mut.result.now c.put.new.self c.jobs_have_numbers.ensures.at
-    c.requires.pass.0 placed.0
-    (placed.1, c.index_mut.ensures.value) c.put.ensures.kept
+pub returns-clause-learns : goal.returns-clause-learns
+returns-clause-learns c =
+    rw c.requires.pass.0 (learns_put c.args.self.now.plan.now _ c.args.block.value.level c.args.block.value.number _ c.index_mut.result.now c.put.new.self
+    c.jobs_have_numbers.ensures.at (job_is (goal.at.returns-clause-learns c).After-job_at-at) (c.job_at-at.ensures.within.1, c.index_mut.ensures.value) c.put.ensures.kept)
 
-pub returns-in-Err-clause-pass : goal.returns-in-Err-clause-pass
-returns-in-Err-clause-pass c =
-    (c.requires.pass.0, cells_set _ _ _ _ c.index_mut.ensures.value c.put.ensures.cell ∙ c.requires.pass.1)
-
-pub returns-in-Err-clause-learns : goal.returns-in-Err-clause-learns
-returns-in-Err-clause-learns c =
-    let q = c.args.self.now.plan.now in
-    let es = c.args.pass.now.entries.items in
-    let at' = c.job_of_block-at.result in
-    let placed = placed_in q es _ c.deref.ensures c.job_of_block-at.ensures.at
-    c.job_of_block-at.ensures.below c.requires.pass.1
-    c.args.self.now.whole in
-    learns_set _ q es _ _ at' c.index_mut.result.now c.put.new.self c.jobs_have_numbers.ensures.at
-    c.requires.pass.0 placed.0
-    (placed.1, c.index_mut.ensures.value) c.put.ensures.kept
-
-pub returns-in-Ok-clause-installed : goal.returns-in-Ok-clause-installed
-returns-in-Ok-clause-installed c =
-    let p = c.args.pass.now.plan.now in
-    let q = c.args.self.now.plan.now in
-    let es = c.args.pass.now.entries.items in
-    let at' = c.job_of_block-at.result in
-    let level = c.args.block.value.level in
-    let number = c.args.block.value.number in
-    let placed = placed_in q es _ c.deref.ensures c.job_of_block-at.ensures.at
-    c.job_of_block-at.ensures.below c.requires.pass.1
-    c.args.self.now.whole in (
-      at_key p q es level number at' c.requires.pass.0 placed.0
-          ∙ known_here es at' c.index_mut.result.now (placed.1, c.index_mut.ensures.value) ∙ c.in-Ok.ensures.put.1,
-      at_key p q (set es at' c.put.new.self) level number at' c.requires.pass.0 placed.0
-          ∙ known_set_here es at' c.put.new.self placed.1 ∙ c.in-Ok.ensures.put.0,
-    )
-
-pub returns-in-Err-clause-installed : goal.returns-in-Err-clause-installed
-returns-in-Err-clause-installed c =
-    let q = c.args.self.now.plan.now in
-    let es = c.args.pass.now.entries.items in
-    let at' = c.job_of_block-at.result in
-    let placed = placed_in q es _ c.deref.ensures c.job_of_block-at.ensures.at
-    c.job_of_block-at.ensures.below c.requires.pass.1
-    c.args.self.now.whole in (
-      c.in-Err.ensures.put.0,
-      knows_same c.args.pass.now.plan.now es (set es at' c.put.new.self)
-          (same_set es at' c.index_mut.result.now c.put.new.self (placed.1, c.index_mut.ensures.value)
-          c.in-Err.ensures.put.1),
-    )
+pub returns-clause-installed : goal.returns-clause-installed
+returns-clause-installed c =
+    rw c.requires.pass.0 (is_installed c.args.self.now.plan.now _ _ c.index_mut.result.now c.put.new.self c.args.block.value c.put.result
+    (c.job_at-at.ensures.within.1, c.index_mut.ensures.value) (job_is (goal.at.returns-clause-installed c).After-job_at-at) c.put.ensures.put)
