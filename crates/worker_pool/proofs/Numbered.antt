@@ -1,7 +1,6 @@
 -- Workers that are numbered in their order.
 use Rattle.std.proofs.Common.{◌≡◌, ℕ, ◌+◌, List, ◌∷◌, Some, suc, refl, subst, arith}
 use Rattle.std.specs.Prelude.{slice_get}
-use Rattle.shared_memo.specs.Tickets.{AreNumbered}
 
 -- the items of a list are numbered from n on
 abbrev pub AreNumberedFrom : {W : Type 0} → ℕ → List W → (W → ℕ) → Type 0

@@ -1,4 +1,4 @@
-//! What workers fill, a worker that is ready to draw, and its outcome.
+//! What workers fill, and the outcome of a worker.
 
 ghost use Rattle.std.specs.Prelude.{◌≡◌, ℕ, ◌≤◌, ◌^◌, List, IfOk, OnOk, true, is_ok};
 ghost use Rattle.shared_memo.specs.Tickets.{drawn, told, worker_of, numbers_of, IsFreshTicketOf};
@@ -42,18 +42,6 @@ pub trait Jobs {
         ensures told { OnOk result (told ticket.new ≡ 1) }
         ensures worker { worker_of ticket.new ≡ worker_of ticket.old }
         ensures known { IfOk result (λ known. IsKnown self.now known × KnowsFilled known (drawn ticket.new)) };
-}
-
-// A worker that is ready to draw.
-#[derive(Drop)]
-pub(crate) struct Worker<'d, 'j, 'g, J: Jobs, G: Gate> {
-    pub alloc: Global,
-    pub jobs: &'j J,
-    pub desk: &'d Desk,
-    pub gate: &'g G,
-    pub ticket: Ticket,
-    pub ghost ticket_of: { IsFreshTicketOf desk.now ticket },
-    pub ghost total: { numbers_of desk.now ≡ J.jobs jobs.now },
 }
 
 // The outcome of a worker: its ticket, and its fault if it has one. Without a fault, the ticket was

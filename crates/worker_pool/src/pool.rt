@@ -7,8 +7,7 @@ ghost use Rattle.worker_pool.specs.Workers.{HasRoom, IsWorkerCount};
 ghost use Rattle.worker_pool.specs.Outcomes.{outcome_worker, AreOutcomes, IsLowestFault};
 
 use crate::fault::{FillFault, RefusedStart, WorkFault};
-use crate::jobs::{Jobs, Outcome, Worker, fill_all};
-use node_program::OutOfMemory;
+use crate::jobs::{Jobs, Outcome, fill_all};
 use round_eval::Gate;
 use shared_memo::{Desk, Ticket};
 use std::alloc::Global;
@@ -48,7 +47,10 @@ pub fn fill_by_workers<R: Threads + Wait + Sync, J: Jobs + Sync, G: Gate + Sync>
 {
     let (desk, mut tickets) = Desk::new(alloc, jobs.count(), workers)?;
     if workers > 1 {
-        let _outcomes = fill_at(rt, alloc, jobs, &desk, tickets, gate)?;
+        let handles = Vec::with_capacity(alloc, tickets.len())?;
+        let outcomes = Vec::with_capacity(alloc, tickets.len())?;
+        let outcomes = run_all(rt, alloc, jobs, &desk, gate, tickets, handles, outcomes)?;
+        lowest_fault(&outcomes)?;
         return Ok(None);
     }
     let Some(mut ticket) = tickets.pop() else {
@@ -57,127 +59,66 @@ pub fn fill_by_workers<R: Threads + Wait + Sync, J: Jobs + Sync, G: Gate + Sync>
     Ok(Some(jobs.fill(alloc, &desk, &mut ticket, gate)?))
 }
 
-// Makes a worker for each ticket, and runs each on a thread of its own. Returns what they came to,
-// if none has a fault.
-fn fill_at<R: Threads + Wait + Sync, J: Jobs + Sync, G: Gate + Sync>(
+// Runs a worker for each ticket on a thread of its own, until all have ended. Returns what they came
+// to, or that the start of a thread was refused.
+fn run_all<R: Threads + Wait + Sync, J: Jobs + Sync, G: Gate + Sync>(
     rt: &R,
     alloc: Global,
     jobs: &J,
     desk: &Desk,
-    tickets: Vec<Ticket>,
     gate: &G,
-) -> Result<Vec<Outcome>, FillFault>
-    requires tickets { AreFreshTickets desk.now tickets.items }
-    requires jobs { numbers_of desk.now ≡ J.jobs jobs.now }
-    ensures each { IfOk result (λ outcomes. AreOutcomes (vec_len tickets) outcomes.items) }
-    ensures fine { IfOk result (λ outcomes. IsLowestFault outcomes.items (Ok tt)) }
-    ensures fault { IfErr result (IsFaultOf 2) }
-{
-    let handles = Vec::with_capacity(alloc, tickets.len())?;
-    let outcomes = Vec::with_capacity(alloc, tickets.len())?;
-    let pool = pool_of(alloc, jobs, desk, tickets, gate)?;
-    let outcomes = run_all(rt, pool, handles, outcomes)?;
-    lowest_fault(&outcomes)?;
-    Ok(outcomes)
-}
-
-// Returns a worker for each ticket, in the order of the tickets.
-fn pool_of<'d, 'j, 'g, J: Jobs, G: Gate>(
-    alloc: Global,
-    jobs: &'j J,
-    desk: &'d Desk,
     tickets: Vec<Ticket>,
-    gate: &'g G,
-) -> Result<Vec<Worker<'d, 'j, 'g, J, G>>, OutOfMemory>
-    requires tickets { AreFreshTickets desk.now tickets.items }
-    requires jobs { numbers_of desk.now ≡ J.jobs jobs.now }
-    ensures count { IfOk result (λ pool. vec_len pool ≡ vec_len tickets) }
-    ensures workers { IfOk result (λ pool. AreNumbered pool.items (λ worker. worker_of worker.ticket)) }
-{
-    let mut pool = Vec::with_capacity(alloc, tickets.len())?;
-    for ticket in tickets {
-        pool.push_reserved(Worker {
-            alloc,
-            jobs,
-            desk,
-            gate,
-            ticket,
-        });
-    }
-    Ok(pool)
-}
-
-// Runs each worker on a thread of its own, until all have ended. Returns what they came to, or that
-// the start of a thread was refused.
-fn run_all<'d, 'j, 'g, R: Threads + Wait + Sync, J: Jobs + Sync, G: Gate + Sync>(
-    rt: &R,
-    pool: Vec<Worker<'d, 'j, 'g, J, G>>,
     handles: Vec<Handle>,
     outcomes: Vec<Outcome>,
 ) -> Result<Vec<Outcome>, RefusedStart>
-    requires workers { AreNumbered pool.items (λ worker. worker_of worker.ticket) }
-    requires handles { HasRoom (vec_len pool) handles }
-    requires outcomes { HasRoom (vec_len pool) outcomes }
-    ensures { IfOk result (λ outcomes. AreOutcomes (vec_len pool.entry) outcomes.items) }
+    requires tickets { AreFreshTickets desk.now tickets.items }
+    requires jobs { numbers_of desk.now ≡ J.jobs jobs.now }
+    requires handles { HasRoom (vec_len tickets) handles }
+    requires outcomes { HasRoom (vec_len tickets) outcomes }
+    ensures { IfOk result (λ outcomes. AreOutcomes (vec_len tickets) outcomes.items) }
 {
     thread::scope(
         thread::scope_env(),
         rt,
         |scope| -> Result<Vec<Outcome>, RefusedStart>
-            requires workers { AreNumbered pool.items (λ worker. worker_of worker.ticket) }
-            requires handles { HasRoom (vec_len pool) handles }
-            requires outcomes { HasRoom (vec_len pool) outcomes }
-            ensures { IfOk result (λ outcomes. AreOutcomes (vec_len pool.entry) outcomes.items) }
-        { run_in_scope(rt, scope, pool, handles, outcomes) },
+            requires tickets { AreFreshTickets desk.now tickets.items }
+            requires jobs { numbers_of desk.now ≡ J.jobs jobs.now }
+            requires handles { HasRoom (vec_len tickets) handles }
+            requires outcomes { HasRoom (vec_len tickets) outcomes }
+            ensures { IfOk result (λ outcomes. AreOutcomes (vec_len tickets) outcomes.items) }
+        {
+            let mut handles = handles;
+            let all_started = start_all(scope, alloc, jobs, desk, gate, tickets, &mut handles);
+            let outcomes = join_all(rt, handles, outcomes);
+            if all_started {
+                Ok(outcomes)
+            } else {
+                Err(RefusedStart)
+            }
+        },
     )
 }
 
-// Starts the workers, and joins all that were started. Returns what they came to, or that a start
-// was refused.
-fn run_in_scope<
-    's,
-    'd: 's,
-    'j: 's,
-    'g: 's,
-    E,
-    R: Threads,
-    J: Jobs + Sync + 's,
-    G: Gate + Sync + 's,
->(
-    rt: &R,
+// Starts a worker for each ticket, in their order, until a start is refused, and returns whether all
+// were started.
+fn start_all<'s, 'd: 's, E, J: Jobs + Sync + 's, G: Gate + Sync + 's>(
     scope: &Scope<'s, E>,
-    pool: Vec<Worker<'d, 'j, 'g, J, G>>,
-    mut handles: Vec<Handle>,
-    outcomes: Vec<Outcome>,
-) -> Result<Vec<Outcome>, RefusedStart>
-    requires workers { AreNumbered pool.items (λ worker. worker_of worker.ticket) }
-    requires handles { HasRoom (vec_len pool) handles }
-    requires outcomes { HasRoom (vec_len pool) outcomes }
-    ensures { IfOk result (λ outcomes. AreOutcomes (vec_len pool.entry) outcomes.items) }
-{
-    let all_started = start_all(scope, pool, &mut handles);
-    let outcomes = join_all(rt, handles, outcomes);
-    if all_started {
-        Ok(outcomes)
-    } else {
-        Err(RefusedStart)
-    }
-}
-
-// Starts workers until a start is refused, and returns whether all were started.
-fn start_all<'s, 'd: 's, 'j: 's, 'g: 's, E, J: Jobs + Sync + 's, G: Gate + Sync + 's>(
-    scope: &Scope<'s, E>,
-    pool: Vec<Worker<'d, 'j, 'g, J, G>>,
+    alloc: Global,
+    jobs: &'d J,
+    desk: &'d Desk,
+    gate: &'d G,
+    tickets: Vec<Ticket>,
     handles: &mut Vec<Handle>,
 ) -> bool
-    requires workers { AreNumbered pool.items (λ worker. worker_of worker.ticket) }
-    requires handles { HasRoom (vec_len pool) handles.old }
+    requires tickets { AreFreshTickets desk.now tickets.items }
+    requires jobs { numbers_of desk.now ≡ J.jobs jobs.now }
+    requires handles { HasRoom (vec_len tickets) handles.old }
     ensures workers { AreNumbered handles.new.items (λ handle. handle.promise.0) }
-    ensures few { vec_len handles.new ≤ vec_len pool.entry }
-    ensures all { IsTrue result ↔ (vec_len handles.new ≡ vec_len pool.entry) }
+    ensures few { vec_len handles.new ≤ vec_len tickets }
+    ensures all { IsTrue result ↔ (vec_len handles.new ≡ vec_len tickets) }
 {
-    for worker in pool {
-        let Some(handle) = start_one(scope, worker) else {
+    for ticket in tickets {
+        let Some(handle) = start_one(scope, alloc, jobs, desk, gate, ticket) else {
             return false;
         };
         handles.push_reserved(handle);
@@ -185,20 +126,19 @@ fn start_all<'s, 'd: 's, 'j: 's, 'g: 's, E, J: Jobs + Sync + 's, G: Gate + Sync 
     true
 }
 
-// Starts a worker on a thread, or returns `None` if the start was refused.
-fn start_one<'s, 'd: 's, 'j: 's, 'g: 's, E, J: Jobs + Sync + 's, G: Gate + Sync + 's>(
+// Starts a worker with a ticket on a thread, or returns `None` if the start was refused.
+fn start_one<'s, 'd: 's, E, J: Jobs + Sync + 's, G: Gate + Sync + 's>(
     scope: &Scope<'s, E>,
-    worker: Worker<'d, 'j, 'g, J, G>,
+    alloc: Global,
+    jobs: &'d J,
+    desk: &'d Desk,
+    gate: &'d G,
+    ticket: Ticket,
 ) -> Option<Handle>
-    ensures { IfSome result (λ handle. handle.promise.0 ≡ worker_of worker.entry.ticket) }
+    requires ticket { IsFreshTicketOf desk.now ticket }
+    requires jobs { numbers_of desk.now ≡ J.jobs jobs.now }
+    ensures { IfSome result (λ handle. handle.promise.0 ≡ worker_of ticket) }
 {
-    let Worker {
-        alloc,
-        jobs,
-        desk,
-        gate,
-        ticket,
-    } = worker;
     let promise = OutcomeOf(ticket.worker());
     scope
         .spawn_with(
