@@ -118,36 +118,16 @@ fn start_all<'s, 'd: 's, E, J: Jobs + Sync + 's, G: Gate + Sync + 's>(
     ensures all { IsTrue result ↔ (vec_len handles.new ≡ vec_len tickets) }
 {
     for ticket in tickets {
-        let Some(handle) = start_one(scope, alloc, jobs, desk, gate, ticket) else {
+        let promise = OutcomeOf(ticket.worker());
+        let worker = move || -> Outcome
+            requires { IsFreshTicketOf desk.now ticket × (numbers_of desk.now ≡ J.jobs jobs.now) }
+        { fill_all(alloc, jobs, desk, gate, ticket) };
+        let Ok(handle) = scope.spawn_with(promise, worker) else {
             return false;
         };
         handles.push_reserved(handle);
     }
     true
-}
-
-// Starts a worker with a ticket on a thread, or returns `None` if the start was refused.
-fn start_one<'s, 'd: 's, E, J: Jobs + Sync + 's, G: Gate + Sync + 's>(
-    scope: &Scope<'s, E>,
-    alloc: Global,
-    jobs: &'d J,
-    desk: &'d Desk,
-    gate: &'d G,
-    ticket: Ticket,
-) -> Option<Handle>
-    requires ticket { IsFreshTicketOf desk.now ticket }
-    requires jobs { numbers_of desk.now ≡ J.jobs jobs.now }
-    ensures { IfSome result (λ handle. handle.promise.0 ≡ worker_of ticket) }
-{
-    let promise = OutcomeOf(ticket.worker());
-    scope
-        .spawn_with(
-            promise,
-            move || -> Outcome
-                requires { IsFreshTicketOf desk.now ticket × (numbers_of desk.now ≡ J.jobs jobs.now) }
-            { fill_all(alloc, jobs, desk, gate, ticket) },
-        )
-        .ok()
 }
 
 // Joins the threads in order, and appends what their workers came to.
