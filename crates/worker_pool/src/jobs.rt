@@ -52,23 +52,3 @@ pub(crate) struct Outcome {
     pub answer: Result<(), WorkFault>,
     pub ghost all_drawn: { is_ok answer ≡ true → told ticket ≡ 1 },
 }
-
-// Draws and fills until all jobs are drawn, drops what the worker knows then, and returns its
-// outcome.
-pub(crate) fn fill_all<J: Jobs, G: Gate>(
-    alloc: Global,
-    jobs: &J,
-    desk: &Desk,
-    gate: &G,
-    mut ticket: Ticket,
-) -> Outcome
-    requires ticket { IsFreshTicketOf desk.now ticket }
-    requires total { numbers_of desk.now ≡ J.jobs jobs.now }
-    ensures { worker_of result.ticket ≡ worker_of ticket }
-{
-    let answer = match jobs.fill(alloc, desk, &mut ticket, gate) {
-        Ok(_known) => Ok(()),
-        Err(fault) => Err(fault),
-    };
-    Outcome { ticket, answer }
-}

@@ -7,7 +7,7 @@ ghost use Rattle.worker_pool.specs.Workers.{HasRoom, IsWorkerCount};
 ghost use Rattle.worker_pool.specs.Outcomes.{outcome_worker, AreOutcomes, IsLowestFault};
 
 use crate::fault::{FillFault, RefusedStart, WorkFault};
-use crate::jobs::{Jobs, Outcome, fill_all};
+use crate::jobs::{Jobs, Outcome};
 use round_eval::Gate;
 use shared_memo::{Desk, Ticket};
 use std::alloc::Global;
@@ -121,7 +121,14 @@ fn start_all<'s, 'd: 's, E, J: Jobs + Sync + 's, G: Gate + Sync + 's>(
         let promise = OutcomeOf(ticket.worker());
         let worker = move || -> Outcome
             requires { IsFreshTicketOf desk.now ticket × (numbers_of desk.now ≡ J.jobs jobs.now) }
-        { fill_all(alloc, jobs, desk, gate, ticket) };
+        {
+            let mut ticket = ticket;
+            let answer = match jobs.fill(alloc, desk, &mut ticket, gate) {
+                Ok(_known) => Ok(()),
+                Err(fault) => Err(fault),
+            };
+            Outcome { ticket, answer }
+        };
         let Ok(handle) = scope.spawn_with(promise, worker) else {
             return false;
         };
