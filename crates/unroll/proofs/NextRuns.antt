@@ -1,5 +1,5 @@
 -- The window after the last one of a run, in an upper block.
-use Rattle.std.proofs.Common.{◌≡◌, ℕ, ◌+◌, ◌-◌, ◌*◌, ◌<◌, ◌≤◌, List, length, get_or, take, slice_get, Some, sym, ap, subst, ◌∙◌, arith}
+use Rattle.std.proofs.Common.{◌≡◌, ℕ, ◌+◌, ◌-◌, ◌*◌, ◌<◌, ◌≤◌, List, length, get_or, take, slice_get, Some, arith}
 use Rattle.win_index.specs.RunPrefixes.{HasNumbers, IsPrefixOfNextRun, IsPrefixOfLastRun}
 use Rattle.win_index.specs.Runs.{HasPlaces, IsAtPlace, IsFirstOfRun, IsLastOfRun, IsEndOfSame, place_in_run}
 use Rattle.win_index.specs.Windows.{windows, IsWindow}
@@ -21,14 +21,7 @@ run_end :
     (low m : ℕ) (w last : List ℕ) (prefix : RunPrefix) → IsEndOfSame (2 * (low + 1) + 1) m w last → HasNumbers (2 * low + 2) m (take (2 * low + 2) w) prefix
     → RunEnd (2 * low + 2) m prefix last
 run_end low m w last prefix ends has =
-    let long : 2 * (low + 1) + 1 ≡ 2 * low + 2 + 1 = omega arith in
-    let front : 2 * (low + 1) + 1 - 1 ≡ 2 * low + 2 = omega arith in
-    let same : take (2 * low + 2) last ≡ take (2 * low + 2) w = subst (λ k. take k last ≡ take k w) front ends.same in
-    record {
-      is = subst (λ k. IsWindow k m last) long ends.last_is;
-      greatest = subst (λ k. IsLastOfRun k m last) long ends.none_larger;
-      has = rw same has;
-    }
+    record { is = grind (arith, ends.last_is); greatest = grind (arith, ends.none_larger); has = grind (arith, ends.same, has) }
 
 -- the next run begins at the next index
 pub record NextRun (block : UpperBlock) (index : ℕ) (prefix : RunPrefix) : Type 0 where
@@ -43,23 +36,14 @@ pub next_run :
 next_run block from after prefix next some inside end has steps =
     let m = block.plan.now.ids in
     let low = block.below in
-    let n : ℕ = BLOCK_WINDOWS * block.number + (after - 1) in
     let last = run_end low m (window_in block from) end.0 prefix end.2 has in
     let begins = steps end.0 last.is last.greatest last.has in
-    let long : 2 * (low + 1) + 1 ≡ 2 * low + 2 + 1 = omega arith in
-    let three : 2 * low + 2 + 1 ≡ 2 * low + 3 = omega arith in
-    let sum : n + 1 ≡ BLOCK_WINDOWS * block.number + after = omega (arith, some) in
-    let at_end = subst (λ k. slice_get (windows k m) n ≡ Some end.0) long end.1 in
-    let follows = subst (λ k. slice_get (windows k m) (n + 1) ≡ Some begins.window) (sym long) (begins.follows n at_end) in
-    let here = subst (λ i. slice_get (windows (2 * (low + 1) + 1) m) i ≡ Some begins.window) sum follows in
-    let own : window_in block after ≡ begins.window = window_at m (low + 1) (BLOCK_WINDOWS * block.number + after) begins.window here in
+    let follows = begins.follows (BLOCK_WINDOWS * block.number + (after - 1)) (grind (arith, end.1)) in
+    let here : slice_get (windows (2 * (low + 1) + 1) m) (BLOCK_WINDOWS * block.number + after) ≡ Some begins.window = grind (arith, follows, some) in
+    let own = window_at m (low + 1) (BLOCK_WINDOWS * block.number + after) begins.window here in
     record {
       at' = record {
-        is = record {
-          inside = inside;
-          here = here ∙ ap Some (sym own);
-          window = rw own (subst (λ k. IsWindow k m begins.window) three begins.window_is);
-        };
+        is = record { inside = inside; here = rw own here; window = rw own (grind (arith, begins.window_is)) };
         has = rw own begins.has;
       };
       first = rw own begins.first;
@@ -74,11 +58,9 @@ pub some_run_follows :
 some_run_follows block from after prefix some inside end has ends =
     let m = block.plan.now.ids in
     let low = block.below in
-    let n : ℕ = BLOCK_WINDOWS * block.number + (after - 1) in
     let last = run_end low m (window_in block from) end.0 prefix end.2 has in
-    let long : 2 * (low + 1) + 1 ≡ 2 * low + 2 + 1 = omega arith in
-    let all = ends end.0 last.is last.greatest last.has n (subst (λ k. slice_get (windows k m) n ≡ Some end.0) long end.1) in
-    let whole : n + 1 ≡ length (windows (2 * (low + 1) + 1) m) = subst (λ k. n + 1 ≡ length (windows k m)) (sym long) all in
+    let all = ends end.0 last.is last.greatest last.has (BLOCK_WINDOWS * block.number + (after - 1)) (grind (arith, end.1)) in
+    let whole : BLOCK_WINDOWS * block.number + (after - 1) + 1 ≡ length (windows (2 * (low + 1) + 1) m) = grind (arith, all) in
     omega (arith, whole, inside, some)
 
 -- the position of its first window
@@ -96,12 +78,10 @@ first_place block index place prefix places run has at_first within =
     let m = block.plan.now.ids in
     let low = block.below in
     let w = window_in block index in
-    let three : 2 * low + 3 ≡ 2 * low + 1 + 2 = omega arith in
-    let two : 2 * low + 2 ≡ 2 * low + 1 + 1 = omega arith in
-    let window = subst (λ k. IsWindow k m w) three run.at'.is.window in
-    let first = subst (λ k. IsFirstOfRun k m w) two run.first in
+    let window : IsWindow (2 * low + 1 + 2) m w = grind (arith, run.at'.is.window) in
+    let first : IsFirstOfRun (2 * low + 1 + 1) m w = grind (arith, run.first) in
     let here = at_first (2 * low + 1) m w (omega arith) window has first in
     record {
-      place_is = subst (λ i. place_in_run (2 * low + 1) w (get_or w i 0) ≡ place) (sym two) here.place_is;
+      place_is = grind (arith, here.place_is);
       inside = omega (arith, within (2 * low + 1) m w (omega arith) window has first, has.end);
     }

@@ -1,9 +1,9 @@
 -- What the functions that make a block say of the source, for one window at a time.
-use Rattle.std.specs.Prelude.{◌≡◌, ℕ, ◌+◌, ◌*◌, ◌/◌, ◌%◌, ◌<◌, List, take, drop, length, slice_index, slice_get, Some, None, IsSome, IfSome}
+use Rattle.std.specs.Prelude.{◌≡◌, ℕ, ◌+◌, ◌*◌, ◌/◌, ◌%◌, ◌<◌, List, take, drop, length, slice_get, Some, None, IsSome, IfSome}
 use Rattle.lang_check.specs.Plans.{ProgramForIds}
 use Rattle.node_program.specs.Node.{to_right}
 use Rattle.win_index.specs.RunPrefixes.{HasNumbers}
-use Rattle.win_index.specs.Runs.{IsRunStart, HasPlaces, IsEndOfSame, place_in_run}
+use Rattle.win_index.specs.Runs.{IsRunStart, HasPlaces, IsEndOfSame, IsAtPlace}
 use Rattle.win_index.specs.Windows.{windows, number_of, IsWindow}
 use Rattle.window_states.specs.Line.{middle_state}
 use Rattle.unroll.specs.Below.{part, IsPartNumber}
@@ -95,11 +95,17 @@ IsMissingBlock entries level number OutOfMemory = ⊥
 abbrev pub EndsAt : ℕ → ℕ → List ℕ → ℕ → Type 0
 EndsAt m r w n = (last : List ℕ) × (slice_get (windows (2 * r + 1) m) n ≡ Some last) × IsEndOfSame (2 * r + 1) m w last
 
+-- window `place` of an upper block is w, it is in the run of the window `first`, and at this position of it
+pub record InRun (block : UpperBlock) (first : List ℕ) (run : Run) (place at' : ℕ) (w : List ℕ) : Type 0 where
+  pub here : slice_get (windows (2 * (block.below + 1) + 1) block.plan.now.ids) (BLOCK_WINDOWS * block.number + place) ≡ Some w
+  pub same : take (2 * block.below + 2) w ≡ take (2 * block.below + 2) first
+  pub is : IsAtPlace (2 * block.below + 1) block.plan.now.ids run.places w at'
+
 -- a place among the windows of an upper block: the index of a window, the position of its last part, its run, and a known
 -- block that may hold the last part of another window
 pub record IsReached (entries : Entries) (block : UpperBlock) (reached : Reached) : Type 0 where
-  pub is : IsWindowIn block reached.index
+  pub inside : reached.index < block_len block.plan.now.ids (block.below + 1) block.number
   pub run : IsRun block.plan.now entries block.below (window_in block reached.index) reached.run
-  pub place : place_in_run (2 * block.below + 1) (window_in block reached.index) (slice_index (window_in block reached.index) (2 * block.below + 2)) ≡ reached.place
-  pub inside : reached.place < reached.run.places.end
+  pub here : InRun block (window_in block reached.index) reached.run reached.index reached.place (window_in block reached.index)
+  pub before_end : reached.place < reached.run.places.end
   pub last : IfSome reached.last (λ b. IsKnownBlock block.plan.now entries block.below b.now)

@@ -59,8 +59,14 @@ pub record AreGathered (entries : Entries) (block : UpperBlock) (count : ℕ) (s
   pub lasts : HoldLasts block count scratch.from_right.items
   pub known : KnowsBelow entries block.plan.now.ids (block.below + 1) block.number count
 
--- the windows of an upper block from an index to the index `end`, where their run ends, or the block, after the last
--- parts of all windows before `end` were taken; the known block `last` holds the last part of the window before `end`
+-- the windows of an upper block from an index to the index `end` are in a run; the last parts of all windows before `end`
+-- were taken, and the blocks of their parts are known
+pub record AreTaken (entries : Entries) (block : UpperBlock) (run : Run) (from end : ℕ) (sent : List ℕ) : Type 0 where
+  pub fronts : (i : ℕ) → from ≤ i → i < end → HasFronts block run i
+  pub lasts : HoldLasts block end sent
+  pub known : KnowsBelow entries block.plan.now.ids (block.below + 1) block.number end
+
+-- such windows up to where their run ends, or the block; the known block `last` holds the last part of the one before `end`
 pub record IsRunGathered
     (entries : Entries) (block : UpperBlock) (run : Run) (from end : ℕ) (last : MadeBlock) (sent : List ℕ)
     : Type 0 where
@@ -69,9 +75,7 @@ pub record IsRunGathered
   pub ended : end < block_len block.plan.now.ids (block.below + 1) block.number
       → EndsAt block.plan.now.ids (block.below + 1) (window_in block from) (BLOCK_WINDOWS * block.number + (end - 1))
   pub last_is : IsKnownBlock block.plan.now entries block.below last
-  pub fronts : (i : ℕ) → from ≤ i → i < end → HasFronts block run i
-  pub lasts : HoldLasts block end sent
-  pub known : KnowsBelow entries block.plan.now.ids (block.below + 1) block.number end
+  pub taken : AreTaken entries block run from end sent
 
 -- the `count` items from a place on are these now, and the items before them are unchanged
 pub record AreWritten (A : Type 0) (none : A) (old new : List A) (place count : ℕ) (item : ℕ → A) : Type 0 where

@@ -16,7 +16,7 @@ use crate::upper_block::UpperBlock;
 use node_program::MAX_REGISTERS;
 use round_columns::{Code, next_columns, start_columns, to_left_columns, to_right_columns};
 use round_eval::{step, width_of};
-use win_index::{BLOCK_WINDOWS, MAX_WINDOW_LEN, Shape, number_of_window, windows_have_numbers};
+use win_index::{BLOCK_WINDOWS, MAX_WINDOW_LEN, Shape};
 use window_states::{Block, Source, block_len, first_number, states_from_parts};
 
 // Gathers the parts of each window of a block, whose first window is `window`, run by run. Where
@@ -94,8 +94,6 @@ fn gather_run<'s, S: Source<'s>>(
         reached.entry.index r.0 r.1.now sent.new) }
     ensures missing { IfErr result (IsMissingBelow (S.entries source.new) upper.entry.plan.now.ids (upper.entry.below + 1) upper.entry.number) }
 {
-    number_of_window();
-    windows_have_numbers();
     let len = upper.len;
     let Reached {
         index: from,

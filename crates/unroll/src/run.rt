@@ -9,7 +9,7 @@ ghost use Rattle.win_index.specs.Windows.{windows};
 use crate::fault::MakeFault;
 use crate::parts::numbered_block;
 use crate::upper_block::UpperBlock;
-use win_index::{RunPlaces, RunPrefix, number_of_window};
+use win_index::{RunPlaces, RunPrefix};
 use window_states::{Block, Source, first_number};
 
 // The first part of a window: its number, and the message of its node to the right in the next
@@ -66,7 +66,6 @@ pub(crate) fn start_run<'s, S: Source<'s>>(
     ensures run { IfOk result (IsRun upper.entry.plan.now (S.entries source.new) upper.entry.below (window_in upper.entry index)) }
     ensures missing { IfErr result (IsMissingBelow (S.entries source.new) upper.entry.plan.now.ids (upper.entry.below + 1) upper.entry.number) }
 {
-    number_of_window();
     let shape = upper.plan.shape();
     let below = upper.below;
     let first = first_part(upper, source, index, near.first)?;
@@ -96,7 +95,6 @@ fn first_part<'s, S: Source<'s>>(
         × IsFirstPart upper.entry.plan.now (S.entries source.new) upper.entry.below first) }
     ensures missing { IfErr result (IsMissingBelow (S.entries source.new) upper.entry.plan.now.ids (upper.entry.below + 1) upper.entry.number) }
 {
-    number_of_window();
     let shape = upper.plan.shape();
     let below = upper.below;
     let window = first_number(shape, below + 1, upper.number) + index;

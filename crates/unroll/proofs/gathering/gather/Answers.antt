@@ -58,10 +58,14 @@ gather_run-requires g c κs =
         (asked_both before.asked answer.asked).same_plan ∙ c.requires.plan,
         (
           record {
-            is = before.here.is;
+            inside = before.here.is.inside;
             run = answer.run;
-            place = before.place;
-            inside = omega (arith, before.inside, answer.run.places_are.end);
+            here = record {
+              here = before.here.is.here;
+              same = refl;
+              is = record { window_is = grind (arith, before.here.is.window); run_has = answer.run.places_are; place_is = grind (arith, before.place) };
+            };
+            before_end = omega (arith, before.inside, answer.run.places_are.end);
             last = if_some_more (λ b. IsKnownBlock plan old low b.now) (λ b. IsKnownBlock plan new low b.now) c.loop-run.near.last
                 (λ b is. entry_grows plan old new low b.now.number b.now grows is) before.near.last;
           },
@@ -92,7 +96,7 @@ module _ (g : Over) (c : After-take_fronts g) where
       let cells = c.gather_run.new.sent in
       let whole : take list.len (cells ++ drop (length cells) list.items) ≡ cells =
       take_at cells _ list.len (c.gather_run.auto.sent ∙ c.deref_mut.ensures.len) in
-      let run = c.in_ok-after.ensures.gathered in
+      let run = c.in_ok-after.ensures.gathered.taken in
       record { fronts = c.take_fronts.ensures.held; lasts = rw (c.take_fronts.ensures.right, whole) run.lasts; known = run.known }
 
 pub returns-then-after-len-clause-gathered : goal.returns-then-after-len-clause-gathered
@@ -135,7 +139,7 @@ loop-run-preserved g c =
       place = first.place_is;
       inside = first.inside;
       near = record {
-        first = first_grows plan (entries c.start_run.new.source) (entries c.gather_run.new.source) low _ went.asked.grows asked.run.first_is;
+        first = first_grows plan (entries c.start_run.new.source) (entries c.gather_run.new.source) low went.asked.grows _ asked.run.first_is;
         middle = entry_grows plan (entries c.start_run.new.source) (entries c.gather_run.new.source) low _ _ went.asked.grows asked.run.middle_is;
         last = run.last_is;
       };

@@ -1,7 +1,7 @@
-use Rattle.std.proofs.Common.{◌≡◌, ◌+◌, ◌*◌, slice_get, Some, refl, sym, ap, subst, arith}
+use Rattle.std.proofs.Common.{◌≡◌, ◌+◌, ◌*◌, slice_get, Some, refl, arith}
 use Rattle.std.proofs.lemmas.Option.{slice_get_within}
 use Rattle.std.proofs.lemmas.Result.{err_from_is_err_and}
-use Rattle.win_index.specs.declared.limits.TheConstants.{BLOCK_WINDOWS}
+use Rattle.win_index.proofs.Positions.{number_of_is}
 use Rattle.win_index.specs.Windows.{windows}
 use Rattle.unroll.specs.Below.{part}
 use Rattle.unroll.specs.Parts.{window_in}
@@ -16,11 +16,8 @@ module _ (g : Over) (c : After-first_part_number-number g) where
   first_at =
       let m = c.args.upper.plan.now.ids in
       let low = c.args.upper.below in
-      let w = window_in c.args.upper c.args.index in
-      let long : 2 * (low + 1) + 1 ≡ 2 * low + 3 = omega arith in
-      let number : BLOCK_WINDOWS * c.args.upper.number + c.args.index ≡ c.first_number.result + c.args.index = ap (λ i. i + c.args.index) (sym c.first_number.ensures) in
-      let here = subst (λ n. slice_get (windows (2 * (low + 1) + 1) m) n ≡ Some w) number c.requires.here.here in
-      rw c.shape-shape.ensures.ids at (c.first_part_number-number.ensures w (rw c.shape-shape.ensures.ids (subst (λ k. slice_get (windows k m) (c.first_number.result + c.args.index) ≡ Some w) long here)))
+      let here : slice_get (windows (2 * low + 3) m) (c.first_number.result + c.args.index) ≡ Some (window_in c.args.upper c.args.index) = grind (arith, c.first_number.ensures, c.requires.here.here) in
+      rw c.shape-shape.ensures.ids at (c.first_part_number-number.ensures (window_in c.args.upper c.args.index) (rw c.shape-shape.ensures.ids here))
 
 pub numbered_block-requires : goal.numbered_block-requires
 numbered_block-requires g c κs =
@@ -35,7 +32,7 @@ returns-in_err-block-clause-missing g c =
     let low = c.args.upper.below in
     let b = c.args.upper.number in
     let at' = first_at g (goal.at.returns-in_err-block-clause-missing g c).After-first_part_number-number in
-    let number = c.number_of_window.ensures (2 * low + 1) m c.first_part_number-number.result (part (window_in c.args.upper c.args.index) low 0) at' in
+    let number = number_of_is (2 * low + 1) m c.first_part_number-number.result (part (window_in c.args.upper c.args.index) low 0) at' in
     let p = err_from_is_err_and c.from_residual.result c.from_residual.ensures.1 in
     rw (p.1, p.2)
     (fault_of_part (g.S.Source.entries c.numbered_block.new.source) m low b c.args.index c.first_part_number-number.result 0 (window_in c.args.upper c.args.index)
