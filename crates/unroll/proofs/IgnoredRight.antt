@@ -1,6 +1,6 @@
 -- A round whose assignments do not read the message from the right does not depend on it.
 use Rattle.std.proofs.Common.{◌≡◌, ℕ, Bool, true, false, ◌||◌, List, [], ◌∷◌, map, Option, None, Some, slice_get, refl, sym, ap, ◌∙◌}
-use Rattle.std.proofs.lemmas.Bool.{false≢true}
+use Rattle.std.proofs.lemmas.Bool.{false≢true, or_parts}
 use Rattle.std.specs.List.{list_any}
 use Rattle.node_program.specs.Node.{reading_messages, assigned_values, next}
 use Rattle.node_program.specs.Operations.{unary_value}
@@ -9,11 +9,6 @@ use Rattle.node_program.specs.declared.tree.Round as code
 use Rattle.node_program.specs.Value.{value}
 use Rattle.node_program.specs.declared.tree.Expr.{Expr}
 use Rattle.unroll.specs.Reading.{reads_right, assignments_read_right, round_reads_right}
-
--- two tests of which neither holds
-neither : (a b : Bool) → (a || b) ≡ false → (a ≡ false) × (b ≡ false)
-neither true b none = absurd (false≢true (sym none))
-neither false b none = (refl, none)
 
 -- the value of an expression that does not read the message from the right, with two such messages
 module _ (own : List ℕ) (left right other : ℕ) where
@@ -25,11 +20,11 @@ module _ (own : List ℕ) (left right other : ℕ) where
   value_ignores (RegisterValue j) none = refl
   value_ignores (One o a) none = ap (unary_value o) (value_ignores a none)
   value_ignores (Two o a b) none =
-      let both = neither (reads_right a) (reads_right b) none in
+      let both = or_parts (reads_right a) (reads_right b) none in
       rw (value_ignores a both.0, value_ignores b both.1) refl
   value_ignores (Choose c a b) none =
-      let all = neither (reads_right c) (reads_right a || reads_right b) none in
-      let both = neither (reads_right a) (reads_right b) all.1 in
+      let all = or_parts (reads_right c) (reads_right a || reads_right b) none in
+      let both = or_parts (reads_right a) (reads_right b) all.1 in
       rw (value_ignores c all.0, value_ignores a both.0, value_ignores b both.1) refl
 
   -- the values of several such expressions, and so the assignments of a round
@@ -38,7 +33,7 @@ module _ (own : List ℕ) (left right other : ℕ) where
       → map (λ e. value e (reading_messages own left right)) es ≡ map (λ e. value e (reading_messages own left other)) es
   values_ignore [] none = refl
   values_ignore (e ∷ es) none =
-      let both = neither (reads_right e) (list_any reads_right es) none in
+      let both = or_parts (reads_right e) (list_any reads_right es) none in
       λ i. value_ignores e both.0 i ∷ values_ignore es both.1 i
 
   assigned_ignore :

@@ -1,7 +1,6 @@
 -- Lemmas that several proofs share.
 pub mod Known
 pub mod SameRun
-pub mod PrefixParts
 pub mod NextRuns
 pub mod ColumnStates
 pub mod IgnoredRight

@@ -1,5 +1,5 @@
--- The window after the last one of a run, in an upper block.
-use Rattle.std.proofs.Common.{◌≡◌, ℕ, ◌+◌, ◌-◌, ◌*◌, ◌<◌, ◌≤◌, List, length, get_or, take, slice_get, Some, arith}
+-- The prefixes of windows by their numbers, and the window after the last one of a run, in an upper block.
+use Rattle.std.proofs.Common.{◌≡◌, ℕ, ◌+◌, ◌-◌, ◌*◌, ◌<◌, ◌≤◌, List, length, get_or, take, drop, slice_get, Some, arith}
 use Rattle.win_index.specs.RunPrefixes.{HasNumbers, IsPrefixOfNextRun, IsPrefixOfLastRun}
 use Rattle.win_index.specs.Runs.{HasPlaces, IsAtPlace, IsFirstOfRun, IsLastOfRun, IsEndOfSame, place_in_run}
 use Rattle.win_index.specs.Windows.{windows, IsWindow}
@@ -7,9 +7,20 @@ use Rattle.win_index.specs.declared.limits.TheConstants.{BLOCK_WINDOWS}
 use Rattle.win_index.specs.declared.run_prefix.RunPrefix.{RunPrefix}
 use Rattle.win_index.specs.declared.series.RunPlaces.{RunPlaces}
 use Rattle.window_states.specs.BlockStates.{block_len}
+use Rattle.std.proofs.lemmas.List.{drop-take}
+use Rattle.unroll.specs.Below.{part}
 use Rattle.unroll.specs.Parts.{window_in, EndsAt, IsAtIndex}
 use Rattle.unroll.specs.declared.upper_block.UpperBlock.{UpperBlock}
 use Rattle.unroll.proofs.Known.{window_at}
+
+-- the middle part of a window is its prefix without the first identifier; the prefix of its last part lacks the first two
+pub middle_at :
+    (m low : ℕ) (w : List ℕ) (prefix : RunPrefix) → HasNumbers (2 * low + 2) m (take (2 * low + 2) w) prefix
+    → slice_get (windows (2 * low + 1) m) prefix.middle ≡ Some (part w low 1)
+middle_at m low w prefix has = grind (arith, drop-take, has.middle)
+
+pub rest_of_prefix : (low : ℕ) (w : List ℕ) → drop 2 (take (2 * low + 2) w) ≡ take (2 * low) (drop 2 w)
+rest_of_prefix low w = grind (arith, drop-take)
 
 -- the last window of a run, with the numbers of its prefix
 pub record RunEnd (k m : ℕ) (prefix : RunPrefix) (last : List ℕ) : Type 0 where

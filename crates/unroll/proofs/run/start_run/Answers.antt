@@ -4,7 +4,7 @@ use Rattle.unroll.specs.Below.{part}
 use Rattle.unroll.specs.Parts.{window_in}
 use Rattle.unroll.proofs.Known.{asked_both, fault_of_part, own_entry, part_known, state_held}
 use Rattle.win_index.proofs.Positions.{number_of_is}
-use Rattle.unroll.proofs.PrefixParts.{middle_at, rest_of_prefix}
+use Rattle.unroll.proofs.NextRuns.{middle_at, rest_of_prefix}
 use Rattle.unroll.proofs.SameRun.{first_grows}
 use Rattle.unroll.proofs.run.start_run.Goals as goal
 
