@@ -1,24 +1,18 @@
 -- The states of windows after a round, from their first two parts and from messages from the right, if the round reads
 -- these.
-use Rattle.std.proofs.Common.{◌≡◌, inl, ℕ, ◌+◌, ◌*◌, ◌<◌, ◌≤◌, Bool, true, false, List, [], length, map, take, get_or, refl, sym, subst, ap, ◌∙◌, arith}
-use Rattle.std.proofs.lemmas.Bool.{false≢true}
+use Rattle.std.proofs.Common.{◌≡◌, inl, ⊎_elim, ℕ, ◌+◌, ◌*◌, ◌<◌, ◌≤◌, true, false, List, [], length, map, take, get_or, sym, subst, ap, ◌∙◌, arith}
+use Rattle.std.proofs.lemmas.Bool.{false≢true, cases_Bool}
 use Rattle.std.specs.List.{range_with_len}
 use Rattle.node_program.specs.Node.{next}
 use Rattle.round_columns.specs.States.{AreRewritten}
-use Rattle.window_states.specs.Entries.{Entries}
 use Rattle.window_states.specs.Laws.{PartsAreJoined}
 use Rattle.unroll.specs.Parts.{window_in}
-use Rattle.unroll.specs.WideColumns.{part_state, left_message, right_message, state_in, AreWritten, AreGathered, HasFronts, HoldFronts, HoldLasts}
+use Rattle.unroll.specs.WideColumns.{part_state, left_message, right_message, state_in, AreWritten, HasFronts, HoldFronts, HoldLasts}
 use Rattle.unroll.specs.declared.scratch.Scratch.{Scratch}
 use Rattle.unroll.specs.declared.run.Run.{Run}
 use Rattle.unroll.specs.declared.upper_block.UpperBlock.{UpperBlock}
 use Rattle.unroll.proofs.IgnoredRight.{round_ignores}
 use Rattle.unroll.proofs.ColumnStates.{below_sum, held_more, take_states}
-
--- what holds whether or not a test does
-either : {P : Type 0} (b : Bool) → (b ≡ true → P) → (b ≡ false → P) → P
-either true holds fails = holds refl
-either false holds fails = fails refl
 
 -- the message from the right is that of the last part, or does not matter
 with_last :
@@ -26,8 +20,10 @@ with_last :
     → next block.plan.now.program block.below own left (get_or sent i 0)
     ≡ next block.plan.now.program block.below own left (right_message block i)
 with_last block count i sent own left lasts lt =
-    either block.reads_right (λ reads. ap (next block.plan.now.program block.below own left) (lasts reads i lt))
-    (λ none. round_ignores block.plan.now.program block.below (sym block.reads ∙ none) own left (get_or sent i 0) (right_message block i))
+    ⊎_elim (λ (reads : block.reads_right ≡ true). ap (next block.plan.now.program block.below own left) (lasts reads i lt))
+    (λ (none : block.reads_right ≡ false).
+    round_ignores block.plan.now.program block.below (sym block.reads ∙ none) own left (get_or sent i 0) (right_message block i))
+    (cases_Bool block.reads_right)
 
 -- so the states of all windows follow from their parts in columns
 pub states_in_columns :
@@ -108,17 +104,3 @@ module _
               (filled old.made.states now.made.states from count state size fits written)
               (λ i lt. is ∙ state_of_run joined block run (from + i) once (later i lt));
         })
-
--- before any window is taken
-pub none_gathered : (entries : Entries) (block : UpperBlock) (scratch : Scratch) → AreGathered entries block 0 scratch
-none_gathered entries block scratch =
-    record {
-      fronts = record {
-        sizes = λ i lt. absurd (omega (arith, lt));
-        left = λ each i lt. absurd (omega (arith, lt));
-        own = λ each i lt. absurd (omega (arith, lt));
-        states = λ once i lt. absurd (omega (arith, lt));
-      };
-      lasts = λ reads i lt. absurd (omega (arith, lt));
-      known = λ lower j one lt. absurd (omega (arith, lt));
-    }

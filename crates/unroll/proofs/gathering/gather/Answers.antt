@@ -1,4 +1,4 @@
-use Rattle.std.proofs.Common.{◌≡◌, ◌+◌, ◌*◌, ◌/◌, ◌<◌, ◌++◌, length, take, drop, slice_get, Some, refl, sym, ap, ◌∙◌, arith, subst}
+use Rattle.std.proofs.Common.{rules, ◌≡◌, ◌+◌, ◌*◌, ◌/◌, ◌<◌, ◌++◌, length, take, drop, slice_get, Some, refl, sym, ap, ◌∙◌, arith, subst}
 use Rattle.std.proofs.lemmas.List.{take_at}
 use Rattle.win_index.specs.Windows.{windows, IsWindow}
 use Rattle.win_index.specs.declared.limits.TheConstants.{BLOCK_WINDOWS}
@@ -7,7 +7,6 @@ use Rattle.unroll.specs.Parts.{window_in, IsKnownBlock}
 use Rattle.unroll.specs.WideColumns.{AreGathered}
 use Rattle.unroll.proofs.Known.{still_known, window_at, asked_both, entry_grows, if_some_more}
 use Rattle.unroll.proofs.NextRuns.{next_run, some_run_follows, first_place}
-use Rattle.unroll.proofs.Fronts.{none_gathered}
 use Rattle.unroll.proofs.SameRun.{first_grows}
 use Rattle.unroll.proofs.gathering.gather.Given.{Over}
 use Rattle.unroll.proofs.gathering.gather.Goals.{After-take_fronts}
@@ -37,7 +36,7 @@ loop-run-init g c =
       inside = rw (own, ← c.shape-shape.ensures.ids) c.place_in_run-place.ensures.inside;
       near = record { first = tt; middle = tt; last = tt };
       ready = c.requires.ready;
-      gathered = none_gathered _ _ _;
+      gathered = search rules;
     }
 
 pub returns-in_err-run-clause-asked : goal.returns-in_err-run-clause-asked

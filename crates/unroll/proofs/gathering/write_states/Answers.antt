@@ -1,8 +1,7 @@
-use Rattle.std.proofs.Common.{◌≡◌, ℕ, ◌+◌, ◌-◌, List, take, subst, arith}
+use Rattle.std.proofs.Common.{◌≡◌, ℕ, ◌+◌, List, take, ◌∙◌, arith}
 use Rattle.window_states.specs.BlockStates.{block_len}
 use Rattle.window_states.specs.HeldStates.{first_states}
 use Rattle.unroll.specs.MakeFaults.{KnowsAllBelow}
-use Rattle.unroll.specs.Parts.{KnowsBelow}
 use Rattle.unroll.specs.WideColumns.{state_in}
 use Rattle.unroll.specs.declared.upper_block.UpperBlock.{UpperBlock}
 use Rattle.unroll.proofs.ColumnStates.{take_states}
@@ -29,16 +28,10 @@ upper_states :
     ≡ first_states c.args.code.now c.args.level c.args.number (block_len c.args.code.now.ids c.args.level c.args.number))
     × KnowsAllBelow (g.S.Source.entries c.gather.new.source) c.args.code.now.ids c.args.level c.args.number
 upper_states g c made states =
-    let plan = c.args.code.now in
-    let b = c.args.number in
-    let above : c.args.level - 1 + 1 ≡ c.args.level = omega (arith, c.if-level-eq0.false) in
     let block = c.new-upper.ensures in
-    let here = rw (block.plan, block.below, block.number, c.plan-plan.ensures) at states in
-    let known = rw (block.plan, block.below, block.number, c.plan-plan.ensures) at c.in_ok-gather.ensures.gathered.known in (
-      subst (λ r. take (block_len plan.ids r b) made ≡ first_states plan r b (block_len plan.ids r b)) above here,
-      knows_all_below (g.S.Source.entries c.gather.new.source) plan.ids c.args.level b
-          (subst (λ r. KnowsBelow (g.S.Source.entries c.gather.new.source) plan.ids r b (block_len plan.ids r b)) above known),
-    )
+    let above : c.new-upper.result.below + 1 ≡ c.args.level = omega (arith, block.below, c.if-level-eq0.false) in
+    let plan = block.plan ∙ c.plan-plan.ensures in
+    rw (← above, ← block.number, ← plan) (states, knows_all_below _ _ _ _ c.in_ok-gather.ensures.gathered.known)
 
 pub returns-then-upper-clause-made : goal.returns-then-upper-clause-made
 returns-then-upper-clause-made g c =
