@@ -1,12 +1,11 @@
 -- The part of a share that a block fills.
-use Rattle.std.proofs.Common.{◌≡◌, ℕ, ◌+◌, ◌-◌, ◌*◌, ◌/◌, ◌%◌, ◌<◌, ◌≤◌, ◌⊎◌, min, List, All, length, get_or, slice_index, take, drop, Some, ⊎_elim, subst, sym, ap, ◌∙◌, arith}
-use mathlib.Core.Logic.{dite}
+use Rattle.std.proofs.Common.{◌≡◌, ℕ, ◌+◌, ◌-◌, ◌*◌, ◌/◌, ◌%◌, ◌<◌, ◌≤◌, ◌⊎◌, min, List, All, length, get_or, slice_index, take, drop, Some, inl, ⊎_elim, subst, sym, ap, ◌∙◌, arith}
 use denote.Ref.{Bor}
 use borrow.Rule.Slice.PartMut.{put_mid}
-use Rattle.std.proofs.Math.Decide.{dec_lt}
+use Rattle.std.proofs.lemmas.Bool.{cases_lt}
 use Rattle.std.specs.Int.{div_ceil}
-use Rattle.std.proofs.lemmas.List.{get_or-take, get_or-drop, get_or_default, length-append, length-take, length-drop, length-take-le}
-use Rattle.std.proofs.lemmas.Slice.{take-put_mid_below, between-put_mid}
+use Rattle.std.proofs.lemmas.List.{get_or-take, get_or_default, length-take, length-drop, length-take-le}
+use Rattle.round_columns.proofs.Writes.{put_in, put_out}
 use Rattle.std.proofs.lemmas.Option.{slice_get-get_or}
 use Rattle.lang_check.specs.Plans.{ProgramForIds}
 use Rattle.win_index.specs.Blocks.{window_count}
@@ -63,44 +62,24 @@ part_in_share plan first len i end part share end_is lt part_is =
 pub part_len : (from part : ℕ) (xs : List ℕ) → from + part ≤ length xs → length (take (from + part - from) (drop from xs)) ≡ part
 part_len from part xs within = simp (length-take, length-drop) (omega (arith, within))
 
-pub length-written :
-    (from part : ℕ) (xs ys : List ℕ) → from + part ≤ length xs → length ys ≡ part
-    → length (put_mid from (from + part - from) xs ys) ≡ length xs
-length-written from part xs ys within size = simp (length-append, length-take, length-drop) (omega (arith, size, within))
-
 -- the entries with those of one more block
 pub one_more_block :
     (plan : ProgramForIds) (first len i part : ℕ) (xs ys : List ℕ) → IsShare plan first len
-    → part ≡ block_len plan.ids (length plan.program.steps) (first + i) → i * BLOCK_WINDOWS + part ≤ length xs → length ys ≡ part
+    → part ≡ block_len plan.ids (length plan.program.steps) (first + i) → i * BLOCK_WINDOWS + part ≤ length xs
+    → length ys ≡ length (take (i * BLOCK_WINDOWS + part - i * BLOCK_WINDOWS) (drop (i * BLOCK_WINDOWS) xs))
     → AreWritten plan (BLOCK_WINDOWS * first) (BLOCK_WINDOWS * i) len xs → AreEntries plan (BLOCK_WINDOWS * (first + i)) ys
     → AreWritten plan (BLOCK_WINDOWS * first) (BLOCK_WINDOWS * (i + 1)) len
     (put_mid (i * BLOCK_WINDOWS) (i * BLOCK_WINDOWS + part - i * BLOCK_WINDOWS) xs ys)
-one_more_block plan first len i part xs ys share part_is within size before more = λ k lt inside.
+one_more_block plan first len i part xs ys share part_is within same before more = λ k lt inside.
     let from : ℕ = i * BLOCK_WINDOWS in
-    let written = put_mid from (from + part - from) xs ys in
-    let start : from ≤ length xs = omega (arith, within) in
-    dite (dec_lt k from)
-    (λ below.
-    let same : get_or written k 0 ≡ get_or xs k 0 =
-    sym (get_or-take from written k 0 below)
-    ∙ ap (λ l. get_or l k 0) (take-put_mid_below from (from + part - from) xs ys from (omega arith) start)
-    ∙ get_or-take from xs k 0 below in
-    let is = before k (omega (arith, below)) inside in
-    (same ∙ is.0, subst (λ v. v < plan.program.channels) (sym same) is.1))
-    (λ above.
-    let short : k - from < part = omega (arith, part_is, lt, inside, above, share.within) in
-    let place : from + (k - from) ≡ k = omega (arith, above) in
-    let part_of : take (from + part - from) (drop from written) ≡ ys =
-    between-put_mid from (from + part - from) xs ys (from + part) start (omega (arith, size)) in
-    let same : get_or written k 0 ≡ get_or ys (k - from) 0 =
-    ap (λ n. get_or written n 0) (sym place) ∙ sym (get_or-drop from written (k - from) 0)
-    ∙ sym (get_or-take (from + part - from) (drop from written) (k - from) 0 (omega (arith, short)))
-    ∙ ap (λ l. get_or l (k - from) 0) part_of in
-    let is = more (k - from) (omega (arith, size, short)) in
-    let step : BLOCK_WINDOWS * (first + i) + (k - from) ≡ BLOCK_WINDOWS * first + k = omega (arith, above) in (
-      same ∙ is.0 ∙ ap (λ n. window_channel plan.program (window_numbered plan.ids (length plan.program.steps) n)) step,
-      subst (λ v. v < plan.program.channels) (sym same) is.1,
-    ))
+    let size = part_len from part xs within in
+    ⊎_elim
+    (λ (below : k < from). rw (put_out xs ys from part same within k (inl below)) (before k (omega (arith, below)) inside))
+    (λ (above : from ≤ k).
+    let short : k < from + part = omega (arith, part_is, lt, inside, share.within) in
+    let step : BLOCK_WINDOWS * first + k ≡ BLOCK_WINDOWS * (first + i) + (k - from) = omega (arith, above) in
+    rw (put_in xs ys from part same within k above short, step) (more (k - from) (omega (arith, size, same, short, above))))
+    (cases_lt k from)
 
 -- the channels of a block's windows are below the limit
 pub below_front :
