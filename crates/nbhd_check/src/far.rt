@@ -10,16 +10,16 @@ use crate::far_masks::FarMasks;
 use crate::laws::numbers_of_windows;
 use crate::masks::{family_masks, windows_per_family};
 use crate::scan::TupleScan;
-use crate::search::{free_windows, window_count};
+use crate::search::{free_windows, window_count, windows_per_run};
 use crate::tuples::Tuples;
 use channel_tables::Table;
 use std::alloc::Global;
 use std::thread::Threads;
 use win_index::count_of_windows;
 
-// The number of tuples that are tested before masks are made, so that an early no does not pay for
-// them.
-const FIRST_TUPLES: usize = 1 << 16;
+// The maximum number of tuples that are tested before masks are made, so that an early no does not pay
+// for them.
+const FIRST_TUPLES: usize = 1 << 13;
 
 /// Returns a number of windows such that none of the windows below it begins a bad tuple, if none
 /// below `most` begins one whose second window is too close. At most `threads` threads search.
@@ -41,12 +41,22 @@ pub(crate) fn far_free_windows<R: Threads + Sync>(
     if !is_long_search(table, most) {
         return free_windows(rt, &TupleScan { tuples }, most, threads);
     }
-    let few = most.min((FIRST_TUPLES / windows_per_family(table).max(1)) as u32);
+    let few = windows_before_masks(table).min(most);
     let first = free_windows(rt, &TupleScan { tuples }, few, 1);
     if first < few {
         return first;
     }
     free_by_masks(rt, alloc, tuples, most, threads)
+}
+
+// Returns the number of windows that are searched before masks are made: those of as many runs as
+// have at most `FIRST_TUPLES` tuples.
+fn windows_before_masks(table: &Table) -> u32
+    requires { 1 ≤ table.now.rounds }
+{
+    let run = windows_per_run(table);
+    let runs = FIRST_TUPLES / run.saturating_mul(windows_per_family(table)).max(1);
+    runs.saturating_mul(run).min(FIRST_TUPLES) as u32
 }
 
 // Like `far_free_windows`, by masks of third windows, or by counts if masks do not decide.
