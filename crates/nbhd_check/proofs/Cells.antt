@@ -15,16 +15,6 @@ rows_within row most w ids len le w_is len_is =
     let more : row + 1 ≤ most + 1 = omega arith in
     rw (len_is, w_is) (mul-le-mul_right (ids + 1) more)
 
--- so are its cells
-pub cell_within : (row most w ids x len : ℕ) → row ≤ most → w ≡ ids → x ≤ ids → len ≡ (most + 1) * (ids + 1) → row * (w + 1) + x < len
-cell_within row most w ids x len le w_is in_x len_is = omega (arith, rows_within row most w ids len le w_is len_is, row_more row (w + 1))
-
--- and the row after that of a number below the last one
-pub row_for : (e most ids len : ℕ) → e < most → len ≡ (most + 1) * (ids + 1) → (e + 2) * (ids + 1) ≤ len
-row_for e most ids len lt len_is =
-    let more : e + 2 ≤ most + 1 = omega arith in
-    rw len_is (mul-le-mul_right (ids + 1) more)
-
 -- a row that is within the cells is one of the rows
 pub row_below : (row most ids len : ℕ) → (row + 1) * (ids + 1) ≤ len → len ≡ (most + 1) * (ids + 1) → row < most + 1
 row_below row most ids len within len_is = grind (arith, row_more (most + 1) (ids + 1), mul-le-mul_right)

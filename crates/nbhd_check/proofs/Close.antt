@@ -1,6 +1,6 @@
 -- Channels that are close, and channels that are apart.
-use Rattle.std.proofs.Common.{◌≤◌, ◌≡◌, ℕ, ◌<◌, ◌⊎◌, Option, Some, None, IsSome, subst, ap, arith, ltb, inl, inr, ⊎_elim, IsTrue, ◌↔◌}
-use Rattle.std.proofs.lemmas.Bool.{false≢true, ltb-true, lt-ltb}
+use Rattle.std.proofs.Common.{◌≤◌, ◌≡◌, ℕ, ◌<◌, ◌⊎◌, Option, Some, None, IsSome, subst, ap, arith, inl, inr, ⊎_elim}
+use Rattle.std.proofs.lemmas.Bool.{false≢true}
 use Rattle.std.specs.Int.{abs_diff}
 use Rattle.channel_tables.specs.declared.separation.Separation.{Separation}
 use Rattle.nbhd_check.specs.Apart.{extra, AreClose, AreApart}
@@ -47,10 +47,6 @@ close_of_same a b some same = subst (AreClose 1 a) same (own a some)
 -- equal channels are equally close
 pub close_along : (distance : ℕ) {a b c d : Option ℕ} → a ≡ c → b ≡ d → AreClose distance a b → AreClose distance c d
 close_along distance first second close = rw (← first, ← second) close
-
--- a test of the difference of two channels tells whether they are close
-pub close_by_test : (distance c d n : ℕ) (a b : Option ℕ) → n ≡ abs_diff c d → a ≡ Some c → b ≡ Some d → IsTrue (ltb n distance) ↔ AreClose distance a b
-close_by_test distance c d n a b n_is a_is b_is = rw (n_is, a_is, b_is) (ltb-true (abs_diff c d) distance, lt-ltb (abs_diff c d) distance)
 
 -- channels that are closer than a distance are closer than a greater one
 pub closer : (less distance : ℕ) (a b : Option ℕ) → less ≤ distance → AreClose less a b → AreClose distance a b

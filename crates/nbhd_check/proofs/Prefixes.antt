@@ -1,9 +1,9 @@
 -- Windows and the windows that they begin with.
-use Rattle.std.proofs.Common.{◌≡◌, ℕ, suc, ◌+◌, ◌-◌, ◌*◌, ◌/◌, ◌%◌, ◌<◌, ◌≤◌, List, [], ◌∷◌, ◌++◌, get_or, take, drop, slice_get, Some, subst, sym, ap, ◌∙◌, arith, add-one, refl, ⊎_elim, length-drop, Bool, true, false, length}
+use Rattle.std.proofs.Common.{◌≡◌, ℕ, suc, ◌+◌, ◌-◌, ◌*◌, ◌/◌, ◌%◌, ◌<◌, ◌≤◌, List, get_or, take, drop, slice_get, Some, sym, ap, ◌∙◌, arith, add-one, refl, ⊎_elim, length-drop, Bool, true, false, length}
 use Rattle.std.proofs.Math.Nat.{mod-lt}
 use Rattle.std.proofs.lemmas.Nat.{div-add-mod', div-mul-add, mod-mul-add, same_from_place}
 use Rattle.std.proofs.lemmas.Bool.{cases_lt, OnTrue_at, OnFalse_at}
-use Rattle.std.proofs.lemmas.List.{drop-take, get_or-drop, take_all, take-take}
+use Rattle.std.proofs.lemmas.List.{drop-take, take_all, take-take}
 use Rattle.win_index.specs.Arcs.{part_at}
 use Rattle.std.proofs.lemmas.Option.{slice_get_within}
 use Rattle.win_index.specs.Falling.{falling}
@@ -11,11 +11,10 @@ use Rattle.win_index.specs.Runs.{IsReplacedByRun}
 use Rattle.win_index.specs.Successor.{IsReplaced}
 use Rattle.win_index.specs.Windows.{unused, windows, IsWindow}
 use Rattle.win_index.proofs.FrontPlaces.{slice_window}
-use Rattle.win_index.proofs.Numbers.{length-windows, push_window, windows_all, one_place}
+use Rattle.win_index.proofs.Numbers.{length-windows, windows_all, one_place}
 use Rattle.win_index.proofs.Positions.{window_place}
 use Rattle.win_index.proofs.RunPrefixNumbers.{prefix_number, shorter_number}
 use Rattle.win_index.proofs.RunStarts.{longer_number}
-use Rattle.win_index.proofs.Unused.{lacks_from_differs}
 use Rattle.channel_tables.specs.Tables.{ChannelTable, windows_of}
 use Rattle.nbhd_check.specs.Laws.{WindowsAreNumbered}
 use Rattle.nbhd_check.proofs.RunLengths.{falling-add}
@@ -33,19 +32,6 @@ pub window_drop : (k m j : ℕ) (list : List ℕ) → IsWindow (j + k) m list �
 window_drop k m j list is =
     let size = is.size in
     rw (take_all k (drop j list) (omega (arith, length-drop j list))) at (slice_window m (j + k) j k list is (omega arith))
-
--- a window without its first identifiers, followed by one of these
-pub window_turned :
-    (k m offset i : ℕ) (list : List ℕ) → IsWindow (k + offset) m list → i < offset
-    → IsWindow (k + 1) m (drop offset list ++ get_or list i 0 ∷ [])
-window_turned k m offset i list is lt =
-    let swapped : k + offset ≡ offset + k = omega arith in
-    let rest = window_drop k m offset list (rw swapped at is) in
-    let size = is.size in
-    let size_rest = rest.size in
-    rw add-one (push_window k m (get_or list i 0) (drop offset list) rest (is.below i 0 (omega arith))
-    (lacks_from_differs (drop offset list) (get_or list i 0) (λ j within same.
-    is.distinct i (offset + j) 0 (omega arith) (omega arith) (sym same ∙ get_or-drop offset list j 0))))
 
 -- a number is at one index of one run
 pub one_run : (c place rest number n : ℕ) → rest < c → n ≡ place * c + rest → number * c ≤ n → n < number * c + c → place ≡ number
@@ -113,14 +99,6 @@ in_longer_run k m more n longer at' =
       number_is = sym (div-add-mod' n each);
     }
 
--- a window of a table has an entry
-pub entry_within :
-    (t : ChannelTable) (rounds ids number : ℕ) (window : List ℕ) → rounds ≡ t.rounds → ids ≡ t.ids → length t.entries ≡ length (windows_of t)
-    → slice_get (windows (2 * rounds + 1) ids) number ≡ Some window → number < length t.entries
-entry_within t rounds ids number window rounds_is ids_is full item =
-    subst (λ n. number < n) ((λ q. length (windows (2 * rounds_is q + 1) (ids_is q))) ∙ sym full)
-    (slice_get_within (windows (2 * rounds + 1) ids) number window item)
-
 -- the window after one that is not the last
 pub next_item :
     (t : ChannelTable) (number : ℕ) (replaced : Bool) (old new : List ℕ) → IsReplaced (2 * t.rounds + 1) t.ids replaced old new
@@ -132,11 +110,6 @@ next_item t number false old new is item lt = absurd (omega (arith, OnFalse_at r
 pub window_of_shape : (t : ChannelTable) (rounds ids : ℕ) (window : List ℕ) → rounds ≡ t.rounds → ids ≡ t.ids
     → IsWindow (2 * t.rounds + 1) t.ids window → IsWindow (2 * rounds + 1) ids window
 window_of_shape t rounds ids window rounds_is ids_is is = rw (rounds_is, ids_is) is
-
--- the step to the next window, at the numbers of the shape
-pub step_of_shape : (t : ChannelTable) (rounds ids : ℕ) (replaced : Bool) (old new : List ℕ) → rounds ≡ t.rounds → ids ≡ t.ids
-    → IsReplaced (2 * rounds + 1) ids replaced old new → IsReplaced (2 * t.rounds + 1) t.ids replaced old new
-step_of_shape t rounds ids replaced old new rounds_is ids_is is = rw (rounds_is, ids_is) at is
 
 -- the step to the next run, at the numbers of the shape
 pub step_of_run : (t : ChannelTable) (rounds ids : ℕ) (replaced : Bool) (old new : List ℕ) → rounds ≡ t.rounds → ids ≡ t.ids

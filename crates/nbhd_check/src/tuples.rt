@@ -141,6 +141,7 @@ impl<'a> Tuples<'a> {
     }
 
     // Returns whether a tuple is bad.
+    #[tactic(auto, unfolding(crate::specs::Apart::IsBad))]
     fn is_bad(self, tuple: &[u32]) -> bool
         requires { IsWindow (2 * self.table.now.rounds + 1 + extra self.separation) self.table.now.ids tuple.now }
         ensures { IsTrue result ↔ IsBad self.entry.table.now self.entry.separation tuple.now }

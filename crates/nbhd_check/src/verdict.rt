@@ -104,6 +104,7 @@ fn no(alloc: Global, tuples: Tuples, number: u64) -> Result<Verdict, OutOfMemory
 
 // Returns the distance of the two places at which a bad tuple is too close: 1 if neighbours are,
 // else 2.
+#[tactic(auto, using(crate::proofs::Close::two_of_far), unfolding(crate::specs::Apart::IsBad))]
 fn broken_step(tuples: Tuples, tuple: &[u32]) -> u32
     requires tuple { IsWindow (2 * tuples.table.now.rounds + 1 + extra tuples.separation) tuples.table.now.ids tuple.now }
     requires bad { IsBad tuples.table.now tuples.separation tuple.now }

@@ -45,36 +45,31 @@ module _ (c : After-entry) where
       let small : length (windows_of table) ≤ MAX_WINDOWS = c.entry.ensures.table.begun.shape.few_windows in
       rw ids_is (omega (arith, read, counted, inside, c.entry.ensures.table.size, small))
 
-pub count_in-requires : goal.count_in-requires
-count_in-requires c =
-    let d = (goal.at.count_in-requires c).After-entry in record {
-      column = column d (place d) (omega (arith, place_is d));
-      within = within d;
-      few = omega (arith, few d (get_or c.loop-number.window (place d) 0) (column d (place d) (omega (arith, place_is d))));
-    }
+pub count_in-requires-clause-few : goal.count_in-requires-clause-few
+count_in-requires-clause-few c =
+    let d = (goal.at.count_in-requires-clause-few c).After-entry in
+    omega (arith, few d (get_or c.loop-number.window (place d) 0) (column d (place d) (omega (arith, place_is d))))
 
-pub count_in-requires-in-loop-number : goal.count_in-requires-in-loop-number
-count_in-requires-in-loop-number c =
-    let d = (goal.at.count_in-requires-in-loop-number c).After-entry in
+pub count_in-requires-in-loop-number-clause-few : goal.count_in-requires-in-loop-number-clause-few
+count_in-requires-in-loop-number-clause-few c =
+    let d = (goal.at.count_in-requires-in-loop-number-clause-few c).After-entry in
     let x : ℕ = get_or c.loop-number.window (place d + 1) 0 in
-    let in_x : x < c.ids.result + 1 = column d (place d + 1) (omega (arith, place_is d)) in
-    let first = c.count_in.ensures (row d) x in_x in record {
-      column = in_x;
-      within = omega (arith, c.count_in.auto.cells, within d);
-      few = omega (arith, few d x in_x, first, cond_one (eqb (row d) (row d) && eqb x (get_or c.loop-number.window (place d) 0)));
-    }
+    let in_x = column d (place d + 1) (omega (arith, place_is d)) in
+    omega (arith, few d x in_x, c.count_in.ensures (row d) x in_x, cond_one (eqb (row d) (row d) && eqb x (get_or c.loop-number.window (place d) 0)))
 
-pub count_in-requires-in-loop-number-2 : goal.count_in-requires-in-loop-number-2
-count_in-requires-in-loop-number-2 c =
-    let d = (goal.at.count_in-requires-in-loop-number-2 c).After-entry in
+pub count_in-requires-in-loop-number-2-clause-few : goal.count_in-requires-in-loop-number-2-clause-few
+count_in-requires-in-loop-number-2-clause-few c =
+    let d = (goal.at.count_in-requires-in-loop-number-2-clause-few c).After-entry in
     let x : ℕ = c.ids.result + 1 - 1 in
     let in_x : x < c.ids.result + 1 = omega arith in
-    let first = c.count_in.ensures (row d) x in_x in
-    let second = c.count_in-in-loop-number.ensures (row d) x in_x in record {
-      column = in_x;
-      within = omega (arith, c.count_in.auto.cells, c.count_in-in-loop-number.auto.cells, within d);
-      few = omega (arith, few d x in_x, first, second, cond_one (eqb (row d) (row d) && eqb x (get_or c.loop-number.window (place d) 0)), cond_one (eqb (row d) (row d) && eqb x (get_or c.loop-number.window (place d + 1) 0)));
-    }
+    omega (
+      arith,
+      few d x in_x,
+      c.count_in.ensures (row d) x in_x,
+      c.count_in-in-loop-number.ensures (row d) x in_x,
+      cond_one (eqb (row d) (row d) && eqb x (get_or c.loop-number.window (place d) 0)),
+      cond_one (eqb (row d) (row d) && eqb x (get_or c.loop-number.window (place d + 1) 0)),
+    )
 
 pub loop-number-preserved : goal.loop-number-preserved
 loop-number-preserved c =
@@ -98,11 +93,3 @@ loop-number-preserved c =
           let counted = rw (here, ← c.entry.ensures.value) at (window_counted t c.args.first n x v c.loop-number.window c.requires.within.0 (ap (slice_get (windows_of t)) here ∙ item)) in
           rw more (omega (arith, old, first, second, third, counted)),
     )
-
-pub next_window-requires-clause-window : goal.next_window-requires-clause-window
-next_window-requires-clause-window c = rw (c.rounds-in-loop-number.ensures, c.shape-shape.ensures.rounds, c.shape-shape.ensures.ids) c.loop-number.invariant.1
-
-pub returns : goal.returns
-returns c = λ v x lt within.
-    let all : c.loop-number.number - c.args.first ≡ c.args.count = omega arith in
-    rw all at (c.loop-number.invariant.2 v x lt within)

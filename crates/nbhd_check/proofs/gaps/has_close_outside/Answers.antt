@@ -4,22 +4,6 @@ use Rattle.std.proofs.lemmas.List.{get_or-take, get_or-drop, length-take-le}
 use Rattle.std.specs.Int.{abs_diff}
 use Rattle.nbhd_check.proofs.gaps.has_close_outside.Goals as goal
 
-pub returns-then-has_close : goal.returns-then-has_close
-returns-then-has_close c =
-    let list = c.args.list.now in
-    let gap : ℕ = c.args.gap in
-    let short = length-take-le gap list (omega (arith, c.requires)) in (
-      λ is.
-          let found = c.has_close.ensures.0 is in
-          let lt : found.0 < gap = omega (arith, found.1, short) in (
-            found.0,
-            omega (arith, lt, c.requires),
-            λ e. omega (arith, lt, e),
-            subst (λ v. abs_diff c.args.channel v < c.args.distance) (get_or-take gap list found.0 0 lt) found.2,
-          ),
-      λ outside. c.if-has_close.true,
-    )
-
 pub returns-else-has_close : goal.returns-else-has_close
 returns-else-has_close c =
     let list = c.args.list.now in

@@ -6,15 +6,6 @@ use Rattle.nbhd_check.specs.Runs.{BeginsFarTuple}
 use Rattle.nbhd_check.proofs.FarCounts.{none_far}
 use Rattle.nbhd_check.proofs.far_counts.Family.may_begin_far_tuple.Goals as goal
 
-pub channel_at-channel-requires : goal.channel_at-channel-requires
-channel_at-channel-requires c = (_, c.requires.numbers.before)
-
-pub close_one-one-requires : goal.close_one-one-requires
-close_one-one-requires c = (_, c.requires.numbers.after)
-
-pub close_one-other-requires : goal.close_one-other-requires
-close_one-other-requires c = (_, c.requires.numbers.turned)
-
 pub returns : goal.returns
 returns c =
     let t = c.args.self.table.now in

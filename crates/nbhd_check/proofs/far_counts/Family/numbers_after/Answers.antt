@@ -36,8 +36,3 @@ returns-in-Some c =
     subst (λ second. ArePairNumbers t z c.args.first second c.stepped.result) (sym last.1)
     (c.stepped.ensures c.args.first last.0 last.2
     (subst (λ second. IsWindow (2 * t.rounds + 1) t.ids (c.args.first ∷ second ∷ z)) last.1 is))
-
-pub numbers_of-requires : goal.numbers_of-requires
-numbers_of-requires c =
-    follows c.args.self c.args.first c.args.second c.requires.ids.0 c.requires.ids.1 c.if-first-second.false c.requires.lacks
-    (λ has. false≢true (sym c.if-contains.false ∙ c.contains.ensures.1 has))
