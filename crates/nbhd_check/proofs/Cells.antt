@@ -1,5 +1,5 @@
 -- Cells in rows and columns.
-use Rattle.std.proofs.Common.{◌≡◌, ℕ, ◌+◌, ◌*◌, ◌<◌, ◌≤◌, Bool, ◌&&◌, cond, eqb, List, length, get_or, set, ap, ◌∙◌, arith, refl, zero, suc, replicate}
+use Rattle.std.proofs.Common.{◌≡◌, ℕ, ◌+◌, ◌*◌, ◌<◌, ◌≤◌, Bool, ◌&&◌, cond, eqb, List, length, get_or, set, ap, ◌∙◌, arith}
 use Rattle.std.proofs.Math.Nat.{mul-le-mul_right, add-mul, one-mul}
 use Rattle.std.proofs.lemmas.Bool.{cases_Bool}
 use Rattle.std.proofs.lemmas.Bool.Decides.{nat_tests}
@@ -14,15 +14,6 @@ pub rows_within : (row most w ids len : ℕ) → row ≤ most → w ≡ ids → 
 rows_within row most w ids len le w_is len_is =
     let more : row + 1 ≤ most + 1 = omega arith in
     rw (len_is, w_is) (mul-le-mul_right (ids + 1) more)
-
--- a row that is within the cells is one of the rows
-pub row_below : (row most ids len : ℕ) → (row + 1) * (ids + 1) ≤ len → len ≡ (most + 1) * (ids + 1) → row < most + 1
-row_below row most ids len within len_is = grind (arith, row_more (most + 1) (ids + 1), mul-le-mul_right)
-
-pub zeros : (n i : ℕ) → ◌≡◌ {A = ℕ} (get_or (replicate n 0) i 0) 0
-zeros zero i = refl
-zeros (suc n) zero = refl
-zeros (suc n) (suc i) = zeros n i
 
 pub cond_one : (b : Bool) → cond b 1 0 ≤ 1
 cond_one b = grind (arith, cases_Bool b)

@@ -44,7 +44,7 @@ window_before k m a b window is below_a below_b other lacks_a lacks_b =
     }
 
 -- the first two identifiers of a window moved to its end, in either order
-push_two : (k m a b : ℕ) (z : List ℕ) → IsWindow k m z → a < m → b < m → is_used z a ≡ false → is_used z b ≡ false → a ≢ b
+pub push_two : (k m a b : ℕ) (z : List ℕ) → IsWindow k m z → a < m → b < m → is_used z a ≡ false → is_used z b ≡ false → a ≢ b
     → IsWindow (suc (suc k)) m (z ++ a ∷ b ∷ [])
 push_two k m a b z is in_a in_b free_a free_b other =
     let free : is_used (z ++ a ∷ []) b ≡ false = rw (list_any-append (λ w. eqb w b) z (a ∷ []), free_b, ne_eqb a b other) refl in

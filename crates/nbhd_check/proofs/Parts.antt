@@ -1,7 +1,8 @@
 -- Parts of equal length, of which the last can be shorter.
-use Rattle.std.proofs.Common.{◌≡◌, ℕ, ◌+◌, ◌*◌, ◌/◌, ◌<◌, ◌≤◌, ap, arith, ⊎_elim}
+use Rattle.std.proofs.Common.{ℕ, ◌+◌, ◌*◌, ◌/◌, ◌<◌, ◌≤◌, arith, ⊎_elim}
 use Rattle.std.proofs.Math.Nat.{mul-le-mul_right, mul_comm, div-lt_iff_lt-mul, div-mul-le_self, lt-div-mul-add}
 use Rattle.std.proofs.lemmas.Grind.{div_ceil_times}
+use Rattle.std.proofs.lemmas.Nat.{rows}
 use Rattle.std.specs.Int.{div_ceil}
 use Rattle.std.proofs.lemmas.Bool.{cases_lt}
 use Rattle.nbhd_check.proofs.Cells.{row_more}
@@ -36,10 +37,4 @@ in_part count parts k some lt =
     }
 
 pub quotient_below : (n k count : ℕ) → n < count * k → n / k < count
-quotient_below n k count lt =
-    ⊎_elim
-    (λ (some : 0 < k). (div-lt_iff_lt-mul some).1 lt)
-    (λ (none : k ≤ 0).
-    let zero : k ≡ 0 = omega arith in
-    absurd (omega (arith, lt, ap (λ j. count * j) zero)))
-    (cases_lt 0 k)
+quotient_below n k count lt = grind (arith, rows)

@@ -1,14 +1,14 @@
 -- Windows of one identifier: each other identifier can be next to it and at distance two.
-use Rattle.std.proofs.Common.{◌≡◌, ◌≢◌, ℕ, zero, suc, ◌+◌, ◌*◌, ◌<◌, ◌≤◌, max, List, [], ◌∷◌, length, get_or, take, drop, subst, sym, ap, ◌∙◌, arith, refl, inl, ⊎_elim}
-use Rattle.std.proofs.lemmas.List.Elements.{All-nil, All-cons}
-use Rattle.std.proofs.lemmas.List.Kept.{AllPairs-cons}
+use Rattle.std.proofs.Common.{◌≡◌, ℕ, zero, suc, ◌+◌, ◌*◌, ◌<◌, ◌≤◌, max, List, [], ◌∷◌, length, get_or, take, drop, subst, sym, ap, ◌∙◌, arith, refl, inl, ⊎_elim}
 use Rattle.win_index.specs.Arcs.{part_at}
 use Rattle.win_index.specs.Windows.{IsWindow}
+use Rattle.win_index.proofs.FrontPlaces.{slice_window}
 use Rattle.channel_tables.specs.Tables.{ChannelTable, channel_of}
 use Rattle.channel_tables.specs.declared.separation.Separation.{Separation}
 use Rattle.nbhd_check.specs.Apart.{AreClose, IsBad}
 use Rattle.nbhd_check.specs.Runs.{BeginsBadTuple}
-use Rattle.nbhd_check.proofs.Close.{closer, two_of_far}
+use Rattle.nbhd_check.proofs.Close.{close_along, closer, two_of_far}
+use Rattle.nbhd_check.proofs.Ends.{push_two}
 
 one_at : (i : ℕ) (list : List ℕ) → i < length list → take 1 (drop i list) ≡ get_or list i 0 ∷ []
 one_at i [] lt = absurd (omega arith)
@@ -30,20 +30,8 @@ pair t s i tuple none some lt is close =
     let list = x ∷ y ∷ [] in
     let own_first : part_at t.rounds 0 list ≡ x ∷ [] = ap (λ n. take n list) one in
     let own_second : part_at t.rounds 1 list ≡ y ∷ [] = ap (λ n. take n (y ∷ [])) one in
-    let is_pair : IsWindow 2 t.ids list = record {
-      size = refl;
-      below = All-cons (λ v. v < t.ids) x (y ∷ []) (is.below 0 0 (omega arith)) (All-cons (λ v. v < t.ids) y [] (is.below i 0 lt) (All-nil (λ v. v < t.ids)));
-      distinct = AllPairs-cons (λ a b. a ≢ b) x (y ∷ []) (All-cons (λ v. x ≢ v) y [] (is.distinct 0 i 0 (omega arith) lt) (All-nil (λ v. x ≢ v))) (single y);
-    } in (
-      list,
-      subst (λ k. IsWindow k t.ids list) two is_pair,
-      own_first ∙ sym first,
-      inl (subst (λ w. AreClose (max s.near s.far) (channel_of t w) (channel_of t (part_at t.rounds 1 list))) (first ∙ sym own_first)
-          (subst (λ w. AreClose (max s.near s.far) (channel_of t (part_at t.rounds 0 tuple)) (channel_of t w)) (second ∙ sym own_second) close)),
-    )
-  where
-    single : (y : ℕ) (i j d : ℕ) → i < j → j < 1 → get_or (y ∷ []) i d ≢ get_or (y ∷ []) j d
-    single y i j d order within = absurd (omega arith)
+    let is_pair = push_two 0 t.ids x y [] (slice_window t.ids (length tuple) 0 0 tuple is (omega arith)) (is.below 0 0 (omega arith)) (is.below i 0 lt) refl refl (is.distinct 0 i 0 (omega arith) lt) in
+    (list, rw (← two) is_pair, own_first ∙ sym first, inl (close_along (max s.near s.far) (ap (channel_of t) (first ∙ sym own_first)) (ap (channel_of t) (second ∙ sym own_second)) close))
 
 -- a window that begins a bad tuple begins one with a close second window, for the greater distance
 pub bad_next : (t : ChannelTable) (s : Separation) (window : List ℕ) → t.rounds ≡ 0 → BeginsBadTuple t s window

@@ -6,7 +6,6 @@ ghost use Rattle.win_index.specs.Windows.{IsWindow};
 ghost use Rattle.channel_tables.specs.Tables.{windows_of};
 ghost use Rattle.nbhd_check.specs.Counts.{held_count, shared_len, AreCells, AreCountsOf, AreSums, CountsFit, IsFamily};
 
-use crate::laws::numbers_of_windows;
 use crate::search::window_count;
 use channel_tables::Table;
 use node_program::OutOfMemory;
@@ -125,7 +124,6 @@ fn count_cells(table: &Table, shared: &[u32], limit: u32, cells: &mut [u32])
     requires limit { All (λ channel. channel < limit) table.now.entries }
     ensures { (first : ℕ) × ((count : ℕ) × (IsFamily table.now shared.now first count × AreSums table.now first count cells.new)) }
 {
-    numbers_of_windows();
     let shape = table.shape();
     let others = shape.ids() - shared.len() as u32;
     let count = others * (others - 1);

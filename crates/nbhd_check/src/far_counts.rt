@@ -13,7 +13,6 @@ ghost use Rattle.nbhd_check.specs.FarSearch.{AreFarFreeIn, ArePairNumbers, HasFa
 ghost use Rattle.nbhd_check.specs.Runs.{AreFree, BeginsFarTuple};
 
 use crate::counts::{Counts, close_count, count_family};
-use crate::laws::numbers_of_windows;
 use crate::parallel::{least_of_parts, part_count};
 use crate::search::window_count;
 use crate::tuples::contains;
@@ -21,7 +20,7 @@ use channel_tables::Table;
 use std::alloc::Global;
 use std::sync::atomic::{AtomicU32, Ordering};
 use std::thread::Threads;
-use win_index::{MAX_WINDOW_LEN, count_of_windows, place_among_unused};
+use win_index::{MAX_WINDOW_LEN, place_among_unused};
 
 /// The search for windows that begin a tuple whose third window is closer than `distance`, which is
 /// at least 1. All channels are below `limit`.
@@ -48,7 +47,6 @@ impl<'a> FarCounts<'a> {
         ensures less { result ≤ most }
         ensures free { AreFree self.entry.table.now (BeginsFarTuple self.entry.table.now self.entry.distance) 0 result }
     {
-        numbers_of_windows();
         let families = family_count(self.table);
         let parts = part_count(window_count(self.table), threads);
         let each = families.div_ceil(parts);
@@ -119,7 +117,6 @@ fn windows_per_pair(table: &Table) -> u32
     ensures value { result ≡ falling (table.now.ids - 2) (shared_len table.now) }
     ensures few { result ≤ length (windows_of table.now) }
 {
-    count_of_windows();
     let ids = table.shape().ids();
     window_count(table) / (ids * (ids - 1))
 }
@@ -162,7 +159,6 @@ impl<'b> Family<'b> {
         ensures less { result ≤ least }
         ensures free { AreFarFreeIn self.entry.table.now self.entry.distance result (λ window. drop 2 window ≡ self.entry.shared.now) }
     {
-        numbers_of_windows();
         let mut least = least;
         for first in 0..self.table.shape().ids() {
             least = self.free_with_first(first, least);
@@ -177,7 +173,6 @@ impl<'b> Family<'b> {
         ensures less { result ≤ least }
         ensures free { AreFarFreeIn self.entry.table.now self.entry.distance result (λ window. (slice_index window 0 ≡ first) × (drop 2 window ≡ self.entry.shared.now)) }
     {
-        numbers_of_windows();
         if contains(self.shared, first) {
             return least;
         }
@@ -225,7 +220,6 @@ impl<'b> Family<'b> {
             (first ∷ (second + 1) ∷ self.entry.shared.now)
             → ArePairNumbers self.entry.table.now self.entry.shared.now first (second + 1) result }
     {
-        numbers_of_windows();
         let free = self.table.shape().ids() - self.shared.len() as u32;
         PairNumbers {
             before: numbers.before + self.each,
@@ -257,7 +251,6 @@ impl<'b> Family<'b> {
         requires { IsWindow (2 * self.table.now.rounds + 1) self.table.now.ids (self.shared.now ++ one ∷ other ∷ []) }
         ensures { slice_get (windows_of self.entry.table.now) result ≡ Some (self.entry.shared.now ++ one ∷ other ∷ []) }
     {
-        numbers_of_windows();
         let free = self.table.shape().ids() - self.shared.len() as u32;
         let place = place_among_unused(self.shared, one);
         let next = place_among_unused(self.shared, other) - u32::from(one < other);
@@ -272,7 +265,6 @@ impl<'b> Family<'b> {
         ensures less { result ≤ least }
         ensures free { AreFarFreeIn self.entry.table.now self.entry.distance result (λ window. window ≡ first ∷ second ∷ self.entry.shared.now) }
     {
-        numbers_of_windows();
         if numbers.before < least && self.may_begin_far_tuple(first, second, numbers) {
             numbers.before
         } else {
@@ -288,7 +280,6 @@ impl<'b> Family<'b> {
         requires ids { (first < self.table.now.ids) × (second < self.table.now.ids) }
         ensures { OnFalse result (¬ BeginsFarTuple self.entry.table.now self.entry.distance (first ∷ second ∷ self.entry.shared.now)) }
     {
-        numbers_of_windows();
         let Family {
             table,
             distance,

@@ -5,7 +5,6 @@ ghost use Rattle.nbhd_check.specs.Runs.{AreFree, BeginsBadTuple};
 ghost use Rattle.nbhd_check.specs.Searches.{IsLeastOfAll};
 
 use crate::far::far_free_windows;
-use crate::laws::numbers_of_windows;
 use crate::near::near_free_windows;
 use crate::scan::TupleScan;
 use crate::search::{free_windows, window_count};
@@ -60,7 +59,6 @@ fn least_from(tuples: Tuples, first: u32) -> Option<u64>
     requires { AreFree tuples.table.now (BeginsBadTuple tuples.table.now tuples.separation) 0 first }
     ensures { IsLeastOfAll tuples.entry.table.now tuples.entry.separation result }
 {
-    numbers_of_windows();
     let count = tuples.count();
     let low = u64::from(first) * tuples.per_window();
     tuples.least_bad(low.min(count), count)

@@ -1,5 +1,4 @@
 //! The judge's calls, and its verdict.
-use crate::laws::tuples_suffice;
 use crate::least::least_of_all;
 use crate::tuples::Tuples;
 use channel_tables::{Separation, Table};
@@ -7,7 +6,7 @@ use node_program::OutOfMemory;
 use rayon::current_num_threads;
 use std::alloc::Global;
 use std::thread::Threads;
-use win_index::{MAX_TUPLE_LEN, tuples_are_rings};
+use win_index::MAX_TUPLE_LEN;
 
 /// The verdict of the judge.
 #[derive(Debug, PartialEq, Eq, Drop)]
@@ -69,7 +68,6 @@ pub fn judge_with_workers<R: Threads + Sync>(
     ensures yes { IfOk result (λ verdict. (verdict ≡ Verdict.Yes) ↔ IsApartEverywhere table.now separation) }
     ensures memory { OnErr result (¬ IsApartEverywhere table.now separation) }
 {
-    tuples_suffice();
     let tuples = Tuples { table, separation };
     match least_of_all(rt, alloc, tuples, workers) {
         None => Ok(Verdict::Yes),
@@ -85,8 +83,6 @@ fn no(alloc: Global, tuples: Tuples, number: u64) -> Result<Verdict, OutOfMemory
     ensures yes { IfOk result (λ verdict. (verdict ≡ Verdict.Yes) ↔ IsApartEverywhere tuples.entry.table.now tuples.entry.separation) }
     ensures memory { OnErr result (¬ IsApartEverywhere tuples.entry.table.now tuples.entry.separation) }
 {
-    tuples_suffice();
-    tuples_are_rings();
     let mut cells = [0; MAX_TUPLE_LEN];
     let tuple = &mut cells[..tuples.len()];
     tuples.write(number, tuple);

@@ -1,6 +1,7 @@
 use Rattle.std.proofs.Common.{◌≡◌, ℕ, ◌+◌, ◌-◌, ◌*◌, ◌/◌, ◌<◌, ap, ◌∙◌, arith, refl}
 use Rattle.std.proofs.Math.Nat.{mul-div_cancel_left}
 use Rattle.win_index.specs.Falling.{falling}
+use Rattle.win_index.proofs.Numbers.{length-windows}
 use Rattle.nbhd_check.specs.Counts.{shared_len}
 use Rattle.nbhd_check.proofs.FarFree.{some_product}
 use Rattle.nbhd_check.proofs.RunLengths.{falling-add, falling_two}
@@ -16,5 +17,5 @@ returns-clause-value c =
     let some : 0 < m * (m - 1) = some_product m (m - 1) (omega arith) (omega arith) in
     let size : 2 * t.rounds + 1 ≡ 2 + shared_len t = omega (arith, c.requires) in
     let all : c.window_count.result ≡ m * (m - 1) * each =
-    c.window_count.ensures.value ∙ rw (size, c.count_of_windows.ensures (2 + shared_len t) t.ids, falling-add t.ids 2 (shared_len t), falling_two t.ids, ids_is) refl in
+    c.window_count.ensures.value ∙ rw (size, length-windows (2 + shared_len t) t.ids, falling-add t.ids 2 (shared_len t), falling_two t.ids, ids_is) refl in
     ap (λ n. n / (m * (m - 1))) all ∙ mul-div_cancel_left each some
