@@ -1,20 +1,21 @@
 -- Windows and the windows that they begin with.
-use Rattle.std.proofs.Common.{◌≡◌, ℕ, suc, ◌+◌, ◌-◌, ◌*◌, ◌/◌, ◌%◌, ◌<◌, ◌≤◌, List, get_or, take, drop, slice_get, Some, sym, ap, ◌∙◌, arith, add-one, refl, ⊎_elim, length-drop, Bool, true, false, length}
+use Rattle.std.proofs.Common.{[], ◌∷◌, ◌++◌, false, get_or, length-drop, length, get_or-drop, ◌≡◌, ℕ, ◌+◌, ◌-◌, ◌*◌, ◌/◌, ◌%◌, ◌<◌, ◌≤◌, List, get_or, take, drop, slice_get, Some, sym, ap, ◌∙◌, arith, refl, ⊎_elim, length-drop, Bool, true, false, length}
 use Rattle.std.proofs.Math.Nat.{mod-lt}
-use Rattle.std.proofs.lemmas.Nat.{div-add-mod', div-mul-add, mod-mul-add, same_from_place}
+use Rattle.std.proofs.lemmas.Nat.{div-add-mod', same_from_place}
 use Rattle.std.proofs.lemmas.Bool.{cases_lt, OnTrue_at, OnFalse_at}
-use Rattle.std.proofs.lemmas.List.{drop-take, take_all, take-take}
+use Rattle.std.proofs.lemmas.List.{drop-take, take_all, take_more, take-take}
 use Rattle.win_index.specs.Arcs.{part_at}
 use Rattle.std.proofs.lemmas.Option.{slice_get_within}
 use Rattle.win_index.specs.Falling.{falling}
 use Rattle.win_index.specs.Runs.{IsReplacedByRun}
 use Rattle.win_index.specs.Successor.{IsReplaced}
-use Rattle.win_index.specs.Windows.{unused, windows, IsWindow}
+use Rattle.win_index.specs.Windows.{is_used, unused, windows, IsWindow}
 use Rattle.win_index.proofs.FrontPlaces.{slice_window}
 use Rattle.win_index.proofs.Numbers.{length-windows, windows_all, one_place}
 use Rattle.win_index.proofs.Positions.{window_place}
-use Rattle.win_index.proofs.RunPrefixNumbers.{prefix_number, shorter_number}
+use Rattle.win_index.proofs.RunPrefixNumbers.{prefix_number}
 use Rattle.win_index.proofs.RunStarts.{longer_number}
+use Rattle.win_index.proofs.Unused.{lacks_differs, lacks_from_differs, unused_at}
 use Rattle.channel_tables.specs.Tables.{ChannelTable, windows_of}
 use Rattle.nbhd_check.specs.Laws.{WindowsAreNumbered}
 use Rattle.nbhd_check.proofs.RunLengths.{falling-add}
@@ -32,6 +33,21 @@ pub window_drop : (k m j : ℕ) (list : List ℕ) → IsWindow (j + k) m list �
 window_drop k m j list is =
     let size = is.size in
     rw (take_all k (drop j list) (omega (arith, length-drop j list))) at (slice_window m (j + k) j k list is (omega arith))
+
+-- a window is its first identifiers and its last one
+pub whole_list : (k m : ℕ) (window : List ℕ) → IsWindow (k + 1) m window → take k window ++ get_or window k 0 ∷ [] ≡ window
+whole_list k m window is =
+    let size = is.size in
+    sym (take_more window k 0 (omega arith)) ∙ take_all (k + 1) window (omega arith)
+
+-- an identifier that a list lacks is counted below each greater one
+pub rank_rises : (list : List ℕ) (x y : ℕ) → is_used list x ≡ false → x < y → length (unused x list) < length (unused y list)
+rank_rises list x y free lt = slice_get_within (unused y list) (length (unused x list)) x (unused_at list y x lt free)
+
+-- what a list lacks, its last elements lack
+pub lacks_drop : (n x : ℕ) (list : List ℕ) → is_used list x ≡ false → is_used (drop n list) x ≡ false
+lacks_drop n x list free =
+    lacks_from_differs (drop n list) x (λ i lt e. lacks_differs list x free (n + i) 0 (omega (arith, length-drop n list)) (sym (get_or-drop n list i 0) ∙ e))
 
 -- a number is at one index of one run
 pub one_run : (c place rest number n : ℕ) → rest < c → n ≡ place * c + rest → number * c ≤ n → n < number * c + c → place ≡ number
@@ -53,31 +69,35 @@ pub record InLongerRun (k m more n : ℕ) (longer : List ℕ) : Type 0 where
   pub inside : rest < falling (m - k) more
   pub number_is : n ≡ number * falling (m - k) more + rest
 
+-- a window without its last identifier
+pub run_of : (k m n : ℕ) (longer : List ℕ) → slice_get (windows (k + 1) m) n ≡ Some longer → InRun k m n longer
+run_of k m n longer at' =
+    let own = windows_all (k + 1) m n longer at' in
+    let front = window_place k m (take k longer) (window_take (k + 1) m k longer (omega arith) own) in
+    let numbered = longer_number k m front.0 longer own front.1 in
+    record {
+      is = own;
+      number = front.0;
+      front_at = front.1;
+      inside = numbered.0;
+      number_is = one_place (k + 1) m n (front.0 * (m - k) + place_of_last k longer) longer at' numbered.1;
+    }
+
 -- the window at a place of a run
 pub at_place_of_run :
     (k m run place : ℕ) (window : List ℕ) → place < m - k → slice_get (windows (k + 1) m) (run * (m - k) + place) ≡ Some window
     → (slice_get (windows k m) run ≡ Some (take k window)) × (place_of_last k window ≡ place)
 at_place_of_run k m run place window lt at' =
-    let next : k + 1 ≡ suc k = add-one k in
-    let parts = shorter_number k m (run * (m - k) + place) window (rw next at at') in
-    (rw (div-mul-add run (m - k) place lt) at parts.0, rw (mod-mul-add run (m - k) place lt) at (sym parts.1))
+    let own = run_of k m (run * (m - k) + place) window at' in
+    let same = same_from_place run place own.number (place_of_last k window) (m - k) lt own.inside own.number_is in
+    (rw same.0 own.front_at, sym same.1)
 
 module _ (laws : WindowsAreNumbered) where
   pub window_at : (k m n : ℕ) (window : List ℕ) → slice_get (windows k m) n ≡ Some window → IsWindow k m window
   window_at k m n window at' = windows_all k m n window at'
 
   pub in_run : (k m n : ℕ) (longer : List ℕ) → slice_get (windows (k + 1) m) n ≡ Some longer → InRun k m n longer
-  in_run k m n longer at' =
-      let own = windows_all (k + 1) m n longer at' in
-      let front = window_place k m (take k longer) (window_take (k + 1) m k longer (omega arith) own) in
-      let numbered = longer_number k m front.0 longer own front.1 in
-      record {
-        is = own;
-        number = front.0;
-        front_at = front.1;
-        inside = numbered.0;
-        number_is = one_place (k + 1) m n (front.0 * (m - k) + place_of_last k longer) longer at' numbered.1;
-      }
+  in_run k m n longer at' = run_of k m n longer at'
 
 -- a longer window is in the run of the window of k identifiers that it begins with
 pub in_longer_run : (k m more n : ℕ) (longer : List ℕ) → slice_get (windows (k + more) m) n ≡ Some longer → InLongerRun k m more n longer

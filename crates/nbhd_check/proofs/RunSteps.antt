@@ -6,7 +6,6 @@ use Rattle.std.proofs.lemmas.Option.{same_Some, slice_get-get_or}
 use Rattle.win_index.specs.Laws.{CountOfWindows}
 use Rattle.win_index.specs.Runs.{IsReplacedByRun, IsEndOfSame}
 use Rattle.win_index.specs.Windows.{windows}
-use Rattle.win_index.proofs.LaterPlaces.{counted}
 use Rattle.win_index.proofs.Numbers.{windows_all}
 use Rattle.win_index.proofs.Positions.{free_at}
 use Rattle.win_index.proofs.RunStarts.{longer_number, run_start_is}
@@ -15,7 +14,7 @@ use Rattle.channel_tables.specs.Tables.{ChannelTable, windows_of}
 use Rattle.nbhd_check.specs.Laws.{WindowsAreNumbered}
 use Rattle.nbhd_check.specs.Runs.{wide}
 use Rattle.nbhd_check.proofs.Cells.{row_more}
-use Rattle.nbhd_check.proofs.Prefixes.{at_place_of_run}
+use Rattle.nbhd_check.proofs.Prefixes.{at_place_of_run, rank_rises}
 
 -- the first identifiers of a run's first window
 front_of_first : (t : ChannelTable) (run : ℕ) (window : List ℕ) → slice_get (windows_of t) (run * wide t) ≡ Some window
@@ -54,7 +53,7 @@ module _ (laws : WindowsAreNumbered) (t : ChannelTable) (run : ℕ) (old : List 
               let numbered = longer_number k m run longer larger (own.0 ∙ ap Some (sym (take-set last k y))) in
               let inside = rw (get_or-set_same last k y 0 (omega arith), take-set last k y) at numbered.0 in
               ⊎_elim
-              (λ (lt : x < y). absurd (omega (arith, counted (take k last) x y (free_at last k is.distinct (omega arith)) lt, inside, place)))
+              (λ (lt : x < y). absurd (omega (arith, rank_rises (take k last) x y (free_at last k is.distinct (omega arith)) lt, inside, place)))
               (λ (le : y ≤ x). le)
               (cases_lt x y));
         },

@@ -1,5 +1,5 @@
 -- The second windows after the windows of a run.
-use Rattle.std.proofs.Common.{◌≡◌, ◌≢◌, ℕ, suc, ◌+◌, ◌*◌, ◌<◌, ◌≤◌, false, cond, nat_lt, List, [], ◌∷◌, ◌++◌, length, get_or, take, drop, slice_get, Some, subst, sym, ap, ◌∙◌, arith, refl, length-drop}
+use Rattle.std.proofs.Common.{◌≡◌, ◌≢◌, ℕ, ◌+◌, ◌*◌, ◌<◌, ◌≤◌, false, cond, nat_lt, List, [], ◌∷◌, ◌++◌, length, get_or, take, drop, slice_get, Some, subst, sym, ap, ◌∙◌, arith, refl, length-drop}
 use Rattle.std.proofs.Math.Nat.{mul-le-mul_left}
 use Rattle.std.proofs.lemmas.Bool.Decides.{nat_tests}
 use Rattle.std.proofs.lemmas.List.{get_or-take, get_or-drop, length-take-le}
@@ -8,20 +8,18 @@ use Rattle.std.specs.Int.{abs_diff}
 use Rattle.win_index.specs.Laws.{CountOfWindows}
 use Rattle.win_index.specs.Runs.{IsRunStart}
 use Rattle.win_index.specs.Windows.{is_used, unused, windows, IsWindow}
-use Rattle.win_index.proofs.LaterPlaces.{counted}
 use Rattle.win_index.proofs.Numbers.{windows_all}
 use Rattle.win_index.proofs.FrontPlaces.{slice_window}
 use Rattle.win_index.proofs.Positions.{free_at as free_before}
-use Rattle.win_index.proofs.RunPrefixNumbers.{whole_list}
 use Rattle.win_index.proofs.RunStarts.{run_start_is}
-use Rattle.win_index.proofs.Unused.{IsDistinct, distinct_head, distinct_tail, lacks_differs, lacks_from_differs, length-unused, unused_at, unused_at_end, unused_in_front}
+use Rattle.win_index.proofs.Unused.{IsDistinct, distinct_head, distinct_tail, lacks_differs, length-unused, unused_at, unused_at_end, unused_in_front}
 use Rattle.channel_tables.specs.Tables.{ChannelTable, windows_of}
 use Rattle.nbhd_check.specs.declared.near.SecondRuns.{SecondRuns}
 use Rattle.nbhd_check.specs.Laws.{WindowsAreNumbered}
 use Rattle.nbhd_check.specs.Masks.{NoneClose}
 use Rattle.nbhd_check.specs.Runs.{SecondRunsOf, second_run, second_gap, wide, AreFree, BeginsBadTuple, HasCloseOutside}
 use Rattle.nbhd_check.proofs.Suffixes.{number_of_next, run_within}
-use Rattle.nbhd_check.proofs.Prefixes.{at_place_of_run, window_drop}
+use Rattle.nbhd_check.proofs.Prefixes.{at_place_of_run, lacks_drop, rank_rises, whole_list, window_drop}
 use Rattle.nbhd_check.proofs.Runs.{first_is_free, none_close_after}
 
 -- the number of identifiers below x that the list lacks
@@ -36,8 +34,8 @@ shifted : (list : List ℕ) (y x : ℕ) → IsDistinct (y ∷ list) → is_used 
 shifted list y x distinct free other =
     let front = unused_in_front y x list distinct in
     let end = unused_at_end y x list (distinct_tail y list distinct) free in
-    let after = counted list y x (distinct_head y list distinct) in
-    let before = counted list x y free in
+    let after = rank_rises list y x (distinct_head y list distinct) in
+    let before = rank_rises list x y free in
     (grind (arith, nat_tests, front, after, before), grind (arith, nat_tests, front, end, after, before))
 
 -- the same for a list and its last identifiers
@@ -46,10 +44,7 @@ shifted_front : (front : List ℕ) (x : ℕ) → 1 ≤ length front → IsDistin
     × (rank (drop 1 front) (get_or front 0 0) ≡ rank (drop 1 (front ++ x ∷ [])) (get_or front 0 0) + cond (nat_lt (rank front x) (rank (drop 1 front) (get_or front 0 0))) 1 0)
 shifted_front [] x long distinct free = absurd (omega arith)
 shifted_front (y ∷ list) x long distinct free =
-    shifted list y x distinct (rest_lacks y x list free) (λ e. lacks_differs (y ∷ list) x free 0 0 (omega arith) (sym e))
-  where
-    rest_lacks : (y x : ℕ) (list : List ℕ) → is_used (y ∷ list) x ≡ false → is_used list x ≡ false
-    rest_lacks y x list free = lacks_from_differs list x (λ k lt. lacks_differs (y ∷ list) x free (suc k) 0 (omega arith))
+    shifted list y x distinct (lacks_drop 1 x (y ∷ list) free) (λ e. lacks_differs (y ∷ list) x free 0 0 (omega arith) (sym e))
 
 -- where the second windows after one window of a run are
 second_at : (t : ChannelTable) (runs : SecondRuns) (place : ℕ) (window : List ℕ) → SecondRunsOf t runs → place < wide t

@@ -1,23 +1,22 @@
 -- The numbers of windows, as identifiers are added at the end or one is replaced by the next one.
-use Rattle.std.proofs.Common.{◌≡◌, ◌≢◌, ℕ, zero, suc, ◌+◌, ◌-◌, ◌*◌, ◌/◌, ◌<◌, ◌≤◌, false, cond, nat_lt, List, [], ◌∷◌, ◌++◌, count_by, length, get_or, set, take, slice_get, Some, sym, ap, ◌∙◌, arith, add-one, refl, length-append}
+use Rattle.std.proofs.Common.{◌≡◌, ◌≢◌, ℕ, zero, suc, ◌+◌, ◌-◌, ◌*◌, ◌<◌, ◌≤◌, false, cond, nat_lt, List, [], ◌∷◌, ◌++◌, count_by, length, get_or, set, take, slice_get, Some, sym, ap, ◌∙◌, arith, refl, length-append}
 use Rattle.std.proofs.Math.Nat.{add-mul}
 use Rattle.std.proofs.Math.Seq.{get_or-append_seam, set-append_seam, take-append_seam, take-set-lt}
 use Rattle.std.proofs.lemmas.Bool.Decides.{nat_tests}
 use Rattle.std.proofs.lemmas.List.{append_assoc, get_or-set_same, get_or-set_other, get_or-take, length_push, take_all, take-set, take-take}
 use Rattle.std.proofs.lemmas.List.Sums.{sum_by-set}
-use Rattle.std.proofs.lemmas.Nat.{div-add-mod'}
 use Rattle.win_index.specs.Falling.{falling}
 use Rattle.win_index.specs.Windows.{is_used, unused, windows, IsWindow}
 use Rattle.win_index.proofs.FrontPlaces.{slice_window}
 use Rattle.win_index.proofs.Numbers.{window_step, windows_all}
 use Rattle.win_index.proofs.Positions.{free_at, front_step}
-use Rattle.win_index.proofs.RunPrefixNumbers.{shorter_number}
-use Rattle.win_index.proofs.Unused.{IsDistinct, unused_at_end, unused_below, unused_more}
+use Rattle.win_index.proofs.Unused.{IsDistinct, unused_at_end, unused_below, unused_few}
 use Rattle.channel_tables.specs.Tables.{ChannelTable, windows_of}
 use Rattle.nbhd_check.specs.Counts.{shared_len}
 use Rattle.nbhd_check.specs.FarSearch.{ArePairNumbers}
 use Rattle.nbhd_check.specs.declared.far_counts.PairNumbers.{PairNumbers}
 use Rattle.nbhd_check.proofs.Ends.{window_moved}
+use Rattle.nbhd_check.proofs.Prefixes.{rank_rises, run_of}
 use Rattle.nbhd_check.proofs.RunLengths.{falling_one}
 
 -- the place of an identifier among those that a list lacks
@@ -36,12 +35,11 @@ same_rank list i x y lt own distinct next other =
 
 -- the number of the first j identifiers of a window, from that of one more
 front_number : (m j n : ℕ) (list : List ℕ) → slice_get (windows (j + 1) m) n ≡ Some (take (j + 1) list)
-    → (slice_get (windows j m) (n / (m - j)) ≡ Some (take j list)) × (n ≡ n / (m - j) * (m - j) + rank (take j list) (get_or list j 0))
+    → (q : ℕ) × (slice_get (windows j m) q ≡ Some (take j list)) × (n ≡ q * (m - j) + rank (take j list) (get_or list j 0))
 front_number m j n list at' =
-    let next : j + 1 ≡ suc j = add-one j in
-    let parts = shorter_number j m n (take (suc j) list) (rw next at at') in
-    let front = take-take j (suc j) list (omega arith) in
-    (rw front at parts.0, omega (arith, div-add-mod' n (m - j), rw (front, get_or-take (suc j) list j 0 (omega arith)) at parts.1))
+    let own = run_of j m n (take (j + 1) list) at' in
+    let front = take-take j (j + 1) list (omega arith) in
+    (own.number, rw front at own.front_at, rw (front, get_or-take (j + 1) list j 0 (omega arith)) at own.number_is)
 
 -- If an identifier is replaced by the next one, the number rises by that of the windows that begin with the identifiers
 -- up to it.
@@ -52,9 +50,9 @@ module _ (k m i x : ℕ) (list : List ℕ) (lt : i < k) (own : get_or list i 0 �
       let size = is.size in
       let plain : i + 1 + zero ≡ i + 1 = omega arith in
       let parts = front_number m i n list (rw plain at at') in
-      let step = front_step k m i (n / (m - i)) (set list i (x + 1)) new_is lt (parts.0 ∙ ap Some (sym (take-set list i (x + 1)))) in
-      let more = (unused_more (take i list) x).0 (rw own at (free_at list i is.distinct (omega arith))) in
-      let number : n / (m - i) * (m - i) + rank (take i list) (x + 1) ≡ n + 1 = omega (arith, rw own at parts.1, more) in
+      let step = front_step k m i parts.0 (set list i (x + 1)) new_is lt (parts.1 ∙ ap Some (sym (take-set list i (x + 1)))) in
+      let rises = rank_rises (take i list) x (x + 1) (rw own at (free_at list i is.distinct (omega arith))) (omega arith) in
+      let number : parts.0 * (m - i) + rank (take i list) (x + 1) ≡ n + 1 = omega (arith, rw own at parts.2, rises, unused_few (take i list) x 1) in
       rw plain (ap (slice_get (windows (i + 1) m)) (sym number) ∙ rw (get_or-set_same list i (x + 1) 0 (omega arith), take-set list i (x + 1)) at step)
   stepped (suc d) n within at' =
       let j : ℕ = i + 1 + d in
@@ -63,9 +61,9 @@ module _ (k m i x : ℕ) (list : List ℕ) (lt : i < k) (own : get_or list i 0 �
       let new_size = new_is.size in
       let more : i + 1 + suc d ≡ j + 1 = omega arith in
       let parts = front_number m j n list (rw more at at') in
-      let q : ℕ = n / (m - j) in
+      let q : ℕ = parts.0 in
       let fewer : ℕ = falling (m - (i + 1)) d in
-      let step = front_step k m j (q + fewer) new new_is (omega arith) (stepped d q (omega arith) parts.0) in
+      let step = front_step k m j (q + fewer) new new_is (omega arith) (stepped d q (omega arith) parts.1) in
       let kept = get_or-set_other list i j (x + 1) 0 (λ e. omega (arith, e)) in
       let front = take-set-lt j list i (x + 1) (omega arith) in
       let front_is = slice_window m k 0 j list is (omega arith) in
@@ -74,7 +72,7 @@ module _ (k m i x : ℕ) (list : List ℕ) (lt : i < k) (own : get_or list i 0 �
       let same = same_rank (take j list) i x (get_or list j 0) (omega arith) (get_or-take j list i 0 (omega arith) ∙ own) front_is.distinct new_front.distinct
       (λ e. new_is.distinct i j 0 (omega arith) (omega arith) (get_or-set_same list i (x + 1) 0 (omega arith) ∙ sym e ∙ sym kept)) in
       let number : (q + fewer) * (m - j) + rank (set (take j list) i (x + 1)) (get_or list j 0) ≡ n + fewer * (m - j) =
-      omega (arith, same, parts.1, add-mul q fewer (m - j)) in
+      omega (arith, same, parts.2, add-mul q fewer (m - j)) in
       let free : m - (i + 1) - d ≡ m - j = omega arith in
       rw (more, free) (ap (slice_get (windows (j + 1) m)) (sym number) ∙ rw (kept, front) at step)
 

@@ -9,10 +9,9 @@ use Rattle.win_index.specs.Runs.{HasPlaces, IsAtPlace, IsLastOfRun, IsRunStart, 
 use Rattle.win_index.specs.Successor.{IsNext}
 use Rattle.win_index.specs.Windows.{unused, IsWindow}
 use Rattle.win_index.specs.declared.series.RunPlaces.{RunPlaces}
-use Rattle.win_index.proofs.FrontPlaces as front
 use Rattle.win_index.proofs.Kept.{kept_rises}
 use Rattle.win_index.proofs.Numbers.{windows_all}
-use Rattle.win_index.proofs.RunPrefixNumbers.{whole_list}
+use Rattle.win_index.proofs.Positions.{free_at}
 use Rattle.win_index.proofs.Unused.{lacks}
 use Rattle.channel_tables.specs.Tables.{ChannelTable, windows_of}
 use Rattle.nbhd_check.specs.Counts.{shared_len, shared_lists, family_len}
@@ -21,7 +20,7 @@ use Rattle.nbhd_check.specs.Laws.{WindowsAreNumbered}
 use Rattle.nbhd_check.specs.Masks.{NoneClose}
 use Rattle.nbhd_check.specs.Runs.{BeginsFarTuple, wide}
 use Rattle.nbhd_check.proofs.FarFree.{all_of_families, family_is, far_third, some_product, third_in_family}
-use Rattle.nbhd_check.proofs.Prefixes.{at_place_of_run}
+use Rattle.nbhd_check.proofs.Prefixes.{at_place_of_run, lacks_drop, rank_rises, whole_list}
 use Rattle.nbhd_check.proofs.Suffixes.{family_in, number_of_third, shared_cut}
 
 -- no third window is close to the channel of a window if none of their family is
@@ -46,7 +45,13 @@ module _ (laws : WindowsAreNumbered) (t : ChannelTable) (number : ℕ) (window :
 
   -- the position is before the end
   pub place_inside : place < places.end
-  place_inside = front.place_inside (shared_len t) t.ids place places window (omega arith) own.at_place
+  place_inside =
+      let k : ℕ = shared_len t in
+      let is = own.at_place.window_is in
+      let size = is.size in
+      let x : ℕ = get_or window (k + 1) 0 in
+      let free = lacks_drop 2 x (take (k + 1) window) (free_at window (k + 1) is.distinct (omega arith)) in
+      omega (arith, rank_rises (drop 2 (take (k + 1) window)) x t.ids free (is.below (k + 1) 0 (omega arith)), own.at_place.place_is, own.at_place.run_has.end)
 
   -- the same for the next window of the run
   pub next_family : (run next : ℕ) (found : Option ℕ) → next ≡ unwrap_or found place → run * wide t ≤ number → number + 1 < run * wide t + wide t
