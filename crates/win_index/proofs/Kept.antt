@@ -54,11 +54,6 @@ kept_suc p m =
     let one : suc m - m ≡ 1 = omega arith in
     rw one at (kept_split p m (suc m) (omega arith))
 
-pub kept_more : (p : ℕ → Bool) (m : ℕ) → kept p (m + 1) ≡ kept p m ++ cond (p m) (m ∷ []) []
-kept_more p m =
-    let next : m + 1 ≡ suc m = omega arith in
-    rw next (kept_suc p m)
-
 -- after those below low comes the first one from low on
 pub kept_at :
     (p : ℕ → Bool) (low m : ℕ) → low ≤ m → slice_get (kept p m) (length (kept p low))

@@ -190,6 +190,7 @@ fn stands_in(list: &[u32], x: u32) -> bool
 
 // Returns the value at this index among those below `ids` that are not in `before`, whose elements
 // are distinct.
+#[tactic(auto, using(crate::proofs::Unused::unused_at_most, crate::proofs::Unused::unused_few))]
 pub(crate) fn nth_unused(ids: u32, before: &[u32], place: u64) -> u32
     requires distinct { AllPairs (λ a b. a ≢ b) before.now }
     requires place { place < length (unused ids before.now) }
