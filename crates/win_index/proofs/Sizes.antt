@@ -39,3 +39,6 @@ pub some_window : (k m n : ℕ) → n < length (windows k m) → k ≤ m
 some_window k m n lt =
     let at' = slice_get-get_or (windows k m) n [] lt in
     window_within k m (get_or (windows k m) n []) (windows_all k m n (get_or (windows k m) n []) at')
+
+pub no_windows : (k m : ℕ) → m < k → length (windows k m) ≡ 0
+no_windows k m more = grind (arith, some_window k m 0)

@@ -206,6 +206,7 @@ pub(crate) fn nth_unused(ids: u32, before: &[u32], place: u64) -> u32
 }
 
 // Writes the list of `len` numbers with this number into the first `len` cells.
+#[tactic(auto, using(crate::proofs::Sizes::no_windows))]
 fn write_list(ids: u32, number: u64, list: &mut [u32], len: usize)
     requires room { len ≤ length list.old }
     requires below { number < length (windows len ids) }

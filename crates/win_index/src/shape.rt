@@ -82,6 +82,7 @@ impl Shape {
 
     /// Returns the number of tuples of `2t+1+extra` identifiers, for an `extra` of 1 or 2. It is 0
     /// if the shape has fewer identifiers.
+    #[tactic(auto, using(crate::proofs::Sizes::no_windows))]
     pub fn tuples(&self, extra: u32) -> u64
         requires extra { IsExtra extra }
         ensures value { result ≡ length (windows (2 * self.now.rounds + 1 + extra) self.now.ids) }
@@ -178,6 +179,7 @@ impl Shape {
     }
 
     /// Writes the tuple with this number to the `2t+1+extra` cells of `out`.
+    #[tactic(auto, using(crate::proofs::Sizes::no_windows))]
     pub fn tuple(&self, extra: u32, number: u64, out: &mut [u32])
         requires extra { IsExtra extra }
         requires below { number < length (windows (2 * self.now.rounds + 1 + extra) self.now.ids) }

@@ -10,25 +10,10 @@ returns-then-len-eq0-clause-item t c =
 pub returns-then-len-eq0-clause-window : goal.returns-then-len-eq0-clause-window
 returns-then-len-eq0-clause-window t c = windows_all _ _ _ _ (returns-then-len-eq0-clause-item t c)
 
-pub overflow_sub-free : goal.overflow_sub-free
-overflow_sub-free t c =
-    let left = some_left c.args.len c.args.ids (c.args.len - 1) c.args.number (omega arith) c.requires.below in
-    omega (arith, c.from.ensures)
-
-pub nonzero_div-number : goal.nonzero_div-number
-nonzero_div-number t c =
-    let left = some_left c.args.len c.args.ids (c.args.len - 1) c.args.number (omega arith) c.requires.below in
-    omega (arith, c.from.ensures)
-
 pub write_list-requires : goal.write_list-requires
 write_list-requires t c =
     let front = front_below c.args.len c.args.ids (c.args.len - 1) c.args.number (omega arith) c.requires.below in
     (omega arith, (omega arith, rw c.from.ensures front))
-
-pub nonzero_rem-number : goal.nonzero_rem-number
-nonzero_rem-number t c =
-    let left = some_left c.args.len c.args.ids (c.args.len - 1) c.args.number (omega arith) c.requires.below in
-    omega (arith, c.from.ensures)
 
 pub nth_unused-requires : goal.nth_unused-requires
 nth_unused-requires t c =
