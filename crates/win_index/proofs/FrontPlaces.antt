@@ -5,6 +5,7 @@ use Rattle.std.proofs.lemmas.List.{take_all, take_more, drop-take, take-set, get
 use Rattle.std.proofs.lemmas.Nat.{div-mul-add, mod-mul-add, div-add-mod'}
 use Rattle.std.proofs.lemmas.List.Elements.{All-take, All-drop}
 use Rattle.std.proofs.lemmas.Option.{slice_get_within}
+use Rattle.win_index.specs.Runs.{IsLastOfRun}
 use Rattle.win_index.specs.Windows.{is_used, unused, windows, IsWindow}
 use Rattle.win_index.proofs.Kept.{kept_is}
 use Rattle.win_index.proofs.Numbers.{window_parts, windows_all, one_place}
@@ -26,15 +27,15 @@ pub window_front : (k l m : ℕ) (window : List ℕ) → l ≡ k + 1 → IsWindo
 window_front k l m window long is = slice_window m l 0 k window is (omega arith)
 
 -- a window with another last identifier that its prefix lacks
-pub window_with : (k l m x : ℕ) (window : List ℕ) → l ≡ k + 1 → IsWindow l m window → x < m
+pub window_with :
+    (k l m x : ℕ) (window : List ℕ) → l ≡ k + 1 → length window ≡ l → IsWindow k m (take k window) → x < m
     → is_used (take k window) x ≡ false → IsWindow l m (set window k x)
-window_with k l m x window long is below free =
-    let size = is.size in
+window_with k l m x window long size front below free =
     let inside : k < length (set window k x) = omega (arith, length-set window k x) in
     let same = take-set window k x in
     let here = get_or-set_same window k x 0 (omega arith) in
     let all = take_all (k + 1) (set window k x) (omega (arith, length-set window k x)) in
-    let made = front_more k m (set window k x) inside (rw same (window_front k l m window long is)) (rw here below)
+    let made = front_more k m (set window k x) inside (rw same front) (rw here below)
     (rw (here, same) free) in
     rw (← long) at (rw all at made)
 
@@ -60,6 +61,23 @@ shorter_number k m n list at' =
 -- the position of the identifier after the first k among those that these without the first i lack
 abbrev pub last_place : ℕ → ℕ → List ℕ → ℕ
 last_place i k window = length (unused (get_or window k 0) (drop i (take k window)))
+
+-- no identifier is larger than the last one if the prefix lacks no further one
+pub last_of_run :
+    (k l m : ℕ) (window : List ℕ) → l ≡ k + 1 → IsWindow l m window
+    → length (unused m (take k window)) ≤ last_place 0 k window + 1 → IsLastOfRun l m window
+last_of_run k l m window long is few y larger =
+    let size = is.size in
+    let last : l - 1 ≡ k = omega arith in
+    let other : IsWindow l m (set window k y) = rw last at larger in
+    let here = get_or-set_same window k y 0 (omega arith) in
+    let inside : k < length (set window k y) = omega (arith, length-set window k y) in
+    let below : y < m = rw here at (other.below k 0 inside) in
+    let free : is_used (take k window) y ≡ false =
+    rw (here, take-set window k y) at (free_at (set window k y) k other.distinct inside) in
+    let own = free_at window k is.distinct (omega arith) in
+    rw last
+    (grind (arith, counted (take k window) y m free below, counted (take k window) (get_or window k 0) y own))
 
 -- a list without its first i elements, and the front of it
 pub part_front : (i k low : ℕ) (list : List ℕ) → k ≡ i + low → take low (drop i list) ≡ drop i (take k list)

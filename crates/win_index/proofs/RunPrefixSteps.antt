@@ -1,7 +1,7 @@
 -- The prefix after a prefix.
 use Rattle.std.proofs.Common.{◌≡◌, ℕ, suc, ◌+◌, ◌-◌, ◌<◌, ◌≤◌, List, [], ◌∷◌, ◌++◌, get_or, take, slice_get, Option, Some, None, IfNone, refl, sym, subst, ◌∙◌, arith}
 use Rattle.std.proofs.lemmas.Bool.{not-true}
-use Rattle.std.proofs.lemmas.List.{take_all, take_more, take_at, get_or_push}
+use Rattle.std.proofs.lemmas.List.{take_all, take_more, take_at, set_at, get_or_push}
 use Rattle.std.proofs.lemmas.Option.{slice_get-get_or}
 use Rattle.win_index.specs.RunPrefixes.{HasNumbers, IsLonger, IsNextPrefix, IsLastPrefix, IsPrefixOfLastRun, BeginsRun}
 use Rattle.win_index.specs.Runs.{HasPlaces, IsAtPlace, IsFirstOfRun, IsLastOfRun}
@@ -11,48 +11,40 @@ use Rattle.win_index.specs.declared.run_prefix.RunPrefix.{RunPrefix}
 use Rattle.win_index.specs.declared.series.RunPlaces.{RunPlaces}
 use Rattle.win_index.proofs.Kept.{kept_is}
 use Rattle.win_index.proofs.Numbers.{push_window}
-use Rattle.win_index.proofs.Successors.{run_ends, next_front, last_of_all}
+use Rattle.win_index.proofs.Successors.{next_run, last_run}
 use Rattle.win_index.proofs.Unused.{lacks, length-unused}
 
--- the last window of a run, by its prefix and its last identifier
-module _ (k m : ℕ) (last : List ℕ) (is : IsWindow (k + 1) m last) (greatest : IsLastOfRun (k + 1) m last) where
-  whole : take k last ++ get_or last k 0 ∷ [] ≡ last
-  whole = let size = is.size in sym (take_more last k 0 (omega arith)) ∙ take_all (k + 1) last (omega arith)
-
-  -- no window is after it if no prefix is
-  pub last_of_last : IsLast k m (take k last) → IsLast (k + 1) m last
-  last_of_last none =
-      let long : suc k ≡ k + 1 = omega arith in
-      rw (long, whole) at
-      (last_of_all k m (get_or last k 0) (take k last) (run_ends (k + 1) m k last refl is greatest) none)
-
-  -- the window after it is the next prefix with the least identifier that this lacks
-  pub begins_run : (prefix next : RunPrefix) → k < m → IsNextPrefix k m prefix next →
-      HasNumbers k m (take k last) prefix → BeginsRun k m last next
-  begins_run prefix next short steps has =
-      let step = steps (take k last) has in
-      let later = step.0 in
-      let later_is = step.2.window in
-      let y : ℕ = get_or (unused m later) 0 0 in
-      let many = length-unused later m later_is.distinct later_is.below in
-      let least : slice_get (unused m later) 0 ≡ Some y =
-      slice_get-get_or (unused m later) 0 0 (omega (arith, many, later_is.size, short)) in
-      let kept = kept_is (lacks later) m 0 y least in
-      let long : suc k ≡ k + 1 = omega arith in
-      let begins = take_at later (y ∷ []) k later_is.size in
-      let end = get_or_push later y 0 k later_is.size in
-      record {
-        window = later ++ y ∷ [];
-        window_is = rw long at (push_window k m y later later_is kept.below (not-true (is_used later y) kept.passes));
-        follows = rw (long, whole) at (next_front k m (get_or last k 0) y (take k last) later
-            (run_ends (k + 1) m k last refl is greatest) step.1 least);
-        has = rw begins step.2;
-        first = rw (begins, end) least;
-      }
+-- the window after the last one of a run is the next prefix with the least identifier that this lacks
+pub begins_run :
+    (k m : ℕ) (last : List ℕ) (prefix next : RunPrefix) → IsWindow (k + 1) m last → IsLastOfRun (k + 1) m last → k < m
+    → IsNextPrefix k m prefix next → HasNumbers k m (take k last) prefix → BeginsRun k m last next
+begins_run k m last prefix next is greatest short steps has =
+    let step = steps (take k last) has in
+    let later = step.0 in
+    let later_is = step.2.window in
+    let y : ℕ = get_or (unused m later) 0 0 in
+    let many = length-unused later m later_is.distinct later_is.below in
+    let least : slice_get (unused m later) 0 ≡ Some y =
+    slice_get-get_or (unused m later) 0 0 (omega (arith, many, later_is.size, short)) in
+    let kept = kept_is (lacks later) m 0 y least in
+    let long : suc k ≡ k + 1 = omega arith in
+    let window_is = rw long at (push_window k m y later later_is kept.below (not-true (is_used later y) kept.passes)) in
+    let begins = take_at later (y ∷ []) k later_is.size in
+    let end = get_or_push later y 0 k later_is.size in
+    let whole = set_at later y [] y k later_is.size in
+    record {
+      window = later ++ y ∷ [];
+      window_is = window_is;
+      follows = rw whole at (next_run (k + 1) m k last refl is (later ++ y ∷ []) y window_is.size greatest
+          (rw begins step.1) (rw begins least));
+      has = rw begins step.2;
+      first = rw (begins, end) least;
+    }
 
 pub no_run_follows : (k m : ℕ) (prefix : RunPrefix) (o : Option RunPrefix) → IfNone o (IsLastPrefix k m prefix) →
     IfNone o (IsPrefixOfLastRun k m prefix)
-no_run_follows k m prefix None ends = λ last is greatest has. last_of_last k m last is greatest (ends (take k last) has)
+no_run_follows k m prefix None ends = λ last is greatest has.
+    last_run (k + 1) m k last refl is greatest (ends (take k last) has)
 no_run_follows k m prefix (Some next) ends = tt
 
 -- the positions for the windows of length k+1 whose prefix has these numbers
@@ -107,7 +99,7 @@ module _ {k m place : ℕ} {front : RunPrefix} {window : List ℕ} (places : Run
         rw long at (ends (k - 1) m window (omega arith) at_longer)
 
     pub no_next_run : IsLastPrefix k m front → IsLast (k + 1) m window
-    no_next_run last = last_of_last k m window is.window_is ends_run (last (take k window) is.front)
+    no_next_run last = last_run (k + 1) m k window refl is.window_is ends_run (last (take k window) is.front)
 
     pub to_next_run :
         (first : ℕ) (later : RunPrefix) (next : RunPlaces) → k < m → IsNextPrefix k m front later
@@ -116,7 +108,7 @@ module _ {k m place : ℕ} {front : RunPrefix} {window : List ℕ} (places : Run
         → IsFirstOfRun (k + 1) m window → IsAtPlace k m next window first)
         → Steps later first
     to_next_run first later next short steps next_gives at_first =
-        let got = begins_run k m window is.window_is ends_run front later short steps is.front in
+        let got = begins_run k m window front later is.window_is ends_run short steps is.front in
         let own : k ≡ k - 1 + 1 = omega arith in
         let long : k + 1 ≡ k - 1 + 2 = omega arith in
         let here = at_first (k - 1) m got.window (omega arith) (rw long at got.window_is)

@@ -9,9 +9,9 @@ use Rattle.win_index.specs.Windows.{is_used, unused, windows, IsWindow}
 use Rattle.win_index.specs.declared.series.RunPlaces.{RunPlaces}
 use Rattle.win_index.proofs.Numbers.{windows_all}
 use Rattle.win_index.proofs.Positions.{window_place, free_at}
-use Rattle.win_index.proofs.FrontPlaces.{Placed, placed, below, last_place, window_front, window_with, Part, part_apart, part_along, part_window}
+use Rattle.win_index.proofs.FrontPlaces.{Placed, placed, below, last_place, window_front, window_with, last_of_run, Part, part_apart, part_along, part_window}
 use Rattle.win_index.proofs.Kept.{kept_is}
-use Rattle.win_index.proofs.Unused.{counted, lacks, length-unused}
+use Rattle.win_index.proofs.Unused.{lacks, length-unused}
 
 -- the position, or the next one if it is a gap
 abbrev pub IsPast : ℕ → ℕ → ℕ → ℕ → Type 0
@@ -41,23 +41,6 @@ end_rank g h p q rank all end own next past first second many = grind (arith, na
 clear_of : (g p j count : ℕ) → g ≢ p → (g ≤ p) ⊎ (p + count ≤ g) → j < count →
     (g ≢ p + j) × (below g (p + j) ≡ below g p)
 clear_of g p j count differ clear lt = (grind arith, grind (arith, nat_tests))
-
--- no identifier is larger than the last one if the prefix lacks no further one
-last_of_run :
-    (k l m : ℕ) (window : List ℕ) → l ≡ k + 1 → IsWindow l m window
-    → length (unused m (take k window)) ≤ last_place 0 k window + 1 → IsLastOfRun l m window
-last_of_run k l m window long is few y larger =
-    let size = is.size in
-    let last : l - 1 ≡ k = omega arith in
-    let other : IsWindow l m (set window k y) = rw last at larger in
-    let here = get_or-set_same window k y 0 (omega arith) in
-    let inside : k < length (set window k y) = omega (arith, length-set window k y) in
-    let below : y < m = rw here at (other.below k 0 inside) in
-    let free : is_used (take k window) y ≡ false =
-    rw (here, take-set window k y) at (free_at (set window k y) k other.distinct inside) in
-    let own = free_at window k is.distinct (omega arith) in
-    rw last
-    (grind (arith, counted (take k window) y m free below, counted (take k window) (get_or window k 0) y own))
 
 pub at_place :
     {k m p : ℕ} {places : RunPlaces} {window : List ℕ} → 1 ≤ k → IsAtPlace k m places window p
@@ -105,7 +88,8 @@ module _ {k m p : ℕ} {places : RunPlaces} {window : List ℕ} (some : 1 ≤ k)
       let w = set window (k + 1) z in
       let same = take-set window (k + 1) z in
       let here = get_or-set_same window (k + 1) z 0 (omega arith) in
-      let w_is = window_with (k + 1) (k + 2) m z window (omega arith) is.window_is z_at.0 z_at.1 in
+      let front = window_front (k + 1) (k + 2) m window (omega arith) is.window_is in
+      let w_is = window_with (k + 1) (k + 2) m z window (omega arith) size front z_at.0 z_at.1 in
       let at_q = same_run w q same w_is (rw (here, same) z_at.2) in
       let whole : Part 0 (k + 1) (k + 1) (k + 2) (k + 2) = record {
         all = omega arith;

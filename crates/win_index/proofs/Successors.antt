@@ -12,6 +12,7 @@ use Rattle.win_index.specs.Successor.{IsNext, IsLast}
 use Rattle.win_index.proofs.Kept.{kept, kept_at, kept_is, kept_suc, kept_own, kept_rises}
 use Rattle.win_index.proofs.Unused.{lacks, distinct_take, length-unused, lacks_from_differs, unused_at}
 use Rattle.win_index.proofs.Positions.{window_place, free_at}
+use Rattle.win_index.proofs.FrontPlaces.{last_place, last_of_run}
 use Rattle.win_index.proofs.Numbers.{window_parts, window_from_parts, windows_all, windows_more, length-windows}
 
 -- the first number from low on that the list lacks
@@ -177,55 +178,58 @@ later_lacks last m front later lt window next =
     let own = next_is_window last m front later window next in
     omega (arith, length-unused later m own.distinct own.below, own.size)
 
--- if the prefix lacks no number after the last one, no window with this prefix has a larger one
-pub none_larger :
-    (k m last x : ℕ) (list : List ℕ) → k ≡ last + 1 → last < length list
-    → first_lacked m (take last list) (get_or list last 0 + 1) ≡ None
-    → IsWindow k m (set list last x) → x ≤ get_or list last 0
-none_larger k m last x list more lt none window =
-    let front : List ℕ = take last list in
-    let low : ℕ = get_or list last 0 + 1 in
-    let here : get_or (set list last x) last 0 ≡ x = get_or-set_same list last x 0 lt in
-    ⊎_elim
-    (λ (larger : get_or list last 0 < x).
-    let size = window.size in
-    let below : x < m = rw here at (window.below last 0 (omega arith)) in
-    let differs : (j : ℕ) → j < length front → get_or front j 0 ≢ x = λ j near same.
-    let nearer : j < last = omega (arith, length-take-le last list (omega arith)) in
-    let before : get_or (set list last x) j 0 ≡ get_or front j 0 =
-    get_or-set_other list last j x 0 (λ (e : j ≡ last). absurd (omega arith))
-    ∙ sym (get_or-take last list j 0 nearer) in
-    window.distinct j last 0 nearer (omega arith) (before ∙ same ∙ sym here) in
-    let own = slice_get_within (kept (lacks front) m) (length (kept (lacks front) x)) x
-    (kept_own (lacks front) x m below (not_from_false (is_used front x) (lacks_from_differs front x differs))) in
-    let all = none_at (kept (lacks front) m) (length (kept (lacks front) low))
-    (kept_at (lacks front) low m (omega arith) ∙ none) in
-    absurd (omega (arith, own, all, kept_rises (lacks front) low x (omega arith))))
-    (λ (within : x ≤ get_or list last 0). within)
-    (cases_lt (get_or list last 0) x)
+-- the next window of a run has the next number that the prefix lacks
+module _ (k m last : ℕ) (list : List ℕ) (more : k ≡ last + 1) (window : IsWindow k m list) where
+  next_lacked : slice_get (unused m (take last list)) (last_place 0 last list + 1)
+      ≡ first_lacked m (take last list) (get_or list last 0 + 1)
+  next_lacked =
+      let size = window.size in
+      let lt : last < length list = omega arith in
+      after m (last_place 0 last list) (get_or list last 0) (take last list)
+      (unused_at (take last list) m (get_or list last 0) (window.below last 0 lt)
+      (free_at list last window.distinct lt))
 
--- the last window with a prefix ends with the greatest number that the prefix lacks
-pub run_ends :
-    (k m last : ℕ) (list : List ℕ) → k ≡ last + 1 → IsWindow k m list → IsLastOfRun k m list
-    → first_lacked m (take last list) (get_or list last 0 + 1) ≡ None
-run_ends k m last list more window greatest =
-    let size = window.size in
-    let lt : last < length list = omega arith in
-    let before : k - 1 ≡ last = omega arith in
-    let x : ℕ = get_or list last 0 in
-    let front : List ℕ = take last list in
-    let own = unused_at front m x (window.below last 0 lt) (free_at list last window.distinct lt) in
-    elim (first_lacked m front (x + 1)) as (λ o. first_lacked m front (x + 1) ≡ o → o ≡ None) [
-      | None ↦ λ found. refl
-      | Some y ↦ λ found.
-          let whole : take k list ≡ list = take_all k list (omega arith) in
-          let whole_set : take k (set list last y) ≡ set list last y =
-          take_all k (set list last y) (omega (arith, length-set list last y)) in
-          let step : IsNext k m list (set list last y) =
-          rw (whole, whole_set) at (next_in_last_cell k m last y list more lt found) in
-          let other = next_is_window k m list (set list last y) window step in
-          let within : y ≤ x = rw before at (greatest y (rw before other)) in
-          let kept = kept_is (lacks front) m (length (unused x front) + 1) y
-          (after m (length (unused x front)) x front own ∙ found) in
-          absurd (omega (arith, kept.before, kept_rises (lacks front) y x within))
-    ] refl
+  pub next_in_run :
+      (y : ℕ) → first_lacked m (take last list) (get_or list last 0 + 1) ≡ Some y
+      → IsNext k m list (set list last y) × IsWindow k m (set list last y)
+  next_in_run y found =
+      let size = window.size in
+      let all = take_all k list (omega arith) in
+      let all_set = take_all k (set list last y) (omega (arith, length-set list last y)) in
+      let next = rw (all, all_set) at (next_in_last_cell k m last y list more (omega arith) found) in
+      (next, next_is_window k m list (set list last y) window next)
+
+  -- a window is the last of its run if its prefix lacks no number after the last one
+  pub ends_run : first_lacked m (take last list) (get_or list last 0 + 1) ≡ None → IsLastOfRun k m list
+  ends_run none = last_of_run last k m list more window (none_at _ _ (next_lacked ∙ none))
+
+  pub run_ends : IsLastOfRun k m list → first_lacked m (take last list) (get_or list last 0 + 1) ≡ None
+  run_ends greatest =
+      let before : k - 1 ≡ last = omega arith in
+      let x : ℕ = get_or list last 0 in
+      let front : List ℕ = take last list in
+      elim (first_lacked m front (x + 1)) as (λ o. first_lacked m front (x + 1) ≡ o → o ≡ None) [
+        | None ↦ λ found. refl
+        | Some y ↦ λ found.
+            let kept = kept_is (lacks front) m (length (unused x front) + 1) y (next_lacked ∙ found) in
+            let within : y ≤ x = rw before at (greatest y (rw before (next_in_run y found).1)) in
+            absurd (omega (arith, kept.before, kept_rises (lacks front) y x within))
+      ] refl
+
+  -- the window after the last one of a run is the next prefix with its least number
+  pub next_run :
+      (later : List ℕ) (y : ℕ) → length later ≡ k → IsLastOfRun k m list
+      → IsNext last m (take last list) (take last later)
+      → slice_get (unused m (take last later)) 0 ≡ Some y → IsNext k m list (set later last y)
+  next_run later y same greatest next least =
+      let size = window.size in
+      let all = take_all k list (omega arith) in
+      let all_set = take_all k (set later last y) (omega (arith, length-set later last y)) in
+      rw (all, all_set) at (next_with_later_front k m last y list later more (omega arith) (omega arith)
+      (run_ends greatest) next least)
+
+  pub last_run : IsLastOfRun k m list → IsLast last m (take last list) → IsLast k m list
+  last_run greatest none =
+      let size = window.size in
+      let all = take_all k list (omega arith) in
+      rw all at (last_with_last_front k m last list more (omega arith) (run_ends greatest) none)

@@ -9,7 +9,7 @@ returns-clause-next c =
     let short = c.run_prefixes.result.short in
     IfSome_then c.next.result (rw (size.len, size.ids) at c.next.ensures.next)
     (λ next steps last is greatest has.
-    begins_run (2 * c.args.below + 2) c.args.self.now.ids last is greatest c.args.prefix next
+    begins_run (2 * c.args.below + 2) c.args.self.now.ids last c.args.prefix next is greatest
     (omega (arith, short, size.len, size.ids)) steps has)
 
 pub returns-clause-last : goal.returns-clause-last
