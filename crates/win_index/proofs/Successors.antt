@@ -19,19 +19,22 @@ use Rattle.win_index.proofs.Numbers.{window_parts, window_from_parts, windows_al
 abbrev pub first_lacked : ℕ → List ℕ → ℕ → Option ℕ
 first_lacked m front low = find (lacks front) (range_with_len low (m - low))
 
--- the parts of a window from its prefix and last number
-pub record PartsOf (k m n : ℕ) (front : List ℕ) (x : ℕ) : Type 0 where
-  pub place : ℕ
-  pub rest : ℕ
-  pub number : n ≡ place * (m - k) + rest
-  pub front_at : slice_get (windows k m) place ≡ Some front
-  pub last_at : slice_get (unused m front) rest ≡ Some x
+-- the window in the first cells of a list, by its prefix and its last number
+record PartsOf (m last n : ℕ) (list : List ℕ) : Type 0 where
+  place : ℕ
+  rest : ℕ
+  number : n ≡ place * (m - last) + rest
+  front_at : slice_get (windows last m) place ≡ Some (take last list)
+  last_at : slice_get (unused m (take last list)) rest ≡ Some (get_or list last 0)
 
-parts_of : (k m n x : ℕ) (front : List ℕ) → slice_get (windows (suc k) m) n ≡ Some (front ++ x ∷ []) →
-    PartsOf k m n front x
-parts_of k m n x front at' =
-    let parts = window_parts k m n (front ++ x ∷ []) at' in
-    let same = same_from_push parts.front front parts.last x (sym parts.whole) in
+parts_of :
+    (k m last n : ℕ) (list : List ℕ) → k ≡ last + 1 → last < length list
+    → slice_get (windows k m) n ≡ Some (take k list) → PartsOf m last n list
+parts_of k m last n list more lt at' =
+    let old = take_more list last 0 lt in
+    let cut = rw (more, old, add-one) at at' in
+    let parts = window_parts last m n (take last list ++ get_or list last 0 ∷ []) cut in
+    let same = same_from_push parts.front (take last list) parts.last (get_or list last 0) (sym parts.whole) in
     record {
       place = parts.place;
       rest = parts.rest;
@@ -60,62 +63,6 @@ none_at [] i e = omega arith
 none_at (x ∷ xs) zero e = absurd (none-some x (sym e))
 none_at (x ∷ xs) (suc i) e = omega (arith, none_at xs i e)
 
--- the last number is followed by another that the prefix lacks
-next_here :
-    (k m x y : ℕ) (front : List ℕ) → first_lacked m front (x + 1) ≡ Some y →
-    IsNext (suc k) m (front ++ x ∷ []) (front ++ y ∷ [])
-next_here k m x y front found n at' =
-    let parts = parts_of k m n x front at' in
-    let next_at = after m parts.rest x front parts.last_at ∙ found in
-    let place : parts.place * (m - k) + (parts.rest + 1) ≡ n + 1 = omega (arith, parts.number) in
-    rw place at (window_from_parts k m parts.place (parts.rest + 1) y front parts.front_at next_at)
-
--- the last number is the greatest that the prefix lacks
-record IsAtEnd (k m n : ℕ) (front : List ℕ) : Type 0 where
-  place : ℕ
-  front_at : slice_get (windows k m) place ≡ Some front
-  number : n + 1 ≡ (place + 1) * (m - k)
-
-at_end :
-    (k m n x : ℕ) (front : List ℕ) → first_lacked m front (x + 1) ≡ None
-    → slice_get (windows (suc k) m) n ≡ Some (front ++ x ∷ [])
-    → IsAtEnd k m n front
-at_end k m n x front none at' =
-    let parts = parts_of k m n x front at' in
-    let window = windows_all k m parts.place front parts.front_at in
-    let free = length-unused front m window.distinct window.below in
-    let size = window.size in
-    let long = none_at (unused m front) (parts.rest + 1) (after m parts.rest x front parts.last_at ∙ none) in
-    let short = slice_get_within (unused m front) parts.rest x parts.last_at in
-    let full : parts.rest + 1 ≡ m - k = omega arith in
-    let turned : (parts.place + 1) * (m - k) ≡ parts.place * (m - k) + (m - k) =
-    rw add-one (suc-mul parts.place (m - k)) in
-    record {
-      place = parts.place;
-      front_at = parts.front_at;
-      number = omega (arith, parts.number);
-    }
-
--- the next prefix, with the least number that it lacks
-pub next_front :
-    (k m x y : ℕ) (front later : List ℕ) → first_lacked m front (x + 1) ≡ None → IsNext k m front later
-    → slice_get (unused m later) 0 ≡ Some y → IsNext (suc k) m (front ++ x ∷ []) (later ++ y ∷ [])
-next_front k m x y front later none next least n at' =
-    let end = at_end k m n x front none at' in
-    let number : (end.place + 1) * (m - k) + 0 ≡ n + 1 = omega (arith, end.number) in
-    rw number at (window_from_parts k m (end.place + 1) 0 y later (next end.place end.front_at) least)
-
--- there is no next prefix
-pub last_of_all :
-    (k m x : ℕ) (front : List ℕ) → first_lacked m front (x + 1) ≡ None → IsLast k m front →
-    IsLast (suc k) m (front ++ x ∷ [])
-last_of_all k m x front none last n at' =
-    let end = at_end k m n x front none at' in
-    let all = last end.place end.front_at in
-    end.number ∙ ap (λ p. p * (m - k)) all ∙ sym (rw add-one at (windows_more k m))
-
--- ---- the same for the first cells of a list
-
 -- a window without its last number
 pub shorter_window : (k m last : ℕ) (list : List ℕ) → k ≡ last + 1 → IsWindow k m (take k list) →
     IsWindow last m (take last list)
@@ -129,34 +76,61 @@ shorter_window k m last list more window =
     let whole = take-take last k list (omega arith) in
     rw whole at front
 
+-- the last number is followed by another that the prefix lacks
 pub next_in_last_cell :
     (k m last y : ℕ) (list : List ℕ) → k ≡ last + 1 → last < length list
     → first_lacked m (take last list) (get_or list last 0 + 1) ≡ Some y
     → IsNext k m (take k list) (take k (set list last y))
-next_in_last_cell k m last y list more lt found =
-    let old = take_more list last 0 lt in
-    let new = take_more_set list last y lt in
-    let step = next_here last m (get_or list last 0) y (take last list) found in
-    rw (more, old, new, add-one) step
+next_in_last_cell k m last y list more lt found n at' =
+    let parts = parts_of k m last n list more lt at' in
+    let next_at = after m parts.rest (get_or list last 0) (take last list) parts.last_at ∙ found in
+    let place : parts.place * (m - last) + (parts.rest + 1) ≡ n + 1 = omega (arith, parts.number) in
+    let made = window_from_parts last m parts.place (parts.rest + 1) y (take last list) parts.front_at next_at in
+    rw (more, take_more_set list last y lt, add-one) (rw place at made)
 
+-- the last number is the greatest that the prefix lacks
+record IsAtEnd (m last n : ℕ) (list : List ℕ) : Type 0 where
+  place : ℕ
+  front_at : slice_get (windows last m) place ≡ Some (take last list)
+  number : n + 1 ≡ (place + 1) * (m - last)
+
+at_end :
+    (k m last n : ℕ) (list : List ℕ) → k ≡ last + 1 → last < length list
+    → first_lacked m (take last list) (get_or list last 0 + 1) ≡ None
+    → slice_get (windows k m) n ≡ Some (take k list) → IsAtEnd m last n list
+at_end k m last n list more lt none at' =
+    let front = take last list in
+    let parts = parts_of k m last n list more lt at' in
+    let window = windows_all last m parts.place front parts.front_at in
+    let free = length-unused front m window.distinct window.below in
+    let size = window.size in
+    let long = none_at (unused m front) (parts.rest + 1)
+    (after m parts.rest (get_or list last 0) front parts.last_at ∙ none) in
+    let short = slice_get_within (unused m front) parts.rest (get_or list last 0) parts.last_at in
+    let full : parts.rest + 1 ≡ m - last = omega arith in
+    let turned : (parts.place + 1) * (m - last) ≡ parts.place * (m - last) + (m - last) =
+    rw add-one (suc-mul parts.place (m - last)) in
+    record { place = parts.place; front_at = parts.front_at; number = omega (arith, parts.number) }
+
+-- the next prefix, with the least number that it lacks
 pub next_with_later_front :
     (k m last y : ℕ) (list later : List ℕ) → k ≡ last + 1 → last < length list → length list ≡ length later
     → first_lacked m (take last list) (get_or list last 0 + 1) ≡ None → IsNext last m (take last list) (take last later)
     → slice_get (unused m (take last later)) 0 ≡ Some y → IsNext k m (take k list) (take k (set later last y))
-next_with_later_front k m last y list later more lt same none next least =
-    let old = take_more list last 0 lt in
-    let new = take_more_set later last y (omega arith) in
-    let step = next_front last m (get_or list last 0) y (take last list) (take last later) none next least in
-    rw (more, old, new, add-one) step
+next_with_later_front k m last y list later more lt same none next least n at' =
+    let end = at_end k m last n list more lt none at' in
+    let number : (end.place + 1) * (m - last) + 0 ≡ n + 1 = omega (arith, end.number) in
+    let made = window_from_parts last m (end.place + 1) 0 y (take last later) (next end.place end.front_at) least in
+    rw (more, take_more_set later last y (omega arith), add-one) (rw number at made)
 
+-- there is no next prefix
 pub last_with_last_front :
     (k m last : ℕ) (list : List ℕ) → k ≡ last + 1 → last < length list
     → first_lacked m (take last list) (get_or list last 0 + 1) ≡ None
     → IsLast last m (take last list) → IsLast k m (take k list)
-last_with_last_front k m last list more lt none all =
-    let old = take_more list last 0 lt in
-    let step = last_of_all last m (get_or list last 0) (take last list) none all in
-    rw (more, old, add-one) step
+last_with_last_front k m last list more lt none all n at' =
+    let end = at_end k m last n list more lt none at' in
+    rw more (end.number ∙ ap (λ p. p * (m - last)) (all end.place end.front_at) ∙ sym (windows_more last m))
 
 -- the only window of length zero is the last
 pub last_of_none : (k m : ℕ) (list : List ℕ) → k ≡ 0 → IsLast k m list
