@@ -1,30 +1,12 @@
 -- Each job is at its number and nowhere else.
-use Rattle.std.proofs.Common.{◌≡◌, ◌↔◌, ℕ, zero, suc, ◌+◌, ◌-◌, ◌<◌, ◌≤◌, Bool, true, false, eqb, List, length, get_or, slice_get, Option, Some, None, IsSome, refl, sym, ap, subst, ◌∙◌, arith, ⊎_elim}
-use Rattle.std.specs.Prelude.{◌&&◌}
-use Rattle.std.proofs.lemmas.Bool.{eqb-true, eq-eqb, lt-ltb, false_from_ne_true, false≢true, cases_lt}
-use Rattle.std.proofs.lemmas.List.Quantifiers.{position-Some}
-use Rattle.std.proofs.lemmas.List.Sums.{position_or_len_is}
-use Rattle.std.proofs.lemmas.Option.{none-some, some_pair_parts, get_or_from_slice_get, slice_get-get_or, slice_get_within}
+use Rattle.std.proofs.Common.{◌≡◌, ◌↔◌, ℕ, zero, suc, ◌+◌, ◌-◌, ◌<◌, ◌≤◌, true, eqb, List, length, slice_get, Some, None, IsSome, refl, sym, ap, subst, ◌∙◌, arith, ⊎_elim}
+use Rattle.std.proofs.lemmas.Bool.{and_parts, eqb-true, eq-eqb, cases_lt}
+use Rattle.std.proofs.lemmas.Option.{none-some, some_pair_parts, slice_get_within}
 use Rattle.win_index.specs.Blocks.{block_count}
 use Rattle.win_index.specs.Jobs.{level_jobs, jobs_of, is_job, job_number}
+use Rattle.win_index.proofs.Finding.{IsOnly, position_some, position_is, position_none, has_position}
 use Rattle.win_index.proofs.JobPlaces.{jobs_below, jobs_below_more, length-level_jobs, level_job_at, jobs_are_below, job_at}
 use Rattle.win_index.proofs.Kept.{slice_get-append_left, slice_get-append_right}
-
-both_true : (a b : Bool) → (a && b) ≡ true → (a ≡ true) × (b ≡ true)
-both_true true b e = (refl, e)
-both_true false b e = absurd (false≢true e)
-
--- the test of a job
-job_from_test : (level block : ℕ) (job : ℕ × ℕ) → is_job level block job ≡ true → job ≡ (level, block)
-job_from_test level block job e =
-    let both = both_true (eqb job.0 level) (eqb job.1 block) e in
-    λ i. (eqb-true job.0 level both.0 i, eqb-true job.1 block both.1 i)
-
-job_passes : (level block : ℕ) (job : ℕ × ℕ) → job ≡ (level, block) → is_job level block job ≡ true
-job_passes level block job e =
-    let first : eqb job.0 level ≡ true = eq-eqb job.0 level (ap (λ (p : ℕ × ℕ). p.0) e) in
-    let second : eqb job.1 block ≡ true = eq-eqb job.1 block (ap (λ (p : ℕ × ℕ). p.1) e) in
-    rw (first, second)
 
 -- the position of a block of a level among the jobs of the levels below k
 pub record StandsAt (m k level block n : ℕ) : Type 0 where
@@ -68,66 +50,45 @@ stands_at m t level block n e =
     stands_below m (t + 1) level block n (ap (λ l. slice_get l n) (sym (jobs_are_below m t (t + 1) refl)) ∙ e)
 
 -- no job occurs twice
-one_job : (m t level block i j : ℕ) → slice_get (jobs_of m t) i ≡ Some (level, block) →
-    slice_get (jobs_of m t) j ≡ Some (level, block) → i ≡ j
-one_job m t level block i j at_i at_j =
-    (stands_at m t level block i at_i).place ∙ sym (stands_at m t level block j at_j).place
-
-pub job_number_some : (m t level block n : ℕ) → job_number m t level block ≡ Some n →
-    slice_get (jobs_of m t) n ≡ Some (level, block)
-unfolding job_number
-job_number_some m t level block n e =
-    let d : ℕ × ℕ = (level, block) in
-    let at' = position-Some (is_job level block) (jobs_of m t) n d e in
-    slice_get-get_or (jobs_of m t) n d at'.0 ∙ ap Some (job_from_test level block (get_or (jobs_of m t) n d) at'.1)
-
-pub job_number_is : (m t level block n : ℕ) → slice_get (jobs_of m t) n ≡ Some (level, block) →
-    job_number m t level block ≡ Some n
-unfolding job_number
-job_number_is m t level block n at' =
-    let d : ℕ × ℕ = (level, block) in
-    let test : ℕ × ℕ → Bool = is_job level block in
-    let within = slice_get_within (jobs_of m t) n d at' in
-    let earlier : (i : ℕ) → i < n → test (get_or (jobs_of m t) i d) ≡ false = λ i lt.
-    false_from_ne_true (test (get_or (jobs_of m t) i d)) (λ h.
-    let same = job_from_test level block (get_or (jobs_of m t) i d) h in
-    let at_i = slice_get-get_or (jobs_of m t) i d (omega arith) ∙ ap Some same in
-    let equal = one_job m t level block i n at_i at' in
-    absurd (omega arith)) in
-    let own = job_passes level block (get_or (jobs_of m t) n d) (get_or_from_slice_get (jobs_of m t) n d d at') in
-    let first = position_or_len_is test (jobs_of m t) n d (omega arith) earlier (λ _. own) in
-    let found = lt-ltb n (length (jobs_of m t)) within in
-    rw (first, found)
+is_only : (m t level block : ℕ) → IsOnly (is_job level block) (jobs_of m t) (level, block)
+is_only m t level block =
+    record {
+      same = λ job. (
+        λ e. let both = and_parts (eqb job.0 level) (eqb job.1 block) e in
+            λ i. (eqb-true job.0 level both.0 i, eqb-true job.1 block both.1 i),
+        λ e. let first : eqb job.0 level ≡ true = eq-eqb job.0 level (ap (λ (p : ℕ × ℕ). p.0) e) in
+            let second : eqb job.1 block ≡ true = eq-eqb job.1 block (ap (λ (p : ℕ × ℕ). p.1) e) in
+            rw (first, second),
+      );
+      once = λ i j at_i at_j.
+          (stands_at m t level block i at_i).place ∙ sym (stands_at m t level block j at_j).place;
+    }
 
 pub number_of_job : (m t level block n : ℕ) →
     (job_number m t level block ≡ Some n) ↔ (slice_get (jobs_of m t) n ≡ Some (level, block))
-number_of_job m t level block n = (job_number_some m t level block n, job_number_is m t level block n)
+unfolding job_number
+number_of_job m t level block n = (position_some (is_only m t level block) n, position_is (is_only m t level block) n)
 
 -- a block of a level has a number
 pub job_number_at :
     (m t level block n : ℕ) → level ≤ t → block < block_count m level → n ≡ length (jobs_below m level) + block
     → job_number m t level block ≡ Some n
-job_number_at m t level block n le lt e = job_number_is m t level block n (job_at m t level block n le lt e)
+job_number_at m t level block n le lt e = (number_of_job m t level block n).1 (job_at m t level block n le lt e)
+
+block_of : (m t level block n : ℕ) → slice_get (jobs_of m t) n ≡ Some (level, block) →
+    (level ≤ t) × (block < block_count m level)
+block_of m t level block n at' =
+    let stands = stands_at m t level block n at' in
+    (omega (arith, stands.level_below), stands.block_below)
 
 pub job_number_none : (m t level block : ℕ) → ¬ ((level ≤ t) × (block < block_count m level)) →
     job_number m t level block ≡ None
-job_number_none m t level block other = none (job_number m t level block) refl
-  where
-    none : (o : Option ℕ) → job_number m t level block ≡ o → o ≡ None
-    none None e = refl
-    none (Some n) e =
-        let stands = stands_at m t level block n (job_number_some m t level block n e) in
-        absurd (other (omega (arith, stands.level_below), stands.block_below))
+unfolding job_number
+job_number_none m t level block = position_none (is_only m t level block) _ (block_of m t level block)
 
 pub has_job_number : (m t level block : ℕ) →
     IsSome (job_number m t level block) ↔ (level ≤ t) × (block < block_count m level)
-has_job_number m t level block = (
-  number (job_number m t level block) refl,
-  λ key. rw (job_number_at m t level block (length (jobs_below m level) + block) key.0 key.1 refl) refl,
-)
-  where
-    number : (o : Option ℕ) → job_number m t level block ≡ o → IsSome o → (level ≤ t) × (block < block_count m level)
-    number None e some = absurd (false≢true some)
-    number (Some n) e some =
-        let stands = stands_at m t level block n (job_number_some m t level block n e) in
-        (omega (arith, stands.level_below), stands.block_below)
+unfolding job_number
+has_job_number m t level block =
+    has_position (is_only m t level block) _ (block_of m t level block)
+    (λ own. (_, job_at m t level block (length (jobs_below m level) + block) own.0 own.1 refl))

@@ -1,5 +1,6 @@
 -- Lemmas that several proofs share.
 pub mod Kept
+pub mod Finding
 pub mod Unused
 pub mod Pieces
 pub mod Numbers

@@ -58,26 +58,17 @@ module _ (m : ℕ) (x : List ℕ) where
 
 pub one_fault : OneRingFault
 one_fault m t x TooShort TooShort a b = refl
-one_fault m t x TooShort TooLong a b = absurd (omega (arith, a, b.0))
-one_fault m t x TooShort (IdTooLarge q) a b = absurd (omega (arith, a, b.0.long))
-one_fault m t x TooShort (Repeated j q) a b = absurd (omega (arith, a, b.0.long))
-one_fault m t x TooLong TooShort a b = absurd (omega (arith, a.0, b))
 one_fault m t x TooLong TooLong a b = refl
-one_fault m t x TooLong (IdTooLarge q) a b = absurd (omega (arith, a.1, b.0.short))
-one_fault m t x TooLong (Repeated j q) a b = absurd (omega (arith, a.1, b.0.short))
-one_fault m t x (IdTooLarge p) TooShort a b = absurd (omega (arith, a.0.long, b))
-one_fault m t x (IdTooLarge p) TooLong a b = absurd (omega (arith, a.0.short, b.1))
 one_fault m t x (IdTooLarge p) (IdTooLarge q) a b =
     ap IdTooLarge (same_place m x p q a.1 b.1 a.2 b.2 (inl a.3) (inl b.3))
 one_fault m t x (IdTooLarge p) (Repeated j q) a b = absurd (mixed m x t p j q a b)
-one_fault m t x (Repeated i p) TooShort a b = absurd (omega (arith, a.0.long, b))
-one_fault m t x (Repeated i p) TooLong a b = absurd (omega (arith, a.0.short, b.1))
 one_fault m t x (Repeated i p) (IdTooLarge q) a b = absurd (mixed m x t q i p b a)
 one_fault m t x (Repeated i p) (Repeated j q) a b =
     let place = same_place m x p q a.1 b.1 a.2 b.2 (inr (i, (a.4, a.5))) (inr (j, (b.4, b.5))) in
     let stood : Stood m x j p = subst (Stood m x j) (sym place) (b.4, b.5) in
     let first = one_first m x i j p a.1 a.2 (a.4, a.5) stood in
     λ k. Repeated (first k) (place k)
+one_fault m t x f g a b = absurd (omega (arith, a, b))
 
 pub no_fault : RingsHaveNoFault
 no_fault m t x TooShort ring fault = omega (arith, ring.long, fault)

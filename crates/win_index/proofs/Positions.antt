@@ -1,50 +1,35 @@
 -- The position of a window in the list of windows, and that each window has one.
-use Rattle.std.proofs.Common.{◌≡◌, ◌↔◌, ℕ, zero, suc, ◌+◌, ◌-◌, ◌*◌, ◌<◌, ◌≤◌, Bool, true, false, nat_eq, Option, List, length, get_or, take, slice_get, Some, None, IsSome, refl, sym, ap, ◌∙◌, arith, add-one}
+use Rattle.std.proofs.Common.{◌≡◌, ◌↔◌, ℕ, zero, suc, ◌+◌, ◌-◌, ◌*◌, ◌<◌, ◌≤◌, false, nat_eq, List, length, get_or, take, slice_get, Some, None, IsSome, sym, ◌∙◌, arith, add-one}
 use lib.Pointwise.{pointwise, pointwise_decides}
-use Rattle.std.proofs.lemmas.Bool.{eqb-true, eq-eqb, lt-ltb, false_from_ne_true, false≢true}
+use Rattle.std.proofs.lemmas.Bool.{eqb-true, eq-eqb}
 use Rattle.std.proofs.lemmas.List.{get_or-take, length-take-le, take_all, take_more}
-use Rattle.std.proofs.lemmas.List.Quantifiers.{position-Some}
-use Rattle.std.proofs.lemmas.List.Sums.{position_or_len_is}
-use Rattle.std.proofs.lemmas.Option.{get_or_from_slice_get, slice_get-get_or, slice_get_within}
 use Rattle.win_index.specs.Windows.{is_used, unused, windows, number_of, IsWindow}
 use Rattle.win_index.proofs.Unused.{IsDistinct, lacks_from_differs}
+use Rattle.win_index.proofs.Finding.{IsOnly, position_some, position_is, position_none, has_position}
 use Rattle.win_index.proofs.Numbers.{windows-zero, push_window, window_step, windows_all, one_place}
 
-same_list : (a b : List ℕ) → (pointwise nat_eq a b ≡ true → a ≡ b) × (a ≡ b → pointwise nat_eq a b ≡ true)
-same_list a b = pointwise_decides (λ x y. (eqb-true x y, eq-eqb x y)) a b
+-- the list of windows has each list at most once
+is_only : (k m : ℕ) (list : List ℕ) → IsOnly (λ w. pointwise nat_eq w list) (windows k m) list
+is_only k m list =
+    record {
+      same = λ w. pointwise_decides (λ x y. (eqb-true x y, eq-eqb x y)) w list;
+      once = λ i j. one_place k m i j list;
+    }
 
 -- the meaning of a number
 pub number_of_some : (k m n : ℕ) (list : List ℕ) → number_of k m list ≡ Some n → slice_get (windows k m) n ≡ Some list
 unfolding number_of
-number_of_some k m n list e =
-    let at' = position-Some (λ w. pointwise nat_eq w list) (windows k m) n list e in
-    let same = (same_list (get_or (windows k m) n list) list).0 at'.1 in
-    slice_get-get_or (windows k m) n list at'.0 ∙ ap Some same
+number_of_some k m n list = position_some (is_only k m list) n
 
 -- the number of an item is its position
 pub number_of_is : (k m n : ℕ) (list : List ℕ) → slice_get (windows k m) n ≡ Some list → number_of k m list ≡ Some n
 unfolding number_of
-number_of_is k m n list at' =
-    let test : List ℕ → Bool = λ w. pointwise nat_eq w list in
-    let within = slice_get_within (windows k m) n list at' in
-    let earlier : (i : ℕ) → i < n → test (get_or (windows k m) i list) ≡ false = λ i lt.
-    false_from_ne_true (test (get_or (windows k m) i list)) (λ h.
-    let same = (same_list (get_or (windows k m) i list) list).0 h in
-    let at_i = slice_get-get_or (windows k m) i list (omega arith) ∙ ap Some same in
-    let equal = one_place k m i n list at_i at' in
-    absurd (omega arith)) in
-    let own = (same_list (get_or (windows k m) n list) list).1 (get_or_from_slice_get (windows k m) n list list at') in
-    let first = position_or_len_is test (windows k m) n list (omega arith) earlier (λ _. own) in
-    let found = lt-ltb n (length (windows k m)) within in
-    rw (first, found)
+number_of_is k m n list = position_is (is_only k m list) n
 
 -- a list that is no window has no number
 pub number_of_none : (k m : ℕ) (list : List ℕ) → ¬ IsWindow k m list → number_of k m list ≡ None
-number_of_none k m list other = none (number_of k m list) refl
-  where
-    none : (o : Option ℕ) → number_of k m list ≡ o → o ≡ None
-    none None e = refl
-    none (Some n) e = absurd (other (windows_all k m n list (number_of_some k m n list e)))
+unfolding number_of
+number_of_none k m list = position_none (is_only k m list) (IsWindow k m list) (λ n. windows_all k m n list)
 
 -- the item at a position does not occur before it
 pub free_at : (list : List ℕ) (j : ℕ) → IsDistinct list → j < length list →
@@ -96,12 +81,6 @@ window_place k m list window =
 
 -- the lists that have a number are the windows
 pub has_number : (k m : ℕ) (list : List ℕ) → IsSome (number_of k m list) ↔ IsWindow k m list
-has_number k m list = (
-  number (number_of k m list) refl,
-  λ window. let place = window_place k m list window in
-      rw (number_of_is k m place.0 list place.1),
-)
-  where
-    number : (o : Option ℕ) → number_of k m list ≡ o → IsSome o → IsWindow k m list
-    number None e some = absurd (false≢true some)
-    number (Some n) e some = windows_all k m n list (number_of_some k m n list e)
+unfolding number_of
+has_number k m list =
+    has_position (is_only k m list) (IsWindow k m list) (λ n. windows_all k m n list) (window_place k m list)

@@ -1,7 +1,7 @@
 -- The prefix after a prefix.
-use Rattle.std.proofs.Common.{◌≡◌, ℕ, suc, ◌+◌, ◌-◌, ◌<◌, ◌≤◌, List, [], ◌∷◌, ◌++◌, get_or, take, slice_get, Option, Some, None, IfNone, refl, sym, subst, ◌∙◌, arith}
+use Rattle.std.proofs.Common.{◌≡◌, ℕ, suc, ◌+◌, ◌-◌, ◌<◌, ◌≤◌, List, [], ◌∷◌, ◌++◌, get_or, take, slice_get, Option, Some, None, IfNone, refl, subst, arith}
 use Rattle.std.proofs.lemmas.Bool.{not-true}
-use Rattle.std.proofs.lemmas.List.{take_all, take_more, take_at, set_at, get_or_push}
+use Rattle.std.proofs.lemmas.List.{take_at, set_at, get_or_push}
 use Rattle.std.proofs.lemmas.Option.{slice_get-get_or}
 use Rattle.win_index.specs.RunPrefixes.{HasNumbers, IsLonger, IsNextPrefix, IsLastPrefix, IsPrefixOfLastRun, BeginsRun}
 use Rattle.win_index.specs.Runs.{HasPlaces, IsAtPlace, IsFirstOfRun, IsLastOfRun}

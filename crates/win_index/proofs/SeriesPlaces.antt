@@ -1,14 +1,14 @@
 -- The positions of the windows of a run and of a series.
-use Rattle.std.proofs.Common.{◌≡◌, ◌≢◌, ◌⊎◌, ℕ, ◌+◌, ◌-◌, ◌<◌, ◌≤◌, false, List, length, get_or, take, drop, set, slice_get, Some, ⊎_elim, sym, ap, ◌∙◌, arith}
+use Rattle.std.proofs.Common.{◌≡◌, ◌≢◌, ◌⊎◌, ℕ, ◌+◌, ◌-◌, ◌<◌, ◌≤◌, List, get_or, take, drop, set, slice_get, Some, ⊎_elim, sym, ap, ◌∙◌, arith}
 use Rattle.std.proofs.lemmas.Bool.Decides.{nat_tests}
-use Rattle.std.proofs.lemmas.List.{take-set, get_or-set_same, get_or-take, length-set}
+use Rattle.std.proofs.lemmas.List.{take-set, get_or-set_same, get_or-take}
 use Rattle.std.proofs.lemmas.Option.{slice_get-get_or}
 use Rattle.win_index.specs.Runs.{IsSeries, IsAtPlace, IsFirstOfRun, IsLastOfRun}
 use Rattle.win_index.specs.Successor.{IsNext}
-use Rattle.win_index.specs.Windows.{is_used, unused, windows, IsWindow}
+use Rattle.win_index.specs.Windows.{unused, windows, IsWindow}
 use Rattle.win_index.specs.declared.series.RunPlaces.{RunPlaces}
 use Rattle.win_index.proofs.Numbers.{windows_all}
-use Rattle.win_index.proofs.Positions.{window_place, free_at}
+use Rattle.win_index.proofs.Positions.{window_place}
 use Rattle.win_index.proofs.FrontPlaces.{Placed, placed, below, last_place, window_front, window_with, last_of_run, Part, part_apart, part_along, part_window}
 use Rattle.win_index.proofs.Kept.{kept_is}
 use Rattle.win_index.proofs.Unused.{lacks, length-unused}

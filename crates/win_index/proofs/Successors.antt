@@ -1,16 +1,15 @@
 -- The next window: the next number in the last cell, or else the next prefix with its least number.
-use Rattle.std.proofs.Common.{◌≡◌, ◌≢◌, ℕ, zero, suc, ◌+◌, ◌-◌, ◌*◌, ◌<◌, ◌≤◌, cond, Option, List, [], ◌∷◌, ◌++◌, length, get_or, take, set, find, slice_get, Some, None, refl, sym, ap, ◌∙◌, arith, length-append, add-one, ⊎_elim}
+use Rattle.std.proofs.Common.{◌≡◌, ℕ, zero, suc, ◌+◌, ◌-◌, ◌*◌, ◌<◌, ◌≤◌, cond, Option, List, [], ◌∷◌, ◌++◌, length, get_or, take, set, find, slice_get, Some, None, refl, sym, ap, ◌∙◌, arith, length-append, add-one}
 use Rattle.std.specs.List.{range_with_len}
 use Rattle.std.proofs.Math.Nat.{suc-mul}
-use Rattle.std.proofs.lemmas.List.{take_all, length-set, same_from_push, take_more, take_more_set, take-take, length-take-le, get_or-take, get_or-set_same, get_or-set_other}
-use Rattle.std.proofs.lemmas.Bool.{cases_lt, not_from_false}
+use Rattle.std.proofs.lemmas.List.{take_all, length-set, same_from_push, take_more, take_more_set, take-take, length-take-le}
 use Rattle.std.proofs.lemmas.List.Elements.{All-take}
 use Rattle.std.proofs.lemmas.Option.{none-some, slice_get_within}
-use Rattle.win_index.specs.Windows.{is_used, unused, windows, IsWindow}
+use Rattle.win_index.specs.Windows.{unused, windows, IsWindow}
 use Rattle.win_index.specs.Runs.{IsLastOfRun}
 use Rattle.win_index.specs.Successor.{IsNext, IsLast}
-use Rattle.win_index.proofs.Kept.{kept, kept_at, kept_is, kept_suc, kept_own, kept_rises}
-use Rattle.win_index.proofs.Unused.{lacks, distinct_take, length-unused, lacks_from_differs, unused_at}
+use Rattle.win_index.proofs.Kept.{kept, kept_at, kept_is, kept_suc, kept_rises}
+use Rattle.win_index.proofs.Unused.{lacks, distinct_take, length-unused, unused_at}
 use Rattle.win_index.proofs.Positions.{window_place, free_at}
 use Rattle.win_index.proofs.FrontPlaces.{last_place, last_of_run}
 use Rattle.win_index.proofs.Numbers.{window_parts, window_from_parts, windows_all, windows_more, length-windows}

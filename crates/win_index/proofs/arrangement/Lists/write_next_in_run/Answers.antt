@@ -1,4 +1,4 @@
-use Rattle.std.proofs.Common.{◌-◌, set, take, refl, sym, ◌∙◌, arith, rules}
+use Rattle.std.proofs.Common.{◌-◌, refl, sym, ◌∙◌, arith, rules}
 use Rattle.std.proofs.lemmas.List.{take-set}
 use Rattle.win_index.proofs.Successors.{next_in_run, ends_run}
 use Rattle.win_index.proofs.arrangement.Lists.write_next_in_run.Goals as goal
