@@ -5,7 +5,7 @@ use Rattle.std.proofs.lemmas.Option.{none-some, some_pair_parts, slice_get_withi
 use Rattle.win_index.specs.Blocks.{block_count}
 use Rattle.win_index.specs.Jobs.{level_jobs, jobs_of, is_job, job_number}
 use Rattle.win_index.proofs.Finding.{IsOnly, position_some, position_is, position_none, has_position}
-use Rattle.win_index.proofs.JobPlaces.{jobs_below, jobs_below_more, length-level_jobs, level_job_at, jobs_are_below, job_at}
+use Rattle.win_index.proofs.JobPlaces.{no_jobs_below, jobs_below, jobs_below_more, length-level_jobs, level_job_at, jobs_are_below, job_at}
 use Rattle.win_index.proofs.Kept.{slice_get-append_left, slice_get-append_right}
 
 -- the position of a block of a level among the jobs of the levels below k
@@ -24,7 +24,8 @@ of_level m k level block i e =
     (parts.0, parts.1, lt)
 
 stands_below : (m k level block n : ℕ) → slice_get (jobs_below m k) n ≡ Some (level, block) → StandsAt m k level block n
-stands_below m zero level block n e = absurd (none-some (level, block) e)
+stands_below m zero level block n e =
+    absurd (omega (arith, slice_get_within (jobs_below m zero) n (level, block) e, no_jobs_below m))
 stands_below m (suc k) level block n e =
     let one : suc k ≡ k + 1 = omega arith in
     let all : slice_get (jobs_below m (k + 1)) n ≡ Some (level, block) =
@@ -47,7 +48,7 @@ stands_below m (suc k) level block n e =
 pub stands_at : (m t level block n : ℕ) → slice_get (jobs_of m t) n ≡ Some (level, block) →
     StandsAt m (t + 1) level block n
 stands_at m t level block n e =
-    stands_below m (t + 1) level block n (ap (λ l. slice_get l n) (sym (jobs_are_below m t (t + 1) refl)) ∙ e)
+    stands_below m (t + 1) level block n (ap (λ l. slice_get l n) (sym (jobs_are_below m t)) ∙ e)
 
 -- no job occurs twice
 is_only : (m t level block : ℕ) → IsOnly (is_job level block) (jobs_of m t) (level, block)

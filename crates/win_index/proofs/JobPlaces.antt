@@ -1,5 +1,5 @@
 -- The positions of the jobs of a level among all jobs.
-use Rattle.std.proofs.Common.{◌≡◌, ℕ, ◌+◌, ◌-◌, ◌*◌, ◌<◌, ◌≤◌, List, ◌++◌, flat_map, length, slice_get, Some, option_map, ap, ◌∙◌, arith, length-append, append-nil}
+use Rattle.std.proofs.Common.{◌≡◌, ℕ, ◌+◌, ◌-◌, ◌*◌, ◌<◌, ◌≤◌, List, ◌++◌, flat_map, length, slice_get, Some, option_map, refl, ap, ◌∙◌, arith, length-append, append-nil}
 use Rattle.std.specs.List.{range_with_len}
 use Rattle.std.proofs.lemmas.List.FromFn.{length-range_with_len, length-map-range_with_len, get_or-range_with_len}
 use Rattle.std.proofs.lemmas.List.Concat.{flat_map-append}
@@ -17,11 +17,12 @@ few_blocks m t level ids few le =
     omega (arith, few_shorter m t (2 * level + 1) ids few (omega arith))
 
 -- the jobs of the levels below
-abbrev pub jobs_below : ℕ → ℕ → List (ℕ × ℕ)
+pub jobs_below : ℕ → ℕ → List (ℕ × ℕ)
 jobs_below m level = flat_map (level_jobs m) (range_with_len 0 level)
 
 -- the jobs of one level more
 pub jobs_below_more : (m level : ℕ) → jobs_below m (level + 1) ≡ jobs_below m level ++ level_jobs m level
+unfolding jobs_below
 jobs_below_more m level =
     ap (flat_map (level_jobs m)) (range_with_len-append 0 level 1 level (omega arith))
     ∙ flat_map-append (level_jobs m) (range_with_len 0 level) (range_with_len level 1)
@@ -31,16 +32,20 @@ pub length-level_jobs : (m level : ℕ) → length (level_jobs m level) ≡ bloc
 length-level_jobs m level = length-map-range_with_len (λ b. (level, b)) 0 (block_count m level)
 
 -- their number
-pub length-jobs_below : (m level : ℕ) →
+pub length_jobs_below : (m level : ℕ) →
     length (jobs_below m (level + 1)) ≡ length (jobs_below m level) + block_count m level
-length-jobs_below m level =
+length_jobs_below m level =
     ap length (jobs_below_more m level) ∙ length-append (jobs_below m level) (level_jobs m level)
     ∙ ap (λ n. length (jobs_below m level) + n) (length-level_jobs m level)
 
+pub no_jobs_below : (m : ℕ) → length (jobs_below m 0) ≡ 0
+unfolding jobs_below
+no_jobs_below m = refl
+
 -- the jobs of all levels are those below level t+1
-pub jobs_are_below : (m t level : ℕ) → level ≡ t + 1 → jobs_of m t ≡ jobs_below m level
-unfolding jobs_of
-jobs_are_below m t level e = rw e
+pub jobs_are_below : (m t : ℕ) → jobs_of m t ≡ jobs_below m (t + 1)
+unfolding jobs_of jobs_below
+jobs_are_below m t = refl
 
 zero-add : (n : ℕ) → 0 + n ≡ n
 zero-add n = omega arith
@@ -59,14 +64,14 @@ level_job_at m level block lt =
 pub job_at :
     (m t level block n : ℕ) → level ≤ t → block < block_count m level → n ≡ length (jobs_below m level) + block
     → slice_get (jobs_of m t) n ≡ Some (level, block)
-unfolding jobs_of
+unfolding jobs_of jobs_below
 job_at m t level block n le lt e =
     let rest : List (ℕ × ℕ) = flat_map (level_jobs m) (range_with_len (level + 1) (t - level)) in
     let all : level + 1 + (t - level) ≡ t + 1 = omega arith in
     let split = range_with_len-append 0 (level + 1) (t - level) (level + 1) (omega arith) in
     let cut = ap (flat_map (level_jobs m)) (rw all at split)
     ∙ flat_map-append (level_jobs m) (range_with_len 0 (level + 1)) (range_with_len (level + 1) (t - level)) in
-    let inside : n < length (jobs_below m (level + 1)) = omega (arith, length-jobs_below m level) in
+    let inside : n < length (jobs_below m (level + 1)) = omega (arith, length_jobs_below m level) in
     ap (λ l. slice_get l n) cut
     ∙ slice_get-append_left (jobs_below m (level + 1)) rest n inside
     ∙ ap (λ l. slice_get l n) (jobs_below_more m level)

@@ -1,18 +1,10 @@
 use Rattle.std.proofs.Common.{◌≡◌, sym, arith}
 use Rattle.std.proofs.lemmas.Option.{slice_get_within}
 use Rattle.win_index.specs.Jobs.{jobs_of}
-use Rattle.win_index.proofs.JobPlaces.{length-jobs_below, job_at}
-use Rattle.win_index.proofs.JobNumbers.{job_number_at, job_number_none}
+use Rattle.win_index.proofs.JobPlaces.{length_jobs_below, job_at}
+use Rattle.win_index.proofs.JobNumbers.{number_of_job, job_number_at, job_number_none}
 use Rattle.win_index.proofs.shape.Shape.job_number.Goals as goal
 use Rattle.win_index.proofs.shape.Shape.job_number.Goals.{then-level-self-via-then-level-self, then-level-self-via-else-level-self+then-block-blocks}
-
-pub loop-lower-preserved : goal.loop-lower-preserved
-loop-lower-preserved c =
-    let more = length-jobs_below c.args.self.now.ids c.loop-lower.lower in
-    record {
-      counted = omega (arith, more, c.loop-lower.invariant.counted, c.blocks-number.ensures.value);
-      few = omega (arith, c.loop-lower.invariant.few, c.blocks-number.ensures.few);
-    }
 
 pub returns-then-level-self-clause-number : goal.returns-then-level-self-clause-number
 returns-then-level-self-clause-number c =
@@ -33,7 +25,5 @@ returns-clause-number c =
 pub returns-clause-below : goal.returns-clause-below
 returns-clause-below c =
     let shape = c.args.self.now in
-    let level : c.loop-lower.lower ≡ c.args.level = omega arith in
     slice_get_within (jobs_of shape.ids shape.rounds) c.loop-lower.number (c.args.level, c.args.block)
-    (job_at shape.ids shape.rounds c.args.level c.args.block c.loop-lower.number (omega arith)
-    (omega (arith, c.blocks-else-level-self.ensures.value)) (rw level at c.loop-lower.invariant.counted))
+    ((number_of_job shape.ids shape.rounds c.args.level c.args.block c.loop-lower.number).0 (sym (returns-clause-number c)))
