@@ -1,4 +1,6 @@
 //! The blocks and the jobs of a shape.
+#![tactic(auto, using(crate::proofs::JobPlaces::length_jobs_below, crate::proofs::JobPlaces::no_jobs_below, crate::proofs::Levels::few_of_shape))]
+
 use crate::limits::{BLOCK_WINDOWS, MAX_BLOCKS, MAX_ROUNDS};
 use crate::shape::Shape;
 
@@ -18,7 +20,6 @@ impl Shape {
     }
 
     /// Returns the number of jobs: one for each block of each level from 0 to `t`.
-    #[tactic(auto, using(crate::proofs::JobPlaces::length_jobs_below, crate::proofs::JobPlaces::no_jobs_below))]
     pub fn jobs(&self) -> u32
         ensures value { result ≡ length (jobs_of self.now.ids self.now.rounds) }
         ensures few { result ≤ (MAX_ROUNDS + 1) * MAX_BLOCKS }
@@ -32,7 +33,6 @@ impl Shape {
 
     /// Returns the level and the block of a job. Jobs are in the order of their levels, then of
     /// their blocks.
-    #[tactic(auto, using(crate::proofs::JobPlaces::length_jobs_below, crate::proofs::JobPlaces::no_jobs_below))]
     pub fn job(&self, number: u32) -> (u32, u32)
         requires { number < length (jobs_of self.now.ids self.now.rounds) }
         ensures job { slice_get (jobs_of self.now.ids self.now.rounds) number ≡ Some result }
@@ -51,7 +51,6 @@ impl Shape {
     }
 
     /// Returns the number of the job for a block of a level, or `None` if there is no such block.
-    #[tactic(auto, using(crate::proofs::JobPlaces::length_jobs_below, crate::proofs::JobPlaces::no_jobs_below))]
     pub fn job_number(&self, level: u32, block: u32) -> Option<u32>
         ensures number { result ≡ number_of_job self.now.ids self.now.rounds level block }
         ensures below { IfSome result (λ n. n < length (jobs_of self.now.ids self.now.rounds)) }
