@@ -1,6 +1,5 @@
 -- The table of a program, window by window.
-use Rattle.std.proofs.Common.{◌≡◌, ℕ, ◌≤◌, All, ◌+◌, ◌*◌, ◌<◌, List, [], map, length, get_or, slice_get, slice_index, Option, option_map, Some, None, IsSome, subst, sym, ap, ◌∙◌, arith, refl}
-use Rattle.std.proofs.lemmas.Bool.{false≢true}
+use Rattle.std.proofs.Common.{◌≡◌, ℕ, ◌≤◌, All, ◌+◌, ◌*◌, ◌<◌, List, [], map, length, get_or, slice_get, slice_index, option_map, Some, subst, sym, ap, ◌∙◌, arith, refl}
 use Rattle.std.proofs.lemmas.List.{get_or-map, get_or_default, length-map}
 use Rattle.std.proofs.lemmas.Option.{get_or_from_slice_get, slice_get_within, slice_get-get_or}
 use Rattle.node_program.specs.Node.{channel}
@@ -9,9 +8,9 @@ use Rattle.node_program.specs.Term.{ProgramTree}
 use Rattle.window_states.specs.BlockStates.{window_numbered}
 use Rattle.window_states.specs.Laws.{Locality, WindowsAreWithin}
 use Rattle.win_index.specs.Arcs.{window_around}
-use Rattle.win_index.specs.Laws.{RingsHaveWindows, NumberOfWindow, WindowsHaveNumbers, WindowOfNumber}
-use Rattle.win_index.specs.Windows.{windows, number_of, IsWindow}
-use Rattle.lang_check.specs.Acceptance.{IsAccepted}
+use Rattle.win_index.proofs.Positions.{number_of_is, window_place, has_number}
+use Rattle.win_index.specs.Laws.{RingsHaveWindows}
+use Rattle.win_index.specs.Windows.{windows, IsWindow}
 use Rattle.lang_check.specs.Laws.{AcceptedChannelsAreBelow}
 use Rattle.table_entries.specs.Laws.{TableHasTheChannelsOfRounds, ProgramTablesAreTables}
 use Rattle.table_entries.specs.ProgramTables.{table_of, window_channel}
@@ -51,59 +50,39 @@ is_table p m t entries ids rounds channels entries_are few_rounds shape some few
     }
 
 -- the window at a number is a window
-pub numbered_is_window :
-    NumberOfWindow → WindowsHaveNumbers → (m t n : ℕ) → n < length (windows (2 * t + 1) m) → IsWindow (2 * t + 1) m (window_numbered m t n)
-numbered_is_window number is_window m t n lt =
-    let at' = slice_get-get_or (windows (2 * t + 1) m) n [] lt in
-    let is : IsSome (number_of (2 * t + 1) m (window_numbered m t n)) = subst IsSome (sym (number (2 * t + 1) m n (window_numbered m t n) at')) refl in
-    (is_window (2 * t + 1) m (window_numbered m t n)).0 is
-
--- a list with a number is at that number
-some_number : (o : Option ℕ) → IsSome o → (n : ℕ) × (o ≡ Some n)
-some_number (Some n) is = (n, refl)
-some_number None is = absurd (false≢true is)
+pub numbered_is_window : (m t n : ℕ) → n < length (windows (2 * t + 1) m) → IsWindow (2 * t + 1) m (window_numbered m t n)
+numbered_is_window m t n lt =
+    (has_number (2 * t + 1) m (window_numbered m t n)).0
+    (rw (number_of_is (2 * t + 1) m n (window_numbered m t n) (slice_get-get_or (windows (2 * t + 1) m) n [] lt)) refl)
 
 -- the channel of the table at a window
 pub channel_at_window :
-    (p : ProgramTree) (m n : ℕ) (window : List ℕ) → number_of (2 * length p.steps + 1) m window ≡ Some n
-    → slice_get (windows (2 * length p.steps + 1) m) n ≡ Some window
+    (p : ProgramTree) (m n : ℕ) (window : List ℕ) → slice_get (windows (2 * length p.steps + 1) m) n ≡ Some window
     → channel_of (table_of p m) window ≡ Some (window_channel p window)
 unfolding table_of
-channel_at_window p m n window number at' =
+channel_at_window p m n window at' =
     let ws = windows (2 * length p.steps + 1) m in
     let entries = map (window_channel p) ws in
-    let within = slice_get_within ws n window at' in
     let own : slice_index entries n ≡ window_channel p window =
-    get_or-map (window_channel p) ws n [] 0 within ∙ ap (window_channel p) (get_or_from_slice_get ws n window [] at') in
-    ap (option_map (slice_index entries)) number ∙ ap Some own
+    get_or-map (window_channel p) ws n [] 0 (slice_get_within ws n window at') ∙ ap (window_channel p) (get_or_from_slice_get ws n window [] at') in
+    ap (option_map (slice_index entries)) (number_of_is (2 * length p.steps + 1) m n window at') ∙ ap Some own
 
-pub channels_of_rounds :
-    (local : Locality) (is_window : RingsHaveWindows) (has_number : WindowsHaveNumbers) (item_of : WindowOfNumber)
-    → TableHasTheChannelsOfRounds
+pub channels_of_rounds : Locality → RingsHaveWindows → TableHasTheChannelsOfRounds
 unfolding channel_at
-channels_of_rounds local is_window has_number item_of p m ring place is lt =
+channels_of_rounds local is_window p m ring place is lt =
     let t = length p.steps in
     let window = window_around ring t place in
-    let numbered = some_number (number_of (2 * t + 1) m window) ((has_number (2 * t + 1) m window).1 (is_window m t t place ring is (omega arith))) in
-    let same = local p m t t place ring is (omega arith) lt in
-    channel_at_window p m numbered.0 window numbered.1 (item_of (2 * t + 1) m numbered.0 window numbered.1)
-    ∙ ap (λ s. Some (channel p s)) (sym same)
+    let at = window_place (2 * t + 1) m window (is_window m t t place ring is (omega arith)) in
+    channel_at_window p m at.0 window at.1 ∙ ap (λ s. Some (channel p s)) (sym (local p m t t place ring is (omega arith) lt))
 
 -- the channel of an accepted program at a window is below the number of channels
-channel_below :
-    WindowsAreWithin → AcceptedChannelsAreBelow → (p : ProgramTree) (m : ℕ) (window : List ℕ) → IsAccepted m p → IsWindow (2 * length p.steps + 1) m window
-    → window_channel p window < p.channels
-channel_below within below p m window accepted is = below p m _ accepted (within p m (length p.steps) window is)
-
-pub program_tables_are_tables : WindowsAreWithin → AcceptedChannelsAreBelow → NumberOfWindow → WindowsHaveNumbers → ProgramTablesAreTables
+pub program_tables_are_tables : WindowsAreWithin → AcceptedChannelsAreBelow → ProgramTablesAreTables
 unfolding table_of
-program_tables_are_tables within below number is_window p m limits accepted =
+program_tables_are_tables within below p m limits accepted =
     let t = length p.steps in
     let ws = windows (2 * t + 1) m in
     let entries = map (window_channel p) ws in
     let full : length entries ≡ length ws = length-map ws (window_channel p) in
     is_table p m (table_of p m) entries refl refl refl refl limits.rounds accepted.shape limits.some_channels limits.few_channels full (λ i lt.
     let inside : i < length ws = omega (arith, lt, full) in
-    let own : slice_index entries i ≡ window_channel p (get_or ws i []) = get_or-map (window_channel p) ws i [] 0 inside in
-    subst (λ c. c < p.channels) (sym own)
-    (channel_below within below p m (get_or ws i []) accepted (numbered_is_window number is_window m t i inside)))
+    rw (get_or-map (window_channel p) ws i [] 0 inside) (below p m _ accepted (within p m t (get_or ws i []) (numbered_is_window m t i inside))))

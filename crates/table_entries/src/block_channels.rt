@@ -9,7 +9,6 @@ ghost use Rattle.table_entries.specs.EntryShares.{AreEntries};
 
 use round_columns::{Code, Columns, Work, channel_columns};
 use round_eval::rows_are_taken;
-use win_index::{number_of_window, windows_have_numbers};
 use window_states::{Block, windows_are_within};
 
 // Copies the states of a block to columns.
@@ -36,8 +35,6 @@ pub(crate) fn write_channels(
     ensures channels { AreChannels block.now.plan block.now.number channels.new }
 {
     windows_are_within();
-    number_of_window();
-    windows_have_numbers();
     channel_columns(code, states, work, channels);
 }
 

@@ -2,7 +2,7 @@
 ghost use Rattle.table_entries.specs.Laws as law;
 
 use lang_check::accepted_channels_are_below;
-use win_index::{number_of_window, rings_have_windows, window_of_number, windows_have_numbers};
+use win_index::rings_have_windows;
 use window_states::{locality, windows_are_within};
 
 /// On every ring, the channel of a program's table at the window of a place is the channel of that
@@ -12,8 +12,6 @@ pub fn table_has_the_channels_of_rounds()
 {
     locality();
     rings_have_windows();
-    windows_have_numbers();
-    window_of_number();
 }
 
 /// The table of an accepted program is a table: it has a channel below the number of channels for
@@ -23,6 +21,4 @@ pub fn program_tables_are_tables()
 {
     windows_are_within();
     accepted_channels_are_below();
-    number_of_window();
-    windows_have_numbers();
 }
