@@ -1,5 +1,6 @@
 -- A worker's view of the cells, after two calls.
 use Rattle.std.proofs.Common.{◌∙◌}
+use Rattle.unroll.proofs.Known.{grows_both}
 use Rattle.table_fill.specs.Cells.{GoesOn}
 use Rattle.table_fill.specs.declared.cell_maker.CellMaker.{CellMaker}
 
@@ -9,5 +10,5 @@ goes_on_both old now new first later =
       same_worker = later.same_worker ∙ first.same_worker;
       same_memo = later.same_memo ∙ first.same_memo;
       same_plan = later.same_plan ∙ first.same_plan;
-      grows = record { kept = λ level number block known. later.grows.kept level number block (first.grows.kept level number block known) };
+      grows = grows_both _ _ _ first.grows later.grows;
     }

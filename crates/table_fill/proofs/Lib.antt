@@ -2,5 +2,4 @@
 mod GoneOn
 pub mod BelowBlocks
 pub mod KnownJobs
-mod Learned
 pub mod SharedFill

@@ -1,9 +1,8 @@
-use Rattle.std.proofs.Common.{rules, ◌≡◌, ℕ, ◌+◌, ◌-◌, ◌<◌, true, [], ◌∷◌, ◌++◌, length, Some, subst, sym, ap, ◌∙◌, arith, length-append}
+use Rattle.std.proofs.Common.{rules, ◌≡◌, ◌+◌, ◌-◌, ◌<◌, true, [], ◌∷◌, ◌++◌, length, Some, subst, sym, ap, ◌∙◌, arith, length-append}
 use Rattle.std.specs.Prelude.{is_some, slice_get}
 use Rattle.win_index.specs.Jobs.{jobs_of}
 use Rattle.window_states.specs.Entries.{Entries}
 use Rattle.shared_memo.specs.Passes.{known}
-use Rattle.shared_memo.specs.PlanJobs.{job_of}
 use Rattle.shared_memo.specs.Tickets.{drawn}
 use Rattle.table_fill.specs.Filled.{AreKnown}
 use Rattle.table_fill.proofs.KnownJobs.{known_with, block_of_job}
@@ -20,10 +19,7 @@ loop-job-preserved g c =
     let all : drawn c.draw.new.ticket ≡ jobs ++ job ∷ [] = search rules in
     let at : slice_get (jobs_of plan.ids (length plan.program.steps)) job ≡ Some (level, block) = search rules in
     let filled : is_some (new level block) ≡ true = search rules in
-    let stand = c.jobs_have_numbers.ensures.at in
-    let last : (l n : ℕ) → job_of plan l n ≡ Some job → is_some (new l n) ≡ true = λ l n is.
-    let same = block_of_job stand plan.ids (length plan.program.steps) job l n level block at ((stand plan.ids (length plan.program.steps) l n job).0 is) in
-    rw same.0 (rw same.1 filled) in
+    let last = block_of_job plan new job level block c.jobs_have_numbers.ensures.at at filled in
     let known_all : AreKnown plan new (jobs ++ job ∷ []) =
     known_with plan (known c.loop-job.cells.reader.pass) new jobs job c.fill.ensures.goes_on.grows c.loop-job.invariant.filled last in
     record {
