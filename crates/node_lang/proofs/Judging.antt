@@ -23,7 +23,7 @@ use Rattle.node_lang.specs.Reading.{Read, Got, Fault, expression, program}
 use Rattle.node_lang.specs.Viable.{Stands, FirstFault, Mark, node, one_at, nodes_at}
 use Rattle.node_lang.specs.Faults.{FaultsAt, IsFirstHighByte, too_long, not_ascii, in_lexemes}
 use Rattle.node_lang.specs.Laws.{ReadingStopsAtFirstFault, FirstFaultStopsReading, OneReading, OneTextFault, ReadableTextsAreRead, ReadableTextsHaveNoFault, ReadTextsAreReadable}
-use Rattle.node_lang.specs.Parsing.{Gives, lexemes_left}
+use Rattle.node_lang.specs.Parsing.{Gives, lexemes_from}
 use Rattle.node_lang.proofs.Rest.{Rest, Nothing, AToken, AnExpression, ANumber, depth_next, counted, Met, Stops, Goes, limited, checked, meets, step, a_program, read, went, read_next, program_read}
 use Rattle.node_lang.proofs.SmallTokens.{is_small, small_tokens}
 use Rattle.node_lang.proofs.Marks.{Shallow, shallow_at, Fine, fine, program_matches}
@@ -256,7 +256,7 @@ pub reads_program : (old new : Parser) (r : Result ProgramTree TextFault) → ol
     length old.text.now ≤ LONGEST_TEXT → All (λ b. b < 128) old.text.now →
     Gives (λ p. p) old new r program → IfOk r (Reads old.text.now)
 reads_program old new (Ok p) at nodes short ascii h =
-    read_is_readable old.text.now p new.nodes (lexemes_left old.text.now new.at) short ascii (rw (at, nodes) at h.1)
+    read_is_readable old.text.now p new.nodes (lexemes_from old.text.now new.at) short ascii (rw (at, nodes) at h.1)
 reads_program old new (Err f) at nodes short ascii h = tt
 
 -- and a text at which the parser stops has this fault

@@ -8,7 +8,7 @@ use Rattle.node_lang.specs.declared.token.Token.{Token}
 use Rattle.node_lang.specs.declared.token.Token.TheVariants as token
 use Rattle.node_lang.specs.Lexemes.{Lexeme}
 use Rattle.node_lang.specs.Reading.{Read, Reader, Got, Fault, ◌>>=◌, ◌>>◌, after, assigns, done, each, exactly, expression, go_on, header, next, node, number, one_of, operand, round, same_token, three_of, two_of}
-use Rattle.node_lang.specs.Parsing.{Gives, after_if, after_one, after_two, expression_after, field, lexemes_left}
+use Rattle.node_lang.specs.Parsing.{Gives, after_if, after_one, after_two, expression_after, field, lexemes_from}
 use Rattle.node_program.specs.declared.limits.TheConstants.{MAX_CHANNELS, MAX_DEPTH, MAX_REGISTERS, MAX_ROUNDS}
 use Rattle.node_program.specs.declared.tree.UnOp.{UnOp}
 use Rattle.node_program.specs.declared.tree.BinOp.{BinOp}
@@ -31,8 +31,8 @@ operand_is (suc n) h = rw (let e : suc n - 1 ≡ n = omega arith in e) refl
 pub record HasRead {T A : Type 0} (tree : T → A) (part : ℕ → ℕ → List Lexeme → Read A) (high j : ℕ)
     (parts : List T) (old now : Parser) : Type 0 where
   pub text_is : now.text.now ≡ old.text.now
-  pub reads : each part high 0 [] old.nodes (lexemes_left old.text.now old.at)
-      ≡ each part (high - j) j (map tree parts) now.nodes (lexemes_left old.text.now now.at)
+  pub reads : each part high 0 [] old.nodes (lexemes_from old.text.now old.at)
+      ≡ each part (high - j) j (map tree parts) now.nodes (lexemes_from old.text.now now.at)
 
 next_read : {A : Type 0} (part : ℕ → ℕ → List Lexeme → Read A) (high j : ℕ) (parts : List A) (nodes : ℕ)
     (left : List Lexeme) (r : Read A) → j < high → part j nodes left ≡ r →
@@ -140,10 +140,10 @@ if_is levels from nodes left =
 -- a method whose last step behaves as the rest of its reader
 pub gives_rest : {T A : Type 0} (tree : T → A) (old now new : Parser) (r : Result T TextFault)
     (whole rest : ℕ → List Lexeme → Read A) → now.text.now ≡ old.text.now →
-    whole old.nodes (lexemes_left old.text.now old.at) ≡ rest now.nodes (lexemes_left now.text.now now.at) →
+    whole old.nodes (lexemes_from old.text.now old.at) ≡ rest now.nodes (lexemes_from now.text.now now.at) →
     Gives tree now new r rest → Gives tree old new r whole
 gives_rest tree old now new (Ok v) whole rest same begins given =
-    (given.0 ∙ same, begins ∙ given.1 ∙ ap (λ t. Got (tree v) new.nodes (lexemes_left t new.at)) same)
+    (given.0 ∙ same, begins ∙ given.1 ∙ ap (λ t. Got (tree v) new.nodes (lexemes_from t new.at)) same)
 gives_rest tree old now new (Err f) whole rest same begins given = (
   given.0,
   λ m.
@@ -158,7 +158,7 @@ pub gives_next : {T U A B : Type 0} (tree : T → A) (tree' : U → B) (old now 
     Gives tree' now new r (second (tree v)) → Gives tree' old new r (λ n l. go_on (first n l) second)
 gives_next tree tree' old now new v r first second given more =
     gives_rest tree' old now new r (λ n l. go_on (first n l) second) (second (tree v)) given.0
-    (ap (λ x. go_on x second) given.1 ∙ ap (λ t. second (tree v) now.nodes (lexemes_left t now.at)) (sym given.0)) more
+    (ap (λ x. go_on x second) given.1 ∙ ap (λ t. second (tree v) now.nodes (lexemes_from t now.at)) (sym given.0)) more
 
 -- a method that stops with a fault of this reader
 abbrev pub Stops : {A : Type 0} → Parser → TextFault → (ℕ → List Lexeme → Read A) → Type 0
@@ -185,10 +185,10 @@ stops_next tree old now v f first second given stopped =
 -- an expression from its first token on
 pub expression_begins : (old now : Parser) (levels offset : ℕ) (t : Token) (more : Reader Term) →
     now.text.now ≡ old.text.now →
-    next old.nodes (lexemes_left old.text.now old.at) ≡ Got
-    (record { from = length old.text.now - offset; token = t }) now.nodes (lexemes_left old.text.now now.at) →
+    next old.nodes (lexemes_from old.text.now old.at) ≡ Got
+    (record { from = length old.text.now - offset; token = t }) now.nodes (lexemes_from old.text.now now.at) →
     after (operand levels) t ≡ Some more →
-    expression levels old.nodes (lexemes_left old.text.now old.at)
-    ≡ (node levels (length now.text.now - offset) >> more) now.nodes (lexemes_left now.text.now now.at)
+    expression levels old.nodes (lexemes_from old.text.now old.at)
+    ≡ (node levels (length now.text.now - offset) >> more) now.nodes (lexemes_from now.text.now now.at)
 unfolding expression
 expression_begins old now levels offset t more same reads begins = rw (same, reads, begins) refl

@@ -15,20 +15,20 @@ use Rattle.node_program.specs.declared.tree.Expr.{Expr}
 use Rattle.node_program.specs.Term.{Term, One, Two, Choose, term_of}
 
 -- the lexemes of a text from the byte `at` on
-abbrev pub lexemes_left : List ℕ → ℕ → List Lexeme
-lexemes_left text at = lexemes_of (drop at text)
+abbrev pub lexemes_from : List ℕ → ℕ → List Lexeme
+lexemes_from text at = lexemes_of (drop at text)
 
 -- A method of the parser behaves as this reader: it returns the tree and moves the parser past the nodes and lexemes
 -- read, or it returns the reader's fault. For want of memory only the offset 0 is stated.
 abbrev pub Gives : {T A : Type 0} → (T → A) → Parser → Parser → Result T TextFault → (ℕ → List Lexeme → Read A) → Type 0
 Gives tree old new (Ok v) read =
     (new.text.now ≡ old.text.now)
-    × (read old.nodes (lexemes_left old.text.now old.at)
-    ≡ Got (tree v) new.nodes (lexemes_left old.text.now new.at))
+    × (read old.nodes (lexemes_from old.text.now old.at)
+    ≡ Got (tree v) new.nodes (lexemes_from old.text.now new.at))
 Gives tree old new (Err f) read =
     (f.kind ≡ kind.OutOfMemory → f.offset ≡ 0)
     × (f.kind ≢ kind.OutOfMemory → (f.offset ≤ length old.text.now)
-    × (read old.nodes (lexemes_left old.text.now old.at) ≡ Fault f.kind (length old.text.now - f.offset)))
+    × (read old.nodes (lexemes_from old.text.now old.at) ≡ Fault f.kind (length old.text.now - f.offset)))
 
 -- a word of the header and its number
 abbrev pub field : Token → ℕ → ℕ → Reader ℕ

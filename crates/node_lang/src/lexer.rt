@@ -3,7 +3,7 @@ ghost use Rattle.std.specs.Prelude.{◌≡◌, ◌==◌, not, ◌-◌, ◌<◌, 
 ghost use Rattle.std.specs.List.{prefix_len};
 ghost use Rattle.node_lang.specs.Words.{is_blank as blank, is_word_byte as word_byte};
 ghost use Rattle.node_lang.specs.Lexemes.{lexemes_of};
-ghost use Rattle.node_lang.specs.Parsing.{lexemes_left};
+ghost use Rattle.node_lang.specs.Parsing.{lexemes_from};
 
 use crate::token::Token;
 use crate::words::{is_blank, is_word_byte, mark_token, token_of};
@@ -96,10 +96,10 @@ fn first_token(text: &[u8]) -> Option<Placed>
 #[tactic(auto, using(crate::proofs::Placing::placed_after, crate::proofs::Placing::none_after))]
 pub fn token_from(text: &[u8], at: usize) -> Option<Placed>
     requires { at ≤ length text.now }
-    ensures token { IfSome result (λ f. lexemes_left text.now at
-        ≡ record { from = length text.now - f.start; token = f.token } ∷ lexemes_left text.now f.end) }
+    ensures token { IfSome result (λ f. lexemes_from text.now at
+        ≡ record { from = length text.now - f.start; token = f.token } ∷ lexemes_from text.now f.end) }
     ensures place { IfSome result (λ f. (at ≤ f.start) × (f.start < f.end) × (f.end ≤ length text.now)) }
-    ensures none { IfNone result (lexemes_left text.now at ≡ []) }
+    ensures none { IfNone result (lexemes_from text.now at ≡ []) }
 {
     let placed = first_token(&text[at..])?;
     Some(Placed {

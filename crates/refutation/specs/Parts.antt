@@ -13,5 +13,5 @@ abbrev pub parts_in : ℕ → Option (Bor (List ℕ)) → List (List ℕ)
 parts_in separator None = []
 parts_in separator (Some rest) = parts_of separator rest.now
 
-abbrev pub parts_left : Parts → List (List ℕ)
-parts_left parts = parts_in parts.separator parts.rest
+abbrev pub remaining_parts : Parts → List (List ℕ)
+remaining_parts parts = parts_in parts.separator parts.rest

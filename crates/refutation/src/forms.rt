@@ -1,6 +1,6 @@
 //! What a line says.
 ghost use Rattle.std.specs.Prelude.{◌≡◌, List, option_map, None, Some, IfOk, if◌then◌else◌};
-ghost use Rattle.refutation.specs.Parts.{parts_left};
+ghost use Rattle.refutation.specs.Parts.{remaining_parts};
 ghost use Rattle.refutation.specs.Words as spelled;
 ghost use Rattle.refutation.specs.Lines as said;
 ghost use Rattle.refutation.specs.Lines.{Deletion};
@@ -43,8 +43,8 @@ fn is_d(word: &[u8]) -> bool
 
 // Reads the numbers of a list. Returns whether they are followed by a word that ends the list.
 fn read_numbers(words: &mut Parts, numbers: &mut Vec<u64>) -> Result<bool, AllocError>
-    ensures { IfOk result (λ is_list. said.list_in spelled.number_in (parts_left words.old)
-        ≡ (if is_list then Some (numbers.new.items, parts_left words.new) else None)) }
+    ensures { IfOk result (λ is_list. said.list_in spelled.number_in (remaining_parts words.old)
+        ≡ (if is_list then Some (numbers.new.items, remaining_parts words.new) else None)) }
 {
     numbers.clear();
     while let Some(word) = words.next() {
@@ -61,8 +61,8 @@ fn read_numbers(words: &mut Parts, numbers: &mut Vec<u64>) -> Result<bool, Alloc
 
 // Reads the literals of a list. Returns whether they are followed by a word that ends the list.
 fn read_literals(words: &mut Parts, clause: &mut Vec<Literal>) -> Result<bool, AllocError>
-    ensures { IfOk result (λ is_list. said.list_in spelled.literal_in (parts_left words.old)
-        ≡ (if is_list then Some (clause.new.items, parts_left words.new) else None)) }
+    ensures { IfOk result (λ is_list. said.list_in spelled.literal_in (remaining_parts words.old)
+        ≡ (if is_list then Some (clause.new.items, remaining_parts words.new) else None)) }
 {
     clause.clear();
     while let Some(word) = words.next() {
@@ -79,7 +79,7 @@ fn read_literals(words: &mut Parts, clause: &mut Vec<Literal>) -> Result<bool, A
 
 // Reads numbers up to the last word, which ends their list. Returns whether the words are such.
 fn read_all_numbers(words: Parts, numbers: &mut Vec<u64>) -> Result<bool, AllocError>
-    ensures { IfOk result (λ is_list. said.numbers_in (parts_left words.entry) ≡ (if is_list then Some numbers.new.items else None)) }
+    ensures { IfOk result (λ is_list. said.numbers_in (remaining_parts words.entry) ≡ (if is_list then Some numbers.new.items else None)) }
 {
     let mut rest = words;
     let is_list = read_numbers(&mut rest, numbers)?;
@@ -111,7 +111,7 @@ fn read_numbered(
     clause: &mut Vec<Literal>,
     numbers: &mut Vec<u64>,
 ) -> Result<Form, AllocError>
-    ensures { IfOk result (λ form. said.numbered_line number (parts_left words.entry) ≡ line_of form clause.new.items numbers.new.items) }
+    ensures { IfOk result (λ form. said.numbered_line number (remaining_parts words.entry) ≡ line_of form clause.new.items numbers.new.items) }
 {
     let Some(number) = number else {
         return Ok(Form::Malformed);
@@ -126,7 +126,7 @@ fn read_numbered(
 
 // Reads the numbers of a deletion.
 fn read_deletion(words: Parts, numbers: &mut Vec<u64>) -> Result<Form, AllocError>
-    ensures { IfOk result (λ form. (clause : List Lit) → option_map Deletion (said.numbers_in (parts_left words.entry)) ≡ line_of form clause numbers.new.items) }
+    ensures { IfOk result (λ form. (clause : List Lit) → option_map Deletion (said.numbers_in (remaining_parts words.entry)) ≡ line_of form clause numbers.new.items) }
 {
     if read_all_numbers(words, numbers)? {
         Ok(Form::Deletion)
@@ -142,7 +142,7 @@ fn read_addition(
     clause: &mut Vec<Literal>,
     numbers: &mut Vec<u64>,
 ) -> Result<Form, AllocError>
-    ensures { IfOk result (λ form. said.addition_of number (said.list_in spelled.literal_in (parts_left words.entry)) ≡ line_of form clause.new.items numbers.new.items) }
+    ensures { IfOk result (λ form. said.addition_of number (said.list_in spelled.literal_in (remaining_parts words.entry)) ≡ line_of form clause.new.items numbers.new.items) }
 {
     let mut rest = words;
     if read_literals(&mut rest, clause)? && read_all_numbers(rest, numbers)? {

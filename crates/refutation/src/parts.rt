@@ -9,11 +9,11 @@ pub(crate) struct Parts<'t> {
 }
 
 impl<'t> Parts<'t> {
-    ghost use Rattle.refutation.specs.Parts.{parts_of, parts_left};
+    ghost use Rattle.refutation.specs.Parts.{parts_of, remaining_parts};
 
     /// Returns all parts of a text.
     pub(crate) fn new(text: &'t [u8], separator: u8) -> Parts<'t>
-        ensures { parts_left result ≡ parts_of separator text.now }
+        ensures { remaining_parts result ≡ parts_of separator text.now }
     {
         Parts {
             separator,
@@ -23,8 +23,8 @@ impl<'t> Parts<'t> {
 
     /// Takes the next part, if there is one.
     pub(crate) fn next(&mut self) -> Option<&'t [u8]>
-        ensures none { IfNone result (parts_left self.old ≡ []) }
-        ensures some { IfSome result (λ part. parts_left self.old ≡ part.now ∷ parts_left self.new) }
+        ensures none { IfNone result (remaining_parts self.old ≡ []) }
+        ensures some { IfSome result (λ part. remaining_parts self.old ≡ part.now ∷ remaining_parts self.new) }
     {
         let text = self.rest?;
         match split_first(text, self.separator) {

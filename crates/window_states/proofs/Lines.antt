@@ -6,7 +6,7 @@ use Rattle.node_program.specs.Term.{ProgramTree}
 use Rattle.node_program.specs.Node.{start, to_left, to_right}
 use Rattle.round_eval.specs.Rows.{row_after}
 use Rattle.window_states.specs.Line.{between, item, line, middle_state}
-use Rattle.window_states.specs.Laws.{LinesAreRows, OneStateIsLeft, StartIsLeft, PartsAreJoined}
+use Rattle.window_states.specs.Laws.{LinesAreRows, OneStateRemains, StartStateRemains, PartsAreJoined}
 
 pub between_same :
     (p : ProgramTree) (k : ℕ) {a b c x y z : List ℕ} → a ≡ x → b ≡ y → c ≡ z → between p k a b c ≡ between p k x y z
@@ -61,9 +61,9 @@ line_of_part p w len d k j fits lt =
     rw (own, right) (line_next p w i (d + j) (omega arith)))
     k j (omega arith)
 
-pub start_left : StartIsLeft
+pub start_remains : StartStateRemains
 unfolding middle_state
-start_left p w some = line_start p w 0 some
+start_remains p w some = line_start p w 0 some
 
 pub parts_joined : PartsAreJoined
 unfolding middle_state
@@ -105,6 +105,6 @@ only_item (x ∷ []) size = refl
 only_item (x ∷ (y ∷ u)) size = absurd (omega arith)
 
 -- the line of a window has one state in the end
-pub one_left : OneStateIsLeft
+pub one_remains : OneStateRemains
 unfolding middle_state
-one_left p r w size = only_item (line p w r) (omega (arith, length-line p w r))
+one_remains p r w size = only_item (line p w r) (omega (arith, length-line p w r))

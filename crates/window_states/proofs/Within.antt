@@ -20,7 +20,7 @@ module _ (start_is_within : StartIsWithin) (next_is_within : NextIsWithin) where
       (next_is_within p m k (item (line p w k) j) (item (line p w k) (j + 1)) (item (line p w k) (j + 2))
       (item_within p m w k j below (omega arith)) (item_within p m w k (j + 1) below (omega arith)) (item_within p m w k (j + 2) below (omega arith)))
 
-  -- and so is the one that is left
+  -- and so is the one that remains
   pub middle_within : WindowsAreWithin
   unfolding middle_state
   middle_within p m r w window =

@@ -16,29 +16,29 @@ LinesAreRows =
     (p : ProgramTree) (k : ℕ) (first last : List ℕ) (row : List (List ℕ))
     → shrunk p k (first ∷ (row ++ last ∷ [])) ≡ row_after p k (to_right p k first) row (to_left p k last)
 
--- the registers of a place of a ring after r rounds are the state that is left of the 2r+1 identifiers around it
+-- the registers of a place of a ring after r rounds are the state that remains of the 2r+1 identifiers around it
 abbrev pub Locality : Type 0
 Locality =
     (p : ProgramTree) (m t r i : ℕ) (ring : List ℕ) → IsRing m t ring → r ≤ t → i < length ring
     → state p ring r i ≡ middle_state p r (window_around ring r i)
 
--- the state that is left of a window after r rounds is within the bounds of the registers after r rounds
+-- the state of a window after r rounds is within the bounds of the registers after r rounds
 abbrev pub WindowsAreWithin : Type 0
 WindowsAreWithin =
     (p : ProgramTree) (m r : ℕ) (window : List ℕ) → IsWindow (2 * r + 1) m window
     → IsWithin (middle_state p r window) (register_bounds p m r)
 
 -- after r rounds the line of 2r+1 identifiers has one state
-abbrev pub OneStateIsLeft : Type 0
-OneStateIsLeft =
+abbrev pub OneStateRemains : Type 0
+OneStateRemains =
     (p : ProgramTree) (r : ℕ) (window : List ℕ) → length window ≡ 2 * r + 1
     → line p window r ≡ middle_state p r window ∷ []
 
--- without rounds the state that is left is the start state of the first identifier
-abbrev pub StartIsLeft : Type 0
-StartIsLeft = (p : ProgramTree) (window : List ℕ) → 0 < length window → middle_state p 0 window ≡ start p (slice_index window 0)
+-- without rounds the state that remains is the start state of the first identifier
+abbrev pub StartStateRemains : Type 0
+StartStateRemains = (p : ProgramTree) (window : List ℕ) → 0 < length window → middle_state p 0 window ≡ start p (slice_index window 0)
 
--- the state that is left of 2r+3 identifiers after r+1 rounds is made by round r from those that are left of the first,
+-- the state that remains of 2r+3 identifiers after r+1 rounds is made by round r from those that remain of the first,
 -- the middle and the last 2r+1 of them after r rounds
 abbrev pub PartsAreJoined : Type 0
 PartsAreJoined =

@@ -23,6 +23,6 @@ abbrev pub line : ProgramTree → List ℕ → ℕ → List (List ℕ)
 line p w zero = map (start p) w
 line p w (suc k) = shrunk p k (line p w k)
 
--- the one state that is left of the 2r+1 identifiers w after r rounds
+-- the one state that remains of the 2r+1 identifiers w after r rounds
 unfoldable pub middle_state : ProgramTree → ℕ → List ℕ → List ℕ
 middle_state p r w = item (line p w r) 0

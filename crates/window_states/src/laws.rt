@@ -19,7 +19,7 @@ pub fn locality()
     places_of_arcs();
 }
 
-/// The state that is left of a window after its rounds is within the bounds of the registers after
+/// The state of a window after its rounds is within the bounds of the registers after
 /// that many rounds.
 #[tactic(auto, using(crate::proofs::Within::middle_within))]
 pub fn windows_are_within()
@@ -30,15 +30,15 @@ pub fn windows_are_within()
 }
 
 /// After `r` rounds the line of `2r+1` identifiers has one state.
-#[tactic(auto, using(crate::proofs::Lines::one_left))]
-pub fn one_state_is_left()
-    ensures { law.OneStateIsLeft }
+#[tactic(auto, using(crate::proofs::Lines::one_remains))]
+pub fn one_state_remains()
+    ensures { law.OneStateRemains }
 {}
 
-/// The state that is left of a window is made from the states that are left of its three parts, by
+/// The state of a window is made from the states of its three parts, by
 /// one round more. Of one identifier it is the start state.
-#[tactic(auto, using(crate::proofs::Lines::start_left, crate::proofs::Lines::parts_joined))]
+#[tactic(auto, using(crate::proofs::Lines::start_remains, crate::proofs::Lines::parts_joined))]
 pub fn states_from_parts()
-    ensures start { law.StartIsLeft }
+    ensures start { law.StartStateRemains }
     ensures next { law.PartsAreJoined }
 {}

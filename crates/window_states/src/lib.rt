@@ -11,7 +11,7 @@ mod window;
 
 pub use block::{Block, BlockLists};
 pub use laws::{
-    lines_are_rows, locality, one_state_is_left, states_from_parts, windows_are_within,
+    lines_are_rows, locality, one_state_remains, states_from_parts, windows_are_within,
 };
 pub use numbers::{block_len, first_number};
 pub use source::Source;

@@ -1,5 +1,5 @@
 use Rattle.std.proofs.Common.{◌≡◌, ◌≤◌, ◌-◌, length}
-use Rattle.node_lang.specs.Parsing.{lexemes_left}
+use Rattle.node_lang.specs.Parsing.{lexemes_from}
 use Rattle.fault_notes.specs.FaultTokens.{place_of_cause}
 use Rattle.fault_notes.specs.CausePlaces.{cause_from, offset_from}
 use Rattle.fault_notes.proofs.scanning.place_of.Given as goal
@@ -8,7 +8,7 @@ use Rattle.fault_notes.proofs.scanning.place_of.Given as goal
 abbrev pub invariant-tokens : goal.invariant-tokens
 invariant-tokens l = record {
   within : l.at ≤ length l.text;
-  same : offset_from l.text (cause_from l.fault l.place (lexemes_left l.text l.at)) ≡ place_of_cause l.text l.fault;
+  same : offset_from l.text (cause_from l.fault l.place (lexemes_from l.text l.at)) ≡ place_of_cause l.text l.fault;
 }
 
 abbrev pub decreases-tokens : goal.decreases-tokens
