@@ -1,8 +1,8 @@
 -- The events that are enabled, from the numbers of rounds and of messages alone.
-use Rattle.std.proofs.Common.{◌≡◌, ℕ, ◌<◌, length, arith, subst, sym, ap}
+use Rattle.std.proofs.Common.{◌≡◌, ℕ, ◌<◌, List, length, arith, subst, sym, ap}
 use Rattle.ring_segments.specs.Segments.{RingSegment}
-use Rattle.ring_core.specs.Machine.{CanSendRight, CanSendLeft, CanAdvance}
-use Rattle.ring_core.specs.Parts.{Parts, FitTogether, MaySendRight, MaySendLeft, part_at, round_at, machine_of}
+use Rattle.ring_core.specs.Machine.{CanSend, CanAdvance}
+use Rattle.ring_core.specs.Parts.{Parts, FitTogether, MaySend, part_at, round_at, machine_of}
 use Rattle.ring_core.proofs.Fits.{MayAdvance}
 use Rattle.ring_core.proofs.Views.{count_is, round_is, own_right_size, own_left_size, came_right_size, came_left_size}
 
@@ -18,40 +18,23 @@ module _ (v : Parts) (kept : FitTogether v) where
       length (part_at v s).segment.plan.program.steps ≡ length v.plan.program.steps
   steps_are s lt = ap (λ (a : RingSegment). length a.plan.program.steps) (kept.segments_are s lt)
 
-  pub may_send_right : (s : ℕ) → CanSendRight (machine_of v) s → MaySendRight (part_at v s)
-  may_send_right s can =
+  pub may_send : (s count : ℕ) (sent : List ℕ) → length sent ≡ count → CanSend (machine_of v) s sent → MaySend (part_at v s).segment count
+  may_send s count sent size can =
       let lt = is_part s can.is_segment in
       let round = round_is v kept s lt in
       record {
         unfinished = omega (arith, can.unfinished, round, steps_are s lt);
-        unsent = omega (arith, can.unsent, round, own_right_size v kept s lt);
+        unsent = omega (arith, can.unsent, round, size);
       }
 
-  pub can_send_right : (s : ℕ) → s < length v.items → MaySendRight (part_at v s) → CanSendRight (machine_of v) s
-  can_send_right s lt may =
+  pub can_send : (s count : ℕ) (sent : List ℕ) → s < length v.items → length sent ≡ count → MaySend (part_at v s).segment count
+      → CanSend (machine_of v) s sent
+  can_send s count sent lt size may =
       let round = round_is v kept s lt in
       record {
         is_segment = is_segment s lt;
         unfinished = omega (arith, may.unfinished, round, steps_are s lt);
-        unsent = omega (arith, may.unsent, round, own_right_size v kept s lt);
-      }
-
-  pub may_send_left : (s : ℕ) → CanSendLeft (machine_of v) s → MaySendLeft (part_at v s)
-  may_send_left s can =
-      let lt = is_part s can.is_segment in
-      let round = round_is v kept s lt in
-      record {
-        unfinished = omega (arith, can.unfinished, round, steps_are s lt);
-        unsent = omega (arith, can.unsent, round, own_left_size v kept s lt);
-      }
-
-  pub can_send_left : (s : ℕ) → s < length v.items → MaySendLeft (part_at v s) → CanSendLeft (machine_of v) s
-  can_send_left s lt may =
-      let round = round_is v kept s lt in
-      record {
-        is_segment = is_segment s lt;
-        unfinished = omega (arith, may.unfinished, round, steps_are s lt);
-        unsent = omega (arith, may.unsent, round, own_left_size v kept s lt);
+        unsent = omega (arith, may.unsent, round, size);
       }
 
   pub may_advance : (s : ℕ) → CanAdvance (machine_of v) s → MayAdvance v s
@@ -79,4 +62,4 @@ module _ (v : Parts) (kept : FitTogether v) where
   -- an unfinished part has a round to do
   pub unfinished : (s : ℕ) → s < length v.items → MayAdvance v s →
       round_at v s < length (part_at v s).segment.plan.program.steps
-  unfinished s lt may = let step = kept.in_step s lt in omega (arith, may.sent_right, step.right_end)
+  unfinished s lt may = let step = kept.right_in_step s lt in omega (arith, may.sent_right, step.end)

@@ -4,8 +4,9 @@ use Rattle.std.proofs.Math.ListN.{set}
 use Rattle.round_eval.specs.Laws.{StretchesAreRows}
 use Rattle.ring_core.specs.declared.event.RingEvent.TheVariants.{SendRight, SendLeft, Advance}
 use Rattle.ring_core.specs.Machine.{Steps}
-use Rattle.ring_core.specs.Parts.{Progress, Parts, FitTogether, MaySendRight, MaySendLeft, part_at, round_at, at_round, machine_of}
-use Rattle.ring_core.proofs.Enabled.{is_part, can_send_right, can_send_left, can_advance, may_send_right, may_send_left}
+use Rattle.ring_core.specs.Parts.{Progress, Parts, FitTogether, MaySend, part_at, round_at, at_round, machine_of}
+use Rattle.ring_core.proofs.Enabled.{is_part, can_send, can_advance, may_send}
+use Rattle.ring_core.proofs.Views.{own_right_size, own_left_size}
 use Rattle.ring_core.proofs.Fits.{MayAdvance, fits, sent_right_next, sent_left_next, advanced_next}
 use Rattle.ring_core.proofs.Moves.{right_moves, left_moves, advance_moves}
 
@@ -13,18 +14,11 @@ module _ (v : Parts) (kept : FitTogether v) (s : ℕ) where
   abbrev pub after : Progress → Parts
   after new = record v { items = set v.items s new }
 
-  -- a part that may send to the right does so in the order of the rounds
-  pub right_in_order : s < length v.items → MaySendRight (part_at v s) → (part_at v s).rightward ≡ round_at v s
-  right_in_order lt may = let step = kept.in_step s lt in omega (arith, may.unsent, step.right_low)
-
-  pub left_in_order : s < length v.items → MaySendLeft (part_at v s) → (part_at v s).leftward ≡ round_at v s
-  left_in_order lt may = let step = kept.in_step s lt in omega (arith, may.unsent, step.left_low)
-
-  pub sent_right_fits : (new : Progress) → s < length v.items → MaySendRight (part_at v s)
+  pub sent_right_fits : (new : Progress) → s < length v.items → MaySend (part_at v s).segment (part_at v s).rightward
       → new ≡ record (part_at v s) { rightward = (part_at v s).rightward + 1 } → FitTogether (after new)
   sent_right_fits new lt may is = fits v s new kept lt (sent_right_next v s new kept lt may is)
 
-  pub sent_left_fits : (new : Progress) → s < length v.items → MaySendLeft (part_at v s)
+  pub sent_left_fits : (new : Progress) → s < length v.items → MaySend (part_at v s).segment (part_at v s).leftward
       → new ≡ record (part_at v s) { leftward = (part_at v s).leftward + 1 } → FitTogether (after new)
   sent_left_fits new lt may is = fits v s new kept lt (sent_left_next v s new kept lt may is)
 
@@ -33,17 +27,19 @@ module _ (v : Parts) (kept : FitTogether v) (s : ℕ) where
       → FitTogether (after new)
   advanced_fits new lt may is = fits v s new kept lt (advanced_next v s new kept lt may is)
 
-  pub sent_right_steps : (new : Progress) → s < length v.items → MaySendRight (part_at v s)
+  pub sent_right_steps : (new : Progress) → s < length v.items → MaySend (part_at v s).segment (part_at v s).rightward
       → new ≡ record (part_at v s) { rightward = (part_at v s).rightward + 1 }
       → Steps (machine_of v) (SendRight s) (machine_of (after new))
   sent_right_steps new lt may is =
-      inl (can_send_right v kept s lt may, right_moves v kept s lt new (right_in_order lt may) is)
+      let step = kept.right_in_step s lt in
+      inl (can_send v kept s _ _ lt (own_right_size v kept s lt) may, right_moves v kept s lt new (omega (arith, may.unsent, step.low)) is)
 
-  pub sent_left_steps : (new : Progress) → s < length v.items → MaySendLeft (part_at v s)
+  pub sent_left_steps : (new : Progress) → s < length v.items → MaySend (part_at v s).segment (part_at v s).leftward
       → new ≡ record (part_at v s) { leftward = (part_at v s).leftward + 1 }
       → Steps (machine_of v) (SendLeft s) (machine_of (after new))
   sent_left_steps new lt may is =
-      inl (can_send_left v kept s lt may, left_moves v kept s lt new (left_in_order lt may) is)
+      let step = kept.left_in_step s lt in
+      inl (can_send v kept s _ _ lt (own_left_size v kept s lt) may, left_moves v kept s lt new (omega (arith, may.unsent, step.low)) is)
 
   pub advance_steps : (new : Progress) → StretchesAreRows → s < length v.items → MayAdvance v s
       → new ≡ record (part_at v s) { segment = at_round (part_at v s).segment (round_at v s + 1) }
@@ -51,9 +47,10 @@ module _ (v : Parts) (kept : FitTogether v) (s : ℕ) where
   advance_steps new law lt may is = inl (can_advance v kept s lt may, advance_moves v kept s lt new law may is)
 
   -- a part that may not move stays
-  pub right_idle : (s < length v.items → ¬ MaySendRight (part_at v s)) →
+  pub right_idle : (s < length v.items → ¬ MaySend (part_at v s).segment (part_at v s).rightward) →
       Steps (machine_of v) (SendRight s) (machine_of v)
-  right_idle none = inr (λ can. none (is_part v kept s can.is_segment) (may_send_right v kept s can), refl)
+  right_idle none = inr (λ can. let lt = is_part v kept s can.is_segment in none lt (may_send v kept s _ _ (own_right_size v kept s lt) can), refl)
 
-  pub left_idle : (s < length v.items → ¬ MaySendLeft (part_at v s)) → Steps (machine_of v) (SendLeft s) (machine_of v)
-  left_idle none = inr (λ can. none (is_part v kept s can.is_segment) (may_send_left v kept s can), refl)
+  pub left_idle : (s < length v.items → ¬ MaySend (part_at v s).segment (part_at v s).leftward) →
+      Steps (machine_of v) (SendLeft s) (machine_of v)
+  left_idle none = inr (λ can. let lt = is_part v kept s can.is_segment in none lt (may_send v kept s _ _ (own_left_size v kept s lt) can), refl)

@@ -4,13 +4,14 @@ use Rattle.std.proofs.Math.ListN.{set}
 use Rattle.std.proofs.lemmas.List.{length-set}
 use Rattle.ring_segments.specs.Segments.{RingSegment}
 use Rattle.ring_core.specs.Machine.{border_before, segment_after}
-use Rattle.ring_core.specs.Parts.{Progress, Parts, IsInStep, FitTogether, MaySendRight, MaySendLeft, no_part, part_at, round_at, at_round}
+use Rattle.ring_core.specs.Parts.{Progress, Parts, IsInStep, FitTogether, MaySend, no_part, part_at, round_at, at_round}
 use Rattle.ring_core.proofs.Updates.{set_cases}
 
 -- new may replace part s
 pub record IsNext (v : Parts) (s : ℕ) (new : Progress) : Type 0 where
   pub segment : new.segment ≡ at_round (part_at v s).segment new.segment.round
-  pub in_step : IsInStep new
+  pub right_in_step : IsInStep new.segment new.rightward
+  pub left_in_step : IsInStep new.segment new.leftward
   pub more_right : (part_at v s).rightward ≤ new.rightward
   pub more_left : (part_at v s).leftward ≤ new.leftward
   pub left_came : new.segment.round ≤ (part_at v (border_before (length v.items) s)).rightward
@@ -44,7 +45,10 @@ fits v s new kept lt next =
           ∙ ap (λ j. record { plan = v.plan; ring = v.ring; segments = g; index = j; round = new.segment.round })
           (sym same))
           (λ _. kept.segments_are k below));
-      in_step = rw size (λ k below. cases k IsInStep (λ _. next.in_step) (λ _. kept.in_step k below));
+      right_in_step = rw size (λ k below.
+          cases k (λ p. IsInStep p.segment p.rightward) (λ _. next.right_in_step) (λ _. kept.right_in_step k below));
+      left_in_step = rw size (λ k below.
+          cases k (λ p. IsInStep p.segment p.leftward) (λ _. next.left_in_step) (λ _. kept.left_in_step k below));
       from_left = rw size (λ k below.
           let came = cases k (λ p. p.segment.round ≤ (part_at v (border_before g k)).rightward)
           (λ same. omega (arith, next.left_came, ap (λ j. (part_at v (border_before g j)).rightward) same))
@@ -57,22 +61,19 @@ fits v s new kept lt next =
           omega (arith, came, left (segment_after g k)));
     }
 
--- a part that has sent to the right, or to the left
+-- a segment that has sent once more
+one_more : (a : RingSegment) (sent : ℕ) → IsInStep a sent → MaySend a sent → IsInStep a (sent + 1)
+one_more a sent step may = record { low = omega (arith, step.low); high = omega (arith, may.unsent); end = omega (arith, may.unfinished, may.unsent) }
+
 pub sent_right_next :
-    (v : Parts) (s : ℕ) (new : Progress) → FitTogether v → s < length v.items → MaySendRight (part_at v s)
+    (v : Parts) (s : ℕ) (new : Progress) → FitTogether v → s < length v.items
+    → MaySend (part_at v s).segment (part_at v s).rightward
     → new ≡ record (part_at v s) { rightward = (part_at v s).rightward + 1 } → IsNext v s new
 sent_right_next v s new kept lt may is =
-    let step = kept.in_step s lt in
     rw is (record {
       segment = refl;
-      in_step = record {
-        right_low = omega (arith, step.right_low);
-        right_high = omega (arith, may.unsent);
-        right_end = omega (arith, may.unfinished, may.unsent);
-        left_low = step.left_low;
-        left_high = step.left_high;
-        left_end = step.left_end;
-      };
+      right_in_step = one_more (part_at v s).segment (part_at v s).rightward (kept.right_in_step s lt) may;
+      left_in_step = kept.left_in_step s lt;
       more_right = omega arith;
       more_left = omega arith;
       left_came = kept.from_left s lt;
@@ -80,20 +81,14 @@ sent_right_next v s new kept lt may is =
     })
 
 pub sent_left_next :
-    (v : Parts) (s : ℕ) (new : Progress) → FitTogether v → s < length v.items → MaySendLeft (part_at v s)
+    (v : Parts) (s : ℕ) (new : Progress) → FitTogether v → s < length v.items
+    → MaySend (part_at v s).segment (part_at v s).leftward
     → new ≡ record (part_at v s) { leftward = (part_at v s).leftward + 1 } → IsNext v s new
 sent_left_next v s new kept lt may is =
-    let step = kept.in_step s lt in
     rw is (record {
       segment = refl;
-      in_step = record {
-        right_low = step.right_low;
-        right_high = step.right_high;
-        right_end = step.right_end;
-        left_low = omega (arith, step.left_low);
-        left_high = omega (arith, may.unsent);
-        left_end = omega (arith, may.unfinished, may.unsent);
-      };
+      right_in_step = kept.right_in_step s lt;
+      left_in_step = one_more (part_at v s).segment (part_at v s).leftward (kept.left_in_step s lt) may;
       more_right = omega arith;
       more_left = omega arith;
       left_came = kept.from_left s lt;
@@ -111,17 +106,12 @@ pub advanced_next :
     (v : Parts) (s : ℕ) (new : Progress) → FitTogether v → s < length v.items → MayAdvance v s
     → new ≡ record (part_at v s) { segment = at_round (part_at v s).segment (round_at v s + 1) } → IsNext v s new
 advanced_next v s new kept lt may is =
-    let step = kept.in_step s lt in
+    let right = kept.right_in_step s lt in
+    let left = kept.left_in_step s lt in
     rw is (record {
       segment = refl;
-      in_step = record {
-        right_low = omega (arith, may.sent_right);
-        right_high = omega (arith, step.right_high);
-        right_end = step.right_end;
-        left_low = omega (arith, may.sent_left);
-        left_high = omega (arith, step.left_high);
-        left_end = step.left_end;
-      };
+      right_in_step = record { low = omega (arith, may.sent_right); high = omega (arith, right.high); end = right.end };
+      left_in_step = record { low = omega (arith, may.sent_left); high = omega (arith, left.high); end = left.end };
       more_right = omega arith;
       more_left = omega arith;
       left_came = omega (arith, may.left_came);

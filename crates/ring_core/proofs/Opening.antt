@@ -1,5 +1,5 @@
 -- The parts before the first event.
-use Rattle.std.proofs.Common.{◌≡◌, ℕ, ◌<◌, ◌≤◌, map, length, replicate, arith, subst, sym, ◌∙◌, ap}
+use Rattle.std.proofs.Common.{◌≡◌, ℕ, ◌<◌, ◌≤◌, map, length, replicate, arith, refl, subst, sym, ◌∙◌, ap}
 use Rattle.std.specs.List.{range_with_len}
 use Rattle.std.proofs.lemmas.List.{ext_get_or, get_or-map, get_or-replicate, length-map, length-replicate}
 use Rattle.std.proofs.lemmas.List.FromFn.{fill_by_all, length-map-range_with_len, get_or-map-range_with_len}
@@ -19,6 +19,11 @@ module _ (plan : ProgramForIds) (ring : OrientedRing) (g : ℕ) where
   part_is : (s : ℕ) → s < g → part_at opening_parts s ≡ opening_part plan ring g s
   part_is s lt = get_or-map-range_with_len (opening_part plan ring g) 0 g s s no_part lt (omega arith)
 
+  in_step : (s : ℕ) → s < g → (sent : Progress → ℕ) → sent (opening_part plan ring g s) ≡ 0
+      → IsInStep (part_at opening_parts s).segment (sent (part_at opening_parts s))
+  in_step s lt sent none =
+      subst (λ p. IsInStep p.segment (sent p)) (sym (part_is s lt)) (rw none (record { low = omega arith; high = omega arith; end = omega arith }))
+
   pub opening_fits : 1 ≤ g → g ≤ length ring.places → FitTogether opening_parts
   opening_fits some few =
       let round = λ (s : ℕ) (lt : s < g). ap (λ (p : Progress). p.segment.round) (part_is s lt) in
@@ -28,14 +33,8 @@ module _ (plan : ProgramForIds) (ring : OrientedRing) (g : ℕ) where
         segments_are = rw count_is (λ s lt.
             ap (λ (p : Progress). p.segment) (part_is s lt)
             ∙ ap (λ r. record { plan = plan; ring = ring; segments = g; index = s; round = r }) (sym (round s lt)));
-        in_step = rw count_is (λ s lt. subst IsInStep (sym (part_is s lt)) (record {
-          right_low = omega arith;
-          right_high = omega arith;
-          right_end = omega arith;
-          left_low = omega arith;
-          left_high = omega arith;
-          left_end = omega arith;
-        }));
+        right_in_step = rw count_is (λ s lt. in_step s lt (λ p. p.rightward) refl);
+        left_in_step = rw count_is (λ s lt. in_step s lt (λ p. p.leftward) refl);
         from_left = rw count_is (λ s lt. omega (arith, round s lt));
         from_right = rw count_is (λ s lt. omega (arith, round s lt));
       }

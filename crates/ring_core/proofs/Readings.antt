@@ -113,15 +113,15 @@ module _ (v : Parts) (kept : FitTogether v) where
   pub near : AreNear (machine_of v)
   near =
       let g = length v.items in
-      let step = λ (s : ℕ). kept.in_step (segment_after g s) (after_inside g s kept.some) in
+      let step = λ (s : ℕ). kept.left_in_step (segment_after g s) (after_inside g s kept.some) in
       record {
         not_ahead = λ s below.
             let lt = is_part s below in
             let ahead = step s in
-            omega (arith, round_is v kept s lt, after_round s, kept.from_right s lt, ahead.left_high);
+            omega (arith, round_is v kept s lt, after_round s, kept.from_right s lt, ahead.high);
         not_behind = λ s below.
             let lt = is_part s below in
-            let here = kept.in_step s lt in
+            let here = kept.right_in_step s lt in
             let came = kept.from_left (segment_after g s) (after_inside g s kept.some) in
             omega (
               arith,
@@ -129,7 +129,7 @@ module _ (v : Parts) (kept : FitTogether v) where
               after_round s,
               came,
               ap (λ k. (part_at v k).rightward) (before_after g s lt),
-              here.right_high,
+              here.high,
             );
       }
 

@@ -87,11 +87,14 @@ first_state a = slice_index_or a.states 0 []
 abbrev pub last_state : SegmentState → List ℕ
 last_state a = slice_index_or a.states (length a.states - 1) []
 
--- segment s may send to the right: it has a round to do, and the border has no message of this round
-pub record CanSendRight (m : Machine) (s : ℕ) : Type 0 where
+-- segment s may send to a side to which it has sent these messages: it has a round to do, and has not sent in it
+pub record CanSend (m : Machine) (s : ℕ) (sent : List ℕ) : Type 0 where
   pub is_segment : s < length m.segments
   pub unfinished : (segment_at m s).round < length m.plan.program.steps
-  pub unsent : length (right_border m s).rightward ≤ (segment_at m s).round
+  pub unsent : length sent ≤ (segment_at m s).round
+
+abbrev pub CanSendRight : Machine → ℕ → Type 0
+CanSendRight m s = CanSend m s (right_border m s).rightward
 
 -- then the message of its last place is at the border
 abbrev pub sent_right : Machine → ℕ → Machine
@@ -103,11 +106,8 @@ sent_right m s =
           (record b { rightward = b.rightward ++ to_right m.plan.program a.round (last_state a) ∷ [] });
     }
 
--- segment s may send to the left, likewise
-pub record CanSendLeft (m : Machine) (s : ℕ) : Type 0 where
-  pub is_segment : s < length m.segments
-  pub unfinished : (segment_at m s).round < length m.plan.program.steps
-  pub unsent : length (left_border m s).leftward ≤ (segment_at m s).round
+abbrev pub CanSendLeft : Machine → ℕ → Type 0
+CanSendLeft m s = CanSend m s (left_border m s).leftward
 
 -- then the message of its first place is at the border before it
 abbrev pub sent_left : Machine → ℕ → Machine

@@ -66,14 +66,11 @@ part_at v s = slice_index_or v.items s no_part
 abbrev pub round_at : Parts → ℕ → ℕ
 round_at v s = (part_at v s).segment.round
 
--- a part has sent both ways in each round that it has done, and in no other but its next one
-pub record IsInStep (p : Progress) : Type 0 where
-  pub right_low : p.segment.round ≤ p.rightward
-  pub right_high : p.rightward ≤ p.segment.round + 1
-  pub right_end : p.rightward ≤ length p.segment.plan.program.steps
-  pub left_low : p.segment.round ≤ p.leftward
-  pub left_high : p.leftward ≤ p.segment.round + 1
-  pub left_end : p.leftward ≤ length p.segment.plan.program.steps
+-- a segment has sent to a side in each round that it has done, and in no other but its next one
+pub record IsInStep (a : RingSegment) (sent : ℕ) : Type 0 where
+  pub low : a.round ≤ sent
+  pub high : sent ≤ a.round + 1
+  pub end : sent ≤ length a.plan.program.steps
 
 -- part s of g before the first round
 abbrev pub opening_part : ProgramForIds → OrientedRing → ℕ → ℕ → Progress
@@ -91,7 +88,8 @@ pub record FitTogether (v : Parts) : Type 0 where
   pub segments_are : (s : ℕ) → s < length v.items
       → (part_at v s).segment
       ≡ record { plan = v.plan; ring = v.ring; segments = length v.items; index = s; round = round_at v s }
-  pub in_step : (s : ℕ) → s < length v.items → IsInStep (part_at v s)
+  pub right_in_step : (s : ℕ) → s < length v.items → IsInStep (part_at v s).segment (part_at v s).rightward
+  pub left_in_step : (s : ℕ) → s < length v.items → IsInStep (part_at v s).segment (part_at v s).leftward
   pub from_left : (s : ℕ) → s < length v.items → round_at v s ≤ (part_at v (border_before (length v.items) s)).rightward
   pub from_right : (s : ℕ) → s < length v.items → round_at v s ≤ (part_at v (segment_after (length v.items) s)).leftward
 
@@ -124,11 +122,7 @@ machine_of v =
       borders = map (border_state v) (range_with_len 0 (length v.items));
     }
 
--- what a part may do
-pub record MaySendRight (p : Progress) : Type 0 where
-  pub unfinished : p.segment.round < length p.segment.plan.program.steps
-  pub unsent : p.rightward ≤ p.segment.round
-
-pub record MaySendLeft (p : Progress) : Type 0 where
-  pub unfinished : p.segment.round < length p.segment.plan.program.steps
-  pub unsent : p.leftward ≤ p.segment.round
+-- a segment may send to a side to which it has sent so many messages
+pub record MaySend (a : RingSegment) (sent : ℕ) : Type 0 where
+  pub unfinished : a.round < length a.plan.program.steps
+  pub unsent : sent ≤ a.round

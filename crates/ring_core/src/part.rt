@@ -2,7 +2,7 @@
 ghost use Rattle.std.specs.Prelude.{◌≡◌, ◌+◌, ◌*◌, ◌<◌, ◌≤◌, ◌↔◌, IfOk, IfSome, IfNone, IsTrue, OnOk, OnErr, length};
 ghost use Rattle.round_eval.specs.Rows.{rows};
 ghost use Rattle.ring_segments.specs.Segments.{places_of, states_of};
-ghost use Rattle.ring_core.specs.Parts.{Progress, MaySendRight, MaySendLeft, opening_part, at_round};
+ghost use Rattle.ring_core.specs.Parts.{Progress, MaySend, opening_part, at_round};
 
 use lang_check::Plan;
 use node_program::OutOfMemory;
@@ -109,7 +109,7 @@ impl<'a> Part<'a> {
 
     // Returns whether it may send to the right.
     pub(crate) fn may_send_right(&self) -> bool
-        ensures { IsTrue result ↔ MaySendRight self.now }
+        ensures { IsTrue result ↔ MaySend self.now.segment self.now.rightward }
     {
         let round = self.segment.round();
         round < self.segment.rounds() && self.rightward.len() <= round as usize
@@ -117,7 +117,7 @@ impl<'a> Part<'a> {
 
     // Returns whether it may send to the left.
     pub(crate) fn may_send_left(&self) -> bool
-        ensures { IsTrue result ↔ MaySendLeft self.now }
+        ensures { IsTrue result ↔ MaySend self.now.segment self.now.leftward }
     {
         let round = self.segment.round();
         round < self.segment.rounds() && self.leftward.len() <= round as usize

@@ -1,7 +1,7 @@
 use Rattle.std.proofs.Common.{◌≡◌, ◌+◌, ◌<◌, length, subst, sym, ◌∙◌, ap, rules}
 use Rattle.std.proofs.lemmas.List.{get_or_default}
 use Rattle.ring_core.specs.Machine.{Machine, Steps}
-use Rattle.ring_core.specs.Parts.{Progress, Parts, MaySendLeft, no_part, part_at, machine_of}
+use Rattle.ring_core.specs.Parts.{Progress, Parts, MaySend, no_part, part_at, machine_of}
 use Rattle.ring_core.specs.declared.event.RingEvent.TheVariants.{SendLeft}
 use Rattle.ring_core.proofs.Events.{after, sent_left_fits, sent_left_steps, left_idle}
 use Rattle.ring_core.proofs.world.World.send_left.Goals.{In_ok-send_left}
@@ -16,9 +16,9 @@ module _ (c : In_ok-send_left) where
   inside : c.args.segment < length before.items
   inside = search rules
 
-  may : MaySendLeft (part_at before c.args.segment)
+  may : MaySend (part_at before c.args.segment).segment (part_at before c.args.segment).leftward
   may =
-      subst MaySendLeft (c.index.ensures ∙ get_or_default before.items c.args.segment c.index.result.now no_part inside)
+      subst (λ (p : Progress). MaySend p.segment p.leftward) (c.index.ensures ∙ get_or_default before.items c.args.segment c.index.result.now no_part inside)
       (c.may_send_left.ensures.0 c.if-may_send_left.true)
 
   sent : c.send_left.new.self ≡ record (part_at before c.args.segment)
@@ -50,7 +50,7 @@ returns-else-index-len c =
       | else-index-len-via-then-index-len+else-may_send_left w ↦
           let read : w.index.result.now ≡ part_at v s = w.index.ensures
           ∙ get_or_default v.items s w.index.result.now no_part lt in
-          let can = w.may_send_left.ensures.1 (subst MaySendLeft (sym read) may) in
+          let can = w.may_send_left.ensures.1 (subst (λ (p : Progress). MaySend p.segment p.leftward) (sym read) may) in
           search rules
       | else-index-len-via-else-index-len w ↦ absurd (search rules)
     ]))

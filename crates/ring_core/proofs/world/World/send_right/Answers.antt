@@ -1,7 +1,7 @@
 use Rattle.std.proofs.Common.{◌≡◌, ◌+◌, ◌<◌, length, subst, sym, ◌∙◌, ap, rules}
 use Rattle.std.proofs.lemmas.List.{get_or_default}
 use Rattle.ring_core.specs.Machine.{Machine, Steps}
-use Rattle.ring_core.specs.Parts.{Progress, Parts, MaySendRight, no_part, part_at, machine_of}
+use Rattle.ring_core.specs.Parts.{Progress, Parts, MaySend, no_part, part_at, machine_of}
 use Rattle.ring_core.specs.declared.event.RingEvent.TheVariants.{SendRight}
 use Rattle.ring_core.proofs.Events.{after, sent_right_fits, sent_right_steps, right_idle}
 use Rattle.ring_core.proofs.world.World.send_right.Goals.{In_ok-send_right}
@@ -16,9 +16,9 @@ module _ (c : In_ok-send_right) where
   inside : c.args.segment < length before.items
   inside = search rules
 
-  may : MaySendRight (part_at before c.args.segment)
+  may : MaySend (part_at before c.args.segment).segment (part_at before c.args.segment).rightward
   may =
-      subst MaySendRight (c.index.ensures
+      subst (λ (p : Progress). MaySend p.segment p.rightward) (c.index.ensures
       ∙ get_or_default before.items c.args.segment c.index.result.now no_part inside)
       (c.may_send_right.ensures.0 c.if-may_send_right.true)
 
@@ -51,7 +51,7 @@ returns-else-index-len c =
       | else-index-len-via-then-index-len+else-may_send_right w ↦
           let read : w.index.result.now ≡ part_at v s = w.index.ensures
           ∙ get_or_default v.items s w.index.result.now no_part lt in
-          let can = w.may_send_right.ensures.1 (subst MaySendRight (sym read) may) in
+          let can = w.may_send_right.ensures.1 (subst (λ (p : Progress). MaySend p.segment p.rightward) (sym read) may) in
           search rules
       | else-index-len-via-else-index-len w ↦ absurd (search rules)
     ]))
