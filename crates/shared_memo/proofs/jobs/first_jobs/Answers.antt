@@ -3,8 +3,12 @@ use Rattle.std.specs.Prelude.{slice_index}
 use Rattle.std.proofs.lemmas.List.FromFn.{length-map-range_with_len, map-range_with_len_more, get_or-map-range_with_len}
 use Rattle.win_index.specs.Blocks.{block_count}
 use Rattle.win_index.proofs.JobNumbers.{job_number_at}
-use Rattle.win_index.proofs.JobPlaces.{jobs_below, length-jobs_below}
+use Rattle.win_index.proofs.JobPlaces.{jobs_below, length_jobs_below, no_jobs_below}
 use Rattle.shared_memo.proofs.jobs.first_jobs.Goals as goal
+
+pub loop-level-init : goal.loop-level-init
+loop-level-init c =
+    record { first = omega (arith, no_jobs_below c.args.plan.now.ids); few = omega arith; numbers = search rules }
 
 pub loop-level-preserved : goal.loop-level-preserved
 loop-level-preserved c =
@@ -14,7 +18,7 @@ loop-level-preserved c =
     let count : c.blocks-first.result ≡ block_count m k = search rules in
     let pushed : c.push.new.self.items ≡ c.loop-level.numbers.items ++ c.loop-level.first ∷ [] = search rules in
     record {
-      first = omega (arith, length-jobs_below m k, inv.first, count);
+      first = omega (arith, length_jobs_below m k, inv.first, count);
       few = omega (arith, inv.few, c.blocks-first.ensures.few);
       numbers = rw (pushed, inv.numbers, inv.first) (sym (map-range_with_len_more (λ level. length (jobs_below m level)) 0 k k (omega arith)));
     }
