@@ -47,9 +47,7 @@ pub fn fill_by_workers<R: Threads + Wait + Sync, J: Jobs + Sync, G: Gate + Sync>
 {
     let (desk, mut tickets) = Desk::new(alloc, jobs.count(), workers)?;
     if workers > 1 {
-        let handles = Vec::with_capacity(alloc, tickets.len())?;
-        let outcomes = Vec::with_capacity(alloc, tickets.len())?;
-        let outcomes = run_all(rt, alloc, jobs, &desk, gate, tickets, handles, outcomes)?;
+        let outcomes = run_all(rt, alloc, jobs, &desk, gate, tickets)?;
         lowest_fault(&outcomes)?;
         return Ok(None);
     }
@@ -60,7 +58,7 @@ pub fn fill_by_workers<R: Threads + Wait + Sync, J: Jobs + Sync, G: Gate + Sync>
 }
 
 // Runs a worker for each ticket on a thread of its own, until all have ended. Returns what they came
-// to, or that the start of a thread was refused.
+// to, or that memory or the start of a thread was refused.
 fn run_all<R: Threads + Wait + Sync, J: Jobs + Sync, G: Gate + Sync>(
     rt: &R,
     alloc: Global,
@@ -68,16 +66,15 @@ fn run_all<R: Threads + Wait + Sync, J: Jobs + Sync, G: Gate + Sync>(
     desk: &Desk,
     gate: &G,
     tickets: Vec<Ticket>,
-    handles: Vec<Handle>,
-    outcomes: Vec<Outcome>,
-) -> Result<Vec<Outcome>, RefusedStart>
+) -> Result<Vec<Outcome>, FillFault>
     requires tickets { AreFreshTickets desk.now tickets.items }
     requires jobs { numbers_of desk.now ≡ J.jobs jobs.now }
-    requires handles { HasRoom (vec_len tickets) handles }
-    requires outcomes { HasRoom (vec_len tickets) outcomes }
-    ensures { IfOk result (λ outcomes. AreOutcomes (vec_len tickets) outcomes.items) }
+    ensures outcomes { IfOk result (λ outcomes. AreOutcomes (vec_len tickets) outcomes.items) }
+    ensures fault { IfErr result (IsFaultOf 2) }
 {
-    thread::scope(
+    let handles: Vec<Handle> = Vec::with_capacity(alloc, tickets.len())?;
+    let outcomes: Vec<Outcome> = Vec::with_capacity(alloc, tickets.len())?;
+    let joined = thread::scope(
         thread::scope_env(),
         rt,
         |scope| -> Result<Vec<Outcome>, RefusedStart>
@@ -96,7 +93,8 @@ fn run_all<R: Threads + Wait + Sync, J: Jobs + Sync, G: Gate + Sync>(
                 Err(RefusedStart)
             }
         },
-    )
+    )?;
+    Ok(joined)
 }
 
 // Starts a worker for each ticket, in their order, until a start is refused, and returns whether all
