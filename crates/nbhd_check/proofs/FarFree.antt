@@ -1,10 +1,11 @@
 -- Windows that begin no tuple with a close third window, and the families of these third windows.
-use Rattle.std.proofs.Common.{◌≡◌, ◌≢◌, ℕ, ◌+◌, ◌-◌, ◌*◌, ◌<◌, ◌≤◌, List, length, get_or, take, drop, slice_get, Some, sym, ap, ◌∙◌, arith}
+use Rattle.std.proofs.Common.{◌≡◌, ◌≢◌, ℕ, ◌+◌, ◌-◌, ◌*◌, ◌<◌, ◌≤◌, List, ◌∷◌, length, get_or, take, drop, slice_get, Some, sym, ap, ◌∙◌, arith}
 use Rattle.std.proofs.lemmas.List.{get_or-take, get_or-drop, take-take, drop-take}
 use Rattle.std.proofs.lemmas.Option.{same_Some, slice_get_within}
 use Rattle.std.proofs.lemmas.Nat.{mul-le}
 use Rattle.std.specs.Int.{abs_diff}
 use Rattle.win_index.specs.Arcs.{part_at}
+use Rattle.win_index.specs.Falling.{falling}
 use Rattle.win_index.specs.Windows.{IsWindow}
 use Rattle.win_index.proofs.FrontPlaces.{slice_window}
 use Rattle.win_index.proofs.Numbers.{length-windows, one_place, windows_all}
@@ -16,6 +17,7 @@ use Rattle.nbhd_check.specs.FarSearch.{AreFarFreeIn, HasFamilyIn}
 use Rattle.nbhd_check.specs.Runs.{AreFree, BeginsFarTuple}
 use Rattle.nbhd_check.proofs.Cells.{row_more}
 use Rattle.nbhd_check.proofs.Close.{close_along}
+use Rattle.nbhd_check.proofs.Ends.{by_first}
 use Rattle.nbhd_check.proofs.Prefixes.{window_drop, in_longer_run, one_run}
 use Rattle.nbhd_check.proofs.RunLengths.{falling-add, falling_two}
 use Rattle.nbhd_check.proofs.Witnesses.{channel_at}
@@ -28,29 +30,14 @@ first_two t number window some item =
     let size = is.size in
     (omega arith, is.below 0 0 (omega arith), is.below 1 0 (omega arith))
 
--- a window of a table by its family, the windows with the same identifiers but the last two
-record InFamily (t : ChannelTable) (number : ℕ) (window : List ℕ) : Type 0 where
-  family : ℕ
-  place : ℕ
-  shared_at : slice_get (shared_lists t) family ≡ Some (take (shared_len t) window)
-  number_is : number ≡ family * family_len t + place
-  inside : place < family_len t
+-- a window of a table by these two and the others
+pub by_pair : (t : ChannelTable) (number first second : ℕ) (window z : List ℕ) → 1 ≤ t.rounds → slice_get (windows_of t) number ≡ Some window
+    → (get_or window 0 0 ≡ first) × (get_or window 1 0 ≡ second) × (drop 2 window ≡ z) → window ≡ first ∷ second ∷ z
+by_pair t number first second window z some item own = by_first window (first_two t number window some item).0 ∙ (λ q. own.0 q ∷ own.1 q ∷ own.2 q)
 
 module _ (t : ChannelTable) (some : 1 ≤ t.rounds) where
   size : 2 * t.rounds + 1 ≡ shared_len t + 2
   size = omega arith
-
-  in_family : (number : ℕ) (window : List ℕ) → slice_get (windows_of t) number ≡ Some window → InFamily t number window
-  in_family number window item =
-      let run = in_longer_run (shared_len t) t.ids 2 number window (rw size at item) in
-      let len = falling_two (t.ids - shared_len t) in
-      record {
-        family = run.number;
-        place = run.rest;
-        shared_at = run.front_at;
-        number_is = rw (← len) run.number_is;
-        inside = rw (← len) run.inside;
-      }
 
   -- the windows of a table, by families
   pub all_of_families : length (windows_of t) ≡ length (shared_lists t) * family_len t
@@ -66,20 +53,22 @@ module _ (t : ChannelTable) (some : 1 ≤ t.rounds) where
   -- the windows that begin with a list of shared identifiers
   pub family_is : (z : List ℕ) (number : ℕ) → slice_get (shared_lists t) number ≡ Some z → IsFamily t z (number * family_len t) (family_len t)
   family_is z number item =
-      record {
-        within = family_within number (slice_get_within (shared_lists t) number z item);
+      let len = falling_two (t.ids - shared_len t) in
+      let run = λ (n : ℕ) (window : List ℕ) (at' : slice_get (windows_of t) n ≡ Some window). in_longer_run (shared_len t) t.ids 2 n window (rw size at at') in
+      rw (← len) (record {
+        within = rw len (family_within number (slice_get_within (shared_lists t) number z item));
         stands = λ window is begins.
             let place = window_place (2 * t.rounds + 1) t.ids window is in
-            let own = in_family place.0 window place.1 in
-            let same = one_place (shared_len t) t.ids own.family number z (own.shared_at ∙ ap Some begins) item in
-            let number_is : place.0 ≡ number * family_len t + own.place = own.number_is ∙ ap (λ n. n * family_len t + own.place) same in
+            let own = run place.0 window place.1 in
+            let same = one_place (shared_len t) t.ids own.number number z (own.front_at ∙ ap Some begins) item in
+            let number_is = rw same at own.number_is in
             let inside = own.inside in
             (place.0, omega arith, omega arith, place.1);
         begins = λ k window from to at'.
-            let own = in_family k window at' in
-            let same = one_run (family_len t) own.family own.place number k own.inside own.number_is from to in
-            same_Some (take (shared_len t) window) z (sym own.shared_at ∙ ap (slice_get (shared_lists t)) same ∙ item);
-      }
+            let own = run k window at' in
+            let same = one_run (falling (t.ids - shared_len t) 2) own.number own.rest number k own.inside own.number_is from to in
+            same_Some (take (shared_len t) window) z (sym own.front_at ∙ ap (slice_get (shared_lists t)) same ∙ item);
+      })
 
   -- every window has a family
   pub all_families : (distance least end : ℕ) → length (shared_lists t) ≤ end

@@ -1,5 +1,5 @@
 -- Counts of the windows that hold an identifier.
-use Rattle.std.proofs.Common.{◌≡◌, ◌≢◌, ℕ, ◌+◌, ◌-◌, ◌*◌, ◌<◌, ◌≤◌, Bool, ◌&&◌, ◌||◌, ◌==◌, eqb, ltb, nat_lt, cond, min, List, [], length, get_or, slice_get, Some, All, arith, ⊎_elim}
+use Rattle.std.proofs.Common.{◌≡◌, ◌≢◌, ℕ, ◌+◌, ◌-◌, ◌*◌, ◌<◌, ◌≤◌, Bool, ◌&&◌, ◌||◌, ◌==◌, eqb, ltb, nat_lt, cond, min, List, [], length, get_or, slice_get, Some, All, arith}
 use Rattle.std.specs.Int.{abs_diff}
 use Rattle.std.specs.List.{range_with_len}
 use Rattle.std.proofs.lemmas.Bool.{cases_lt, cases_Bool}
@@ -70,8 +70,4 @@ window_counted t first n x v window some item =
 
 -- each entry of a table is a channel, and so is what is read past the last one
 pub entries_below : (entries : List ℕ) (most : ℕ) → 1 ≤ most → All (λ c. c < most) entries → (k : ℕ) → get_or entries k 0 < most
-entries_below entries most some below k =
-    ⊎_elim
-    (λ (lt : k < length entries). below k 0 lt)
-    (λ (past : length entries ≤ k). omega (arith, get_or_past entries k 0 past))
-    (cases_lt k (length entries))
+entries_below entries most some below k = grind (arith, cases_lt k (length entries), below k 0, get_or_past entries k 0)

@@ -9,13 +9,7 @@ use Rattle.nbhd_check.proofs.Cells.{row_more}
 
 -- there are at most as many parts as are enough
 pub few_parts : (count len most : ℕ) → 0 < len → count ≤ most * len → div_ceil count len ≤ most
-few_parts count len most some enough =
-    ⊎_elim
-    (λ (more : most < div_ceil count len).
-    let le : most + 1 ≤ div_ceil count len = omega arith in
-    absurd (omega (arith, row_more most len, mul-le-mul_right len le, (div_ceil_times count len some).1)))
-    (λ (le : div_ceil count len ≤ most). le)
-    (cases_lt most (div_ceil count len))
+few_parts count len most some enough = grind (arith, row_more most len, mul-le-mul_right, div_ceil_times count len some)
 
 -- the part of a number
 pub record InPart (count parts k : ℕ) : Type 0 where

@@ -1,8 +1,8 @@
 -- Windows and the windows that they begin with.
-use Rattle.std.proofs.Common.{[], ◌∷◌, ◌++◌, false, get_or, length-drop, length, get_or-drop, ◌≡◌, ℕ, ◌+◌, ◌-◌, ◌*◌, ◌/◌, ◌%◌, ◌<◌, ◌≤◌, List, get_or, take, drop, slice_get, Some, sym, ap, ◌∙◌, arith, refl, ⊎_elim, length-drop, Bool, true, false, length}
+use Rattle.std.proofs.Common.{[], ◌∷◌, ◌++◌, false, get_or, length-drop, length, get_or-drop, ◌≡◌, ℕ, ◌+◌, ◌-◌, ◌*◌, ◌/◌, ◌%◌, ◌<◌, ◌≤◌, List, get_or, take, drop, slice_get, Some, sym, ap, ◌∙◌, arith, refl, length-drop, Bool, true, false, length}
 use Rattle.std.proofs.Math.Nat.{mod-lt}
 use Rattle.std.proofs.lemmas.Nat.{div-add-mod', same_from_place}
-use Rattle.std.proofs.lemmas.Bool.{cases_lt, OnTrue_at, OnFalse_at}
+use Rattle.std.proofs.lemmas.Bool.{OnTrue_at, OnFalse_at}
 use Rattle.std.proofs.lemmas.List.{drop-take, take_all, take_more, take-take}
 use Rattle.win_index.specs.Arcs.{part_at}
 use Rattle.std.proofs.lemmas.Option.{slice_get_within}
@@ -103,14 +103,8 @@ module _ (laws : WindowsAreNumbered) where
 pub in_longer_run : (k m more n : ℕ) (longer : List ℕ) → slice_get (windows (k + more) m) n ≡ Some longer → InLongerRun k m more n longer
 in_longer_run k m more n longer at' =
     let each : ℕ = falling (m - k) more in
-    let below = slice_get_within (windows (k + more) m) n longer at' in
-    let some : 0 < each =
-    ⊎_elim
-    (λ (lt : 0 < each). lt)
-    (λ (none : each ≤ 0).
-    let zero_is : each ≡ 0 = omega arith in
-    absurd (omega (arith, below, length-windows (k + more) m, falling-add m k more, ap (λ e. falling m k * e) zero_is)))
-    (cases_lt 0 each) in
+    let below = rw (length-windows (k + more) m, falling-add m k more) at (slice_get_within (windows (k + more) m) n longer at') in
+    let some : 0 < each = grind (arith, below) in
     record {
       number = n / each;
       rest = n % each;

@@ -200,7 +200,8 @@ impl<'b> Family<'b> {
         requires last { IfSome last (λ numbers. (before : ℕ) × (second ≡ before + 1)
             × ArePairNumbers self.table.now self.shared.now first before numbers) }
         ensures { MatchOption result
-            (¬ IsWindow (2 * self.entry.table.now.rounds + 1) self.entry.table.now.ids (first ∷ second ∷ self.entry.shared.now))
+            ((number : ℕ) (window : List ℕ) → slice_get (windows_of self.entry.table.now) number ≡ Some window
+            → ¬ ((slice_index window 0 ≡ first) × (slice_index window 1 ≡ second) × (drop 2 window ≡ self.entry.shared.now)))
             (ArePairNumbers self.entry.table.now self.entry.shared.now first second) }
     {
         if first == second || contains(self.shared, second) {
@@ -263,7 +264,7 @@ impl<'b> Family<'b> {
         requires numbers { ArePairNumbers self.table.now self.shared.now first second numbers }
         requires ids { (first < self.table.now.ids) × (second < self.table.now.ids) }
         ensures less { result ≤ least }
-        ensures free { AreFarFreeIn self.entry.table.now self.entry.distance result (λ window. window ≡ first ∷ second ∷ self.entry.shared.now) }
+        ensures free { AreFarFreeIn self.entry.table.now self.entry.distance result (λ window. (slice_index window 0 ≡ first) × (slice_index window 1 ≡ second) × (drop 2 window ≡ self.entry.shared.now)) }
     {
         if numbers.before < least && self.may_begin_far_tuple(first, second, numbers) {
             numbers.before

@@ -3,12 +3,16 @@ use Rattle.nbhd_check.specs.Counts.{shared_len}
 use Rattle.nbhd_check.specs.FarSearch.{ArePairNumbers}
 use Rattle.std.proofs.lemmas.Bool.{false≢true}
 use Rattle.nbhd_check.proofs.Ends.{before_window, window_before}
+use Rattle.win_index.proofs.Numbers.{windows_all}
+use Rattle.nbhd_check.proofs.FarFree.{by_pair}
 use Rattle.nbhd_check.proofs.far_counts.Family.numbers_after.Goals.{then-first-second-via-then-first-second, then-first-second-via-else-first-second+then-contains}
 use Rattle.nbhd_check.proofs.far_counts.Family.numbers_after.Goals as goal
 
 pub returns-then-first-second : goal.returns-then-first-second
-returns-then-first-second c = λ is.
-    let parts = before_window _ _ c.args.first c.args.second c.args.self.shared.now is in
+returns-then-first-second c = λ number window item own.
+    let t = c.args.self.table.now in
+    let list = by_pair t number c.args.first c.args.second window c.args.self.shared.now c.args.self.some.0 item own in
+    let parts = before_window _ _ c.args.first c.args.second c.args.self.shared.now (rw list at (windows_all (2 * t.rounds + 1) t.ids number window item)) in
     elim c.then-first-second.branch [
       | then-first-second-via-then-first-second w ↦ absurd (parts.0 w.if-first-second.true)
       | then-first-second-via-else-first-second+then-contains w ↦ absurd (parts.2 (w.contains.ensures.0 w.if-contains.true))
