@@ -7,7 +7,6 @@ pub mod Included
 pub mod LeastOfParts
 pub mod Suffixes
 pub mod RunLengths
-pub mod LeastFrom
 pub mod FarCounts
 pub mod FarFree
 pub mod Parts
@@ -15,8 +14,5 @@ pub mod Steps
 pub mod Runs
 pub mod RunSteps
 pub mod SecondRuns
-pub mod SingleWindows
-pub mod OneApart
 pub mod ThirdFamilies
 pub mod Witnesses
-pub mod Less

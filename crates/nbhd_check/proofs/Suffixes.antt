@@ -1,16 +1,14 @@
 -- The numbers of a window's suffixes, among the lists of 2t and of 2t-1 identifiers.
 use Rattle.std.proofs.Common.{◌≡◌, ℕ, ◌+◌, ◌-◌, ◌*◌, ◌≤◌, List, length, take, drop, slice_get, slice_index, Some, sym, ap, ◌∙◌, arith, refl}
 use Rattle.std.proofs.lemmas.List.{get_or-drop, drop-take}
-use Rattle.std.proofs.lemmas.Option.{slice_get_within}
 use Rattle.win_index.specs.Runs.{IsRunStart}
 use Rattle.win_index.specs.Windows.{unused, windows, IsWindow}
 use Rattle.win_index.proofs.FrontPlaces.{slice_window}
 use Rattle.win_index.proofs.RunStarts.{run_start_is}
 use Rattle.channel_tables.specs.Tables.{ChannelTable, windows_of}
 use Rattle.nbhd_check.specs.Runs.{wide}
-use Rattle.nbhd_check.specs.Counts.{shared_lists, family_len}
+use Rattle.nbhd_check.specs.Counts.{shared_lists}
 use Rattle.nbhd_check.proofs.Prefixes.{window_drop}
-use Rattle.nbhd_check.proofs.FarFree.{family_within}
 
 -- the identifiers of a window without its first ones and its last, as the code slices them
 pub shared_cut : (by : ℕ) (t : ChannelTable) (rounds : ℕ) (window : List ℕ) → rounds ≡ t.rounds → by ≤ 2 * t.rounds
@@ -34,14 +32,6 @@ pub front_two :
 front_two t rounds ids window rounds_is ids_is some is =
     let len : 2 * (t.rounds - 1) ≡ 2 * t.rounds - 2 = omega arith in
     rw (rounds_is, ids_is, len) (slice_window t.ids (2 * t.rounds + 1) 2 (2 * t.rounds - 2) window is (omega arith))
-
--- the entries of a family are those of a table
-pub family_in :
-    (t : ChannelTable) (family : ℕ) (list : List ℕ) → 1 ≤ t.rounds → length t.entries ≡ length (windows_of t)
-    → slice_get (shared_lists t) family ≡ Some list → family * family_len t + family_len t ≤ length t.entries
-family_in t family list some full at' =
-    let within = family_within t some family (slice_get_within (shared_lists t) family list at') in
-    omega (arith, within, full)
 
 -- the number of a suffix of k+1 identifiers, from the run of those with the same first k
 number_of_suffix :

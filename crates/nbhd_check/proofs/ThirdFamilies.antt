@@ -2,7 +2,7 @@
 use Rattle.std.proofs.Common.{◌≡◌, ℕ, ◌+◌, ◌-◌, ◌*◌, ◌<◌, ◌≤◌, Option, Some, None, List, [], ◌∷◌, ◌++◌, length, get_or, set, take, drop, slice_get, slice_index, sym, ap, ◌∙◌, arith, refl, length-set}
 use Rattle.std.proofs.Math.Nat.{mul-le-mul_left}
 use Rattle.std.proofs.lemmas.List.{take_all, take_more_set}
-use Rattle.std.proofs.lemmas.Option.{same_Some, slice_get-get_or}
+use Rattle.std.proofs.lemmas.Option.{same_Some, slice_get-get_or, slice_get_within}
 use Rattle.std.specs.Option.{unwrap_or, IfSome, IfNone}
 use Rattle.win_index.specs.Laws.{CountOfWindows}
 use Rattle.win_index.specs.Runs.{HasPlaces, IsAtPlace, IsLastOfRun, IsRunStart, place_in_run}
@@ -21,7 +21,7 @@ use Rattle.nbhd_check.specs.Masks.{NoneClose}
 use Rattle.nbhd_check.specs.Runs.{BeginsFarTuple, wide}
 use Rattle.nbhd_check.proofs.FarFree.{all_of_families, family_is, far_third, some_product, third_in_family}
 use Rattle.nbhd_check.proofs.Prefixes.{at_place_of_run, lacks_drop, rank_rises, whole_list}
-use Rattle.nbhd_check.proofs.Suffixes.{family_in, number_of_third, shared_cut}
+use Rattle.nbhd_check.proofs.Suffixes.{number_of_third, shared_cut}
 
 -- no third window is close to the channel of a window if none of their family is
 pub free_in_family :
@@ -92,13 +92,17 @@ module _ (laws : WindowsAreNumbered) (t : ChannelTable) (number : ℕ) (window :
       let rises = kept_rises (lacks (take k window)) x (get_or window k 0) larger in
       absurd (omega (arith, rises, here.1, rw front at there.1))
 
--- a family has a small number
+-- there are few families
+pub families_few : (t : ChannelTable) → 1 ≤ t.rounds → 2 * t.rounds + 2 ≤ t.ids → length (shared_lists t) ≤ length (windows_of t)
+families_few t some enough =
+    let wide : ℕ = t.ids - shared_len t in
+    let len : 1 ≤ family_len t = some_product wide (wide - 1) (omega arith) (omega arith) in
+    omega (arith, all_of_families t some, mul-le-mul_left (length (shared_lists t)) len)
+
 pub family_few : (counts : CountOfWindows) (t : ChannelTable) (family : ℕ) (list : List ℕ) → 1 ≤ t.rounds → 2 * t.rounds + 2 ≤ t.ids
     → length t.entries ≡ length (windows_of t) → slice_get (shared_lists t) family ≡ Some list → family < length t.entries
 family_few counts t family list some enough full at' =
-    let wide : ℕ = t.ids - shared_len t in
-    let len : 1 ≤ family_len t = some_product wide (wide - 1) (omega arith) (omega arith) in
-    omega (arith, family_in t family list some full at', mul-le-mul_left family len)
+    omega (arith, full, slice_get_within (shared_lists t) family list at', families_few t some enough)
 
 -- the family of a run's first window, as the code numbers it
 pub at_family : (t : ChannelTable) (number : ℕ) (window : List ℕ) (rounds ids first : ℕ) (places : RunPlaces) (place : ℕ) → rounds ≡ t.rounds → ids ≡ t.ids
@@ -115,9 +119,3 @@ at_family t number window rounds ids first places place rounds_is ids_is some it
       at_place = record { window_is = rw (← len) is; run_has = rw (rounds_is, ids_is) at has; place_is = sym (rw (rounds_is, last) at place_is) };
       starts = rw (← shared_cut 2 t t.rounds window refl (omega (arith, some)), ← back) (rw (rounds_is, ids_is) at run);
     }
-
-pub families_few : (t : ChannelTable) → 1 ≤ t.rounds → 2 * t.rounds + 2 ≤ t.ids → length (shared_lists t) ≤ length (windows_of t)
-families_few t some enough =
-    let wide : ℕ = t.ids - shared_len t in
-    let len : 1 ≤ family_len t = some_product wide (wide - 1) (omega arith) (omega arith) in
-    omega (arith, all_of_families t some, mul-le-mul_left (length (shared_lists t)) len)

@@ -1,7 +1,56 @@
-use Rattle.std.proofs.Common.{subst, sym}
+use Rattle.std.proofs.Common.{◌≡◌, ℕ, zero, suc, ◌+◌, ◌*◌, ◌<◌, ◌≤◌, max, List, [], ◌∷◌, length, get_or, take, drop, subst, sym, ap, ◌∙◌, arith, refl, inl, ⊎_elim}
+use Rattle.win_index.specs.Arcs.{part_at}
+use Rattle.win_index.specs.Windows.{IsWindow}
+use Rattle.win_index.proofs.FrontPlaces.{slice_window}
+use Rattle.channel_tables.specs.Tables.{ChannelTable, channel_of}
+use Rattle.channel_tables.specs.declared.separation.Separation.{Separation}
+use Rattle.nbhd_check.specs.Apart.{AreClose, IsBad}
 use Rattle.nbhd_check.specs.Runs.{BeginsBadTuple}
-use Rattle.nbhd_check.proofs.SingleWindows.{bad_next}
+use Rattle.nbhd_check.proofs.Close.{close_along, closer, two_of_far}
+use Rattle.nbhd_check.proofs.Ends.{push_two}
 use Rattle.nbhd_check.proofs.least.single_windows.Goals as goal
+
+-- Windows of one identifier: each other identifier can be next to it and at distance two.
+one_at : (i : ℕ) (list : List ℕ) → i < length list → take 1 (drop i list) ≡ get_or list i 0 ∷ []
+one_at i [] lt = absurd (omega arith)
+one_at zero (x ∷ list) lt = refl
+one_at (suc i) (x ∷ list) lt = one_at i list (omega arith)
+
+-- two of a tuple's identifiers, as a tuple
+pair : (t : ChannelTable) (s : Separation) (i : ℕ) (tuple : List ℕ) → t.rounds ≡ 0 → 1 ≤ i → i < length tuple → IsWindow (length tuple) t.ids tuple
+    → AreClose (max s.near s.far) (channel_of t (part_at t.rounds 0 tuple)) (channel_of t (part_at t.rounds i tuple))
+    → BeginsBadTuple t (record { near = max s.near s.far; far = 0 }) (part_at t.rounds 0 tuple)
+unfolding IsBad
+pair t s i tuple none some lt is close =
+    let x : ℕ = get_or tuple 0 0 in
+    let y : ℕ = get_or tuple i 0 in
+    let one : 2 * t.rounds + 1 ≡ 1 = omega arith in
+    let two : 2 ≡ 2 * t.rounds + 1 + 1 = omega arith in
+    let first : part_at t.rounds 0 tuple ≡ x ∷ [] = ap (λ n. take n tuple) one ∙ one_at 0 tuple (omega arith) in
+    let second : part_at t.rounds i tuple ≡ y ∷ [] = ap (λ n. take n (drop i tuple)) one ∙ one_at i tuple lt in
+    let list = x ∷ y ∷ [] in
+    let own_first : part_at t.rounds 0 list ≡ x ∷ [] = ap (λ n. take n list) one in
+    let own_second : part_at t.rounds 1 list ≡ y ∷ [] = ap (λ n. take n (y ∷ [])) one in
+    let is_pair = push_two 0 t.ids x y [] (slice_window t.ids (length tuple) 0 0 tuple is (omega arith)) (is.below 0 0 (omega arith)) (is.below i 0 lt) refl refl (is.distinct 0 i 0 (omega arith) lt) in
+    (list, rw (← two) is_pair, own_first ∙ sym first, inl (close_along (max s.near s.far) (ap (channel_of t) (first ∙ sym own_first)) (ap (channel_of t) (second ∙ sym own_second)) close))
+
+-- a window that begins a bad tuple begins one with a close second window, for the greater distance
+bad_next : (t : ChannelTable) (s : Separation) (window : List ℕ) → t.rounds ≡ 0 → BeginsBadTuple t s window
+    → BeginsBadTuple t (record { near = max s.near s.far; far = 0 }) window
+unfolding IsBad
+bad_next t s window none bad =
+    let tuple = bad.0 in
+    let is = bad.1 in
+    let size = is.size in
+    let own : IsWindow (length tuple) t.ids tuple = subst (λ k. IsWindow k t.ids tuple) (sym size) is in
+    let first = channel_of t (part_at t.rounds 0 tuple) in
+    subst (BeginsBadTuple t (record { near = max s.near s.far; far = 0 })) bad.2 (⊎_elim
+    (λ (close : AreClose s.near first (channel_of t (part_at t.rounds 1 tuple))).
+    pair t s 1 tuple none (omega arith) (omega arith) own (closer s.near (max s.near s.far) first (channel_of t (part_at t.rounds 1 tuple)) (omega arith) close))
+    (λ (close : AreClose s.far first (channel_of t (part_at t.rounds 2 tuple))).
+    let two = two_of_far s first (channel_of t (part_at t.rounds 2 tuple)) close in
+    pair t s 2 tuple none (omega arith) (omega (arith, two)) own (closer s.far (max s.near s.far) first (channel_of t (part_at t.rounds 2 tuple)) (omega arith) close))
+    bad.3)
 
 pub returns : goal.returns
 returns g c number window from below item bad =
