@@ -113,17 +113,6 @@ pub(crate) fn count_family(table: &Table, shared: &[u32], counts: &mut Counts)
     ensures fit { CountsFit table.now counts.new }
     ensures counts { AreCountsOf table.now shared.now counts.new }
 {
-    count_cells(table, shared, counts.limit, &mut counts.cells);
-}
-
-// Like `count_family`, for the cells and the limit of some counts.
-fn count_cells(table: &Table, shared: &[u32], limit: u32, cells: &mut [u32])
-    requires some { 1 ≤ table.now.rounds }
-    requires shared { IsWindow (shared_len table.now) table.now.ids shared.now }
-    requires room { length cells.old ≡ (limit + 1) * (table.now.ids + 1) }
-    requires limit { All (λ channel. channel < limit) table.now.entries }
-    ensures { (first : ℕ) × ((count : ℕ) × (IsFamily table.now shared.now first count × AreSums table.now first count cells.new)) }
-{
     let shape = table.shape();
     let others = shape.ids() - shared.len() as u32;
     let count = others * (others - 1);
@@ -131,9 +120,10 @@ fn count_cells(table: &Table, shared: &[u32], limit: u32, cells: &mut [u32])
     let mut cells_of_window = [0; MAX_WINDOW_LEN];
     let window = &mut cells_of_window[..shared.len() + 2];
     shape.window(shape.rounds(), first, window);
+    let cells: &mut [u32] = &mut counts.cells;
     cells.fill(0);
     count_windows(table, first, count, window, cells);
-    add_rows(table, first, count, limit, cells);
+    add_rows(table, first, count, counts.limit, cells);
 }
 
 /// Returns the number of windows of the family that hold `x` and have a channel that differs from

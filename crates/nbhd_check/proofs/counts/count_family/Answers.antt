@@ -1,8 +1,9 @@
-use Rattle.std.proofs.Common.{ℕ, ◌-◌, ◌*◌, length, arith}
+use Rattle.std.proofs.Common.{ℕ, ◌-◌, ◌*◌, length, drop, ◌∙◌, arith}
+use Rattle.std.proofs.lemmas.List.{take_at}
 use Rattle.nbhd_check.specs.Counts.{IsFamily}
 use Rattle.nbhd_check.proofs.FarFree.{family_is, some_product}
-use Rattle.nbhd_check.proofs.counts.count_cells.Goals.{After-window_number}
-use Rattle.nbhd_check.proofs.counts.count_cells.Goals as goal
+use Rattle.nbhd_check.proofs.counts.count_family.Goals.{After-window_number}
+use Rattle.nbhd_check.proofs.counts.count_family.Goals as goal
 
 -- the family of the windows with these shared identifiers, once their number is known
 module _ (c : After-window_number) where
@@ -26,10 +27,13 @@ window-requires-clause-below c =
     let some = some_product others (others - 1) (omega arith) (omega arith) in
     rw (c.rounds-2.ensures, c.shape-shape.ensures.rounds, c.shape-shape.ensures.ids) (omega (arith, (family d).within, some))
 
-pub returns : goal.returns
-returns c =
-    let d = (goal.at.returns c).After-window_number in
-    (c.window_number.result * count d, (count d, (family d, c.add_rows.ensures)))
+pub returns-clause-counts : goal.returns-clause-counts
+returns-clause-counts c =
+    let d = (goal.at.returns-clause-counts c).After-window_number in
+    let cells = c.add_rows.new.cells in
+    let written = take_at cells (drop (length cells) c.args.counts.now.cells.items) c.args.counts.now.cells.len
+    (c.add_rows.auto.cells ∙ c.count_windows.auto.cells ∙ c.fill.ensures.len ∙ c.deref_mut-cells.ensures.len) in
+    (c.window_number.result * count d, (count d, (family d, rw written c.add_rows.ensures)))
 
 pub count_windows-requires-clause-within : goal.count_windows-requires-clause-within
 count_windows-requires-clause-within c =
