@@ -1,7 +1,6 @@
 -- Cells in rows and columns.
-use Rattle.std.proofs.Common.{◌≡◌, ℕ, ◌+◌, ◌*◌, ◌<◌, ◌≤◌, Bool, ◌&&◌, cond, eqb, List, length, get_or, set, ap, ◌∙◌, arith}
+use Rattle.std.proofs.Common.{◌≡◌, ℕ, ◌+◌, ◌*◌, ◌<◌, ◌≤◌, ◌&&◌, cond, eqb, List, length, get_or, set, ap, ◌∙◌, arith}
 use Rattle.std.proofs.Math.Nat.{mul-le-mul_right, add-mul, one-mul}
-use Rattle.std.proofs.lemmas.Bool.{cases_Bool}
 use Rattle.std.proofs.lemmas.Bool.Decides.{nat_tests}
 use Rattle.std.proofs.lemmas.List.{get_or-set_same, get_or-set_other}
 use Rattle.std.proofs.lemmas.Nat.{same_from_place}
@@ -14,9 +13,6 @@ pub rows_within : (row most w ids len : ℕ) → row ≤ most → w ≡ ids → 
 rows_within row most w ids len le w_is len_is =
     let more : row + 1 ≤ most + 1 = omega arith in
     rw (len_is, w_is) (mul-le-mul_right (ids + 1) more)
-
-pub cond_one : (b : Bool) → cond b 1 0 ≤ 1
-cond_one b = grind (arith, cases_Bool b)
 
 -- the cells after a write to one of them
 pub cell_set :

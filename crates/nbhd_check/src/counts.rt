@@ -52,8 +52,9 @@ fn count_in(cells: &mut [u32], wide: usize, row: usize, column: usize)
     requires column { column < wide }
     requires within { (row + 1) * wide ≤ length cells.old }
     requires few { slice_index cells.old (row * wide + column) < 2 ^ 32 - 1 }
-    ensures { (v x : ℕ) → x < wide → slice_index cells.new (v * wide + x)
+    ensures counted { (v x : ℕ) → x < wide → slice_index cells.new (v * wide + x)
         ≡ slice_index cells.old (v * wide + x) + (if (v == row) && (x == column) then 1 else 0) }
+    ensures few { (i : ℕ) → slice_index cells.new i ≤ slice_index cells.old i + 1 }
 {
     cells[row * wide + column] += 1;
 }
@@ -75,7 +76,7 @@ fn add_row_before(cells: &mut [u32], wide: usize, row: usize)
 // first window, and is advanced in place.
 fn count_windows(table: &Table, first: u32, count: u32, window: &mut [u32], cells: &mut [u32])
     requires rows { All (λ channel. (channel + 2) * (table.now.ids + 1) ≤ length cells.old) table.now.entries }
-    requires empty { AreCells (λ v x. 0) (table.now.ids + 1) cells.old }
+    requires empty { (i : ℕ) → slice_index cells.old i ≡ 0 }
     requires within { (1 ≤ table.now.rounds) × (first + count ≤ length (windows_of table.now)) }
     requires window { (slice_get (windows_of table.now) first ≡ Some window.old) × IsWindow (2 * table.now.rounds + 1) table.now.ids window.old }
     ensures { AreCells (λ v x. held_count table.now first count x (λ channel. v == channel + 1)) (table.now.ids + 1) cells.new }
