@@ -5,13 +5,14 @@ use Rattle.std.specs.List.{range_with_len}
 use Rattle.std.proofs.lemmas.Bool.{and_parts, eq-eqb, lt-ltb, ltb-true}
 use Rattle.std.proofs.lemmas.Bool.Decides.{nat_tests}
 use Rattle.std.proofs.lemmas.Option.{slice_get-get_or, get_or_from_slice_get}
-use Rattle.win_index.proofs.Numbers.{one_place, windows_all}
+use Rattle.win_index.proofs.Numbers.{windows_all}
 use Rattle.channel_tables.specs.Tables.{ChannelTable, windows_of}
 use Rattle.nbhd_check.specs.Counts.{shared_len, is_held, held_count, IsFamily}
 use Rattle.nbhd_check.specs.Runs.{BeginsFarTuple}
 use Rattle.nbhd_check.proofs.Ends.{by_last}
 use Rattle.nbhd_check.proofs.FarFree.{far_third, third_in_family}
 use Rattle.nbhd_check.proofs.Included.{none_without}
+use Rattle.nbhd_check.proofs.Prefixes.{one_number}
 
 -- every window holds the number of identifiers
 held_always : (t : ChannelTable) (passes : Bool) (k : ℕ) → passes && is_held t t.ids k ≡ passes
@@ -51,7 +52,7 @@ two_orders t z a b first n i j some family in_a in_b other at_i at_j k from to h
     let two : ℕ = get_or window (shared_len t + 1) 0 in
     let parted : window ≡ z ++ one ∷ two ∷ [] = by_last (shared_len t) window (omega arith) ∙ ap (λ front. front ++ one ∷ two ∷ []) (family.begins k window from to item) in
     let number : (l x y : ℕ) → (one ≡ x) × (two ≡ y) → slice_get (windows_of t) l ≡ Some (z ++ x ∷ y ∷ []) → k ≡ l = λ l x y are at'.
-    one_place (2 * t.rounds + 1) t.ids k l (z ++ x ∷ y ∷ []) (item ∙ ap Some (parted ∙ (λ q. z ++ are.0 q ∷ are.1 q ∷ []))) at' in
+    one_number (2 * t.rounds + 1) t.ids k l (z ++ x ∷ y ∷ []) (item ∙ ap Some (parted ∙ (λ q. z ++ are.0 q ∷ are.1 q ∷ []))) at' in
     ⊎_elim
     (λ (are : (one ≡ a) × (two ≡ b)). let out : (k ≡ i) ⊎ (k ≡ j) = inl (number i a b are at_i) in out)
     (λ (are : (one ≡ b) × (two ≡ a)). let out : (k ≡ i) ⊎ (k ≡ j) = inr (number j b a are at_j) in out)

@@ -8,7 +8,7 @@ use Rattle.win_index.specs.Arcs.{part_at}
 use Rattle.win_index.specs.Falling.{falling}
 use Rattle.win_index.specs.Windows.{IsWindow}
 use Rattle.win_index.proofs.FrontPlaces.{slice_window}
-use Rattle.win_index.proofs.Numbers.{length-windows, one_place, windows_all}
+use Rattle.win_index.proofs.Numbers.{length-windows, windows_all}
 use Rattle.win_index.proofs.Positions.{window_place}
 use Rattle.channel_tables.specs.Tables.{ChannelTable, channel_of, windows_of}
 use Rattle.nbhd_check.specs.Apart.{AreClose}
@@ -18,7 +18,7 @@ use Rattle.nbhd_check.specs.Runs.{AreFree, BeginsFarTuple}
 use Rattle.nbhd_check.proofs.Cells.{row_more}
 use Rattle.nbhd_check.proofs.Close.{close_along}
 use Rattle.nbhd_check.proofs.Ends.{by_first}
-use Rattle.nbhd_check.proofs.Prefixes.{window_drop, in_longer_run, one_run}
+use Rattle.nbhd_check.proofs.Prefixes.{in_longer_run, one_number, one_run, window_drop}
 use Rattle.nbhd_check.proofs.RunLengths.{falling-add, falling_two}
 use Rattle.nbhd_check.proofs.Witnesses.{channel_at}
 
@@ -60,7 +60,7 @@ module _ (t : ChannelTable) (some : 1 ≤ t.rounds) where
         stands = λ window is begins.
             let place = window_place (2 * t.rounds + 1) t.ids window is in
             let own = run place.0 window place.1 in
-            let same = one_place (shared_len t) t.ids own.number number z (own.front_at ∙ ap Some begins) item in
+            let same = one_number (shared_len t) t.ids own.number number z (own.front_at ∙ ap Some begins) item in
             let number_is = rw same at own.number_is in
             let inside = own.inside in
             (place.0, omega arith, omega arith, place.1);

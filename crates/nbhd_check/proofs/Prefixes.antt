@@ -5,14 +5,14 @@ use Rattle.std.proofs.lemmas.Nat.{div-add-mod', same_from_place}
 use Rattle.std.proofs.lemmas.Bool.{OnTrue_at, OnFalse_at}
 use Rattle.std.proofs.lemmas.List.{drop-take, take_all, take_more, take-take}
 use Rattle.win_index.specs.Arcs.{part_at}
-use Rattle.std.proofs.lemmas.Option.{slice_get_within}
+use Rattle.std.proofs.lemmas.Option.{same_Some, slice_get_within}
 use Rattle.win_index.specs.Falling.{falling}
 use Rattle.win_index.specs.Runs.{IsReplacedByRun}
 use Rattle.win_index.specs.Successor.{IsReplaced}
 use Rattle.win_index.specs.Windows.{is_used, unused, windows, IsWindow}
 use Rattle.win_index.proofs.FrontPlaces.{slice_window}
-use Rattle.win_index.proofs.Numbers.{length-windows, windows_all, one_place}
-use Rattle.win_index.proofs.Positions.{window_place}
+use Rattle.win_index.proofs.Numbers.{length-windows, windows_all}
+use Rattle.win_index.proofs.Positions.{number_of_is, window_place}
 use Rattle.win_index.proofs.RunPrefixNumbers.{prefix_number}
 use Rattle.win_index.proofs.RunStarts.{longer_number}
 use Rattle.win_index.proofs.Unused.{lacks_differs, lacks_from_differs, unused_at}
@@ -69,6 +69,10 @@ pub record InLongerRun (k m more n : ℕ) (longer : List ℕ) : Type 0 where
   pub inside : rest < falling (m - k) more
   pub number_is : n ≡ number * falling (m - k) more + rest
 
+-- a window has one number
+pub one_number : (k m i j : ℕ) (window : List ℕ) → slice_get (windows k m) i ≡ Some window → slice_get (windows k m) j ≡ Some window → i ≡ j
+one_number k m i j window at_i at_j = same_Some i j (sym (number_of_is k m i window at_i) ∙ number_of_is k m j window at_j)
+
 -- a window without its last identifier
 pub run_of : (k m n : ℕ) (longer : List ℕ) → slice_get (windows (k + 1) m) n ≡ Some longer → InRun k m n longer
 run_of k m n longer at' =
@@ -80,7 +84,7 @@ run_of k m n longer at' =
       number = front.0;
       front_at = front.1;
       inside = numbered.0;
-      number_is = one_place (k + 1) m n (front.0 * (m - k) + place_of_last k longer) longer at' numbered.1;
+      number_is = one_number (k + 1) m n (front.0 * (m - k) + place_of_last k longer) longer at' numbered.1;
     }
 
 -- the window at a place of a run

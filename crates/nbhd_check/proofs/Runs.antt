@@ -8,7 +8,7 @@ use Rattle.win_index.specs.Arcs.{part_at}
 use Rattle.win_index.specs.Runs.{IsRunStart}
 use Rattle.win_index.specs.Windows.{is_used, unused, IsWindow}
 use Rattle.win_index.proofs.FrontPlaces.{slice_window}
-use Rattle.win_index.proofs.Numbers.{one_place, windows_all}
+use Rattle.win_index.proofs.Numbers.{windows_all}
 use Rattle.win_index.proofs.Positions.{free_at, window_place}
 use Rattle.win_index.proofs.RunStarts.{longer_number}
 use Rattle.win_index.proofs.Unused.{IsDistinct, distinct_head, unused_at}
@@ -18,7 +18,7 @@ use Rattle.nbhd_check.specs.Laws.{WindowsAreNumbered}
 use Rattle.nbhd_check.specs.Apart.{extra, AreClose, IsBad, NoneIsBad}
 use Rattle.nbhd_check.specs.Runs.{run_len, AreFree, BeginsBadTuple, BeginsFarTuple, HasCloseOutside}
 use Rattle.nbhd_check.proofs.Close.{close_along, some_distance, two_of_far}
-use Rattle.nbhd_check.proofs.Prefixes.{in_longer_run, part_of_front}
+use Rattle.nbhd_check.proofs.Prefixes.{in_longer_run, one_number, part_of_front}
 use Rattle.nbhd_check.proofs.Witnesses.{channel_at}
 
 -- the first identifier of a list of distinct ones is not among the others
@@ -111,7 +111,7 @@ module _ (t : ChannelTable) (s : Separation) where
       let numbered = window_place (k + extra s) t.ids tuple bad.1 in
       let run = in_longer_run k t.ids (extra s) numbered.0 tuple numbered.1 in
       let inside = run.inside in
-      let same : run.number ≡ number = one_place k t.ids run.number number window (run.front_at ∙ ap Some bad.2) item in
+      let same : run.number ≡ number = one_number k t.ids run.number number window (run.front_at ∙ ap Some bad.2) item in
       let number_is : numbered.0 ≡ number * len + run.rest = run.number_is ∙ ap (λ n. n * len + run.rest) same in
       let next : suc number ≤ count = omega arith in
       none numbered.0 tuple (omega (arith, number_is, mul-le-mul_right len from))
