@@ -47,7 +47,8 @@ impl<'a> FarCounts<'a> {
         ensures less { result ≤ most }
         ensures free { AreFree self.entry.table.now (BeginsFarTuple self.entry.table.now self.entry.distance) 0 result }
     {
-        let families = family_count(self.table);
+        let shape = self.table.shape();
+        let families = shape.count(shape.rounds() - 1);
         let parts = part_count(window_count(self.table), threads);
         let each = families.div_ceil(parts);
         let best = AtomicU32::new(most);
@@ -100,15 +101,6 @@ impl<'a> FarCounts<'a> {
         }
         least
     }
-}
-
-// Returns the number of families.
-fn family_count(table: &Table) -> u32
-    requires { 1 ≤ table.now.rounds }
-    ensures { result ≡ length (shared_lists table.now) }
-{
-    let shape = table.shape();
-    shape.count(shape.rounds() - 1)
 }
 
 // Returns the number of windows that begin with the same two identifiers.
