@@ -1,5 +1,5 @@
 //! Close channels in a list, outside a gap.
-ghost use Rattle.std.specs.Prelude.{◌<◌, ◌↔◌, IsTrue, length, Contains};
+ghost use Rattle.std.specs.Prelude.{◌<◌, ◌↔◌, IsTrue, length};
 ghost use Rattle.nbhd_check.specs.Runs.{HasClose, HasCloseOutside};
 
 /// Returns whether the list has a channel, at another index than the gap, that differs from
@@ -17,16 +17,9 @@ fn has_close(list: &[u16], distance: u32, channel: u16) -> bool
     ensures { IsTrue result ↔ HasClose list.now distance channel }
 {
     if distance == 1 {
-        return contains(list, channel);
+        return list.contains(&channel);
     }
     has_closer(list, distance, channel)
-}
-
-// Returns whether the list contains the channel.
-fn contains(list: &[u16], channel: u16) -> bool
-    ensures { IsTrue result ↔ Contains list.now channel }
-{
-    list.contains(&channel)
 }
 
 // Does the same as `has_close`. Compares with all channels of the list, many at a time.
