@@ -1,7 +1,7 @@
 -- Each job is at its number and nowhere else.
 use Rattle.std.proofs.Common.{◌≡◌, ◌↔◌, ℕ, zero, suc, ◌+◌, ◌-◌, ◌<◌, ◌≤◌, true, eqb, List, length, slice_get, Some, None, IsSome, refl, sym, ap, subst, ◌∙◌, arith, ⊎_elim}
 use Rattle.std.proofs.lemmas.Bool.{and_parts, eqb-true, eq-eqb, cases_lt}
-use Rattle.std.proofs.lemmas.Option.{none-some, some_pair_parts, slice_get_within}
+use Rattle.std.proofs.lemmas.Option.{some_pair_parts, slice_get_within}
 use Rattle.win_index.specs.Blocks.{block_count}
 use Rattle.win_index.specs.Jobs.{level_jobs, jobs_of, is_job, job_number}
 use Rattle.win_index.proofs.Finding.{IsOnly, position_some, position_is, position_none, has_position}

@@ -127,7 +127,7 @@ impl Shape {
         let places = self.run_places(below, window);
         RunPrefix {
             middle: self.window_number(below, &window[1..len]),
-            last: self.front_number(below, &window[2..len]),
+            last: self.lists(2 * below).number(&window[2..len]) as u32,
             first_gap: places.first_gap,
             second_gap: places.second_gap,
         }
@@ -172,16 +172,6 @@ impl Shape {
     {
         let free = self.ids - 2 * below - 1;
         number / (free * (free - 1))
-    }
-
-    // Returns the number of a prefix of a window of this level, all its identifiers but the last.
-    #[tactic(auto, using(crate::proofs::Levels::few_of_shape))]
-    fn front_number(&self, level: u32, front: &[u32]) -> u32
-        requires level { level ≤ self.now.rounds }
-        requires front { IsWindow (2 * level) self.now.ids front.now }
-        ensures { slice_get (windows (2 * level) self.now.ids) result ≡ Some front.now }
-    {
-        self.fronts(level).number(front) as u32
     }
 
     // Returns the prefixes of the runs one level above `below`.

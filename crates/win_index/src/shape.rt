@@ -77,7 +77,7 @@ impl Shape {
         ensures value { result ≡ length (windows (2 * level + 1) self.now.ids) }
         ensures some { 0 < result }
     {
-        self.windows(level).count() as u32
+        self.lists(2 * level + 1).count() as u32
     }
 
     /// Returns the number of tuples of `2t+1+extra` identifiers, for an `extra` of 1 or 2. It is 0
@@ -91,7 +91,7 @@ impl Shape {
         if !self.has_tuples(extra) {
             return 0;
         }
-        self.all_tuples(extra).count()
+        self.lists(2 * self.rounds + 1 + extra).count()
     }
 
     /// Returns the number of a window of this level, or `None` if the list is not one.
@@ -100,7 +100,7 @@ impl Shape {
         ensures number { result ≡ number_of (2 * level + 1) self.now.ids list.now }
         ensures below { IfSome result (λ n. n < length (windows (2 * level + 1) self.now.ids)) }
     {
-        let number = self.windows(level).find(list)?;
+        let number = self.lists(2 * level + 1).find(list)?;
         Some(number as u32)
     }
 
@@ -111,18 +111,19 @@ impl Shape {
         ensures number { number_of (2 * level + 1) self.now.ids window.now ≡ Some result }
         ensures item { slice_get (windows (2 * level + 1) self.now.ids) result ≡ Some window.now }
     {
-        self.windows(level).number(window) as u32
+        self.lists(2 * level + 1).number(window) as u32
     }
 
     /// Returns the number of the first window of this level with these `2r` identifiers as its
     /// prefix. The windows with that prefix are consecutive, in the order of their last
     /// identifiers.
+    #[tactic(auto, using(crate::proofs::Levels::few_of_shape))]
     pub fn run_start(&self, level: u32, front: &[u32]) -> u32
         requires level { level ≤ self.now.rounds }
         requires front { IsWindow (2 * level) self.now.ids front.now }
         ensures { IsRunStart (2 * level) self.now.ids front.now result }
     {
-        self.fronts(level).run_start(front) as u32
+        self.lists(2 * level).run_start(front) as u32
     }
 
     /// Writes the window of this level with this number to the `2r+1` cells of `out`.
@@ -133,7 +134,7 @@ impl Shape {
         ensures item { slice_get (windows (2 * level + 1) self.now.ids) number ≡ Some out.new }
         ensures window { IsWindow (2 * level + 1) self.now.ids out.new }
     {
-        self.windows(level).write(u64::from(number), out);
+        self.lists(2 * level + 1).write(u64::from(number), out);
     }
 
     /// Replaces a window of this level by the next one and returns `true`, or returns `false`
@@ -143,7 +144,7 @@ impl Shape {
         requires window { IsWindow (2 * level + 1) self.now.ids window.old }
         ensures { IsReplaced (2 * level + 1) self.now.ids result window.old window.new }
     {
-        self.windows(level).write_next(window)
+        self.lists(2 * level + 1).write_next(window)
     }
 
     /// Replaces a window of this level by the next one with the same prefix, all identifiers but
@@ -153,7 +154,7 @@ impl Shape {
         requires window { IsWindow (2 * level + 1) self.now.ids window.old }
         ensures { IsReplacedInRun (2 * level + 1) self.now.ids result window.old window.new }
     {
-        self.windows(level).write_next_in_run(window)
+        self.lists(2 * level + 1).write_next_in_run(window)
     }
 
     /// Replaces a window of this level by the first one after it with another prefix and returns
@@ -164,7 +165,7 @@ impl Shape {
         requires window { IsWindow (2 * level + 1) self.now.ids window.old }
         ensures { IsReplacedByRun (2 * level + 1) self.now.ids result window.old window.new }
     {
-        self.windows(level).write_next_run(window)
+        self.lists(2 * level + 1).write_next_run(window)
     }
 
     /// Returns the number of a tuple of this `extra`, or `None` if the list is not one.
@@ -175,7 +176,7 @@ impl Shape {
         if !self.has_tuples(extra) {
             return None;
         }
-        self.all_tuples(extra).find(list)
+        self.lists(2 * self.rounds + 1 + extra).find(list)
     }
 
     /// Writes the tuple with this number to the `2t+1+extra` cells of `out`.
@@ -187,7 +188,7 @@ impl Shape {
         ensures item { slice_get (windows (2 * self.now.rounds + 1 + extra) self.now.ids) number ≡ Some out.new }
         ensures tuple { IsWindow (2 * self.now.rounds + 1 + extra) self.now.ids out.new }
     {
-        self.all_tuples(extra).write(number, out);
+        self.lists(2 * self.rounds + 1 + extra).write(number, out);
     }
 
     /// Replaces a tuple by the next one and returns `true`, or returns `false` without a change if
@@ -197,35 +198,21 @@ impl Shape {
         requires tuple { IsWindow (2 * self.now.rounds + 1 + extra) self.now.ids tuple.old }
         ensures { IsReplaced (2 * self.now.rounds + 1 + extra) self.now.ids result tuple.old tuple.new }
     {
-        self.all_tuples(extra).write_next(tuple)
+        self.lists(2 * self.rounds + 1 + extra).write_next(tuple)
     }
 
-    // Returns the windows of this level.
-    #[tactic(auto, using(crate::proofs::Levels::few_of_shape))]
-    fn windows(&self, level: u32) -> Lists
-        requires { level ≤ self.now.rounds }
+    // Returns the lists of this length, which are windows, their prefixes or tuples.
+    #[tactic(auto, using(crate::proofs::Levels::few_of_shape, crate::proofs::Levels::few_tuples))]
+    pub(crate) fn lists(&self, len: u32) -> Lists
+        requires short { len ≤ self.now.ids }
+        requires few { len ≤ 2 * self.now.rounds + 1 + MAX_EXTRA }
         ensures ids { result.ids ≡ self.now.ids }
-        ensures len { result.len ≡ 2 * level + 1 }
-        ensures few { length (windows result.len result.ids) ≤ MAX_WINDOWS }
+        ensures len { result.len ≡ len }
+        ensures few { len ≤ 2 * self.now.rounds + 1 → length (windows len self.now.ids) ≤ MAX_WINDOWS }
     {
         Lists {
             ids: self.ids,
-            len: 2 * level as usize + 1,
-        }
-    }
-
-    // Returns the prefixes of the windows of this level, all identifiers but the last.
-    #[tactic(auto, using(crate::proofs::Levels::few_of_shape))]
-    pub(crate) fn fronts(&self, level: u32) -> Lists
-        requires { level ≤ self.now.rounds }
-        ensures ids { result.ids ≡ self.now.ids }
-        ensures len { result.len ≡ 2 * level }
-        ensures longer { result.len < result.ids }
-        ensures few { length (windows (result.len + 1) result.ids) ≤ MAX_WINDOWS }
-    {
-        Lists {
-            ids: self.ids,
-            len: 2 * level as usize,
+            len: len as usize,
         }
     }
 
@@ -235,19 +222,6 @@ impl Shape {
         ensures { IsTrue result ↔ (2 * self.now.rounds + 1 + extra ≤ self.now.ids) }
     {
         2 * self.rounds + 1 + extra <= self.ids
-    }
-
-    #[tactic(auto, using(crate::proofs::Levels::few_tuples))]
-    fn all_tuples(&self, extra: u32) -> Lists
-        requires few { extra ≤ MAX_EXTRA }
-        requires enough { 2 * self.now.rounds + 1 + extra ≤ self.now.ids }
-        ensures ids { result.ids ≡ self.now.ids }
-        ensures len { result.len ≡ 2 * self.now.rounds + 1 + extra }
-    {
-        Lists {
-            ids: self.ids,
-            len: 2 * self.rounds as usize + 1 + extra as usize,
-        }
     }
 }
 

@@ -1,5 +1,5 @@
 use Rattle.std.proofs.Common.{◌≡◌, ◌+◌, length, ap, arith}
-use Rattle.win_index.proofs.JobPlaces.{length_jobs_below, jobs_are_below, job_at}
+use Rattle.win_index.proofs.JobPlaces.{jobs_are_below, job_at}
 use Rattle.win_index.proofs.shape.Shape.job.Goals as goal
 
 pub returns-then-block-blocks-clause-job : goal.returns-then-block-blocks-clause-job

@@ -1,7 +1,6 @@
 use Rattle.std.proofs.Common.{◌≡◌, sym, arith}
 use Rattle.std.proofs.lemmas.Option.{slice_get_within}
 use Rattle.win_index.specs.Jobs.{jobs_of}
-use Rattle.win_index.proofs.JobPlaces.{length_jobs_below, job_at}
 use Rattle.win_index.proofs.JobNumbers.{number_of_job, job_number_at, job_number_none}
 use Rattle.win_index.proofs.shape.Shape.job_number.Goals as goal
 use Rattle.win_index.proofs.shape.Shape.job_number.Goals.{then-level-self-via-then-level-self, then-level-self-via-else-level-self+then-block-blocks}

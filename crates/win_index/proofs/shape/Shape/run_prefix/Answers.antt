@@ -3,11 +3,11 @@ use Rattle.std.proofs.lemmas.List.{get_or-take}
 use Rattle.win_index.proofs.FrontPlaces.{slice_window, part_front}
 use Rattle.win_index.proofs.shape.Shape.run_prefix.Goals as goal
 
-pub front_number-requires-clause-front : goal.front_number-requires-clause-front
-front_number-requires-clause-front c =
+pub number-requires : goal.number-requires
+number-requires c =
     let low = c.args.below in
     let len : 2 * low + 2 - 2 ≡ 2 * low = omega arith in
-    rw len (slice_window c.args.self.now.ids (2 * low + 3) 2 (2 * low) c.args.window.now
+    rw (c.lists.ensures.len, c.lists.ensures.ids, len) (slice_window c.args.self.now.ids (2 * low + 3) 2 (2 * low) c.args.window.now
     c.requires.window (omega arith))
 
 pub returns : goal.returns
@@ -24,7 +24,7 @@ returns c =
     record {
       window = slice_window m (2 * low + 3) 0 (2 * low + 2) w c.requires.window (omega arith);
       middle = rw (one, ← took_one) (rw one at c.window_number.ensures.item);
-      last = rw (two, ← took_two) (rw two at c.front_number.ensures);
+      last = rw (two, ← took_two) (rw (c.lists.ensures.len, c.lists.ensures.ids, two) at c.number.ensures.item);
       first_gap = rw (get_or-take (2 * low + 2) w 0 0 (omega arith)) (rw front at places.first);
       second_gap = rw (get_or-take (2 * low + 2) w 1 0 (omega arith)) (rw front at places.second);
     }
