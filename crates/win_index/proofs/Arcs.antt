@@ -1,7 +1,7 @@
 -- The identifiers of neighbouring places of a ring.
 use Rattle.std.proofs.Common.{◌≡◌, ◌≢◌, ℕ, suc, ◌+◌, ◌-◌, ◌*◌, ◌/◌, ◌%◌, ◌<◌, ◌≤◌, List, length, get_or, take, drop, AllPairs, sym, ap, ◌∙◌, arith, length-drop, get_or-drop, ⊎_elim}
 use Rattle.std.proofs.Math.Nat.{suc-mul}
-use Rattle.std.proofs.lemmas.Bool.{cases_lt, cases_order}
+use Rattle.std.proofs.lemmas.Bool.{cases_lt}
 use Rattle.std.proofs.lemmas.Grind.{same_number_lists}
 use Rattle.std.proofs.lemmas.List.FromFn.{length-map-range_with_len, get_or-map-range_with_len, take-map-range_with_len}
 use Rattle.std.proofs.lemmas.Nat.{mul-le, mod_below, div-add-mod'}
@@ -53,11 +53,7 @@ places_differ n a b lt near same =
 
 differ_at : (x : List ℕ) (i j : ℕ) → AllPairs (λ a b. a ≢ b) x → i < length x → j < length x →
     i ≢ j → get_or x i 0 ≢ get_or x j 0
-differ_at x i j distinct in_i in_j other e =
-    ⊎_elim
-    (λ (same : i ≡ j). other same)
-    (λ order. ⊎_elim (λ (lt : i < j). distinct i j 0 lt in_j e) (λ (gt : j < i). distinct j i 0 gt in_i (sym e)) order)
-    (cases_order i j)
+differ_at x i j distinct in_i in_j other = grind (arith, distinct i j 0, distinct j i 0)
 
 -- as many places as a ring has, or fewer, hold a window
 pub arc_window : (m t start count : ℕ) (x : List ℕ) → IsRing m t x → count ≤ length x →

@@ -1,14 +1,17 @@
 -- The positions of the windows with a common prefix.
 use Rattle.std.proofs.Common.{◌≡◌, ℕ, ◌+◌, ◌-◌, ◌*◌, ◌<◌, ◌≤◌, List, length, get_or, take, slice_get, Some, sym, ap, ◌∙◌, arith, refl}
-use Rattle.std.proofs.lemmas.List.{take_all}
 use Rattle.std.proofs.lemmas.Option.{slice_get_within}
 use Rattle.std.proofs.lemmas.Nat.{mul-le}
 use Rattle.win_index.specs.Laws.{LongerWindowsHaveNumbers}
 use Rattle.win_index.specs.Runs.{IsRunStart}
 use Rattle.win_index.specs.Windows.{unused, windows, IsWindow}
 use Rattle.win_index.proofs.Numbers.{windows_more, windows_all}
-use Rattle.win_index.proofs.Positions.{free_at, front_step}
-use Rattle.win_index.proofs.Unused.{length-unused, unused_at}
+use Rattle.win_index.proofs.Positions.{free_at}
+use Rattle.win_index.proofs.FrontPlaces.{Part, part_longer}
+use Rattle.win_index.proofs.Unused.{counted, length-unused}
+
+whole : (k : ℕ) → Part 0 k k (k + 1) (k + 1)
+whole k = record { all = omega arith; long = refl; short = refl }
 
 -- a run starts at the number of its prefix times the length of a run
 pub run_start_is :
@@ -20,10 +23,7 @@ run_start_is k m n first front at' first_is =
     record {
       within = omega (arith, first_is, all, windows_more k m);
       each = λ window is begins.
-          let size = is.size in
-          let own : slice_get (windows k m) n ≡ Some (take k window) = at' ∙ ap Some (sym begins) in
-          let step = front_step (k + 1) m k n window is (omega arith) own in
-          rw (first_is, ← begins) (step ∙ ap Some (take_all (k + 1) window (omega arith)));
+          rw (first_is, ← begins) (part_longer m (whole k) n window is (at' ∙ ap Some (sym begins)));
     }
 
 -- a window with one more identifier is in the run of its prefix
@@ -31,14 +31,10 @@ pub longer_number : LongerWindowsHaveNumbers
 longer_number k m n longer is at' =
     let size = is.size in
     let front = windows_all k m n (take k longer) at' in
-    let x = get_or longer k 0 in
-    let within : k < length longer = omega arith in
-    let free = free_at longer k is.distinct within in
-    let place = unused_at (take k longer) m x (is.below k 0 within) free in
-    let inside = slice_get_within (unused m (take k longer)) (length (unused x (take k longer))) x place in
+    let inside = counted (take k longer) (get_or longer k 0) m (free_at longer k is.distinct (omega arith))
+    (is.below k 0 (omega arith)) in
     let many = length-unused (take k longer) m front.distinct front.below in
-    let step = front_step (k + 1) m k n longer is (omega arith) at' in
-    (omega (arith, front.size), step ∙ ap Some (take_all (k + 1) longer (omega arith)))
+    (omega (arith, front.size), part_longer m (whole k) n longer is at')
 
 -- the numbers of a run's windows are below the number of all windows
 pub run_below :

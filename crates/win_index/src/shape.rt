@@ -88,10 +88,11 @@ impl Shape {
         ensures value { result ≡ length (windows (2 * self.now.rounds + 1 + extra) self.now.ids) }
         ensures some { 2 * self.now.rounds + 1 + extra ≤ self.now.ids → 0 < result }
     {
-        if !self.has_tuples(extra) {
+        let len = 2 * self.rounds + 1 + extra;
+        if len > self.ids {
             return 0;
         }
-        self.lists(2 * self.rounds + 1 + extra).count()
+        self.lists(len).count()
     }
 
     /// Returns the number of a window of this level, or `None` if the list is not one.
@@ -173,10 +174,11 @@ impl Shape {
         requires extra { IsExtra extra }
         ensures { result ≡ number_of (2 * self.now.rounds + 1 + extra) self.now.ids list.now }
     {
-        if !self.has_tuples(extra) {
+        let len = 2 * self.rounds + 1 + extra;
+        if len > self.ids {
             return None;
         }
-        self.lists(2 * self.rounds + 1 + extra).find(list)
+        self.lists(len).find(list)
     }
 
     /// Writes the tuple with this number to the `2t+1+extra` cells of `out`.
@@ -214,14 +216,6 @@ impl Shape {
             ids: self.ids,
             len: len as usize,
         }
-    }
-
-    // Returns whether the shape has enough identifiers for a tuple.
-    fn has_tuples(&self, extra: u32) -> bool
-        requires { extra ≤ MAX_EXTRA }
-        ensures { IsTrue result ↔ (2 * self.now.rounds + 1 + extra ≤ self.now.ids) }
-    {
-        2 * self.rounds + 1 + extra <= self.ids
     }
 }
 
