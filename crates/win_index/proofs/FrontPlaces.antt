@@ -4,11 +4,10 @@ use Rattle.std.proofs.lemmas.Bool.{not-true, ne_eqb}
 use Rattle.std.proofs.lemmas.List.{take_all, take_more, drop-take, take-set, get_or-set_same, length-set, length-drop, length-take-le, get_or-drop, take_at, get_or_push}
 use Rattle.std.proofs.lemmas.Nat.{div-mul-add, mod-mul-add, div-add-mod'}
 use Rattle.std.proofs.lemmas.List.Elements.{All-take, All-drop}
-use Rattle.std.proofs.lemmas.Option.{slice_get_within}
 use Rattle.win_index.specs.Runs.{IsLastOfRun}
 use Rattle.win_index.specs.Windows.{is_used, unused, windows, IsWindow}
 use Rattle.win_index.proofs.Kept.{kept_is}
-use Rattle.win_index.proofs.Numbers.{window_parts, windows_all, one_place}
+use Rattle.win_index.proofs.Numbers.{window_parts, one_place}
 use Rattle.win_index.proofs.Positions.{free_at, front_more, front_step, window_place}
 use Rattle.win_index.proofs.Unused.{lacks, lacks_both, distinct_take, distinct_drop, distinct_head, distinct_tail, counted, apart, same_order, unused_in_front, unused_at_end, length-unused}
 
@@ -46,14 +45,10 @@ pub shorter_number :
     × (n % (m - k) ≡ length (unused (get_or list k 0) (take k list)))
 shorter_number k m n list at' =
     let parts = window_parts k m n list at' in
-    let front = windows_all k m parts.place parts.front parts.front_at in
     let own = kept_is (lacks parts.front) m parts.rest parts.last parts.last_at in
-    let inside = slice_get_within (unused m parts.front) parts.rest parts.last parts.last_at in
-    let many = length-unused parts.front m front.distinct front.below in
-    let size = front.size in
-    let small : parts.rest < m - k = omega (arith, inside, many, size) in
-    let place = ap (λ i. i / (m - k)) parts.number ∙ div-mul-add parts.place (m - k) parts.rest small in
-    let rest = ap (λ i. i % (m - k)) parts.number ∙ mod-mul-add parts.place (m - k) parts.rest small in
+    let size = parts.front_is.size in
+    let place = ap (λ i. i / (m - k)) parts.number ∙ div-mul-add parts.place (m - k) parts.rest parts.inside in
+    let rest = ap (λ i. i % (m - k)) parts.number ∙ mod-mul-add parts.place (m - k) parts.rest parts.inside in
     let took = ap (take k) parts.whole ∙ take_at parts.front (parts.last ∷ []) k size in
     let last = ap (λ l. get_or l k 0) parts.whole ∙ get_or_push parts.front parts.last 0 k size in
     (rw (place, took) parts.front_at, rw (rest, took, last) (sym own.before))

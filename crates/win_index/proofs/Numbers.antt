@@ -40,10 +40,14 @@ push_window k m x front window lt free =
       distinct = all_pairs_push (λ a b. a ≢ b) front x window.distinct (lacks_differs front x free);
     }
 
-pub length-extended : (k m : ℕ) (front : List ℕ) → IsWindow k m front → length (extended m front) ≡ m - k
+-- a window lacks the other numbers
+pub unused_left : {k m : ℕ} {front : List ℕ} → IsWindow k m front → length (unused m front) + k ≡ m
+unused_left {k} {m} {front} window =
+    omega (arith, length-unused front m window.distinct window.below, window.size)
+
+length-extended : (k m : ℕ) (front : List ℕ) → IsWindow k m front → length (extended m front) ≡ m - k
 length-extended k m front window =
-    let all = length-map (unused m front) (λ x. front ++ x ∷ []) in
-    omega (arith, all, length-unused front m window.distinct window.below, window.size)
+    omega (arith, length-map (unused m front) (λ x. front ++ x ∷ []), unused_left window)
 
 map_some : {A B : Type 0} (f : A → B) (o : Option A) (b : B) → option_map f o ≡ Some b →
     (a : A) × (o ≡ Some a) × (f a ≡ b)
@@ -60,6 +64,8 @@ pub record Parts (k m n : ℕ) (list : List ℕ) : Type 0 where
   pub number : n ≡ place * (m - k) + rest
   pub front_at : slice_get (windows k m) place ≡ Some front
   pub last_at : slice_get (unused m front) rest ≡ Some last
+  pub front_is : IsWindow k m front
+  pub inside : rest < m - k
 
 abbrev pub HoldsWindows : ℕ → ℕ → Type 0
 HoldsWindows k m = (n : ℕ) (list : List ℕ) → slice_get (windows k m) n ≡ Some list → IsWindow k m list
@@ -81,6 +87,7 @@ parts_with k m n list all at' =
     let joined = rw (windows-suc k m) at at' in
     let piece = piece_of (extended m) (windows k m) (m - k) n list (pieces_even k m all) joined in
     let last = extended_at m piece.rest piece.source list piece.item_at in
+    let front_is = all piece.place piece.source piece.source_at in
     record {
       place = piece.place;
       rest = piece.rest;
@@ -90,6 +97,8 @@ parts_with k m n list all at' =
       number = piece.number;
       front_at = piece.source_at;
       last_at = last.1;
+      front_is = front_is;
+      inside = omega (arith, slice_get_within (unused m piece.source) piece.rest last.0 last.1, unused_left front_is);
     }
 
 -- each item of the list is a window
@@ -99,8 +108,7 @@ windows_all (suc k) m n list at' =
     let parts = parts_with k m n list (windows_all k m) at' in
     let last = kept_is (lacks parts.front) m parts.rest parts.last parts.last_at in
     let free = not-true (is_used parts.front parts.last) last.passes in
-    rw parts.whole (push_window k m parts.last parts.front
-    (windows_all k m parts.place parts.front parts.front_at) last.below free)
+    rw parts.whole (push_window k m parts.last parts.front parts.front_is last.below free)
 
 pub window_parts : (k m n : ℕ) (list : List ℕ) → slice_get (windows (suc k) m) n ≡ Some list → Parts k m n list
 window_parts k m n list at' = parts_with k m n list (windows_all k m) at'

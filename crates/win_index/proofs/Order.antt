@@ -1,5 +1,5 @@
 -- The windows are in lexicographic order.
-use Rattle.std.proofs.Common.{◌≡◌, ℕ, zero, suc, ◌+◌, ◌-◌, ◌*◌, ◌<◌, ◌≤◌, ◌⊎◌, List, [], ◌∷◌, ◌++◌, length, slice_get, Some, refl, sym, ap, ◌∙◌, arith, inl, inr, ⊎_elim}
+use Rattle.std.proofs.Common.{◌≡◌, ℕ, zero, suc, ◌-◌, ◌*◌, ◌<◌, ◌⊎◌, List, [], ◌∷◌, ◌++◌, length, slice_get, Some, refl, sym, ap, ◌∙◌, arith, inl, inr, ⊎_elim}
 use Rattle.std.proofs.Math.Nat.{suc-mul}
 use Rattle.std.proofs.lemmas.Bool.{cases_order}
 use Rattle.std.proofs.lemmas.Nat.{mul-le}
@@ -7,8 +7,8 @@ use Rattle.std.proofs.lemmas.Option.{same_Some, slice_get_within}
 use Rattle.win_index.specs.Lexicographic.{StandsBefore}
 use Rattle.win_index.specs.Windows.{unused, windows}
 use Rattle.win_index.proofs.Kept.{kept_increases}
-use Rattle.win_index.proofs.Unused.{lacks, length-unused}
-use Rattle.win_index.proofs.Numbers.{Parts, window_parts, windows_all, length-windows}
+use Rattle.win_index.proofs.Unused.{lacks}
+use Rattle.win_index.proofs.Numbers.{window_parts, length-windows}
 
 -- an order of two lists stays with one more number at their ends
 before_push :
@@ -25,16 +25,6 @@ before_last : (a : List ℕ) (x y : ℕ) → x < y → StandsBefore (a ++ x ∷ 
 before_last [] x y lt = inl lt
 before_last (c ∷ a) x y lt = inr (refl, before_last a x y lt)
 
-rest_is_below : (k m n : ℕ) (list : List ℕ) (parts : Parts k m n list) → parts.rest + 1 ≤ m - k
-rest_is_below k m n list parts =
-    let window = windows_all k m parts.place parts.front parts.front_at in
-    omega (
-      arith,
-      slice_get_within (unused m parts.front) parts.rest parts.last parts.last_at,
-      length-unused parts.front m window.distinct window.below,
-      window.size,
-    )
-
 pub in_order :
     (k m i j : ℕ) (a b : List ℕ) → i < j → slice_get (windows k m) i ≡ Some a →
     slice_get (windows k m) j ≡ Some b → StandsBefore a b
@@ -43,8 +33,6 @@ in_order zero m i j a b lt at_i at_j =
 in_order (suc k) m i j a b lt at_i at_j =
     let first = window_parts k m i a at_i in
     let second = window_parts k m j b at_j in
-    let first_size = (windows_all k m first.place first.front first.front_at).size in
-    let second_size = (windows_all k m second.place second.front second.front_at).size in
     ⊎_elim
     (λ (same : first.place ≡ second.place).
     let front : second.front ≡ first.front =
@@ -60,10 +48,9 @@ in_order (suc k) m i j a b lt at_i at_j =
     (λ (less : first.place < second.place).
     let before = in_order k m first.place second.place first.front second.front less first.front_at second.front_at in
     rw (first.whole, second.whole)
-    (before_push first.front second.front first.last second.last (first_size ∙ sym second_size) before))
+    (before_push first.front second.front first.last second.last (first.front_is.size ∙ sym second.front_is.size) before))
     (λ (more : second.place < first.place).
-    let below = rest_is_below k m j b second in
     let all = mul-le (suc second.place) (m - k) first.place (m - k) more (omega arith) in
-    absurd (omega (arith, first.number, second.number, suc-mul second.place (m - k))))
+    absurd (omega (arith, first.number, second.number, second.inside, suc-mul second.place (m - k))))
     other)
     (cases_order first.place second.place)

@@ -10,9 +10,9 @@ use Rattle.win_index.specs.Windows.{is_used, unused, IsWindow}
 use Rattle.win_index.specs.declared.run_prefix.RunPrefix.{RunPrefix}
 use Rattle.win_index.specs.declared.series.RunPlaces.{RunPlaces}
 use Rattle.win_index.proofs.Kept.{kept_is}
-use Rattle.win_index.proofs.Numbers.{push_window}
+use Rattle.win_index.proofs.Numbers.{push_window, unused_left}
 use Rattle.win_index.proofs.Successors.{next_run, last_run}
-use Rattle.win_index.proofs.Unused.{lacks, length-unused}
+use Rattle.win_index.proofs.Unused.{lacks}
 
 -- the window after the last one of a run is the next prefix with the least identifier that this lacks
 pub begins_run :
@@ -23,9 +23,8 @@ begins_run k m last prefix next is greatest short steps has =
     let later = step.0 in
     let later_is = step.2.window in
     let y : ℕ = get_or (unused m later) 0 0 in
-    let many = length-unused later m later_is.distinct later_is.below in
     let least : slice_get (unused m later) 0 ≡ Some y =
-    slice_get-get_or (unused m later) 0 0 (omega (arith, many, later_is.size, short)) in
+    slice_get-get_or (unused m later) 0 0 (omega (arith, unused_left later_is, short)) in
     let kept = kept_is (lacks later) m 0 y least in
     let long : suc k ≡ k + 1 = omega arith in
     let window_is = rw long at (push_window k m y later later_is kept.below (not-true (is_used later y) kept.passes)) in

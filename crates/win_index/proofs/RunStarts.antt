@@ -5,10 +5,10 @@ use Rattle.std.proofs.lemmas.Nat.{mul-le}
 use Rattle.win_index.specs.Laws.{LongerWindowsHaveNumbers}
 use Rattle.win_index.specs.Runs.{IsRunStart}
 use Rattle.win_index.specs.Windows.{unused, windows, IsWindow}
-use Rattle.win_index.proofs.Numbers.{windows_more, windows_all}
+use Rattle.win_index.proofs.Numbers.{unused_left, windows_more, windows_all}
 use Rattle.win_index.proofs.Positions.{free_at}
 use Rattle.win_index.proofs.FrontPlaces.{Part, part_longer}
-use Rattle.win_index.proofs.Unused.{counted, length-unused}
+use Rattle.win_index.proofs.Unused.{counted}
 
 whole : (k : ℕ) → Part 0 k k (k + 1) (k + 1)
 whole k = record { all = omega arith; long = refl; short = refl }
@@ -33,8 +33,7 @@ longer_number k m n longer is at' =
     let front = windows_all k m n (take k longer) at' in
     let inside = counted (take k longer) (get_or longer k 0) m (free_at longer k is.distinct (omega arith))
     (is.below k 0 (omega arith)) in
-    let many = length-unused (take k longer) m front.distinct front.below in
-    (omega (arith, front.size), part_longer m (whole k) n longer is at')
+    (omega (arith, unused_left front), part_longer m (whole k) n longer is at')
 
 -- the numbers of a run's windows are below the number of all windows
 pub run_below :

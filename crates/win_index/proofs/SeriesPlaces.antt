@@ -7,11 +7,11 @@ use Rattle.win_index.specs.Runs.{IsSeries, IsAtPlace, IsFirstOfRun, IsLastOfRun}
 use Rattle.win_index.specs.Successor.{IsNext}
 use Rattle.win_index.specs.Windows.{unused, windows, IsWindow}
 use Rattle.win_index.specs.declared.series.RunPlaces.{RunPlaces}
-use Rattle.win_index.proofs.Numbers.{windows_all}
+use Rattle.win_index.proofs.Numbers.{windows_all, unused_left}
 use Rattle.win_index.proofs.Positions.{window_place}
 use Rattle.win_index.proofs.FrontPlaces.{Placed, placed, below, last_place, window_front, window_with, last_of_run, Part, part_apart, part_along, part_window}
 use Rattle.win_index.proofs.Kept.{kept_is}
-use Rattle.win_index.proofs.Unused.{lacks, length-unused}
+use Rattle.win_index.proofs.Unused.{lacks}
 
 -- the position, or the next one if it is a gap
 abbrev pub IsPast : ℕ → ℕ → ℕ → ℕ → Type 0
@@ -122,10 +122,9 @@ module _ {k m p : ℕ} {places : RunPlaces} {window : List ℕ} (some : 1 ≤ k)
       let at_p = at_place some is in
       let got = past_both places.first_gap places.second_gap p a q at_p.differ at_p.first at_p.second past again in
       let front = window_front (k + 1) (k + 2) m window (omega arith) is.window_is in
-      let many = length-unused (take (k + 1) window) m front.distinct front.below in
       last_of_run (k + 1) (k + 2) m window (omega arith) is.window_is
       (end_rank _ _ p q (last_place 0 (k + 1) window) _ places.end at_p.own got.3 end at_p.first_inside
-      at_p.second_inside (omega (arith, many, front.size, at_p.all)))
+      at_p.second_inside (omega (arith, unused_left front, at_p.all)))
 
   -- a series up to the end of the positions without a gap
   pub series_is :

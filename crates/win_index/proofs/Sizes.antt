@@ -4,8 +4,7 @@ use Rattle.std.proofs.Math.Nat.{le-mul_of_pos_right}
 use Rattle.std.proofs.lemmas.Bool.{cases_lt}
 use Rattle.std.proofs.lemmas.Option.{slice_get-get_or}
 use Rattle.win_index.specs.Windows.{windows, IsWindow}
-use Rattle.win_index.proofs.Unused.{length-unused}
-use Rattle.win_index.proofs.Numbers.{windows-zero, windows_all, windows_more}
+use Rattle.win_index.proofs.Numbers.{unused_left, windows-zero, windows_all, windows_more}
 
 -- there are at least as many longer windows
 pub windows_rise : (m j k : ℕ) → j ≤ k → k ≤ m → length (windows j m) ≤ length (windows k m)
@@ -26,7 +25,7 @@ windows_rise m j (suc k) le within =
 
 -- a window has at most as many numbers as there are
 pub window_within : (k m : ℕ) (list : List ℕ) → IsWindow k m list → k ≤ m
-window_within k m list window = omega (arith, length-unused list m window.distinct window.below, window.size)
+window_within k m list window = omega (arith, unused_left window)
 
 pub one_window : (m : ℕ) → length (windows 0 m) ≡ 1
 one_window m = rw (windows-zero m)

@@ -9,10 +9,10 @@ use Rattle.win_index.specs.Windows.{unused, windows, IsWindow}
 use Rattle.win_index.specs.Runs.{IsLastOfRun}
 use Rattle.win_index.specs.Successor.{IsNext, IsLast}
 use Rattle.win_index.proofs.Kept.{kept, kept_at, kept_is, kept_suc, kept_rises}
-use Rattle.win_index.proofs.Unused.{lacks, distinct_take, length-unused, unused_at}
+use Rattle.win_index.proofs.Unused.{lacks, distinct_take, unused_at}
 use Rattle.win_index.proofs.Positions.{window_place, free_at}
 use Rattle.win_index.proofs.FrontPlaces.{last_place, last_of_run}
-use Rattle.win_index.proofs.Numbers.{window_parts, window_from_parts, windows_all, windows_more, length-windows}
+use Rattle.win_index.proofs.Numbers.{window_parts, window_from_parts, windows_all, unused_left, windows_more, length-windows}
 
 -- the first number from low on that the list lacks
 abbrev pub first_lacked : ℕ → List ℕ → ℕ → Option ℕ
@@ -100,9 +100,7 @@ at_end :
 at_end k m last n list more lt none at' =
     let front = take last list in
     let parts = parts_of k m last n list more lt at' in
-    let window = windows_all last m parts.place front parts.front_at in
-    let free = length-unused front m window.distinct window.below in
-    let size = window.size in
+    let free = unused_left (windows_all last m parts.place front parts.front_at) in
     let long = none_at (unused m front) (parts.rest + 1)
     (after m parts.rest (get_or list last 0) front parts.last_at ∙ none) in
     let short = slice_get_within (unused m front) parts.rest (get_or list last 0) parts.last_at in
@@ -148,8 +146,7 @@ next_is_window k m window next own after' =
 pub later_lacks : (last m : ℕ) (front later : List ℕ) → last < m → IsWindow last m front →
     IsNext last m front later → 0 < length (unused m later)
 later_lacks last m front later lt window next =
-    let own = next_is_window last m front later window next in
-    omega (arith, length-unused later m own.distinct own.below, own.size)
+    omega (arith, unused_left (next_is_window last m front later window next))
 
 -- the next window of a run has the next number that the prefix lacks
 module _ (k m last : ℕ) (list : List ℕ) (more : k ≡ last + 1) (window : IsWindow k m list) where

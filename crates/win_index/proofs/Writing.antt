@@ -4,8 +4,7 @@ use Rattle.std.proofs.Common.{◌≡◌, ℕ, zero, ◌+◌, ◌-◌, ◌/◌, �
 use Rattle.std.proofs.lemmas.List.{take_more_set}
 use Rattle.std.proofs.lemmas.Nat.{div_below, mod_below, div-add-mod'}
 use Rattle.win_index.specs.Windows.{unused, windows}
-use Rattle.win_index.proofs.Unused.{length-unused}
-use Rattle.win_index.proofs.Numbers.{windows-zero, windows_all, window_from_parts, windows_more, length-windows}
+use Rattle.win_index.proofs.Numbers.{unused_left, windows-zero, windows_all, window_from_parts, windows_more, length-windows}
 use Rattle.win_index.proofs.Sizes.{some_window}
 
 -- the one window of length 0
@@ -30,8 +29,7 @@ pub rest_below :
     (m last n place : ℕ) (front : List ℕ) → slice_get (windows last m) place ≡ Some front → last < m
     → n % (m - last) < length (unused m front)
 rest_below m last n place front at' lt =
-    let window = windows_all last m place front at' in
-    omega (arith, length-unused front m window.distinct window.below, window.size, mod_below n (m - last) (omega arith))
+    omega (arith, unused_left (windows_all last m place front at'), mod_below n (m - last) (omega arith))
 
 pub written :
     (k m last n x : ℕ) (list : List ℕ) → k ≡ last + 1 → last < length list
