@@ -39,17 +39,9 @@ drop-arc x start count j le =
 -- two places that are less than the ring's length apart are different
 places_differ : (n a b : ℕ) → a < b → b < a + n → a % n ≢ b % n
 places_differ n a b lt near same =
-    let some : 0 < n = omega arith in
-    let first = div-add-mod' a n in
-    let second = div-add-mod' b n in
-    ⊎_elim
-    (λ (later : a / n < b / n).
-    let more = mul-le (suc (a / n)) n (b / n) n (omega arith) (omega arith) in
-    absurd (omega (arith, suc-mul (a / n) n)))
-    (λ (earlier : b / n ≤ a / n).
-    let more = mul-le (b / n) n (a / n) n earlier (omega arith) in
-    absurd (omega arith))
-    (cases_lt (a / n) (b / n))
+    let later = mul-le (suc (a / n)) n (b / n) n in
+    let earlier = mul-le (b / n) n (a / n) n in
+    grind (arith, div-add-mod' a n, div-add-mod' b n, suc-mul (a / n) n, later, earlier)
 
 differ_at : (x : List ℕ) (i j : ℕ) → AllPairs (λ a b. a ≢ b) x → i < length x → j < length x →
     i ≢ j → get_or x i 0 ≢ get_or x j 0

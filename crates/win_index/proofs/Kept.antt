@@ -112,7 +112,4 @@ pub kept_increases :
 kept_increases p m i j x y lt at_i at_j =
     let first = kept_is p m i x at_i in
     let second = kept_is p m j y at_j in
-    ⊎_elim
-    (λ (below : x < y). below)
-    (λ (above : y ≤ x). absurd (omega (arith, kept_rises p y x above, first.before, second.before)))
-    (cases_lt x y)
+    grind (arith, kept_rises p y x)

@@ -149,11 +149,7 @@ unused_few list x more =
 
 -- a number is below m if the list lacks fewer numbers below it than below m
 pub unused_below_bound : (list : List ℕ) (x m : ℕ) → length (unused x list) < length (unused m list) → x < m
-unused_below_bound list x m fewer =
-    ⊎_elim
-    (λ (lt : x < m). lt)
-    (λ (le : m ≤ x). absurd (omega (arith, kept_rises (lacks list) m x le, fewer)))
-    (cases_lt x m)
+unused_below_bound list x m fewer = grind (arith, kept_rises (lacks list) m x)
 
 -- a number that a list lacks is counted below each larger one
 pub counted : (list : List ℕ) (x y : ℕ) → is_used list x ≡ false → x < y →
@@ -168,11 +164,7 @@ apart list x y x_free y_free differs = grind (arith, counted list x y x_free, co
 -- a number that a list lacks is in the order of the positions
 pub same_order : (list : List ℕ) (x y : ℕ) → is_used list x ≡ false →
     nat_lt x y ≡ nat_lt (length (unused x list)) (length (unused y list))
-same_order list x y free =
-    ⊎_elim
-    (λ (less : x < y). lt-ltb x y less ∙ sym (lt-ltb _ _ (counted list x y free less)))
-    (λ (more : y ≤ x). le-ltb x y more ∙ sym (le-ltb _ _ (kept_rises (lacks list) y x more)))
-    (cases_lt x y)
+same_order list x y free = grind (arith, nat_tests, counted list x y free, kept_rises (lacks list) y x)
 
 -- the only number below x that is not below x - 1
 between : (z x low high : ℕ) → z < x → (z < x - 1 → low < high) → high ≤ low → z ≡ x - 1
