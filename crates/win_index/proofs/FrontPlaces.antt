@@ -7,7 +7,8 @@ use Rattle.std.proofs.lemmas.List.Elements.{All-take, All-drop}
 use Rattle.win_index.specs.Runs.{IsLastOfRun}
 use Rattle.win_index.specs.Windows.{is_used, unused, windows, IsWindow}
 use Rattle.win_index.proofs.Kept.{kept_is}
-use Rattle.win_index.proofs.Numbers.{window_parts, one_place}
+use Rattle.win_index.proofs.Numbers.{window_parts}
+use Rattle.win_index.proofs.Order.{one_place}
 use Rattle.win_index.proofs.Positions.{free_at, front_more, front_step, window_place}
 use Rattle.win_index.proofs.Unused.{lacks, lacks_both, distinct_take, distinct_drop, distinct_head, distinct_tail, counted, apart, same_order, unused_in_front, unused_at_end, length-unused}
 

@@ -1,9 +1,9 @@
 -- The positions of the jobs of a level among all jobs.
-use Rattle.std.proofs.Common.{◌≡◌, ℕ, ◌+◌, ◌-◌, ◌*◌, ◌<◌, ◌≤◌, List, ◌++◌, flat_map, length, slice_get, Some, option_map, refl, ap, ◌∙◌, arith, length-append, append-nil}
+use Rattle.std.proofs.Common.{◌≡◌, ℕ, ◌+◌, ◌-◌, ◌*◌, ◌<◌, ◌≤◌, List, ◌++◌, flat_map, length, slice_get, Some, refl, ap, ◌∙◌, arith, length-append, append-nil}
 use Rattle.std.specs.List.{range_with_len}
-use Rattle.std.proofs.lemmas.List.FromFn.{length-range_with_len, length-map-range_with_len, get_or-range_with_len}
+use Rattle.std.proofs.lemmas.List.FromFn.{length-map-range_with_len, get_or-map-range_with_len}
 use Rattle.std.proofs.lemmas.List.Concat.{flat_map-append}
-use Rattle.std.proofs.lemmas.Option.{slice_get-map, slice_get-get_or}
+use Rattle.std.proofs.lemmas.Option.{slice_get-get_or}
 use Rattle.win_index.specs.declared.limits.TheConstants.{MAX_BLOCKS}
 use Rattle.win_index.specs.Blocks.{block_count}
 use Rattle.win_index.specs.Jobs.{level_jobs, jobs_of}
@@ -47,18 +47,12 @@ pub jobs_are_below : (m t : ℕ) → jobs_of m t ≡ jobs_below m (t + 1)
 unfolding jobs_of jobs_below
 jobs_are_below m t = refl
 
-zero-add : (n : ℕ) → 0 + n ≡ n
-zero-add n = omega arith
-
 pub level_job_at : (m level block : ℕ) → block < block_count m level →
     slice_get (level_jobs m level) block ≡ Some (level, block)
 level_job_at m level block lt =
-    let n : ℕ = block_count m level in
-    let inside : block < length (range_with_len 0 n) = omega (arith, length-range_with_len 0 n) in
-    slice_get-map (λ b. (level, b)) (range_with_len 0 n) block
-    ∙ ap (option_map (λ b. (level, b)))
-    (slice_get-get_or (range_with_len 0 n) block 0 inside
-    ∙ ap Some (get_or-range_with_len 0 n block 0 lt ∙ zero-add block))
+    slice_get-get_or (level_jobs m level) block (level, block) (omega (arith, length-level_jobs m level))
+    ∙ ap Some (get_or-map-range_with_len (λ b. (level, b)) 0 (block_count m level) block block (level, block) lt
+    (omega arith))
 
 -- a block of a level comes after the jobs of the levels below and the blocks before it
 pub job_at :

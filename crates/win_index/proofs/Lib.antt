@@ -4,6 +4,7 @@ pub mod Finding
 pub mod Unused
 pub mod Pieces
 pub mod Numbers
+pub mod Order
 pub mod Positions
 pub mod Successors
 pub mod Sizes
@@ -16,7 +17,6 @@ pub mod RunPrefixNumbers
 pub mod RunPrefixSteps
 pub mod Arcs
 pub mod Tuples
-pub mod Order
 pub mod JobPlaces
 pub mod JobNumbers
 pub mod OneFault

@@ -1,7 +1,7 @@
 -- The number of a window, from that of the window without its last identifier.
 use Rattle.std.proofs.Common.{◌≡◌, ◌≢◌, ℕ, zero, suc, ◌+◌, ◌-◌, ◌*◌, ◌<◌, false, Option, List, [], ◌∷◌, ◌++◌, length, flat_map, slice_get, Some, None, refl, sym, ap, ◌∙◌, arith, option_map, add-one}
 use Rattle.std.proofs.lemmas.Bool.{not-true}
-use Rattle.std.proofs.lemmas.List.{length-map, same_from_push, length_push}
+use Rattle.std.proofs.lemmas.List.{length-map, length_push}
 use Rattle.std.proofs.lemmas.List.Elements.{All-nil, All-push}
 use Rattle.std.proofs.lemmas.List.Quantifiers.{all_pairs_push}
 use Rattle.std.proofs.lemmas.Option.{none-some, same_Some, slice_get-map, slice_get_within}
@@ -141,27 +141,3 @@ pub window_step :
     → slice_get (windows (suc k) m) (n * (m - k) + length (unused x front)) ≡ Some (front ++ x ∷ [])
 window_step k m n x front at' lt free =
     window_from_parts k m n (length (unused x front)) x front at' (unused_at front m x lt free)
-
--- a window has one position
-pub one_place :
-    (k m i j : ℕ) (list : List ℕ) → slice_get (windows k m) i ≡ Some list →
-    slice_get (windows k m) j ≡ Some list → i ≡ j
-one_place zero m i j list at_i at_j =
-    let first = slice_get_within (windows zero m) i list at_i in
-    let second = slice_get_within (windows zero m) j list at_j in
-    let one = length-windows zero m in
-    omega arith
-one_place (suc k) m i j list at_i at_j =
-    let first = window_parts k m i list at_i in
-    let second = window_parts k m j list at_j in
-    let same = same_from_push first.front second.front first.last second.last (sym first.whole ∙ second.whole) in
-    let front : second.front ≡ first.front = sym same.0 in
-    let last : second.last ≡ first.last = sym same.1 in
-    let place = one_place k m first.place second.place first.front first.front_at (rw front at second.front_at) in
-    let own = kept_is (lacks first.front) m first.rest first.last first.last_at in
-    let other_at : slice_get (unused m first.front) second.rest ≡ Some first.last =
-    rw (front, last) at second.last_at in
-    let other = kept_is (lacks first.front) m second.rest first.last other_at in
-    let rest : first.rest ≡ second.rest = sym own.before ∙ other.before in
-    first.number ∙ ap (λ p. p * (m - k) + first.rest) place ∙ ap (λ r. second.place * (m - k) + r) rest
-    ∙ sym second.number

@@ -54,3 +54,19 @@ in_order (suc k) m i j a b lt at_i at_j =
     absurd (omega (arith, first.number, second.number, second.inside, suc-mul second.place (m - k))))
     other)
     (cases_order first.place second.place)
+
+not_before_itself : (a : List ℕ) → StandsBefore a a → ⊥
+not_before_itself [] before = before
+not_before_itself (x ∷ a) (inl less) = omega (arith, less)
+not_before_itself (x ∷ a) (inr rest) = not_before_itself a rest.1
+
+-- a window has one position
+pub one_place :
+    (k m i j : ℕ) (list : List ℕ) → slice_get (windows k m) i ≡ Some list →
+    slice_get (windows k m) j ≡ Some list → i ≡ j
+one_place k m i j list at_i at_j =
+    elim (cases_order i j) [
+      | inl same ↦ same
+      | inr (inl less) ↦ absurd (not_before_itself list (in_order k m i j list list less at_i at_j))
+      | inr (inr more) ↦ absurd (not_before_itself list (in_order k m j i list list more at_j at_i))
+    ]

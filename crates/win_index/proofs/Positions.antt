@@ -6,7 +6,8 @@ use Rattle.std.proofs.lemmas.List.{get_or-take, length-take-le, take_all, take_m
 use Rattle.win_index.specs.Windows.{is_used, unused, windows, number_of, IsWindow}
 use Rattle.win_index.proofs.Unused.{IsDistinct, lacks_from_differs}
 use Rattle.win_index.proofs.Finding.{IsOnly, position_some, position_is, position_none, has_position}
-use Rattle.win_index.proofs.Numbers.{windows-zero, push_window, window_step, windows_all, one_place}
+use Rattle.win_index.proofs.Numbers.{windows-zero, push_window, window_step, windows_all}
+use Rattle.win_index.proofs.Order.{one_place}
 
 -- the list of windows has each list at most once
 is_only : (k m : ℕ) (list : List ℕ) → IsOnly (λ w. pointwise nat_eq w list) (windows k m) list

@@ -1,5 +1,5 @@
 -- The positions of the windows of a run and of a series.
-use Rattle.std.proofs.Common.{◌≡◌, ◌≢◌, ◌⊎◌, ℕ, ◌+◌, ◌-◌, ◌<◌, ◌≤◌, List, get_or, take, drop, set, slice_get, Some, ⊎_elim, sym, ap, ◌∙◌, arith}
+use Rattle.std.proofs.Common.{◌≡◌, ◌≢◌, ◌⊎◌, ℕ, ◌+◌, ◌-◌, ◌<◌, ◌≤◌, List, get_or, take, drop, set, slice_get, Some, sym, ap, ◌∙◌, arith}
 use Rattle.std.proofs.lemmas.Bool.Decides.{nat_tests}
 use Rattle.std.proofs.lemmas.List.{take-set, get_or-set_same, get_or-take}
 use Rattle.std.proofs.lemmas.Option.{slice_get-get_or}
@@ -154,8 +154,7 @@ module _ {k m p : ℕ} {places : RunPlaces} {window : List ℕ} (some : 1 ≤ k)
       let apart = part_apart m suffix low.0 (low.0 + count) window got.0 got.2 low.1 got.3 in
       let w_is = windows_all (k + 2) m (n.0 + count) got.0 got.1 in
       let there = at_place some (same_run got.0 (p + count) got.2 w_is (omega (arith, apart, is.place_is))) in
-      ⊎_elim (λ last. absurd (omega (arith, there.inside, last)))
-      (λ gap. ⊎_elim (λ first. there.first (sym first)) (λ second. there.second (sym second)) gap) end
+      grind arith
 
   -- the first window of the run is at the first position that is no gap
   pub first_place : (a q : ℕ) → IsFirstOfRun (k + 1) m window → IsPast places.first_gap places.second_gap 0 a
