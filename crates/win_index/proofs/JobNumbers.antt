@@ -1,5 +1,5 @@
 -- Each job is at its number and nowhere else.
-use Rattle.std.proofs.Common.{◌≡◌, ◌↔◌, ℕ, zero, suc, ◌+◌, ◌-◌, ◌<◌, ◌≤◌, true, eqb, List, length, slice_get, Some, None, IsSome, refl, sym, ap, subst, ◌∙◌, arith, ⊎_elim}
+use Rattle.std.proofs.Common.{◌≡◌, ◌↔◌, ℕ, zero, suc, ◌+◌, ◌-◌, ◌<◌, ◌≤◌, true, eqb, List, length, slice_get, Some, None, IsSome, refl, sym, ap, ◌∙◌, arith, ⊎_elim}
 use Rattle.std.proofs.lemmas.Bool.{and_parts, eqb-true, eq-eqb, cases_lt}
 use Rattle.std.proofs.lemmas.Option.{some_pair_parts, slice_get_within}
 use Rattle.win_index.specs.Blocks.{block_count}
@@ -28,10 +28,8 @@ stands_below m zero level block n e =
     absurd (omega (arith, slice_get_within (jobs_below m zero) n (level, block) e, no_jobs_below m))
 stands_below m (suc k) level block n e =
     let one : suc k ≡ k + 1 = omega arith in
-    let all : slice_get (jobs_below m (k + 1)) n ≡ Some (level, block) =
-    subst (λ (x : ℕ). slice_get (jobs_below m x) n ≡ Some (level, block)) one e in
     let lower : List (ℕ × ℕ) = jobs_below m k in
-    let split = ap (λ l. slice_get l n) (sym (jobs_below_more m k)) ∙ all in
+    let split = rw (one, jobs_below_more m k) at e in
     ⊎_elim
     (λ (lt : n < length lower).
     let below = stands_below m k level block n (sym (slice_get-append_left lower (level_jobs m k) n lt) ∙ split) in

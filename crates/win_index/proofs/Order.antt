@@ -1,11 +1,11 @@
 -- The windows are in lexicographic order.
-use Rattle.std.proofs.Common.{◌≡◌, ℕ, zero, suc, ◌-◌, ◌*◌, ◌<◌, ◌⊎◌, List, [], ◌∷◌, ◌++◌, length, slice_get, Some, refl, sym, ap, ◌∙◌, arith, inl, inr, ⊎_elim}
+use Rattle.std.proofs.Common.{◌≡◌, ℕ, zero, suc, ◌-◌, ◌*◌, ◌<◌, List, [], ◌∷◌, ◌++◌, length, slice_get, Some, refl, sym, ap, ◌∙◌, arith, inl, inr}
 use Rattle.std.proofs.Math.Nat.{suc-mul}
 use Rattle.std.proofs.lemmas.Bool.{cases_order}
 use Rattle.std.proofs.lemmas.Nat.{mul-le}
 use Rattle.std.proofs.lemmas.Option.{same_Some, slice_get_within}
 use Rattle.win_index.specs.Lexicographic.{StandsBefore}
-use Rattle.win_index.specs.Windows.{unused, windows}
+use Rattle.win_index.specs.Windows.{windows}
 use Rattle.win_index.proofs.Kept.{kept_increases}
 use Rattle.win_index.proofs.Unused.{lacks}
 use Rattle.win_index.proofs.Numbers.{window_parts, length-windows}
@@ -16,10 +16,7 @@ before_push :
 before_push [] b x y same before = absurd before
 before_push (c ∷ a) [] x y same before = absurd before
 before_push (c ∷ a) (d ∷ b) x y same before =
-    ⊎_elim
-    (λ (lt : c < d). inl lt)
-    (λ (rest : (c ≡ d) × StandsBefore a b). inr (rest.0, before_push a b x y (omega arith) rest.1))
-    before
+    elim before [ inl lt ↦ inl lt | inr rest ↦ inr (rest.0, before_push a b x y (omega arith) rest.1) ]
 
 before_last : (a : List ℕ) (x y : ℕ) → x < y → StandsBefore (a ++ x ∷ []) (a ++ y ∷ [])
 before_last [] x y lt = inl lt
@@ -33,27 +30,25 @@ in_order zero m i j a b lt at_i at_j =
 in_order (suc k) m i j a b lt at_i at_j =
     let first = window_parts k m i a at_i in
     let second = window_parts k m j b at_j in
-    ⊎_elim
-    (λ (same : first.place ≡ second.place).
-    let front : second.front ≡ first.front =
-    same_Some second.front first.front (sym second.front_at ∙ rw same at first.front_at) in
-    let last_at : slice_get (unused m first.front) second.rest ≡ Some second.last = rw front at second.last_at in
-    let before : first.place * (m - k) ≡ second.place * (m - k) = ap (λ p. p * (m - k)) same in
-    let later : first.rest < second.rest = omega (arith, first.number, second.number) in
-    let less = kept_increases (lacks first.front) m first.rest second.rest first.last second.last later
-    first.last_at last_at in
-    rw (first.whole, second.whole, front) (before_last first.front first.last second.last less))
-    (λ (other : (first.place < second.place) ⊎ (second.place < first.place)).
-    ⊎_elim
-    (λ (less : first.place < second.place).
-    let before = in_order k m first.place second.place first.front second.front less first.front_at second.front_at in
-    rw (first.whole, second.whole)
-    (before_push first.front second.front first.last second.last (first.front_is.size ∙ sym second.front_is.size) before))
-    (λ (more : second.place < first.place).
-    let all = mul-le (suc second.place) (m - k) first.place (m - k) more (omega arith) in
-    absurd (omega (arith, first.number, second.number, second.inside, suc-mul second.place (m - k))))
-    other)
-    (cases_order first.place second.place)
+    elim (cases_order first.place second.place) [
+      | inl same ↦
+          let front : second.front ≡ first.front =
+          same_Some second.front first.front (sym second.front_at ∙ rw same at first.front_at) in
+          let last_at = rw front at second.last_at in
+          let before : first.place * (m - k) ≡ second.place * (m - k) = ap (λ p. p * (m - k)) same in
+          let later : first.rest < second.rest = omega (arith, first.number, second.number) in
+          let less = kept_increases (lacks first.front) m first.rest second.rest first.last second.last later
+          first.last_at last_at in
+          rw (first.whole, second.whole, front) (before_last first.front first.last second.last less)
+      | inr (inl less) ↦
+          let before = in_order k m first.place second.place first.front second.front less first.front_at
+          second.front_at in
+          rw (first.whole, second.whole) (before_push first.front second.front first.last second.last
+          (first.front_is.size ∙ sym second.front_is.size) before)
+      | inr (inr more) ↦
+          let all = mul-le (suc second.place) (m - k) first.place (m - k) more (omega arith) in
+          absurd (omega (arith, first.number, second.number, second.inside, suc-mul second.place (m - k)))
+    ]
 
 not_before_itself : (a : List ℕ) → StandsBefore a a → ⊥
 not_before_itself [] before = before

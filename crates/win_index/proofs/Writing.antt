@@ -16,12 +16,9 @@ only_window k m n list empty lt =
     let first : n ≡ 0 = omega arith in
     rw (empty, first, windows-zero m)
 
-pub some_left : (k m last n : ℕ) → k ≡ last + 1 → n < length (windows k m) → last < m
-some_left k m last n more lt = omega (arith, some_window k m n lt)
-
 pub front_below : (k m last n : ℕ) → k ≡ last + 1 → n < length (windows k m) → n / (m - last) < length (windows last m)
 front_below k m last n more lt =
-    let left = some_left k m last n more lt in
+    let left = some_window k m n lt in
     let all = rw (more, windows_more last m) at lt in
     div_below n (m - last) (length (windows last m)) (omega arith) all
 

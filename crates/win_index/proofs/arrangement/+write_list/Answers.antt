@@ -1,6 +1,7 @@
 use Rattle.std.proofs.Common.{◌-◌, take, arith}
 use Rattle.win_index.proofs.Numbers.{windows_all}
-use Rattle.win_index.proofs.Writing.{only_window, some_left, front_below, rest_below, written}
+use Rattle.win_index.proofs.Sizes.{some_window}
+use Rattle.win_index.proofs.Writing.{only_window, front_below, rest_below, written}
 use Rattle.win_index.proofs.arrangement.+write_list.Goals as goal
 
 pub returns-then-len-eq0-clause-item : goal.returns-then-len-eq0-clause-item
@@ -18,12 +19,12 @@ write_list-requires t c =
 pub nth_unused-requires : goal.nth_unused-requires
 nth_unused-requires t c =
     let last = c.args.len - 1 in
-    let left = some_left c.args.len c.args.ids last c.args.number (omega arith) c.requires.below in
+    let left = some_window c.args.len c.args.ids c.args.number c.requires.below in
     record {
       distinct = c.write_list.ensures.window.distinct;
       place =
           rw c.from.ensures (rest_below c.args.ids last c.args.number _ (take last c.write_list.new.list)
-          c.write_list.ensures.item left);
+          c.write_list.ensures.item (omega arith));
     }
 
 pub returns-clause-item : goal.returns-clause-item

@@ -6,20 +6,17 @@ use Rattle.win_index.proofs.prefixes.Prefixes.longer.Goals as goal
 
 pub overflow_add-result-2 : goal.overflow_add-result-2
 overflow_add-result-2 c =
-    let lists = c.args.self in
-    let few = grown_few lists.some c.requires.1 _ lists.short lists.few in
+    let few = grown_few c.args.self.some c.requires.1 _ c.args.self.short c.args.self.few in
     grind (arith, common_steps, nat_tests, few.0)
 
 pub overflow_mul-result : goal.overflow_mul-result
 overflow_mul-result c =
-    let lists = c.args.self in
-    let few = grown_few lists.some c.requires.1 _ lists.short lists.few in
-    omega (arith, few.0, lists.few)
+    let few = grown_few c.args.self.some c.requires.1 _ c.args.self.short c.args.self.few in
+    omega (arith, few.0)
 
 pub overflow_add-result-4 : goal.overflow_add-result-4
 overflow_add-result-4 c =
-    let lists = c.args.self in
-    let few = grown_few lists.some c.requires.1 _ lists.short lists.few in
+    let few = grown_few c.args.self.some c.requires.1 _ c.args.self.short c.args.self.few in
     omega (arith, few.1)
 
 pub overflow_mul-result-2 : goal.overflow_mul-result-2

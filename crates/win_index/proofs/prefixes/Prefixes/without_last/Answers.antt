@@ -11,13 +11,7 @@ returns c = λ window has.
     (grind (arith, common_steps, nat_tests)) (grind (arith, common_steps, nat_tests))
 
 pub overflow_add-shorter-3 : goal.overflow_add-shorter-3
-overflow_add-shorter-3 c =
-    let lists = c.args.self in
-    let few = gaps_are_few lists.some c.requires.has in
-    grind (arith, common_steps, few.0)
+overflow_add-shorter-3 c = grind (arith, common_steps, (gaps_are_few c.args.self.some c.requires.has).0)
 
 pub overflow_add-shorter-4 : goal.overflow_add-shorter-4
-overflow_add-shorter-4 c =
-    let lists = c.args.self in
-    let few = gaps_are_few lists.some c.requires.has in
-    grind (arith, common_steps, few.1)
+overflow_add-shorter-4 c = grind (arith, common_steps, (gaps_are_few c.args.self.some c.requires.has).1)
