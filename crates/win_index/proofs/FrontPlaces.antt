@@ -1,5 +1,5 @@
 -- A window by its prefix and its last identifier, and the positions of these among the identifiers that a list lacks.
-use Rattle.std.proofs.Common.{◌≡◌, ◌≢◌, ℕ, zero, suc, ◌+◌, ◌-◌, ◌*◌, ◌/◌, ◌%◌, ◌<◌, ◌≤◌, false, nat_lt, cond, List, [], ◌∷◌, length, get_or, take, drop, set, slice_get, Some, sym, ap, ◌∙◌, arith}
+use Rattle.std.proofs.Common.{◌≡◌, ◌≢◌, ℕ, suc, ◌+◌, ◌-◌, ◌*◌, ◌/◌, ◌%◌, ◌<◌, ◌≤◌, false, nat_lt, cond, List, [], ◌∷◌, length, get_or, take, drop, set, slice_get, Some, sym, ap, ◌∙◌, arith}
 use Rattle.std.proofs.lemmas.Bool.{not-true, ne_eqb}
 use Rattle.std.proofs.lemmas.List.{take_all, take_more, drop-take, take-set, get_or-set_same, length-set, length-drop, length-take-le, get_or-drop, take_at, get_or_push}
 use Rattle.std.proofs.lemmas.Nat.{div-mul-add, mod-mul-add, div-add-mod'}
@@ -161,10 +161,6 @@ pub placed :
     (k j m : ℕ) (window : List ℕ) → 2 ≤ k → j ≡ k + 1 → IsWindow j m window
     → let at' = λ (y : ℕ). length (unused y (drop 2 (take k window))) in
     Placed k m (at' (get_or window 0 0)) (at' (get_or window 1 0)) (at' m) (at' (get_or window k 0)) window
-placed zero j m window some long is = absurd (omega (arith, some))
-placed (suc zero) j m window some long is = absurd (omega (arith, some))
-placed (suc (suc k)) j m [] some long is = absurd (omega (arith, is.size))
-placed (suc (suc k)) j m (a ∷ []) some long is = absurd (omega (arith, is.size))
 placed (suc (suc k)) j m (a ∷ b ∷ list) some long is =
     let size = is.size in
     let rest : List ℕ = take k list in
@@ -201,3 +197,4 @@ placed (suc (suc k)) j m (a ∷ b ∷ list) some long is =
           let b_z : b ≢ z = λ e. not_second (ap (λ y. length (unused y rest)) e ∙ kept.before) in
           (kept.below, rw (ne_eqb a z a_z, ne_eqb b z b_z) (not-true (is_used rest z) kept.passes), kept.before);
     }
+placed k j m window some long is = absurd (omega (arith, some, long, is.size))

@@ -78,8 +78,7 @@ kept_rises p low m le =
 
 single : (b : Bool) (m i x : ℕ) → slice_get (cond b (m ∷ []) []) i ≡ Some x → (b ≡ true) × (i ≡ 0) × (m ≡ x)
 single true m zero x e = (refl, refl, same_Some m x e)
-single true m (suc i) x e = absurd (none-some x e)
-single false m i x e = absurd (none-some x e)
+single b m i x e = absurd (none-some x e)
 
 -- the number at a position: it is below the bound and passes, with as many before it as its position
 pub record IsKept (p : ℕ → Bool) (m place x : ℕ) : Type 0 where

@@ -152,15 +152,11 @@ pair_numbers m a b p is middle last first second =
 
 -- two identifiers follow from their numbers
 pub pair_is : (m : ℕ) (list : List ℕ) (p : RunPrefix) → HasNumbers 2 m list p → list ≡ p.first_gap ∷ p.second_gap ∷ []
-pair_is m [] p has = absurd (omega (arith, has.window.size))
-pair_is m (a ∷ []) p has = absurd (omega (arith, has.window.size))
 pair_is m (a ∷ b ∷ []) p has =
     (λ i. (sym (unused_all a) ∙ has.first_gap) i ∷ (sym (unused_all b) ∙ has.second_gap) i ∷ [])
-pair_is m (a ∷ b ∷ c ∷ list) p has = absurd (omega (arith, has.window.size))
+pair_is m list p has = absurd (omega (arith, has.window.size))
 
 -- a list of two items
 pub two_items : (list : List ℕ) → length list ≡ 2 → list ≡ get_or list 0 0 ∷ get_or list 1 0 ∷ []
-two_items [] size = absurd (omega (arith, size))
-two_items (a ∷ []) size = absurd (omega (arith, size))
 two_items (a ∷ b ∷ []) size = refl
-two_items (a ∷ b ∷ c ∷ list) size = absurd (omega (arith, size))
+two_items list size = absurd (omega (arith, size))

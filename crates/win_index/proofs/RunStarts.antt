@@ -1,10 +1,10 @@
 -- The positions of the windows with a common prefix.
-use Rattle.std.proofs.Common.{◌≡◌, ℕ, ◌+◌, ◌-◌, ◌*◌, ◌<◌, ◌≤◌, List, length, get_or, take, slice_get, Some, sym, ap, ◌∙◌, arith, refl}
+use Rattle.std.proofs.Common.{◌≡◌, ℕ, ◌+◌, ◌-◌, ◌*◌, ◌≤◌, List, length, get_or, take, slice_get, Some, sym, ap, ◌∙◌, arith, refl}
 use Rattle.std.proofs.lemmas.Option.{slice_get_within}
 use Rattle.std.proofs.lemmas.Nat.{mul-le}
 use Rattle.win_index.specs.Laws.{LongerWindowsHaveNumbers}
 use Rattle.win_index.specs.Runs.{IsRunStart}
-use Rattle.win_index.specs.Windows.{unused, windows, IsWindow}
+use Rattle.win_index.specs.Windows.{windows}
 use Rattle.win_index.proofs.Numbers.{unused_left, windows_more, windows_all}
 use Rattle.win_index.proofs.Positions.{free_at}
 use Rattle.win_index.proofs.FrontPlaces.{Part, part_longer}
@@ -34,11 +34,3 @@ longer_number k m n longer is at' =
     let inside = counted (take k longer) (get_or longer k 0) m (free_at longer k is.distinct (omega arith))
     (is.below k 0 (omega arith)) in
     (omega (arith, unused_left front), part_longer m (whole k) n longer is at')
-
--- the numbers of a run's windows are below the number of all windows
-pub run_below :
-    (k m first : ℕ) (window : List ℕ) → IsWindow (k + 1) m window → IsRunStart k m (take k window) first
-    → first + length (unused (get_or window k 0) (take k window)) < length (windows (k + 1) m)
-run_below k m first window is run =
-    slice_get_within (windows (k + 1) m) (first + length (unused (get_or window k 0) (take k window))) window
-    (run.each window is refl)

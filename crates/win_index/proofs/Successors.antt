@@ -2,16 +2,15 @@
 use Rattle.std.proofs.Common.{◌≡◌, ℕ, zero, suc, ◌+◌, ◌-◌, ◌*◌, ◌<◌, ◌≤◌, cond, Option, List, [], ◌∷◌, ◌++◌, length, get_or, take, set, find, slice_get, Some, None, refl, sym, ap, ◌∙◌, arith, length-append, add-one}
 use Rattle.std.specs.List.{range_with_len}
 use Rattle.std.proofs.Math.Nat.{suc-mul}
-use Rattle.std.proofs.lemmas.List.{take_all, length-set, same_from_push, take_more, take_more_set, take-take, length-take-le}
-use Rattle.std.proofs.lemmas.List.Elements.{All-take}
+use Rattle.std.proofs.lemmas.List.{take_all, length-set, same_from_push, take_more, take_more_set, take-take}
 use Rattle.std.proofs.lemmas.Option.{none-some, slice_get_within}
 use Rattle.win_index.specs.Windows.{unused, windows, IsWindow}
 use Rattle.win_index.specs.Runs.{IsLastOfRun}
 use Rattle.win_index.specs.Successor.{IsNext, IsLast}
 use Rattle.win_index.proofs.Kept.{kept, kept_at, kept_is, kept_suc, kept_rises}
-use Rattle.win_index.proofs.Unused.{lacks, distinct_take, unused_at}
+use Rattle.win_index.proofs.Unused.{lacks, unused_at}
 use Rattle.win_index.proofs.Positions.{window_place, free_at}
-use Rattle.win_index.proofs.FrontPlaces.{last_place, last_of_run}
+use Rattle.win_index.proofs.FrontPlaces.{slice_window, last_place, last_of_run}
 use Rattle.win_index.proofs.Numbers.{window_parts, window_from_parts, windows_all, unused_left, windows_more, length-windows}
 
 -- the first number from low on that the list lacks
@@ -66,14 +65,8 @@ none_at (x ∷ xs) (suc i) e = omega (arith, none_at xs i e)
 pub shorter_window : (k m last : ℕ) (list : List ℕ) → k ≡ last + 1 → IsWindow k m (take k list) →
     IsWindow last m (take last list)
 shorter_window k m last list more window =
-    let size = window.size in
-    let front : IsWindow last m (take last (take k list)) = record {
-      size = length-take-le last (take k list) (omega arith);
-      below = All-take (λ x. x < m) last (take k list) window.below;
-      distinct = distinct_take last (take k list) window.distinct;
-    } in
     let whole = take-take last k list (omega arith) in
-    rw whole at front
+    rw whole at (slice_window m k 0 last (take k list) window (omega arith))
 
 -- the last number is followed by another that the prefix lacks
 pub next_in_last_cell :

@@ -66,7 +66,8 @@ impl RunPlaces {
         ensures series { (k m : ℕ) (first : List ℕ) → 1 ≤ k → IsAtPlace k m self first place → IsSeries k m first result }
         ensures whole { (k m : ℕ) (first : List ℕ) → 1 ≤ k → IsAtPlace k m self first place → result < most → IsSeries k m first (result + 1) → ⊥ }
     {
-        (self.clear_end(place) - place).min(most)
+        let clear = end_before(self.end, self.first_gap, place);
+        (end_before(clear, self.second_gap, place) - place).min(most)
     }
 
     /// Returns the position of the first window in the run.
@@ -89,22 +90,6 @@ impl RunPlaces {
     {
         let next = self.past_gap(self.past_gap(place + 1));
         if next < self.end { Some(next) } else { None }
-    }
-
-    // Returns the first gap after a position, or the end.
-    fn clear_end(self, place: u32) -> u32
-        requires place { place < self.end }
-        ensures some { place < result }
-        ensures within { result ≤ self.end }
-        ensures first { (self.first_gap ≤ place) ⊎ (result ≤ self.first_gap) }
-        ensures second { (self.second_gap ≤ place) ⊎ (result ≤ self.second_gap) }
-        ensures end { (result ≡ self.end) ⊎ ((result ≡ self.first_gap) ⊎ (result ≡ self.second_gap)) }
-    {
-        end_before(
-            end_before(self.end, self.first_gap, place),
-            self.second_gap,
-            place,
-        )
     }
 
     // Returns the position, or the next one if it is a gap.

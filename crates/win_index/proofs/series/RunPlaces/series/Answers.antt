@@ -1,4 +1,4 @@
-use Rattle.std.proofs.Common.{◌≡◌, ◌+◌, arith}
+use Rattle.std.proofs.Common.{arith}
 use Rattle.win_index.proofs.SeriesPlaces.{series_is, no_longer}
 use Rattle.win_index.proofs.series.RunPlaces.series.Goals as goal
 
@@ -8,5 +8,4 @@ returns-clause-series c k m first some is =
 
 pub returns-clause-whole : goal.returns-clause-whole
 returns-clause-whole c k m first some is fewer =
-    let end : c.clear_end.result ≡ c.args.place + c.min.result = omega arith in
-    no_longer some is c.min.result (rw end at c.clear_end.ensures.end)
+    no_longer some is c.min.result (grind arith)
