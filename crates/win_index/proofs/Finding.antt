@@ -30,7 +30,8 @@ module _ {X : Type 0} {test : X → Bool} {xs : List X} {x : X} (only : IsOnly t
       let found = lt-ltb n (length xs) within in
       rw (first, found)
 
-  found_or_not : (o : Option ℕ) → position test xs ≡ o → (o ≡ None) ⊎ ((n : ℕ) × (o ≡ Some n) × (slice_get xs n ≡ Some x))
+  found_or_not : (o : Option ℕ) → position test xs ≡ o →
+      (o ≡ None) ⊎ ((n : ℕ) × (o ≡ Some n) × (slice_get xs n ≡ Some x))
   found_or_not None e = inl refl
   found_or_not (Some n) e = inr (n, refl, position_some n e)
 

@@ -8,7 +8,7 @@ use Rattle.win_index.specs.declared.limits.TheConstants.{MAX_BLOCKS}
 use Rattle.win_index.specs.Blocks.{block_count}
 use Rattle.win_index.specs.Jobs.{level_jobs, jobs_of}
 use Rattle.win_index.specs.ShapeRange.{HasIds, HasFewWindows}
-use Rattle.win_index.proofs.Levels.{few_shorter}
+use Rattle.win_index.proofs.Levels.{few_shorter, few_of_shape}
 use Rattle.win_index.proofs.Kept.{range_with_len-append, slice_get-append_left, slice_get-append_right}
 
 -- at most MAX_WINDOWS windows fill at most MAX_BLOCKS blocks
@@ -71,3 +71,5 @@ job_at m t level block n le lt e =
     ∙ ap (λ l. slice_get l n) (jobs_below_more m level)
     ∙ slice_get-append_right (jobs_below m level) (level_jobs m level) n block e
     ∙ level_job_at m level block lt
+
+pub ruleset counts = (length_jobs_below, no_jobs_below, few_of_shape)

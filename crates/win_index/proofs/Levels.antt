@@ -11,7 +11,8 @@ use Rattle.win_index.proofs.Numbers.{windows_more}
 use Rattle.win_index.proofs.Sizes.{windows_rise}
 
 -- there are at most as many windows of a smaller length
-pub few_shorter : (m t len : ℕ) → HasIds m t → HasFewWindows m t → len ≤ 2 * t + 1 → length (windows len m) ≤ MAX_WINDOWS
+pub few_shorter : (m t len : ℕ) → HasIds m t → HasFewWindows m t → len ≤ 2 * t + 1 →
+    length (windows len m) ≤ MAX_WINDOWS
 few_shorter m t len ids few le = omega (arith, few, windows_rise m len (2 * t + 1) le (omega (arith, ids.enough)))
 
 pub few_of_shape : (s : Shape) (len : ℕ) → len ≤ 2 * s.rounds + 1 → length (windows len s.ids) ≤ MAX_WINDOWS

@@ -39,5 +39,7 @@ some_window k m n lt =
     let at' = slice_get-get_or (windows k m) n [] lt in
     window_within k m (get_or (windows k m) n []) (windows_all k m n (get_or (windows k m) n []) at')
 
+pub ruleset counts = (windows_more, some_windows, one_window)
+
 pub no_windows : (k m : ℕ) → m < k → length (windows k m) ≡ 0
 no_windows k m more = grind (arith, some_window k m 0)

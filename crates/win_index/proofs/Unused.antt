@@ -184,14 +184,15 @@ unused_before list m place x some le before own =
     (omega (arith, kept.before, before)) in
     rw (kept.before, last) at (unused_at list m z (omega (arith, kept.below)) free)
 
--- if the list lacks more numbers below m than the position, a step of as many numbers as are missing stays within m, and
+-- a step of as many numbers as are missing stays within m if the list lacks more numbers below m than the position, and
 -- finds at most that many, the last one aside
 pub unused_reached :
     (list : List ℕ) (m place x more : ℕ) → 1 ≤ more → length (unused x list) + more ≡ place + 1
     → place < length (unused m list) → (length (unused (x + more - 1) list) ≤ place) × (x + more ≤ m)
 unused_reached list m place x more some sum inside =
     let before : x + (more - 1) ≡ x + more - 1 = omega arith in
-    let few : length (unused (x + more - 1) list) ≤ place = omega (arith, sum, rw before at (unused_few list x (more - 1))) in
+    let step = rw before at (unused_few list x (more - 1)) in
+    let few : length (unused (x + more - 1) list) ≤ place = omega (arith, sum, step) in
     (few, omega (arith, unused_below_bound list (x + more - 1) m (omega (arith, few, inside))))
 
 -- a number in front of a list is one that it no longer lacks

@@ -17,7 +17,7 @@ pub(crate) struct Lists {
 
 impl Lists {
     // Returns the number of lists.
-    #[tactic(auto, using(crate::proofs::Numbers::windows_more, crate::proofs::Sizes::some_windows, crate::proofs::Sizes::one_window))]
+    #[tactic(auto, using(crate::proofs::Sizes::counts))]
     pub(crate) fn count(self) -> u64
         ensures value { result ≡ length (windows self.len self.ids) }
         ensures some { 0 < result }
@@ -125,7 +125,7 @@ impl Lists {
 }
 
 // Returns whether there are at most `most` lists of this length.
-#[tactic(auto, using(crate::proofs::Numbers::windows_more, crate::proofs::Sizes::one_window))]
+#[tactic(auto, using(crate::proofs::Sizes::counts))]
 pub(crate) fn are_few(ids: u32, len: usize, most: u32) -> bool
     requires { len ≤ ids }
     ensures { IsTrue result ↔ (length (windows len ids) ≤ most) }

@@ -1,5 +1,5 @@
 //! The blocks and the jobs of a shape.
-#![tactic(auto, using(crate::proofs::JobPlaces::length_jobs_below, crate::proofs::JobPlaces::no_jobs_below, crate::proofs::Levels::few_of_shape))]
+#![tactic(auto, using(crate::proofs::JobPlaces::counts))]
 
 use crate::limits::{BLOCK_WINDOWS, MAX_BLOCKS, MAX_ROUNDS};
 use crate::shape::Shape;

@@ -16,7 +16,7 @@ loop-lacking-preserved c =
       some = omega (arith, c.loop-lacking-test.true);
       inside = reached.1;
       before_end = reached.0;
-      lacking = omega (arith, c.unused_below-in-loop-lacking.ensures, unused_few c.args.before.now c.loop-lacking.end c.loop-lacking.lacking, c.loop-lacking.invariant.lacking);
+      lacking = grind (arith, unused_few);
     }
 
 pub returns : goal.returns

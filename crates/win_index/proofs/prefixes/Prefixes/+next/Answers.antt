@@ -45,8 +45,8 @@ longer-requires-2 t c =
     let len : c.args.self.len - 1 + 1 ≡ c.args.self.len = omega arith in
     let is = c.without_last-place.ensures c.requires.list (rw len c.requires.has) in
     let step = to_next_run c.places.result some c.places.ensures is c.in_default.ensures.last c.first.result
-    c.in-Some-next.later c.places-2.result (omega (arith, c.args.self.short)) c.in-Some-next.ensures.next c.places-2.ensures
-    c.first.ensures.place in
+    c.in-Some-next.later c.places-2.result (omega (arith, c.args.self.short)) c.in-Some-next.ensures.next
+    c.places-2.ensures c.first.ensures.place in
     (step.0, step.2)
 
 pub returns-clause-next : goal.returns-clause-next

@@ -17,6 +17,6 @@ returns-clause-next c = λ list has.
     let old = pair_is c.args.self.ids list c.args.prefix has in (
       new,
       rw old c.if-not-write_next.ensures.next,
-      rw whole (pair_numbers c.args.self.ids (get_or new 0 0) (get_or new 1 0) _ (rw whole at c.write_next.ensures.window)
-          refl refl refl refl),
+      rw whole (pair_numbers c.args.self.ids (get_or new 0 0) (get_or new 1 0) _
+          (rw whole at c.write_next.ensures.window) refl refl refl refl),
     )

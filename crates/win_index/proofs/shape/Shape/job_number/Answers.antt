@@ -24,5 +24,6 @@ returns-clause-number c =
 pub returns-clause-below : goal.returns-clause-below
 returns-clause-below c =
     let shape = c.args.self.now in
+    let job = number_of_job shape.ids shape.rounds c.args.level c.args.block c.loop-lower.number in
     slice_get_within (jobs_of shape.ids shape.rounds) c.loop-lower.number (c.args.level, c.args.block)
-    ((number_of_job shape.ids shape.rounds c.args.level c.args.block c.loop-lower.number).0 (sym (returns-clause-number c)))
+    (job.0 (sym (returns-clause-number c)))

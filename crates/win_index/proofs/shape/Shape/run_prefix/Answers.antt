@@ -7,8 +7,8 @@ pub number-requires : goal.number-requires
 number-requires c =
     let low = c.args.below in
     let len : 2 * low + 2 - 2 ≡ 2 * low = omega arith in
-    rw (c.lists.ensures.len, c.lists.ensures.ids, len) (slice_window c.args.self.now.ids (2 * low + 3) 2 (2 * low) c.args.window.now
-    c.requires.window (omega arith))
+    rw (c.lists.ensures.len, c.lists.ensures.ids, len) (slice_window c.args.self.now.ids (2 * low + 3) 2 (2 * low)
+    c.args.window.now c.requires.window (omega arith))
 
 pub returns : goal.returns
 returns c =
