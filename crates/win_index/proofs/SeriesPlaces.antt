@@ -50,7 +50,10 @@ at_place {k} {m} {p} {places} {window} some is =
     (placed (k + 1) (k + 2) m window (omega arith) (omega arith) is.window_is)
 
 module _ {k m p : ℕ} {places : RunPlaces} {window : List ℕ} (some : 1 ≤ k) (is : IsAtPlace k m places window p) where
-  -- the windows without their first two identifiers
+  -- the windows, and without their first two identifiers
+  whole : Part 0 (k + 1) (k + 1) (k + 2) (k + 2)
+  whole = record { all = omega arith; long = omega arith; short = omega arith }
+
   suffix : Part 2 (k + 1) (k - 1) (k + 2) k
   suffix = record { all = omega arith; long = omega arith; short = omega arith }
 
@@ -91,11 +94,6 @@ module _ {k m p : ℕ} {places : RunPlaces} {window : List ℕ} (some : 1 ≤ k)
       let front = window_front (k + 1) (k + 2) m window (omega arith) is.window_is in
       let w_is = window_with (k + 1) (k + 2) m z window (omega arith) size front z_at.0 z_at.1 in
       let at_q = same_run w q same w_is (rw (here, same) z_at.2) in
-      let whole : Part 0 (k + 1) (k + 1) (k + 2) (k + 2) = record {
-        all = omega arith;
-        long = omega arith;
-        short = omega arith;
-      } in
       let own = at_p.own in
       let other = (at_place some at_q).own in (
         w,

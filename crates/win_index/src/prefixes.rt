@@ -25,7 +25,8 @@ pub(crate) struct Prefixes {
 impl Prefixes {
     // Returns the positions for the lists that are one identifier longer than this one.
     pub(crate) fn places(self, prefix: RunPrefix) -> RunPlaces
-        ensures { (window : List ℕ) → IsWindow (self.len + 1) self.ids window → HasNumbers self.len self.ids (take self.len window) prefix
+        ensures { (window : List ℕ) → IsWindow (self.len + 1) self.ids window
+            → HasNumbers self.len self.ids (take self.len window) prefix
             → HasPlaces (self.len - 1) self.ids window result }
     {
         RunPlaces {
