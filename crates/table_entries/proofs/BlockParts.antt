@@ -1,10 +1,10 @@
 -- The part of a share that a block fills.
-use Rattle.std.proofs.Common.{◌≡◌, ℕ, ◌+◌, ◌-◌, ◌*◌, ◌/◌, ◌%◌, ◌<◌, ◌≤◌, ◌⊎◌, min, List, All, length, get_or, slice_index, take, drop, Some, inl, ⊎_elim, subst, sym, ap, ◌∙◌, arith}
+use Rattle.std.proofs.Common.{◌≡◌, ℕ, ◌+◌, ◌-◌, ◌*◌, ◌/◌, ◌%◌, ◌<◌, ◌≤◌, ◌⊎◌, min, List, length, get_or, slice_index, take, drop, Some, inl, ⊎_elim, sym, ap, ◌∙◌, arith}
 use denote.Ref.{Bor}
 use borrow.Rule.Slice.PartMut.{put_mid}
 use Rattle.std.proofs.lemmas.Bool.{cases_lt}
 use Rattle.std.specs.Int.{div_ceil}
-use Rattle.std.proofs.lemmas.List.{get_or-take, get_or_default, length-take, length-drop, length-take-le}
+use Rattle.std.proofs.lemmas.List.{length-take, length-drop}
 use Rattle.round_columns.proofs.Writes.{put_in, put_out}
 use Rattle.std.proofs.lemmas.Option.{slice_get-get_or}
 use Rattle.lang_check.specs.Plans.{ProgramForIds}
@@ -80,20 +80,3 @@ one_more_block plan first len i part xs ys share part_is within same before more
     let step : BLOCK_WINDOWS * first + k ≡ BLOCK_WINDOWS * (first + i) + (k - from) = omega (arith, above) in
     rw (put_in xs ys from part same within k above short, step) (more (k - from) (omega (arith, size, same, short, above))))
     (cases_lt k from)
-
--- the channels of a block's windows are below the limit
-pub below_front :
-    (n limit : ℕ) (xs : List ℕ) → n ≤ length xs → ((i : ℕ) → i < n → slice_index xs i < limit) → All (λ x. x < limit) (take n xs)
-below_front n limit xs le below = λ k d lt.
-    let inside : k < n = subst (λ len. k < len) (length-take-le n xs le) lt in
-    let same : get_or (take n xs) k d ≡ get_or xs k 0 = get_or-take n xs k d inside ∙ get_or_default xs k d 0 (omega (arith, inside, le)) in
-    subst (λ v. v < limit) (sym same) (below k inside)
-
--- the entries that are copied from them
-pub entries_of_front :
-    (plan : ProgramForIds) (first n : ℕ) (xs ys : List ℕ) → length ys ≡ n → ys ≡ take n xs → AreWritten plan first n n xs → AreEntries plan first ys
-entries_of_front plan first n xs ys size is written = λ i lt.
-    let inside : i < n = omega (arith, lt, size) in
-    let same : get_or ys i 0 ≡ get_or xs i 0 = ap (λ l. get_or l i 0) is ∙ get_or-take n xs i 0 inside in
-    let own = written i inside inside in
-    (same ∙ own.0, subst (λ v. v < plan.program.channels) (sym same) own.1)

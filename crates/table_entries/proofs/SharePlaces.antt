@@ -1,11 +1,9 @@
 -- The places of shares: each begins where the one before it ends, and the last one ends with the last window.
 use Rattle.std.proofs.Common.{◌≡◌, ℕ, ◌+◌, ◌-◌, ◌*◌, ◌/◌, ◌%◌, ◌<◌, ◌≤◌, ◌⊎◌, min, List, [], ◌∷◌, ◌++◌, All, Some, length, get_or, vec_capacity, inl, inr, ⊎_elim, subst, sym, ap, ◌∙◌, arith, length-append}
 use mathlib.Core.Logic.{dite}
-use Rattle.std.specs.Int.{div_ceil}
 use Rattle.std.specs.Prelude.{slice_get}
 use Rattle.std.proofs.Math.Nat.{mul-add, mul-one, mul-zero}
 use Rattle.std.proofs.Math.Decide.{dec_lt}
-use Rattle.std.proofs.lemmas.Grind.{div_ceil_times}
 use Rattle.win_index.proofs.Kept.{slice_get-append_left, slice_get-append_right}
 use Rattle.std.proofs.lemmas.Bool.{cases_lt}
 use Rattle.std.proofs.lemmas.Option.{slice_get_within, slice_get-get_or, get_or_from_slice_get, same_Some}
@@ -21,12 +19,6 @@ one_more each k = mul-add each k 1 ∙ ap (λ n. each * k + n) (mul-one each)
 
 pub begins : (windows each : ℕ) → share_start windows each 0 ≡ 0
 begins windows each = let none : each * 0 ≡ 0 = mul-zero each in omega (arith, none)
-
-pub ends : (windows count : ℕ) → 0 < count → share_start windows (share_blocks windows count) count ≡ windows
-ends windows count some =
-    let blocks : ℕ = div_ceil windows BLOCK_WINDOWS in
-    let enough = div_ceil_times blocks count some in
-    omega (arith, enough.0)
 
 -- the windows of a share are those of whole blocks, or the last ones
 part_of : (windows begun next first len : ℕ) → begun ≤ next → first ≡ min (BLOCK_WINDOWS * begun) windows / BLOCK_WINDOWS

@@ -3,11 +3,6 @@ use Rattle.std.proofs.lemmas.List.FromFn.{get_or-map-range_with_len}
 use Rattle.window_states.specs.BlockStates.{block_len}
 use Rattle.table_entries.proofs.block_channels.put_block.Goals as goal
 
-pub put_rows-requires-clause-cells : goal.put_rows-requires-clause-cells
-put_rows-requires-clause-cells c =
-    let b = c.args.block.now in
-    rw c.requires.1 (omega (arith, c.states.ensures.size, ap (λ len. len * length b.plan.program.start) c.len.ensures))
-
 pub returns : goal.returns
 returns c =
     let b = c.args.block.now in

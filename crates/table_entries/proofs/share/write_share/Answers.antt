@@ -1,8 +1,8 @@
-use Rattle.std.proofs.Common.{◌≡◌, ◌+◌, ◌*◌, ◌≤◌, length, ◌∙◌, refl}
+use Rattle.std.proofs.Common.{◌≡◌, ◌+◌, ◌*◌, ◌≤◌, length, ◌∙◌}
 use Rattle.win_index.specs.declared.limits.TheConstants.{BLOCK_WINDOWS}
 use Rattle.window_states.specs.BlockStates.{IsKeyedBlock, block_len}
 use Rattle.round_columns.proofs.Writes.{put_len}
-use Rattle.table_entries.proofs.BlockParts.{block_in_share, keyed_block, keyed_len, part_in_share, part_len, one_more_block}
+use Rattle.table_entries.proofs.BlockParts.{block_in_share, keyed_block, keyed_len, part_in_share, one_more_block}
 use Rattle.table_entries.proofs.share.write_share.Goals.{After-len}
 use Rattle.table_entries.proofs.share.write_share.Goals as goal
 
@@ -22,17 +22,6 @@ module _ (c : After-len) where
       rw c.loop-i.invariant.size (part_in_share c.args.code.now c.args.first (length c.args.share.now) c.loop-i.i c.div_ceil-i-end.result c.len.result c.requires.share
       c.div_ceil-i-end.ensures c.loop-i-test.true len_is)
 
-pub write_block-requires-clause-block : goal.write_block-requires-clause-block
-write_block-requires-clause-block c =
-    let is = keyed (goal.at.write_block-requires-clause-block c).After-len in
-    (is.0, is.1, refl)
-
-pub write_block-requires-clause-size : goal.write_block-requires-clause-size
-write_block-requires-clause-size c =
-    let d = (goal.at.write_block-requires-clause-size c).After-len in
-    let is = keyed d in
-    part_len (c.loop-i.i * BLOCK_WINDOWS) c.len.result c.loop-i.share (inside d) ∙ rw is.2 (len_is d)
-
 pub loop-i-preserved : goal.loop-i-preserved
 loop-i-preserved c =
     let d = (goal.at.loop-i-preserved c).After-len in
@@ -43,6 +32,3 @@ loop-i-preserved c =
       written = one_more_block c.args.code.now c.args.first (length c.args.share.now) c.loop-i.i c.len.result c.loop-i.share c.write_block.new.entries c.requires.share
           (len_is d) (inside d) c.write_block.auto.entries c.loop-i.invariant.written (rw is.2 at c.write_block.ensures.entries);
     }
-
-pub slice_bounds-write_block-end : goal.slice_bounds-write_block-end
-slice_bounds-write_block-end c = inside (goal.at.slice_bounds-write_block-end c).After-len

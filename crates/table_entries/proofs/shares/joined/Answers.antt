@@ -8,7 +8,7 @@ use Rattle.table_entries.specs.EntryShares.{AreEntries}
 use Rattle.table_entries.specs.Shares.{windows_of, share_blocks, share_start, IsReadAt, AreRead}
 use Rattle.table_entries.specs.declared.share.Share.{Share}
 use Rattle.table_entries.proofs.JoinedEntries.{joined_entries}
-use Rattle.table_entries.proofs.SharePlaces.{begins, continues, ends}
+use Rattle.table_entries.proofs.SharePlaces.{begins, continues}
 use Rattle.table_entries.proofs.shares.joined.Goals.{In-loop-share}
 use Rattle.table_entries.proofs.shares.joined.Goals as goal
 
@@ -74,12 +74,3 @@ unreachable-requires c =
     let at = head_is c.args.code.now c.args.shares.items c.loop-share.shares.items c.loop-share._share c.remove-next.result c.requires
     (within (goal.at.unreachable-requires c).In-loop-share) inv.rest c.remove-next.ensures.value in
     omega (arith, c.in_default.ensures.full, c.deref.ensures.len, inv.size, inv.room, at.size)
-
-pub returns-clause-size : goal.returns-clause-size
-returns-clause-size c =
-    let plan = c.args.code.now in
-    let count = length c.args.shares.items in
-    let each = share_blocks (windows_of plan) count in
-    let all : c.loop-share._share ≡ count =
-    omega (arith, c.loop-share-test.false, c.loop-share.auto._share-end, c.len-count.ensures, c.args.shares.ok.0, c.requires.some) in
-    c.loop-share.invariant.size ∙ ap (λ n. share_start (windows_of plan) each n) all ∙ ends (windows_of plan) count c.requires.some
