@@ -5,7 +5,7 @@ use Rattle.std.proofs.lemmas.List.{drop-take, take-take, get_or-take, get_or-dro
 use Rattle.std.proofs.lemmas.Option.{same_Some}
 use Rattle.win_index.proofs.FrontPlaces.{slice_window}
 use Rattle.win_index.proofs.Positions.{number_of_is, has_number}
-use Rattle.win_index.proofs.Numbers.{one_place}
+use Rattle.win_index.proofs.Order.{one_place}
 use Rattle.win_index.specs.Runs.{IsSeries, IsRunStart, IsAtPlace, IsLastOfRun, place_in_run}
 use Rattle.win_index.specs.Successor.{IsNext}
 use Rattle.win_index.specs.declared.series.RunPlaces.{RunPlaces}
