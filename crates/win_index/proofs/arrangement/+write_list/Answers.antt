@@ -16,16 +16,12 @@ write_list-requires t c =
     let front = front_below c.args.len c.args.ids (c.args.len - 1) c.args.number (omega arith) c.requires.below in
     (omega arith, (omega arith, rw c.from.ensures front))
 
-pub nth_unused-requires : goal.nth_unused-requires
-nth_unused-requires t c =
+pub nth_unused-requires-clause-place : goal.nth_unused-requires-clause-place
+nth_unused-requires-clause-place t c =
     let last = c.args.len - 1 in
     let left = some_window c.args.len c.args.ids c.args.number c.requires.below in
-    record {
-      distinct = c.write_list.ensures.window.distinct;
-      place =
-          rw c.from.ensures (rest_below c.args.ids last c.args.number _ (take last c.write_list.new.list)
-          c.write_list.ensures.item (omega arith));
-    }
+    rw c.from.ensures (rest_below c.args.ids last c.args.number _ (take last c.write_list.new.list)
+    c.write_list.ensures.item (omega arith))
 
 pub returns-clause-item : goal.returns-clause-item
 returns-clause-item t c =

@@ -31,16 +31,13 @@ returns-then-not-write_next-clause-last t c =
     last_with_last_front c.args.len c.args.ids (c.args.len - 1) c.args.list.now (omega arith) (omega arith)
     (sym c.least_unused.ensures ∙ c.in_default.is) c.if-not-write_next.ensures.last
 
-pub nth_unused-requires : goal.nth_unused-requires
-nth_unused-requires t c =
+pub nth_unused-requires-clause-place : goal.nth_unused-requires-clause-place
+nth_unused-requires-clause-place t c =
     let last = c.args.len - 1 in
     let front = shorter_window c.args.len c.args.ids last c.args.list.now (omega arith) c.requires.window in
     let within = window_within _ _ _ c.requires.window in
-    record {
-      distinct = c.if-not-write_next.ensures.window.distinct;
-      place = later_lacks last c.args.ids (take last c.args.list.now) (take last c.write_next.new.list) (omega arith)
-          front c.if-not-write_next.ensures.next;
-    }
+    later_lacks last c.args.ids (take last c.args.list.now) (take last c.write_next.new.list) (omega arith) front
+    c.if-not-write_next.ensures.next
 
 pub returns-clause-next : goal.returns-clause-next
 returns-clause-next t c =

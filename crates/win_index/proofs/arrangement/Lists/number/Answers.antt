@@ -2,18 +2,12 @@ use Rattle.std.proofs.Common.{◌≡◌, ◌+◌, length, Some, sym, ap, ◌∙�
 use Rattle.std.proofs.lemmas.List.{take_all}
 use Rattle.std.proofs.lemmas.Option.{slice_get_within}
 use Rattle.win_index.specs.Windows.{windows}
-use Rattle.win_index.proofs.Numbers.{windows-zero, windows_all}
+use Rattle.win_index.proofs.Numbers.{windows-zero}
 use Rattle.win_index.proofs.Positions.{front_step}
 use Rattle.win_index.proofs.arrangement.Lists.number.Goals as goal
 
 pub loop-place-init : goal.loop-place-init
 loop-place-init c = rw (windows-zero c.args.self.ids)
-
-pub overflow_sub-free : goal.overflow_sub-free
-overflow_sub-free c = omega (arith, c.from.ensures, c.requires.size, c.args.self.short)
-
-pub unused_below-digit-requires : goal.unused_below-digit-requires
-unused_below-digit-requires c = (windows_all _ _ _ _ c.loop-place.invariant).distinct
 
 pub loop-place-preserved : goal.loop-place-preserved
 loop-place-preserved c =
