@@ -4,6 +4,5 @@ pub mod SameRun
 pub mod NextRuns
 pub mod ColumnStates
 pub mod IgnoredRight
-pub mod SomeWritten
 pub mod SeriesStates
 pub mod Fronts

@@ -117,20 +117,6 @@ returns-in_err-block-clause-missing g c =
     (fault_of_part (g.S.Source.entries c.numbered_block.new.source) m low c.args.upper.number c.loop-block.place (c.args.reached.run.start + c.loop-block.at) 2 w
     c.in_err-block.field-0.0 (omega arith) (rw c.args.upper.len_is at before.within) own number c.in_err-block.ensures.fault)
 
-pub loop-block-init : goal.loop-block-init
-loop-block-init g c =
-    let reached = c.requires.reached in
-    record {
-      after = omega arith;
-      within = omega (arith, c.args.upper.len_is, reached.inside);
-      at_inside = reached.before_end;
-      asked = record { same_plan = refl; same_fixed = refl; grows = record { kept = λ level n block known. known } };
-      here = (_, reached.here);
-      last = reached.last;
-      wide = c.requires.wide;
-      taken = record { fronts = λ i late lt. absurd (omega (arith, late, lt)); lasts = c.requires.lasts; known = c.requires.known };
-    }
-
 pub loop-block-preserved : goal.loop-block-preserved
 loop-block-preserved g c =
     let d = (goal.at.loop-block-preserved g c).After-put_lasts in

@@ -11,11 +11,6 @@ use Rattle.unroll.proofs.gathering.write_states.Given.{Over}
 use Rattle.unroll.proofs.gathering.write_states.Goals.{In_ok-gather}
 use Rattle.unroll.proofs.gathering.write_states.Goals as goal
 
--- A block of level 0 has none below.
-pub returns-then-level-eq0-clause-made : goal.returns-then-level-eq0-clause-made
-returns-then-level-eq0-clause-made g c =
-    (rw c.if-level-eq0.true c.start_states.ensures.states, λ low number below. absurd (omega (arith, below.one_lower, c.if-level-eq0.true)))
-
 -- the number of windows of an upper block
 abbrev len_in : UpperBlock → ℕ
 len_in block = block_len block.plan.now.ids (block.below + 1) block.number
