@@ -4,7 +4,7 @@ use Rattle.std.specs.Prelude.{Option}
 use mathlib.Core.Logic.{dite}
 use native.Mathlib.Decide.{ℕ_discrete}
 use Rattle.std.proofs.lemmas.Bool.{cases_lt}
-use Rattle.std.proofs.lemmas.List.{get_or-map, map-set, length-map, get_or_past}
+use Rattle.std.proofs.lemmas.List.{get_or-map, map-set, length-map}
 use Rattle.std.proofs.Math.Seq.{map-set_same}
 use Rattle.std.proofs.lemmas.Option.{some_pair_parts, same_Some}
 use Rattle.win_index.specs.Laws.{JobsStandAtNumbers}
@@ -17,7 +17,7 @@ use Rattle.once_cell.specs.Once.{cell_name}
 use Rattle.once_cell.specs.declared.race.once_box.OnceBox.{OnceBox}
 use Rattle.shared_memo.specs.PlanJobs.{job_of, IsKeyedBlock}
 use Rattle.shared_memo.specs.Known.{known_of, known_in, of_job, known_by, IsPut, KnowsBoth, IsBlockOf, AllInPlace, cells_of}
-use Rattle.shared_memo.specs.Passes.{LearnsAt, IsInstalled, IsJoined}
+use Rattle.shared_memo.specs.Passes.{LearnsAt, IsInstalled}
 
 -- the entry at an index
 abbrev pub IsAt : List Entry → ℕ → Entry → Type 0
@@ -127,18 +127,3 @@ joined_more es fs at d f e F G here there same both before = λ k.
       left = λ le. was.left (omega arith);
     })
     (before k)
-
-pub is_joined :
-    (q : ProgramForIds) (es fs gs : List Entry) (at : ℕ) → length fs ≤ at
-    → ((k : ℕ) → JoinedBelow at k (known_in es k) (known_in fs k) (known_in gs k)) → IsJoined (known_by q es) (known_by q fs) (known_by q gs)
-is_joined q es fs gs at all joined = λ l n. each (job_of q l n)
-  where
-    each : (o : Option ℕ) → KnowsBoth (of_job known_of es o) (of_job known_of fs o) (of_job known_of gs o)
-    each None = record { kept = λ b is. is; learned = λ b is. is; only = inl refl }
-    each (Some k) =
-        ⊎_elim (λ (below : k < at). (joined k).done below)
-        (λ (past : at ≤ k).
-        let same = (joined k).left past in
-        let none : known_in fs k ≡ None = get_or_past (map known_of fs) k None (omega (arith, length-map fs known_of)) in
-        record { kept = λ b is. same ∙ is; learned = λ b is. cc; only = inl same })
-        (cases_lt k at)
