@@ -3,7 +3,6 @@
 
 mod cell_maker;
 mod filling;
-mod last_blocks;
 mod looks;
 mod memo_fill;
 mod own_reader;

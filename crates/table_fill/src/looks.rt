@@ -1,26 +1,104 @@
 //! The looks of the caller's pass after the workers have ended.
-ghost use Rattle.std.specs.Prelude.{◌≡◌, IfSome, IsTrue};
+ghost use Rattle.std.specs.Prelude.{◌≡◌, ℕ, ◌<◌, length, IfOk, IfSome, IsTrue, is_some, true};
+ghost use Rattle.shared_memo.specs.PlanJobs.{IsKey, IsKeyedBlock};
 ghost use Rattle.shared_memo.specs.Passes.{known, memo_plan, IsPassOf};
-ghost use Rattle.table_fill.specs.Filled.{HasLearned, KnowsAll};
+ghost use Rattle.win_index.specs.Blocks.{block_count};
+ghost use Rattle.worker_pool.specs.Workers.{HasRoom};
+ghost use Rattle.table_entries.specs.EntryShares.{AreLastBlocks};
+ghost use Rattle.table_fill.specs.Filled.{HasLearned, KnowsAll, KnowsLevel};
 
+use node_program::OutOfMemory;
 use shared_memo::{Memo, Pass};
+use std::alloc::Global;
+use window_states::Block;
 
-// Looks at each cell, and returns whether each holds a block of its level and number. The pass then
-// knows them all.
-pub(crate) fn look_at_all<'a>(memo: &Memo<'a>, pass: &mut Pass<'a>) -> bool
-    requires { IsPassOf memo.now pass.old }
-    ensures learned { HasLearned memo.now pass.old pass.new }
-    ensures known { IsTrue result → KnowsAll (memo_plan memo.now) (known pass.new) }
+// Returns an empty list with capacity for the blocks of the last level.
+pub(crate) fn empty_blocks<'s, 'a>(
+    alloc: Global,
+    memo: &'s Memo<'a>,
+) -> Result<Vec<&'s Block<'a>>, OutOfMemory>
+    ensures { IfOk result (HasRoom (block_count (memo_plan memo.now).ids (length (memo_plan memo.now).program.steps))) }
 {
     let shape = memo.plan().shape();
-    for level in 0..shape.rounds() + 1 {
+    Ok(Vec::with_capacity(alloc, shape.blocks(shape.rounds()) as usize)?)
+}
+
+// Looks at each cell, and returns the blocks of the last level in order, in a list with capacity for
+// them, or `None` if a cell does not hold a block of its level and number. The pass then knows all.
+pub(crate) fn look_at_all<'s, 'a>(
+    memo: &'s Memo<'a>,
+    pass: &mut Pass<'a>,
+    blocks: Vec<&'s Block<'a>>,
+) -> Option<Vec<&'s Block<'a>>>
+    requires pass { IsPassOf memo.now pass.old }
+    requires room { HasRoom (block_count (memo_plan memo.now).ids (length (memo_plan memo.now).program.steps)) blocks }
+    ensures learned { HasLearned memo.now pass.old pass.new }
+    ensures known { IfSome result (λ _. KnowsAll (memo_plan memo.now) (known pass.new)) }
+    ensures blocks { IfSome result (λ blocks. AreLastBlocks (memo_plan memo.now) blocks.items) }
+{
+    if look_below(memo, pass) {
+        look_at_last(memo, pass, blocks)
+    } else {
+        None
+    }
+}
+
+// Looks at each cell below the last level, and returns whether each holds a block of its level and
+// number. The pass then knows them.
+fn look_below<'a>(memo: &Memo<'a>, pass: &mut Pass<'a>) -> bool
+    requires { IsPassOf memo.now pass.old }
+    ensures learned { HasLearned memo.now pass.old pass.new }
+    ensures known { IsTrue result → (level : ℕ) → level < length (memo_plan memo.now).program.steps → KnowsLevel (memo_plan memo.now) (known pass.new) level }
+{
+    let shape = memo.plan().shape();
+    for level in 0..shape.rounds() {
         for number in 0..shape.blocks(level) {
-            let Ok(Some(_)) = memo.look(pass, level, number) else {
+            if look_at(memo, pass, level, number).is_none() {
                 return false;
-            };
+            }
         }
     }
     true
+}
+
+// Like `look_at_all`, for the last level.
+fn look_at_last<'s, 'a>(
+    memo: &'s Memo<'a>,
+    pass: &mut Pass<'a>,
+    mut blocks: Vec<&'s Block<'a>>,
+) -> Option<Vec<&'s Block<'a>>>
+    requires pass { IsPassOf memo.now pass.old }
+    requires room { HasRoom (block_count (memo_plan memo.now).ids (length (memo_plan memo.now).program.steps)) blocks }
+    ensures learned { HasLearned memo.now pass.old pass.new }
+    ensures known { IfSome result (λ _. KnowsLevel (memo_plan memo.now) (known pass.new) (length (memo_plan memo.now).program.steps)) }
+    ensures blocks { IfSome result (λ blocks. AreLastBlocks (memo_plan memo.now) blocks.items) }
+{
+    let shape = memo.plan().shape();
+    let level = shape.rounds();
+    for number in 0..shape.blocks(level) {
+        blocks.push_reserved(look_at(memo, pass, level, number)?);
+    }
+    Some(blocks)
+}
+
+// Looks at a cell, and returns its block, or `None` if it does not hold a block of its level and
+// number. The pass then knows it.
+fn look_at<'s, 'a>(
+    memo: &'s Memo<'a>,
+    pass: &mut Pass<'a>,
+    level: u32,
+    number: u32,
+) -> Option<&'s Block<'a>>
+    requires pass { IsPassOf memo.now pass.old }
+    requires key { IsKey (memo_plan memo.now) level number }
+    ensures learned { HasLearned memo.now pass.old pass.new }
+    ensures known { IfSome result (λ _. is_some (known pass.new level number) ≡ true) }
+    ensures block { IfSome result (λ block. IsKeyedBlock (memo_plan memo.now) level number block.now) }
+{
+    match memo.look(pass, level, number) {
+        Ok(block) => block,
+        Err(_) => None,
+    }
 }
 
 // Merges the pass of a single worker, if there was one, into `pass`.

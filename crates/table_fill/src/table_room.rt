@@ -1,6 +1,6 @@
 //! Memory to read a table.
 
-use crate::last_blocks::{empty_blocks, last_blocks};
+use crate::looks::{empty_blocks, look_at_all};
 use channel_tables::Table;
 use node_program::OutOfMemory;
 use round_columns::Code;
@@ -19,10 +19,10 @@ pub(crate) struct TableRoom<'s, 'a> {
 }
 
 impl<'s, 'a> TableRoom<'s, 'a> {
-    ghost use Rattle.std.specs.Prelude.{◌≡◌, ◌<◌, IfOk};
-    ghost use Rattle.shared_memo.specs.Passes.{known, memo_plan};
+    ghost use Rattle.std.specs.Prelude.{◌≡◌, ◌<◌, IfOk, IfSome};
+    ghost use Rattle.shared_memo.specs.Passes.{known, memo_plan, IsPassOf};
     ghost use Rattle.table_entries.specs.ProgramTables.{table_of};
-    ghost use Rattle.table_fill.specs.Filled.{HasLearned, KnowsAll, IsFullPass};
+    ghost use Rattle.table_fill.specs.Filled.{HasLearned, KnowsAll};
     ghost use Rattle.table_fill.specs.TableRooms.{IsRoomFor};
 
     // Allocates room for the table of a memo's plan, which at most `shares` shares read.
@@ -41,21 +41,22 @@ impl<'s, 'a> TableRoom<'s, 'a> {
         Ok(TableRoom { reader, blocks })
     }
 
-    // Reads the table from the blocks of the last level, which the pass knows.
+    // Looks at each cell, and reads the table from the blocks of the last level. Returns `None` if a
+    // cell does not hold a block of its level and number. The pass then knows all.
     pub(crate) fn read<R: Threads + Sync>(
         self,
         rt: &R,
         memo: &'s Memo<'a>,
         pass: &mut Pass<'a>,
-    ) -> Table
-        requires pass { IsFullPass memo.now pass.old }
+    ) -> Option<Table>
+        requires pass { IsPassOf memo.now pass.old }
         requires room { IsRoomFor (memo_plan memo.now) self }
         ensures learned { HasLearned memo.now pass.old pass.new }
-        ensures known { KnowsAll (memo_plan memo.now) (known pass.new) }
-        ensures table { result ≡ table_of (memo_plan memo.now).program (memo_plan memo.now).ids }
+        ensures known { IfSome result (λ _. KnowsAll (memo_plan memo.now) (known pass.new)) }
+        ensures table { IfSome result (λ table. table ≡ table_of (memo_plan memo.now).program (memo_plan memo.now).ids) }
     {
         let TableRoom { reader, blocks } = self;
-        let blocks = last_blocks(memo, pass, blocks);
-        reader.read(rt, &blocks)
+        let blocks = look_at_all(memo, pass, blocks)?;
+        Some(reader.read(rt, &blocks))
     }
 }

@@ -1,9 +1,9 @@
 use Rattle.std.proofs.Common.{◌≡◌, ℕ, ◌<◌, true}
 use Rattle.std.specs.Prelude.{is_some}
-use Rattle.win_index.specs.Blocks.{block_count}
 use Rattle.window_states.specs.Entries.{Grows}
 use Rattle.shared_memo.specs.Passes.{IsPassOf, known}
-use Rattle.table_fill.proofs.looks.look_at_all.Given as goal
+use Rattle.table_fill.specs.Filled.{KnowsLevel}
+use Rattle.table_fill.proofs.looks.look_below.Given as goal
 
 -- all levels so far are known
 abbrev pub invariant-loop-level : goal.invariant-loop-level
@@ -11,7 +11,7 @@ invariant-loop-level l =
     record {
       pass : IsPassOf l.memo l.pass;
       kept : Grows (known l.fn.pass) (known l.pass);
-      below : (level number : ℕ) → level < l.level → number < block_count l.memo.plan.now.ids level → is_some (known l.pass level number) ≡ true;
+      below : (level : ℕ) → level < l.level → KnowsLevel l.memo.plan.now (known l.pass) level;
     }
 
 -- and the blocks of this level so far
@@ -20,6 +20,6 @@ invariant-loop-number l =
     record {
       pass : IsPassOf l.memo l.pass;
       kept : Grows (known l.fn.pass) (known l.pass);
-      below : (level number : ℕ) → level < l.level → number < block_count l.memo.plan.now.ids level → is_some (known l.pass level number) ≡ true;
+      below : (level : ℕ) → level < l.level → KnowsLevel l.memo.plan.now (known l.pass) level;
       row : (number : ℕ) → number < l.number → is_some (known l.pass l.level number) ≡ true;
     }
