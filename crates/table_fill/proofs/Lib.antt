@@ -1,5 +1,4 @@
 -- Lemmas that several proofs share.
-mod GoneOn
 pub mod BelowBlocks
 pub mod KnownJobs
 pub mod SharedFill

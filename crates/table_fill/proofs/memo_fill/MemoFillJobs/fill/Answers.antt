@@ -1,4 +1,4 @@
-use Rattle.std.proofs.Common.{rules, ◌≡◌, ◌+◌, ◌-◌, ◌<◌, true, [], ◌∷◌, ◌++◌, length, Some, subst, sym, ap, ◌∙◌, arith, length-append}
+use Rattle.std.proofs.Common.{rules, ◌≡◌, true, [], ◌∷◌, ◌++◌, length, Some, subst, sym}
 use Rattle.std.specs.Prelude.{is_some, slice_get}
 use Rattle.win_index.specs.Jobs.{jobs_of}
 use Rattle.window_states.specs.Entries.{Entries}
@@ -31,13 +31,6 @@ loop-job-preserved g c =
       same_memo = search rules;
       filled = rw all known_all;
     }
-
-pub loop-job-smaller : goal.loop-job-smaller
-loop-job-smaller g c =
-    let total = c.args.desk.now.total in
-    let more : length (drawn c.draw.new.ticket) ≡ length (drawn c.loop-job.ticket) + 1 = ap length c.in-Some.ensures.drawn.1 ∙ length-append (drawn c.loop-job.ticket) _ in
-    let less : total - length (drawn c.draw.new.ticket) < total - length (drawn c.loop-job.ticket) = omega (arith, more, c.draw.ensures.fewer) in
-    less
 
 pub returns-clause-known : goal.returns-clause-known
 returns-clause-known g c =
