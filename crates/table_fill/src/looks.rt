@@ -5,7 +5,7 @@ ghost use Rattle.shared_memo.specs.Passes.{known, memo_plan, IsPassOf};
 ghost use Rattle.win_index.specs.Blocks.{block_count};
 ghost use Rattle.worker_pool.specs.Workers.{HasRoom};
 ghost use Rattle.table_entries.specs.EntryShares.{AreLastBlocks};
-ghost use Rattle.table_fill.specs.Filled.{HasLearned, KnowsAll, KnowsLevel};
+ghost use Rattle.table_fill.specs.Filled.{HasLearned, KnowsLevel};
 
 use node_program::OutOfMemory;
 use shared_memo::{Memo, Pass};
@@ -23,29 +23,9 @@ pub(crate) fn empty_blocks<'s, 'a>(
     Ok(Vec::with_capacity(alloc, shape.blocks(shape.rounds()) as usize)?)
 }
 
-// Looks at each cell, and returns the blocks of the last level in order, in a list with capacity for
-// them, or `None` if a cell does not hold a block of its level and number. The pass then knows all.
-pub(crate) fn look_at_all<'s, 'a>(
-    memo: &'s Memo<'a>,
-    pass: &mut Pass<'a>,
-    blocks: Vec<&'s Block<'a>>,
-) -> Option<Vec<&'s Block<'a>>>
-    requires pass { IsPassOf memo.now pass.old }
-    requires room { HasRoom (block_count (memo_plan memo.now).ids (length (memo_plan memo.now).program.steps)) blocks }
-    ensures learned { HasLearned memo.now pass.old pass.new }
-    ensures known { IfSome result (λ _. KnowsAll (memo_plan memo.now) (known pass.new)) }
-    ensures blocks { IfSome result (λ blocks. AreLastBlocks (memo_plan memo.now) blocks.items) }
-{
-    if look_below(memo, pass) {
-        look_at_last(memo, pass, blocks)
-    } else {
-        None
-    }
-}
-
 // Looks at each cell below the last level, and returns whether each holds a block of its level and
 // number. The pass then knows them.
-fn look_below<'a>(memo: &Memo<'a>, pass: &mut Pass<'a>) -> bool
+pub(crate) fn look_below<'a>(memo: &Memo<'a>, pass: &mut Pass<'a>) -> bool
     requires { IsPassOf memo.now pass.old }
     ensures learned { HasLearned memo.now pass.old pass.new }
     ensures known { IsTrue result → (level : ℕ) → level < length (memo_plan memo.now).program.steps → KnowsLevel (memo_plan memo.now) (known pass.new) level }
@@ -61,8 +41,9 @@ fn look_below<'a>(memo: &Memo<'a>, pass: &mut Pass<'a>) -> bool
     true
 }
 
-// Like `look_at_all`, for the last level.
-fn look_at_last<'s, 'a>(
+// Looks at each cell of the last level, and returns their blocks in order, in a list with capacity for
+// them, or `None` if a cell does not hold a block of its level and number.
+pub(crate) fn last_blocks<'s, 'a>(
     memo: &'s Memo<'a>,
     pass: &mut Pass<'a>,
     mut blocks: Vec<&'s Block<'a>>,

@@ -1,6 +1,6 @@
 //! Memory to read a table.
 
-use crate::looks::{empty_blocks, look_at_all};
+use crate::looks::{empty_blocks, last_blocks, look_below};
 use channel_tables::Table;
 use node_program::OutOfMemory;
 use round_columns::Code;
@@ -56,7 +56,10 @@ impl<'s, 'a> TableRoom<'s, 'a> {
         ensures table { IfSome result (λ table. table ≡ table_of (memo_plan memo.now).program (memo_plan memo.now).ids) }
     {
         let TableRoom { reader, blocks } = self;
-        let blocks = look_at_all(memo, pass, blocks)?;
+        if !look_below(memo, pass) {
+            return None;
+        }
+        let blocks = last_blocks(memo, pass, blocks)?;
         Some(reader.read(rt, &blocks))
     }
 }

@@ -6,7 +6,7 @@ use Rattle.window_states.specs.Entries.{Grows}
 use Rattle.shared_memo.specs.PlanJobs.{IsKeyedBlock}
 use Rattle.shared_memo.specs.Passes.{IsPassOf, known}
 use Rattle.win_index.specs.Blocks.{block_count}
-use Rattle.table_fill.proofs.looks.look_at_last.Given as goal
+use Rattle.table_fill.proofs.looks.last_blocks.Given as goal
 
 -- the blocks so far are those of the last level, and are known
 abbrev pub invariant-loop-number : goal.invariant-loop-number

@@ -1,6 +1,6 @@
 use Rattle.std.proofs.Common.{◌≡◌, ℕ, suc, zero, List, [], ◌∷◌, ◌++◌, length, slice_get, Some, refl, rules, subst}
 use Rattle.unroll.proofs.Known.{grows_both}
-use Rattle.table_fill.proofs.looks.look_at_last.Goals as goal
+use Rattle.table_fill.proofs.looks.last_blocks.Goals as goal
 
 -- what holds of each item of a list and of one more
 pushed :
