@@ -1,12 +1,10 @@
 -- The places of shares: each begins where the one before it ends, and the last one ends with the last window.
-use Rattle.std.proofs.Common.{◌≡◌, ℕ, ◌+◌, ◌-◌, ◌*◌, ◌/◌, ◌%◌, ◌<◌, ◌≤◌, ◌⊎◌, min, List, [], ◌∷◌, ◌++◌, All, Some, length, get_or, vec_capacity, inl, inr, ⊎_elim, subst, sym, ap, ◌∙◌, arith, length-append}
+use Rattle.std.proofs.Common.{◌≡◌, ℕ, ◌+◌, ◌-◌, ◌*◌, ◌/◌, ◌%◌, ◌<◌, ◌≤◌, ◌⊎◌, min, List, All, Some, length, get_or, vec_capacity, inl, inr, subst, sym, ap, ◌∙◌, arith}
 use mathlib.Core.Logic.{dite}
 use Rattle.std.specs.Prelude.{slice_get}
 use Rattle.std.proofs.Math.Nat.{mul-add, mul-one, mul-zero}
 use Rattle.std.proofs.Math.Decide.{dec_lt}
-use Rattle.win_index.proofs.Kept.{slice_get-append_left, slice_get-append_right}
-use Rattle.std.proofs.lemmas.Bool.{cases_lt}
-use Rattle.std.proofs.lemmas.Option.{slice_get_within, slice_get-get_or, get_or_from_slice_get, same_Some}
+use Rattle.std.proofs.lemmas.Option.{slice_get_within, slice_get-get_or, get_or_from_slice_get}
 use Rattle.lang_check.specs.Plans.{ProgramForIds}
 use Rattle.win_index.specs.declared.limits.TheConstants.{BLOCK_WINDOWS}
 use Rattle.table_entries.specs.ChannelRoom.{IsChannelRoom}
@@ -40,19 +38,6 @@ is_ready plan each k share is =
 
 pub all_ready : (plan : ProgramForIds) (shares : List Share) → AreShares plan shares → All (IsReady plan) shares
 all_ready plan shares are = λ k d lt. is_ready plan (share_blocks (windows_of plan) (length shares)) k (get_or shares k d) (are.each k (get_or shares k d) (slice_get-get_or shares k d lt))
-
--- a list with one more item at its end
-pub each_snoc :
-    {W : Type 0} (P : ℕ → W → Type 0) (xs : List W) (w : W) → ((k : ℕ) (x : W) → slice_get xs k ≡ Some x → P k x) → P (length xs) w
-    → (k : ℕ) (x : W) → slice_get (xs ++ w ∷ []) k ≡ Some x → P k x
-each_snoc P xs w before next k x is =
-    ⊎_elim (λ (inside : k < length xs). before k x (sym (slice_get-append_left xs (w ∷ []) k inside) ∙ is))
-    (λ (past : length xs ≤ k).
-    let within = slice_get_within (xs ++ w ∷ []) k x is in
-    let last : k ≡ length xs = omega (arith, past, within, length-append xs (w ∷ [])) in
-    let same : w ≡ x = same_Some w x (sym (slice_get-append_right xs (w ∷ []) k 0 (omega (arith, last))) ∙ is) in
-    rw (last, ← same) next)
-    (cases_lt k (length xs))
 
 -- the share that is made for the windows from `start` to `finish`
 pub share_at :

@@ -5,7 +5,7 @@ use Rattle.lang_check.specs.Plans.{ProgramForIds}
 use Rattle.window_states.specs.Entries.{Entries, Grows}
 use Rattle.shared_memo.specs.declared.memo.Memo.{Memo}
 use Rattle.shared_memo.specs.declared.pass.Pass.{Pass}
-use Rattle.shared_memo.specs.Passes.{known, memo_plan, IsPassOf}
+use Rattle.shared_memo.specs.Passes.{known, IsPassOf}
 use Rattle.shared_memo.specs.PlanJobs.{IsKey, job_of}
 
 -- a pass of this memo that knows at least what it knew before

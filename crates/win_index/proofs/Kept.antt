@@ -3,7 +3,7 @@ use Rattle.std.proofs.Common.{◌≡◌, ℕ, zero, suc, ◌+◌, ◌-◌, ◌<�
 use Rattle.std.specs.List.{range_with_len}
 use Rattle.std.proofs.lemmas.Bool.{cases_lt}
 use Rattle.std.proofs.lemmas.List.Elements.{filter-append}
-use Rattle.std.proofs.lemmas.Option.{none-some, same_Some}
+use Rattle.std.proofs.lemmas.Option.{none-some, same_Some, slice_get_within}
 
 -- the numbers below m that pass p
 abbrev pub kept : (ℕ → Bool) → ℕ → List ℕ
@@ -33,6 +33,19 @@ slice_get-append_right [] ys n i e =
 slice_get-append_right (x ∷ xs) ys n i e =
     let more : n ≡ suc (length xs + i) = omega arith in
     rw more (slice_get-append_right xs ys (length xs + i) i refl)
+
+-- what holds of each item of a list and of one more at its end
+pub each_snoc :
+    {W : Type 0} (P : ℕ → W → Type 0) (xs : List W) (w : W) → ((k : ℕ) (x : W) → slice_get xs k ≡ Some x → P k x) → P (length xs) w
+    → (k : ℕ) (x : W) → slice_get (xs ++ w ∷ []) k ≡ Some x → P k x
+each_snoc P xs w before next k x is =
+    ⊎_elim (λ (inside : k < length xs). before k x (sym (slice_get-append_left xs (w ∷ []) k inside) ∙ is))
+    (λ (past : length xs ≤ k).
+    let within = slice_get_within (xs ++ w ∷ []) k x is in
+    let last : k ≡ length xs = omega (arith, past, within, length-append xs (w ∷ [])) in
+    let same : w ≡ x = same_Some w x (sym (slice_get-append_right xs (w ∷ []) k 0 (omega (arith, last))) ∙ is) in
+    rw (last, ← same) next)
+    (cases_lt k (length xs))
 
 -- the first element that a filter keeps
 pub filter_first : {X : Type 0} (p : X → Bool) (xs : List X) → slice_get (filter p xs) 0 ≡ find p xs

@@ -2,7 +2,8 @@ use Rattle.std.proofs.Common.{rules, ◌≡◌, ℕ, ◌+◌, Some, length, subs
 use Rattle.std.specs.Prelude.{slice_get}
 use Rattle.table_entries.specs.Shares.{windows_of, share_blocks, share_start, IsShareAt}
 use Rattle.table_entries.specs.declared.share.Share.{Share}
-use Rattle.table_entries.proofs.SharePlaces.{one_more, each_snoc, share_at}
+use Rattle.win_index.proofs.Kept.{each_snoc}
+use Rattle.table_entries.proofs.SharePlaces.{one_more, share_at}
 use Rattle.table_entries.proofs.shares.shares_of.Goals as goal
 
 -- the next share begins where this one ends
