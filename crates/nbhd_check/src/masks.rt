@@ -114,8 +114,8 @@ fn group_masks(alloc: Global, table: &Table, len: usize, distance: u32) -> Masks
     Masks { words, per_group }
 }
 
-// Estimates whether a mask of these channels has nearly all bits up to that of the greatest channel,
-// so that it hardly helps.
+// Estimates whether a mask of these channels has nearly all bits up to the greatest of each word, so
+// that it hardly helps.
 fn is_full(channels: &[u16]) -> bool {
     let mut words = [0u64; 64];
     add_group(&mut words, 0, 64, channels, 1);
