@@ -7,12 +7,13 @@ use Rattle.node_lang.specs.declared.parser.Parser.{Parser}
 use Rattle.node_lang.specs.declared.token.Token.{Token}
 use Rattle.node_lang.specs.declared.token.Token.TheVariants as token
 use Rattle.node_lang.specs.Lexemes.{Lexeme}
-use Rattle.node_lang.specs.Reading.{Read, Reader, Got, Fault, ◌>>=◌, ◌>>◌, after, assigns, done, each, exactly, expression, go_on, header, next, node, number, one_of, operand, round, same_token, three_of, two_of}
-use Rattle.node_lang.specs.Parsing.{Gives, after_if, after_one, after_two, expression_after, field, lexemes_from}
+use Rattle.node_lang.specs.Reading.{Read, Reader, Got, Fault, ◌>>=◌, ◌>>◌, after, assigns, begun, done, each, exactly, expression, go_on, header, next, node, number, one_of, operand, round, same_token, three_of, two_of}
+use Rattle.node_lang.specs.Parsing.{Gives, field, lexemes_from, opened}
 use Rattle.node_program.specs.declared.limits.TheConstants.{MAX_CHANNELS, MAX_DEPTH, MAX_REGISTERS, MAX_ROUNDS}
 use Rattle.node_program.specs.declared.tree.UnOp.{UnOp}
 use Rattle.node_program.specs.declared.tree.BinOp.{BinOp}
-use Rattle.node_program.specs.Term.{Term, One, Two, Choose}
+use Rattle.node_program.specs.declared.tree.Expr.{Expr}
+use Rattle.node_program.specs.Term.{Term, One, Two, Choose, term_of}
 
 -- tokens that are the same are equal
 pub same_token_is : (s t : Token) → same_token s t ≡ true → s ≡ t
@@ -97,46 +98,6 @@ header_is nodes left =
     regrouped (exactly token.Channels n l) _ _ _ (λ _ n l. same_after (number 1 MAX_CHANNELS n l) _ _ (λ channels n l.
     regrouped (exactly token.Registers n l) _ _ _ (λ _ n l. refl))))))
 
--- a round, part by part
-pub round_is : (registers nodes : ℕ) (left : List Lexeme) → round registers nodes left ≡ (do
-  exactly token.Round
-  left ← expression_after token.Send token.Left
-  right ← expression_after token.Send token.Right
-  next ← assigns registers
-  done (record { left = left; right = right; next = next })) nodes left
-unfolding round expression_after
-round_is registers nodes left =
-    sym (same_after (exactly token.Round nodes left) _ _ (λ _ n l.
-    regrouped (exactly token.Send n l) _ _ _
-    (λ _ n l. regrouped (exactly token.Left n l) _ _ _
-    (λ _ n l. same_after (expression MAX_DEPTH n l) _ _ (λ left n l.
-    regrouped (exactly token.Send n l) _ _ _ (λ _ n l. regrouped (exactly token.Right n l) _ _ _ (λ _ n l. refl)))))))
-
--- the rest of an operation, operand by operand
-pub one_is : (op : UnOp) (levels from nodes : ℕ) (left : List Lexeme) →
-    (node levels from >> (one_of (operand levels) >>= λ a. done (One op a))) nodes left
-    ≡ after_one op levels from nodes left
-unfolding one_of
-one_is op levels from nodes left =
-    sym (regrouped (node levels from nodes left) _ _ _
-    (λ _ n l. sym (regrouped (exactly token.Open n l) _ _ _ (λ _ n l. refl))))
-
-pub two_is : (op : BinOp) (levels from nodes : ℕ) (left : List Lexeme) →
-    (node levels from >> (two_of (operand levels) >>= λ p. done (Two op p.0 p.1))) nodes left
-    ≡ after_two op levels from nodes left
-unfolding two_of
-two_is op levels from nodes left =
-    sym (regrouped (node levels from nodes left) _ _ _
-    (λ _ n l. sym (regrouped (exactly token.Open n l) _ _ _ (λ _ n l. simp go_on_assoc))))
-
-pub if_is : (levels from nodes : ℕ) (left : List Lexeme) →
-    (node levels from >> (three_of (operand levels) >>= λ p. done (Choose p.0 p.1 p.2))) nodes left
-    ≡ after_if levels from nodes left
-unfolding three_of
-if_is levels from nodes left =
-    sym (regrouped (node levels from nodes left) _ _ _
-    (λ _ n l. sym (regrouped (exactly token.Open n l) _ _ _ (λ _ n l. simp go_on_assoc))))
-
 -- a method whose last step behaves as the rest of its reader
 pub gives_rest : {T A : Type 0} (tree : T → A) (old now new : Parser) (r : Result T TextFault)
     (whole rest : ℕ → List Lexeme → Read A) → now.text.now ≡ old.text.now →
@@ -182,13 +143,17 @@ pub stops_next : {T A B : Type 0} (tree : T → A) (old now : Parser) (v : T) (f
 stops_next tree old now v f first second given stopped =
     gives_next tree (λ b. b) old now now v (Err f) first second given stopped
 
--- an expression from its first token on
-pub expression_begins : (old now : Parser) (levels offset : ℕ) (t : Token) (more : Reader Term) →
-    now.text.now ≡ old.text.now →
-    next old.nodes (lexemes_from old.text.now old.at) ≡ Got
-    (record { from = length old.text.now - offset; token = t }) now.nodes (lexemes_from old.text.now now.at) →
-    after (operand levels) t ≡ Some more →
-    expression levels old.nodes (lexemes_from old.text.now old.at)
-    ≡ (node levels (length now.text.now - offset) >> more) now.nodes (lexemes_from now.text.now now.at)
+-- a method that reads the first token of an operation and then behaves as the rest of its reader
+pub gives_operation : {A : Type 0} (old now new : Parser) (levels : ℕ) (first : Token × ℕ) (r : Result Expr TextFault)
+    (inner : Reader A) (f : A → Reader Term) (rest : Reader Term) →
+    Gives (λ (t : Token × ℕ). record { from = length old.text.now - t.1; token = t.0 }) old now (Ok first) next →
+    after (operand levels) first.0 ≡ Some ((exactly token.Open >> inner) >>= f) →
+    ((nodes : ℕ) (left : List Lexeme) → go_on (inner nodes left) f ≡ rest nodes left) →
+    Gives term_of now new r (opened levels (length now.text.now - first.1) >> rest) →
+    Gives term_of old new r (expression levels)
 unfolding expression
-expression_begins old now levels offset t more same reads begins = rw (same, reads, begins) refl
+gives_operation old now new levels first r inner f rest read begins same given =
+    gives_rest term_of old now new r (expression levels) (opened levels (length now.text.now - first.1) >> rest) read.0
+    (rw (read.0, read.1, begins) (sym (regrouped
+    (node levels (length old.text.now - first.1) now.nodes (lexemes_from old.text.now now.at)) _ _ _
+    (λ _ n l. sym (regrouped (exactly token.Open n l) _ _ _ (λ _ n l. same n l)))))) given

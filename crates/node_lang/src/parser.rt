@@ -226,6 +226,7 @@ impl<'a> Parser<'a> {
     }
 
     // Consumes two tokens, which must be these, and parses the expression after them.
+    #[tactic(auto, unfolding(crate::specs::Parsing::expression_after))]
     fn expr_after(&mut self, first: Token, second: Token) -> Result<Expr, TextFault>
         requires first { same_token first first ≡ true }
         requires second { same_token second second ≡ true }
@@ -249,7 +250,7 @@ impl<'a> Parser<'a> {
         Ok(expressions)
     }
 
-    #[tactic(auto, using(crate::proofs::Parsing::round_is))]
+    #[tactic(auto, using(crate::proofs::Parsing::go_on_assoc), unfolding(crate::specs::Reading::round, crate::specs::Parsing::expression_after))]
     fn round(&mut self, registers: u32) -> Result<Round, TextFault>
         ensures { Gives step_of self.old self.new result (round registers) }
     {
