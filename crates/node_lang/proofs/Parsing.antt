@@ -8,7 +8,7 @@ use Rattle.node_lang.specs.declared.token.Token.{Token}
 use Rattle.node_lang.specs.declared.token.Token.TheVariants as token
 use Rattle.node_lang.specs.Lexemes.{Lexeme}
 use Rattle.node_lang.specs.Reading.{Read, Reader, Got, Fault, ◌>>=◌, ◌>>◌, after, assigns, begun, done, each, exactly, expression, go_on, header, next, node, number, one_of, operand, round, same_token, three_of, two_of}
-use Rattle.node_lang.specs.Parsing.{Gives, field, lexemes_from, opened}
+use Rattle.node_lang.specs.Parsing.{Gives, expression_after, field, lexemes_from, opened}
 use Rattle.node_program.specs.declared.limits.TheConstants.{MAX_CHANNELS, MAX_DEPTH, MAX_REGISTERS, MAX_ROUNDS}
 use Rattle.node_program.specs.declared.tree.UnOp.{UnOp}
 use Rattle.node_program.specs.declared.tree.BinOp.{BinOp}
@@ -97,6 +97,21 @@ header_is nodes left =
     (λ _ n l. same_after (number 0 MAX_ROUNDS n l) _ _ (λ rounds n l.
     regrouped (exactly token.Channels n l) _ _ _ (λ _ n l. same_after (number 1 MAX_CHANNELS n l) _ _ (λ channels n l.
     regrouped (exactly token.Registers n l) _ _ _ (λ _ n l. refl))))))
+
+-- a round, part by part
+pub round_is : (registers nodes : ℕ) (left : List Lexeme) → round registers nodes left ≡ (do
+  exactly token.Round
+  left ← expression_after token.Send token.Left
+  right ← expression_after token.Send token.Right
+  next ← assigns registers
+  done (record { left = left; right = right; next = next })) nodes left
+unfolding round expression_after
+round_is registers nodes left =
+    sym (same_after (exactly token.Round nodes left) _ _ (λ _ n l.
+    regrouped (exactly token.Send n l) _ _ _
+    (λ _ n l. regrouped (exactly token.Left n l) _ _ _
+    (λ _ n l. same_after (expression MAX_DEPTH n l) _ _ (λ left n l.
+    regrouped (exactly token.Send n l) _ _ _ (λ _ n l. regrouped (exactly token.Right n l) _ _ _ (λ _ n l. refl)))))))
 
 -- a method whose last step behaves as the rest of its reader
 pub gives_rest : {T A : Type 0} (tree : T → A) (old now new : Parser) (r : Result T TextFault)

@@ -250,7 +250,7 @@ impl<'a> Parser<'a> {
         Ok(expressions)
     }
 
-    #[tactic(auto, using(crate::proofs::Parsing::go_on_assoc), unfolding(crate::specs::Reading::round, crate::specs::Parsing::expression_after))]
+    #[tactic(auto, using(crate::proofs::Parsing::round_is))]
     fn round(&mut self, registers: u32) -> Result<Round, TextFault>
         ensures { Gives step_of self.old self.new result (round registers) }
     {
