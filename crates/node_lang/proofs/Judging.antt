@@ -24,7 +24,7 @@ use Rattle.node_lang.specs.Viable.{Stands, FirstFault, Mark, node, one_at, nodes
 use Rattle.node_lang.specs.Faults.{FaultsAt, IsFirstHighByte, too_long, not_ascii, in_lexemes}
 use Rattle.node_lang.specs.Laws.{ReadingStopsAtFirstFault, FirstFaultStopsReading, OneReading, OneTextFault, ReadableTextsAreRead, ReadableTextsHaveNoFault, ReadTextsAreReadable}
 use Rattle.node_lang.specs.Parsing.{Gives, lexemes_from}
-use Rattle.node_lang.proofs.Rest.{Rest, Nothing, AToken, AnExpression, ANumber, depth_next, counted, Met, Stops, Goes, limited, checked, meets, step, a_program, read, went, read_next, program_read}
+use Rattle.node_lang.proofs.Rest.{Rest, Nothing, AnExpression, ANumber, depth_next, counted, Met, Stops, Goes, limited, checked, meets, step, a_program, read, went, read_next, program_read}
 use Rattle.node_lang.proofs.SmallTokens.{is_small, small_tokens}
 use Rattle.node_lang.proofs.Marks.{Shallow, shallow_at, Fine, fine, program_matches}
 use Rattle.node_lang.proofs.Places.{InRange, Place, first_place, next_of, none_of, next_nodes, whole_marks, whole_nodes, whole, Says, says, stands_met}
@@ -32,11 +32,9 @@ use Rattle.node_lang.proofs.Places.{InRange, Place, first_place, next_of, none_o
 -- reading goes on at a token that can come next, where it is within the limits
 goes_within : (w v : Rest) (n : ℕ) (t : Token) → depth_next w ≤ MAX_DEPTH → counted w n ≤ MAX_NODES →
     InRange w t → limited w n t v ≡ Goes v
-goes_within (Nothing p) v n t shallow few range = refl
-goes_within (AToken s w) v n t shallow few range = refl
 goes_within (AnExpression d w) v n t shallow few range = grind (arith, nat_tests, shallow, few)
 goes_within (ANumber low high w) v n (token.Number k) shallow few range = grind (arith, nat_tests, range.0, range.1)
-goes_within (ANumber low high w) v n t shallow few range = refl
+goes_within w v n t shallow few range = refl
 
 -- so it goes on at each token of a program within the limits
 goes_in_program : {before : List Token} {n : ℕ} {w : Rest} (t : Token) (ts : List Token) → Place before n w →
@@ -130,9 +128,7 @@ judged_met {w = w} l ls p (Goes v) e place more =
 judged : (ls : List Lexeme) {before : List Token} {n : ℕ} (w : Rest) → Place before n w → Judges before ls (read w n ls)
 unfolding expression
 judged [] (Nothing q) p = all_read p
-judged [] (AToken t w) p = at_end p (λ q e. cc)
-judged [] (AnExpression d w) p = at_end p (λ q e. cc)
-judged [] (ANumber low high w) p = at_end p (λ q e. cc)
+judged [] w p = at_end p (λ q e. cc)
 judged (l ∷ ls) {before} {n} w p =
     subst (Judges before (l ∷ ls)) (sym (read_next w n l.from l.token ls))
     (judged_met l ls p (meets w n l.token) refl (says w l.token p) (λ v place. judged ls v place))
@@ -251,28 +247,25 @@ read_is_readable text p n left short ascii e =
     let spelt = read_is_spelt p 0 n (lexemes_of text) left (small_tokens text) e in
     record { short = short; ascii = ascii; tokens = spelt.tokens; limits = spelt.limits }
 
--- so does a text that the parser reads to its end
-pub reads_program : (old new : Parser) (r : Result ProgramTree TextFault) → old.at ≡ 0 → old.nodes ≡ 0 →
-    length old.text.now ≤ LONGEST_TEXT → All (λ b. b < 128) old.text.now →
-    Gives (λ p. p) old new r program → IfOk r (Reads old.text.now)
-reads_program old new (Ok p) at nodes short ascii h =
-    read_is_readable old.text.now p new.nodes (lexemes_from old.text.now new.at) short ascii (rw (at, nodes) at h.1)
-reads_program old new (Err f) at nodes short ascii h = tt
+-- what the parser returns of a text: the program that it reads as, or its fault, with which it reads as none
+pub record Outcome (text : List ℕ) (r : Result ProgramTree TextFault) : Type 0 where
+  pub program : IfOk r (Reads text)
+  pub fault : IfErr r (λ f. f.kind ≢ kind.OutOfMemory → FaultsAt text f.kind f.offset)
+  pub none : IfErr r (λ f. f.kind ≢ kind.OutOfMemory → (p : ProgramTree) → Reads text p → ⊥)
 
--- and a text at which the parser stops has this fault
-pub faults_at : (old new : Parser) (r : Result ProgramTree TextFault) → old.at ≡ 0 → old.nodes ≡ 0 →
+pub outcome : (old new : Parser) (r : Result ProgramTree TextFault) → old.at ≡ 0 → old.nodes ≡ 0 →
     length old.text.now ≤ LONGEST_TEXT → All (λ b. b < 128) old.text.now →
-    Gives (λ p. p) old new r program → IfErr r (λ f. f.kind ≢ kind.OutOfMemory → FaultsAt old.text.now f.kind f.offset)
-faults_at old new (Ok p) at nodes short ascii h = tt
-faults_at old new (Err f) at nodes short ascii h = λ m.
+    Gives (λ p. p) old new r program → Outcome old.text.now r
+outcome old new (Ok p) at nodes short ascii h = record {
+  program = read_is_readable old.text.now p new.nodes (lexemes_from old.text.now new.at) short ascii
+      (rw (at, nodes) at h.1);
+  fault = tt;
+  none = tt;
+}
+outcome old new (Err f) at nodes short ascii h =
+    let from = length old.text.now - f.offset in
+    let fault : f.kind ≢ kind.OutOfMemory → FaultsAt old.text.now f.kind f.offset = λ m.
     let stops = h.1 m in
-    let first = first_fault_of (lexemes_of old.text.now) f.kind (length old.text.now - f.offset)
-    (rw (at, nodes) at stops.1) in
-    in_lexemes f.kind f.offset (length old.text.now - f.offset) short ascii first (omega (arith, stops.0))
-
--- so it reads as no program
-pub reads_none : {T : Type 0} (text : List ℕ) (r : Result T TextFault) →
-    IfErr r (λ f. f.kind ≢ kind.OutOfMemory → FaultsAt text f.kind f.offset) →
-    IfErr r (λ f. f.kind ≢ kind.OutOfMemory → (p : ProgramTree) → Reads text p → ⊥)
-reads_none text (Ok v) h = h
-reads_none text (Err f) h = λ m p reads. no_fault text p f.kind f.offset reads (h m)
+    let first = first_fault_of (lexemes_of old.text.now) f.kind from (rw (at, nodes) at stops.1) in
+    in_lexemes f.kind f.offset from short ascii first (omega (arith, stops.0)) in
+    record { program = tt; fault = fault; none = λ m p reads. no_fault old.text.now p f.kind f.offset reads (fault m) }

@@ -15,12 +15,9 @@ use Rattle.node_lang.specs.Viable.{Mark, node, plain, marked, marked_assignments
 use Rattle.node_lang.proofs.SmallTokens.{is_small}
 
 unmarked_expression : (e : Term) (d : ℕ) (more : List Mark) → unmarked (marked e d more) ≡ spelled e (unmarked more)
-unmarked_expression (One o a) d more = ap (λ ts. token.One o ∷ token.Open ∷ ts) (unmarked_expression a (d + 1) _)
-unmarked_expression (Two o a b) d more = ap (λ ts. token.Two o ∷ token.Open ∷ ts) (unmarked_expression a (d + 1) _
-    ∙ ap (λ ts. spelled a (token.Comma ∷ ts)) (unmarked_expression b (d + 1) _))
-unmarked_expression (Choose c a b) d more = ap (λ ts. token.If ∷ token.Open ∷ ts) (unmarked_expression c (d + 1) _
-    ∙ ap (λ ts. spelled c (token.Comma ∷ ts)) (unmarked_expression a (d + 1) _
-    ∙ ap (λ ts. spelled a (token.Comma ∷ ts)) (unmarked_expression b (d + 1) _)))
+unmarked_expression (One o a) d more = simp (unmarked_expression a)
+unmarked_expression (Two o a b) d more = simp (unmarked_expression a, unmarked_expression b)
+unmarked_expression (Choose c a b) d more = simp (unmarked_expression c, unmarked_expression a, unmarked_expression b)
 unmarked_expression e d more = refl
 
 -- no node is too deep
@@ -89,16 +86,25 @@ shallow_marked : (e : Term) (d : ℕ) (ms : List Mark) → depth e + d ≤ MAX_D
     Shallow (marked e (d + 1) ms)
 shallow_marked (One o a) d ms less h =
     (omega (arith, less), (omega arith, shallow_marked a (d + 1) _ (omega (arith, less)) (omega arith, h)))
-shallow_marked (Two o a b) d ms less h =
-    let second : Shallow (marked b (d + 1 + 1) (plain token.Close ∷ ms)) =
-    shallow_marked b (d + 1) _ (omega (arith, less)) (omega arith, h) in
-    (omega (arith, less), (omega arith, shallow_marked a (d + 1) _ (omega (arith, less)) (omega arith, second)))
-shallow_marked (Choose c a b) d ms less h =
-    let third : Shallow (marked b (d + 1 + 1) (plain token.Close ∷ ms)) =
-    shallow_marked b (d + 1) _ (omega (arith, less)) (omega arith, h) in
-    let second : Shallow (marked a (d + 1 + 1) (plain token.Comma ∷ marked b (d + 1 + 1) (plain token.Close ∷ ms))) =
-    shallow_marked a (d + 1) _ (omega (arith, less)) (omega arith, third) in
-    (omega (arith, less), (omega arith, shallow_marked c (d + 1) _ (omega (arith, less)) (omega arith, second)))
+shallow_marked (Two o a b) d ms less h = (
+  omega (arith, less),
+  (
+    omega arith,
+    shallow_marked a (d + 1) _ (omega (arith, less))
+        (omega arith, shallow_marked b (d + 1) _ (omega (arith, less)) (omega arith, h)),
+  ),
+)
+shallow_marked (Choose c a b) d ms less h = (
+  omega (arith, less),
+  (
+    omega arith,
+    shallow_marked c (d + 1) _ (omega (arith, less)) (
+      omega arith,
+      shallow_marked a (d + 1) _ (omega (arith, less))
+          (omega arith, shallow_marked b (d + 1) _ (omega (arith, less)) (omega arith, h)),
+    ),
+  ),
+)
 shallow_marked e d ms less h = (omega (arith, less), h)
 
 -- these marks have these tokens, and the nodes of these expressions

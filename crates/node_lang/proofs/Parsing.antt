@@ -7,13 +7,11 @@ use Rattle.node_lang.specs.declared.parser.Parser.{Parser}
 use Rattle.node_lang.specs.declared.token.Token.{Token}
 use Rattle.node_lang.specs.declared.token.Token.TheVariants as token
 use Rattle.node_lang.specs.Lexemes.{Lexeme}
-use Rattle.node_lang.specs.Reading.{Read, Reader, Got, Fault, ◌>>=◌, ◌>>◌, after, assigns, begun, done, each, exactly, expression, go_on, header, next, node, number, one_of, operand, round, same_token, three_of, two_of}
+use Rattle.node_lang.specs.Reading.{Read, Reader, Got, Fault, ◌>>=◌, ◌>>◌, after, assigns, done, each, exactly, expression, go_on, header, next, node, number, operand, round, same_token}
 use Rattle.node_lang.specs.Parsing.{Gives, expression_after, field, lexemes_from, opened}
 use Rattle.node_program.specs.declared.limits.TheConstants.{MAX_CHANNELS, MAX_DEPTH, MAX_REGISTERS, MAX_ROUNDS}
-use Rattle.node_program.specs.declared.tree.UnOp.{UnOp}
-use Rattle.node_program.specs.declared.tree.BinOp.{BinOp}
 use Rattle.node_program.specs.declared.tree.Expr.{Expr}
-use Rattle.node_program.specs.Term.{Term, One, Two, Choose, term_of}
+use Rattle.node_program.specs.Term.{Term, term_of}
 
 -- tokens that are the same are equal
 pub same_token_is : (s t : Token) → same_token s t ≡ true → s ≡ t
@@ -135,28 +133,6 @@ pub gives_next : {T U A B : Type 0} (tree : T → A) (tree' : U → B) (old now 
 gives_next tree tree' old now new v r first second given more =
     gives_rest tree' old now new r (λ n l. go_on (first n l) second) (second (tree v)) given.0
     (ap (λ x. go_on x second) given.1 ∙ ap (λ t. second (tree v) now.nodes (lexemes_from t now.at)) (sym given.0)) more
-
--- a method that stops with a fault of this reader
-abbrev pub Stops : {A : Type 0} → Parser → TextFault → (ℕ → List Lexeme → Read A) → Type 0
-Stops {A} old f read = Gives {T = A} (λ a. a) old old (Err f) read
-
--- a method that stops in its first part
-pub stops_first : {A B : Type 0} (old : Parser) (f : TextFault) (first : ℕ → List Lexeme → Read A)
-    (second : A → ℕ → List Lexeme → Read B) → Stops old f first
-    → Stops old f (λ n l. go_on (first n l) second)
-stops_first old f first second stopped = (
-  stopped.0,
-  λ m.
-      let at = stopped.1 m in
-      (at.0, ap (λ x. go_on x second) at.1),
-)
-
--- a method that reads one part and stops after it
-pub stops_next : {T A B : Type 0} (tree : T → A) (old now : Parser) (v : T) (f : TextFault)
-    (first : ℕ → List Lexeme → Read A) (second : A → ℕ → List Lexeme → Read B)
-    → Gives tree old now (Ok v) first → Stops now f (second (tree v)) → Stops old f (λ n l. go_on (first n l) second)
-stops_next tree old now v f first second given stopped =
-    gives_next tree (λ b. b) old now now v (Err f) first second given stopped
 
 -- a method that reads the first token of an operation and then behaves as the rest of its reader
 pub gives_operation : {A : Type 0} (old now new : Parser) (levels : ℕ) (first : Token × ℕ) (r : Result Expr TextFault)

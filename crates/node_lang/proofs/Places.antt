@@ -1,9 +1,9 @@
 -- A place in a program: the tokens before it, and what is left of the program after them. Reading meets at the next
 -- token exactly the fault that is there, or none.
-use Rattle.std.proofs.Common.{◌≡◌, ℕ, ◌+◌, ◌<◌, Option, Some, None, List, [], ◌∷◌, ◌++◌, length, take, drop, append_assoc, append-nil, refl, sym, subst, ap, ◌∙◌, arith, add-one, ◌≢◌, zero, suc, ◌-◌, ◌≤◌, ◌==◌, nat_le, ◌&&◌, true, false, inl, inr}
+use Rattle.std.proofs.Common.{◌≡◌, ℕ, ◌+◌, ◌<◌, Option, Some, None, List, [], ◌∷◌, ◌++◌, length, take, drop, append_assoc, append-nil, refl, sym, subst, ap, ◌∙◌, arith, add-one, ◌≢◌, zero, suc, ◌-◌, ◌≤◌, ◌==◌, nat_le, ◌&&◌, true, false}
 use Rattle.std.specs.Prelude.{All, fold, sum_by}
 use Rattle.std.proofs.Math.Seq.{take-append_seam, drop-append_seam}
-use Rattle.std.proofs.lemmas.Bool.{cases_order, cond_both, eq-eqb}
+use Rattle.std.proofs.lemmas.Bool.{cond_both, eq-eqb}
 use Rattle.std.proofs.lemmas.Bool.Decides.{nat_tests}
 use Rattle.std.proofs.lemmas.List.{map-append, length-map}
 use Rattle.std.proofs.lemmas.List.Elements.{All-cons, All-nil, All-head, All-tail}
@@ -288,10 +288,8 @@ pub none_of : {before : List Token} {nodes : ℕ} {w : Rest} → Place before no
 none_of {before} p q each e = let g = p.goes_on q [] each (e ∙ sym (append-nil before)) in has_none g.leads g.tokens
 
 counted_is : (w : Rest) (n : ℕ) (t : Token) → n + nodes_at (node t (depth_next w) ∷ []) ≡ counted w n
-counted_is (Nothing p) n t = omega arith
-counted_is (AToken s w) n t = omega arith
 counted_is (AnExpression d w) n t = rw (add-one d) (omega arith)
-counted_is (ANumber low high w) n t = omega arith
+counted_is w n t = omega arith
 
 -- the number of nodes after one more token, and the place there
 pub next_nodes : {before : List Token} {nodes : ℕ} {w : Rest} (t : Token) (p : Place before nodes w) →
@@ -428,7 +426,7 @@ next_out (registers i c n h) e = subst (λ o. IsOutIf o (token.Number n)) e h
 -- a number out of range can come next, and is refused
 out_met : (w : Rest) (n : ℕ) (t : Token) → IsOut w t → meets w n t ≡ Stops kind.HeaderRange
 out_met (ANumber low high w) n (token.Number k) o =
-    elim o [ inl below ↦ grind (arith, nat_tests) | inr above ↦ grind (arith, nat_tests) ]
+    grind (arith, nat_tests, o)
 out_met w n t o = absurd o
 
 out_steps : (w : Rest) (t : Token) → IsOut w t → step w t ≡ None → ⊥
@@ -437,11 +435,7 @@ out_steps w t o none = absurd o
 
 -- a number that fails the test is out of range
 outside : (low high n : ℕ) → (nat_le low n && nat_le n high) ≡ false → IsOutside low high n
-outside low high n h = elim (cases_order n low) [
-  | inl e ↦ inr (grind (arith, nat_tests))
-  | inr (inl less) ↦ inl less
-  | inr (inr more) ↦ inr (grind (arith, nat_tests))
-]
+outside low high n h = grind (arith, nat_tests)
 
 -- the fault at a token where reading meets this; or none, and the place after it
 abbrev pub Says : List Token → ℕ → Token → Met → Type 0
@@ -512,9 +506,7 @@ limited_many w v n t some shallow many = absurd (omega (arith, some))
 unknown_met : (w : Rest) (n : ℕ) →
     (meets w n token.Unknown ≡ Stops kind.BadWord) × (meets w n token.LargeNumber ≡ Stops kind.NumberTooLarge)
 unknown_met (Nothing p) n = (refl, refl)
-unknown_met (AToken s w) n = (refl, refl)
-unknown_met (AnExpression d w) n = (refl, refl)
-unknown_met (ANumber low high w) n = (refl, refl)
+unknown_met w n = (refl, refl)
 
 -- and a fault that is there is what reading meets
 pub stands_met : {before : List Token} {n : ℕ} (w : Rest) (t : Token) (k : FaultKind) → Place before n w →

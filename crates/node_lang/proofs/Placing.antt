@@ -12,12 +12,8 @@ use Rattle.node_lang.specs.Lexemes.{Lexeme, Split, blanked, joined, split_of, le
 
 pub length-blanked : (inside : Bool) (text : List ℕ) → length (blanked inside text) ≡ length text
 length-blanked inside [] = refl
-length-blanked true (b ∷ bs) =
-    elim (b == 10) as (λ t. length (cond t (10 ∷ blanked false bs) (32 ∷ blanked true bs)) ≡ suc (length bs))
-    [ true ↦ ap suc (length-blanked false bs) | false ↦ ap suc (length-blanked true bs) ]
-length-blanked false (b ∷ bs) =
-    elim (b == 35) as (λ t. length (cond t (32 ∷ blanked true bs) (b ∷ blanked false bs)) ≡ suc (length bs))
-    [ true ↦ ap suc (length-blanked true bs) | false ↦ ap suc (length-blanked false bs) ]
+length-blanked true (b ∷ bs) = grind (arith, length-blanked true bs, length-blanked false bs)
+length-blanked false (b ∷ bs) = grind (arith, length-blanked true bs, length-blanked false bs)
 
 -- the lexemes of a text without comments
 abbrev lexemes_in : List ℕ → List Lexeme
@@ -112,12 +108,9 @@ pub word_token_first : (text : List ℕ) (n : ℕ) → n ≡ prefix_len is_word_
     lexemes_of text ≡ record { from = length text; token = word_token (take n text) } ∷ lexemes_of (drop n text)
 unfolding lexemes_of
 word_token_first text n e h =
-    let split = splits_word text in
+    let split = rw (← e) at (splits_word text) in
     let size = length-prefix_len is_word_byte text in
-    ap (λ w. joined (length text) w (split_of (blanked false text)).rest) (split.word ∙ ap (λ k. take k text) (sym e))
-    ∙ joined_word (length text) (take n text) _ (rw (e, size) (rw (← e) h))
-    ∙ ap (λ ls. record { from = length text; token = word_token (take n text) } ∷ ls)
-    (split.rest ∙ ap (λ k. lexemes_of (drop k text)) (sym e))
+    rw (split.word, split.rest) (joined_word (length text) (take n text) _ (rw (e, size) (rw (← e) h)))
 
 stops : (t : Bool) (n : ℕ) → 0 ≡ cond t (1 + n) 0 → t ≡ false
 stops true n e = absurd (omega arith)
@@ -143,13 +136,8 @@ pub after_comment : (text : List ℕ) (i n : ℕ) → i < length text → get_or
     lexemes_of (drop (i + (1 + n)) text) ≡ lexemes_of (drop i text)
 after_comment text i n h comment e =
     let place : i + (1 + n) ≡ (i + 1) + n = omega arith in
-    let front : drop i text ≡ 35 ∷ drop (i + 1) text = drop-cons text i 0 h
-    ∙ (λ k. comment k ∷ drop (sym (add-one i) k) text) in
-    ap (λ k. lexemes_of (drop k text)) place
-    ∙ ap lexemes_of (sym (drop-drop n (i + 1) text))
-    ∙ ap (λ k. lexemes_of (drop k (drop (i + 1) text))) e
-    ∙ sym (comment_in_front (drop (i + 1) text))
-    ∙ ap lexemes_of (sym front)
+    let front : drop i text ≡ 35 ∷ drop (i + 1) text = rw (add-one, ← comment) (drop-cons text i 0 h) in
+    rw (place, ← drop-drop n (i + 1) text, e, front) (sym (comment_in_front (drop (i + 1) text)))
 
 -- blanks and comments alone have no lexemes
 pub all_skipped : (text : List ℕ) (n : ℕ) → n ≡ length text → lexemes_of (drop n text) ≡ lexemes_of text →
@@ -166,10 +154,8 @@ pub placed_after : (text : List ℕ) (at start end : ℕ) (t : Token) → at ≤
     ∷ lexemes_of (drop (at + end) text)
 placed_after text at start end t h order e =
     let size : length (drop at text) - start ≡ length text - (at + start) = omega (arith, length-drop at text) in
-    let first = ap (λ xs. length xs - start) (take_rest text at) ∙ size in
-    let others = ap (λ xs. lexemes_of (drop end xs)) (take_rest text at) ∙ ap lexemes_of (drop-drop end at text) in
-    sym (ap lexemes_of (take_rest text at)) ∙ e ∙ (λ k. record { from = first k; token = t } ∷ others k)
+    rw (take_rest text at, drop-drop end at text, size) at e
 
 pub none_after : (text : List ℕ) (at : ℕ) → lexemes_of (take (length text - at) (drop at text)) ≡ [] →
     lexemes_of (drop at text) ≡ []
-none_after text at e = sym (ap lexemes_of (take_rest text at)) ∙ e
+none_after text at e = rw (take_rest text at) at e

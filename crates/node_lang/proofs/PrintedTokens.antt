@@ -1,11 +1,11 @@
 -- The text of a printed program is short and ASCII, and its tokens are the spelling of the program.
-use Rattle.std.proofs.Common.{◌≡◌, ℕ, ◌+◌, ◌-◌, ◌^◌, ◌<◌, ◌==◌, true, false, nat_lt, List, [], ◌∷◌, ◌++◌, length, refl, sym, ap, ◌∙◌, arith, rules, ◌*◌, ◌≤◌, Bool, append_assoc, append-nil, length-append}
+use Rattle.std.proofs.Common.{◌≡◌, ℕ, ◌+◌, ◌^◌, ◌<◌, ◌==◌, true, false, nat_lt, List, [], ◌∷◌, ◌++◌, length, refl, sym, ap, ◌∙◌, arith, rules, ◌*◌, ◌≤◌, Bool, append_assoc, append-nil, length-append}
 use Rattle.std.specs.Prelude.{sum_by, All, codes}
 use Rattle.std.specs.List.{list_all, prefix_len, flat_map}
 use Rattle.std.specs.Fmt.{decimal}
 use Rattle.std.proofs.Math.ListN.{get_or-append}
 use Rattle.std.proofs.Math.Seq.{take-append_seam, drop-append_seam}
-use Rattle.std.proofs.lemmas.Bool.{and_parts, and_from, cond-true, lt-ltb, ltb-true}
+use Rattle.std.proofs.lemmas.Bool.{lt-ltb, ltb-true}
 use Rattle.std.proofs.lemmas.Bool.Decides.{nat_tests}
 use Rattle.std.proofs.lemmas.Fmt.{decimal_digit, decimal_nonempty, digits_decimal, digits_value-decimal, length-decimal-le}
 use Rattle.std.proofs.lemmas.Str.Parse.{IsNumeralModel, numerals_by_fold}
@@ -13,7 +13,7 @@ use Rattle.node_lang.specs.declared.token.Token.{Token}
 use Rattle.node_lang.specs.declared.token.Token.TheVariants as token
 use Rattle.node_lang.specs.Words.{is_blank, is_digit, is_word_byte, read_on, word_token, mark_token, unary_name, binary_name, word_of}
 use Rattle.node_lang.specs.Lexemes.{tokens_in, tokens_of, lexemes_of}
-use Rattle.std.proofs.lemmas.List.Sums.{sum_by-append, sum_by-cons, AllPass-from_list_all, list_all-from_AllPass}
+use Rattle.std.proofs.lemmas.List.Sums.{sum_by-append, sum_by-cons, AllPass-from_list_all}
 use Rattle.node_program.specs.Term.{Round, ProgramTree, size, step_terms, terms_of_step, Term, Literal, Identifier, LeftMessage, RightMessage, RegisterValue, One, Two, Choose, largest, largest_register}
 use Rattle.std.proofs.lemmas.List.Elements.{All-append, All-cons, All-nil, All-head, All-tail, All-weaker}
 use Rattle.node_lang.specs.declared.limits.TheConstants.{LONGEST_TEXT}
@@ -33,10 +33,7 @@ EndsWord rest = prefix_len is_word_byte rest ≡ 0
 letters_in_front : (word rest : List ℕ) → list_all is_word_byte word ≡ true → EndsWord rest →
     prefix_len is_word_byte (word ++ rest) ≡ length word
 letters_in_front [] rest h ends = ends
-letters_in_front (b ∷ bs) rest h ends =
-    let parts = and_parts (is_word_byte b) (list_all is_word_byte bs) h in
-    let more = letters_in_front bs rest parts.1 ends in
-    cond-true (is_word_byte b) (1 + prefix_len is_word_byte (bs ++ rest)) 0 parts.0 ∙ omega (arith, more)
+letters_in_front (b ∷ bs) rest h ends = grind (arith, nat_tests, letters_in_front bs rest)
 
 -- a word of letters and digits, and the token that it is
 pub record IsWord (word : List ℕ) (t : Token) : Type 0 where
@@ -58,10 +55,8 @@ digit_is_letter : (b : ℕ) → is_digit b ≡ true → is_word_byte b ≡ true
 digit_is_letter b h = grind (arith, nat_tests)
 
 digits_are_letters : (ds : List ℕ) → list_all is_digit ds ≡ true → list_all is_word_byte ds ≡ true
-digits_are_letters ds h =
-    list_all-from_AllPass is_word_byte ds
-    (All-weaker (λ b. is_digit b ≡ true) (λ b. is_word_byte b ≡ true) digit_is_letter ds
-    (AllPass-from_list_all is_digit ds h))
+digits_are_letters [] h = refl
+digits_are_letters (d ∷ ds) h = grind (arith, nat_tests, digits_are_letters ds)
 
 -- the standard library's model of digits and their value
 numeral : IsNumeralModel (λ ds. list_all is_digit ds ≡ true) (read_on 0)
@@ -78,19 +73,15 @@ number_is_word n small =
       token = rw (digits, digits_value-decimal numeral n fits, lt-ltb n (2 ^ 32) small) refl;
     }
 
-register_word : (d j : ℕ) → d ≡ 48 + j → j < 10 → IsWord (114 ∷ d ∷ []) (token.Register j)
-unfolding word_token
-register_word d j e small =
-    let digit : is_digit d ≡ true = grind (arith, nat_tests) in
-    let value : d - 48 ≡ j = omega arith in
-    record {
-      letters = and_from (is_word_byte d) true (digit_is_letter d digit) refl;
-      some = omega arith;
-      token = rw digit (ap token.Register value);
-    }
-
 pub register_is_word : (j : ℕ) → j < 10 → IsWord (114 ∷ decimal j) (token.Register j)
-register_is_word j small = rw (decimal_digit j small) (register_word (48 + j) j refl small)
+unfolding word_token
+register_is_word j small =
+    let digit : is_digit (48 + j) ≡ true = grind (arith, nat_tests) in
+    rw (decimal_digit j small) (record {
+      letters = grind (arith, nat_tests, digit_is_letter);
+      some = omega arith;
+      token = rw digit (ap token.Register (omega arith));
+    })
 
 known : (word : List ℕ) (t : Token) → list_all is_word_byte word ≡ true → nat_lt 0 (length word) ≡ true →
     word_token word ≡ t → IsWord word t
@@ -164,21 +155,20 @@ a_register j small =
     let short = length-decimal-le 1 j (omega arith) (omega (arith, small)) (omega (arith, small)) in
     a_word 2 (register_is_word j small) (omega (arith, short))
 
-a_blank : (b : ℕ) → is_blank b ≡ true → b < 128 → Writes false (b ∷ []) 1 (λ ts. ts)
-a_blank b is low = record {
+one_byte : (b : ℕ) (f : List Token → List Token) → b < 128 →
+    ((rest : List ℕ) → tokens_of (b ∷ rest) ≡ f (tokens_of rest)) → Writes false (b ∷ []) 1 f
+one_byte b f low reads = record {
   ascii = All-cons (λ b. b < 128) b [] low (All-nil (λ b. b < 128));
   short = omega arith;
-  reads = λ rest _. ap tokens_in (blank_in_front b rest is);
+  reads = λ rest _. reads rest;
 }
+
+a_blank : (b : ℕ) → is_blank b ≡ true → b < 128 → Writes false (b ∷ []) 1 (λ ts. ts)
+a_blank b is low = one_byte b _ low (λ rest. ap tokens_in (blank_in_front b rest is))
 
 a_mark : (b : ℕ) → is_word_byte b ≡ false → is_blank b ≡ false → (b == 35) ≡ false → b < 128 →
     Writes false (b ∷ []) 1 (λ ts. mark_token b ∷ ts)
-a_mark b word blank comment low =
-    record {
-      ascii = All-cons (λ b. b < 128) b [] low (All-nil (λ b. b < 128));
-      short = omega arith;
-      reads = λ rest _. ap tokens_in (mark_in_front b rest word blank comment);
-    }
+a_mark b word blank comment low = one_byte b _ low (λ rest. ap tokens_in (mark_in_front b rest word blank comment))
 
 -- the fixed texts
 space : Writes false (codes " ") 1 (λ ts. ts)

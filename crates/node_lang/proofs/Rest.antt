@@ -1,6 +1,6 @@
 -- What is left of a program after some tokens, how one token leads on, and that a program is read so. A whole program
 -- is left before its first token.
-use Rattle.std.proofs.Common.{ℕ, zero, suc, ◌+◌, ◌-◌, ◌==◌, nat_le, ◌&&◌, List, [], ◌∷◌, Option, Some, None, ◌≡◌, ◌<◌, Bool, true, false, ◌++◌, refl, ap, ◌∙◌, arith, append_assoc, append-nil}
+use Rattle.std.proofs.Common.{ℕ, zero, suc, ◌+◌, ◌-◌, ◌==◌, nat_le, ◌&&◌, List, [], ◌∷◌, Option, Some, None, ◌≡◌, ◌<◌, ◌++◌, refl, ap, ◌∙◌, arith, append_assoc, append-nil}
 use Rattle.std.specs.Prelude.{if◌then◌else◌}
 use Rattle.std.proofs.lemmas.Bool.Decides.{nat_tests}
 use Rattle.node_program.specs.declared.limits.TheConstants.{MAX_DEPTH, MAX_NODES, MAX_CHANNELS, MAX_REGISTERS, MAX_ROUNDS}
@@ -9,7 +9,7 @@ use Rattle.node_lang.specs.declared.fault.FaultKind.TheVariants as kind
 use Rattle.node_lang.specs.declared.token.Token.{Token}
 use Rattle.node_lang.specs.declared.token.Token.TheVariants as token
 use Rattle.node_program.specs.Term.{Term, Literal, Identifier, LeftMessage, RightMessage, RegisterValue, One, Two, Choose, Round, ProgramTree}
-use Rattle.node_lang.specs.Reading.{same_token, fault_of, Read, Reader, Got, Fault, go_on, done, refuse, ◌>>=◌, ◌>>◌, exactly, node, one_of, two_of, three_of, operand, expression, number, end, each, assign, assigns, round, rounds, header, program}
+use Rattle.node_lang.specs.Reading.{same_token, fault_of, Read, Reader, Fault, go_on, done, ◌>>=◌, ◌>>◌, exactly, node, one_of, two_of, three_of, operand, expression, number, end, each, assign, assigns, round, rounds, header, program}
 use Rattle.node_lang.specs.Lexemes.{Lexeme}
 use Rattle.node_lang.proofs.Parsing.{go_on_assoc, operand_is, same_after}
 
@@ -123,42 +123,12 @@ abbrev pub went : ℕ → ℕ → List Lexeme → Met → Read ProgramTree
 went nodes from ls (Stops k) = Fault k from
 went nodes from ls (Goes v) = read v nodes ls
 
--- an expected token
-abbrev matched : Bool → Lexeme → Reader (Unit {0})
-matched b l = if b then done tt else refuse kind.Unexpected l
-
-wanted_next : (s : Token) (w : Rest) (n from : ℕ) (t : Token) (ls : List Lexeme) (b : Bool) →
-    kind.Unexpected ≡ fault_of t →
-    go_on (matched b (record { from = from; token = t }) n ls) (λ _. read w)
-    ≡ went n from ls (checked (AToken s w) n t (if b then Some w else None))
-wanted_next s w n from t ls true known = refl
-wanted_next s w n from t ls false known = ap (λ k. Fault k from) known
-
--- an expected number
-number_next : (w : ℕ → Rest) (n from k : ℕ) (ls : List Lexeme) (b : Bool) →
-    go_on ((if b then done k else refuse kind.HeaderRange (record { from = from; token = token.Number k })) n ls)
-    (λ k. read (w k))
-    ≡ went n from ls (if b then Goes (w k) else Stops kind.HeaderRange)
-number_next w n from k ls true = refl
-number_next w n from k ls false = refl
-
--- an expected node
-node_judged : (w : Term → Rest) (n from : ℕ) (ls : List Lexeme) (more : Reader Term) (v : Rest) (a b : Bool) →
-    (a ≡ false → go_on (more (n + 1) ls) (λ e. read (w e)) ≡ read v (n + 1) ls) →
-    go_on
-    (go_on (if a then Fault kind.TooDeep from else if b then Fault kind.TooManyNodes from else Got (tt {0}) (n + 1)
-    ls) (λ _. more)) (λ e. read (w e))
-    ≡ went (n + 1) from ls (if a then Stops kind.TooDeep else if b then Stops kind.TooManyNodes else Goes v)
-node_judged w n from ls more v true b h = refl
-node_judged w n from ls more v false true h = refl
-node_judged w n from ls more v false false h = h refl
-
+-- a node that is expected
 node_next : (d : ℕ) (w : Term → Rest) (n from : ℕ) (t : Token) (ls : List Lexeme) (more : Reader Term) (v : Rest) →
     (0 < MAX_DEPTH - d → go_on (more (n + 1) ls) (λ e. read (w e)) ≡ read v (n + 1) ls) →
     go_on (go_on (node (MAX_DEPTH - d) from n ls) (λ _. more)) (λ e. read (w e))
     ≡ went (n + 1) from ls (limited (AnExpression d w) n t v)
-node_next d w n from t ls more v h =
-    node_judged w n from ls more v ((MAX_DEPTH - d) == 0) (nat_le MAX_NODES n) (λ some. h (grind (arith, nat_tests)))
+node_next d w n from t ls more v h = grind (arith, nat_tests, h)
 
 below : (d : ℕ) → 0 < MAX_DEPTH - d → operand (MAX_DEPTH - d) ≡ expression (MAX_DEPTH - (d + 1))
 below d some = operand_is (MAX_DEPTH - d) some ∙ ap expression (omega arith)
@@ -167,17 +137,12 @@ term_next : (d : ℕ) (w : Term → Rest) (n from : ℕ) (t : Token) (ls : List 
     read (AnExpression d w) n (record { from = from; token = t } ∷ ls)
     ≡ went (n + 1) from ls (meets (AnExpression d w) n t)
 unfolding expression one_of two_of three_of
-term_next d w n from (token.Number k) ls = node_next d w n from (token.Number k) ls _ _ (λ _. refl)
-term_next d w n from token.Id ls = node_next d w n from token.Id ls _ _ (λ _. refl)
-term_next d w n from token.FromLeft ls = node_next d w n from token.FromLeft ls _ _ (λ _. refl)
-term_next d w n from token.FromRight ls = node_next d w n from token.FromRight ls _ _ (λ _. refl)
-term_next d w n from (token.Register j) ls = node_next d w n from (token.Register j) ls _ _ (λ _. refl)
 term_next d w n from (token.One o) ls =
     node_next d w n from (token.One o) ls _ _ (λ some. rw (below d some) (simp go_on_assoc))
 term_next d w n from (token.Two o) ls =
     node_next d w n from (token.Two o) ls _ _ (λ some. rw (below d some) (simp go_on_assoc))
 term_next d w n from token.If ls = node_next d w n from token.If ls _ _ (λ some. rw (below d some) (simp go_on_assoc))
-term_next d w n from t ls = refl
+term_next d w n from t ls = grind (arith, nat_tests)
 
 -- reading the rest is reading one token, then what is left after it
 pub read_next : (w : Rest) (n from : ℕ) (t : Token) (ls : List Lexeme) →
@@ -185,9 +150,9 @@ pub read_next : (w : Rest) (n from : ℕ) (t : Token) (ls : List Lexeme) →
 read_next (Nothing p) n from t ls = refl
 read_next (AToken s w) n from token.Unknown ls = refl
 read_next (AToken s w) n from token.LargeNumber ls = refl
-read_next (AToken s w) n from t ls = wanted_next s w n from t ls (same_token t s) refl
+read_next (AToken s w) n from t ls = grind (arith, nat_tests)
 read_next (AnExpression d w) n from t ls = term_next d w n from t ls
-read_next (ANumber low high w) n from (token.Number k) ls = number_next w n from k ls (nat_le low k && nat_le k high)
+read_next (ANumber low high w) n from (token.Number k) ls = grind (arith, nat_tests)
 read_next (ANumber low high w) n from t ls = refl
 
 -- assignments, and then the rest

@@ -1,14 +1,14 @@
 -- The numbers of a text are below 2^32, and its registers have one digit.
-use Rattle.std.proofs.Common.{◌≡◌, ℕ, ◌-◌, ◌^◌, ◌==◌, Bool, true, false, ◌&&◌, nat_lt, List, [], ◌∷◌, length, refl, arith}
+use Rattle.std.proofs.Common.{◌≡◌, ℕ, ◌^◌, Bool, true, false, nat_lt, List, [], ◌∷◌, length, refl, arith}
 use Rattle.std.specs.Prelude.{Option, Some, None, find}
 use Rattle.std.specs.List.{list_all}
 use Rattle.std.specs.Str.{bytes_eq}
-use Rattle.std.proofs.lemmas.Bool.{cond_both, and_parts, and_from}
+use Rattle.std.proofs.lemmas.Bool.{cond_both, and_from}
 use Rattle.std.proofs.lemmas.Bool.Decides.{nat_tests}
 use Rattle.node_lang.specs.declared.token.Token.{Token}
 use Rattle.node_lang.specs.declared.token.Token.TheVariants as token
-use Rattle.node_lang.specs.Words.{is_digit, is_blank, is_word_byte, word_token, mark_token, number_token, read_on, register_named, or_unknown, named, keywords, operations, word_of}
-use Rattle.node_lang.specs.Lexemes.{Lexeme, Split, blanked, joined, split_of, lexemes_of, tokens_in, tokens_of}
+use Rattle.node_lang.specs.Words.{is_digit, word_token, mark_token, number_token, read_on, register_named, or_unknown, named, keywords, operations, word_of}
+use Rattle.node_lang.specs.Lexemes.{Lexeme, blanked, joined, split_of, lexemes_of, tokens_in, tokens_of}
 
 abbrev pub is_small : Token → Bool
 is_small (token.Number n) = nat_lt n (2 ^ 32)
@@ -21,14 +21,10 @@ small_if (Some t) = is_small t
 
 found : (test : Token → Bool) (ts : List Token) → list_all is_small ts ≡ true → small_if (find test ts) ≡ true
 found test [] h = refl
-found test (t ∷ ts) h =
-    let parts = and_parts (is_small t) (list_all is_small ts) h in
-    cond_both (test t) (Some t) (find test ts) (λ o. small_if o ≡ true) (λ _. parts.0) (λ _. found test ts parts.1)
+found test (t ∷ ts) h = grind (arith, nat_tests, found test ts)
 
 small_register : (w : List ℕ) → small_if (register_named w) ≡ true
-small_register (r ∷ d ∷ []) =
-    cond_both ((r == 114) && is_digit d) (Some (token.Register (d - 48))) None (λ o. small_if o ≡ true)
-    (λ h. let digit = (and_parts (r == 114) (is_digit d) h).1 in grind (arith, nat_tests)) (λ _. refl)
+small_register (r ∷ d ∷ []) = grind (arith, nat_tests)
 small_register w = refl
 
 first_small : (a b c : Option Token) → small_if a ≡ true → small_if b ≡ true → small_if c ≡ true →
@@ -59,12 +55,7 @@ small_joined count (b ∷ bs) rest h = and_from (is_small (word_token (b ∷ bs)
 
 small_split : (text : List ℕ) → AllSmall (split_of text).rest
 small_split [] = refl
-small_split (b ∷ bs) =
-    let after = small_split bs in
-    let more = small_joined (length bs) (split_of bs).word (split_of bs).rest after in
-    cond_both (is_word_byte b) _ _ (λ (s : Split). AllSmall s.rest) (λ _. after) (λ _.
-    cond_both (is_blank b) _ _ (λ (s : Split). AllSmall s.rest) (λ _. more) (λ _.
-    and_from (is_small (mark_token b)) _ (small_mark b) more))
+small_split (b ∷ bs) = grind (arith, nat_tests, small_split bs, small_joined, small_mark)
 
 -- the tokens of a text
 pub small_tokens : (text : List ℕ) → list_all is_small (tokens_of text) ≡ true

@@ -14,7 +14,3 @@ next_item f xs j x h is =
 -- three texts after a text
 pub three_more : (t a b c : List ℕ) → ((t ++ a) ++ b) ++ c ≡ t ++ (a ++ (b ++ c))
 three_more t a b c = simp append_assoc
-
--- four texts after a text
-pub four_more : (t a b c d : List ℕ) → (((t ++ a) ++ b) ++ c) ++ d ≡ t ++ (a ++ (b ++ (c ++ d)))
-four_more t a b c d = simp append_assoc
