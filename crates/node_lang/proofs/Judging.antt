@@ -3,7 +3,6 @@
 use Rattle.std.proofs.Common.{◌≡◌, ℕ, ◌≤◌, List, [], ◌∷◌, ◌++◌, Option, Some, append_assoc, append-nil, refl, sym, subst, ap, ◌∙◌, arith, inl, inr, true, ◌≢◌, ◌-◌, ◌<◌, length, get_or, take}
 use Rattle.std.specs.Prelude.{All, sum_by, Result, Ok, Err, IfOk, IfErr}
 use Rattle.std.specs.List.{list_all}
-use Rattle.std.proofs.lemmas.Bool.{cases_order}
 use Rattle.std.proofs.lemmas.Bool.Decides.{nat_tests}
 use Rattle.std.proofs.lemmas.List.{length-take-le, get_or-take}
 use Rattle.std.proofs.lemmas.List.Sums.{sum_by-append}
@@ -198,12 +197,7 @@ not_before text m n a b h =
     absurd (omega (arith, low, same, a.high))
 
 pub one_high_byte : (text : List ℕ) (m n : ℕ) → IsFirstHighByte text m → IsFirstHighByte text n → m ≡ n
-one_high_byte text m n a b =
-    elim (cases_order m n) [
-      | inl e ↦ e
-      | inr (inl h) ↦ absurd (not_before text m n a b h)
-      | inr (inr h) ↦ absurd (not_before text n m b a h)
-    ]
+one_high_byte text m n a b = omega (arith, not_before text m n a b, not_before text n m b a)
 
 has_no_high_byte : (text : List ℕ) (n : ℕ) → All (λ b. b < 128) text → IsFirstHighByte text n → ⊥
 has_no_high_byte text n ascii first = let low = ascii n 0 first.within in omega (arith, first.high)

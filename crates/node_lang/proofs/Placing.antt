@@ -1,5 +1,5 @@
 -- The lexemes of a text that begins with a blank, a comment, a mark or a word.
-use Rattle.std.proofs.Common.{◌≡◌, ℕ, suc, ◌+◌, ◌-◌, ◌<◌, ◌≤◌, ◌==◌, Bool, true, false, not, cond, List, [], ◌∷◌, length, get_or, take, drop, refl, sym, ap, subst, ◌∙◌, arith, add-one}
+use Rattle.std.proofs.Common.{◌≡◌, ℕ, suc, ◌+◌, ◌-◌, ◌<◌, ◌≤◌, ◌==◌, Bool, true, false, not, List, [], ◌∷◌, length, get_or, take, drop, refl, sym, ap, subst, ◌∙◌, arith, add-one}
 use Rattle.std.proofs.Math.Seq.{drop-cons, drop-length}
 use Rattle.std.proofs.lemmas.Bool.{cond_both, eqb-true, ne_eqb}
 use Rattle.std.proofs.lemmas.Bool.Decides.{nat_tests}
@@ -8,7 +8,7 @@ use Rattle.std.proofs.lemmas.List.Folds.{length-prefix_len}
 use Rattle.std.specs.List.{prefix_len}
 use Rattle.node_lang.specs.declared.token.Token.{Token}
 use Rattle.node_lang.specs.Words.{is_blank, is_word_byte, word_token, mark_token}
-use Rattle.node_lang.specs.Lexemes.{Lexeme, Split, blanked, joined, split_of, lexemes_of}
+use Rattle.node_lang.specs.Lexemes.{Lexeme, blanked, joined, split_of, lexemes_of}
 
 pub length-blanked : (inside : Bool) (text : List ℕ) → length (blanked inside text) ≡ length text
 length-blanked inside [] = refl
@@ -68,9 +68,7 @@ comment_in_front bs =
 
 -- a byte of no word begins no word, inside a comment or outside
 no_word_first : (b : ℕ) (bs : List ℕ) → is_word_byte b ≡ false → (split_of (blanked false (b ∷ bs))).word ≡ []
-no_word_first b bs h =
-    cond_both (b == 35) (32 ∷ blanked true bs) (b ∷ blanked false bs) (λ t. (split_of t).word ≡ []) (λ _. refl)
-    (λ _. rw h (cond_both (is_blank b) _ _ (λ (s : Split). s.word ≡ []) (λ _. refl) (λ _. refl)))
+no_word_first b bs h = grind (arith, nat_tests)
 
 -- the text after its first word
 pub record SplitsWord (text : List ℕ) (n : ℕ) : Type 0 where
@@ -112,17 +110,13 @@ word_token_first text n e h =
     let size = length-prefix_len is_word_byte text in
     rw (split.word, split.rest) (joined_word (length text) (take n text) _ (rw (e, size) (rw (← e) h)))
 
-stops : (t : Bool) (n : ℕ) → 0 ≡ cond t (1 + n) 0 → t ≡ false
-stops true n e = absurd (omega arith)
-stops false n e = refl
-
 -- a text that begins with a mark
 pub mark_token_first : (text : List ℕ) → 0 < length text → 0 ≡ prefix_len is_word_byte text →
     is_blank (get_or text 0 0) ≡ false → (get_or text 0 0 ≡ 35 → ⊥) →
     lexemes_of text ≡ record { from = length text; token = mark_token (get_or text 0 0) } ∷ lexemes_of (drop 1 text)
 mark_token_first [] h e no_blank no_comment = absurd (omega arith)
 mark_token_first (b ∷ bs) h e no_blank no_comment =
-    mark_in_front b bs (stops (is_word_byte b) _ e) no_blank (ne_eqb b 35 no_comment)
+    mark_in_front b bs (grind (arith, nat_tests)) no_blank (ne_eqb b 35 no_comment)
 
 -- at a blank, the lexemes are those after it
 pub after_blank : (text : List ℕ) (i : ℕ) → i < length text → is_blank (get_or text i 0) ≡ true →

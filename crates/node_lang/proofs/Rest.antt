@@ -161,11 +161,7 @@ assigns_read : (count j : ℕ) (parts : List Term) (w : List Term → Rest) (n :
 unfolding assign
 assigns_read zero j parts w n ls = simp append-nil
 assigns_read (suc count) j parts w n ls =
-    let others : (e : Term) (m : ℕ) (left : List Lexeme) →
-    go_on (each assign count (j + 1) (parts ++ (e ∷ [])) m left) (λ es. read (w es))
-    ≡ read (assignments count (j + 1) (λ es. w ((parts ++ (e ∷ [])) ++ es))) m left =
-    λ e m left. assigns_read count (j + 1) (parts ++ (e ∷ [])) w m left in
-    simp (go_on_assoc, others, append_assoc)
+    simp (go_on_assoc, λ (e : Term). assigns_read count (j + 1) (parts ++ (e ∷ [])) w, append_assoc)
 
 -- rounds, and then the rest
 rounds_read : (count many j : ℕ) (parts : List Round) (w : List Round → Rest) (n : ℕ) (ls : List Lexeme) →
@@ -174,16 +170,14 @@ rounds_read : (count many j : ℕ) (parts : List Round) (w : List Round → Rest
 unfolding round assigns
 rounds_read zero many j parts w n ls = simp append-nil
 rounds_read (suc count) many j parts w n ls =
-    let others : (s : Round) (m : ℕ) (left : List Lexeme) →
-    go_on (each (λ _. round many) count (j + 1) (parts ++ (s ∷ [])) m left) (λ ss. read (w ss))
-    ≡ read (some_rounds count many (λ ss. w ((parts ++ (s ∷ [])) ++ ss))) m left =
-    λ s m left. rounds_read count many (j + 1) (parts ++ (s ∷ [])) w m left in
     let after : Term → Term → List Term → Rest =
     λ a b es. some_rounds count many (λ ss. w (parts ++ (record { left = a; right = b; next = es } ∷ ss))) in
-    let assigned : (a b : Term) (m : ℕ) (left : List Lexeme) →
-    go_on (assigns many m left) (λ es. read (after a b es)) ≡ read (assignments many 0 (after a b)) m left =
-    λ a b m left. assigns_read many 0 [] (after a b) m left in
-    simp (go_on_assoc, others, append_assoc, assigned)
+    simp (
+      go_on_assoc,
+      λ (s : Round). rounds_read count many (j + 1) (parts ++ (s ∷ [])) w,
+      append_assoc,
+      λ (a b : Term). assigns_read many 0 [] (after a b),
+    )
 
 -- what follows the header
 body_read : (c i r n : ℕ) (ls : List Lexeme) →

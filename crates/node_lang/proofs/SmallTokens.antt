@@ -3,11 +3,11 @@ use Rattle.std.proofs.Common.{◌≡◌, ℕ, ◌^◌, Bool, true, false, nat_lt
 use Rattle.std.specs.Prelude.{Option, Some, None, find}
 use Rattle.std.specs.List.{list_all}
 use Rattle.std.specs.Str.{bytes_eq}
-use Rattle.std.proofs.lemmas.Bool.{cond_both, and_from}
+use Rattle.std.proofs.lemmas.Bool.{and_from}
 use Rattle.std.proofs.lemmas.Bool.Decides.{nat_tests}
 use Rattle.node_lang.specs.declared.token.Token.{Token}
 use Rattle.node_lang.specs.declared.token.Token.TheVariants as token
-use Rattle.node_lang.specs.Words.{is_digit, word_token, mark_token, number_token, read_on, register_named, or_unknown, named, keywords, operations, word_of}
+use Rattle.node_lang.specs.Words.{word_token, mark_token, register_named, or_unknown, named, keywords, operations, word_of}
 use Rattle.node_lang.specs.Lexemes.{Lexeme, blanked, joined, split_of, lexemes_of, tokens_in, tokens_of}
 
 abbrev pub is_small : Token → Bool
@@ -36,12 +36,10 @@ first_small None None None p q r = refl
 
 small_word : (w : List ℕ) → is_small (word_token w) ≡ true
 unfolding word_token
-small_word w = cond_both (list_all is_digit w) (number_token w)
-    (or_unknown (register_named w) (named keywords w) (named operations w)) (λ t. is_small t ≡ true)
-    (λ _. cond_both (nat_lt (read_on 0 w) (2 ^ 32)) (token.Number (read_on 0 w)) token.LargeNumber
-    (λ t. is_small t ≡ true) (λ h. h) (λ _. refl))
-    (λ _. first_small (register_named w) (named keywords w) (named operations w) (small_register w)
-    (found (λ t. bytes_eq w (word_of t)) keywords refl) (found (λ t. bytes_eq w (word_of t)) operations refl))
+small_word w =
+    let word = first_small (register_named w) (named keywords w) (named operations w) (small_register w)
+    (found (λ t. bytes_eq w (word_of t)) keywords refl) (found (λ t. bytes_eq w (word_of t)) operations refl) in
+    grind (arith, nat_tests, word)
 
 small_mark : (b : ℕ) → is_small (mark_token b) ≡ true
 small_mark b = grind (arith, nat_tests)

@@ -33,7 +33,7 @@ fn line_len(text: &[u8]) -> usize
 }
 
 // Returns the offset of the first token, after blanks and comments, or the text's length.
-#[tactic(auto, using(crate::proofs::Placing::after_blank, crate::proofs::Placing::after_comment))]
+#[tactic(auto, using(crate::proofs::Placing::after_blank, crate::proofs::Placing::after_comment, std::proofs::lemmas::List::take_rest))]
 fn token_start(text: &[u8]) -> usize
     ensures within { result ≤ length text.now }
     ensures same { lexemes_of (drop result text.now) ≡ lexemes_of text.now }

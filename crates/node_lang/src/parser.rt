@@ -238,7 +238,7 @@ impl<'a> Parser<'a> {
     }
 
     // Parses an assignment to each register.
-    #[tactic(auto, unfolding(crate::specs::Reading::assigns))]
+    #[tactic(auto, using(crate::proofs::Parsing::one_read, crate::proofs::Parsing::stops_there, std::proofs::lemmas::Result::err_from_is_err_and), unfolding(crate::specs::Reading::assigns, crate::specs::Reading::assign, crate::specs::Parsing::expression_after))]
     fn assigns(&mut self, registers: u32) -> Result<Vec<Expr>, TextFault>
         ensures { Gives (λ v. map term_of v.items) self.old self.new result (assigns registers) }
     {
@@ -261,7 +261,7 @@ impl<'a> Parser<'a> {
         Ok(Round { left, right, next })
     }
 
-    #[tactic(auto, unfolding(crate::specs::Reading::rounds))]
+    #[tactic(auto, using(crate::proofs::Parsing::stops_there, std::proofs::lemmas::Result::err_from_is_err_and), unfolding(crate::specs::Reading::rounds))]
     fn rounds(&mut self, count: u32, registers: u32) -> Result<Vec<Round>, TextFault>
         ensures { Gives (λ v. map step_of v.items) self.old self.new result (rounds count registers) }
     {

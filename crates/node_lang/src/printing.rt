@@ -79,6 +79,7 @@ fn write_line(text: &mut String, words: &str, expression: &Expr) -> Result<(), A
 }
 
 // Appends an assignment to each register.
+#[tactic(auto, using(crate::proofs::Writing::next_item, std::proofs::Common::append_assoc))]
 fn write_assignments(text: &mut String, expressions: &[Expr]) -> Result<(), AllocError>
     ensures { OnOk result (string_bytes text.new ≡ string_bytes text.old ++ assignment_lines 0 (map term_of expressions.now)) }
 {
@@ -97,6 +98,7 @@ fn write_round(text: &mut String, round: &Round) -> Result<(), AllocError>
     write_assignments(text, &round.next)
 }
 
+#[tactic(auto, using(crate::proofs::Writing::next_item, std::proofs::Common::append_assoc))]
 fn write_rounds(text: &mut String, rounds: &[Round]) -> Result<(), AllocError>
     ensures { OnOk result (string_bytes text.new ≡ string_bytes text.old ++ flat_map round_lines (map step_of rounds.now)) }
 {
