@@ -1,6 +1,6 @@
 -- What a text reads as, and its fault, from how reading it from the left ends: reading stops at the first fault, and
 -- returns a program exactly if the tokens spell it within the limits.
-use Rattle.std.proofs.Common.{◌≡◌, ℕ, ◌≤◌, List, [], ◌∷◌, ◌++◌, Option, Some, append_assoc, append-nil, refl, sym, subst, ap, ◌∙◌, arith, inl, inr, true, ◌≢◌, ◌-◌, ◌<◌, length, get_or, take}
+use Rattle.std.proofs.Common.{◌≡◌, ℕ, ◌≤◌, List, [], ◌∷◌, ◌++◌, Option, Some, append_assoc, append-nil, refl, sym, subst, ap, ◌∙◌, arith, inl, inr, true, ◌≢◌, ◌-◌, ◌<◌, length}
 use Rattle.std.specs.Prelude.{All, sum_by, Result, Ok, Err, IfOk, IfErr}
 use Rattle.std.specs.List.{list_all}
 use Rattle.std.proofs.lemmas.Bool.Decides.{nat_tests}
@@ -192,9 +192,8 @@ program_completes p ls limits e = let judges = program_judged ls (program 0 ls) 
 -- no high byte is before the first one
 not_before : (text : List ℕ) (m n : ℕ) → IsFirstHighByte text m → IsFirstHighByte text n → m < n → ⊥
 not_before text m n a b h =
-    let low = b.before m 0 (rw (length-take-le n text (omega (arith, b.within))) h) in
-    let same : get_or (take n text) m 0 ≡ get_or text m 0 = get_or-take n text m 0 h in
-    absurd (omega (arith, low, same, a.high))
+    let low = b.before m 0 (grind (arith, length-take-le, b.within)) in
+    absurd (omega (arith, low, get_or-take n text m 0 h, a.high))
 
 pub one_high_byte : (text : List ℕ) (m n : ℕ) → IsFirstHighByte text m → IsFirstHighByte text n → m ≡ n
 one_high_byte text m n a b = omega (arith, not_before text m n a b, not_before text n m b a)

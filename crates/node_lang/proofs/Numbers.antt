@@ -19,8 +19,7 @@ read_more n m i ds h e grown = rw grown (sym (rw (add-one, drop-cons ds i 0) ref
 pub too_large : (n m i : ℕ) (ds : List ℕ) → i < length ds → read_on n (drop i ds) ≡ read_on 0 ds →
     m ≡ 10 * n + (get_or ds i 0 - 48) →
     m ≤ read_on 0 ds
-too_large n m i ds h e grown = let done = read_more n m i ds h e grown in
-    let more = read_on-le m (drop (i + 1) ds) in omega arith
+too_large n m i ds h e grown = grind (arith, read_more n m i ds, read_on-le)
 
 -- all digits are read
 pub all_read : (n i : ℕ) (ds : List ℕ) → length ds ≤ i → read_on n (drop i ds) ≡ read_on 0 ds → n ≡ read_on 0 ds

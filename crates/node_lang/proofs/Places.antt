@@ -1,6 +1,6 @@
 -- A place in a program: the tokens before it, and what is left of the program after them. Reading meets at the next
 -- token exactly the fault that is there, or none.
-use Rattle.std.proofs.Common.{◌≡◌, ℕ, ◌+◌, ◌<◌, Option, Some, None, List, [], ◌∷◌, ◌++◌, length, take, drop, append_assoc, append-nil, refl, sym, subst, ap, ◌∙◌, arith, add-one, ◌≢◌, zero, suc, ◌-◌, ◌≤◌, ◌==◌, nat_le, ◌&&◌, true, false}
+use Rattle.std.proofs.Common.{rules, ◌≡◌, ℕ, ◌+◌, ◌<◌, Option, Some, None, List, [], ◌∷◌, ◌++◌, length, take, drop, append_assoc, append-nil, refl, sym, subst, ap, ◌∙◌, arith, add-one, ◌≢◌, zero, suc, ◌-◌, ◌≤◌, ◌==◌, nat_le, ◌&&◌, true, false}
 use Rattle.std.specs.Prelude.{All, fold, sum_by}
 use Rattle.std.proofs.Math.Seq.{take-append_seam, drop-append_seam}
 use Rattle.std.proofs.lemmas.Bool.{cond_both, eq-eqb}
@@ -137,16 +137,8 @@ body_ends i c r fits some few least most =
     (λ start many. rounds_end i r (λ ms. header i c r (marked_assignments 0 start ms)) _
     (λ steps counts each finish. record {
       each_register = rw many each;
-      limits = λ small nodes. record {
-        rounds = omega (arith, counts, fits);
-        some_channels = some;
-        few_channels = few;
-        some_registers = omega (arith, many, least);
-        few_registers = omega (arith, many, most);
-        each_register = rw many each;
-        small = small;
-        nodes = nodes;
-      };
+      limits = λ small nodes.
+          let each_register : All (λ (s : Round). length s.next ≡ length start) steps = rw many each in search rules;
       are = rw (many, counts) refl;
     }))
 
@@ -344,9 +336,7 @@ wanted {before} {depth = depth} {t = t} {w = w} p b =
     let tokens = unmarked_next b.marks_before before (here ∷ b.marks_after) b.tokens_before in
     let n = next_of t (unmarked b.marks_after) p b.program b.each_register
     (sym (unmarked_program b.program) ∙ ap unmarked b.are ∙ tokens) in
-    let lengths : length p.marks ≡ length b.marks_before =
-    sym (length-map p.marks (λ (m : Mark). m.token)) ∙ ap length (p.tokens ∙ sym b.tokens_before)
-    ∙ length-map b.marks_before (λ (m : Mark). m.token) in
+    let lengths = simp length-map at (ap length (p.tokens ∙ sym b.tokens_before)) in
     let there : Mark = node t (depth_next w) in
     let same = same_front p.marks b.marks_before n.after.left b.marks_after there here lengths
     (sym (n.after.are ∙ append_assoc p.marks (there ∷ []) n.after.left) ∙ b.are) in
@@ -431,7 +421,7 @@ out_met w n t o = absurd o
 
 out_steps : (w : Rest) (t : Token) → IsOut w t → step w t ≡ None → ⊥
 out_steps (ANumber low high w) (token.Number k) o none = cc
-out_steps w t o none = absurd o
+out_steps w t o none = o
 
 -- a number that fails the test is out of range
 outside : (low high n : ℕ) → (nat_le low n && nat_le n high) ≡ false → IsOutside low high n

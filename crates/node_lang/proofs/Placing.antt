@@ -21,8 +21,7 @@ lexemes_in text = joined (length text) (split_of text).word (split_of text).rest
 
 lexemes_of-blanked : (text : List ℕ) → lexemes_of text ≡ lexemes_in (blanked false text)
 unfolding lexemes_of
-lexemes_of-blanked text = ap (λ n. joined n (split_of (blanked false text)).word (split_of (blanked false text)).rest)
-    (sym (length-blanked false text))
+lexemes_of-blanked text = rw (length-blanked false text) refl
 
 word_no_comment : (b : ℕ) → is_word_byte b ≡ true → (b == 35) ≡ false
 word_no_comment b h = grind (arith, nat_tests)
@@ -87,8 +86,7 @@ splits_no_byte b bs h =
     let empty = no_word_first b bs h in
     record {
       word = empty;
-      rest = sym (lexemes_of-blanked (b ∷ bs)
-          ∙ ap (λ w. joined (length (blanked false (b ∷ bs))) w (split_of (blanked false (b ∷ bs))).rest) empty);
+      rest = sym (rw empty at (lexemes_of-blanked (b ∷ bs)));
     }
 
 splits_word : (text : List ℕ) → SplitsWord text (prefix_len is_word_byte text)

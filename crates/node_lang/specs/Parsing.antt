@@ -63,29 +63,22 @@ pair_of operand = do
 abbrev pub opened : ℕ → ℕ → Reader (Unit {0})
 opened levels from = node levels from >> exactly token.Open
 
--- the operands of an operation, up to the parenthesis that closes them
-abbrev pub operand_of : UnOp → Reader Term → Reader Term
-operand_of op operand = do
-  a ← marked operand token.Close
-  done (One op a)
-
-abbrev pub operands_of : BinOp → Reader Term → Reader Term
-operands_of op operand = do
-  p ← pair_of operand
-  done (Two op p.0 p.1)
-
-abbrev pub operands_of_if : Reader Term → Reader Term
-operands_of_if operand = do
-  c ← marked operand token.Comma
-  p ← pair_of operand
-  done (Choose c p.0 p.1)
-
 -- the rest of an operation, with this many levels left, from its node's count on
 abbrev pub after_one : UnOp → ℕ → ℕ → Reader Term
-after_one op levels from = opened levels from >> operand_of op (operand levels)
+after_one op levels from = do
+  opened levels from
+  a ← marked (operand levels) token.Close
+  done (One op a)
 
 abbrev pub after_two : BinOp → ℕ → ℕ → Reader Term
-after_two op levels from = opened levels from >> operands_of op (operand levels)
+after_two op levels from = do
+  opened levels from
+  p ← pair_of (operand levels)
+  done (Two op p.0 p.1)
 
 abbrev pub after_if : ℕ → ℕ → Reader Term
-after_if levels from = opened levels from >> operands_of_if (operand levels)
+after_if levels from = do
+  opened levels from
+  c ← marked (operand levels) token.Comma
+  p ← pair_of (operand levels)
+  done (Choose c p.0 p.1)
