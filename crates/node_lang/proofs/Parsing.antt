@@ -38,8 +38,7 @@ next_read : {A : Type 0} (part : ℕ → ℕ → List Lexeme → Read A) (high j
     each part (high - j) j parts nodes left
     ≡ go_on r (λ a n l. each part (high - (j + 1)) (j + 1) (parts ++ (a ∷ [])) n l)
 next_read part high j parts nodes left r h e =
-    rw (let e : high - j ≡ suc (high - (j + 1)) = omega arith in
-    e) (ap (λ r. go_on r (λ a n l. each part (high - (j + 1)) (j + 1) (parts ++ (a ∷ [])) n l)) e)
+    rw (let step : high - j ≡ suc (high - (j + 1)) = omega arith in step, e) refl
 
 pub one_read : {T A : Type 0} {tree : T → A} {part : ℕ → ℕ → List Lexeme → Read A} {high j : ℕ}
     {parts longer : List T} {old now new : Parser} (v : T) → j < high →

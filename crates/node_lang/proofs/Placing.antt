@@ -1,5 +1,5 @@
 -- The lexemes of a text that begins with a blank, a comment, a mark or a word.
-use Rattle.std.proofs.Common.{◌≡◌, ℕ, suc, ◌+◌, ◌-◌, ◌<◌, ◌≤◌, ◌==◌, Bool, true, false, not, List, [], ◌∷◌, length, get_or, take, drop, refl, sym, ap, subst, ◌∙◌, arith, add-one}
+use Rattle.std.proofs.Common.{◌≡◌, ℕ, suc, ◌+◌, ◌-◌, ◌<◌, ◌≤◌, ◌==◌, Bool, true, false, not, List, [], ◌∷◌, length, get_or, take, drop, refl, sym, ap, ◌∙◌, arith, add-one}
 use Rattle.std.proofs.Math.Seq.{drop-cons, drop-length}
 use Rattle.std.proofs.lemmas.Bool.{cond_both, eqb-true, ne_eqb}
 use Rattle.std.proofs.lemmas.Bool.Decides.{nat_tests}
@@ -23,15 +23,9 @@ lexemes_of-blanked : (text : List ℕ) → lexemes_of text ≡ lexemes_in (blank
 unfolding lexemes_of
 lexemes_of-blanked text = rw (length-blanked false text) refl
 
-word_no_comment : (b : ℕ) → is_word_byte b ≡ true → (b == 35) ≡ false
-word_no_comment b h = grind (arith, nat_tests)
-
-blank_alone : (b : ℕ) → is_blank b ≡ true → ((b == 35) ≡ false) × (is_word_byte b ≡ false)
-blank_alone b h = (grind (arith, nat_tests), grind (arith, nat_tests))
-
 pub blank_in_front : (b : ℕ) (bs : List ℕ) → is_blank b ≡ true → lexemes_of (b ∷ bs) ≡ lexemes_of bs
 unfolding lexemes_of
-blank_in_front b bs h = let alone = blank_alone b h in rw (alone.0, alone.1, h, length-blanked false bs) refl
+blank_in_front b bs h = grind (arith, nat_tests, length-blanked false bs)
 
 pub mark_in_front : (b : ℕ) (bs : List ℕ) → is_word_byte b ≡ false → is_blank b ≡ false → (b == 35) ≡ false →
     lexemes_of (b ∷ bs) ≡ record { from = suc (length bs); token = mark_token b } ∷ lexemes_of bs
@@ -49,10 +43,7 @@ one-add n = omega arith
 comment_step : (b : ℕ) (bs : List ℕ) (t : Bool) → (b == 10) ≡ t →
     lexemes_in (blanked true bs) ≡ lexemes_in (blanked false (drop (prefix_len in_line bs) bs)) →
     lexemes_in (blanked true (b ∷ bs)) ≡ lexemes_in (blanked false (drop (prefix_len in_line (b ∷ bs)) (b ∷ bs)))
-comment_step b bs true e rest =
-    let P : ℕ → Type 0 = λ c. lexemes_in (blanked true (c ∷ bs))
-    ≡ lexemes_in (blanked false (drop (prefix_len in_line (c ∷ bs)) (c ∷ bs))) in
-    subst P (sym (eqb-true b 10 e)) refl
+comment_step b bs true e rest = rw (eqb-true b 10 e) refl
 comment_step b bs false e rest =
     rw e (rest ∙ ap (λ n. lexemes_in (blanked false (drop n (b ∷ bs)))) (sym (one-add (prefix_len in_line bs))))
 
@@ -77,8 +68,8 @@ pub record SplitsWord (text : List ℕ) (n : ℕ) : Type 0 where
 splits_byte : (b : ℕ) (bs : List ℕ) (n : ℕ) → is_word_byte b ≡ true → SplitsWord bs n → SplitsWord (b ∷ bs) (suc n)
 splits_byte b bs n h after =
     record {
-      word = rw (word_no_comment b h, h) (ap (λ w. b ∷ w) after.word);
-      rest = rw (word_no_comment b h, h) after.rest;
+      word = grind (arith, nat_tests, after.word);
+      rest = grind (arith, nat_tests, after.rest);
     }
 
 splits_no_byte : (b : ℕ) (bs : List ℕ) → is_word_byte b ≡ false → SplitsWord (b ∷ bs) 0

@@ -44,12 +44,8 @@ pub record IsWord (word : List ℕ) (t : Token) : Type 0 where
 pub word_first : (word rest : List ℕ) (t : Token) → IsWord word t → EndsWord rest →
     tokens_of (word ++ rest) ≡ t ∷ tokens_of rest
 word_first word rest t is ends =
-    let front = take-append_seam word rest in
-    let after = drop-append_seam word rest in
-    ap tokens_in (word_token_first (word ++ rest) (length word)
-    (sym (letters_in_front word rest is.letters ends)) is.some)
-    ∙ (λ i. word_token (front i) ∷ tokens_of (after i))
-    ∙ ap (λ t. t ∷ tokens_of rest) is.token
+    ap tokens_in (rw (take-append_seam word rest, drop-append_seam word rest, is.token) at
+    (word_token_first (word ++ rest) (length word) (sym (letters_in_front word rest is.letters ends)) is.some))
 
 digit_is_letter : (b : ℕ) → is_digit b ≡ true → is_word_byte b ≡ true
 digit_is_letter b h = grind (arith, nat_tests)
