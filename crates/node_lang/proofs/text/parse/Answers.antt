@@ -1,6 +1,7 @@
 use Rattle.std.proofs.Common.{ap, Err, refl, arith}
 use Rattle.node_lang.specs.Faults as fault
 use Rattle.node_lang.specs.declared.fault.FaultKind.TheVariants as kind
+use Rattle.node_lang.specs.declared.parser.Parser.{Parser}
 use Rattle.node_lang.proofs.Judging.{Outcome, one_high_byte, outcome}
 use Rattle.node_lang.proofs.text.parse.Goals as goal
 
@@ -19,8 +20,9 @@ returns-in-Some-clause-not_ascii c offset short first =
 -- what the parser returns of the whole text
 whole_outcome : (c : goal.After-whole) → Outcome c.args.text.now c.whole.result
 whole_outcome c =
-    outcome (record { alloc = c.args.alloc; text = c.args.text; at = 0; nodes = 0; within = omega arith; few = omega arith })
-    c.whole.new.self c.whole.result refl refl c.if-text-gt-LONGEST_TEXT.false c.in_default.ensures.none c.whole.ensures
+    let fresh : Parser =
+    record { alloc = c.args.alloc; text = c.args.text; at = 0; nodes = 0; within = omega arith; few = omega arith } in
+    outcome fresh c.whole.new.self c.whole.result refl refl c.if-text-gt-LONGEST_TEXT.false c.in_default.ensures.none c.whole.ensures
 
 pub returns-clause-program : goal.returns-clause-program
 returns-clause-program c = (whole_outcome c).program

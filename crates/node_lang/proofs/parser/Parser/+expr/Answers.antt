@@ -24,4 +24,5 @@ unfolding three_of
 expr-returns-in-If t c =
     let first : Token × ℕ = (c.in_ok-token.token, c.in_ok-token.offset) in
     gives_operation c.args.self.now c.next.new.self c.choose.new.self c.args.levels first c.choose.result _ _ _
-    c.in_ok-token.ensures.reads (ap (after (operand c.args.levels)) c.in-If.is) (λ n l. simp go_on_assoc) c.choose.ensures
+    c.in_ok-token.ensures.reads (ap (after (operand c.args.levels)) c.in-If.is) (λ n l. simp go_on_assoc)
+    c.choose.ensures
