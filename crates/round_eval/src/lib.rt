@@ -3,6 +3,7 @@
 #![tactic(auto)]
 
 mod configuration;
+mod fault;
 mod gate;
 mod laws;
 mod node;
@@ -11,6 +12,7 @@ mod row;
 mod value;
 
 pub use configuration::{Configuration, Reading};
+pub use fault::{ThreadFault, WorkFault};
 pub use gate::{Gate, OpenGate};
 pub use laws::{rows_are_taken, rows_are_written, stretches_are_rows};
 pub use node::{channel, messages, sent_to_left, sent_to_right, start_state, step};
