@@ -1,13 +1,12 @@
 -- Scratch for reading the channels of a block's windows.
-use Rattle.std.specs.Prelude.{◌≡◌, ℕ, ◌+◌, ◌*◌, ◌<◌, ◌≤◌, List, [], length, slice_index, slice_index_or}
+use Rattle.std.specs.Prelude.{◌≡◌, ℕ, ◌<◌, ◌≤◌, [], length, slice_index_or}
 use Rattle.node_program.specs.Term.{terms}
 use Rattle.win_index.specs.declared.limits.TheConstants.{BLOCK_WINDOWS}
 use Rattle.lang_check.specs.Plans.{ProgramForIds}
 use Rattle.round_columns.specs.Room.{Room}
 use Rattle.round_columns.specs.States.{NodeStates, HasSize}
 use Rattle.column_machine.specs.StackNeed.{most_columns}
-use Rattle.window_states.specs.BlockStates.{MadeBlock, block_len, block_state, window_numbered}
-use Rattle.table_entries.specs.ProgramTables.{window_channel}
+use Rattle.window_states.specs.BlockStates.{MadeBlock, block_len, block_state}
 use Rattle.table_entries.specs.declared.entry_columns.EntryColumns.{EntryColumns}
 
 -- columns to evaluate the program of the plan at BLOCK_WINDOWS windows
@@ -26,9 +25,3 @@ pub record IsChannelRoom (plan : ProgramForIds) (scratch : EntryColumns) : Type 
   pub work : IsWorkRoom plan scratch.work
   pub states_wide : HasSize BLOCK_WINDOWS (length plan.program.start) scratch.states
   pub channels_wide : length scratch.channels.items ≡ BLOCK_WINDOWS
-
--- the channels of the windows of block b of the last level, each below the number of channels
-abbrev pub AreChannels : ProgramForIds → ℕ → List ℕ → Type 0
-AreChannels plan b channels = (i : ℕ) → i < block_len plan.ids (length plan.program.steps) b
-    → (slice_index channels i ≡ window_channel plan.program (window_numbered plan.ids (length plan.program.steps) (BLOCK_WINDOWS * b + i)))
-    × (slice_index channels i < plan.program.channels)

@@ -1,50 +1,43 @@
 -- Shares of the entries of a table, before and after they are read. No public contract cites this file.
-use Rattle.std.specs.Prelude.{◌≡◌, ℕ, ◌+◌, ◌*◌, ◌/◌, ◌<◌, ◌≤◌, List, Some, length, min, slice_get, slice_index_or, vec_len, vec_capacity}
+use Rattle.std.specs.Prelude.{◌≡◌, ℕ, ◌+◌, ◌-◌, ◌*◌, ◌<◌, ◌≤◌, List, Some, length, min, slice_get, slice_index_or, vec_len, vec_capacity}
 use Rattle.std.specs.Int.{div_ceil}
 use Rattle.lang_check.specs.Plans.{ProgramForIds}
-use Rattle.win_index.specs.Blocks.{window_count}
 use Rattle.win_index.specs.declared.limits.TheConstants.{BLOCK_WINDOWS}
 use Rattle.table_entries.specs.ChannelRoom.{IsChannelRoom}
-use Rattle.table_entries.specs.EntryShares.{AreEntries, IsShare}
+use Rattle.table_entries.specs.EntryShares.{windows_of, blocks_of, AreEntries}
 use Rattle.table_entries.specs.declared.share.Share.{Share}
 
--- the number of windows of the last level
-abbrev pub windows_of : ProgramForIds → ℕ
-windows_of plan = window_count plan.ids (length plan.program.steps)
+-- the number of windows of the first b blocks of the last level, as far as there are so many
+abbrev pub windows_before : ProgramForIds → ℕ → ℕ
+windows_before plan b = min (BLOCK_WINDOWS * b) (windows_of plan)
 
--- the number of blocks of a share, if this many windows are read in this many shares of the same length
-abbrev pub share_blocks : ℕ → ℕ → ℕ
-share_blocks windows count = div_ceil (div_ceil windows BLOCK_WINDOWS) count
+-- the number of blocks of each of this many shares
+abbrev pub share_blocks : ProgramForIds → ℕ → ℕ
+share_blocks plan count = div_ceil (blocks_of plan) count
 
--- the window with which share k begins, if each share has this many blocks: at most the number of windows
-abbrev pub share_start : (windows each k : ℕ) → ℕ
-share_start windows each k = min (BLOCK_WINDOWS * (each * k)) windows
-
--- share k: its windows are those up to the next share, and it has scratch and capacity for them
-pub record IsShareAt (plan : ProgramForIds) (each k : ℕ) (share : Share) : Type 0 where
-  pub first_is : share.first ≡ share_start (windows_of plan) each k / BLOCK_WINDOWS
-  pub windows_is : share_start (windows_of plan) each k + share.windows ≡ share_start (windows_of plan) each (k + 1)
+-- a share that can be read: it has scratch, and capacity for the entries of its blocks, which are blocks of the last level
+pub record IsReady (plan : ProgramForIds) (share : Share) : Type 0 where
+  pub order : share.first ≤ share.end
+  pub within : share.end ≤ blocks_of plan
   pub columns : IsChannelRoom plan share.columns
-  pub room : share.windows ≤ vec_capacity share.entries
-  -- the first one has capacity for all
+  pub empty : vec_len share.entries ≡ 0
+  pub room : BLOCK_WINDOWS * (share.end - share.first) ≤ vec_capacity share.entries
+
+-- share k, if each has this many blocks, as far as there are so many; the first one has capacity for all entries
+pub record IsShareAt (plan : ProgramForIds) (each k : ℕ) (share : Share) : Type 0 where
+  pub ready : IsReady plan share
+  pub first_is : share.first ≡ min (each * k) (blocks_of plan)
+  pub end_is : share.end ≡ min (each * (k + 1)) (blocks_of plan)
   pub all : k ≡ 0 → windows_of plan ≤ vec_capacity share.entries
 
 -- all shares, in order
 pub record AreShares (plan : ProgramForIds) (shares : List Share) : Type 0 where
   pub some : 0 < length shares
-  pub each : (k : ℕ) (s : Share) → slice_get shares k ≡ Some s
-      → IsShareAt plan (share_blocks (windows_of plan) (length shares)) k s
-
--- a share that can be read
-pub record IsReady (plan : ProgramForIds) (share : Share) : Type 0 where
-  pub part : IsShare plan share.first share.windows
-  pub columns : IsChannelRoom plan share.columns
-  pub room : share.windows ≤ vec_capacity share.entries
+  pub each : (k : ℕ) (s : Share) → slice_get shares k ≡ Some s → IsShareAt plan (share_blocks plan (length shares)) k s
 
 -- a share before and after it was read
 pub record HasRead (plan : ProgramForIds) (old new : Share) : Type 0 where
-  pub size : vec_len new.entries ≡ old.windows
-  pub entries : AreEntries plan (BLOCK_WINDOWS * old.first) new.entries.items
+  pub entries : AreEntries plan (windows_before plan old.first) (windows_before plan old.end) new.entries.items
   pub room : vec_capacity old.entries ≤ vec_capacity new.entries
 
 -- all shares before and after they were read
@@ -53,12 +46,11 @@ AllRead plan old new = (k : ℕ) (d : Share) → k < length old → HasRead plan
 
 -- share k, read
 pub record IsReadAt (plan : ProgramForIds) (each k : ℕ) (share : Share) : Type 0 where
-  pub size : share_start (windows_of plan) each k + vec_len share.entries ≡ share_start (windows_of plan) each (k + 1)
-  pub entries : AreEntries plan (BLOCK_WINDOWS * (share_start (windows_of plan) each k / BLOCK_WINDOWS)) share.entries.items
+  pub entries : AreEntries plan (windows_before plan (each * k)) (windows_before plan (each * (k + 1))) share.entries.items
   pub all : k ≡ 0 → windows_of plan ≤ vec_capacity share.entries
 
--- all shares, read
-pub record AreRead (plan : ProgramForIds) (shares : List Share) : Type 0 where
-  pub some : 0 < length shares
-  pub each : (k : ℕ) (s : Share) → slice_get shares k ≡ Some s
-      → IsReadAt plan (share_blocks (windows_of plan) (length shares)) k s
+-- the shares from share `from` on, of this many, read
+abbrev pub AreReadFrom : ProgramForIds → ℕ → ℕ → List Share → Type 0
+AreReadFrom plan count from shares =
+    (length shares + from ≡ count)
+    × ((k : ℕ) (s : Share) → slice_get shares k ≡ Some s → IsReadAt plan (share_blocks plan count) (from + k) s)

@@ -1,6 +1,6 @@
 //! Scratch to read the channels of blocks.
 
-use crate::block_channels::{put_block, write_channels, write_entries};
+use crate::block_channels::{append_below, put_block, write_channels};
 use node_program::OutOfMemory;
 use round_columns::{Code, Columns, Work};
 use round_eval::width_of;
@@ -17,11 +17,11 @@ pub(crate) struct EntryColumns {
 }
 
 impl EntryColumns {
-    ghost use Rattle.std.specs.Prelude.{◌≡◌, ◌*◌, length, IfOk};
-    ghost use Rattle.window_states.specs.BlockStates.{IsKeyedBlock};
+    ghost use Rattle.std.specs.Prelude.{◌≡◌, ℕ, ◌+◌, ◌*◌, ◌≤◌, length, vec_len, vec_capacity, IfOk};
+    ghost use Rattle.win_index.specs.declared.limits.TheConstants.{BLOCK_WINDOWS};
+    ghost use Rattle.window_states.specs.BlockStates.{IsKeyedBlock, block_len};
     ghost use Rattle.table_entries.specs.ChannelRoom.{IsChannelRoom};
     ghost use Rattle.table_entries.specs.EntryShares.{AreEntries};
-    ghost use Rattle.window_states.specs.BlockStates.{block_len};
 
     // Allocates scratch for the blocks of a plan, or returns the error that memory was refused.
     pub(crate) fn new(alloc: Global, code: &Code<'_>) -> Result<EntryColumns, OutOfMemory>
@@ -38,13 +38,20 @@ impl EntryColumns {
         })
     }
 
-    // Writes the channels of the windows of a block of the last level.
-    pub(crate) fn write_block(&mut self, code: &Code<'_>, block: &Block<'_>, entries: &mut [u16])
+    // Appends the channels of the windows of a block of the last level to the entries before them.
+    pub(crate) fn append_block(
+        &mut self,
+        code: &Code<'_>,
+        block: &Block<'_>,
+        entries: &mut Vec<u16>,
+    )
         requires room { IsChannelRoom code.now self.old }
         requires block { IsKeyedBlock code.now (length code.now.program.steps) block.now.number block.now }
-        requires size { length entries.old ≡ block_len code.now.ids (length code.now.program.steps) block.now.number }
+        requires space { vec_len entries.old + block_len code.now.ids (length code.now.program.steps) block.now.number ≤ vec_capacity entries.old }
         ensures room { IsChannelRoom code.now self.new }
-        ensures entries { AreEntries code.now (BLOCK_WINDOWS * block.now.number) entries.new }
+        ensures entries { (first : ℕ) → AreEntries code.now first (BLOCK_WINDOWS * block.now.number) entries.old.items
+            → AreEntries code.now first (BLOCK_WINDOWS * block.now.number + block_len code.now.ids (length code.now.program.steps) block.now.number) entries.new.items }
+        ensures capacity { vec_capacity entries.new ≡ vec_capacity entries.old }
     {
         put_block(block, &mut self.states);
         write_channels(
@@ -54,6 +61,10 @@ impl EntryColumns {
             &mut self.work,
             &mut self.channels,
         );
-        write_entries(&self.channels, block, entries)
+        append_below(
+            &self.channels[..block.len() as usize],
+            code.plan().program().channels(),
+            entries,
+        );
     }
 }

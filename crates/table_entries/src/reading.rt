@@ -1,7 +1,7 @@
 //! The reading of a table.
 
 use crate::share::Share;
-use crate::shares::{joined, read_shares, shares_of};
+use crate::shares::{entries_of, shares_of};
 use channel_tables::Table;
 use node_program::OutOfMemory;
 use round_columns::Code;
@@ -37,9 +37,8 @@ impl<'c, 'p> Model for EntryReader<'c, 'p> {
 }
 
 impl<'c, 'p> EntryReader<'c, 'p> {
-    ghost use Rattle.std.specs.Prelude.{◌≡◌, ◌<◌, ◌≤◌, length, IfOk};
-    ghost use Rattle.win_index.specs.Blocks.{window_count};
-    ghost use Rattle.table_entries.specs.EntryShares.{AreLastBlocks, share_count};
+    ghost use Rattle.std.specs.Prelude.{◌≡◌, ◌<◌, ◌≤◌, IfOk};
+    ghost use Rattle.table_entries.specs.EntryShares.{windows_of, AreLastBlocks, share_count};
     ghost use Rattle.table_entries.specs.ProgramTables.{table_of};
 
     /// Allocates memory to read the table of a plan in one share for each 64 blocks that are begun,
@@ -51,8 +50,7 @@ impl<'c, 'p> EntryReader<'c, 'p> {
     ) -> Result<EntryReader<'c, 'p>, OutOfMemory>
         requires { 0 < shares }
         ensures plan { IfOk result (λ reader. reader.plan ≡ code.entry.now) }
-        ensures shares { IfOk result (λ reader. reader.shares
-            ≡ share_count shares (window_count code.entry.now.ids (length code.entry.now.program.steps))) }
+        ensures shares { IfOk result (λ reader. reader.shares ≡ share_count shares (windows_of code.entry.now)) }
         ensures few { IfOk result (λ reader. reader.shares ≤ shares) }
     {
         let shape = code.plan().shape();
@@ -71,32 +69,13 @@ impl<'c, 'p> EntryReader<'c, 'p> {
     }
 }
 
-ghost use Rattle.std.specs.Prelude.{◌≡◌, length, vec_len};
-ghost use Rattle.table_entries.specs.EntryShares.{AreLastBlocks, AreEntries};
+ghost use Rattle.std.specs.Prelude.{◌≡◌};
+ghost use Rattle.table_entries.specs.EntryShares.{windows_of, AreEntries};
 ghost use Rattle.table_entries.specs.ProgramTables.{table_of};
-ghost use Rattle.table_entries.specs.Shares.{AreShares};
-ghost use Rattle.win_index.specs.Blocks.{window_count};
-
-// Reads the entries of a table in shares.
-fn entries_of<R: Threads + Sync>(
-    rt: &R,
-    code: &Code<'_>,
-    blocks: &[&Block<'_>],
-    mut shares: Vec<Share>,
-) -> Vec<u16>
-    requires shares { AreShares code.now shares.items }
-    requires blocks { AreLastBlocks code.now blocks.now }
-    ensures size { vec_len result ≡ window_count code.now.ids (length code.now.program.steps) }
-    ensures entries { AreEntries code.now 0 result.items }
-{
-    read_shares(rt, code, blocks, &mut shares);
-    joined(code, shares)
-}
 
 // Returns the table with these entries.
 fn table_with(code: &Code<'_>, entries: Vec<u16>) -> Table
-    requires size { vec_len entries ≡ window_count code.now.ids (length code.now.program.steps) }
-    requires entries { AreEntries code.now 0 entries.items }
+    requires { AreEntries code.now 0 (windows_of code.now) entries.items }
     ensures { result ≡ table_of code.now.program code.now.ids }
 {
     let plan = code.plan();

@@ -1,9 +1,8 @@
 //! The shares of the entries of a table, each of which a thread reads.
 
 ghost use Rattle.std.specs.Prelude.{◌≡◌, ◌-◌, ◌<◌, ◌≤◌, length, vec_len, All, IfOk};
-ghost use Rattle.win_index.specs.Blocks.{window_count};
-ghost use Rattle.table_entries.specs.EntryShares.{AreLastBlocks, AreEntries};
-ghost use Rattle.table_entries.specs.Shares.{AllRead, AreRead, AreShares, IsReady};
+ghost use Rattle.table_entries.specs.EntryShares.{windows_of, AreLastBlocks, AreEntries};
+ghost use Rattle.table_entries.specs.Shares.{AllRead, AreReadFrom, AreShares, IsReady};
 
 use crate::share::Share;
 use node_program::OutOfMemory;
@@ -25,32 +24,46 @@ pub(crate) fn shares_of(
     ensures shares { IfOk result (λ shares. AreShares code.now shares.items) }
 {
     let shape = code.plan().shape();
-    let windows = shape.count(shape.rounds()) as usize;
-    let width = BLOCK_WINDOWS as usize;
-    let len = windows.div_ceil(width).div_ceil(count) * width;
+    let blocks = shape.blocks(shape.rounds()) as usize;
+    let each = blocks.div_ceil(count);
     let mut shares = Vec::with_capacity(alloc, count)?;
-    let mut start = 0;
+    let mut first = 0;
     for _share in 0..count {
-        let end = (start + len).min(windows);
-        let capacity = capacity_of(start, end, windows);
-        shares.push_reserved(Share::new(alloc, code, start / width, end - start, capacity)?);
-        start = end;
+        let end = (first + each).min(blocks);
+        let capacity = BLOCK_WINDOWS as usize * held_blocks(first, end, blocks);
+        shares.push_reserved(Share::new(alloc, code, first, end, capacity)?);
+        first = end;
     }
     Ok(shares)
 }
 
-// Returns the capacity for the entries of the windows from `start` to `end`, or of all windows for
-// the first share.
-fn capacity_of(start: usize, end: usize, windows: usize) -> usize
-    requires { (start ≤ end) × (end ≤ windows) }
-    ensures own { end - start ≤ result }
-    ensures all { start ≡ 0 → windows ≤ result }
+// Returns the number of blocks from `first` up to `end`, or of all blocks for the first share.
+fn held_blocks(first: usize, end: usize, blocks: usize) -> usize
+    requires { (first ≤ end) × (end ≤ blocks) }
+    ensures own { end - first ≤ result }
+    ensures all { first ≡ 0 → blocks ≤ result }
+    ensures within { result ≤ blocks }
 {
-    if start == 0 { windows } else { end - start }
+    if first == 0 { blocks } else { end - first }
+}
+
+// Reads the entries of a table in shares, and returns them in order.
+pub(crate) fn entries_of<R: Threads + Sync>(
+    rt: &R,
+    code: &Code<'_>,
+    blocks: &[&Block<'_>],
+    mut shares: Vec<Share>,
+) -> Vec<u16>
+    requires shares { AreShares code.now shares.items }
+    requires blocks { AreLastBlocks code.now blocks.now }
+    ensures { AreEntries code.now 0 (windows_of code.now) result.items }
+{
+    read_shares(rt, code, blocks, &mut shares);
+    joined(code, shares)
 }
 
 // Reads the entries of all shares, each on a thread of its own if there are several.
-pub(crate) fn read_shares<R: Threads + Sync>(
+fn read_shares<R: Threads + Sync>(
     rt: &R,
     code: &Code<'_>,
     blocks: &[&Block<'_>],
@@ -72,15 +85,15 @@ pub(crate) fn read_shares<R: Threads + Sync>(
 
 // Returns the entries of all shares, in order. Each share is dropped as soon as its entries are
 // appended.
-pub(crate) fn joined(code: &Code<'_>, mut shares: Vec<Share>) -> Vec<u16>
-    requires { AreRead code.now shares.items }
-    ensures size { vec_len result ≡ window_count code.now.ids (length code.now.program.steps) }
-    ensures entries { AreEntries code.now 0 result.items }
+fn joined(code: &Code<'_>, mut shares: Vec<Share>) -> Vec<u16>
+    requires some { 0 < vec_len shares }
+    requires read { AreReadFrom code.now (vec_len shares) 0 shares.items }
+    ensures { AreEntries code.now 0 (windows_of code.now) result.items }
 {
     let count = shares.len();
     let Share {
         first: _,
-        windows: _,
+        end: _,
         columns: _,
         mut entries,
     } = shares.remove(0);

@@ -10,10 +10,10 @@ returns c =
     let p = c.args.code.now.program in
     let ws = windows (2 * length p.steps + 1) c.args.code.now.ids in
     let entries = c.args.entries.items in
-    let size : length entries ≡ length ws = sym c.args.entries.ok.0 ∙ c.requires.size in
+    let size : length entries ≡ length ws = omega (arith, c.requires.size) in
     let same : entries ≡ map (window_channel p) ws =
     ext_get_or 0 entries (map (window_channel p) ws) (size ∙ sym (length-map ws (window_channel p))) (λ i lt.
     let from_first : 0 + i ≡ i = omega arith in
-    (rw from_first at (c.requires.entries i lt).0) ∙ sym (get_or-map (window_channel p) ws i [] 0 (omega (arith, lt, size)))) in
+    (rw from_first at (c.requires.each i lt).0) ∙ sym (get_or-map (window_channel p) ws i [] 0 (omega (arith, lt, size)))) in
     let is = c.plan-plan.ensures in
     c.new.ensures ∙ table_with p c.args.code.now.ids _ (rw is at c.shape.ensures.ids) (rw is at c.shape.ensures.rounds) (rw (c.program.ensures.value, is) at c.channels.ensures.value) same

@@ -1,28 +1,39 @@
-use Rattle.std.proofs.Common.{rules, ◌≡◌, ℕ, ◌+◌, Some, length, subst, sym, arith}
+use Rattle.std.proofs.Common.{rules, ◌≡◌, ℕ, ◌+◌, ◌*◌, min, Some, length, subst, sym, ◌∙◌, ap, arith}
 use Rattle.std.specs.Prelude.{slice_get}
-use Rattle.table_entries.specs.Shares.{windows_of, share_blocks, share_start, IsShareAt}
+use Rattle.std.proofs.Math.Nat.{mul-add, mul-one, mul-zero}
+use Rattle.table_entries.specs.EntryShares.{blocks_of}
+use Rattle.table_entries.specs.Shares.{share_blocks, IsShareAt}
 use Rattle.table_entries.specs.declared.share.Share.{Share}
 use Rattle.win_index.proofs.Kept.{each_snoc}
-use Rattle.table_entries.proofs.SharePlaces.{one_more, share_at}
 use Rattle.table_entries.proofs.shares.shares_of.Goals as goal
 
 -- the next share begins where this one ends
 pub loop-share-preserved : goal.loop-share-preserved
 loop-share-preserved c =
     let plan = c.args.code.now in
-    let W = windows_of plan in
-    let each = share_blocks W c.args.count in
+    let each = share_blocks plan c.args.count in
     let k = c.loop-share._share in
     let inv = c.loop-share.invariant in
-    let windows : c.count-windows.result ≡ W = search rules in
-    let blocks : c.div_ceil-2.result ≡ each = search rules in
-    let next : c.min-end.result ≡ share_start W each (k + 1) = omega (arith, windows, blocks, c.min-end.ensures, inv.start_is, one_more each k) in
+    let blocks : c.blocks-blocks.result ≡ blocks_of plan = search rules in
+    let size : c.div_ceil-each.result ≡ each = search rules in
+    let more : each * (k + 1) ≡ each * k + each = mul-add each k 1 ∙ ap (λ n. each * k + n) (mul-one each) in
+    let next : c.min-end.result ≡ min (each * (k + 1)) (blocks_of plan) = omega (arith, blocks, size, c.min-end.ensures, inv.first_is, more) in
     let made = c.in_ok-new.ensures in
-    let at : IsShareAt plan each k c.in_ok-new.field-0 =
-    share_at plan each k c.loop-share.start c.min-end.result c.capacity_of-capacity.result c.count-windows.result c.in_ok-new.field-0 windows
-    inv.start_is next made.part.0 made.part.1 made.columns c.capacity_of-capacity.ensures.own c.capacity_of-capacity.ensures.all made.room in
+    let held = c.held_blocks.ensures in
+    let at : IsShareAt plan each k c.in_ok-new.field-0 = record {
+      ready = record {
+        order = omega (arith, made.part, next, more, inv.first_is);
+        within = omega (arith, made.part.1, next);
+        columns = made.columns;
+        empty = made.room.0;
+        room = omega (arith, made.part, made.room.1, held.own);
+      };
+      first_is = made.part.0 ∙ inv.first_is;
+      end_is = made.part.1 ∙ next;
+      all = λ zero. let none : each * k ≡ 0 = ap (λ n. each * n) zero ∙ mul-zero each in omega (arith, made.room.1, held.all (omega (arith, none, inv.first_is)), blocks);
+    } in
     record {
-      start_is = next;
+      first_is = next;
       count = search rules;
       room = search rules;
       each = rw c.push_reserved.ensures.items
@@ -35,6 +46,5 @@ returns-clause-shares c =
     let count : length c.loop-share.shares.items ≡ c.args.count = omega (arith, inv.count, c.loop-share-test.false, c.loop-share.auto._share-end) in
     record {
       some = omega (arith, count, c.requires);
-      each = subst (λ n. (k : ℕ) (s : Share) → slice_get c.loop-share.shares.items k ≡ Some s
-          → IsShareAt c.args.code.now (share_blocks (windows_of c.args.code.now) n) k s) (sym count) inv.each;
+      each = subst (λ n. (k : ℕ) (s : Share) → slice_get c.loop-share.shares.items k ≡ Some s → IsShareAt c.args.code.now (share_blocks c.args.code.now n) k s) (sym count) inv.each;
     }
