@@ -2,8 +2,8 @@
 use Rattle.std.specs.Prelude.{◌≡◌, ◌≢◌, ℕ, ◌+◌, ◌≤◌, Option, None, Some, IsSome, IsNone, vec_len}
 use Rattle.ring_exec.specs.Faults.{blamed}
 use Rattle.ring_exec.specs.Outcomes.{HasMore}
-use Rattle.ring_exec.specs.declared.fault.SegmentFault.TheVariants.{OutOfMemory}
-use Rattle.ring_exec.specs.declared.fault.CourseFault.TheVariants.{Segment, NoThread}
+use Rattle.round_eval.specs.declared.fault.WorkFault.TheVariants.{OutOfMemory}
+use Rattle.round_eval.specs.declared.fault.ThreadFault.TheVariants.{Work, NoThread}
 use Rattle.ring_exec.specs.declared.joined.Joined.{Joined}
 use Rattle.ring_exec.specs.declared.progress.Progress.{Progress}
 
@@ -25,7 +25,7 @@ HasStarted before after =
 pub record HasRefused (before after : Progress) : Type 0 where
   pub index : (before.index ≤ after.index) × (after.index ≤ before.index + 1)
   pub thread : after.index ≡ before.index + 1 → after.joined.fault ≡ Some (blamed before.joined.fault NoThread)
-  pub memory : after.index ≡ before.index → after.joined.fault ≡ Some (blamed before.joined.fault (Segment OutOfMemory))
+  pub memory : after.index ≡ before.index → after.joined.fault ≡ Some (blamed before.joined.fault (Work OutOfMemory))
 
 -- after the end of a run in which so many segments were not started yet: without a fault, the outcomes of its threads
 -- and of these segments were added

@@ -4,17 +4,16 @@ ghost use Rattle.ring_exec.specs.Courses.{HasEnded, HasRefused, HasStarted, IsOn
 ghost use Rattle.ring_exec.specs.Outcomes.{HasMore};
 ghost use Rattle.ring_exec.specs.Seats.{AreSeatsOf};
 ghost use Rattle.border_exchange.specs.declared.Side.TheVariants.{Leftward};
-ghost use Rattle.ring_exec.specs.declared.fault.SegmentFault.TheVariants.{OutOfMemory as NoMemory};
-ghost use Rattle.ring_exec.specs.declared.fault.CourseFault.TheVariants.{Segment as OfSegment, NoThread};
+ghost use Rattle.round_eval.specs.declared.fault.WorkFault.TheVariants.{OutOfMemory as NoMemory};
+ghost use Rattle.round_eval.specs.declared.fault.ThreadFault.TheVariants.{Work, NoThread};
 
 use crate::border_name::{Blanks, BorderName};
 use crate::end::{Edge, End, RightEnd, new_border};
-use crate::fault::CourseFault;
 use crate::joined::Joined;
 use crate::progress::Progress;
 use crate::runner::{Outcome, Runner, Shared};
 use ring_segments::{Msg, Segment};
-use round_eval::Gate;
+use round_eval::{Gate, ThreadFault};
 use std::sync::Wait;
 use std::thread::{JoinHandle, Scope, Threads};
 
@@ -101,7 +100,7 @@ fn start_next<
     progress: &mut Progress<'a>,
     left: End<Msg<'a>, B>,
     blanks: Blanks,
-) -> Result<Edge<Msg<'a>, N>, CourseFault>
+) -> Result<Edge<Msg<'a>, N>, ThreadFault>
     requires right { (blanks.right.name ≡ N.rightward) × (blanks.right.parts ≡ 1) }
     requires left { (blanks.left.name ≡ N.leftward) × (blanks.left.parts ≡ 1) }
     requires seat { left.seat ≡ record { side = Leftward; puts = 0 } }
@@ -111,7 +110,7 @@ fn start_next<
         × (vec_len progress.new.threads ≡ vec_len progress.old.threads + 1)) }
     ensures index { (progress.old.index ≤ progress.new.index) × (progress.new.index ≤ progress.old.index + 1) }
     ensures no_thread { IfErr result (λ fault. (fault ≡ NoThread) ↔ (progress.new.index ≡ progress.old.index + 1)) }
-    ensures no_memory { IfErr result (λ fault. (fault ≡ OfSegment NoMemory) ↔ (progress.new.index ≡ progress.old.index)) }
+    ensures no_memory { IfErr result (λ fault. (fault ≡ Work NoMemory) ↔ (progress.new.index ≡ progress.old.index)) }
     ensures joined { progress.new.joined ≡ progress.old.joined }
 {
     let Some(segment) = progress.waiting.pop() else {

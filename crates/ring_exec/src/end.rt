@@ -4,13 +4,13 @@ ghost use Rattle.border_exchange.specs.SeatState.{IsNext};
 ghost use Rattle.border_exchange.specs.declared.Side.TheVariants.{Rightward, Leftward};
 ghost use Rattle.node_program.specs.declared.limits.TheConstants.{MAX_ROUNDS};
 ghost use Rattle.ring_exec.specs.Sides.{opposite};
-ghost use Rattle.ring_exec.specs.declared.fault.SegmentFault.TheVariants.{Stranger};
+ghost use Rattle.round_eval.specs.declared.fault.WorkFault.TheVariants.{Stranger};
 
 use crate::border_name::{Blanks, BorderName, LeftLedger, RightLedger};
-use crate::fault::SegmentFault;
 use border_exchange::{Border, Dated, PutFault, Seat, Side};
 use node_program::OutOfMemory;
 use ring_segments::Strange;
+use round_eval::WorkFault;
 use std::alloc::Global;
 use std::sync::{Arc, Wait};
 
@@ -20,7 +20,7 @@ pub(crate) enum Stop {
     // One of its borders is closed.
     BorderClosed,
     // The segment's own fault.
-    Fault(SegmentFault),
+    Fault(WorkFault),
 }
 
 // The stop of a segment whose message was not put.
@@ -32,8 +32,8 @@ impl<M: Drop> From<(M, PutFault)> for Stop {
     fn from(refused: (M, PutFault)) -> Stop {
         match refused.1 {
             PutFault::Closed => Stop::BorderClosed,
-            PutFault::Misplaced => Stop::Fault(SegmentFault::Stranger),
-            PutFault::OutOfMemory => Stop::Fault(SegmentFault::OutOfMemory),
+            PutFault::Misplaced => Stop::Fault(WorkFault::Stranger),
+            PutFault::OutOfMemory => Stop::Fault(WorkFault::OutOfMemory),
         }
     }
 }
@@ -44,7 +44,7 @@ impl From<Strange> for Stop {
     ghost from_gives = { λ _ stop. stop ≡ Fault Stranger };
 
     fn from(_strange: Strange) -> Stop {
-        Stop::Fault(SegmentFault::Stranger)
+        Stop::Fault(WorkFault::Stranger)
     }
 }
 

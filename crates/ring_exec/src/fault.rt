@@ -1,11 +1,9 @@
-//! The faults of segments and runs.
+//! Why a run gave no channels.
 ghost use Rattle.std.specs.Prelude.{◌≡◌, ◌≢◌};
 ghost use Rattle.ring_exec.specs.Faults.{run_fault_of};
-ghost use Rattle.ring_exec.specs.declared.fault.SegmentFault.TheVariants.{OutOfMemory as NoMemory};
-ghost use Rattle.ring_exec.specs.declared.fault.CourseFault.TheVariants.{Segment};
+ghost use Rattle.ring_exec.specs.declared.fault.RunFault.TheVariants.{SegmentsOutOfRange};
 
-use node_program::OutOfMemory;
-use std::alloc::AllocError;
+use round_eval::{ThreadFault, WorkFault};
 
 /// Why a run gave no channels.
 #[derive(Clone, Copy, Debug, PartialEq, Eq, Drop)]
@@ -20,73 +18,14 @@ pub enum RunFault {
     NoThread,
 }
 
-// Why a segment did not reach its last round, or could not be kept.
-#[derive(Clone, Copy, Drop)]
-pub(crate) enum SegmentFault {
-    // Memory for it, for one of its messages or for the border to its right was refused.
-    OutOfMemory,
-    // A message was not the one that the segment needed.
-    Stranger,
-}
+impl From<ThreadFault> for RunFault {
+    ghost from_gives = { λ met fault. (fault ≡ run_fault_of met) × (fault ≢ SegmentsOutOfRange) };
 
-// Why a course gave no channels. The number of segments is in its range by then.
-#[derive(Clone, Copy, Drop)]
-pub(crate) enum CourseFault {
-    Segment(SegmentFault),
-    // The start of a segment's thread was refused.
-    NoThread,
-}
-
-impl From<OutOfMemory> for SegmentFault {
-    ghost from_gives = { λ _ fault. fault ≡ NoMemory };
-
-    fn from(_refused: OutOfMemory) -> SegmentFault {
-        SegmentFault::OutOfMemory
-    }
-}
-
-impl From<AllocError> for SegmentFault {
-    ghost from_gives = { λ _ fault. fault ≡ NoMemory };
-
-    fn from(_refused: AllocError) -> SegmentFault {
-        SegmentFault::OutOfMemory
-    }
-}
-
-impl From<SegmentFault> for CourseFault {
-    ghost from_gives = { λ segment fault. fault ≡ Segment segment };
-
-    fn from(fault: SegmentFault) -> CourseFault {
-        CourseFault::Segment(fault)
-    }
-}
-
-impl From<OutOfMemory> for CourseFault {
-    ghost from_gives = { λ _ fault. fault ≡ Segment NoMemory };
-
-    fn from(_refused: OutOfMemory) -> CourseFault {
-        CourseFault::Segment(SegmentFault::OutOfMemory)
-    }
-}
-
-impl From<AllocError> for CourseFault {
-    ghost from_gives = { λ _ fault. fault ≡ Segment NoMemory };
-
-    fn from(_refused: AllocError) -> CourseFault {
-        CourseFault::Segment(SegmentFault::OutOfMemory)
-    }
-}
-
-impl From<CourseFault> for RunFault {
-    ghost use Rattle.ring_exec.specs.declared.fault.RunFault.TheVariants.{SegmentsOutOfRange};
-
-    ghost from_gives = { λ course fault. (fault ≡ run_fault_of course) × (fault ≢ SegmentsOutOfRange) };
-
-    fn from(fault: CourseFault) -> RunFault {
+    fn from(fault: ThreadFault) -> RunFault {
         match fault {
-            CourseFault::Segment(SegmentFault::OutOfMemory) => RunFault::OutOfMemory,
-            CourseFault::Segment(SegmentFault::Stranger) => RunFault::Stranger,
-            CourseFault::NoThread => RunFault::NoThread,
+            ThreadFault::Work(WorkFault::OutOfMemory) => RunFault::OutOfMemory,
+            ThreadFault::Work(WorkFault::Stranger) => RunFault::Stranger,
+            ThreadFault::NoThread => RunFault::NoThread,
         }
     }
 }

@@ -3,12 +3,11 @@ ghost use Rattle.std.specs.Prelude.{◌≡◌, ℕ, ◌+◌, ◌<◌, ◌≤◌,
 ghost use Rattle.node_program.specs.GlobalRounds.{channel_at, channels_of};
 ghost use Rattle.ring_segments.specs.Segments.{first_of, places_of};
 ghost use Rattle.ring_segments.specs.SegmentCounts.{IsSegmentCount};
-ghost use Rattle.ring_exec.specs.declared.fault.SegmentFault.TheVariants.{Stranger};
+ghost use Rattle.round_eval.specs.declared.fault.WorkFault.TheVariants.{Stranger};
 
-use crate::fault::SegmentFault;
 use lang_check::Plan;
 use ring_segments::{Segment, segments_cover_the_ring};
-use round_eval::{channel, row_at, width_of};
+use round_eval::{WorkFault, channel, row_at, width_of};
 use win_index::Ring;
 
 // Writes the channels of the segments, with the first segment last in the list, if they are those
@@ -19,7 +18,7 @@ pub(crate) fn gather(
     segments: u32,
     mut found: Vec<Segment<'_>>,
     channels: &mut [u32],
-) -> Result<(), SegmentFault>
+) -> Result<(), WorkFault>
     requires range { IsSegmentCount segments (length ring.now.places) }
     requires all { vec_len found ≡ segments }
     requires room { length channels.old ≡ length ring.now.places }
@@ -34,7 +33,7 @@ pub(crate) fn gather(
             unreachable!()
         };
         if !segment.is_of(plan, ring, segments, index) || segment.round() != segment.rounds() {
-            return Err(SegmentFault::Stranger);
+            return Err(WorkFault::Stranger);
         }
         let end = (index + 1) * places / segments;
         write_part(plan, &segment, first as usize, end as usize, channels);

@@ -1,17 +1,17 @@
 //! The outcomes of the segments of a run.
 ghost use Rattle.std.specs.Prelude.{◌≡◌, ◌+◌, ◌<◌, ◌≤◌, ◌++◌, [], ◌∷◌, None, Some, IfOk, IfErr, vec_len, vec_capacity};
 ghost use Rattle.ring_exec.specs.Faults.{blamed};
-ghost use Rattle.ring_exec.specs.declared.fault.CourseFault.TheVariants.{Segment as OfSegment, NoThread};
+ghost use Rattle.round_eval.specs.declared.fault.ThreadFault.TheVariants.{Work, NoThread};
 
-use crate::fault::CourseFault;
 use crate::runner::Outcome;
 use ring_segments::Segment;
+use round_eval::ThreadFault;
 
 // The segments that ended, from the last to the first, and the fault that takes precedence.
 #[derive(Drop)]
 pub(crate) struct Joined<'a> {
     segments: Vec<Segment<'a>>,
-    fault: Option<CourseFault>,
+    fault: Option<ThreadFault>,
 }
 
 impl<'a> Joined<'a> {
@@ -32,7 +32,7 @@ impl<'a> Joined<'a> {
     // its fault takes precedence over theirs.
     pub(crate) fn add(&mut self, outcome: Outcome<'a>)
         requires { vec_len self.old.segments < vec_capacity self.old.segments }
-        ensures at_fault { IfErr outcome.entry (λ fault. (self.new.fault ≡ Some (blamed self.old.fault (OfSegment fault)))
+        ensures at_fault { IfErr outcome.entry (λ fault. (self.new.fault ≡ Some (blamed self.old.fault (Work fault)))
             × (self.new.segments ≡ self.old.segments)) }
         ensures at_segment { IfOk outcome.entry (λ segment. (self.new.fault ≡ self.old.fault)
             × (self.new.segments.items ≡ self.old.segments.items ++ segment ∷ [])) }
@@ -42,12 +42,12 @@ impl<'a> Joined<'a> {
     {
         match outcome {
             Ok(segment) => self.segments.push_reserved(segment),
-            Err(fault) => self.blame(CourseFault::Segment(fault)),
+            Err(fault) => self.blame(ThreadFault::Work(fault)),
         }
     }
 
     // Returns the segments, or the fault that takes precedence.
-    pub(crate) fn into_segments(self) -> Result<Vec<Segment<'a>>, CourseFault>
+    pub(crate) fn into_segments(self) -> Result<Vec<Segment<'a>>, ThreadFault>
         ensures fault { IfErr result (λ fault. self.entry.fault ≡ Some fault) }
         ensures segments { IfOk result (λ segments. (self.entry.fault ≡ None) × (segments ≡ self.entry.segments)) }
     {
@@ -58,11 +58,11 @@ impl<'a> Joined<'a> {
     }
 
     // Replaces the fault of a later segment by this one. The refused start of a thread stays.
-    pub(crate) fn blame(&mut self, fault: CourseFault)
+    pub(crate) fn blame(&mut self, fault: ThreadFault)
         ensures fault { self.new.fault ≡ Some (blamed self.old.fault fault) }
         ensures segments { self.new.segments ≡ self.old.segments }
     {
-        if !matches!(self.fault, Some(CourseFault::NoThread)) {
+        if !matches!(self.fault, Some(ThreadFault::NoThread)) {
             self.fault = Some(fault);
         }
     }

@@ -6,7 +6,7 @@ ghost use Rattle.ring_segments.specs.SegmentCounts.{IsSegmentCount};
 use crate::border_name::{Blanks, BorderName};
 use crate::course::{Course, ended};
 use crate::end::new_border;
-use crate::fault::{CourseFault, RunFault, SegmentFault};
+use crate::fault::RunFault;
 use crate::gathering::gather;
 use crate::joined::Joined;
 use crate::progress::Progress;
@@ -15,7 +15,7 @@ use crate::runner::Shared;
 use lang_check::Plan;
 use node_program::OutOfMemory;
 use ring_segments::{MAX_SEGMENTS, Msg, Segment};
-use round_eval::Gate;
+use round_eval::{Gate, ThreadFault};
 use std::alloc::Global;
 use std::marker::Brand;
 use std::sync::Wait;
@@ -61,14 +61,14 @@ fn run_named<'a, R: Threads + Wait + Sync, G: Gate + Sync, L: BorderName + Send 
     ring: &'a Ring,
     segments: u32,
     blanks: Blanks,
-) -> Result<Vec<u32>, CourseFault>
+) -> Result<Vec<u32>, ThreadFault>
     requires ids { ring.now.ids ≡ plan.now.ids }
     requires rounds { ring.now.rounds ≡ length plan.now.program.steps }
     requires range { IsSegmentCount segments (length ring.now.places) }
     requires right { (blanks.right.name ≡ L.rightward) × (blanks.right.parts ≡ 1) }
     requires left { (blanks.left.name ≡ L.leftward) × (blanks.left.parts ≡ 1) }
     ensures channels { IfOk result (λ channels. channels.items ≡ channels_of plan.now.program ring.now.places) }
-    ensures alone { IfErr result (λ fault. fault ≡ CourseFault.NoThread → 1 < segments) }
+    ensures alone { IfErr result (λ fault. fault ≡ ThreadFault.NoThread → 1 < segments) }
 {
     let mut channels = vec![in shared.alloc; 0; ring.len() as usize]?;
     let found = run_segments::<R, G, L>(shared, plan, ring, segments, blanks)?;
@@ -85,14 +85,14 @@ fn run_segments<'a, R: Threads + Wait + Sync, G: Gate + Sync, L: BorderName + Se
     ring: &'a Ring,
     segments: u32,
     blanks: Blanks,
-) -> Result<Vec<Segment<'a>>, CourseFault>
+) -> Result<Vec<Segment<'a>>, ThreadFault>
     requires ids { ring.now.ids ≡ plan.now.ids }
     requires rounds { ring.now.rounds ≡ length plan.now.program.steps }
     requires range { IsSegmentCount segments (length ring.now.places) }
     requires right { (blanks.right.name ≡ L.rightward) × (blanks.right.parts ≡ 1) }
     requires left { (blanks.left.name ≡ L.leftward) × (blanks.left.parts ≡ 1) }
     ensures all { IfOk result (λ found. vec_len found ≡ segments) }
-    ensures alone { IfErr result (λ fault. fault ≡ CourseFault.NoThread → 1 < segments) }
+    ensures alone { IfErr result (λ fault. fault ≡ ThreadFault.NoThread → 1 < segments) }
 {
     let progress = no_progress(shared.alloc, plan, ring, segments)?;
     let (last, before) = new_border::<Msg<'a>, L>(shared.alloc, blanks)?;
@@ -116,7 +116,7 @@ fn no_progress<'a>(
     plan: &'a Plan,
     ring: &'a Ring,
     segments: u32,
-) -> Result<Progress<'a>, SegmentFault>
+) -> Result<Progress<'a>, OutOfMemory>
     requires ids { ring.now.ids ≡ plan.now.ids }
     requires rounds { ring.now.rounds ≡ length plan.now.program.steps }
     requires range { IsSegmentCount segments (length ring.now.places) }

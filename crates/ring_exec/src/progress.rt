@@ -1,12 +1,12 @@
 //! How far a run is.
 ghost use Rattle.std.specs.Prelude.{◌≡◌, ◌+◌, ◌<◌, ◌≤◌, All, Ok, Err, MatchOption, vec_len, vec_capacity};
 ghost use Rattle.ring_segments.specs.declared.limits.TheConstants.{MAX_SEGMENTS};
-ghost use Rattle.ring_exec.specs.declared.fault.CourseFault.TheVariants.{NoThread};
+ghost use Rattle.round_eval.specs.declared.fault.ThreadFault.TheVariants.{NoThread};
 
-use crate::fault::CourseFault;
 use crate::joined::Joined;
 use crate::runner::Outcome;
 use ring_segments::Segment;
+use round_eval::ThreadFault;
 use std::thread::JoinHandle;
 
 // How far a run is: the index of the next segment, the segments that are not started, the next one
@@ -28,7 +28,7 @@ impl<'a> Progress<'a> {
     pub(crate) fn keep(
         &mut self,
         thread: Option<JoinHandle<Outcome<'a>>>,
-    ) -> Result<(), CourseFault>
+    ) -> Result<(), ThreadFault>
         requires few { self.old.index + vec_len self.old.waiting < MAX_SEGMENTS }
         requires thread_room { vec_len self.old.threads + vec_len self.old.waiting < vec_capacity self.old.threads }
         requires room { vec_len self.old.joined.segments + vec_len self.old.threads + vec_len self.old.waiting < vec_capacity self.old.joined.segments }
@@ -40,7 +40,7 @@ impl<'a> Progress<'a> {
     {
         self.index += 1;
         self.threads
-            .push_reserved(thread.ok_or(CourseFault::NoThread)?);
+            .push_reserved(thread.ok_or(ThreadFault::NoThread)?);
         Ok(())
     }
 }

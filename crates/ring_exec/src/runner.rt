@@ -6,20 +6,19 @@ ghost use Rattle.ring_segments.specs.Headings.{heading_of};
 ghost use Rattle.ring_segments.specs.Needs as needs;
 ghost use Rattle.ring_exec.specs.Seats.{AreSeatsOf};
 ghost use Rattle.ring_exec.specs.declared.end.Stop.TheVariants.{BorderClosed, Fault};
-ghost use Rattle.ring_exec.specs.declared.fault.SegmentFault.TheVariants.{Stranger};
+ghost use Rattle.round_eval.specs.declared.fault.WorkFault.TheVariants.{Stranger};
 
 use crate::border_name::BorderName;
 use crate::end::{End, Stop};
-use crate::fault::SegmentFault;
 use border_exchange::Dated;
 use ring_segments::{Msg, Segment};
-use round_eval::Gate;
+use round_eval::{Gate, WorkFault};
 use std::alloc::Global;
 use std::sync::Wait;
 
 // The outcome of a segment's thread: the segment, after the last round unless a border was closed
 // before.
-pub(crate) type Outcome<'a> = Result<Segment<'a>, SegmentFault>;
+pub(crate) type Outcome<'a> = Result<Segment<'a>, WorkFault>;
 
 // What all segments of a run share.
 #[derive(Drop)]

@@ -1,5 +1,5 @@
 use Rattle.std.proofs.Common.{◌≡◌, ◌+◌, ◌≤◌, None, Some, vec_len, vec_capacity}
-use Rattle.ring_exec.specs.declared.fault.CourseFault.TheVariants.{NoThread}
+use Rattle.round_eval.specs.declared.fault.ThreadFault.TheVariants.{NoThread}
 use Rattle.ring_exec.proofs.course.join_all.Given as goal
 
 -- each turn joins one thread: without a fault, segments and threads are as many as before. None of them was refused its
