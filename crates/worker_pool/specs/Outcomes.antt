@@ -1,9 +1,8 @@
 -- The outcomes of workers. No public contract cites this file.
 use Rattle.std.specs.Prelude.{◌≡◌, ℕ, ◌<◌, List, Result, Ok, Err, IsOk, All, Contains, length}
-use Rattle.worker_pool.specs.declared.fault.WorkFault.{WorkFault}
+use Rattle.round_eval.specs.declared.fault.WorkFault.{WorkFault}
 use Rattle.worker_pool.specs.declared.jobs.Outcome.{Outcome}
-use Rattle.shared_memo.specs.Tickets.{worker_of}
-use Rattle.shared_memo.specs.Tickets.{AreNumbered}
+use Rattle.shared_memo.specs.Tickets.{worker_of, AreNumbered}
 
 -- the number of the worker that came to this
 abbrev pub outcome_worker : Outcome → ℕ

@@ -3,8 +3,7 @@
 ghost use Rattle.std.specs.Prelude.{◌≡◌, ℕ, ◌≤◌, ◌^◌, List, IfOk, OnOk, true, is_ok};
 ghost use Rattle.shared_memo.specs.Tickets.{drawn, told, worker_of, numbers_of, IsFreshTicketOf};
 
-use crate::fault::WorkFault;
-use round_eval::Gate;
+use round_eval::{Gate, WorkFault};
 use shared_memo::{Desk, Ticket};
 use std::alloc::Global;
 

@@ -6,6 +6,6 @@ mod fault;
 mod jobs;
 mod pool;
 
-pub use fault::{FillFault, WorkFault};
+pub use fault::FillFault;
 pub use jobs::Jobs;
 pub use pool::fill_by_workers;

@@ -2,13 +2,12 @@
 
 ghost use Rattle.std.specs.Prelude.{◌≡◌, ◌<◌, ◌≤◌, ◌↔◌, IfOk, IfErr, IfSome, MatchOption, IsTrue, vec_len};
 ghost use Rattle.shared_memo.specs.Tickets.{worker_of, numbers_of, IsFreshTicketOf, AreFreshTickets, AreNumbered};
-ghost use Rattle.worker_pool.specs.Faults.{IsFaultOf};
+ghost use Rattle.round_eval.specs.declared.fault.ThreadFault.TheVariants.{NoThread};
 ghost use Rattle.worker_pool.specs.Workers.{HasRoom, IsWorkerCount};
 ghost use Rattle.worker_pool.specs.Outcomes.{outcome_worker, AreOutcomes, IsLowestFault};
 
-use crate::fault::{FillFault, RefusedStart, WorkFault};
 use crate::jobs::{Jobs, Outcome};
-use round_eval::Gate;
+use round_eval::{Gate, ThreadFault, WorkFault};
 use shared_memo::{Desk, Ticket};
 use std::alloc::Global;
 use std::sync::Wait;
@@ -39,11 +38,11 @@ pub fn fill_by_workers<R: Threads + Wait + Sync, J: Jobs + Sync, G: Gate + Sync>
     jobs: &J,
     workers: u32,
     gate: &G,
-) -> Result<Option<J::Known>, FillFault>
+) -> Result<Option<J::Known>, ThreadFault>
     requires { IsWorkerCount workers }
     ensures one { IfOk result (λ known. MatchOption known (1 < workers) (λ _. workers ≡ 1)) }
     ensures known { IfOk result (λ known. IfSome known (J.IsKnown jobs.now)) }
-    ensures fault { IfErr result (IsFaultOf workers) }
+    ensures alone { IfErr result (λ fault. fault ≡ NoThread → 1 < workers) }
 {
     let (desk, mut tickets) = Desk::new(alloc, jobs.count(), workers)?;
     if workers > 1 {
@@ -66,18 +65,17 @@ fn run_all<R: Threads + Wait + Sync, J: Jobs + Sync, G: Gate + Sync>(
     desk: &Desk,
     gate: &G,
     tickets: Vec<Ticket>,
-) -> Result<Vec<Outcome>, FillFault>
+) -> Result<Vec<Outcome>, ThreadFault>
     requires tickets { AreFreshTickets desk.now tickets.items }
     requires jobs { numbers_of desk.now ≡ J.jobs jobs.now }
     ensures outcomes { IfOk result (λ outcomes. AreOutcomes (vec_len tickets) outcomes.items) }
-    ensures fault { IfErr result (IsFaultOf 2) }
 {
     let handles: Vec<Handle> = Vec::with_capacity(alloc, tickets.len())?;
     let outcomes: Vec<Outcome> = Vec::with_capacity(alloc, tickets.len())?;
-    let joined = thread::scope(
+    thread::scope(
         thread::scope_env(),
         rt,
-        |scope| -> Result<Vec<Outcome>, RefusedStart>
+        |scope| -> Result<Vec<Outcome>, ThreadFault>
             requires tickets { AreFreshTickets desk.now tickets.items }
             requires jobs { numbers_of desk.now ≡ J.jobs jobs.now }
             requires handles { HasRoom (vec_len tickets) handles }
@@ -90,11 +88,10 @@ fn run_all<R: Threads + Wait + Sync, J: Jobs + Sync, G: Gate + Sync>(
             if all_started {
                 Ok(outcomes)
             } else {
-                Err(RefusedStart)
+                Err(ThreadFault::NoThread)
             }
         },
-    )?;
-    Ok(joined)
+    )
 }
 
 // Starts a worker for each ticket, in their order, until a start is refused, and returns whether all
