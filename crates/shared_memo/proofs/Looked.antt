@@ -4,7 +4,7 @@ use Rattle.std.specs.Prelude.{Option, Result, Ok, Err, IfNone, MatchResult}
 use denote.Ref.{Bor}
 use Rattle.window_states.specs.BlockStates.{MadeBlock}
 use Rattle.shared_memo.specs.declared.memo.Stranger.{Stranger}
-use Rattle.shared_memo.specs.Looks.{IsLook}
+use Rattle.shared_memo.specs.Known.{IsLook}
 
 module _ (IsRight : MadeBlock → Type 0) (was is seen : Option MadeBlock) where
   -- a block that is known then is right
