@@ -1,5 +1,5 @@
 -- The blocks that a source knows while it is asked.
-use Rattle.std.proofs.Common.{◌≡◌, ◌∙◌, ℕ, zero, suc, ◌+◌, ◌*◌, ◌/◌, ◌<◌, ◌≤◌, Option, Some, None, IsSome, IfSome, List, [], slice_get, refl, sym, ap, arith}
+use Rattle.std.proofs.Common.{◌≡◌, ◌∙◌, ℕ, zero, suc, ◌+◌, ◌*◌, ◌≤◌, Option, Some, None, IsSome, IfSome, List, [], slice_get, refl, sym, ap, arith}
 use Rattle.std.proofs.lemmas.Bool.{false≢true}
 use Rattle.std.proofs.lemmas.Option.{get_or_from_slice_get, same_Some}
 use Rattle.win_index.specs.Windows.{windows, number_of}
@@ -9,7 +9,7 @@ use Rattle.window_states.specs.Line.{middle_state}
 use Rattle.lang_check.specs.Plans.{ProgramForIds}
 use Rattle.window_states.specs.Entries.{Entries, Grows, Asked, IsEntry}
 use Rattle.unroll.specs.MakeFaults.{KnowsAllBelow, IsMissingBelow, IsMakeFault}
-use Rattle.unroll.specs.Parts.{HoldsWindow, KnowsPart, KnowsParts, KnowsBelow, IsMissingBlock}
+use Rattle.unroll.specs.Parts.{HoldsWindow, KnowsPart, KnowsParts, KnowsBelow}
 use Rattle.unroll.specs.declared.fault.MakeFault.{MakeFault}
 use Rattle.unroll.specs.declared.fault.MakeFault.TheVariants.{Missing, OutOfMemory}
 use Rattle.win_index.specs.declared.limits.TheConstants.{BLOCK_WINDOWS}
@@ -50,25 +50,6 @@ module _ (entries : Entries) (m low : ℕ) (w : List ℕ) where
 -- the window at an index of a block
 pub window_at : (m r n : ℕ) (window : List ℕ) → slice_get (windows (2 * r + 1) m) n ≡ Some window → window_numbered m r n ≡ window
 window_at m r n window at' = get_or_from_slice_get (windows (2 * r + 1) m) n window [] at'
-
--- a block that is missing for a part of a window is missing for the window's block
-pub fault_of_part :
-    (entries : Entries) (m low b place number d : ℕ) (window : List ℕ) (fault : MakeFault) → d ≤ 2 → place < block_len m (low + 1) b
-    → window_numbered m (low + 1) (BLOCK_WINDOWS * b + place) ≡ window → number_of (2 * low + 1) m (part window low d) ≡ Some number
-    → IsMissingBlock entries low (number / BLOCK_WINDOWS) fault → IsMissingBelow entries m (low + 1) b fault
-fault_of_part entries m low b place number d window (Missing l c) three lt own is missing =
-    rw (missing.0, missing.1) (
-      record {
-        one_lower = refl;
-        place = place;
-        inside = lt;
-        number = number;
-        is_part = rw own (record { offset = d; three = three; number_is = is });
-        block_is = refl;
-      },
-      missing.2,
-    )
-fault_of_part entries m low b place number d window OutOfMemory three lt own is missing = absurd missing
 
 -- a known block stays known
 pub entry_grows : (plan : ProgramForIds) (old new : Entries) (level n : ℕ) (b : MadeBlock) → Grows old new → IsEntry plan old level n b → IsEntry plan new level n b

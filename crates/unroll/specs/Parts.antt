@@ -1,5 +1,5 @@
 -- What the functions that make a block say of the source, for one window at a time.
-use Rattle.std.specs.Prelude.{◌≡◌, ℕ, ◌+◌, ◌*◌, ◌/◌, ◌%◌, ◌<◌, List, take, drop, length, slice_get, Some, None, IsSome, IfSome}
+use Rattle.std.specs.Prelude.{◌≡◌, ℕ, ◌+◌, ◌*◌, ◌/◌, ◌%◌, ◌<◌, List, take, drop, length, slice_get, Some, IsSome, IfSome}
 use Rattle.lang_check.specs.Plans.{ProgramForIds}
 use Rattle.node_program.specs.Node.{to_right}
 use Rattle.win_index.specs.RunPrefixes.{HasNumbers}
@@ -15,8 +15,6 @@ use Rattle.unroll.specs.declared.upper_block.UpperBlock.{UpperBlock}
 use Rattle.unroll.specs.declared.run.FirstPart.{FirstPart}
 use Rattle.unroll.specs.declared.run.Near.{Near}
 use Rattle.unroll.specs.declared.run.Run.{Run}
-use Rattle.unroll.specs.declared.fault.MakeFault.{MakeFault}
-use Rattle.unroll.specs.declared.fault.MakeFault.TheVariants.{Missing, OutOfMemory}
 use Rattle.win_index.specs.declared.limits.TheConstants.{BLOCK_WINDOWS}
 
 -- w is the first window of block b of level r
@@ -85,11 +83,6 @@ pub record IsRun (plan : ProgramForIds) (entries : Entries) (low : ℕ) (w : Lis
 abbrev pub KnowsBelow : Entries → ℕ → ℕ → ℕ → ℕ → Type 0
 KnowsBelow entries m r b count =
     (low place : ℕ) → r ≡ low + 1 → place < count → KnowsParts entries m low (window_numbered m r (BLOCK_WINDOWS * b + place))
-
--- the fault is that the block of this level with this number is missing
-abbrev pub IsMissingBlock : Entries → ℕ → ℕ → MakeFault → Type 0
-IsMissingBlock entries level number (Missing low c) = (low ≡ level) × (c ≡ number) × (entries level number ≡ None)
-IsMissingBlock entries level number OutOfMemory = ⊥
 
 -- the window of level r with number n is the last one of the run of w
 abbrev pub EndsAt : ℕ → ℕ → List ℕ → ℕ → Type 0

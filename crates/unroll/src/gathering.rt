@@ -9,7 +9,7 @@ ghost use Rattle.unroll.specs.WideColumns.{AreGathered, HasFronts, HoldFronts, H
 ghost use Rattle.win_index.specs.Blocks.{block_count};
 
 use crate::fault::MakeFault;
-use crate::parts::{LastParts, numbered_block, put_lasts};
+use crate::parts::{LastParts, part_block, put_lasts};
 use crate::run::{Near, Reached, Run, start_run};
 use crate::scratch::{Scratch, fill_some};
 use crate::upper_block::UpperBlock;
@@ -103,7 +103,7 @@ fn gather_run<'s, S: Source<'s>>(
     } = reached;
     let mut place = from;
     loop {
-        let (block, index) = numbered_block(upper.plan, source, upper.below, run.start + at, last)?;
+        let (block, index) = part_block(upper, source, place, run.start + at, last)?;
         let count = run
             .places
             .series(at, (len - place).min(block.len() - index));

@@ -1,12 +1,13 @@
 //! The blocks that hold the parts of windows: the first, the middle and the last identifiers of a window,
 //! which are windows one level lower. They are at the offsets 0, 1 and 2.
-ghost use Rattle.std.specs.Prelude.{◌≡◌, ◌/◌, ◌+◌, ◌<◌, ◌≤◌, ℕ, length, None, true, IfSome, IfNone, IfOk, IfErr};
+ghost use Rattle.std.specs.Prelude.{◌≡◌, ◌+◌, ◌<◌, ◌≤◌, ℕ, length, None, true, IfSome, IfNone, IfOk, IfErr};
 ghost use Rattle.node_program.specs.Node.{to_left};
 ghost use Rattle.window_states.specs.BlockStates.{IsKey, block_len, block_state};
 ghost use Rattle.window_states.specs.Entries.{Asked, IsEntry};
-ghost use Rattle.unroll.specs.Parts.{HoldsWindow, IsMissingBlock};
+ghost use Rattle.unroll.specs.Below.{IsPartNumber};
+ghost use Rattle.unroll.specs.MakeFaults.{IsMissingBelow};
+ghost use Rattle.unroll.specs.Parts.{window_in, HoldsWindow, IsKnownBlock};
 ghost use Rattle.unroll.specs.WideColumns.{AreWritten};
-ghost use Rattle.win_index.specs.Blocks.{window_count};
 
 use crate::fault::MakeFault;
 use crate::scratch::copy_some;
@@ -15,26 +16,26 @@ use lang_check::Plan;
 use win_index::BLOCK_WINDOWS;
 use window_states::{Block, Source};
 
-// Returns the block that holds the window of a level with this number, and the index of the window
-// in it. `last` can be any block of the level.
-pub(crate) fn numbered_block<'s, S: Source<'s>>(
-    plan: &Plan,
+// Returns the block that holds the part with this number of the window at an index of an upper
+// block, and the index of the part in it. `last` can be any block of the part's level.
+pub(crate) fn part_block<'s, S: Source<'s>>(
+    upper: UpperBlock<'_>,
     source: &mut S,
-    level: u32,
+    index: u32,
     number: u32,
     last: Option<&'s Block<'s>>,
 ) -> Result<(&'s Block<'s>, u32), MakeFault>
-    requires plan { S.plan source.old ≡ plan.now }
-    requires level { level ≤ length plan.now.program.steps }
-    requires number { number < window_count plan.now.ids level }
-    requires last { IfSome last (λ b. IsEntry plan.now (S.entries source.old) level b.now.number b.now) }
+    requires plan { S.plan source.old ≡ upper.plan.now }
+    requires inside { index < block_len upper.plan.now.ids (upper.below + 1) upper.number }
+    requires part { IsPartNumber upper.plan.now.ids upper.below (window_in upper index) number }
+    requires last { IfSome last (λ b. IsKnownBlock upper.plan.now (S.entries source.old) upper.below b.now) }
     ensures asked { Asked S.plan S.fixed S.entries source.old source.new }
-    ensures window { IfOk result (λ r. HoldsWindow plan.now (S.entries source.new) level number r.0.now r.1) }
-    ensures fault { IfErr result (IsMissingBlock (S.entries source.new) level (number / BLOCK_WINDOWS)) }
+    ensures window { IfOk result (λ r. HoldsWindow upper.entry.plan.now (S.entries source.new) upper.entry.below number r.0.now r.1) }
+    ensures missing { IfErr result (IsMissingBelow (S.entries source.new) upper.entry.plan.now.ids (upper.entry.below + 1) upper.entry.number) }
 {
     let place = number / BLOCK_WINDOWS;
-    let Some(block) = known_block(plan, source, level, place, last) else {
-        return Err(MakeFault::Missing(level, place));
+    let Some(block) = known_block(upper.plan, source, upper.below, place, last) else {
+        return Err(MakeFault::Missing(upper.below, place));
     };
     Ok((block, number % BLOCK_WINDOWS))
 }
@@ -49,7 +50,7 @@ fn known_block<'s, S: Source<'s>>(
 ) -> Option<&'s Block<'s>>
     requires plan { S.plan source.old ≡ plan.now }
     requires key { IsKey plan.now level number }
-    requires last { IfSome last (λ b. IsEntry plan.now (S.entries source.old) level b.now.number b.now) }
+    requires last { IfSome last (λ b. IsKnownBlock plan.now (S.entries source.old) level b.now) }
     ensures asked { Asked S.plan S.fixed S.entries source.old source.new }
     ensures found { IfSome result (λ b. IsEntry plan.now (S.entries source.new) level number b.now) }
     ensures missing { IfNone result (S.entries source.new level number ≡ None) }

@@ -7,7 +7,7 @@ ghost use Rattle.unroll.specs.Parts.{window_in, IsWindowIn, IsAtIndex, IsFirstPa
 ghost use Rattle.win_index.specs.Windows.{windows};
 
 use crate::fault::MakeFault;
-use crate::parts::numbered_block;
+use crate::parts::part_block;
 use crate::upper_block::UpperBlock;
 use win_index::{RunPlaces, RunPrefix};
 use window_states::{Block, Source, first_number};
@@ -52,6 +52,7 @@ pub(crate) struct Reached<'s> {
 }
 
 // Starts the run of the window at an index of an upper block, from its first two parts.
+#[tactic(auto, using(crate::proofs::Known::asked_both))]
 pub(crate) fn start_run<'s, S: Source<'s>>(
     upper: UpperBlock<'_>,
     source: &mut S,
@@ -69,7 +70,7 @@ pub(crate) fn start_run<'s, S: Source<'s>>(
     let shape = upper.plan.shape();
     let below = upper.below;
     let first = first_part(upper, source, index, near.first)?;
-    let (middle, at) = numbered_block(upper.plan, source, below, prefix.middle, near.middle)?;
+    let (middle, at) = part_block(upper, source, index, prefix.middle, near.middle)?;
     Ok(Run {
         start: shape.last_run_start(below, prefix),
         places: shape.prefix_places(below, prefix),
@@ -104,7 +105,7 @@ fn first_part<'s, S: Source<'s>>(
     {
         return Ok(first);
     }
-    let (block, at) = numbered_block(upper.plan, source, below, number, None)?;
+    let (block, at) = part_block(upper, source, index, number, None)?;
     Ok(FirstPart {
         number,
         sent: block.to_right(at),

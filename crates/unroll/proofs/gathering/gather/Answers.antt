@@ -42,6 +42,14 @@ loop-run-init g c =
 pub returns-in_err-run-clause-asked : goal.returns-in_err-run-clause-asked
 returns-in_err-run-clause-asked g c = asked_both c.loop-run.invariant.asked c.in_err-run.ensures.asked
 
+pub returns-in_err-after-clause-asked : goal.returns-in_err-after-clause-asked
+returns-in_err-after-clause-asked g c =
+    asked_both (asked_both c.loop-run.invariant.asked c.in_ok-run.ensures.asked) c.in_err-after.ensures.asked
+
+pub returns-then-after-len-clause-asked : goal.returns-then-after-len-clause-asked
+returns-then-after-len-clause-asked g c =
+    asked_both (asked_both c.loop-run.invariant.asked c.in_ok-run.ensures.asked) c.in_ok-after.ensures.asked
+
 pub gather_run-requires : goal.gather_run-requires
 gather_run-requires g c κs =
     let plan = c.args.upper.plan.now in
@@ -78,14 +86,6 @@ gather_run-requires g c κs =
         ),
       ),
     )
-
-pub returns-in_err-after-clause-asked : goal.returns-in_err-after-clause-asked
-returns-in_err-after-clause-asked g c =
-    asked_both (asked_both c.loop-run.invariant.asked c.in_ok-run.ensures.asked) c.in_err-after.ensures.asked
-
-pub returns-then-after-len-clause-asked : goal.returns-then-after-len-clause-asked
-returns-then-after-len-clause-asked g c =
-    asked_both (asked_both c.loop-run.invariant.asked c.in_ok-run.ensures.asked) c.in_ok-after.ensures.asked
 
 -- taking the first parts leaves the last ones
 module _ (g : Over) (c : After-take_fronts g) where

@@ -1,5 +1,4 @@
 use Rattle.std.proofs.Common.{◌≡◌, ℕ, ◌+◌, ◌-◌, ◌*◌, ◌<◌, ◌≤◌, List, length, slice_get, Some, refl, ◌∙◌, arith}
-use Rattle.std.proofs.lemmas.Result.{err_from_is_err_and}
 use Rattle.std.proofs.lemmas.Option.{slice_get_within}
 use Rattle.win_index.proofs.Positions.{number_of_is}
 use Rattle.win_index.specs.Runs.{IsAtPlace}
@@ -7,7 +6,7 @@ use Rattle.win_index.specs.Windows.{windows}
 use Rattle.unroll.specs.Below.{part}
 use Rattle.unroll.specs.Parts.{window_in, InRun}
 use Rattle.unroll.specs.WideColumns.{AreTaken}
-use Rattle.unroll.proofs.Known.{window_at, asked_both, fault_of_part, own_entry}
+use Rattle.unroll.proofs.Known.{window_at, asked_both, own_entry}
 use Rattle.unroll.proofs.SeriesStates.{last_part, in_series, taken_more, run_ends, run_goes_on}
 use Rattle.unroll.proofs.gathering.gather_run.Given.{Over}
 use Rattle.unroll.proofs.gathering.gather_run.Goals.{After-put_lasts, At-loop-block}
@@ -26,14 +25,14 @@ module _ (g : Over) (c : After-put_lasts g) where
       c.loop-block.place c.loop-block.at c.series-count.result here.0 here.1
       (c.series-count.ensures.series (2 * c.args.upper.below + 1) c.args.upper.plan.now.ids here.0 (omega arith) here.1.is)
 
-  taken : AreTaken (g.S.Source.entries c.numbered_block.new.source) c.args.upper c.args.reached.run c.args.reached.index
+  taken : AreTaken (g.S.Source.entries c.part_block.new.source) c.args.upper c.args.reached.run c.args.reached.index
       (c.loop-block.place + c.series-count.result) c.put_lasts.new.cells
   taken =
       let entries = g.S.Source.entries in
       let answer = c.in_ok-block.ensures in
       let is = answer.window.block in
       let few : c.in_ok-block.index + c.series-count.result ≤ BLOCK_WINDOWS = omega (arith, c.series-count.ensures.few, c.min.ensures, answer.window.inside, c.len.ensures) in
-      taken_more c.args.upper (entries c.args.source.now) (entries c.numbered_block.new.source) (window_in c.args.upper c.args.reached.index) c.args.reached.run
+      taken_more c.args.upper (entries c.args.source.now) (entries c.part_block.new.source) (window_in c.args.upper c.args.reached.index) c.args.reached.run
       (asked_both c.loop-block.invariant.asked answer.asked).grows c.requires.reached.run (entries c.loop-block.source) c.args.reached.index c.loop-block.place
       c.loop-block.at c.in_ok-block.block.now.number c.in_ok-block.index c.series-count.result c.loop-block.sent c.put_lasts.new.cells answer.asked.grows
       c.loop-block.invariant.taken (rw (is.number_is, is.known) refl) (omega (arith, answer.window.place, is.number_is)) few c.put_lasts.ensures series
@@ -97,25 +96,20 @@ module _ (g : Over) (c : At-loop-block g) where
 pub overflow_add-run : goal.overflow_add-run
 overflow_add-run g c = omega (arith, last_inside g (goal.at.overflow_add-run g c).At-loop-block, c.args.upper.few)
 
-pub numbered_block-requires : goal.numbered_block-requires
-numbered_block-requires g c κs =
+pub part_block-requires : goal.part_block-requires
+part_block-requires g c κs =
     let before = c.loop-block.invariant in
-    let above = c.args.upper.above in
-    let inside = last_inside g (goal.at.numbered_block-requires g c).At-loop-block in
-    ((refl, tt), (before.asked.same_plan ∙ c.requires.plan, (omega (arith, above), (inside, before.last))))
-
-pub returns-in_err-block-clause-missing : goal.returns-in_err-block-clause-missing
-returns-in_err-block-clause-missing g c =
-    let m = c.args.upper.plan.now.ids in
-    let low = c.args.upper.below in
-    let before = c.loop-block.invariant in
-    let w = before.here.0 in
-    let own = window_at m (low + 1) (BLOCK_WINDOWS * c.args.upper.number + c.loop-block.place) w before.here.1.here in
-    let number = number_of_is (2 * low + 1) m _ (part w low 2) (last_at g (goal.at.returns-in_err-block-clause-missing g c).At-loop-block) in
-    let p = err_from_is_err_and c.from_residual.result c.from_residual.ensures.1 in
-    rw (p.1, p.2)
-    (fault_of_part (g.S.Source.entries c.numbered_block.new.source) m low c.args.upper.number c.loop-block.place (c.args.reached.run.start + c.loop-block.at) 2 w
-    c.in_err-block.field-0.0 (omega arith) (rw c.args.upper.len_is at before.within) own number c.in_err-block.ensures.fault)
+    let own = window_at _ _ _ before.here.0 before.here.1.here in
+    let number = number_of_is _ _ _ _ (last_at g (goal.at.part_block-requires g c).At-loop-block) in (
+      (refl, tt),
+      (
+        before.asked.same_plan ∙ c.requires.plan,
+        (
+          omega (arith, c.args.upper.len_is, before.within),
+          (record { offset = 2; three = omega arith; number_is = rw own number }, before.last),
+        ),
+      ),
+    )
 
 pub loop-block-preserved : goal.loop-block-preserved
 loop-block-preserved g c =
