@@ -1,7 +1,7 @@
 -- The prefixes of windows by their numbers, and the window after the last one of a run, in an upper block.
 use Rattle.std.proofs.Common.{◌≡◌, ℕ, ◌+◌, ◌-◌, ◌*◌, ◌<◌, ◌≤◌, List, length, get_or, take, drop, slice_get, Some, arith}
 use Rattle.win_index.specs.RunPrefixes.{HasNumbers, IsPrefixOfNextRun, IsPrefixOfLastRun}
-use Rattle.win_index.specs.Runs.{HasPlaces, IsAtPlace, IsFirstOfRun, IsLastOfRun, IsEndOfSame, place_in_run}
+use Rattle.win_index.specs.Runs.{HasPlaces, IsAtPlace, IsFirstOfRun, IsLastOfRun, place_in_run}
 use Rattle.win_index.specs.Windows.{windows, IsWindow}
 use Rattle.win_index.specs.declared.limits.TheConstants.{BLOCK_WINDOWS}
 use Rattle.win_index.specs.declared.run_prefix.RunPrefix.{RunPrefix}
@@ -22,69 +22,61 @@ middle_at m low w prefix has = grind (arith, drop-take, has.middle)
 pub rest_of_prefix : (low : ℕ) (w : List ℕ) → drop 2 (take (2 * low + 2) w) ≡ take (2 * low) (drop 2 w)
 rest_of_prefix low w = grind (arith, drop-take)
 
--- the last window of a run, with the numbers of its prefix
-pub record RunEnd (k m : ℕ) (prefix : RunPrefix) (last : List ℕ) : Type 0 where
-  pub is : IsWindow (k + 1) m last
-  pub greatest : IsLastOfRun (k + 1) m last
-  pub has : HasNumbers k m (take k last) prefix
-
-run_end :
-    (low m : ℕ) (w last : List ℕ) (prefix : RunPrefix) → IsEndOfSame (2 * (low + 1) + 1) m w last → HasNumbers (2 * low + 2) m (take (2 * low + 2) w) prefix
-    → RunEnd (2 * low + 2) m prefix last
-run_end low m w last prefix ends has =
-    record { is = grind (arith, ends.last_is); greatest = grind (arith, ends.none_larger); has = grind (arith, ends.same, has) }
-
 -- the next run begins at the next index
 pub record NextRun (block : UpperBlock) (index : ℕ) (prefix : RunPrefix) : Type 0 where
   pub at' : IsAtIndex block index prefix
   pub first : IsFirstOfRun (2 * block.below + 2) block.plan.now.ids (window_in block index)
 
-pub next_run :
-    (block : UpperBlock) (from after : ℕ) (prefix next : RunPrefix) → 1 ≤ after → after < block_len block.plan.now.ids (block.below + 1) block.number
-    → EndsAt block.plan.now.ids (block.below + 1) (window_in block from) (BLOCK_WINDOWS * block.number + (after - 1))
-    → HasNumbers (2 * block.below + 2) block.plan.now.ids (take (2 * block.below + 2) (window_in block from)) prefix
-    → IsPrefixOfNextRun (2 * block.below + 2) block.plan.now.ids prefix next → NextRun block after next
-next_run block from after prefix next some inside end has steps =
-    let m = block.plan.now.ids in
-    let low = block.below in
-    let last = run_end low m (window_in block from) end.0 prefix end.2 has in
-    let begins = steps end.0 last.is last.greatest last.has in
-    let follows = begins.follows (BLOCK_WINDOWS * block.number + (after - 1)) (grind (arith, end.1)) in
-    let here : slice_get (windows (2 * (low + 1) + 1) m) (BLOCK_WINDOWS * block.number + after) ≡ Some begins.window = grind (arith, follows, some) in
-    let own = window_at m (low + 1) (BLOCK_WINDOWS * block.number + after) begins.window here in
-    record {
-      at' = record {
-        is = record { inside = inside; here = rw own here; window = rw own (grind (arith, begins.window_is)) };
-        has = rw own begins.has;
-      };
-      first = rw own begins.first;
-    }
+-- a block goes on after the end of the run of a window, whose prefix has these numbers
+module _
+    (block : UpperBlock) (from after : ℕ) (prefix : RunPrefix) (some : 1 ≤ after) (inside : after < block_len block.plan.now.ids (block.below + 1) block.number)
+    (end : EndsAt block.plan.now.ids (block.below + 1) (window_in block from) (BLOCK_WINDOWS * block.number + (after - 1)))
+    (has : HasNumbers (2 * block.below + 2) block.plan.now.ids (take (2 * block.below + 2) (window_in block from)) prefix)
+  where
+    last_is : IsWindow (2 * block.below + 2 + 1) block.plan.now.ids end.0
+    last_is = grind (arith, end.2.last_is)
 
--- there is a next run if the block goes on
-pub some_run_follows :
-    (block : UpperBlock) (from after : ℕ) (prefix : RunPrefix) → 1 ≤ after → after < block_len block.plan.now.ids (block.below + 1) block.number
-    → EndsAt block.plan.now.ids (block.below + 1) (window_in block from) (BLOCK_WINDOWS * block.number + (after - 1))
-    → HasNumbers (2 * block.below + 2) block.plan.now.ids (take (2 * block.below + 2) (window_in block from)) prefix
-    → IsPrefixOfLastRun (2 * block.below + 2) block.plan.now.ids prefix → ⊥
-some_run_follows block from after prefix some inside end has ends =
-    let m = block.plan.now.ids in
-    let low = block.below in
-    let last = run_end low m (window_in block from) end.0 prefix end.2 has in
-    let all = ends end.0 last.is last.greatest last.has (BLOCK_WINDOWS * block.number + (after - 1)) (grind (arith, end.1)) in
-    let whole : BLOCK_WINDOWS * block.number + (after - 1) + 1 ≡ length (windows (2 * (low + 1) + 1) m) = grind (arith, all) in
-    omega (arith, whole, inside, some)
+    greatest : IsLastOfRun (2 * block.below + 2 + 1) block.plan.now.ids end.0
+    greatest = grind (arith, end.2.none_larger)
 
--- the position of its first window
-pub record FirstPlace (block : UpperBlock) (index place : ℕ) : Type 0 where
+    last_has : HasNumbers (2 * block.below + 2) block.plan.now.ids (take (2 * block.below + 2) end.0) prefix
+    last_has = grind (arith, end.2.same, has)
+
+    pub next_run : (next : RunPrefix) → IsPrefixOfNextRun (2 * block.below + 2) block.plan.now.ids prefix next → NextRun block after next
+    next_run next steps =
+        let m = block.plan.now.ids in
+        let low = block.below in
+        let begins = steps end.0 last_is greatest last_has in
+        let follows = begins.follows (BLOCK_WINDOWS * block.number + (after - 1)) (grind (arith, end.1)) in
+        let here : slice_get (windows (2 * (low + 1) + 1) m) (BLOCK_WINDOWS * block.number + after) ≡ Some begins.window = grind (arith, follows, some) in
+        let own = window_at m (low + 1) (BLOCK_WINDOWS * block.number + after) begins.window here in
+        record {
+          at' = record {
+            is = record { inside = inside; here = rw own here; window = rw own (grind (arith, begins.window_is)) };
+            has = rw own begins.has;
+          };
+          first = rw own begins.first;
+        }
+
+    -- so there is a next run
+    pub some_run_follows : IsPrefixOfLastRun (2 * block.below + 2) block.plan.now.ids prefix → ⊥
+    some_run_follows ends =
+        let all = ends end.0 last_is greatest last_has (BLOCK_WINDOWS * block.number + (after - 1)) (grind (arith, end.1)) in
+        let whole : BLOCK_WINDOWS * block.number + (after - 1) + 1 ≡ length (windows (2 * (block.below + 1) + 1) block.plan.now.ids) = grind (arith, all) in
+        omega (arith, whole, inside, some)
+
+-- the position of the window at an index in its run
+pub record IsPlaced (block : UpperBlock) (index place : ℕ) : Type 0 where
   pub place_is : place_in_run (2 * block.below + 1) (window_in block index) (get_or (window_in block index) (2 * block.below + 2) 0) ≡ place
   pub inside : place < place_in_run (2 * block.below + 1) (window_in block index) block.plan.now.ids
 
+-- that of the first window of a run
 pub first_place :
     (block : UpperBlock) (index place : ℕ) (prefix : RunPrefix) (places : RunPlaces) → NextRun block index prefix
     → HasPlaces (2 * block.below + 1) block.plan.now.ids (window_in block index) places
     → ((k m : ℕ) (window : List ℕ) → 1 ≤ k → IsWindow (k + 2) m window → HasPlaces k m window places → IsFirstOfRun (k + 1) m window → IsAtPlace k m places window place)
     → ((k m : ℕ) (window : List ℕ) → 1 ≤ k → IsWindow (k + 2) m window → HasPlaces k m window places → IsFirstOfRun (k + 1) m window → place < places.end)
-    → FirstPlace block index place
+    → IsPlaced block index place
 first_place block index place prefix places run has at_first within =
     let m = block.plan.now.ids in
     let low = block.below in

@@ -4,7 +4,6 @@
 mod fault;
 mod gathering;
 mod maker;
-mod making;
 mod parts;
 mod right_reads;
 mod run;
@@ -12,5 +11,4 @@ mod scratch;
 mod upper_block;
 
 pub use fault::MakeFault;
-pub use maker::BlockMaker;
-pub use making::make_block;
+pub use maker::{BlockMaker, make_block};

@@ -1,7 +1,8 @@
-//! A maker of blocks, which keeps its columns.
+//! Making blocks: one, or several with the same columns.
 use crate::fault::MakeFault;
 use crate::gathering::{send_states, write_states};
 use crate::scratch::{Scratch, zeros};
+use lang_check::Plan;
 use node_program::OutOfMemory;
 use round_columns::Code;
 use round_eval::{rows_are_taken, width_of};
@@ -89,6 +90,34 @@ impl<'c, 'p> BlockMaker<'c, 'p> {
 }
 
 ghost use Rattle.std.specs.Prelude.{◌≡◌, ◌<◌, vec_len, IfOk};
+ghost use Rattle.window_states.specs.BlockStates.{IsKey};
+ghost use Rattle.unroll.specs.MakeFaults.{AskedFor, IsMade};
+
+/// Makes the block of a plan with this level, number and maker.
+///
+/// At level 0 the states are those before the first round, and the source is not asked. Above it
+/// each state is computed from three states of blocks one level below. These blocks come from the
+/// source, which knows them from then on.
+///
+/// Fails with `Missing` for a block of which the source has no entry, and the source may know more
+/// than before; and with `OutOfMemory` if memory was refused, and the source is then unchanged.
+pub fn make_block<'a, 's, S: Source<'s>>(
+    alloc: Global,
+    plan: &'a Plan,
+    source: &mut S,
+    level: u32,
+    number: u32,
+    maker: u32,
+) -> Result<Block<'a>, MakeFault>
+    requires plan { S.plan source.old ≡ plan.now }
+    requires key { IsKey plan.now level number }
+    ensures asked { AskedFor level S.plan S.fixed S.entries source.old source.new }
+    ensures made { IsMade S.entries source.old source.new plan.now level number maker result }
+{
+    let code = Code::new(alloc, plan)?;
+    let mut blocks = BlockMaker::new(alloc, &code)?;
+    blocks.make(source, level, number, maker)
+}
 
 // Allocates the lists of a block, with this many cells of states and messages to each side.
 fn zero_lists(alloc: Global, cells: usize, sent: usize) -> Result<BlockLists, OutOfMemory>

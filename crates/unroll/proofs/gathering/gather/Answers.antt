@@ -32,8 +32,10 @@ loop-run-init g c =
         };
         has = rw (own, ← c.shape-shape.ensures.ids) c.run_prefix-prefix.ensures;
       };
-      place = rw own (sym c.place_in_run-place.ensures.value);
-      inside = rw (own, ← c.shape-shape.ensures.ids) c.place_in_run-place.ensures.inside;
+      placed = record {
+        place_is = rw own (sym c.place_in_run-place.ensures.value);
+        inside = rw (own, ← c.shape-shape.ensures.ids) c.place_in_run-place.ensures.inside;
+      };
       near = record { first = tt; middle = tt; last = tt };
       ready = c.requires.ready;
       gathered = search rules;
@@ -70,9 +72,9 @@ gather_run-requires g c κs =
             here = record {
               here = before.here.is.here;
               same = refl;
-              is = record { window_is = grind (arith, before.here.is.window); run_has = answer.run.places_are; place_is = grind (arith, before.place) };
+              is = record { window_is = grind (arith, before.here.is.window); run_has = answer.run.places_are; place_is = grind (arith, before.placed.place_is) };
             };
-            before_end = omega (arith, before.inside, answer.run.places_are.end);
+            before_end = omega (arith, before.placed.inside, answer.run.places_are.end);
             last = if_some_more (λ b. IsKnownBlock plan old low b.now) (λ b. IsKnownBlock plan new low b.now) c.loop-run.near.last
                 (λ b is. entry_grows plan old new low b.now.number b.now grows is) before.near.last;
           },
@@ -128,15 +130,13 @@ loop-run-preserved g c =
     let run = went.gathered in
     let len = c.args.upper.len_is in
     let within : after < block_len plan.ids (low + 1) upper.number = omega (arith, len, run.within, c.if-after-len.false) in
-    let next = next_run upper c.loop-run.index after c.loop-run.prefix c.in-Some.next (omega (arith, run.later)) within (run.ended within)
-    before.here.has (rw c.shape-shape.ensures.ids at c.in-Some.ensures.next) in
+    let next = next_run upper c.loop-run.index after c.loop-run.prefix (omega (arith, run.later)) within (run.ended within)
+    before.here.has c.in-Some.next (rw c.shape-shape.ensures.ids at c.in-Some.ensures.next) in
     let places = rw c.shape-shape.ensures.ids at (c.prefix_places.ensures (window_in upper after) (rw c.shape-shape.ensures.ids next.at'.is.window) (rw c.shape-shape.ensures.ids next.at'.has)) in
-    let first = first_place upper after c.first-place.result c.in-Some.next c.prefix_places.result next places c.first-place.ensures.place c.first-place.ensures.inside in
     record {
       asked = asked_both (asked_both before.asked asked.asked) went.asked;
       here = next.at';
-      place = first.place_is;
-      inside = first.inside;
+      placed = first_place upper after c.first-place.result c.in-Some.next c.prefix_places.result next places c.first-place.ensures.place c.first-place.ensures.inside;
       near = record {
         first = first_grows plan (entries c.start_run.new.source) (entries c.gather_run.new.source) low went.asked.grows _ asked.run.first_is;
         middle = entry_grows plan (entries c.start_run.new.source) (entries c.gather_run.new.source) low _ _ went.asked.grows asked.run.middle_is;
