@@ -1,7 +1,7 @@
 use Rattle.std.proofs.Common.{rules}
 use Rattle.worker_pool.specs.Outcomes.{outcome_worker}
 use Rattle.worker_pool.proofs.Numbered.{numbered_rest}
-use Rattle.shared_memo.proofs.Numbered.{numbered_snoc}
+use Rattle.win_index.proofs.Kept.{each_snoc}
 use Rattle.worker_pool.proofs.pool.join_all.Goals as goal
 
 pub loop-handle-preserved : goal.loop-handle-preserved
@@ -12,8 +12,7 @@ loop-handle-preserved g c =
       room = search rules;
       count = search rules;
       rest = rw c.push_reserved.ensures.len numbers.1;
-      workers =
-          rw c.push_reserved.ensures.items
-          (numbered_snoc outcome_worker c.loop-handle.outcomes.items c.join.result inv.workers
+      workers = rw c.push_reserved.ensures.items
+          (each_snoc (λ k outcome. outcome_worker outcome ≡ k) c.loop-handle.outcomes.items c.join.result inv.workers
           (let kept = c.join.ensures in let first = numbers.0 in search rules));
     }

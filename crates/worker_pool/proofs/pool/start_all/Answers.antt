@@ -1,7 +1,7 @@
 use Rattle.std.proofs.Common.{rules, ◌≡◌, suc, All, List, ◌∷◌, arith}
 use Rattle.shared_memo.specs.Tickets.{worker_of, IsFreshTicketOf}
 use Rattle.worker_pool.proofs.Numbered.{numbered_rest}
-use Rattle.shared_memo.proofs.Numbered.{numbered_snoc}
+use Rattle.win_index.proofs.Kept.{each_snoc}
 use Rattle.worker_pool.proofs.pool.start_all.Goals as goal
 
 all_first : {X : Type 0} (P : X → Type 0) (x : X) (all xs : List X) → all ≡ x ∷ xs → All P all → P x × All P xs
@@ -17,8 +17,7 @@ loop-ticket-preserved g c =
       room = search rules;
       count = search rules;
       rest = rw c.push_reserved.ensures.len numbers.1;
-      workers =
-          rw c.push_reserved.ensures.items
-          (numbered_snoc (λ h. h.promise.0) c.loop-ticket.handles.items _ inv.workers
+      workers = rw c.push_reserved.ensures.items
+          (each_snoc (λ k handle. handle.promise.0 ≡ k) c.loop-ticket.handles.items _ inv.workers
           (let number = numbers.0 in search rules));
     }
