@@ -1,7 +1,9 @@
 -- The definitions that the contracts cite.
+pub mod Borders
 pub mod Courses
 pub mod Faults
 pub mod Outcomes
+pub mod Runs
 pub mod Seats
 pub mod Sides
 pub mod Stops

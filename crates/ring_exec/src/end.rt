@@ -3,6 +3,7 @@ ghost use Rattle.std.specs.Prelude.{◌≡◌, ◌≢◌, ◌+◌, ◌<◌, IfOk
 ghost use Rattle.border_exchange.specs.SeatState.{IsNext};
 ghost use Rattle.border_exchange.specs.declared.Side.TheVariants.{Rightward, Leftward};
 ghost use Rattle.node_program.specs.declared.limits.TheConstants.{MAX_ROUNDS};
+ghost use Rattle.ring_exec.specs.Borders.{AreBlanksOf};
 ghost use Rattle.ring_exec.specs.Sides.{opposite};
 ghost use Rattle.round_eval.specs.declared.fault.WorkFault.TheVariants.{Stranger};
 
@@ -115,8 +116,7 @@ pub(crate) fn new_border<M: Dated + Copy, N: BorderName>(
     alloc: Global,
     blanks: Blanks,
 ) -> Result<(RightEnd<M, N>, Edge<M, N>), OutOfMemory>
-    requires right { (blanks.right.name ≡ N.rightward) × (blanks.right.parts ≡ 1) }
-    requires left { (blanks.left.name ≡ N.leftward) × (blanks.left.parts ≡ 1) }
+    requires { AreBlanksOf blanks N.rightward N.leftward }
 {
     let Blanks { right, left } = blanks;
     let (border, right_seat, left_seat) = Border::new(alloc, right, left)?;

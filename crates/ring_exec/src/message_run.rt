@@ -1,6 +1,8 @@
 //! The run of a ring by messages, a thread for each segment.
 ghost use Rattle.std.specs.Prelude.{◌≡◌, ◌+◌, ◌-◌, ◌<◌, ◌↔◌, ℕ, None, IfOk, OnOk, IfErr, IfSome, IsErrOf, length, vec_len, slice_get};
 ghost use Rattle.node_program.specs.GlobalRounds.{channels_of};
+ghost use Rattle.ring_exec.specs.Borders.{AreBlanksOf};
+ghost use Rattle.ring_exec.specs.Runs.{CanRun};
 ghost use Rattle.ring_segments.specs.SegmentCounts.{IsSegmentCount};
 
 use crate::border_name::{Blanks, BorderName};
@@ -61,12 +63,9 @@ fn run_named<'a, R: Threads + Wait + Sync, G: Gate + Sync, L: BorderName + Send 
     ring: &'a Ring,
     segments: u32,
     blanks: Blanks,
-) -> Result<Vec<u32>, ThreadFault>
-    requires ids { ring.now.ids ≡ plan.now.ids }
-    requires rounds { ring.now.rounds ≡ length plan.now.program.steps }
-    requires range { IsSegmentCount segments (length ring.now.places) }
-    requires right { (blanks.right.name ≡ L.rightward) × (blanks.right.parts ≡ 1) }
-    requires left { (blanks.left.name ≡ L.leftward) × (blanks.left.parts ≡ 1) }
+) -> Result<Vec<u32>, CourseFault>
+    requires run { CanRun plan.now ring.now segments }
+    requires blanks { AreBlanksOf blanks L.rightward L.leftward }
     ensures channels { IfOk result (λ channels. channels.items ≡ channels_of plan.now.program ring.now.places) }
     ensures alone { IfErr result (λ fault. fault ≡ ThreadFault.NoThread → 1 < segments) }
 {
@@ -85,12 +84,9 @@ fn run_segments<'a, R: Threads + Wait + Sync, G: Gate + Sync, L: BorderName + Se
     ring: &'a Ring,
     segments: u32,
     blanks: Blanks,
-) -> Result<Vec<Segment<'a>>, ThreadFault>
-    requires ids { ring.now.ids ≡ plan.now.ids }
-    requires rounds { ring.now.rounds ≡ length plan.now.program.steps }
-    requires range { IsSegmentCount segments (length ring.now.places) }
-    requires right { (blanks.right.name ≡ L.rightward) × (blanks.right.parts ≡ 1) }
-    requires left { (blanks.left.name ≡ L.leftward) × (blanks.left.parts ≡ 1) }
+) -> Result<Vec<Segment<'a>>, CourseFault>
+    requires run { CanRun plan.now ring.now segments }
+    requires blanks { AreBlanksOf blanks L.rightward L.leftward }
     ensures all { IfOk result (λ found. vec_len found ≡ segments) }
     ensures alone { IfErr result (λ fault. fault ≡ ThreadFault.NoThread → 1 < segments) }
 {
@@ -116,10 +112,8 @@ fn no_progress<'a>(
     plan: &'a Plan,
     ring: &'a Ring,
     segments: u32,
-) -> Result<Progress<'a>, OutOfMemory>
-    requires ids { ring.now.ids ≡ plan.now.ids }
-    requires rounds { ring.now.rounds ≡ length plan.now.program.steps }
-    requires range { IsSegmentCount segments (length ring.now.places) }
+) -> Result<Progress<'a>, SegmentFault>
+    requires { CanRun plan.now ring.now segments }
     ensures no_fault { IfOk result (λ progress. progress.joined.fault ≡ None) }
     ensures first { IfOk result (λ progress. (progress.index ≡ 0) × (vec_len progress.threads ≡ 0) × (vec_len progress.joined.segments ≡ 0)) }
     ensures waiting { IfOk result (λ progress. vec_len progress.waiting ≡ segments) }
@@ -142,9 +136,7 @@ fn waiting_segments<'a>(
     ring: &'a Ring,
     segments: u32,
 ) -> Result<Vec<Segment<'a>>, OutOfMemory>
-    requires ids { ring.now.ids ≡ plan.now.ids }
-    requires rounds { ring.now.rounds ≡ length plan.now.program.steps }
-    requires range { IsSegmentCount segments (length ring.now.places) }
+    requires { CanRun plan.now ring.now segments }
     ensures count { IfOk result (λ waiting. vec_len waiting ≡ segments) }
     ensures opening { IfOk result (λ waiting. (i : ℕ) → IfSome (slice_get waiting.items i)
         (λ s. s ≡ record { plan = plan.now; ring = ring.now; segments = segments; index = segments - 1 - i; round = 0 })) }

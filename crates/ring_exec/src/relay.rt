@@ -1,15 +1,25 @@
 //! The recursion of a run over its segments: each segment beside the segments after it.
-ghost use Rattle.std.specs.Prelude.{◌≡◌, ℕ, ◌+◌, ◌<◌};
-ghost use Rattle.ring_exec.specs.Courses.{HasEnded, HasStarted, IsOnCourse};
+ghost use Rattle.std.specs.Prelude.{◌≡◌, ◌+◌, ◌<◌, ◌≤◌, ◌↔◌, IsNone, IsSome, IfErr, OnOk, vec_len};
+ghost use Rattle.border_exchange.specs.declared.Side.TheVariants.{Leftward};
+ghost use Rattle.ring_exec.specs.Borders.{AreBlanksOf};
+ghost use Rattle.ring_exec.specs.Courses.{HasEnded, HasRefused, HasStarted, IsOnCourse};
+ghost use Rattle.ring_exec.specs.Seats.{AreSeatsOf};
+ghost use Rattle.ring_exec.specs.declared.fault.SegmentFault.TheVariants.{OutOfMemory as NoMemory};
+ghost use Rattle.ring_exec.specs.declared.fault.CourseFault.TheVariants.{Segment as OfSegment, NoThread};
 
 use crate::border_name::{Blanks, BorderName};
-use crate::course::{Course, ended, started};
+use crate::course::{Course, ended};
+use crate::end::{Edge, End, new_border};
+use crate::fault::CourseFault;
 use crate::joined::Joined;
+use crate::progress::Progress;
+use crate::runner::{Outcome, Runner, Shared};
+use ring_segments::{Msg, Segment};
 use round_eval::Gate;
 use std::marker::Brand;
 use std::sync::Wait;
 use std::thread;
-use std::thread::{Scope, Threads};
+use std::thread::{JoinHandle, Scope, Threads};
 
 // Runs all segments from the first one on.
 pub(crate) fn run_all<
@@ -29,26 +39,11 @@ pub(crate) fn run_all<
             requires some { 0 < segments }
             requires on_course { IsOnCourse course.before course.progress segments }
             ensures { HasEnded course.entry.progress segments result }
-        { run_from(scope, course, segments) },
+        {
+            let stage = Stage { scope, course };
+            stage.run(segments)
+        },
     )
-}
-
-// Runs all segments within a scope.
-fn run_from<
-    'c,
-    's,
-    'e,
-    'a: 'e,
-    R: Threads + Wait + Sync,
-    G: Gate + Sync,
-    L: BorderName + Send + Sync + 'a,
->(scope: &'c Scope<'s, &'e ()>, course: Course<'a, R, G, L, L>, segments: u32) -> Joined<'a>
-    requires some { 0 < segments }
-    requires on_course { IsOnCourse course.before course.progress segments }
-    ensures { HasEnded course.entry.progress segments result }
-{
-    let stage = Stage { scope, course };
-    after::<R, G, L, L, Brand>(stage, segments - 1, Blanks::new())
 }
 
 // The course of a run within the scope of its threads.
@@ -58,11 +53,7 @@ struct Stage<'c, 's, 'e, 'a, R, G, B: BorderName, L: BorderName> {
     course: Course<'a, R, G, B, L>,
 }
 
-// Runs from a stage on, with this many segments before the last one. Each border has a name of its
-// own, so the inner call has other type parameters, and its proof is written by hand. It is short
-// because `begin` and `finish` have the type parameters, the parameters and the requirements of
-// `after`.
-fn after<
+impl<
     'c,
     's,
     'e,
@@ -71,64 +62,134 @@ fn after<
     G: Gate + Sync,
     B: BorderName + Send + Sync + 'a,
     L: BorderName + Send + Sync + 'a,
-    N: BorderName + Send + Sync + 'a,
->(stage: Stage<'c, 's, 'e, 'a, R, G, B, L>, count: u32, blanks: Blanks) -> Joined<'a>
-    requires right { (blanks.right.name ≡ N.rightward) × (blanks.right.parts ≡ 1) }
-    requires left { (blanks.left.name ≡ N.leftward) × (blanks.left.parts ≡ 1) }
-    requires on_course { IsOnCourse stage.course.before stage.course.progress (count + 1) }
-    ensures { HasEnded stage.entry.course.progress (count + 1) result }
-{
-    if count == 0 {
-        return finish::<R, G, B, L, N>(stage, count, blanks);
+> Stage<'c, 's, 'e, 'a, R, G, B, L> {
+    // Runs this many segments, the last ones.
+    fn run(self, segments: u32) -> Joined<'a>
+        requires some { 0 < segments }
+        requires on_course { IsOnCourse self.course.before self.course.progress segments }
+        ensures { HasEnded self.entry.course.progress segments result }
+    {
+        self.after::<Brand>(segments - 1, Blanks::new())
     }
-    let next = begin::<R, G, B, L, N>(stage, count, blanks);
-    after::<R, G, N, L, Brand>(next, count - 1, Blanks::new())
-}
 
-// Starts the next segment.
-fn begin<
-    'c,
-    's,
-    'e,
-    'a: 'e,
-    R: Threads + Wait + Sync,
-    G: Gate + Sync,
-    B: BorderName + Send + Sync + 'a,
-    L: BorderName + Send + Sync + 'a,
-    N: BorderName + Send + Sync + 'a,
->(
-    stage: Stage<'c, 's, 'e, 'a, R, G, B, L>,
-    count: u32,
-    blanks: Blanks,
-) -> Stage<'c, 's, 'e, 'a, R, G, N, L>
-    requires right { (blanks.right.name ≡ N.rightward) × (blanks.right.parts ≡ 1) }
-    requires left { (blanks.left.name ≡ N.leftward) × (blanks.left.parts ≡ 1) }
-    requires on_course { IsOnCourse stage.course.before stage.course.progress (count + 1) }
-    ensures on_course { IsOnCourse result.course.before result.course.progress count }
-    ensures started { HasStarted stage.entry.course.progress result.course.progress }
-{
-    let Stage { scope, course } = stage;
-    let course = started::<R, G, B, L, N>(scope, course, count, blanks);
-    Stage { scope, course }
-}
+    // Runs on, with this many segments before the last one. Each border has a name of its own, so
+    // the inner call has other type parameters, and its proof is written by hand. It is short
+    // because `begin` and `finish` have the type parameters, the parameters and the requirements of
+    // `after`.
+    fn after<N: BorderName + Send + Sync + 'a>(self, count: u32, blanks: Blanks) -> Joined<'a>
+        requires blanks { AreBlanksOf blanks N.rightward N.leftward }
+        requires on_course { IsOnCourse self.course.before self.course.progress (count + 1) }
+        ensures { HasEnded self.entry.course.progress (count + 1) result }
+    {
+        if count == 0 {
+            return self.finish::<N>(count, blanks);
+        }
+        let next = self.begin::<N>(count, blanks);
+        next.after::<Brand>(count - 1, Blanks::new())
+    }
 
-// Runs the last segment and joins the others.
-fn finish<
-    'c,
-    's,
-    'e,
-    'a: 'e,
-    R: Threads + Wait + Sync,
-    G: Gate + Sync,
-    B: BorderName + Send + Sync + 'a,
-    L: BorderName + Send + Sync + 'a,
-    N: BorderName + Send + Sync + 'a,
->(stage: Stage<'c, 's, 'e, 'a, R, G, B, L>, _count: u32, _blanks: Blanks) -> Joined<'a>
-    requires right { (_blanks.right.name ≡ N.rightward) × (_blanks.right.parts ≡ 1) }
-    requires left { (_blanks.left.name ≡ N.leftward) × (_blanks.left.parts ≡ 1) }
-    requires on_course { IsOnCourse stage.course.before stage.course.progress (_count + 1) }
-    ensures { HasEnded stage.entry.course.progress 1 result }
-{
-    let Stage { scope: _, course } = stage;
-    ended(course)
+    // Makes the next segment's right border and starts the segment, so that `_count` segments are
+    // left to start. If one of the two is refused, the run can't go on: the borders before the
+    // segment and after the last one are closed.
+    fn begin<N: BorderName + Send + Sync + 'a>(
+        self,
+        _count: u32,
+        blanks: Blanks,
+    ) -> Stage<'c, 's, 'e, 'a, R, G, N, L>
+        requires blanks { AreBlanksOf blanks N.rightward N.leftward }
+        requires on_course { IsOnCourse self.course.before self.course.progress (_count + 1) }
+        ensures on_course { IsOnCourse result.course.before result.course.progress _count }
+        ensures started { HasStarted self.entry.course.progress result.course.progress }
+        ensures refused { IsSome self.entry.course.before → IsNone result.course.before
+            → HasRefused self.entry.course.progress result.course.progress }
+    {
+        let Stage { scope, course } = self;
+        let Course {
+            shared,
+            before,
+            last,
+            mut progress,
+        } = course;
+        let Some(Edge { end: left, closer }) = before else {
+            let course = Course {
+                shared,
+                before: None,
+                last,
+                progress,
+            };
+            return Stage { scope, course };
+        };
+        let next = match Self::start_next::<N>(scope, shared, &mut progress, left, blanks) {
+            Ok(next) => Some(next),
+            Err(fault) => {
+                closer.close(shared.rt);
+                last.end.close(shared.rt);
+                progress.joined.blame(fault);
+                None
+            }
+        };
+        let course = Course {
+            shared,
+            before: next,
+            last,
+            progress,
+        };
+        Stage { scope, course }
+    }
+
+    // Runs the last segment and joins the others.
+    fn finish<N: BorderName + Send + Sync + 'a>(self, _count: u32, _blanks: Blanks) -> Joined<'a>
+        requires blanks { AreBlanksOf _blanks N.rightward N.leftward }
+        requires on_course { IsOnCourse self.course.before self.course.progress (_count + 1) }
+        ensures { HasEnded self.entry.course.progress 1 result }
+    {
+        let Stage { scope: _, course } = self;
+        ended(course)
+    }
+
+    // Starts the next segment between the border before it and a new one, and returns the other end
+    // of the new one. Fails with `NoThread` exactly if it tried to start the segment, and else for
+    // want of memory.
+    fn start_next<N: BorderName + Send + Sync + 'a>(
+        scope: &'c Scope<'s, &'e ()>,
+        shared: &'a Shared<'a, R, G>,
+        progress: &mut Progress<'a>,
+        left: End<Msg<'a>, B>,
+        blanks: Blanks,
+    ) -> Result<Edge<Msg<'a>, N>, CourseFault>
+        requires blanks { AreBlanksOf blanks N.rightward N.leftward }
+        requires seat { left.seat ≡ record { side = Leftward; puts = 0 } }
+        requires waiting { 0 < vec_len progress.old.waiting }
+        ensures waiting { vec_len progress.new.waiting + 1 ≡ vec_len progress.old.waiting }
+        ensures started { OnOk result ((progress.new.index ≡ progress.old.index + 1)
+            × (vec_len progress.new.threads ≡ vec_len progress.old.threads + 1)) }
+        ensures index { (progress.old.index ≤ progress.new.index) × (progress.new.index ≤ progress.old.index + 1) }
+        ensures no_thread { IfErr result (λ fault. (fault ≡ NoThread) ↔ (progress.new.index ≡ progress.old.index + 1)) }
+        ensures no_memory { IfErr result (λ fault. (fault ≡ OfSegment NoMemory) ↔ (progress.new.index ≡ progress.old.index)) }
+        ensures joined { progress.new.joined ≡ progress.old.joined }
+    {
+        let Some(segment) = progress.waiting.pop() else {
+            unreachable!()
+        };
+        let (right, next) = new_border::<Msg<'a>, N>(shared.alloc, blanks)?;
+        let runner = Runner {
+            shared,
+            index: progress.index,
+            segment,
+            left,
+            right: right.end,
+        };
+        progress.keep(Self::start_one(scope, runner))?;
+        Ok(next)
+    }
+
+    // Starts a thread for a segment, or returns `None` if the start was refused.
+    fn start_one<N: BorderName + Send + Sync + 'a>(
+        scope: &'c Scope<'s, &'e ()>,
+        runner: Runner<'a, Segment<'a>, Msg<'a>, R, G, B, N>,
+    ) -> Option<JoinHandle<Outcome<'a>>>
+        requires { AreSeatsOf runner.segment runner.left.seat runner.right.seat }
+    {
+        scope.spawn(move || runner.run()).ok()
+    }
 }

@@ -3,17 +3,19 @@
 -- other types, so the body is walked here, statement by statement.
 use Rattle.ring_exec.proofs.Steps.{◌≡◌, ℕ, eqb→eq, List, [], ◌∷◌, refl, w32, arith, vint, tables, ‵, raw, ◌⊛◌, some, later, prop, at_ret, Sq, ◌$◌, ◌∵◌, !, qed, done, move, drop, use1, split, join, fsplit, feq_l, pick, await, suffices, group, enter, of_opd, lit, bin, first, branches, skips, exec, returns, returns_within, no_more, and_then, alloc_all, pass_all, free_all, look_at, get, sets, lands_as, env, yes, no, u32, uint_Makes, shows, plain, nothing, owned, peeks, heard, lasts, Stays, walk_of, stay_dropped, Goes-dropped, ends_at, says, triple_of, id⊢, ftrue, framed, calls_at, calls_from, ◌+◌, ◌-◌, ◌<◌, ◌^◌, T, T_not, not, eqb, subst, subst⁻¹}
 use Rattle.ring_exec.proofs.FactRows.{tuple, facts, gather, shown, beside}
-use Rattle.ring_exec.specs.Courses.{IsOnCourse, HasStarted, HasEnded}
+use Rattle.std.specs.Prelude.{IsNone, IsSome}
+use Rattle.ring_exec.specs.Borders.{AreBlanksOf}
+use Rattle.ring_exec.specs.Courses.{IsOnCourse, HasStarted, HasRefused, HasEnded}
 use Rattle.ring_exec.specs.declared.joined.Joined.{Joined as Outcomes}
 use Rattle.ring_exec.specs.declared.progress.Progress.{Progress}
-use Rattle.ring_exec.proofs.relay.+after.{statement}
-use Rattle.ring_exec.proofs.relay.+after.Code as code
-use Rattle.ring_exec.specs.contracts.relay.after as after
-use Rattle.ring_exec.specs.contracts.relay.after.Key as key
-use Rattle.ring_exec.specs.contracts.relay.begin as begin
-use Rattle.ring_exec.specs.contracts.relay.finish as finish
-use Rattle.ring_exec.proofs.relay.begin.Met as begin_met
-use Rattle.ring_exec.proofs.relay.finish.Met as finish_met
+use Rattle.ring_exec.proofs.relay.Stage.+after.{statement}
+use Rattle.ring_exec.proofs.relay.Stage.+after.Code as code
+use Rattle.ring_exec.specs.contracts.relay.Stage.after as after
+use Rattle.ring_exec.specs.contracts.relay.Stage.after.Key as key
+use Rattle.ring_exec.specs.contracts.relay.Stage.begin as begin
+use Rattle.ring_exec.specs.contracts.relay.Stage.finish as finish
+use Rattle.ring_exec.proofs.relay.Stage.begin.Met as begin_met
+use Rattle.ring_exec.proofs.relay.Stage.finish.Met as finish_met
 use Rattle.ring_exec.specs.contracts.relay.Stage as stage
 use Rattle.ring_exec.proofs.relay.Stage.TheLaws as stage_laws
 use Rattle.ring_exec.specs.contracts.course.Course as course
@@ -160,8 +162,7 @@ asked R G o κs bs on_course =
     ∷ (κs.1.1.1.1.1.1.0 ⊑ o.B.lives) ∷ (κs.1.1.1.1.1.1.1.0 ⊑ o.L.lives) ∷ (κs.1.1.1.1.1.1.1.1.0 ⊑ o.N.lives)
     ∷ IsSend (param 2 o.B) ∷ IsSend (param 3 o.L) ∷ IsSend (param 4 o.N)
     ∷ IsSync (param 0 R) ∷ IsSync (param 1 G) ∷ IsSync (param 2 o.B) ∷ IsSync (param 3 o.L) ∷ IsSync (param 4 o.N)
-    ∷ (bs.right.name ≡ o.N-ghosts.rightward × bs.right.parts ≡ 1)
-    ∷ (bs.left.name ≡ o.N-ghosts.leftward × bs.left.parts ≡ 1)
+    ∷ AreBlanksOf bs o.N-ghosts.rightward o.N-ghosts.leftward
     ∷ on_course
     ∷ []
 
@@ -189,7 +190,7 @@ asked_inside R G o κs bs new before after ones on_course (r, (g, (b, (l, (n, (s
                   sync_r,
                   (
                     sync_g,
-                    (sync_as 4 2 o.N sync_n, (sync_l, (fresh_sync 4, ((refl, ones.0), ((refl, ones.1), (on_course, tt)))))),
+                    (sync_as 4 2 o.N sync_n, (sync_l, (fresh_sync 4, ((refl, ones.0, refl, ones.1), (on_course, tt))))),
                   ),
                 ),
               ),
@@ -337,7 +338,7 @@ module _ {M : Type 1} (𝓤 : Ura M) (𝓛 : Logic 𝓤) (𝓜 : Model 𝓤 𝓛
           sets ! (of_opd ! (get ! refl)) refl v_ok $ sets ! (of_opd ! (get ! refl)) refl b_ok $
           nothing ! $ move ! (2 ∷ 0 ∷ []) $ join ! $ owned ! u32 _ (uint_Makes 𝓛 w32) n (vint w32 n ∷ []) (refl, low) $ join ! $ move ! (1 ∷ 0 ∷ []) $ join ! $ move ! (1 ∷ 0 ∷ []) $ join ! $
           use1 𝓛 (raw (F.pre y)) (beside 𝓤 _ _ (shown 𝓤 (asked R G o κs bs (on_course κs s n)) met)) $
-          calls_at ! (framed 𝓤 𝓛.H 𝓜 𝓣) F (finish_met.met 𝓤 𝓛 𝓜 𝓡 (code.calls-ring_exec::relay::finish 𝓡.env wired) R G o.B o.L o.N RL GL o.B-laws o.L-laws o.N-laws RT RTd RW RWd GG GGd o.B-ghosts o.B-dict o.L-ghosts o.L-dict o.N-ghosts o.N-dict mT mW mG (λ 𝓛' 𝓜' 𝓡' l. record {}) (λ 𝓛' 𝓜' 𝓡' l. record {}) (λ 𝓛' 𝓜' 𝓡' l. record {})) y
+          calls_at ! (framed 𝓤 𝓛.H 𝓜 𝓣) F (finish_met.met 𝓤 𝓛 𝓜 𝓡 (code.calls-ring_exec::relay::Stage::finish 𝓡.env wired) R G o.B o.L o.N RL GL o.B-laws o.L-laws o.N-laws RT RTd RW RWd GG GGd o.B-ghosts o.B-dict o.L-ghosts o.L-dict o.N-ghosts o.N-dict mT mW mG (λ 𝓛' 𝓜' 𝓡' l. record {}) (λ 𝓛' 𝓜' 𝓡' l. record {}) (λ 𝓛' 𝓜' 𝓡' l. record {})) y
           (and_then ! (get ! refl) (and_then ! (get ! refl) (and_then ! (get ! refl) (no_more !)))) (λ d.
           use1 𝓛 (later (some (λ (r : (Joined κs).Denot). (tokens κs qs ⊛ ‵ ((Joined κs).own_val r (d ∷ []))) ⊛ some (λ (ws : Lasts finish_ended y.0.0 y.0.3). ‵ (lasts finish_ended y.0.0 y.0.3 ws) ⊛ raw (fact 𝓤 (HasEnded s.course.progress 1 r)))))) (id⊢ 𝓤 _) $
           await ! tt $ pick ! (λ r. split ! $ move ! (1 ∷ []) $ pick ! (λ ws. split ! $ drop ! $ heard ! _ (λ all. split ! $ move ! (1 ∷ []) $ peeks ! (Joined κs) (Is (Joined κs)) (shows 𝓛 (Joined κs)) r (d ∷ []) (λ is_r.
@@ -351,10 +352,10 @@ module _ {M : Type 1} (𝓤 : Ura M) (𝓛 : Logic 𝓤) (𝓜 : Model 𝓤 𝓛
           sets ! (of_opd ! (get ! refl)) refl v_ok $ sets ! (of_opd ! (get ! refl)) refl b_ok $
           nothing ! $ move ! (2 ∷ 0 ∷ []) $ join ! $ owned ! u32 _ (uint_Makes 𝓛 w32) n (vint w32 n ∷ []) (refl, low) $ join ! $ move ! (1 ∷ 0 ∷ []) $ join ! $ move ! (1 ∷ 0 ∷ []) $ join ! $
           use1 𝓛 (raw (B.pre y)) (beside 𝓤 _ _ (shown 𝓤 (asked R G o κs bs (on_course κs s n)) met)) $
-          calls_at ! (framed 𝓤 𝓛.H 𝓜 𝓣) B (begin_met.met 𝓤 𝓛 𝓜 𝓡 (code.calls-ring_exec::relay::begin 𝓡.env wired) R G o.B o.L o.N RL GL o.B-laws o.L-laws o.N-laws RT RTd RW RWd GG GGd o.B-ghosts o.B-dict o.L-ghosts o.L-dict o.N-ghosts o.N-dict mT mW mG (λ 𝓛' 𝓜' 𝓡' l. record {}) (λ 𝓛' 𝓜' 𝓡' l. record {}) (λ 𝓛' 𝓜' 𝓡' l. record {})) y
+          calls_at ! (framed 𝓤 𝓛.H 𝓜 𝓣) B (begin_met.met 𝓤 𝓛 𝓜 𝓡 (code.calls-ring_exec::relay::Stage::begin 𝓡.env wired) R G o.B o.L o.N RL GL o.B-laws o.L-laws o.N-laws RT RTd RW RWd GG GGd o.B-ghosts o.B-dict o.L-ghosts o.L-dict o.N-ghosts o.N-dict mT mW mG (λ 𝓛' 𝓜' 𝓡' l. record {}) (λ 𝓛' 𝓜' 𝓡' l. record {}) (λ 𝓛' 𝓜' 𝓡' l. record {})) y
           (and_then ! (get ! refl) (and_then ! (get ! refl) (and_then ! (get ! refl) (no_more !)))) (λ w.
-          use1 𝓛 (later (some (λ (x : (Next κs).Denot). (tokens κs qs ⊛ ‵ ((Next κs).own_val x (w ∷ []))) ⊛ some (λ (ws : Lasts begin_ended y.0.0 y.0.3). ‵ (lasts begin_ended y.0.0 y.0.3 ws) ⊛ raw (fact 𝓤 (IsOnCourse x.course.before x.course.progress n)) ⊛ raw (fact 𝓤 (HasStarted s.course.progress x.course.progress)))))) (id⊢ 𝓤 _) $
-          await ! tt $ pick ! (λ x. split ! $ move ! (1 ∷ []) $ pick ! (λ ws. split ! $ drop ! $ split ! $ heard ! _ (λ goes_on. heard ! _ (λ started. split ! $ move ! (1 ∷ []) $ peeks ! (Next κs) (Is (Next κs)) (shows 𝓛 (Next κs)) x (w ∷ []) (λ is_x.
+          use1 𝓛 (later (some (λ (x : (Next κs).Denot). (tokens κs qs ⊛ ‵ ((Next κs).own_val x (w ∷ []))) ⊛ some (λ (ws : Lasts begin_ended y.0.0 y.0.3). ‵ (lasts begin_ended y.0.0 y.0.3 ws) ⊛ raw (fact 𝓤 (IsOnCourse x.course.before x.course.progress n)) ⊛ raw (fact 𝓤 (HasStarted s.course.progress x.course.progress)) ⊛ raw (fact 𝓤 (IsSome s.course.before → IsNone x.course.before → HasRefused s.course.progress x.course.progress)))))) (id⊢ 𝓤 _) $
+          await ! tt $ pick ! (λ x. split ! $ move ! (1 ∷ []) $ pick ! (λ ws. split ! $ drop ! $ split ! $ heard ! _ (λ goes_on. split ! $ heard ! _ (λ started. heard ! _ (λ _. split ! $ move ! (1 ∷ []) $ peeks ! (Next κs) (Is (Next κs)) (shows 𝓛 (Next κs)) x (w ∷ []) (λ is_x.
           let w_ok = (((next_laws κs).lawful 𝓛).typed x (w ∷ []) is_x).0 in
           lands_as ! refl refl w_ok $ sets ! (of_opd ! (get ! refl)) refl w_ok $
           -- count - 1
@@ -378,7 +379,7 @@ module _ {M : Type 1} (𝓤 : Ura M) (𝓛 : Logic 𝓤) (𝓜 : Model 𝓤 𝓛
           await ! tt $ pick ! (λ r. split ! $ move ! (1 ∷ []) $ pick ! (λ ws. split ! $ drop ! $ heard ! _ (λ all. split ! $ use1 𝓛 (tokens κs qs) (turns (turned κs) (turned_shares qs)) $ move ! (1 ∷ []) $
           peeks ! (Joined κs) (Is (Joined κs)) (shows 𝓛 (Joined κs)) r (d ∷ []) (λ is_r.
           lands_as ! refl refl (((joined_laws.the_row_laws (named_lft 9 3 tt κs)).lawful 𝓛).typed r (d ∷ []) is_r).0 $
-          returns ! (look_at ! 0 refl) $ free_all ! refl $ out v b d r (ended_before s.course.progress x.course.progress n r pos started all)))))))))))))))))))
+          returns ! (look_at ! 0 refl) $ free_all ! refl $ out v b d r (ended_before s.course.progress x.course.progress n r pos started all))))))))))))))))))))
 
       -- from the call's own statement: its facts, and one machine value for each parameter
       walks : (ss ns cs : List Val) → Below 𝓛 grade (λ s. s < n) → ent 𝓤 (W.pre (bound ss ns cs))

@@ -1,4 +1,4 @@
-use Rattle.ring_exec.proofs.relay.run_from.Given as goal
+use Rattle.ring_exec.proofs.relay.Stage.run.Given as goal
 
 -- the first new border has the names of its blanks
 abbrev pub ghosts-after : goal.ghosts-after
