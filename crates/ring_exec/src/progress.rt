@@ -30,13 +30,12 @@ impl<'a> Progress<'a> {
         thread: Option<JoinHandle<Outcome<'a>>>,
     ) -> Result<(), ThreadFault>
         requires few { self.old.index + vec_len self.old.waiting < MAX_SEGMENTS }
-        requires thread_room { vec_len self.old.threads + vec_len self.old.waiting < vec_capacity self.old.threads }
-        requires room { vec_len self.old.joined.segments + vec_len self.old.threads + vec_len self.old.waiting < vec_capacity self.old.joined.segments }
+        requires room { (vec_len self.old.threads + vec_len self.old.waiting < vec_capacity self.old.threads)
+            × (vec_len self.old.joined.segments + vec_len self.old.threads + vec_len self.old.waiting < vec_capacity self.old.joined.segments) }
         ensures index { self.new.index ≡ self.old.index + 1 }
         ensures kept { MatchOption thread.entry ((result ≡ Err NoThread) × (vec_len self.new.threads ≡ vec_len self.old.threads))
             (λ _. (result ≡ Ok tt) × (vec_len self.new.threads ≡ vec_len self.old.threads + 1)) }
-        ensures waiting { self.new.waiting ≡ self.old.waiting }
-        ensures joined { self.new.joined ≡ self.old.joined }
+        ensures rest { (self.new.waiting ≡ self.old.waiting) × (self.new.joined ≡ self.old.joined) }
     {
         self.index += 1;
         self.threads

@@ -1,5 +1,5 @@
 //! The recursion of a run over its segments: each segment beside the segments after it.
-ghost use Rattle.std.specs.Prelude.{◌≡◌, ◌+◌, ◌<◌, ◌≤◌, ◌↔◌, IsNone, IsSome, IfErr, OnOk, vec_len};
+ghost use Rattle.std.specs.Prelude.{◌≡◌, ◌+◌, ◌<◌, ◌⊎◌, IsNone, IsSome, IfErr, OnOk, vec_len};
 ghost use Rattle.border_exchange.specs.declared.Side.TheVariants.{Leftward};
 ghost use Rattle.ring_exec.specs.Borders.{AreBlanksOf};
 ghost use Rattle.ring_exec.specs.Courses.{HasEnded, HasRefused, HasStarted, IsOnCourse};
@@ -163,9 +163,8 @@ impl<
         ensures waiting { vec_len progress.new.waiting + 1 ≡ vec_len progress.old.waiting }
         ensures started { OnOk result ((progress.new.index ≡ progress.old.index + 1)
             × (vec_len progress.new.threads ≡ vec_len progress.old.threads + 1)) }
-        ensures index { (progress.old.index ≤ progress.new.index) × (progress.new.index ≤ progress.old.index + 1) }
-        ensures no_thread { IfErr result (λ fault. (fault ≡ NoThread) ↔ (progress.new.index ≡ progress.old.index + 1)) }
-        ensures no_memory { IfErr result (λ fault. (fault ≡ OfSegment NoMemory) ↔ (progress.new.index ≡ progress.old.index)) }
+        ensures refused { IfErr result (λ fault. ((fault ≡ NoThread) × (progress.new.index ≡ progress.old.index + 1))
+            ⊎ ((fault ≡ OfSegment NoMemory) × (progress.new.index ≡ progress.old.index))) }
         ensures joined { progress.new.joined ≡ progress.old.joined }
     {
         let Some(segment) = progress.waiting.pop() else {

@@ -4,6 +4,7 @@ ghost use Rattle.border_exchange.specs.declared.Side.TheVariants.{Rightward, Lef
 ghost use Rattle.node_program.specs.declared.limits.TheConstants.{MAX_ROUNDS};
 ghost use Rattle.ring_segments.specs.Headings.{heading_of};
 ghost use Rattle.ring_segments.specs.Needs as needs;
+ghost use Rattle.ring_exec.specs.Received.{AreOfRound};
 ghost use Rattle.ring_exec.specs.Seats.{AreSeatsOf};
 ghost use Rattle.ring_exec.specs.declared.end.Stop.TheVariants.{BorderClosed, Fault};
 ghost use Rattle.round_eval.specs.declared.fault.WorkFault.TheVariants.{Stranger};
@@ -149,8 +150,7 @@ fn receive<'a, R: Wait, A: BorderName, B: BorderName>(
     right: &End<Msg<'a>, B>,
 ) -> Result<(Msg<'a>, Msg<'a>), Stop>
     requires sides { (left.now.seat.side ≡ Leftward) × (right.now.seat.side ≡ Rightward) }
-    ensures sides { IfOk result (λ m. ((heading_of m.0).side ≡ Rightward) × ((heading_of m.1).side ≡ Leftward)) }
-    ensures round { IfOk result (λ m. ((heading_of m.0).round ≡ round) × ((heading_of m.1).round ≡ round)) }
+    ensures messages { IfOk result (λ m. AreOfRound round (heading_of m.0) (heading_of m.1)) }
     ensures closed { IfErr result (λ stop. stop ≡ BorderClosed) }
 {
     let from_left = left.take(rt, round)?;
@@ -165,12 +165,10 @@ fn advance<'a>(
     from_right: Msg<'a>,
 ) -> Result<(), Stop>
     requires more { segment.old.round < length segment.old.plan.program.steps }
-    requires sides { ((heading_of from_left).side ≡ Rightward) × ((heading_of from_right).side ≡ Leftward) }
-    requires rounds { ((heading_of from_left).round ≡ segment.old.round) × ((heading_of from_right).round ≡ segment.old.round) }
+    requires messages { AreOfRound segment.old.round (heading_of from_left) (heading_of from_right) }
     ensures exactly { IsOk result ↔ ((heading_of from_left.entry ≡ needs.from_left segment.old) × (heading_of from_right.entry ≡ needs.from_right segment.old)) }
     ensures advanced { OnOk result (segment.new ≡ record segment.old { round = segment.old.round + 1 }) }
-    ensures unchanged { OnErr result (segment.new ≡ segment.old) }
-    ensures stranger { IfErr result (λ stop. stop ≡ Fault Stranger) }
+    ensures stranger { IfErr result (λ stop. (stop ≡ Fault Stranger) × (segment.new ≡ segment.old)) }
 {
     segment.advance(from_left, from_right)?;
     Ok(())
