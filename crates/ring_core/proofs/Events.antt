@@ -1,43 +1,38 @@
 -- Events, as the code applies them to the parts.
 use Rattle.std.proofs.Common.{◌≡◌, ℕ, ◌+◌, ◌<◌, length, arith, refl, inl, inr}
 use Rattle.std.proofs.Math.ListN.{set}
+use Rattle.border_exchange.specs.declared.Side.{Side}
+use Rattle.border_exchange.specs.declared.Side.TheVariants.{Rightward, Leftward}
 use Rattle.round_eval.specs.Laws.{StretchesAreRows}
-use Rattle.ring_core.specs.declared.event.RingEvent.TheVariants.{SendRight, SendLeft, Advance}
+use Rattle.ring_core.specs.declared.event.RingEvent.TheVariants.{Advance}
 use Rattle.ring_core.specs.Machine.{Steps}
-use Rattle.ring_core.specs.Parts.{Progress, Parts, FitTogether, MaySend, part_at, round_at, at_round, machine_of}
+use Rattle.ring_core.specs.Parts.{Progress, Parts, FitTogether, MaySend, part_at, round_at, at_round, sent_by, after_sending, sending, machine_of}
 use Rattle.ring_core.proofs.Enabled.{is_part, can_send, can_advance, may_send}
 use Rattle.ring_core.proofs.Views.{own_right_size, own_left_size}
-use Rattle.ring_core.proofs.Fits.{MayAdvance, fits, sent_right_next, sent_left_next, advanced_next}
+use Rattle.ring_core.proofs.Fits.{MayAdvance, fits, sent_next, advanced_next}
 use Rattle.ring_core.proofs.Moves.{right_moves, left_moves, advance_moves}
 
 module _ (v : Parts) (kept : FitTogether v) (s : ℕ) where
   abbrev pub after : Progress → Parts
   after new = record v { items = set v.items s new }
 
-  pub sent_right_fits : (new : Progress) → s < length v.items → MaySend (part_at v s).segment (part_at v s).rightward
-      → new ≡ record (part_at v s) { rightward = (part_at v s).rightward + 1 } → FitTogether (after new)
-  sent_right_fits new lt may is = fits v s new kept lt (sent_right_next v s new kept lt may is)
-
-  pub sent_left_fits : (new : Progress) → s < length v.items → MaySend (part_at v s).segment (part_at v s).leftward
-      → new ≡ record (part_at v s) { leftward = (part_at v s).leftward + 1 } → FitTogether (after new)
-  sent_left_fits new lt may is = fits v s new kept lt (sent_left_next v s new kept lt may is)
+  pub sent_fits : (side : Side) (new : Progress) → s < length v.items
+      → MaySend (part_at v s).segment (sent_by (part_at v s) side) → new ≡ after_sending (part_at v s) side
+      → FitTogether (after new)
+  sent_fits side new lt may is = fits v s new kept lt (sent_next v s new side kept lt may is)
 
   pub advanced_fits : (new : Progress) → s < length v.items → MayAdvance v s
       → new ≡ record (part_at v s) { segment = at_round (part_at v s).segment (round_at v s + 1) }
       → FitTogether (after new)
   advanced_fits new lt may is = fits v s new kept lt (advanced_next v s new kept lt may is)
 
-  pub sent_right_steps : (new : Progress) → s < length v.items → MaySend (part_at v s).segment (part_at v s).rightward
-      → new ≡ record (part_at v s) { rightward = (part_at v s).rightward + 1 }
-      → Steps (machine_of v) (SendRight s) (machine_of (after new))
-  sent_right_steps new lt may is =
+  pub sent_steps : (side : Side) (new : Progress) → s < length v.items
+      → MaySend (part_at v s).segment (sent_by (part_at v s) side) → new ≡ after_sending (part_at v s) side
+      → Steps (machine_of v) (sending side s) (machine_of (after new))
+  sent_steps Rightward new lt may is =
       let step = kept.right_in_step s lt in
       inl (can_send v kept s _ _ lt (own_right_size v kept s lt) may, right_moves v kept s lt new (omega (arith, may.unsent, step.low)) is)
-
-  pub sent_left_steps : (new : Progress) → s < length v.items → MaySend (part_at v s).segment (part_at v s).leftward
-      → new ≡ record (part_at v s) { leftward = (part_at v s).leftward + 1 }
-      → Steps (machine_of v) (SendLeft s) (machine_of (after new))
-  sent_left_steps new lt may is =
+  sent_steps Leftward new lt may is =
       let step = kept.left_in_step s lt in
       inl (can_send v kept s _ _ lt (own_left_size v kept s lt) may, left_moves v kept s lt new (omega (arith, may.unsent, step.low)) is)
 
@@ -47,10 +42,7 @@ module _ (v : Parts) (kept : FitTogether v) (s : ℕ) where
   advance_steps new law lt may is = inl (can_advance v kept s lt may, advance_moves v kept s lt new law may is)
 
   -- a part that may not move stays
-  pub right_idle : (s < length v.items → ¬ MaySend (part_at v s).segment (part_at v s).rightward) →
-      Steps (machine_of v) (SendRight s) (machine_of v)
-  right_idle none = inr (λ can. let lt = is_part v kept s can.is_segment in none lt (may_send v kept s _ _ (own_right_size v kept s lt) can), refl)
-
-  pub left_idle : (s < length v.items → ¬ MaySend (part_at v s).segment (part_at v s).leftward) →
-      Steps (machine_of v) (SendLeft s) (machine_of v)
-  left_idle none = inr (λ can. let lt = is_part v kept s can.is_segment in none lt (may_send v kept s _ _ (own_left_size v kept s lt) can), refl)
+  pub idle : (side : Side) → (s < length v.items → ¬ MaySend (part_at v s).segment (sent_by (part_at v s) side)) →
+      Steps (machine_of v) (sending side s) (machine_of v)
+  idle Rightward none = inr (λ can. let lt = is_part v kept s can.is_segment in none lt (may_send v kept s _ _ (own_right_size v kept s lt) can), refl)
+  idle Leftward none = inr (λ can. let lt = is_part v kept s can.is_segment in none lt (may_send v kept s _ _ (own_left_size v kept s lt) can), refl)

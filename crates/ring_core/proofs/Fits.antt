@@ -2,9 +2,11 @@
 use Rattle.std.proofs.Common.{◌≡◌, ℕ, ◌+◌, ◌<◌, ◌≤◌, length, arith, refl, sym, ◌∙◌, ap}
 use Rattle.std.proofs.Math.ListN.{set}
 use Rattle.std.proofs.lemmas.List.{length-set}
+use Rattle.border_exchange.specs.declared.Side.{Side}
+use Rattle.border_exchange.specs.declared.Side.TheVariants.{Rightward, Leftward}
 use Rattle.ring_segments.specs.Segments.{RingSegment}
 use Rattle.ring_core.specs.Machine.{border_before, segment_after}
-use Rattle.ring_core.specs.Parts.{Progress, Parts, IsInStep, FitTogether, MaySend, no_part, part_at, round_at, at_round}
+use Rattle.ring_core.specs.Parts.{Progress, Parts, IsInStep, FitTogether, MaySend, no_part, part_at, round_at, at_round, sent_by, after_sending}
 use Rattle.ring_core.proofs.Updates.{set_cases}
 
 -- new may replace part s
@@ -65,11 +67,11 @@ fits v s new kept lt next =
 one_more : (a : RingSegment) (sent : ℕ) → IsInStep a sent → MaySend a sent → IsInStep a (sent + 1)
 one_more a sent step may = record { low = omega (arith, step.low); high = omega (arith, may.unsent); end = omega (arith, may.unfinished, may.unsent) }
 
-pub sent_right_next :
-    (v : Parts) (s : ℕ) (new : Progress) → FitTogether v → s < length v.items
-    → MaySend (part_at v s).segment (part_at v s).rightward
-    → new ≡ record (part_at v s) { rightward = (part_at v s).rightward + 1 } → IsNext v s new
-sent_right_next v s new kept lt may is =
+pub sent_next :
+    (v : Parts) (s : ℕ) (new : Progress) (side : Side) → FitTogether v → s < length v.items
+    → MaySend (part_at v s).segment (sent_by (part_at v s) side) → new ≡ after_sending (part_at v s) side
+    → IsNext v s new
+sent_next v s new Rightward kept lt may is =
     rw is (record {
       segment = refl;
       right_in_step = one_more (part_at v s).segment (part_at v s).rightward (kept.right_in_step s lt) may;
@@ -79,12 +81,7 @@ sent_right_next v s new kept lt may is =
       left_came = kept.from_left s lt;
       right_came = kept.from_right s lt;
     })
-
-pub sent_left_next :
-    (v : Parts) (s : ℕ) (new : Progress) → FitTogether v → s < length v.items
-    → MaySend (part_at v s).segment (part_at v s).leftward
-    → new ≡ record (part_at v s) { leftward = (part_at v s).leftward + 1 } → IsNext v s new
-sent_left_next v s new kept lt may is =
+sent_next v s new Leftward kept lt may is =
     rw is (record {
       segment = refl;
       right_in_step = kept.right_in_step s lt;

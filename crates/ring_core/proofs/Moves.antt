@@ -5,18 +5,19 @@ use Rattle.std.proofs.Math.ListN.{set}
 use Rattle.std.proofs.Math.Seq.{map-set_same}
 use Rattle.std.proofs.lemmas.List.{get_or-set_same, get_or-set_other, map-set, length-set}
 use Rattle.std.proofs.lemmas.List.FromFn.{map-range_with_len_more}
-use Rattle.node_program.specs.Node.{to_left, to_right}
+use Rattle.border_exchange.specs.declared.Side.{Side}
+use Rattle.border_exchange.specs.declared.Side.TheVariants.{Rightward, Leftward}
 use Rattle.round_eval.specs.Rows.{row_after}
 use Rattle.round_eval.specs.Laws.{StretchesAreRows}
 use Rattle.ring_segments.specs.Messages.{Heading, sent_under}
 use Rattle.ring_segments.specs.Segments.{RingSegment, first_of, places_of, states_of}
-use Rattle.ring_segments.specs.Needs.{from_left, from_right, to_the_left, to_the_right}
-use Rattle.ring_core.specs.Machine.{SegmentState, BorderState, no_messages, segment_at, left_border, right_border, border_before, segment_after, first_state, last_state, sent_right, sent_left, advanced}
-use Rattle.ring_core.specs.Parts.{Progress, Parts, FitTogether, no_part, part_at, round_at, at_round, rightward_headings, leftward_headings, segment_state, values_under, rightward_values, leftward_values, machine_of}
+use Rattle.ring_segments.specs.Needs.{from_left, from_right}
+use Rattle.ring_core.specs.Machine.{SegmentState, BorderState, no_messages, segment_at, left_border, right_border, border_before, segment_after, sent_right, sent_left, advanced}
+use Rattle.ring_core.specs.Parts.{Progress, Parts, FitTogether, no_part, part_at, round_at, at_round, rightward_headings, leftward_headings, headings_of, sent_by, segment_state, values_under, rightward_values, leftward_values, machine_of}
 use Rattle.ring_core.proofs.Fits.{MayAdvance}
 use Rattle.ring_core.proofs.Neighbours.{before_inside, after_before, before_after}
 use Rattle.ring_core.proofs.Updates.{set_unseen, set_made}
-use Rattle.ring_core.proofs.Views.{value_at, right_message, left_message, plain, some_places, inside_ring, left_needed, right_needed, count_is, plain_is, own_leftward, own_rightward, came_rightward, came_leftward}
+use Rattle.ring_core.proofs.Views.{value_at, message_of, message_is, plain, some_places, inside_ring, left_needed, right_needed, count_is, plain_is, own_leftward, own_rightward, came_rightward, came_leftward}
 
 -- one value more
 more_values :
@@ -51,26 +52,17 @@ module _ (v : Parts) (kept : FitTogether v) (s : ℕ) (lt : s < length v.items) 
       → leftward_values (part_at v k) ≡ leftward_values (part_at replaced k)
   same_left same = set_unseen leftward_values v.items s new no_part lt same
 
-  -- the messages of segment s in its round
-  sends_right : (part_at v s).segment.round ≡ (part_at v s).rightward
-      → (λ (a : SegmentState). to_right v.plan.program a.round (last_state a)) (segment_at (machine_of v) s)
-      ≡ sent_under (rightward_headings (part_at v s).segment (part_at v s).rightward)
-  sends_right now =
-      let a = plain v kept s (round_at v s) in
-      ap (λ (b : SegmentState). to_right v.plan.program b.round (last_state b)) (plain_is v kept s lt)
-      ∙ right_message a (some_places v kept s (round_at v s))
-      ∙ ap (λ (b : RingSegment). sent_under (to_the_right b)) (sym (kept.segments_are s lt))
-      ∙ ap (λ k. sent_under (rightward_headings (part_at v s).segment k)) now
+  -- the message of segment s to a side in its round
+  abbrev message : Side → ℕ
+  message side = message_of v.plan.program side (segment_at (machine_of v) s)
 
-  sends_left : (part_at v s).segment.round ≡ (part_at v s).leftward
-      → (λ (a : SegmentState). to_left v.plan.program a.round (first_state a)) (segment_at (machine_of v) s)
-      ≡ sent_under (leftward_headings (part_at v s).segment (part_at v s).leftward)
-  sends_left now =
-      let a = plain v kept s (round_at v s) in
-      ap (λ (b : SegmentState). to_left v.plan.program b.round (first_state b)) (plain_is v kept s lt)
-      ∙ left_message a (some_places v kept s (round_at v s))
-      ∙ ap (λ (b : RingSegment). sent_under (to_the_left b)) (sym (kept.segments_are s lt))
-      ∙ ap (λ k. sent_under (leftward_headings (part_at v s).segment k)) now
+  sends : (side : Side) → sent_by (part_at v s) side ≡ round_at v s
+      → message side ≡ sent_under (headings_of (part_at v s).segment side (sent_by (part_at v s) side))
+  sends side now =
+      ap (message_of v.plan.program side) (plain_is v kept s lt)
+      ∙ message_is side (plain v kept s (round_at v s)) (some_places v kept s (round_at v s))
+      ∙ ap (λ (b : RingSegment). sent_under (headings_of b side (round_at v s))) (sym (kept.segments_are s lt))
+      ∙ ap (λ k. sent_under (headings_of (part_at v s).segment side k)) (sym now)
 
   pub right_moves : (part_at v s).rightward ≡ round_at v s
       → new ≡ record (part_at v s) { rightward = (part_at v s).rightward + 1 }
@@ -80,16 +72,15 @@ module _ (v : Parts) (kept : FitTogether v) (s : ℕ) (lt : s < length v.items) 
       let p = part_at v s in
       let m = machine_of v in
       let here : BorderState = right_border m s in
-      let message = (λ (a : SegmentState). to_right v.plan.program a.round (last_state a)) (segment_at m s) in
-      let rightward : here.rightward ++ message ∷ [] ≡ rightward_values (part_at replaced s) =
-      ap (λ values. values ++ message ∷ []) (own_rightward v kept s lt)
-      ∙ ap (λ k. rightward_values p ++ k ∷ []) (sends_right (sym now))
+      let rightward : here.rightward ++ message Rightward ∷ [] ≡ rightward_values (part_at replaced s) =
+      ap (λ values. values ++ message Rightward ∷ []) (own_rightward v kept s lt)
+      ∙ ap (λ k. rightward_values p ++ k ∷ []) (sends Rightward now)
       ∙ sym (more_values (rightward_headings p.segment) p.rightward)
       ∙ ap rightward_values (sym is ∙ sym (get_or-set_same v.items s new no_part lt)) in
       let leftward : here.leftward ≡ leftward_values (part_at replaced (segment_after g s)) =
       came_leftward v kept s lt ∙ same_left (ap leftward_values is) (segment_after g s) in
       let borders = set_made (border_of v.items g) (border_of (set v.items s new) g) g s
-      (record { rightward = here.rightward ++ message ∷ []; leftward = here.leftward }) no_messages lt
+      (record { rightward = here.rightward ++ message Rightward ∷ []; leftward = here.leftward }) no_messages lt
       (λ i. record { rightward = rightward i; leftward = leftward i })
       (λ k ne below. let other = ap rightward_values (sym (get_or-set_other v.items s k new no_part ne)) in
       let left = same_left (ap leftward_values is) (segment_after g k) in
@@ -108,16 +99,15 @@ module _ (v : Parts) (kept : FitTogether v) (s : ℕ) (lt : s < length v.items) 
       let p = part_at v s in
       let m = machine_of v in
       let here : BorderState = left_border m s in
-      let message = (λ (a : SegmentState). to_left v.plan.program a.round (first_state a)) (segment_at m s) in
-      let leftward : here.leftward ++ message ∷ [] ≡ leftward_values (part_at replaced (segment_after g b)) =
-      ap (λ values. values ++ message ∷ []) (own_leftward v kept s lt)
-      ∙ ap (λ k. leftward_values p ++ k ∷ []) (sends_left (sym now))
+      let leftward : here.leftward ++ message Leftward ∷ [] ≡ leftward_values (part_at replaced (segment_after g b)) =
+      ap (λ values. values ++ message Leftward ∷ []) (own_leftward v kept s lt)
+      ∙ ap (λ k. leftward_values p ++ k ∷ []) (sends Leftward now)
       ∙ sym (more_values (leftward_headings p.segment) p.leftward)
       ∙ ap leftward_values (sym is ∙ sym (get_or-set_same v.items s new no_part lt))
       ∙ ap (λ k. leftward_values (part_at replaced k)) (sym (after_before g s lt)) in
       let rightward : here.rightward ≡ rightward_values (part_at replaced b) =
       came_rightward v kept s lt ∙ same_right (ap rightward_values is) b in
-      let sent : BorderState = record { rightward = here.rightward; leftward = here.leftward ++ message ∷ [] } in
+      let sent : BorderState = record { rightward = here.rightward; leftward = here.leftward ++ message Leftward ∷ [] } in
       let borders = set_made (border_of v.items g) (border_of (set v.items s new) g) g b sent no_messages
       (before_inside g s kept.some)
       (λ i. record { rightward = rightward i; leftward = leftward i })

@@ -13,7 +13,7 @@ use Rattle.ring_segments.specs.Segments.{RingSegment, first_of, places_of, state
 use Rattle.ring_segments.specs.Needs.{from_left, from_right, to_the_left, to_the_right}
 use Rattle.ring_core.specs.Machine.{SegmentState, Machine, segment_at, border_at, left_border, right_border, border_before, segment_after}
 use Rattle.ring_core.specs.MachinePromises.{HasGlobalStates, HasGlobalMessages, AreNear, segment_after_rounds, sent_at, heading_at}
-use Rattle.ring_core.specs.Parts.{Parts, FitTogether, AreInOrder, part_at, round_at, rightward_headings, leftward_headings, values_under, machine_of}
+use Rattle.ring_core.specs.Parts.{Parts, FitTogether, AreInOrder, part_at, round_at, at_round, rightward_headings, leftward_headings, values_under, machine_of}
 use Rattle.ring_core.proofs.Neighbours.{before_inside, after_inside, before_after}
 use Rattle.ring_core.proofs.Views.{value_at, plain, count_is, plain_is, round_is, left_needed, right_needed, own_rightward, own_right_size, came_leftward, came_left_size}
 
@@ -134,27 +134,29 @@ module _ (v : Parts) (kept : FitTogether v) where
       }
 
   -- the messages of a segment's neighbours in a round are those that it needs
+  beside : (place : ℕ → ℕ → ℕ) (message : RingSegment → Heading) (s r : ℕ) (needed : Heading)
+      → place (length v.items) s < length v.items
+      → message (at_round (part_at v (place (length v.items) s)).segment r) ≡ needed
+      → message (segment_after_rounds (machine_of v) (place (length (machine_of v).segments) s) r) ≡ needed
+  beside place message s r needed lt is =
+      let b = place (length v.items) s in
+      ap (λ g. message (segment_after_rounds (machine_of v) (place g s) r)) (count_is v kept)
+      ∙ ap message (named_is b r r refl) ∙ sym (ap (λ (a : RingSegment). message (at_round a r)) (kept.segments_are b lt))
+      ∙ is
+
   pub left_beside : (s r : ℕ) → s < length v.items
       → to_the_right (segment_after_rounds (machine_of v) (border_before (length (machine_of v).segments) s) r)
       ≡ from_left (segment_after_rounds (machine_of v) s r)
   left_beside s r lt =
-      let b = border_before (length v.items) s in
-      ap (λ g. to_the_right (segment_after_rounds (machine_of v) (border_before g s) r)) (count_is v kept)
-      ∙ ap to_the_right (named_is b r r refl)
-      ∙ sym (ap (λ (a : RingSegment). rightward_headings a r)
-      (kept.segments_are b (before_inside (length v.items) s kept.some)))
-      ∙ left_needed v kept s r lt ∙ ap from_left (sym (named_is s r r refl))
+      beside border_before to_the_right s r _ (before_inside (length v.items) s kept.some)
+      (left_needed v kept s r lt ∙ ap from_left (sym (named_is s r r refl)))
 
   pub right_beside : (s r : ℕ) → s < length v.items
       → to_the_left (segment_after_rounds (machine_of v) (segment_after (length (machine_of v).segments) s) r)
       ≡ from_right (segment_after_rounds (machine_of v) s r)
   right_beside s r lt =
-      let b = segment_after (length v.items) s in
-      ap (λ g. to_the_left (segment_after_rounds (machine_of v) (segment_after g s) r)) (count_is v kept)
-      ∙ ap to_the_left (named_is b r r refl)
-      ∙ sym (ap (λ (a : RingSegment). leftward_headings a r)
-      (kept.segments_are b (after_inside (length v.items) s kept.some)))
-      ∙ right_needed v kept s r lt ∙ ap from_right (sym (named_is s r r refl))
+      beside segment_after to_the_left s r _ (after_inside (length v.items) s kept.some)
+      (right_needed v kept s r lt ∙ ap from_right (sym (named_is s r r refl)))
 
 -- the left border of the next segment is the right border of a segment
 pub same_border : (m : Machine) (s : ℕ) → s < length m.segments →

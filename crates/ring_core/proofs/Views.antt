@@ -2,15 +2,17 @@
 use Rattle.std.proofs.Common.{◌≡◌, ℕ, ◌+◌, ◌-◌, ◌<◌, ◌≤◌, [], length, get_or, arith, ◌∙◌, ap}
 use Rattle.std.proofs.lemmas.List.{get_or-map, length-map}
 use Rattle.std.proofs.lemmas.List.FromFn.{length-map-range_with_len, get_or-map-range_with_len}
+use Rattle.border_exchange.specs.declared.Side.{Side}
 use Rattle.border_exchange.specs.declared.Side.TheVariants.{Rightward, Leftward}
 use Rattle.node_program.specs.Node.{to_left, to_right}
+use Rattle.node_program.specs.Term.{ProgramTree}
 use Rattle.node_program.specs.GlobalRounds.{left_of, right_of, state}
 use Rattle.ring_segments.specs.Messages.{Heading, sent_under}
 use Rattle.ring_segments.specs.SegmentPlaces.{first_place}
 use Rattle.ring_segments.specs.Segments.{RingSegment, first_of, places_of, states_of}
-use Rattle.ring_segments.specs.Needs.{from_left, from_right, to_the_left, to_the_right}
+use Rattle.ring_segments.specs.Needs.{from_left, from_right}
 use Rattle.ring_core.specs.Machine.{SegmentState, BorderState, no_places, no_messages, segment_at, border_at, left_border, right_border, border_before, segment_after, first_state, last_state}
-use Rattle.ring_core.specs.Parts.{Progress, Parts, FitTogether, no_part, part_at, round_at, rightward_headings, leftward_headings, segment_state, values_under, rightward_values, leftward_values, border_state, machine_of}
+use Rattle.ring_core.specs.Parts.{Progress, Parts, FitTogether, no_part, part_at, round_at, rightward_headings, leftward_headings, headings_of, segment_state, values_under, rightward_values, leftward_values, border_state, machine_of}
 use Rattle.ring_segments.proofs.Places.{first_place-grows, first_place-inside}
 use Rattle.ring_core.proofs.Neighbours.{before_inside, after_inside, after_before, left_end, right_end}
 
@@ -22,21 +24,21 @@ pub value_at :
     (heading : ℕ → Heading) (count k : ℕ) → k < count → get_or (values_under heading count) k 0 ≡ sent_under (heading k)
 value_at heading count k lt = get_or-map-range_with_len (λ j. sent_under (heading j)) 0 count k k 0 lt (omega arith)
 
--- the messages of a segment's ends
-pub right_message :
-    (a : RingSegment) → 0 < places_of a
-    → to_right a.plan.program a.round (last_state (segment_state a)) ≡ sent_under (to_the_right a)
-right_message a some =
+-- the message of a segment's end to a side
+abbrev pub message_of : ProgramTree → Side → SegmentState → ℕ
+message_of p Rightward a = to_right p a.round (last_state a)
+message_of p Leftward a = to_left p a.round (first_state a)
+
+pub message_is :
+    (side : Side) (a : RingSegment) → 0 < places_of a
+    → message_of a.plan.program side (segment_state a) ≡ sent_under (headings_of a side a.round)
+message_is Rightward a some =
     let n = places_of a in
     let f = state a.plan.program a.ring.places a.round in
     ap (to_right a.plan.program a.round)
     (ap (λ k. get_or (states_of a) (k - 1) []) (length-map-range_with_len f (first_of a) n)
     ∙ get_or-map-range_with_len f (first_of a) n (n - 1) (first_of a + n - 1) [] (omega arith) (omega arith))
-
-pub left_message :
-    (a : RingSegment) → 0 < places_of a
-    → to_left a.plan.program a.round (first_state (segment_state a)) ≡ sent_under (to_the_left a)
-left_message a some =
+message_is Leftward a some =
     ap (to_left a.plan.program a.round)
     (get_or-map-range_with_len (state a.plan.program a.ring.places a.round) (first_of a) (places_of a) 0 (first_of a) []
     some (omega arith))

@@ -5,11 +5,15 @@ use Rattle.std.specs.List.{range_with_len}
 use Rattle.node_program.specs.Term.{Identifier}
 use Rattle.lang_check.specs.Plans.{ProgramForIds}
 use Rattle.win_index.specs.Ring.{OrientedRing}
+use Rattle.border_exchange.specs.declared.Side.{Side}
+use Rattle.border_exchange.specs.declared.Side.TheVariants.{Rightward, Leftward}
 use Rattle.ring_segments.specs.declared.message.Msg.{Msg}
 use Rattle.ring_segments.specs.Messages.{Heading, sent_under}
 use Rattle.ring_segments.specs.Headings.{heading_of}
 use Rattle.ring_segments.specs.Segments.{RingSegment, states_of}
 use Rattle.ring_segments.specs.Needs.{to_the_right, to_the_left}
+use Rattle.ring_core.specs.declared.event.RingEvent.{RingEvent}
+use Rattle.ring_core.specs.declared.event.RingEvent.TheVariants.{SendRight, SendLeft}
 use Rattle.ring_core.specs.Machine.{SegmentState, BorderState, Machine, border_before, segment_after}
 
 -- a segment, and the numbers of its messages to the right and to the left
@@ -32,6 +36,25 @@ rightward_headings a r = to_the_right (at_round a r)
 
 abbrev pub leftward_headings : RingSegment → ℕ → Heading
 leftward_headings a r = to_the_left (at_round a r)
+
+-- its messages to a side
+abbrev pub headings_of : RingSegment → Side → ℕ → Heading
+headings_of a Rightward = rightward_headings a
+headings_of a Leftward = leftward_headings a
+
+-- the number of a part's messages to a side, and the part after one more
+abbrev pub sent_by : Progress → Side → ℕ
+sent_by p Rightward = p.rightward
+sent_by p Leftward = p.leftward
+
+abbrev pub after_sending : Progress → Side → Progress
+after_sending p Rightward = record p { rightward = p.rightward + 1 }
+after_sending p Leftward = record p { leftward = p.leftward + 1 }
+
+-- the event that a segment sends to a side
+abbrev pub sending : Side → ℕ → RingEvent
+sending Rightward s = SendRight s
+sending Leftward s = SendLeft s
 
 -- the invariant of a part's messages
 pub record KeepsMessages (a : RingSegment) (rightward leftward : List Msg) : Type 0 where
@@ -80,6 +103,12 @@ opening_part plan ring g s =
       rightward = 0;
       leftward = 0;
     }
+
+-- the ring has the plan's shape, and at least as many places as segments
+pub record CanBeCut (plan : ProgramForIds) (ring : OrientedRing) (segments : ℕ) : Type 0 where
+  pub ids : ring.ids ≡ plan.ids
+  pub rounds : ring.rounds ≡ length plan.program.steps
+  pub few : segments ≤ length ring.places
 
 -- part s is segment s, and has done no round in which its neighbours had not sent
 pub record FitTogether (v : Parts) : Type 0 where

@@ -2,8 +2,9 @@
 ghost use Rattle.std.specs.Prelude.{◌≡◌, ◌+◌, ◌*◌, ◌<◌, ◌≤◌, ◌↔◌, IfOk, IfSome, IfNone, IsTrue, OnOk, OnErr, length};
 ghost use Rattle.round_eval.specs.Rows.{rows};
 ghost use Rattle.ring_segments.specs.Segments.{places_of, states_of};
-ghost use Rattle.ring_core.specs.Parts.{Progress, MaySend, opening_part, at_round};
+ghost use Rattle.ring_core.specs.Parts.{Progress, CanBeCut, MaySend, opening_part, at_round, sent_by, after_sending};
 
+use border_exchange::Side;
 use lang_check::Plan;
 use node_program::OutOfMemory;
 use ring_segments::{Msg, Segment};
@@ -36,7 +37,7 @@ impl<'a> Model for Part<'a> {
 impl<'a> Part<'a> {
     ghost use Rattle.ring_segments.specs.Headings.{heading_of};
     ghost use Rattle.ring_segments.specs.Needs.{from_left, from_right};
-    ghost use Rattle.ring_core.specs.Parts.{AreInOrder, rightward_headings, leftward_headings};
+    ghost use Rattle.ring_core.specs.Parts.{AreInOrder, headings_of};
 
     // Returns the part before its first round, without messages.
     pub(crate) fn new(
@@ -46,9 +47,7 @@ impl<'a> Part<'a> {
         segments: u32,
         index: u32,
     ) -> Result<Part<'a>, OutOfMemory>
-        requires ids { ring.now.ids ≡ plan.now.ids }
-        requires rounds { ring.now.rounds ≡ length plan.now.program.steps }
-        requires segments { segments ≤ length ring.now.places }
+        requires cut { CanBeCut plan.now ring.now segments }
         requires index { index < segments }
         ensures { IfOk result (λ part. part ≡ opening_part plan.now ring.now segments index) }
     {
@@ -75,52 +74,31 @@ impl<'a> Part<'a> {
         self.segment.states()
     }
 
-    // Returns the messages sent to the right.
-    pub(crate) fn rightward(&self) -> &[Msg<'a>]
-        ensures size { length result.now ≡ self.now.rightward }
-        ensures each { AreInOrder (rightward_headings self.now.segment) result.now }
+    // Returns the messages sent to a side.
+    pub(crate) fn sent(&self, side: Side) -> &[Msg<'a>]
+        ensures size { length result.now ≡ sent_by self.now side }
+        ensures each { AreInOrder (headings_of self.now.segment side) result.now }
     {
-        self.rightward.as_slice()
+        match side {
+            Side::Rightward => self.rightward.as_slice(),
+            Side::Leftward => self.leftward.as_slice(),
+        }
     }
 
-    // Returns the messages sent to the left.
-    pub(crate) fn leftward(&self) -> &[Msg<'a>]
-        ensures size { length result.now ≡ self.now.leftward }
-        ensures each { AreInOrder (leftward_headings self.now.segment) result.now }
+    // Returns the message sent to a side in a round, if any.
+    pub(crate) fn sent_in(&self, side: Side, round: u32) -> Option<Msg<'a>>
+        ensures none { IfNone result (sent_by self.now side ≤ round) }
+        ensures some { IfSome result (λ m. (round < sent_by self.now side) × (heading_of m ≡ headings_of self.now.segment side round)) }
     {
-        self.leftward.as_slice()
+        self.sent(side).get(round as usize).copied()
     }
 
-    // Returns the message sent to the right in a round, if any.
-    pub(crate) fn sent_right_in(&self, round: u32) -> Option<Msg<'a>>
-        ensures none { IfNone result (self.now.rightward ≤ round) }
-        ensures some { IfSome result (λ m. (round < self.now.rightward) × (heading_of m ≡ rightward_headings self.now.segment round)) }
-    {
-        self.rightward.get(round as usize).copied()
-    }
-
-    // Returns the message sent to the left in a round, if any.
-    pub(crate) fn sent_left_in(&self, round: u32) -> Option<Msg<'a>>
-        ensures none { IfNone result (self.now.leftward ≤ round) }
-        ensures some { IfSome result (λ m. (round < self.now.leftward) × (heading_of m ≡ leftward_headings self.now.segment round)) }
-    {
-        self.leftward.get(round as usize).copied()
-    }
-
-    // Returns whether it may send to the right.
-    pub(crate) fn may_send_right(&self) -> bool
-        ensures { IsTrue result ↔ MaySend self.now.segment self.now.rightward }
+    // Returns whether it may send to a side.
+    pub(crate) fn may_send(&self, side: Side) -> bool
+        ensures { IsTrue result ↔ MaySend self.now.segment (sent_by self.now side) }
     {
         let round = self.segment.round();
-        round < self.segment.rounds() && self.rightward.len() <= round as usize
-    }
-
-    // Returns whether it may send to the left.
-    pub(crate) fn may_send_left(&self) -> bool
-        ensures { IsTrue result ↔ MaySend self.now.segment self.now.leftward }
-    {
-        let round = self.segment.round();
-        round < self.segment.rounds() && self.leftward.len() <= round as usize
+        round < self.segment.rounds() && self.sent(side).len() <= round as usize
     }
 
     // Returns whether it has sent both ways in its current round.
@@ -131,26 +109,18 @@ impl<'a> Part<'a> {
         round < self.rightward.len() && round < self.leftward.len()
     }
 
-    // Sends the message of the current round to the right.
-    pub(crate) fn send_right(&mut self) -> Result<(), OutOfMemory>
+    // Sends the message of the current round to a side.
+    pub(crate) fn send(&mut self, side: Side) -> Result<(), OutOfMemory>
         requires unfinished { self.old.segment.round < length self.old.segment.plan.program.steps }
-        requires in_order { self.old.rightward ≡ self.old.segment.round }
-        ensures sent { OnOk result (self.new ≡ record self.old { rightward = self.old.rightward + 1 }) }
+        requires in_order { sent_by self.old side ≡ self.old.segment.round }
+        ensures sent { OnOk result (self.new ≡ after_sending self.old side) }
         ensures same { OnErr result (self.new ≡ self.old) }
     {
-        let (message, _) = self.segment.outgoing();
-        Ok(self.rightward.push(message)?)
-    }
-
-    // Sends the message of the current round to the left.
-    pub(crate) fn send_left(&mut self) -> Result<(), OutOfMemory>
-        requires unfinished { self.old.segment.round < length self.old.segment.plan.program.steps }
-        requires in_order { self.old.leftward ≡ self.old.segment.round }
-        ensures sent { OnOk result (self.new ≡ record self.old { leftward = self.old.leftward + 1 }) }
-        ensures same { OnErr result (self.new ≡ self.old) }
-    {
-        let (_, message) = self.segment.outgoing();
-        Ok(self.leftward.push(message)?)
+        let (rightward, leftward) = self.segment.outgoing();
+        match side {
+            Side::Rightward => Ok(self.rightward.push(rightward)?),
+            Side::Leftward => Ok(self.leftward.push(leftward)?),
+        }
     }
 
     // Does one more round, with the messages of the neighbours.

@@ -5,6 +5,7 @@ ghost use Rattle.ring_core.specs.MachinePromises.{HasGlobalStates, HasGlobalMess
 
 use crate::event::RingEvent;
 use crate::world::World;
+use border_exchange::Side;
 use lang_check::Plan;
 use node_program::OutOfMemory;
 use std::alloc::Global;
@@ -53,8 +54,8 @@ impl<'a> World<'a> {
         ensures { OnOk result (Steps self.old event self.new) }
     {
         match event {
-            RingEvent::SendRight(segment) => self.send_right(segment),
-            RingEvent::SendLeft(segment) => self.send_left(segment),
+            RingEvent::SendRight(segment) => self.send(Side::Rightward, segment),
+            RingEvent::SendLeft(segment) => self.send(Side::Leftward, segment),
             RingEvent::Advance(segment) => {
                 self.advance(segment);
                 Ok(())

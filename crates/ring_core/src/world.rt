@@ -5,7 +5,7 @@ ghost use Rattle.round_eval.specs.Rows.{rows};
 ghost use Rattle.ring_segments.specs.Segments.{states_of};
 ghost use Rattle.ring_core.specs.Machine.{Steps, CanAdvance, segment_at, left_border, right_border, border_before, segment_after, opening as opening_of};
 ghost use Rattle.ring_core.specs.MachinePromises.{HasGlobalStates, HasGlobalMessages, AreNear, segment_after_rounds, sent_at, heading_at};
-ghost use Rattle.ring_core.specs.Parts.{opening_part};
+ghost use Rattle.ring_core.specs.Parts.{CanBeCut, opening_part, sending};
 
 use crate::event::RingEvent;
 use crate::part::Part;
@@ -54,34 +54,21 @@ impl<'a> World<'a> {
         ring: &'a Ring,
         segments: u32,
     ) -> Result<World<'a>, OutOfMemory>
-        requires ids { ring.now.ids ≡ plan.now.ids }
-        requires rounds { ring.now.rounds ≡ length plan.now.program.steps }
+        requires cut { CanBeCut plan.now ring.now segments }
         requires some { 1 ≤ segments }
-        requires few { segments ≤ length ring.now.places }
         ensures { IfOk result (λ world. world ≡ opening_of plan.now ring.now segments) }
     {
         let parts = opening_parts(alloc, plan, ring, segments)?;
         Ok(World { plan, ring, parts })
     }
 
-    // Lets a segment send to the right.
-    pub(crate) fn send_right(&mut self, segment: u32) -> Result<(), OutOfMemory>
-        ensures { OnOk result (Steps self.old (RingEvent.SendRight segment) self.new) }
+    // Lets a segment send to a side.
+    pub(crate) fn send(&mut self, side: Side, segment: u32) -> Result<(), OutOfMemory>
+        ensures { OnOk result (Steps self.old (sending side segment) self.new) }
     {
         let index = segment as usize;
-        if index < self.parts.len() && self.parts[index].may_send_right() {
-            self.parts[index].send_right()?;
-        }
-        Ok(())
-    }
-
-    // Lets a segment send to the left.
-    pub(crate) fn send_left(&mut self, segment: u32) -> Result<(), OutOfMemory>
-        ensures { OnOk result (Steps self.old (RingEvent.SendLeft segment) self.new) }
-    {
-        let index = segment as usize;
-        if index < self.parts.len() && self.parts[index].may_send_left() {
-            self.parts[index].send_left()?;
+        if index < self.parts.len() && self.parts[index].may_send(side) {
+            self.parts[index].send(side)?;
         }
         Ok(())
     }
@@ -126,7 +113,8 @@ impl<'a> World<'a> {
     {
         self.neighbours();
         let count = self.count();
-        self.part((index + count - 1) % count).sent_right_in(round)
+        self.part((index + count - 1) % count)
+            .sent_in(Side::Rightward, round)
     }
 
     // Returns the message that came to a segment from its right in a round, if any.
@@ -138,7 +126,8 @@ impl<'a> World<'a> {
     {
         self.neighbours();
         let count = self.count();
-        self.part((index + 1) % count).sent_left_in(round)
+        self.part((index + 1) % count)
+            .sent_in(Side::Leftward, round)
     }
 
     // Proves that what the neighbours of a segment send in a round is what it needs in that round.
@@ -210,8 +199,8 @@ impl<'a> World<'a> {
         self.promises();
         let index = border as usize;
         match side {
-            Side::Rightward => self.part(index).rightward(),
-            Side::Leftward => self.part((index + 1) % self.count()).leftward(),
+            Side::Rightward => self.part(index).sent(Side::Rightward),
+            Side::Leftward => self.part((index + 1) % self.count()).sent(Side::Leftward),
         }
     }
 }
@@ -223,9 +212,7 @@ fn opening_parts<'a>(
     ring: &'a Ring,
     segments: u32,
 ) -> Result<Vec<Part<'a>>, OutOfMemory>
-    requires ids { ring.now.ids ≡ plan.now.ids }
-    requires rounds { ring.now.rounds ≡ length plan.now.program.steps }
-    requires few { segments ≤ length ring.now.places }
+    requires { CanBeCut plan.now ring.now segments }
     ensures { IfOk result (λ parts. parts.items ≡ map (opening_part plan.now ring.now segments) (range_with_len 0 segments)) }
 {
     let mut parts = Vec::new(alloc);

@@ -9,5 +9,5 @@ returns-clause-needed c =
     let r = c.args.round in
     let here = rw c.count-count.ensures.value at c.part.ensures.segment in
     let beside = c.neighbours.ensures.left c.args.index r c.requires in
-    IfSome_then c.sent_right_in.result c.sent_right_in.ensures.some
+    IfSome_then c.sent_in.result c.sent_in.ensures.some
     (λ m sent. sent.1 ∙ ap (λ (a : RingSegment). rightward_headings a r) here ∙ beside)

@@ -9,7 +9,7 @@ invariant_of-result c =
     let ring = c.args.ring.now in
     subst (λ (items : List Progress). FitTogether record { plan = plan; ring = ring; items = items })
     (sym c.in_ok-parts.ensures)
-    (opening_fits plan ring c.args.segments c.requires.some c.requires.few)
+    (opening_fits plan ring c.args.segments c.requires.some c.requires.cut.few)
 
 pub returns : goal.returns
 returns c =
