@@ -50,7 +50,7 @@ pub fn explanation_text(
     write_rounds(&mut text, explained, program.steps(), &mut places)?;
     text.push_str("finish")?;
     let last = places.held_by(place);
-    write_under(
+    write_tree(
         alloc,
         &mut text,
         base,
@@ -84,22 +84,6 @@ fn reading(registers: &[u32], left: u32, right: u32) -> Env<'_>
     }
 }
 
-// Ends the line of a heading, and appends the tree of an expression under it.
-fn write_under(
-    alloc: Global,
-    text: &mut String,
-    base: Base,
-    env: Env<'_>,
-    expression: &Expr,
-) -> Result<(), AllocError>
-    requires { depth (term_of expression.now) ≤ MAX_DEPTH }
-    ensures { OnOk result (string_bytes text.new
-        ≡ string_bytes text.old ++ (codes "\n" ++ tree_lines base (env_of env.entry) (term_of expression.now))) }
-{
-    text.push_str("\n")?;
-    write_tree(alloc, text, base, env, expression)
-}
-
 // Appends the heading of what gives the registers after this many rounds.
 pub(crate) fn write_phase(text: &mut String, rounds: u32) -> Result<(), AllocError>
     ensures { OnOk result (string_bytes text.new ≡ string_bytes text.old ++ phase rounds) }
@@ -126,7 +110,7 @@ fn write_assigned(
     'registers: for (register, expression) in expressions.iter().enumerate() {
         write_phase(text, rounds)?;
         write!(text, " r{register}")?;
-        write_under(explained.alloc, text, explained.base, env, expression)?;
+        write_tree(explained.alloc, text, explained.base, env, expression)?;
     }
     Ok(())
 }
@@ -174,10 +158,10 @@ fn write_round(
     let own = places.held_by(place);
     write_phase(text, number)?;
     text.push_str(" left")?;
-    write_under(alloc, text, base, reading(own, 0, 0), &round.left)?;
+    write_tree(alloc, text, base, reading(own, 0, 0), &round.left)?;
     write_phase(text, number)?;
     text.push_str(" right")?;
-    write_under(alloc, text, base, reading(own, 0, 0), &round.right)?;
+    write_tree(alloc, text, base, reading(own, 0, 0), &round.right)?;
     let left = from_left(places, place);
     let right = from_right(places, place);
     let read = reading(own, left, right);

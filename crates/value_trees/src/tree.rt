@@ -1,6 +1,6 @@
 //! The tree of an expression: a line for each of its parts, with the value of the part.
 
-ghost use Rattle.std.specs.Prelude.{◌≡◌, ◌+◌, ◌≤◌, ◌++◌, ◌<◌, ◌^◌, OnOk, string_bytes, replicate};
+ghost use Rattle.std.specs.Prelude.{◌≡◌, ◌+◌, ◌≤◌, ◌++◌, ◌<◌, ◌^◌, OnOk, codes, string_bytes, replicate};
 ghost use Rattle.node_program.specs.Term.{depth, term_of};
 ghost use Rattle.node_program.specs.Value.{env_of};
 ghost use Rattle.value_trees.specs.Trees.{part_values, part_line, part_lines, tree_lines};
@@ -11,14 +11,15 @@ use numerals::{Base, Form, form_of, write_number};
 use round_eval::value_of;
 use std::alloc::{AllocError, Global};
 
-// What the parts of a tree share: the form of their values, and what they read.
+// What the parts of a tree share: the memory and the form of their values, and what they read.
 #[derive(Clone, Copy)]
 struct Shared<'a> {
+    alloc: Global,
     form: Form,
     env: Env<'a>,
 }
 
-// Appends the tree of an expression in this base, below a heading.
+// Ends the line of a heading, and appends the tree of an expression in this base under it.
 pub(crate) fn write_tree(
     alloc: Global,
     text: &mut String,
@@ -27,12 +28,14 @@ pub(crate) fn write_tree(
     expression: &Expr,
 ) -> Result<(), AllocError>
     requires { depth (term_of expression.now) ≤ MAX_DEPTH }
-    ensures { OnOk result (string_bytes text.new ≡ string_bytes text.old ++ tree_lines base (env_of env.entry) (term_of expression.now)) }
+    ensures { OnOk result (string_bytes text.new
+        ≡ string_bytes text.old ++ (codes "\n" ++ tree_lines base (env_of env.entry) (term_of expression.now))) }
 {
+    text.push_str("\n")?;
     let mut values = Vec::new(alloc);
     push_values(&mut values, env, expression)?;
     let form = form_of(alloc, base, &values)?;
-    write_parts(alloc, text, Shared { form, env }, 1, expression)
+    write_parts(text, Shared { alloc, form, env }, 1, expression)
 }
 
 // Appends the values of the parts of an expression.
@@ -57,7 +60,6 @@ fn push_values(values: &mut Vec<u32>, env: Env<'_>, expression: &Expr) -> Result
 
 // Appends the lines of an expression and of its operands, whose levels stay below 2^32.
 fn write_parts(
-    alloc: Global,
     text: &mut String,
     shared: Shared<'_>,
     level: u32,
@@ -66,25 +68,24 @@ fn write_parts(
     requires { level + depth (term_of expression.now) < 2 ^ 32 }
     ensures { OnOk result (string_bytes text.new ≡ string_bytes text.old ++ part_lines shared.entry.form (env_of shared.entry.env) level (term_of expression.now)) }
 {
-    write_part(alloc, text, shared, level, expression)?;
+    write_part(text, shared, level, expression)?;
     match expression {
         Expr::Number(_) | Expr::Id | Expr::FromLeft | Expr::FromRight | Expr::Register(_) => Ok(()),
-        Expr::One(_, a) => write_parts(alloc, text, shared, level + 1, a),
+        Expr::One(_, a) => write_parts(text, shared, level + 1, a),
         Expr::Two(_, a, b) => {
-            write_parts(alloc, text, shared, level + 1, a)?;
-            write_parts(alloc, text, shared, level + 1, b)
+            write_parts(text, shared, level + 1, a)?;
+            write_parts(text, shared, level + 1, b)
         }
         Expr::Choose(c, a, b) => {
-            write_parts(alloc, text, shared, level + 1, c)?;
-            write_parts(alloc, text, shared, level + 1, a)?;
-            write_parts(alloc, text, shared, level + 1, b)
+            write_parts(text, shared, level + 1, c)?;
+            write_parts(text, shared, level + 1, a)?;
+            write_parts(text, shared, level + 1, b)
         }
     }
 }
 
 // Appends the line of an expression itself, at a level of its tree.
 fn write_part(
-    alloc: Global,
     text: &mut String,
     shared: Shared<'_>,
     level: u32,
@@ -95,7 +96,12 @@ fn write_part(
     write_blanks(text, level)?;
     write_word(text, expression)?;
     text.push_str(" ")?;
-    write_number(alloc, text, shared.form, value_of(expression, shared.env))?;
+    write_number(
+        shared.alloc,
+        text,
+        shared.form,
+        value_of(expression, shared.env),
+    )?;
     text.push_str("\n")
 }
 
