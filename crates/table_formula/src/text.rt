@@ -110,31 +110,12 @@ fn write_clause<W: Write>(
     ensures fault { IfErr result (λ fault. fault ≡ EngineFault.Write) }
     ensures failed { IsErrOf result EngineFault.Write ↔ IsTrue (has_failed writer.new) }
 {
-    write_literals(writer, chunk, clause)?;
-    chunk.make_room(2, writer)?;
-    chunk.push(b"0\n");
-    Ok(())
-}
-
-// Writes the contents of the chunk and the literals of a clause, the last of which can be left in
-// the chunk.
-fn write_literals<W: Write>(
-    writer: &mut Watched<W>,
-    chunk: &mut Chunk,
-    clause: &[Literal],
-) -> Result<(), EngineFault>
-    requires working { has_failed writer.old ≡ false }
-    ensures ok { OnOk result (IsWrittenSoFar (W.contents (device_of writer.old)) (W.contents (device_of writer.new))
-        chunk.new (chunk.old ++ flat_map literal_text clause.now)) }
-    ensures err { OnErr result (AppendsFront (W.contents (device_of writer.old))
-        (W.contents (device_of writer.new)) (chunk.old ++ flat_map literal_text clause.now)) }
-    ensures fault { IfErr result (λ fault. fault ≡ EngineFault.Write) }
-    ensures failed { IsErrOf result EngineFault.Write ↔ IsTrue (has_failed writer.new) }
-{
     for l in clause {
         chunk.make_room(LITERAL_LEN, writer)?;
         push_literal(chunk, *l);
     }
+    chunk.make_room(2, writer)?;
+    chunk.push(b"0\n");
     Ok(())
 }
 

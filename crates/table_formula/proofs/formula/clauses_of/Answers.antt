@@ -1,4 +1,4 @@
-use Rattle.std.proofs.Common.{◌+◌, ◌*◌, ◌≤◌, sym, ◌∙◌, arith, subst}
+use Rattle.std.proofs.Common.{◌*◌, ◌≤◌, sym, ◌∙◌, arith, subst}
 use Rattle.table_formula.specs.declared.limits.TheConstants.{MAX_VARIABLES}
 use Rattle.table_formula.specs.Problems.{problem_of}
 use Rattle.table_formula.proofs.Sizes.{sizes_are, few_channels, clauses_of, few_variables, few_clauses, many_clauses}

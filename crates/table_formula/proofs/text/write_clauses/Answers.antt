@@ -32,14 +32,13 @@ returns-in_err-write_clause-clause-err g c =
     let i = c.loop-index.index in
     let clause = take c.write_clause-len.result c.write_clause-len.new.out in
     let before = head_text p ++ flat_map clause_text (take i (formula p)) in
-    let told = tells_more _ _ c.loop-index.chunk (c.loop-index.chunk ++ clause_text clause) (clause_text clause) before
-    c.loop-index.invariant.told refl in
     let text = text_more clause_text (head_text p) before (before ++ clause_text clause) (formula p) i clause refl
     c.write_clause-len.ensures.item refl in
     let rest = flat_map clause_text (drop (i + 1) (formula p)) in
     on_err c.from_residual.result
     (tells_front _ _ _ (c.loop-index.chunk ++ clause_text clause) (before ++ clause_text clause) (formula_text p) rest
-    told c.in_err-write_clause.ensures.err
+    (tells_more _ _ c.loop-index.chunk _ (clause_text clause) before c.loop-index.invariant.told refl)
+    c.in_err-write_clause.ensures.err
     (ap (λ (bytes : List ℕ). bytes ++ rest) text ∙ text_rest clause_text (head_text p) (formula p) (i + 1)))
 
 pub returns-clause-err : goal.returns-clause-err
