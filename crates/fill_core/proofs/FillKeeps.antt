@@ -128,17 +128,17 @@ follows_drawn s w h can more =
 follows_stopped : (s : Machine) (w : ℕ) → IsConsistent s → CanDraw s w → job_count s.plan ≤ s.next → Follows s (stopped s w)
 follows_stopped s w h can done =
     keeps s w (record (worker s w) { stopped = true }) s.cells s.next h (record {
-      inside = can.is_worker;
-      holds = h.cells;
-      grows = λ job full. full;
-      marks = h.marks w can.is_worker;
-      known = h.known w;
       onward = omega arith;
       few = h.few;
       hand = λ job e. inl e;
       new_job = λ job lt. inl lt;
       dropped = λ job e. inl e;
       ended = λ e. (done, can.free);
+      inside = can.is_worker;
+      holds = h.cells;
+      grows = λ job full. full;
+      marks = h.marks w can.is_worker;
+      known = h.known w;
     })
 
 -- the job that was dropped
