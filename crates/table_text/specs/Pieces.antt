@@ -4,6 +4,8 @@ use Rattle.std.specs.List.{range_with_len}
 use Rattle.std.specs.Fmt.{decimal}
 use Rattle.table_text.specs.declared.piece.Piece.{Piece}
 use Rattle.table_text.specs.declared.piece.Pieces.{Pieces}
+use Rattle.table_text.specs.declared.pieces.Kind.{Kind}
+use Rattle.table_text.specs.declared.pieces.Kind.TheVariants.{Id, Channel}
 use Rattle.table_text.specs.declared.line_prefix.LinePrefix.{LinePrefix}
 
 -- the text of a piece
@@ -21,6 +23,10 @@ id_text id = decimal id ++ 32 ∷ []
 -- the text after the identifiers of a line with this channel
 abbrev pub channel_text : ℕ → List ℕ
 channel_text channel = codes ": " ++ (decimal channel ++ 10 ∷ [])
+
+abbrev pub text_of : Kind → ℕ → List ℕ
+text_of Id = id_text
+text_of Channel = channel_text
 
 -- the piece at each index has the text of the index
 abbrev pub AreTexts : (ℕ → List ℕ) → List Piece → Type 0

@@ -1,8 +1,8 @@
 //! The pieces from which the lines of windows are made.
-ghost use Rattle.std.specs.Prelude.{◌≡◌, ◌<◌, ◌≤◌, length, IfOk};
+ghost use Rattle.std.specs.Prelude.{◌≡◌, ◌<◌, ◌≤◌, length, string_bytes, IfOk};
 ghost use Rattle.node_program.specs.declared.limits.TheConstants.{MAX_CHANNELS};
 ghost use Rattle.win_index.specs.declared.limits.TheConstants.{MAX_IDS};
-ghost use Rattle.table_text.specs.Pieces.{piece_text, id_text, channel_text, AreTexts, ArePieces};
+ghost use Rattle.table_text.specs.Pieces.{piece_text, text_of, AreTexts, ArePieces};
 
 use crate::piece::{Piece, Pieces};
 use std::alloc::{AllocError, Global};
@@ -13,53 +13,41 @@ pub(crate) fn pieces_of(alloc: Global, ids: u32, channels: u32) -> Result<Pieces
     requires channels { channels ≤ MAX_CHANNELS }
     ensures { IfOk result (ArePieces ids channels) }
 {
-    let ids = id_pieces(alloc, ids)?;
-    let channels = channel_pieces(alloc, channels)?;
+    let ids = numbered_pieces(alloc, Kind::Id, ids)?;
+    let channels = numbered_pieces(alloc, Kind::Channel, channels)?;
     Ok(Pieces { ids, channels })
 }
 
-// Returns for each identifier below `ids` the piece of the identifier and a blank.
-fn id_pieces(alloc: Global, ids: u32) -> Result<Vec<Piece>, AllocError>
-    requires { ids ≤ MAX_IDS }
-    ensures texts { IfOk result (λ pieces. AreTexts id_text pieces.items) }
-    ensures count { IfOk result (λ pieces. length pieces.items ≡ ids) }
+// What the texts of pieces follow from: an identifier, or a channel.
+#[derive(Clone, Copy)]
+pub(crate) enum Kind {
+    Id,
+    Channel,
+}
+
+// Returns the piece of each number below `count`.
+fn numbered_pieces(alloc: Global, kind: Kind, count: u32) -> Result<Vec<Piece>, AllocError>
+    requires { count ≤ MAX_CHANNELS }
+    ensures texts { IfOk result (λ pieces. AreTexts (text_of kind) pieces.items) }
+    ensures count { IfOk result (λ pieces. length pieces.items ≡ count) }
 {
-    let mut pieces = Vec::with_capacity(alloc, ids as usize)?;
-    for id in 0..ids {
-        pieces.push(id_piece(alloc, id)?)?;
+    let mut pieces = Vec::with_capacity(alloc, count as usize)?;
+    for number in 0..count {
+        let text = text_of(alloc, kind, number)?;
+        pieces.push(piece_of(text.as_bytes()))?;
     }
     Ok(pieces)
 }
 
-// Returns for each channel below `channels` the piece that follows the identifiers of its lines.
-fn channel_pieces(alloc: Global, channels: u32) -> Result<Vec<Piece>, AllocError>
-    requires { channels ≤ MAX_CHANNELS }
-    ensures texts { IfOk result (λ pieces. AreTexts channel_text pieces.items) }
-    ensures count { IfOk result (λ pieces. length pieces.items ≡ channels) }
+// Returns the text of an identifier and a blank, or the text that follows the identifiers of a line
+// with a channel.
+fn text_of(alloc: Global, kind: Kind, number: u32) -> Result<String, AllocError>
+    ensures { IfOk result (λ text. string_bytes text ≡ text_of kind number) }
 {
-    let mut pieces = Vec::with_capacity(alloc, channels as usize)?;
-    for channel in 0..channels {
-        pieces.push(channel_piece(alloc, channel)?)?;
+    match kind {
+        Kind::Id => format!(in alloc; "{number} "),
+        Kind::Channel => format!(in alloc; ": {number}\n"),
     }
-    Ok(pieces)
-}
-
-// Returns the piece of an identifier and a blank.
-fn id_piece(alloc: Global, id: u32) -> Result<Piece, AllocError>
-    requires { id < MAX_IDS }
-    ensures { IfOk result (λ piece. piece_text piece ≡ id_text id) }
-{
-    let text = format!(in alloc; "{id} ")?;
-    Ok(piece_of(text.as_bytes()))
-}
-
-// Returns the piece that follows the identifiers of a line with this channel.
-fn channel_piece(alloc: Global, channel: u32) -> Result<Piece, AllocError>
-    requires { channel < MAX_CHANNELS }
-    ensures { IfOk result (λ piece. piece_text piece ≡ channel_text channel) }
-{
-    let text = format!(in alloc; ": {channel}\n")?;
-    Ok(piece_of(text.as_bytes()))
 }
 
 // Copies a text of at most 8 bytes into a piece.
