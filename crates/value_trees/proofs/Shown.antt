@@ -113,6 +113,16 @@ module _ (b : Base) (p : ProgramTree) (x : List ℕ) (i : ℕ) where
   abbrev end : List ℕ
   end = headed (codes "finish") b (before_messages p x i (length p.steps)) p.finish
 
+  -- those of a round
+  abbrev left_tree : ℕ → Round → List ℕ
+  left_tree r s = headed (phase (r + 1) ++ codes " left") b (before_messages p x i r) s.left
+
+  abbrev right_tree : ℕ → Round → List ℕ
+  right_tree r s = headed (phase (r + 1) ++ codes " right") b (before_messages p x i r) s.right
+
+  abbrev next_trees : ℕ → Round → List ℕ
+  next_trees r s = assigned_lines (r + 1) b (with_messages p x i r) 0 s.next
+
   round_has : (r : ℕ) (s : Round) → slice_get p.steps r ≡ Some s → Has (round_trees b p x i r s) (explanation b p x i)
   round_has r s is = on_right _ begin (middle ++ end) (on_left _ middle end (step_has b p x i p.steps r s is))
 
@@ -126,33 +136,27 @@ module _ (b : Base) (p : ProgramTree) (x : List ℕ) (i : ℕ) where
       → Shows b (phase (r + 1) ++ (codes " r" ++ decimal j)) e (slice_index (state p x (r + 1) i) j) (explanation b p x i)
   register_shown r j s e round is =
       let env = with_messages p x i r in
-      let left = headed (phase (r + 1) ++ codes " left") b (before_messages p x i r) s.left in
-      let right = headed (phase (r + 1) ++ codes " right") b (before_messages p x i r) s.right in
-      let lines = assigned_lines (r + 1) b env 0 s.next in
       shown b env _ e _ _ (assigned p x i r j s e round is)
       (inside _ (round_trees b p x i r s) (explanation b p x i)
-      (on_right _ left (right ++ lines) (on_right _ right lines (register_has (r + 1) b env s.next j e is)))
+      (on_right _ (left_tree r s) (right_tree r s ++ next_trees r s)
+      (on_right _ (right_tree r s) (next_trees r s) (register_has (r + 1) b env s.next j e is)))
       (round_has r s round))
 
   left_shown : (r : ℕ) (s : Round) → slice_get p.steps r ≡ Some s
       → Shows b (phase (r + 1) ++ codes " left") s.left (to_left p r (state p x r i)) (explanation b p x i)
   left_shown r s round =
-      let env = before_messages p x i r in
-      let left = headed (phase (r + 1) ++ codes " left") b env s.left in
-      let right = headed (phase (r + 1) ++ codes " right") b env s.right in
-      let lines = assigned_lines (r + 1) b (with_messages p x i r) 0 s.next in
-      shown b env _ s.left _ _ (left_is_sent p x i r s round)
-      (inside left (round_trees b p x i r s) (explanation b p x i) (on_left left left (right ++ lines) (itself left)) (round_has r s round))
+      let tree = left_tree r s in
+      shown b (before_messages p x i r) _ s.left _ _ (left_is_sent p x i r s round)
+      (inside tree (round_trees b p x i r s) (explanation b p x i)
+      (on_left tree tree (right_tree r s ++ next_trees r s) (itself tree)) (round_has r s round))
 
   right_shown : (r : ℕ) (s : Round) → slice_get p.steps r ≡ Some s
       → Shows b (phase (r + 1) ++ codes " right") s.right (to_right p r (state p x r i)) (explanation b p x i)
   right_shown r s round =
-      let env = before_messages p x i r in
-      let left = headed (phase (r + 1) ++ codes " left") b env s.left in
-      let right = headed (phase (r + 1) ++ codes " right") b env s.right in
-      let lines = assigned_lines (r + 1) b (with_messages p x i r) 0 s.next in
-      shown b env _ s.right _ _ (right_is_sent p x i r s round)
-      (inside right (round_trees b p x i r s) (explanation b p x i) (on_right right left (right ++ lines) (on_left right right lines (itself right)))
+      let tree = right_tree r s in
+      shown b (before_messages p x i r) _ s.right _ _ (right_is_sent p x i r s round)
+      (inside tree (round_trees b p x i r s) (explanation b p x i)
+      (on_right tree (left_tree r s) (tree ++ next_trees r s) (on_left tree tree (next_trees r s) (itself tree)))
       (round_has r s round))
 
   channel_shown : i < length x → Shows b (codes "finish") p.finish (slice_index (channels_of p x) i) (explanation b p x i)

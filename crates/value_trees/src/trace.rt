@@ -14,6 +14,13 @@ use std::alloc::{AllocError, Global};
 use std::fmt::Write;
 use win_index::Ring;
 
+// The base of the numbers of a trace, and the memory that they take.
+#[derive(Clone, Copy)]
+struct Numbers {
+    alloc: Global,
+    base: Base,
+}
+
 /// Returns the trace of a ring by a plan, with its numbers in this base. Fails with `OutOfMemory` if
 /// memory was refused.
 pub fn trace_text(
@@ -29,86 +36,83 @@ pub fn trace_text(
     let mut places = Configuration::new(alloc, plan, ring)?;
     text.push_str("ring")?;
     write_row(alloc, &mut text, base, ring.ids())?;
-    write_trace(alloc, &mut text, base, &mut places, plan.shape().rounds())?;
+    let numbers = Numbers { alloc, base };
+    write_trace(&mut text, numbers, &mut places, plan.shape().rounds())?;
     Ok(text)
 }
 
 // Writes the registers of a ring before its first round, all rounds and the channels. Does the rounds.
 fn write_trace(
-    alloc: Global,
     text: &mut String,
-    base: Base,
+    numbers: Numbers,
     places: &mut Configuration<'_>,
     rounds: u32,
 ) -> Result<(), AllocError>
     requires start { places.old.round ≡ 0 }
     requires rounds { rounds ≡ length places.old.program.steps }
-    ensures { OnOk result (string_bytes text.new ≡ (string_bytes text.old ++ register_lines base places.old.program places.old.places 0)
-        ++ later_lines base places.old.program places.old.places) }
+    ensures { OnOk result (string_bytes text.new ≡ (string_bytes text.old ++ register_lines numbers.base places.old.program places.old.places 0)
+        ++ later_lines numbers.base places.old.program places.old.places) }
 {
-    write_registers(alloc, text, base, places)?;
+    write_registers(text, numbers, places)?;
     for round in 0..rounds {
-        write_messages(alloc, text, base, places, round + 1)?;
+        write_messages(text, numbers, places, round + 1)?;
         places.advance();
-        write_registers(alloc, text, base, places)?;
+        write_registers(text, numbers, places)?;
     }
     text.push_str("finish")?;
-    write_readings(alloc, text, base, places, Reading::Channel)
+    write_readings(text, numbers, places, Reading::Channel)
 }
 
 // Writes a line for each register, with its value at each place.
 fn write_registers(
-    alloc: Global,
     text: &mut String,
-    base: Base,
+    numbers: Numbers,
     places: &Configuration<'_>,
 ) -> Result<(), AllocError>
     ensures { OnOk result (string_bytes text.new
-        ≡ string_bytes text.old ++ register_lines base places.now.program places.now.places places.now.round) }
+        ≡ string_bytes text.old ++ register_lines numbers.base places.now.program places.now.places places.now.round) }
 {
     for register in 0..places.registers() {
         write_phase(text, places.round())?;
         write!(text, " r{register}")?;
-        write_readings(alloc, text, base, places, Reading::Register(register))?;
+        write_readings(text, numbers, places, Reading::Register(register))?;
     }
     Ok(())
 }
 
 // Writes the two lines of the messages of the next round, whose number is `round`.
 fn write_messages(
-    alloc: Global,
     text: &mut String,
-    base: Base,
+    numbers: Numbers,
     places: &Configuration<'_>,
     round: u32,
 ) -> Result<(), AllocError>
     requires more { places.now.round < length places.now.program.steps }
     requires number { round ≡ places.now.round + 1 }
     ensures { OnOk result (string_bytes text.new
-        ≡ string_bytes text.old ++ message_lines base places.now.program places.now.places places.now.round) }
+        ≡ string_bytes text.old ++ message_lines numbers.base places.now.program places.now.places places.now.round) }
 {
     write_phase(text, round)?;
     text.push_str(" left")?;
-    write_readings(alloc, text, base, places, Reading::Left)?;
+    write_readings(text, numbers, places, Reading::Left)?;
     write_phase(text, round)?;
     text.push_str(" right")?;
-    write_readings(alloc, text, base, places, Reading::Right)
+    write_readings(text, numbers, places, Reading::Right)
 }
 
 // Writes the number `what` of each place, and ends the line.
 fn write_readings(
-    alloc: Global,
     text: &mut String,
-    base: Base,
+    numbers: Numbers,
     places: &Configuration<'_>,
     what: Reading,
 ) -> Result<(), AllocError>
     requires { CanRead places.now what }
     ensures { OnOk result (string_bytes text.new
-        ≡ string_bytes text.old ++ row base (of_places places.now.places (reading places.now what))) }
+        ≡ string_bytes text.old ++ row numbers.base (of_places places.now.places (reading places.now what))) }
 {
-    let numbers = numbers_of(alloc, places, what)?;
-    write_row(alloc, text, base, &numbers)
+    let row = numbers_of(numbers.alloc, places, what)?;
+    write_row(numbers.alloc, text, numbers.base, &row)
 }
 
 // Returns the number `what` of each place.

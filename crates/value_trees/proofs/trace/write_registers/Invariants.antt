@@ -11,5 +11,5 @@ abbrev pub invariant-loop-register : goal.invariant-loop-register
 invariant-loop-register l =
     string_bytes l.text
     ≡ string_bytes l.initial.text
-    ++ flat_map (λ j. row_line l.base (phase l.places.round ++ (codes " r" ++ decimal j))
+    ++ flat_map (λ j. row_line l.numbers.base (phase l.places.round ++ (codes " r" ++ decimal j))
     (of_places l.places.places (λ i. slice_index (state l.places.program l.places.places l.places.round i) j))) (range_with_len 0 l.register-counter)

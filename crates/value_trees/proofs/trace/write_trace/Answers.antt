@@ -10,7 +10,7 @@ use Rattle.value_trees.proofs.trace.write_trace.Goals as goal
 pub loop-round-init : goal.loop-round-init
 loop-round-init c =
     let start = c.args.places.now in
-    let b = c.args.base in
+    let b = c.args.numbers.base in
     let before = string_bytes c.args.text.now in
     record {
       done = ap (λ r. record start { round = r }) c.requires.start;
@@ -21,7 +21,7 @@ loop-round-init c =
 -- One more round was done and written.
 pub loop-round-preserved : goal.loop-round-preserved
 loop-round-preserved c =
-    let b = c.args.base in
+    let b = c.args.numbers.base in
     let was = c.loop-round.invariant.done in
     let done = c.advance.ensures ∙ ap (λ (s : RingConfiguration). record s { round = s.round + 1 }) was in
     let before = string_bytes c.loop-round.text in
@@ -36,7 +36,7 @@ loop-round-preserved c =
 -- The channels are written after the last round.
 pub returns : goal.returns
 returns c =
-    let b = c.args.base in
+    let b = c.args.numbers.base in
     let all : c.loop-round.round ≡ length c.args.places.now.program.steps = omega arith in
     let named = string_bytes c.push_str.new.self in
     let channels = ap (λ (s : RingConfiguration). named ++ row b (of_places s.places (reading s Channel))) c.loop-round.invariant.done in

@@ -8,6 +8,6 @@ abbrev pub invariant-loop-round : goal.invariant-loop-round
 invariant-loop-round l = record {
   done : l.places ≡ record { program = l.fn.places.program; places = l.fn.places.places; round = l.round };
   text : string_bytes l.text
-      ≡ (string_bytes l.fn.text ++ register_lines l.base l.fn.places.program l.fn.places.places 0)
-      ++ flat_map (round_lines l.base l.fn.places.program l.fn.places.places) (range_with_len 0 l.round);
+      ≡ (string_bytes l.fn.text ++ register_lines l.numbers.base l.fn.places.program l.fn.places.places 0)
+      ++ flat_map (round_lines l.numbers.base l.fn.places.program l.fn.places.places) (range_with_len 0 l.round);
 }
