@@ -10,13 +10,13 @@ use win_index::Ring;
 /// count from 0.
 #[derive(Clone, Copy)]
 pub struct Msg<'a> {
-    plan: &'a Plan,
-    ring: &'a Ring,
-    place: u32,
-    side: Side,
-    round: u32,
-    value: u32,
-    ghost sent: { value ≡ message_at plan.now.program ring.now.places round place side },
+    pub(crate) plan: &'a Plan,
+    pub(crate) ring: &'a Ring,
+    pub(crate) place: u32,
+    pub(crate) side: Side,
+    pub(crate) round: u32,
+    pub(crate) value: u32,
+    pub(crate) ghost sent: { value ≡ message_at plan.now.program ring.now.places round place side },
 }
 
 impl<'a> Dated for Msg<'a> {
@@ -36,28 +36,6 @@ impl<'a> Dated for Msg<'a> {
 impl<'a> Msg<'a> {
     ghost use Rattle.ring_segments.specs.Headings.{heading_of};
     ghost use Rattle.ring_segments.specs.Messages.{sent_under};
-
-    // Returns the message with this value, which must be the one that the place sends.
-    pub(crate) fn new(
-        plan: &'a Plan,
-        ring: &'a Ring,
-        place: u32,
-        side: Side,
-        round: u32,
-        value: u32,
-    ) -> Msg<'a>
-        requires { value ≡ message_at plan.now.program ring.now.places round place side }
-        ensures { heading_of result ≡ record { plan = plan.now; ring = ring.now; place = place; side = side; round = round } }
-    {
-        Msg {
-            plan,
-            ring,
-            place,
-            side,
-            round,
-            value,
-        }
-    }
 
     /// Returns the plan of its run.
     pub fn plan(&self) -> &'a Plan

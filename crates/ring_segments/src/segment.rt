@@ -138,10 +138,23 @@ impl<'a> Segment<'a> {
         let last = (self.end - self.first - 1) as usize;
         let right = sent_to_right(plan, round, row_at(&self.states, width, last));
         let left = sent_to_left(plan, round, row_at(&self.states, width, 0));
-        (
-            Msg::new(plan, ring, self.end - 1, Side::Rightward, round, right),
-            Msg::new(plan, ring, self.first, Side::Leftward, round, left),
-        )
+        let rightward = Msg {
+            plan,
+            ring,
+            place: self.end - 1,
+            side: Side::Rightward,
+            round,
+            value: right,
+        };
+        let leftward = Msg {
+            plan,
+            ring,
+            place: self.first,
+            side: Side::Leftward,
+            round,
+            value: left,
+        };
+        (rightward, leftward)
     }
 
     /// Does one more round, with the messages of its two neighbours. Fails with `Strange` if one of
