@@ -98,20 +98,14 @@ pub(crate) fn report_of<T: Threads + Wait + Sync>(
             channels,
             near,
             far,
-        } => {
-            let numbers = numbers_of(ids, rounds, channels, near, far);
-            Ok(formula_report(alloc, numbers)?)
-        }
+        } => Ok(formula_report(alloc, numbers_of(ids, rounds, channels, near, far))?),
         Task::Refute {
             ids,
             rounds,
             channels,
             near,
             far,
-        } => {
-            let numbers = numbers_of(ids, rounds, channels, near, far);
-            Ok(refute_report(alloc, numbers, input)?)
-        }
+        } => Ok(refute_report(alloc, numbers_of(ids, rounds, channels, near, far), input)?),
     }
 }
 
