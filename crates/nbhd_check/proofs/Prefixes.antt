@@ -17,7 +17,6 @@ use Rattle.win_index.proofs.RunPrefixNumbers.{prefix_number}
 use Rattle.win_index.proofs.RunStarts.{longer_number}
 use Rattle.win_index.proofs.Unused.{lacks_differs, lacks_from_differs, unused_at}
 use Rattle.channel_tables.specs.Tables.{ChannelTable, windows_of}
-use Rattle.nbhd_check.specs.Laws.{WindowsAreNumbered}
 use Rattle.nbhd_check.proofs.RunLengths.{falling-add}
 
 -- the index of identifier k of a list among the identifiers that are not among the k before it
@@ -95,13 +94,6 @@ at_place_of_run k m run place window lt at' =
     let own = run_of k m (run * (m - k) + place) window at' in
     let same = same_from_place run place own.number (place_of_last k window) (m - k) lt own.inside own.number_is in
     (rw same.0 own.front_at, sym same.1)
-
-module _ (laws : WindowsAreNumbered) where
-  pub window_at : (k m n : ℕ) (window : List ℕ) → slice_get (windows k m) n ≡ Some window → IsWindow k m window
-  window_at k m n window at' = windows_all k m n window at'
-
-  pub in_run : (k m n : ℕ) (longer : List ℕ) → slice_get (windows (k + 1) m) n ≡ Some longer → InRun k m n longer
-  in_run k m n longer at' = run_of k m n longer at'
 
 -- a longer window is in the run of the window of k identifiers that it begins with
 pub in_longer_run : (k m more n : ℕ) (longer : List ℕ) → slice_get (windows (k + more) m) n ≡ Some longer → InLongerRun k m more n longer

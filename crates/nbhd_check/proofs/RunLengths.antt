@@ -2,7 +2,7 @@
 use Rattle.std.proofs.Common.{◌≡◌, ℕ, zero, suc, ◌+◌, ◌-◌, ◌*◌, length, sym, ap, arith}
 use Rattle.std.proofs.Math.Nat.{mul_assoc, mul-one}
 use Rattle.win_index.specs.Falling.{falling}
-use Rattle.win_index.specs.Laws.{CountOfWindows}
+use Rattle.win_index.proofs.Numbers.{length-windows}
 use Rattle.channel_tables.specs.Tables.{ChannelTable, windows_of}
 use Rattle.channel_tables.specs.declared.separation.Separation.{Separation}
 use Rattle.nbhd_check.specs.Apart.{extra, tuples}
@@ -18,9 +18,9 @@ falling-add m k (suc more) =
     let free : m - (k + more) ≡ m - k - more = omega arith in
     rw (size, falling-add m k more, free) (mul_assoc (falling m k) (falling (m - k) more) (m - k - more))
 
-pub all_runs : (t : ChannelTable) (s : Separation) → CountOfWindows → length (tuples t s) ≡ length (windows_of t) * run_len t s
-all_runs t s count =
-    rw (count (2 * t.rounds + 1 + extra s) t.ids, count (2 * t.rounds + 1) t.ids) (falling-add t.ids (2 * t.rounds + 1) (extra s))
+pub all_runs : (t : ChannelTable) (s : Separation) → length (tuples t s) ≡ length (windows_of t) * run_len t s
+all_runs t s =
+    rw (length-windows (2 * t.rounds + 1 + extra s) t.ids, length-windows (2 * t.rounds + 1) t.ids) (falling-add t.ids (2 * t.rounds + 1) (extra s))
 
 pub falling_one : (n : ℕ) → falling n 1 ≡ n
 falling_one n = omega arith

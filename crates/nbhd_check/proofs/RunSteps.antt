@@ -1,17 +1,15 @@
 -- From the first window of a run to that of the next one.
-use Rattle.std.proofs.Common.{◌≡◌, ℕ, ◌+◌, ◌-◌, ◌*◌, ◌<◌, ◌≤◌, Bool, true, false, List, [], length, get_or, set, take, slice_get, Some, sym, ap, ◌∙◌, arith, refl, ⊎_elim}
+use Rattle.std.proofs.Common.{◌≡◌, ℕ, ◌+◌, ◌-◌, ◌*◌, ◌^◌, ◌<◌, ◌≤◌, Bool, true, false, List, [], length, get_or, set, take, slice_get, Some, sym, ap, ◌∙◌, arith, refl, ⊎_elim}
 use Rattle.std.proofs.lemmas.Bool.{cases_lt, OnTrue_at, OnFalse_at}
 use Rattle.std.proofs.lemmas.List.{get_or-set_same, take-set}
 use Rattle.std.proofs.lemmas.Option.{same_Some, slice_get-get_or}
-use Rattle.win_index.specs.Laws.{CountOfWindows}
 use Rattle.win_index.specs.Runs.{IsReplacedByRun, IsEndOfSame}
 use Rattle.win_index.specs.Windows.{windows}
 use Rattle.win_index.proofs.Numbers.{windows_all}
 use Rattle.win_index.proofs.Positions.{free_at}
 use Rattle.win_index.proofs.RunStarts.{longer_number, run_start_is}
 use Rattle.win_index.proofs.Sizes.{window_within}
-use Rattle.channel_tables.specs.Tables.{ChannelTable, windows_of}
-use Rattle.nbhd_check.specs.Laws.{WindowsAreNumbered}
+use Rattle.channel_tables.specs.Tables.{ChannelTable, IsTable, windows_of}
 use Rattle.nbhd_check.specs.Runs.{wide}
 use Rattle.nbhd_check.proofs.Cells.{row_more}
 use Rattle.nbhd_check.proofs.Prefixes.{at_place_of_run, rank_rises}
@@ -24,7 +22,7 @@ front_of_first t run window item =
     let plain : run * wide t ≡ run * wide t + 0 = omega arith in
     (omega arith, (at_place_of_run (2 * t.rounds) t.ids run 0 window (omega arith) (rw plain at item)).0)
 
-module _ (laws : WindowsAreNumbered) (t : ChannelTable) (run : ℕ) (old : List ℕ) (item : slice_get (windows_of t) (run * wide t) ≡ Some old) where
+module _ (t : ChannelTable) (run : ℕ) (old : List ℕ) (item : slice_get (windows_of t) (run * wide t) ≡ Some old) where
   -- the last window of the run
   last_of : run * wide t + wide t ≤ length (windows_of t)
       → (last : List ℕ) × (slice_get (windows_of t) (run * wide t + (wide t - 1)) ≡ Some last) × IsEndOfSame (2 * t.rounds + 1) t.ids old last
@@ -70,7 +68,12 @@ module _ (laws : WindowsAreNumbered) (t : ChannelTable) (run : ℕ) (old : List 
       absurd (omega (arith, row_more run (wide t), (front_of_first t run old item).0, OnFalse_at refl is.last last.0 last.2 (run * wide t + (wide t - 1)) last.1))
 
 -- the run of a first window is within the windows
-pub run_end : (laws : WindowsAreNumbered) (counts : CountOfWindows) (t : ChannelTable) (run : ℕ) (window : List ℕ)
+pub run_end : (t : ChannelTable) (run : ℕ) (window : List ℕ)
     → slice_get (windows_of t) (run * wide t) ≡ Some window → run * wide t + wide t ≤ length (windows_of t)
-run_end laws counts t run window item =
+run_end t run window item =
     (run_start_is (2 * t.rounds) t.ids run (run * wide t) (take (2 * t.rounds) window) (front_of_first t run window item).1 refl).within
+
+-- the numbers of a run's windows are small
+pub small_run : (t : ChannelTable) (run each : ℕ) → IsTable t → each ≡ wide t → run * wide t + wide t ≤ length (windows_of t)
+    → run * each + each < 2 ^ 32
+small_run t run each table each_is within = rw each_is (omega (arith, within, table.begun.shape.few_windows))

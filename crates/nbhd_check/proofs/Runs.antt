@@ -14,7 +14,6 @@ use Rattle.win_index.proofs.RunStarts.{longer_number}
 use Rattle.win_index.proofs.Unused.{IsDistinct, distinct_head, unused_at}
 use Rattle.channel_tables.specs.Tables.{ChannelTable, channel_of, windows_of}
 use Rattle.channel_tables.specs.declared.separation.Separation.{Separation}
-use Rattle.nbhd_check.specs.Laws.{WindowsAreNumbered}
 use Rattle.nbhd_check.specs.Apart.{extra, AreClose, IsBad, NoneIsBad}
 use Rattle.nbhd_check.specs.Runs.{run_len, AreFree, BeginsBadTuple, BeginsFarTuple, HasCloseOutside}
 use Rattle.nbhd_check.proofs.Close.{close_along, some_distance, two_of_far}
@@ -76,10 +75,10 @@ none_close_after t window number start gap distance item full run gap_is none ba
 
 -- windows that begin no tuple that is bad by near, and none that is bad by far
 pub free_of_both :
-    (laws : WindowsAreNumbered) (t : ChannelTable) (s : Separation) (a b less : ℕ) → AreFree t (BeginsBadTuple t (record { near = s.near; far = 0 })) 0 a
+    (t : ChannelTable) (s : Separation) (a b less : ℕ) → AreFree t (BeginsBadTuple t (record { near = s.near; far = 0 })) 0 a
     → AreFree t (BeginsFarTuple t s.far) 0 b → less ≤ a → less ≤ b → AreFree t (BeginsBadTuple t s) 0 less
 unfolding IsBad BeginsFarTuple
-free_of_both laws t s a b less near far le_a le_b number window from below item bad =
+free_of_both t s a b less near far le_a le_b number window from below item bad =
     let len : ℕ = 2 * t.rounds + 1 in
     let tuple = bad.0 in
     let is = bad.1 in

@@ -5,7 +5,6 @@ use Rattle.std.proofs.lemmas.Bool.Decides.{nat_tests}
 use Rattle.std.proofs.lemmas.List.{get_or-take, get_or-drop, length-take-le}
 use Rattle.std.proofs.lemmas.Option.{same_Some, slice_get-get_or, slice_get_within}
 use Rattle.std.specs.Int.{abs_diff}
-use Rattle.win_index.specs.Laws.{CountOfWindows}
 use Rattle.win_index.specs.Runs.{IsRunStart}
 use Rattle.win_index.specs.Windows.{is_used, unused, windows, IsWindow}
 use Rattle.win_index.proofs.Numbers.{windows_all}
@@ -15,7 +14,6 @@ use Rattle.win_index.proofs.RunStarts.{run_start_is}
 use Rattle.win_index.proofs.Unused.{IsDistinct, distinct_head, distinct_tail, lacks_differs, length-unused, unused_at, unused_at_end, unused_in_front}
 use Rattle.channel_tables.specs.Tables.{ChannelTable, windows_of}
 use Rattle.nbhd_check.specs.declared.near.SecondRuns.{SecondRuns}
-use Rattle.nbhd_check.specs.Laws.{WindowsAreNumbered}
 use Rattle.nbhd_check.specs.Masks.{NoneClose}
 use Rattle.nbhd_check.specs.Runs.{SecondRunsOf, second_run, second_gap, wide, AreFree, BeginsBadTuple, HasCloseOutside}
 use Rattle.nbhd_check.proofs.Suffixes.{number_of_next, run_within}
@@ -79,9 +77,9 @@ pub record AtPlace (t : ChannelTable) (runs : SecondRuns) (place : ℕ) : Type 0
   pub starts : IsRunStart (2 * t.rounds) t.ids (drop 1 window) (second_run runs place * wide t)
   pub full : length t.entries ≡ length (windows_of t)
 
-pub at_place : (laws : WindowsAreNumbered) (counts : CountOfWindows) (t : ChannelTable) (runs : SecondRuns) (place : ℕ)
+pub at_place : (t : ChannelTable) (runs : SecondRuns) (place : ℕ)
     → length t.entries ≡ length (windows_of t) → SecondRunsOf t runs → place < wide t → AtPlace t runs place
-at_place laws counts t runs place full are inside =
+at_place t runs place full are inside =
     let k : ℕ = 2 * t.rounds in
     let n : ℕ = runs.run * wide t + place in
     let run_in = run_within t runs.run are.front full are.front_at in
@@ -109,10 +107,10 @@ at_place laws counts t runs place full are inside =
     }
 
 -- no tuple that begins with the window is bad if no channel of that run is close, except at the gap
-pub free_at : (laws : WindowsAreNumbered) (t : ChannelTable) (runs : SecondRuns) (place distance : ℕ) → AtPlace t runs place
+pub free_at : (t : ChannelTable) (runs : SecondRuns) (place distance : ℕ) → AtPlace t runs place
     → ¬ HasCloseOutside (take (wide t) (drop (second_run runs place * wide t) t.entries)) (second_gap runs place) distance (get_or t.entries (runs.run * wide t + place) 0)
     → AreFree t (BeginsBadTuple t (record { near = distance; far = 0 })) (runs.run * wide t + place) (runs.run * wide t + place + 1)
-free_at laws t runs place distance at' none number window from below item =
+free_at t runs place distance at' none number window from below item =
     let n : ℕ = runs.run * wide t + place in
     let same : number ≡ n = omega arith in
     let own : at'.window ≡ window = same_Some at'.window window (sym at'.item ∙ ap (slice_get (windows_of t)) (sym same) ∙ item) in

@@ -4,7 +4,6 @@ use Rattle.std.proofs.Math.Nat.{mul-le-mul_left}
 use Rattle.std.proofs.lemmas.List.{take_all, take_more_set}
 use Rattle.std.proofs.lemmas.Option.{same_Some, slice_get-get_or, slice_get_within}
 use Rattle.std.specs.Option.{unwrap_or, IfSome, IfNone}
-use Rattle.win_index.specs.Laws.{CountOfWindows}
 use Rattle.win_index.specs.Runs.{HasPlaces, IsAtPlace, IsLastOfRun, IsRunStart, place_in_run}
 use Rattle.win_index.specs.Successor.{IsNext}
 use Rattle.win_index.specs.Windows.{unused, IsWindow}
@@ -16,7 +15,6 @@ use Rattle.win_index.proofs.Unused.{lacks}
 use Rattle.channel_tables.specs.Tables.{ChannelTable, windows_of}
 use Rattle.nbhd_check.specs.Counts.{shared_len, shared_lists, family_len}
 use Rattle.nbhd_check.specs.FarSearch.{IsAtFamily}
-use Rattle.nbhd_check.specs.Laws.{WindowsAreNumbered}
 use Rattle.nbhd_check.specs.Masks.{NoneClose}
 use Rattle.nbhd_check.specs.Runs.{BeginsFarTuple, wide}
 use Rattle.nbhd_check.proofs.FarFree.{all_of_families, family_is, far_third, some_product, third_in_family}
@@ -25,17 +23,17 @@ use Rattle.nbhd_check.proofs.Suffixes.{number_of_third, shared_cut}
 
 -- no third window is close to the channel of a window if none of their family is
 pub free_in_family :
-    (laws : WindowsAreNumbered) (counts : CountOfWindows) (t : ChannelTable) (distance family number : ℕ) (window : List ℕ) → 1 ≤ t.rounds
+    (t : ChannelTable) (distance family number : ℕ) (window : List ℕ) → 1 ≤ t.rounds
     → slice_get (windows_of t) number ≡ Some window → slice_get (shared_lists t) family ≡ Some (drop 2 window)
     → NoneClose t.entries (family_len t) distance family (get_or t.entries number 0) → ¬ BeginsFarTuple t distance window
-free_in_family laws counts t distance family number window some item at' none far =
+free_in_family t distance family number window some item at' none far =
     let own = far_third t distance window some far in
     let found = third_in_family t distance number (family * family_len t) (family_len t) window item (family_is t some (drop 2 window) family at') own in
     let place : ℕ = found.0 - family * family_len t in
     let number_is : family * family_len t + place ≡ found.0 = omega (arith, found.1) in
     none place (omega (arith, found.1, found.2)) (rw number_is found.4)
 
-module _ (laws : WindowsAreNumbered) (t : ChannelTable) (number : ℕ) (window : List ℕ) (first : ℕ) (places : RunPlaces) (place : ℕ) (some : 1 ≤ t.rounds) (own : IsAtFamily t number window first places place) where
+module _ (t : ChannelTable) (number : ℕ) (window : List ℕ) (first : ℕ) (places : RunPlaces) (place : ℕ) (some : 1 ≤ t.rounds) (own : IsAtFamily t number window first places place) where
   -- the family of the window's third windows
   pub family_at : slice_get (shared_lists t) (first + place) ≡ Some (drop 2 window)
   family_at =
@@ -99,9 +97,9 @@ families_few t some enough =
     let len : 1 ≤ family_len t = some_product wide (wide - 1) (omega arith) (omega arith) in
     omega (arith, all_of_families t some, mul-le-mul_left (length (shared_lists t)) len)
 
-pub family_few : (counts : CountOfWindows) (t : ChannelTable) (family : ℕ) (list : List ℕ) → 1 ≤ t.rounds → 2 * t.rounds + 2 ≤ t.ids
+pub family_few : (t : ChannelTable) (family : ℕ) (list : List ℕ) → 1 ≤ t.rounds → 2 * t.rounds + 2 ≤ t.ids
     → length t.entries ≡ length (windows_of t) → slice_get (shared_lists t) family ≡ Some list → family < length t.entries
-family_few counts t family list some enough full at' =
+family_few t family list some enough full at' =
     omega (arith, full, slice_get_within (shared_lists t) family list at', families_few t some enough)
 
 -- the family of a run's first window, as the code numbers it

@@ -1,6 +1,5 @@
 -- The statements of the laws of this crate, one definition each.
 use Rattle.std.specs.Prelude.{◌≡◌, ◌↔◌, ℕ, ◌+◌, ◌*◌, ◌<◌, ◌≤◌, ◌⊎◌, Option, List, length}
-use Rattle.win_index.specs.Laws.{CountOfWindows, NumberOfWindow, PrefixesHaveNumbers, WindowOfNumber, WindowsHaveNumbers, LongerWindowsHaveNumbers}
 use Rattle.win_index.specs.Ring.{IsRing}
 use Rattle.win_index.specs.Arcs.{window_around}
 use Rattle.win_index.specs.Windows.{IsWindow}
@@ -54,12 +53,3 @@ abbrev pub LessIsApart : Type 0
 LessIsApart =
     (t : ChannelTable) (s less : Separation) → less.near ≤ s.near → less.far ≤ s.far
     → (extra less ≡ extra s) ⊎ (2 * t.rounds + 3 ≤ t.ids) → IsApartEverywhere t s → IsApartEverywhere t less
-
--- windows and their numbers determine each other, and the windows that begin with one window have consecutive numbers
-pub record WindowsAreNumbered : Type 0 where
-  pub number_at : NumberOfWindow
-  pub item_of : WindowOfNumber
-  pub has_number : WindowsHaveNumbers
-  pub longer_number : LongerWindowsHaveNumbers
-  pub prefix : PrefixesHaveNumbers
-  pub count : CountOfWindows

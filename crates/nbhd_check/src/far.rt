@@ -7,7 +7,6 @@ ghost use Rattle.nbhd_check.specs.FarSearch.{IsFarSearch};
 use crate::counts::channel_limit;
 use crate::far_counts::FarCounts;
 use crate::far_masks::FarMasks;
-use crate::laws::numbers_of_windows;
 use crate::masks::{family_masks, windows_per_family};
 use crate::scan::TupleScan;
 use crate::search::{free_windows, window_count, windows_per_run};
@@ -15,7 +14,6 @@ use crate::tuples::Tuples;
 use channel_tables::Table;
 use std::alloc::Global;
 use std::thread::Threads;
-use win_index::count_of_windows;
 
 // The maximum number of tuples that are tested before masks are made, so that an early no does not pay
 // for them.
@@ -36,7 +34,6 @@ pub(crate) fn far_free_windows<R: Threads + Sync>(
     requires { IsFarSearch tuples.table.now tuples.separation most }
     ensures { AreFree tuples.entry.table.now (BeginsBadTuple tuples.entry.table.now tuples.entry.separation) 0 result }
 {
-    numbers_of_windows();
     let table = tuples.table;
     if !is_long_search(table, most) {
         return free_windows(rt, &TupleScan { tuples }, most, threads);
@@ -70,7 +67,6 @@ fn free_by_masks<R: Threads + Sync>(
     requires { IsFarSearch tuples.table.now tuples.separation most }
     ensures { AreFree tuples.entry.table.now (BeginsBadTuple tuples.entry.table.now tuples.entry.separation) 0 result }
 {
-    numbers_of_windows();
     let Tuples { table, separation } = tuples;
     let distance = separation.far;
     let masks = family_masks(alloc, table, distance);
@@ -100,7 +96,6 @@ fn free_by_counts<R: Threads + Sync>(
     requires { IsFarSearch tuples.table.now tuples.separation most }
     ensures { AreFree tuples.entry.table.now (BeginsBadTuple tuples.entry.table.now tuples.entry.separation) 0 result }
 {
-    numbers_of_windows();
     let Tuples { table, separation } = tuples;
     let distance = separation.far;
     let limit = limit_of_rows(table);
@@ -122,7 +117,6 @@ fn free_by_counts<R: Threads + Sync>(
 fn begins_bad_tuple(tuples: Tuples, number: u32) -> bool
     requires { number < length (windows_of tuples.table.now) }
 {
-    count_of_windows();
     let each = tuples.per_window();
     let low = u64::from(number) * each;
     tuples.least_bad(low, low + each).is_some()

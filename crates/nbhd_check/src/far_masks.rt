@@ -10,7 +10,6 @@ ghost use Rattle.nbhd_check.specs.FarSearch.{IsAtFamily};
 ghost use Rattle.nbhd_check.specs.Masks.{AreMasks};
 ghost use Rattle.nbhd_check.specs.Runs.{AreFreeUntil, BeginsFarTuple, wide};
 
-use crate::laws::numbers_of_windows;
 use crate::masks::Masks;
 use crate::search::{Search, windows_per_run};
 use channel_tables::Table;
@@ -37,7 +36,6 @@ impl<'a> Search for FarMasks<'a> {
     }
 
     fn first_in_run(&self, window: &[u32], run: u32) -> Option<u32> {
-        numbers_of_windows();
         let shape = self.table.shape();
         let below = shape.rounds() - 1;
         let first = shape.run_start(below, &window[2..2 * below as usize + 2]) as usize;
@@ -54,7 +52,6 @@ impl<'a> FarMasks<'a> {
         ensures { AreFreeUntil self.now.table.now (BeginsFarTuple self.now.table.now self.now.distance)
             (run * wide self.now.table.now) (run * wide self.now.table.now + wide self.now.table.now) result }
     {
-        numbers_of_windows();
         let entries = self.table.entries();
         let each = windows_per_run(self.table) as u32;
         let mut place = place;

@@ -2,11 +2,6 @@
 ghost use Rattle.nbhd_check.specs.Laws as law;
 ghost use Rattle.nbhd_check.specs.Pairs.{PairsThatAvoidTwo};
 
-use win_index::{
-    count_of_windows, longer_windows_have_numbers, number_of_window, prefixes_have_numbers,
-    window_of_number, windows_have_numbers,
-};
-
 /// No tuple breaks a separation exactly if no ring with as many nodes as a tuple or more does. A
 /// bad tuple, taken as a ring, breaks it at the places `t` and `t+1`, or `t` and `t+2`.
 #[tactic(auto, using(crate::proofs::Witnesses::bad_ring))]
@@ -44,16 +39,3 @@ pub fn less_is_apart()
 pub fn pairs_that_avoid_two()
     ensures { PairsThatAvoidTwo }
 {}
-
-// Windows and their numbers determine each other, and windows with a common prefix have consecutive
-// numbers.
-pub(crate) fn numbers_of_windows()
-    ensures { law.WindowsAreNumbered }
-{
-    number_of_window();
-    window_of_number();
-    windows_have_numbers();
-    longer_windows_have_numbers();
-    prefixes_have_numbers();
-    count_of_windows();
-}

@@ -7,13 +7,12 @@ ghost use Rattle.nbhd_check.specs.Masks.{AreMasks};
 ghost use Rattle.nbhd_check.specs.Runs.{AreFree, AreFreeUntil, BeginsBadTuple, SecondRunsOf, wide};
 
 use crate::gaps::has_close_outside;
-use crate::laws::numbers_of_windows;
 use crate::masks::{Masks, run_masks};
 use crate::search::{Search, free_windows, window_count, windows_per_run};
 use channel_tables::Table;
 use std::alloc::Global;
 use std::thread::Threads;
-use win_index::{count_of_windows, place_among_unused};
+use win_index::place_among_unused;
 
 // The number of windows that are searched before masks are made, so that an early no does not pay
 // for them.
@@ -121,7 +120,6 @@ impl<'a> NearSearch<'a> {
         ensures { AreFreeUntil self.now.table.now (BeginsBadTuple self.now.table.now (record { near = self.now.distance; far = 0 }))
             (runs.run * wide self.now.table.now) (runs.run * wide self.now.table.now + wide self.now.table.now) result }
     {
-        count_of_windows();
         let each = windows_per_run(self.table);
         for place in 0..each {
             if self.may_be_close(runs, place) {
@@ -138,7 +136,6 @@ impl<'a> NearSearch<'a> {
         ensures { OnFalse result (AreFree self.now.table.now (BeginsBadTuple self.now.table.now (record { near = self.now.distance; far = 0 }))
             (runs.run * wide self.now.table.now + place) (runs.run * wide self.now.table.now + place + 1)) }
     {
-        numbers_of_windows();
         let each = windows_per_run(self.table);
         let channel = self.table.entries()[runs.run * each + place];
         let next = runs.run_at(place);
@@ -158,7 +155,6 @@ fn second_runs(table: &Table, window: &[u32], run: usize) -> SecondRuns
     ensures runs { SecondRunsOf table.now result }
     ensures run { result.run ≡ run }
 {
-    numbers_of_windows();
     let shape = table.shape();
     let level = shape.rounds();
     let shared = &window[1..2 * level as usize];

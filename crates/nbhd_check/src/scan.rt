@@ -3,7 +3,6 @@ ghost use Rattle.std.specs.Prelude.{◌+◌, ◌*◌, ◌≤◌, length};
 ghost use Rattle.channel_tables.specs.Tables.{windows_of};
 ghost use Rattle.nbhd_check.specs.Runs.{AreFreeUntil, BeginsBadTuple, wide};
 
-use crate::laws::numbers_of_windows;
 use crate::search::{Search, windows_per_run};
 use crate::tuples::Tuples;
 use channel_tables::Table;
@@ -24,7 +23,6 @@ impl<'a> Search for TupleScan<'a> {
     }
 
     fn first_in_run(&self, window: &[u32], run: u32) -> Option<u32> {
-        numbers_of_windows();
         let each = self.tuples.per_window();
         let windows = windows_per_run(self.tuples.table) as u64;
         let low = u64::from(run) * windows * each;

@@ -4,7 +4,6 @@ ghost use Rattle.std.specs.Prelude.{◌≡◌, ℕ, List, ◌+◌, ◌-◌, ◌*
 ghost use Rattle.channel_tables.specs.Tables.{ChannelTable, windows_of, IsTable};
 ghost use Rattle.nbhd_check.specs.Runs.{AreFree, AreFreeUntil, wide};
 
-use crate::laws::numbers_of_windows;
 use crate::parallel::{least_of_parts, part_count};
 use channel_tables::Table;
 use std::sync::atomic::{AtomicU32, Ordering};
@@ -42,7 +41,6 @@ pub(crate) fn free_windows<R: Threads + Sync, S: Search>(
     ensures less { result ≤ most }
     ensures free { AreFree (S.searched search.now) (S.Bad search.now) 0 result }
 {
-    numbers_of_windows();
     let runs = most.div_ceil(windows_per_run(search.table()) as u32);
     let parts = part_count(most, threads);
     let each = runs.div_ceil(parts);
@@ -93,7 +91,6 @@ fn scan_runs<S: Search>(
     requires item { slice_get (windows_of (S.searched search.now)) (low * wide (S.searched search.now)) ≡ Some window.old }
     ensures { AreFree (S.searched search.now) (S.Bad search.now) (low * wide (S.searched search.now)) (min result (high * wide (S.searched search.now))) }
 {
-    numbers_of_windows();
     let table = search.table();
     let shape = table.shape();
     let each = windows_per_run(table) as u32;

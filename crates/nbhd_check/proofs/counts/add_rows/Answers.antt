@@ -1,4 +1,5 @@
-use Rattle.std.proofs.Common.{◌≡◌, ◌≢◌, ◌-◌, ltb, length, ◌∙◌, arith, refl, ⊎_elim}
+use Rattle.std.proofs.Common.{◌≡◌, ◌≢◌, ◌+◌, ◌-◌, ◌*◌, ◌<◌, get_or, sym, ltb, length, ◌∙◌, arith, refl, ⊎_elim}
+use Rattle.std.proofs.Math.Nat.{le_of_mul-le-mul_right}
 use Rattle.std.proofs.lemmas.Bool.{cases_eq, eq-eqb, ne_eqb}
 use Rattle.nbhd_check.proofs.Cells.{rows_within}
 use Rattle.nbhd_check.proofs.HeldCounts.{below_step, count_few}
@@ -33,3 +34,11 @@ loop-row-preserved c =
           let old = rw (ne_eqb v row (λ e. omega (arith, e))) at (c.add_row_before.ensures v x lt) in
           omega (arith, old, c.loop-row.invariant.1 v x lt (omega arith) (omega (arith, within))),
     )
+
+pub returns : goal.returns
+returns c = λ v x lt within.
+    let ids_is = c.ids.ensures ∙ c.shape.ensures.ids in
+    let len = c.loop-row.auto.cells ∙ c.requires.room in
+    let few = le_of_mul-le-mul_right {m = v + 1} {n = c.args.limit + 1} {k = c.args.table.now.ids + 1} (rw len at within) (omega arith) in
+    let below : v < c.loop-row.row = omega (arith, few, c.loop-row-test.false) in
+    (λ q. get_or c.loop-row.cells (v * (sym ids_is q + 1) + x) 0) ∙ c.loop-row.invariant.0 v x (omega (arith, lt, ids_is)) below

@@ -1,9 +1,15 @@
-use Rattle.std.proofs.Common.{ℕ, ◌-◌, ◌*◌, length, drop, ◌∙◌, arith}
-use Rattle.std.proofs.lemmas.List.{take_at}
+use Rattle.std.proofs.Common.{◌≡◌, ⊎_elim, get_or, ap, ◌≤◌, ℕ, ◌-◌, ◌*◌, length, drop, ◌∙◌, arith}
+use Rattle.std.proofs.lemmas.List.{take_at, get_or-replicate}
+use Rattle.std.proofs.lemmas.Bool.{cases_lt}
+use Rattle.std.proofs.Math.ListN.{get_or-eq_default, length-replicate, replicate}
 use Rattle.nbhd_check.specs.Counts.{IsFamily}
 use Rattle.nbhd_check.proofs.FarFree.{family_is, some_product}
 use Rattle.nbhd_check.proofs.counts.count_family.Goals.{After-window_number}
 use Rattle.nbhd_check.proofs.counts.count_family.Goals as goal
+
+same_items : (n i x : ℕ) → get_or (replicate n x) i x ≡ x
+same_items n i x =
+    ⊎_elim (get_or-replicate n i x x) (λ (past : n ≤ i). get_or-eq_default (replicate n x) x (omega (arith, length-replicate n x))) (cases_lt i n)
 
 -- the family of the windows with these shared identifiers, once their number is known
 module _ (c : After-window_number) where
@@ -38,3 +44,14 @@ returns-clause-counts c =
 pub count_windows-requires-clause-within : goal.count_windows-requires-clause-within
 count_windows-requires-clause-within c =
     (c.requires.some, (family (goal.at.count_windows-requires-clause-within c).After-window_number).within)
+
+pub count_windows-requires-clause-empty : goal.count_windows-requires-clause-empty
+count_windows-requires-clause-empty c = λ i.
+    rw (c.fill.ensures.after (λ y same. same)) (same_items (length c.deref_mut-cells.result.now) i 0)
+
+pub returns-clause-fit : goal.returns-clause-fit
+returns-clause-fit c =
+    let cells = c.add_rows.new.cells in
+    let len = c.add_rows.auto.cells ∙ c.count_windows.auto.cells ∙ c.fill.ensures.len ∙ c.deref_mut-cells.ensures.len in
+    let written = take_at cells (drop (length cells) c.args.counts.now.cells.items) c.args.counts.now.cells.len len in
+    record { room = rw written (c.add_rows.auto.cells ∙ c.count_windows.auto.cells ∙ c.fill.ensures.len ∙ ap length c.deref_mut-cells.ensures.value ∙ c.requires.fit.room); limit = c.requires.fit.limit }

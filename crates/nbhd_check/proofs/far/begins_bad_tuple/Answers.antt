@@ -14,4 +14,4 @@ least_bad-requires-clause-within c =
     let next : c.args.number + 1 ≤ length (windows_of t) = omega (arith, c.requires) in
     let own : c.from.result * c.per_window-each.result + c.per_window-each.result ≡ c.args.number * len + len =
     λ q. c.from.ensures q * c.per_window-each.ensures.value q + c.per_window-each.ensures.value q in
-    omega (arith, own, row_more c.args.number len, mul-le-mul_right len next, all_runs t s c.count_of_windows.ensures)
+    omega (arith, own, row_more c.args.number len, mul-le-mul_right len next, all_runs t s)

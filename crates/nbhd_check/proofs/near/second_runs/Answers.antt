@@ -2,14 +2,15 @@ use Rattle.std.proofs.Common.{◌≡◌, ℕ, ◌+◌, ◌-◌, ◌*◌, length,
 use Rattle.std.proofs.lemmas.List.{get_or-take, length-take-le}
 use Rattle.win_index.specs.Windows.{unused, windows, IsWindow}
 use Rattle.nbhd_check.specs.Runs.{wide}
-use Rattle.nbhd_check.proofs.Prefixes.{place_of_last, in_run, one_run, window_at, window_drop, window_take}
+use Rattle.nbhd_check.proofs.Prefixes.{place_of_last, run_of, one_run, window_drop, window_take}
+use Rattle.win_index.proofs.Numbers.{windows_all}
 use Rattle.nbhd_check.proofs.Suffixes.{shared_cut}
 use Rattle.nbhd_check.proofs.near.second_runs.Goals as goal
 
 pub slice_bounds-shared-end : goal.slice_bounds-shared-end
 slice_bounds-shared-end c =
     let t = c.args.table.now in
-    let is = window_at c.numbers_of_windows.ensures (2 * t.rounds + 1) t.ids _ c.args.window.now c.requires.window in
+    let is = windows_all (2 * t.rounds + 1) t.ids _ c.args.window.now c.requires.window in
     let size = is.size in
     omega (arith, size, c.rounds-level.ensures, c.shape-shape.ensures.rounds)
 
@@ -17,7 +18,7 @@ pub window_number-number-requires-clause-window : goal.window_number-number-requ
 window_number-number-requires-clause-window c =
     let t = c.args.table.now in
     let window = c.args.window.now in
-    let is = window_at c.numbers_of_windows.ensures (2 * t.rounds + 1) t.ids _ window c.requires.window in
+    let is = windows_all (2 * t.rounds + 1) t.ids _ window c.requires.window in
     let rounds_is : c.rounds-level.result ≡ t.rounds = c.rounds-level.ensures ∙ c.shape-shape.ensures.rounds in
     let size : 2 * t.rounds + 1 ≡ 1 + 2 * t.rounds = omega arith in
     let rest = window_drop (2 * t.rounds) t.ids 1 window (subst (λ k. IsWindow k t.ids window) size is) in
@@ -26,12 +27,15 @@ window_number-number-requires-clause-window c =
     subst (λ m. IsWindow (2 * (c.rounds-level.result - 1) + 1) m (take (2 * c.rounds-level.result - 1) (drop 1 window))) (sym c.shape-shape.ensures.ids)
     (subst (λ k. IsWindow k t.ids (take (2 * c.rounds-level.result - 1) (drop 1 window))) len part)
 
+pub place_among_unused-requires : goal.place_among_unused-requires
+place_among_unused-requires c = (windows_all _ _ _ _ c.window_number-number.ensures.item).distinct
+
 pub returns-clause-runs : goal.returns-clause-runs
 returns-clause-runs c =
     let t = c.args.table.now in
     let window = c.args.window.now in
     let k : ℕ = 2 * t.rounds in
-    let own = in_run c.numbers_of_windows.ensures k t.ids (c.args.run * wide t) window c.requires.window in
+    let own = run_of k t.ids (c.args.run * wide t) window c.requires.window in
     let is = own.is in
     let size = is.size in
     let inside = own.inside in

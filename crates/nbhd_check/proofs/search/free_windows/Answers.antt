@@ -5,9 +5,9 @@ use Rattle.std.proofs.lemmas.Grind.{div_ceil_times}
 use Rattle.std.specs.Int.{div_ceil}
 use denote.Param.Send.{sendable}
 use Rattle.win_index.specs.Falling.{falling}
+use Rattle.win_index.proofs.Numbers.{length-windows}
 use Rattle.channel_tables.specs.Tables.{ChannelTable, windows_of}
 use Rattle.nbhd_check.specs.Runs.{wide}
-use Rattle.win_index.specs.Laws.{CountOfWindows}
 use Rattle.nbhd_check.proofs.Cells.{row_more}
 use Rattle.nbhd_check.proofs.Parts.{few_parts, in_part}
 use Rattle.nbhd_check.proofs.search.free_windows.Goals as goal
@@ -18,13 +18,13 @@ record Runs (t : ChannelTable) (most each runs : ℕ) : Type 0 where
   all : most ≤ runs * wide t
   few : runs ≤ runs * wide t
 
-runs_of : (counts : CountOfWindows) (t : ChannelTable) (most each runs : ℕ) → 1 ≤ each → each ≡ wide t → runs ≡ div_ceil most each
+runs_of : (t : ChannelTable) (most each runs : ℕ) → 1 ≤ each → each ≡ wide t → runs ≡ div_ceil most each
     → most ≤ length (windows_of t) → Runs t most each runs
-runs_of counts t most each runs some each_is runs_are le =
+runs_of t most each runs some each_is runs_are le =
     let k : ℕ = 2 * t.rounds in
     let turn : k + 1 ≡ suc k = omega arith in
     let count : length (windows_of t) ≡ falling t.ids k * each =
-    counts (k + 1) t.ids ∙ ap (falling t.ids) turn ∙ ap (λ n. falling t.ids k * n) (sym each_is) in
+    length-windows (k + 1) t.ids ∙ ap (falling t.ids) turn ∙ ap (λ n. falling t.ids k * n) (sym each_is) in
     let few = few_parts most each (falling t.ids k) some (omega (arith, le, count)) in
     let bound : runs * each ≤ falling t.ids k * each = mul-le-mul_right each (omega (arith, few, runs_are)) in
     let reach = subst (λ r. most ≤ r * each) (sym runs_are) (div_ceil_times most each some).0 in
@@ -39,7 +39,7 @@ pub least_of_parts-least-requires-clause-each : goal.least_of_parts-least-requir
 least_of_parts-least-requires-clause-each g c κs within part lt =
     let t = g.S.Search.searched c.args.search.now in
     let each_is = c.windows_per_run.ensures.value ∙ ap wide c.table.ensures in
-    let runs = runs_of c.numbers_of_windows.ensures.count t c.args.most c.windows_per_run.result c.div_ceil-runs.result c.windows_per_run.ensures.some each_is c.div_ceil-runs.ensures c.requires in
+    let runs = runs_of t c.args.most c.windows_per_run.result c.div_ceil-runs.result c.windows_per_run.ensures.some each_is c.div_ceil-runs.ensures c.requires in
     let parts : ℕ = c.part_count-parts.result in
     let each : ℕ = c.div_ceil-each.result in
     let upto : (part + 1) * each ≤ parts * each = mul-le-mul_right each (omega arith) in
@@ -54,7 +54,7 @@ pub returns-clause-free : goal.returns-clause-free
 returns-clause-free g c number window from below item =
     let t = g.S.Search.searched c.args.search.now in
     let each_is = c.windows_per_run.ensures.value ∙ ap wide c.table.ensures in
-    let runs = runs_of c.numbers_of_windows.ensures.count t c.args.most c.windows_per_run.result c.div_ceil-runs.result c.windows_per_run.ensures.some each_is c.div_ceil-runs.ensures c.requires in
+    let runs = runs_of t c.args.most c.windows_per_run.result c.div_ceil-runs.result c.windows_per_run.ensures.some each_is c.div_ceil-runs.ensures c.requires in
     let w : ℕ = wide t in
     let some : 0 < w = omega (arith, c.windows_per_run.ensures.some, each_is) in
     let run : ℕ = number / w in

@@ -3,7 +3,8 @@ use Rattle.std.proofs.lemmas.Bool.{cases_lt}
 use Rattle.std.proofs.Math.Nat.{mul-le-mul_right}
 use Rattle.nbhd_check.specs.Runs.{wide}
 use Rattle.nbhd_check.proofs.Cells.{row_more}
-use Rattle.nbhd_check.proofs.Prefixes.{window_at, window_of_shape, step_of_run}
+use Rattle.nbhd_check.proofs.Prefixes.{window_of_shape, step_of_run}
+use Rattle.win_index.proofs.Numbers.{windows_all}
 use Rattle.nbhd_check.proofs.RunSteps.{next_first}
 use Rattle.nbhd_check.proofs.search.scan_runs.Goals as goal
 
@@ -13,7 +14,7 @@ next_run-requires-clause-window g c =
     let table_is = c.table-table.ensures in
     let item = c.loop-run.invariant.0 c.loop-run-test.true in
     window_of_shape t c.rounds.result c.shape-shape.result.ids c.loop-run.window (c.rounds.ensures ∙ c.shape-shape.ensures.rounds ∙ ap (λ x. x.rounds) table_is)
-    (c.shape-shape.ensures.ids ∙ ap (λ x. x.ids) table_is) (window_at c.numbers_of_windows.ensures (2 * t.rounds + 1) t.ids _ c.loop-run.window item)
+    (c.shape-shape.ensures.ids ∙ ap (λ x. x.ids) table_is) (windows_all (2 * t.rounds + 1) t.ids _ c.loop-run.window item)
 
 pub loop-run-preserved : goal.loop-run-preserved
 loop-run-preserved g c =
@@ -27,7 +28,7 @@ loop-run-preserved g c =
     let some : 1 ≤ wide t = omega (arith, c.windows_per_run-each.ensures.some, c.windows_per_run-each.ensures.value, ap wide table_is) in (
       λ lt.
           let all : (run + 1 + 1) * wide t ≤ c.args.high * wide t = mul-le-mul_right (wide t) (omega arith) in
-          next_first c.numbers_of_windows.ensures t run c.loop-run.window item c.next_run.result c.next_run.new.window step
+          next_first t run c.loop-run.window item c.next_run.result c.next_run.new.window step
           (omega (arith, all, row_more (run + 1) (wide t), c.requires.within)),
       λ number window low high at'. ⊎_elim
           (λ (before : number < run * wide t). c.loop-run.invariant.1 number window low before at')

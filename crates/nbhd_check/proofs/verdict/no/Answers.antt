@@ -1,6 +1,13 @@
-use Rattle.std.proofs.Common.{◌∙◌}
-use Rattle.nbhd_check.proofs.Witnesses.{is_witness}
+use Rattle.std.proofs.Common.{Result, Ok, Err, ◌∙◌}
+use Rattle.std.proofs.lemmas.Option.{slice_get_within}
+use Rattle.std.specs.Result.{OnErr}
+use Rattle.nbhd_check.specs.Apart.{tuples}
+use Rattle.nbhd_check.proofs.Witnesses.{bad_is_not_apart, is_witness}
 use Rattle.nbhd_check.proofs.verdict.no.Goals as goal
+
+on_err : {T E P : Type 0} (r : Result T E) → P → OnErr r P
+on_err (Ok x) p = tt
+on_err (Err e) p = p
 
 pub returns-clause-verdict : goal.returns-clause-verdict
 returns-clause-verdict c =
@@ -8,3 +15,19 @@ returns-clause-verdict c =
     (is_witness c.args.tuples.table.now c.args.tuples.separation c.args.number _ _ _ _ c.write.new.out c.requires.0 c.requires.1
     c.write.ensures.item c.write.ensures.tuple (c.rounds-place.ensures ∙ c.shape.ensures.rounds) c.broken_step-step.ensures.step
     c.broken_step-step.ensures.few c.channel_from-first.ensures c.channel_from-second.ensures)
+
+pub write-requires-clause-below : goal.write-requires-clause-below
+write-requires-clause-below c =
+    slice_get_within (tuples c.args.tuples.table.now c.args.tuples.separation) c.args.number c.requires.0 c.requires.1.item
+
+pub returns-in_err-ring-clause-memory : goal.returns-in_err-ring-clause-memory
+returns-in_err-ring-clause-memory c =
+    on_err c.from_residual.result
+    (bad_is_not_apart c.args.tuples.table.now c.args.tuples.separation c.args.number c.requires.0 c.requires.1)
+
+pub returns-clause-yes : goal.returns-clause-yes
+returns-clause-yes c = (
+  λ yes_is. absurd (cc),
+  λ good.
+      absurd (bad_is_not_apart c.args.tuples.table.now c.args.tuples.separation c.args.number c.requires.0 c.requires.1 good),
+)

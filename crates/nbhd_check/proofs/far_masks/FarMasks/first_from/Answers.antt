@@ -6,10 +6,26 @@ use Rattle.nbhd_check.specs.Counts.{family_len}
 use Rattle.nbhd_check.specs.FarSearch.{IsAtFamily}
 use Rattle.nbhd_check.specs.Masks.{NoneClose}
 use Rattle.nbhd_check.specs.Runs.{BeginsFarTuple, wide}
-use Rattle.nbhd_check.proofs.RunSteps.{run_end}
+use Rattle.nbhd_check.proofs.RunSteps.{run_end, small_run}
 use Rattle.nbhd_check.proofs.ThirdFamilies.{family_at, family_few, free_in_family, next_family, place_inside}
-use Rattle.nbhd_check.proofs.far_masks.FarMasks.first_from.Goals.{In-loop-number}
+use Rattle.nbhd_check.proofs.far_masks.FarMasks.first_from.Goals.{After-windows_per_run-each, In-loop-number}
 use Rattle.nbhd_check.proofs.far_masks.FarMasks.first_from.Goals as goal
+
+-- the run's numbers are small
+run_small : (c : After-windows_per_run-each) → c.args.run * c.windows_per_run-each.result + c.windows_per_run-each.result < 2 ^ 32
+run_small c =
+    let t = c.args.self.now.table.now in
+    small_run t c.args.run c.windows_per_run-each.result c.windows_per_run-each.ensures.table c.windows_per_run-each.ensures.value
+    (run_end t c.args.run c.requires.0 c.requires.1.item)
+
+pub overflow_step-number : goal.overflow_step-number
+overflow_step-number c = omega (arith, run_small (goal.at.overflow_step-number c).After-windows_per_run-each)
+
+pub overflow_mul-number-end : goal.overflow_mul-number-end
+overflow_mul-number-end c = omega (arith, run_small (goal.at.overflow_mul-number-end c).After-windows_per_run-each)
+
+pub overflow_add-number-end : goal.overflow_add-number-end
+overflow_add-number-end c = omega (arith, run_small (goal.at.overflow_add-number-end c).After-windows_per_run-each)
 
 -- the next window of the run, and the family of its third windows
 module _ (c : In-loop-number) where
@@ -22,9 +38,9 @@ module _ (c : In-loop-number) where
   few : c.args.first + c.loop-number.place < length c.args.self.now.table.now.entries
   few =
       let t = c.args.self.now.table.now in
-      family_few c.numbers_of_windows.ensures.count t (c.args.first + c.loop-number.place) (drop 2 own.0) c.args.self.now.some
+      family_few t (c.args.first + c.loop-number.place) (drop 2 own.0) c.args.self.now.some
       c.windows_per_run-each.ensures.table.begun.shape.ids.enough c.windows_per_run-each.ensures.table.size
-      (family_at c.numbers_of_windows.ensures t c.loop-number.number own.0 c.args.first c.args.places c.loop-number.place c.args.self.now.some own.1)
+      (family_at t c.loop-number.number own.0 c.args.first c.args.places c.loop-number.place c.args.self.now.some own.1)
 
   small : c.args.first + c.loop-number.place < 2 ^ 32
   small = omega (arith, few, c.windows_per_run-each.ensures.table.size, c.windows_per_run-each.ensures.table.begun.shape.few_windows)
@@ -44,24 +60,22 @@ may_hold-requires c = small (goal.at.may_hold-requires c).In-loop-number
 pub after-requires : goal.after-requires
 after-requires c =
     let d = (goal.at.after-requires c).In-loop-number in
-    place_inside c.numbers_of_windows.ensures c.args.self.now.table.now c.loop-number.number (own d).0 c.args.first c.args.places c.loop-number.place c.args.self.now.some (own d).1
+    place_inside c.args.self.now.table.now c.loop-number.number (own d).0 c.args.first c.args.places c.loop-number.place c.args.self.now.some (own d).1
 
 pub loop-number-preserved : goal.loop-number-preserved
 loop-number-preserved c =
     let t = c.args.self.now.table.now in
-    let laws = c.numbers_of_windows.ensures in
-    let counts = c.numbers_of_windows.ensures.count in
     let d = (goal.at.loop-number-preserved c).In-loop-number in
     let number : ℕ = c.loop-number.number in
     let here = own d in
     let family : ℕ = c.args.first + c.loop-number.place in
     let some = c.args.self.now.some in
-    let within = run_end laws counts t c.args.run c.requires.0 c.requires.1.item in
+    let within = run_end t c.args.run c.requires.0 c.requires.1.item in
     let from : c.args.run * wide t ≤ number = rw (← c.windows_per_run-each.ensures.value) c.loop-number.auto.number in
     let none : NoneClose t.entries (family_len t) c.args.self.now.distance family (get_or t.entries number 0) =
     subst (λ l. NoneClose t.entries (family_len t) c.args.self.now.distance family (get_or l number 0)) c.entries-entries.ensures.value
     (OnFalse_at c.if-may_hold.false (c.may_hold.ensures t.entries (family_len t) c.args.self.now.distance c.args.self.now.cover)) in (
-      λ lt. next_family laws t number here.0 c.args.first c.args.places c.loop-number.place some here.1 c.args.run c.unwrap_or-place.result c.after.result
+      λ lt. next_family t number here.0 c.args.first c.args.places c.loop-number.place some here.1 c.args.run c.unwrap_or-place.result c.after.result
           c.unwrap_or-place.ensures from lt within c.after.ensures.next c.after.ensures.last,
       λ n window low high item. ⊎_elim
           (λ (before : n < number). c.loop-number.invariant.1 n window low before item)
@@ -69,7 +83,7 @@ loop-number-preserved c =
           let same : n ≡ number = omega (arith, ge, high) in
           let is : window ≡ here.0 = same_Some window here.0 (sym item ∙ ap (slice_get (windows_of t)) same ∙ here.1.item) in
           subst (λ w. ¬ BeginsFarTuple t c.args.self.now.distance w) (sym is)
-          (free_in_family laws counts t c.args.self.now.distance family number here.0 some here.1.item
-          (family_at laws t number here.0 c.args.first c.args.places c.loop-number.place some here.1) none))
+          (free_in_family t c.args.self.now.distance family number here.0 some here.1.item
+          (family_at t number here.0 c.args.first c.args.places c.loop-number.place some here.1) none))
           (cases_lt n number),
     )

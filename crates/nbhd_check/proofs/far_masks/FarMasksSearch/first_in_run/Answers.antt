@@ -2,7 +2,7 @@ use Rattle.std.proofs.Common.{◌≡◌, ℕ, List, ◌+◌, ◌-◌, ◌*◌, �
 use Rattle.win_index.specs.Windows.{IsWindow}
 use Rattle.channel_tables.specs.Tables.{ChannelTable}
 use Rattle.nbhd_check.specs.Runs.{wide}
-use Rattle.nbhd_check.proofs.Prefixes.{window_at}
+use Rattle.win_index.proofs.Numbers.{windows_all}
 use Rattle.nbhd_check.proofs.Suffixes.{front_two}
 use Rattle.nbhd_check.proofs.ThirdFamilies.{at_family}
 use Rattle.nbhd_check.proofs.far_masks.FarMasksSearch.first_in_run.Goals as goal
@@ -17,14 +17,14 @@ above t rounds ids window rounds_is ids_is some is =
 pub slice_bounds-run_start-end : goal.slice_bounds-run_start-end
 slice_bounds-run_start-end c =
     let t = c.args.self.now.table.now in
-    let is = window_at c.numbers_of_windows.ensures (2 * t.rounds + 1) t.ids _ c.args.window.now c.requires in
+    let is = windows_all (2 * t.rounds + 1) t.ids _ c.args.window.now c.requires in
     let size = is.size in
     omega (arith, size, c.rounds-below.ensures, c.shape-shape.ensures.rounds, c.args.self.now.some)
 
 pub run_start-first-requires-clause-front : goal.run_start-first-requires-clause-front
 run_start-first-requires-clause-front c =
     let t = c.args.self.now.table.now in
-    let is = window_at c.numbers_of_windows.ensures (2 * t.rounds + 1) t.ids _ c.args.window.now c.requires in
+    let is = windows_all (2 * t.rounds + 1) t.ids _ c.args.window.now c.requires in
     let len : 2 * c.rounds-below.result - 2 ≡ 2 * (c.rounds-below.result - 1) + 2 - 2 = omega arith in
     subst (λ n. IsWindow (2 * (c.rounds-below.result - 1)) c.shape-shape.result.ids (take n (drop 2 c.args.window.now))) len
     (front_two t c.rounds-below.result c.shape-shape.result.ids c.args.window.now (c.rounds-below.ensures ∙ c.shape-shape.ensures.rounds) c.shape-shape.ensures.ids c.args.self.now.some is)
@@ -33,13 +33,13 @@ pub run_places-places-requires-clause-window : goal.run_places-places-requires-c
 run_places-places-requires-clause-window c =
     let t = c.args.self.now.table.now in
     above t c.rounds-below.result c.shape-shape.result.ids c.args.window.now (c.rounds-below.ensures ∙ c.shape-shape.ensures.rounds) c.shape-shape.ensures.ids c.args.self.now.some
-    (window_at c.numbers_of_windows.ensures (2 * t.rounds + 1) t.ids _ c.args.window.now c.requires)
+    (windows_all (2 * t.rounds + 1) t.ids _ c.args.window.now c.requires)
 
 pub place_in_run-requires-clause-window : goal.place_in_run-requires-clause-window
 place_in_run-requires-clause-window c =
     let t = c.args.self.now.table.now in
     above t c.rounds-below.result c.shape-shape.result.ids c.args.window.now (c.rounds-below.ensures ∙ c.shape-shape.ensures.rounds) c.shape-shape.ensures.ids c.args.self.now.some
-    (window_at c.numbers_of_windows.ensures (2 * t.rounds + 1) t.ids _ c.args.window.now c.requires)
+    (windows_all (2 * t.rounds + 1) t.ids _ c.args.window.now c.requires)
 
 pub first_from-requires : goal.first_from-requires
 first_from-requires c =
@@ -47,6 +47,6 @@ first_from-requires c =
       c.args.window.now,
       at_family t (c.args.run * wide t) c.args.window.now c.rounds-below.result c.shape-shape.result.ids c.run_start-first.result c.run_places-places.result
           c.place_in_run.result (c.rounds-below.ensures ∙ c.shape-shape.ensures.rounds) c.shape-shape.ensures.ids c.args.self.now.some c.requires
-          (window_at c.numbers_of_windows.ensures (2 * t.rounds + 1) t.ids _ c.args.window.now c.requires) c.run_start-first.ensures c.run_places-places.ensures
+          (windows_all (2 * t.rounds + 1) t.ids _ c.args.window.now c.requires) c.run_start-first.ensures c.run_places-places.ensures
           c.place_in_run.ensures.value,
     )

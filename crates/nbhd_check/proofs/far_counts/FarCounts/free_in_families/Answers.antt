@@ -1,0 +1,23 @@
+use Rattle.std.proofs.Common.{◌≡◌, ℕ, List, ◌<◌, ◌≤◌, Some, drop, slice_get, sym, ap, ◌∙◌, arith, ⊎_elim}
+use Rattle.std.proofs.lemmas.Bool.{cases_lt}
+use Rattle.std.proofs.lemmas.Option.{same_Some}
+use Rattle.nbhd_check.specs.Counts.{shared_lists}
+use Rattle.nbhd_check.proofs.far_counts.FarCounts.free_in_families.Goals as goal
+
+pub loop-number-preserved : goal.loop-number-preserved
+loop-number-preserved c =
+    let t = c.args.self.table.now in
+    let shared : List ℕ = c.window.new.out in
+    let number : ℕ = c.loop-number.number in
+    let here : slice_get (shared_lists t) number ≡ Some shared =
+    rw (c.rounds-below.ensures ∙ c.shape-shape.ensures.rounds, c.shape-shape.ensures.ids) at c.window.ensures.item in (
+      c.count_family.ensures.fit,
+      λ n window low item own. ⊎_elim
+          (λ (before : own.0 < number).
+          c.loop-number.invariant.1 n window (omega (arith, low, c.free-least.ensures.less, c.min.ensures)) item (own.0, own.1, before, own.3))
+          (λ (from : number ≤ own.0).
+          let same : own.0 ≡ number = omega (arith, own.2) in
+          c.free-least.ensures.free n window low item
+          (same_Some (drop 2 window) shared (sym own.3 ∙ ap (slice_get (shared_lists t)) same ∙ here)))
+          (cases_lt own.0 number),
+    )
