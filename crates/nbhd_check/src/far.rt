@@ -1,5 +1,5 @@
 //! Windows that begin a bad tuple, if the channels of places at distance two are judged too.
-ghost use Rattle.std.specs.Prelude.{◌≡◌, ◌+◌, ◌*◌, ◌^◌, ◌<◌, ◌≤◌, All, length};
+ghost use Rattle.std.specs.Prelude.{◌≡◌, IfSome, ◌+◌, ◌*◌, ◌^◌, ◌<◌, ◌≤◌, All, length};
 ghost use Rattle.channel_tables.specs.Tables.{windows_of};
 ghost use Rattle.nbhd_check.specs.Runs.{AreFree, BeginsBadTuple};
 ghost use Rattle.nbhd_check.specs.FarSearch.{IsFarSearch};
@@ -22,8 +22,9 @@ const FIRST_TUPLES: usize = 1 << 13;
 /// Returns a number of windows such that none of the windows below it begins a bad tuple, if none
 /// below `most` begins one whose second window is too close. At most `threads` threads search.
 ///
-/// Masks of the channels of third windows often show that no third window is too close. If they do
-/// not, third windows are counted, or tuples are tested one by one if that takes less time.
+/// The first tuples are tested one by one. Then masks of the channels of third windows often show that
+/// no third window is too close. If they do not, third windows are counted, or all tuples are tested if
+/// that takes less time.
 pub(crate) fn far_free_windows<R: Threads + Sync>(
     rt: &R,
     alloc: Global,
@@ -34,16 +35,25 @@ pub(crate) fn far_free_windows<R: Threads + Sync>(
     requires { IsFarSearch tuples.table.now tuples.separation most }
     ensures { AreFree tuples.entry.table.now (BeginsBadTuple tuples.entry.table.now tuples.entry.separation) 0 result }
 {
-    let table = tuples.table;
-    if !is_long_search(table, most) {
-        return free_windows(rt, &TupleScan { tuples }, most, threads);
+    let scan = TupleScan { tuples };
+    if is_long_search(tuples.table, most) {
+        let few = windows_before_masks(tuples.table).min(most);
+        let first = free_windows(rt, &scan, few, 1);
+        if first < few {
+            return first;
+        }
+        let free = free_by_masks(rt, alloc, tuples, most, threads);
+        if free > 0 {
+            return free;
+        }
+        if let Some(counts) = counts_if_worth(tuples) {
+            let free = counts.free_windows(rt, alloc, most, threads);
+            if free > 0 {
+                return free;
+            }
+        }
     }
-    let few = windows_before_masks(table).min(most);
-    let first = free_windows(rt, &TupleScan { tuples }, few, 1);
-    if first < few {
-        return first;
-    }
-    free_by_masks(rt, alloc, tuples, most, threads)
+    free_windows(rt, &scan, most, threads)
 }
 
 // Returns the number of windows that are searched before masks are made: those of as many runs as
@@ -56,7 +66,7 @@ fn windows_before_masks(table: &Table) -> u32
     runs.saturating_mul(run).min(FIRST_TUPLES) as u32
 }
 
-// Like `far_free_windows`, by masks of third windows, or by counts if masks do not decide.
+// Returns such a number by masks of third windows, or 0 if they do not decide.
 fn free_by_masks<R: Threads + Sync>(
     rt: &R,
     alloc: Global,
@@ -71,7 +81,7 @@ fn free_by_masks<R: Threads + Sync>(
     let distance = separation.far;
     let masks = family_masks(alloc, table, distance);
     if masks.is_empty() {
-        return free_by_counts(rt, alloc, tuples, most, threads);
+        return 0;
     }
     let search = FarMasks {
         table,
@@ -80,37 +90,29 @@ fn free_by_masks<R: Threads + Sync>(
     };
     let free = free_windows(rt, &search, most, threads);
     if free == most || begins_bad_tuple(tuples, free) {
-        return free;
+        free
+    } else {
+        0
     }
-    free_by_counts(rt, alloc, tuples, most, threads)
 }
 
-// Like `far_free_windows`, by counts of third windows, or by tuples if that takes less time.
-fn free_by_counts<R: Threads + Sync>(
-    rt: &R,
-    alloc: Global,
-    tuples: Tuples,
-    most: u32,
-    threads: u32,
-) -> u32
-    requires { IsFarSearch tuples.table.now tuples.separation most }
-    ensures { AreFree tuples.entry.table.now (BeginsBadTuple tuples.entry.table.now tuples.entry.separation) 0 result }
+// Returns the search by counts of third windows, if counting a family takes less time than testing the
+// tuples with third windows in it, one by one.
+fn counts_if_worth(tuples: Tuples) -> Option<FarCounts>
+    requires { (1 ≤ tuples.table.now.rounds) × (1 ≤ tuples.separation.far) }
+    ensures { IfSome result (λ counts. (counts.table.now ≡ tuples.entry.table.now) × (counts.distance ≡ tuples.entry.separation.far)) }
 {
     let Tuples { table, separation } = tuples;
     let distance = separation.far;
     let limit = limit_of_rows(table);
-    if are_worth_counting(table, limit) {
-        let counts = FarCounts {
-            table,
-            distance,
-            limit,
-        };
-        let free = counts.free_windows(rt, alloc, most, threads);
-        if free > 0 {
-            return free;
-        }
+    if !are_worth_counting(table, limit) {
+        return None;
     }
-    free_windows(rt, &TupleScan { tuples }, most, threads)
+    Some(FarCounts {
+        table,
+        distance,
+        limit,
+    })
 }
 
 // Returns whether the window with this number begins a bad tuple.

@@ -1,8 +1,0 @@
-use Rattle.std.proofs.Common.{arith}
-use Rattle.nbhd_check.proofs.Runs.{free_of_both}
-use Rattle.nbhd_check.proofs.far.free_by_counts.Goals as goal
-
-pub returns-then-free-gt0 : goal.returns-then-free-gt0
-returns-then-free-gt0 g c =
-    free_of_both c.args.tuples.table.now c.args.tuples.separation c.args.most c.free_windows-free.result c.free_windows-free.result
-    c.requires.near c.free_windows-free.ensures.free c.free_windows-free.ensures.less (omega arith)
