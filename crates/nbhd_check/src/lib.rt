@@ -18,7 +18,8 @@ mod verdict;
 
 pub use channel_tables::Separation;
 pub use laws::{
-    less_is_apart, one_apart_differs, one_witness, pairs_that_avoid_two, tuples_suffice,
+    least_bad_is_witness, less_is_apart, one_apart_differs, one_witness, pairs_that_avoid_two,
+    tuples_suffice,
 };
 pub use tuples::{judge_part, tuple_count, tuple_len, write_tuple};
 pub use verdict::{Verdict, judge, judge_with_workers};

@@ -12,7 +12,7 @@ use Rattle.win_index.proofs.Positions.{number_of_is, window_place, has_number}
 use Rattle.win_index.specs.Laws.{RingsHaveWindows}
 use Rattle.win_index.specs.Windows.{windows, IsWindow}
 use Rattle.lang_check.specs.Laws.{AcceptedChannelsAreBelow}
-use Rattle.table_entries.specs.Laws.{TableHasTheChannelsOfRounds, ProgramTablesAreTables}
+use Rattle.table_entries.specs.Laws.{TableHasTheChannelsOfRounds, TableHasTheChannelsOfWindows, ProgramTablesAreTables}
 use Rattle.table_entries.specs.ProgramTables.{table_of, window_channel}
 use Rattle.channel_tables.specs.Tables.{ChannelTable, IsTable, channel_of, windows_of}
 use Rattle.node_program.specs.declared.limits.TheConstants.{MAX_CHANNELS}
@@ -67,13 +67,17 @@ channel_at_window p m n window at' =
     get_or-map (window_channel p) ws n [] 0 (slice_get_within ws n window at') ∙ ap (window_channel p) (get_or_from_slice_get ws n window [] at') in
     ap (option_map (slice_index entries)) (number_of_is (2 * length p.steps + 1) m n window at') ∙ ap Some own
 
+pub channels_of_windows : TableHasTheChannelsOfWindows
+channels_of_windows p m window is =
+    let at = window_place (2 * length p.steps + 1) m window is in
+    channel_at_window p m at.0 window at.1
+
 pub channels_of_rounds : Locality → RingsHaveWindows → TableHasTheChannelsOfRounds
 unfolding channel_at
 channels_of_rounds local is_window p m ring place is lt =
     let t = length p.steps in
     let window = window_around ring t place in
-    let at = window_place (2 * t + 1) m window (is_window m t t place ring is (omega arith)) in
-    channel_at_window p m at.0 window at.1 ∙ ap (λ s. Some (channel p s)) (sym (local p m t t place ring is (omega arith) lt))
+    channels_of_windows p m window (is_window m t t place ring is (omega arith)) ∙ ap (λ s. Some (channel p s)) (sym (local p m t t place ring is (omega arith) lt))
 
 -- the channel of an accepted program at a window is below the number of channels
 pub program_tables_are_tables : WindowsAreWithin → AcceptedChannelsAreBelow → ProgramTablesAreTables

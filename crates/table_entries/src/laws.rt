@@ -14,6 +14,12 @@ pub fn table_has_the_channels_of_rounds()
     rings_have_windows();
 }
 
+/// The channel of a program's table at a window is the channel of the state that is left of the
+/// window after all rounds.
+pub fn table_has_the_channels_of_windows()
+    ensures { law.TableHasTheChannelsOfWindows }
+{}
+
 /// The table of an accepted program is a table: it has a channel below the number of channels for
 /// each window.
 pub fn program_tables_are_tables()

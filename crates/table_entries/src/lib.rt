@@ -9,5 +9,7 @@ mod reading;
 mod share;
 mod shares;
 
-pub use laws::{program_tables_are_tables, table_has_the_channels_of_rounds};
+pub use laws::{
+    program_tables_are_tables, table_has_the_channels_of_rounds, table_has_the_channels_of_windows,
+};
 pub use reading::EntryReader;
