@@ -30,6 +30,9 @@ OF_PAIRS = [
     ({65: 64}, "no: ring 64 65 place 0 channel 64"),
     ({66: 65}, "no: ring 65 66 place 0 channel 65"),
     ({1: 0}, "no: ring 0 1 place 0 channel 0"),
+    # The last of the first 64 tuples, which are judged without a table, and the next one.
+    ({64: 0}, "no: ring 0 64 place 0 channel 0"),
+    ({65: 0}, "no: ring 0 65 place 0 channel 0"),
     ({1023: 1022}, "no: ring 1022 1023 place 0 channel 1022"),
     ({1023: 255}, "no: ring 255 1023 place 0 channel 255"),
     ({257: 256}, "no: ring 256 257 place 0 channel 256"),

@@ -69,6 +69,7 @@ impl<'a> Tuples<'a> {
     }
 
     // Returns the number of the least bad tuple among the first ones.
+    #[tactic(auto, unfolding(table_entries::specs::ProgramTables::table_of))]
     fn least_bad(self) -> Option<u64>
         ensures none { IfNone result (NoneIsBad (plan_table self.entry.plan.now) self.entry.separation 0 (first_count self.entry.plan.now self.entry.separation)) }
         ensures bad { IfSome result (λ number. (tuple : List ℕ) × IsLeastBad (plan_table self.entry.plan.now) self.entry.separation 0 number tuple) }
@@ -94,6 +95,7 @@ impl<'a> Tuples<'a> {
     }
 
     // Writes the tuple with this number.
+    #[tactic(auto, unfolding(table_entries::specs::ProgramTables::table_of))]
     fn write(self, number: u64, out: &mut [u32])
         requires below { number < length (tuples (plan_table self.plan.now) self.separation) }
         requires room { length out.old ≡ 2 * length self.plan.now.program.steps + 1 + extra self.separation }
@@ -105,6 +107,7 @@ impl<'a> Tuples<'a> {
 
     // Returns the distance of the two places at which a tuple breaks the separation: 1 if neighbours
     // are too close, else 2; or `None` if it keeps the separation.
+    #[tactic(auto, unfolding(table_entries::specs::ProgramTables::table_of, nbhd_check::specs::Apart::IsBad))]
     fn broken_step(self, tuple: &[u32]) -> Option<u32>
         requires { IsWindow (2 * length self.plan.now.program.steps + 1 + extra self.separation) self.plan.now.ids tuple.now }
         ensures none { IfNone result (¬ IsBad (plan_table self.entry.plan.now) self.entry.separation tuple.now) }
@@ -118,13 +121,16 @@ impl<'a> Tuples<'a> {
         if here.abs_diff(self.channel_from(tuple, 1)) < self.separation.near {
             return Some(1);
         }
-        if self.separation.far > 0 && here.abs_diff(self.channel_from(tuple, 2)) < self.separation.far {
+        if self.separation.far > 0
+            && here.abs_diff(self.channel_from(tuple, 2)) < self.separation.far
+        {
             return Some(2);
         }
         None
     }
 
     // Returns the channel of the window at this offset in a tuple.
+    #[tactic(auto, unfolding(table_entries::specs::ProgramTables::table_of))]
     fn channel_from(self, tuple: &[u32], offset: usize) -> u32
         requires offset { offset ≤ extra self.separation }
         requires tuple { IsWindow (2 * length self.plan.now.program.steps + 1 + extra self.separation) self.plan.now.ids tuple.now }
@@ -141,6 +147,7 @@ impl<'a> Tuples<'a> {
     }
 
     // Returns the witness of the least bad tuple, which has this number.
+    #[tactic(auto, unfolding(table_entries::specs::ProgramTables::table_of))]
     fn witness(self, alloc: Global, number: u64) -> Result<Witness, OutOfMemory>
         requires { (tuple : List ℕ) × IsLeastBad (plan_table self.plan.now) self.separation 0 number tuple }
         ensures witness { IfOk result (λ witness. IsWitness (plan_table self.entry.plan.now) self.entry.separation

@@ -14,10 +14,11 @@ ghost use Rattle.reports.specs.Report.{Says, IsAnswerOnRing, IsJudgement, IsRunA
 use crate::places::places_text;
 use channel_tables::Table;
 use devices::fault::EngineFault;
+use first_tuples::{Witness, first_witness};
 use lang_check::Plan;
 use nbhd_check::Separation;
 use reports::answer::{Answer, TableReport};
-use reports::judgement::verdict_answer;
+use reports::judgement::{no_answer, verdict_answer};
 use reports::judging::verdict_and_drop;
 use reports::lines::numbers_line;
 use reports::rings::{ring_in, segments_refusal};
@@ -125,8 +126,8 @@ pub(crate) fn plan_answer<T: Threads + Wait + Sync>(
     }
 }
 
-// Returns the report of the judge on the table of an accepted program. This many workers fill and
-// judge the table.
+// Returns the report of the judge on the table of an accepted program. If one of its first tuples is
+// bad, no table is made; else this many workers fill and judge the table.
 pub(crate) fn judge_report<T: Threads + Wait + Sync>(
     rt: &T,
     alloc: Global,
@@ -138,6 +139,14 @@ pub(crate) fn judge_report<T: Threads + Wait + Sync>(
     ensures answer { IfOk result (λ r. IsJudgement (table_of plan.now.program plan.now.ids) separation (report_in r)) }
     ensures fault { IfErr result (IsTaskFault workers) }
 {
+    if let Some(witness) = first_witness(alloc, plan, separation)? {
+        let Witness {
+            ring,
+            places,
+            channels,
+        } = witness;
+        return Ok(no_answer(alloc, separation, ring, places, channels)?);
+    }
     let memo = Memo::new(alloc, plan)?;
     let table = compile_table(rt, alloc, plan, &memo, workers)?;
     let verdict = verdict_and_drop(rt, alloc, &table, separation, workers, memo)?;

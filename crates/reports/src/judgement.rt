@@ -1,8 +1,9 @@
 //! The report of the judge on a table. Each call fails only if memory was refused.
 
 ghost use Rattle.std.specs.Prelude.{IfOk};
+ghost use Rattle.channel_tables.specs.Tables.{ChannelTable};
 ghost use Rattle.nbhd_check.specs.Apart.{IsApartEverywhere};
-ghost use Rattle.nbhd_check.specs.Verdicts.{IsVerdict};
+ghost use Rattle.nbhd_check.specs.Verdicts.{IsVerdict, IsWitness};
 ghost use Rattle.reports.specs.Answers.{report_in};
 ghost use Rattle.reports.specs.Report.{IsJudgement};
 
@@ -32,17 +33,28 @@ pub fn verdict_answer(
             ring,
             places,
             channels,
-        } => {
-            let line = no_line(alloc, separation, &ring, places, channels)?;
-            let cause = Cause::No {
-                rounds: table.shape().rounds(),
-                ring,
-                places,
-                channels,
-            };
-            Ok(Answer::WithCause(line, Status::No, cause))
-        }
+        } => no_answer(alloc, separation, ring, places, channels),
     }
+}
+
+/// Returns the report of a no with this ring, places and channels.
+pub fn no_answer(
+    alloc: Global,
+    separation: Separation,
+    ring: Vec<u32>,
+    places: (u32, u32),
+    channels: (u32, u32),
+) -> Result<Answer, OutOfMemory>
+    ensures { IfOk result (λ r. (t : ChannelTable) → IsWitness t separation ring.items places channels → IsJudgement t separation (report_in r)) }
+{
+    let line = no_line(alloc, separation, &ring, places, channels)?;
+    let cause = Cause::No {
+        rounds: places.0,
+        ring,
+        places,
+        channels,
+    };
+    Ok(Answer::WithCause(line, Status::No, cause))
 }
 
 // Returns the report of a yes on the table.
