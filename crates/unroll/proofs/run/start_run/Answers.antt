@@ -1,7 +1,7 @@
 use Rattle.std.proofs.Common.{rules, ◌+◌, ◌*◌, take, refl, ◌∙◌, arith}
 use Rattle.unroll.specs.Below.{part}
 use Rattle.unroll.specs.Parts.{window_in}
-use Rattle.unroll.proofs.Known.{asked_both, own_entry, part_known, state_held}
+use Rattle.unroll.proofs.Known.{own_entry, part_known, state_held}
 use Rattle.win_index.proofs.Positions.{number_of_is}
 use Rattle.unroll.proofs.NextRuns.{middle_at, rest_of_prefix}
 use Rattle.unroll.proofs.SameRun.{first_grows}
