@@ -1,4 +1,4 @@
-use Rattle.std.proofs.Common.{rules}
+use Rattle.std.proofs.Common.{rules, ◌≡◌}
 use Rattle.worker_pool.specs.Outcomes.{outcome_worker}
 use Rattle.worker_pool.proofs.Numbered.{numbered_rest}
 use Rattle.win_index.proofs.Kept.{each_snoc}
