@@ -3,8 +3,8 @@ use Rattle.std.specs.Prelude.{ℕ, ◌<◌, Result, Ok, Err}
 use Rattle.lang_check.specs.Plans.{ProgramForIds}
 use Rattle.unroll.specs.declared.fault.MakeFault.{MakeFault}
 use Rattle.unroll.specs.declared.fault.MakeFault.TheVariants.{Missing, OutOfMemory}
-use Rattle.worker_pool.specs.declared.fault.WorkFault.{WorkFault}
-use Rattle.worker_pool.specs.declared.fault.WorkFault.TheVariants as work
+use Rattle.round_eval.specs.declared.fault.WorkFault.{WorkFault}
+use Rattle.round_eval.specs.declared.fault.WorkFault.TheVariants as work
 use Rattle.shared_memo.specs.PlanJobs.{IsKey}
 
 -- if the fault names a block, it is a block of the plan of a lower level

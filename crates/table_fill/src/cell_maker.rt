@@ -6,11 +6,11 @@ ghost use Rattle.table_fill.specs.MissingBlocks.{missing_of};
 use crate::own_reader::OwnReader;
 use node_program::OutOfMemory;
 use round_columns::Code;
+use round_eval::WorkFault;
 use shared_memo::{Installed, Memo, Stranger};
 use std::alloc::Global;
 use unroll::{BlockMaker, MakeFault};
 use win_index::{MAX_BLOCKS, window_of_number};
-use worker_pool::WorkFault;
 
 // A reader of a memo, and a maker of blocks of the memo's plan, for the worker with this number.
 #[derive(Drop)]
@@ -51,7 +51,7 @@ impl<'s, 'a> CellMaker<'s, 'a> {
 
     // Looks at the cell of this level and number, and returns whether its block is known then.
     // Fails if the cell holds a stranger.
-    fn finds(&mut self, level: u32, number: u32) -> Result<bool, Stranger>
+    fn finds(&mut self, level: u32, number: u32) -> Result<bool, WorkFault>
         requires { IsKey self.old.reader.pass.plan.now level number }
         ensures goes_on { GoesOn self.old self.new }
         ensures found { IfOk result (λ found. (found ≡ is_some (known self.new.reader.pass level number))
@@ -59,7 +59,10 @@ impl<'s, 'a> CellMaker<'s, 'a> {
         ensures stranger { OnErr result (IsSomeAnd (seen self.new.reader.pass level number) (IsStranger self.old.reader.pass.plan.now level number)) }
     {
         let OwnReader { memo, pass } = &mut self.reader;
-        Ok(memo.look(pass, level, number)?.is_some())
+        match memo.look(pass, level, number) {
+            Ok(found) => Ok(found.is_some()),
+            Err(Stranger) => Err(WorkFault::Stranger),
+        }
     }
 
     // Makes the block of this level and number and stores it, unless the cell is full by then. Fails
