@@ -1,9 +1,14 @@
--- A worker's view of the cells of a memo, before and after a call. No public contract cites this file.
-use Rattle.std.specs.Prelude.{◌≡◌, ℕ}
+-- A worker's view of the cells of a memo, before and after a call, and a block that it misses. No public contract cites this
+-- file.
+use Rattle.std.specs.Prelude.{◌≡◌, ℕ, ◌<◌}
 use Rattle.window_states.specs.Entries.{Grows}
 use Rattle.shared_memo.specs.declared.memo.Memo.{Memo}
 use Rattle.shared_memo.specs.Passes.{known}
 use Rattle.table_fill.specs.declared.cell_maker.CellMaker.{CellMaker}
+use Rattle.lang_check.specs.Plans.{ProgramForIds}
+use Rattle.unroll.specs.declared.fault.MakeFault.{MakeFault}
+use Rattle.unroll.specs.declared.fault.MakeFault.TheVariants.{Missing, OutOfMemory}
+use Rattle.shared_memo.specs.PlanJobs.{IsKey}
 
 -- a maker of blocks for this memo and this worker
 pub record IsMakerOf (memo : Memo) (worker : ℕ) (cells : CellMaker) : Type 0 where
@@ -16,3 +21,8 @@ pub record GoesOn (old new : CellMaker) : Type 0 where
   pub same_memo : new.reader.memo.now ≡ old.reader.memo.now
   pub same_plan : new.reader.pass.plan.now ≡ old.reader.pass.plan.now
   pub grows : Grows (known old.reader.pass) (known new.reader.pass)
+
+-- if the fault names a block, it is a block of the plan of a lower level
+abbrev pub NamesLowerBlock : ProgramForIds → ℕ → MakeFault → Type 0
+NamesLowerBlock plan level (Missing low number) = (low < level) × IsKey plan low number
+NamesLowerBlock plan level OutOfMemory = Unit {0}

@@ -4,5 +4,4 @@
 pub mod Filled
 pub mod Compiled
 pub mod Cells
-pub mod MissingBlocks
 pub mod TableRooms

@@ -1,7 +1,6 @@
 //! A worker's view of the cells of a memo: it looks at them, and makes the blocks of empty ones.
 
 ghost use Rattle.std.specs.Prelude.{◌≡◌};
-ghost use Rattle.table_fill.specs.MissingBlocks.{missing_of};
 
 use crate::own_reader::OwnReader;
 use node_program::OutOfMemory;
@@ -26,8 +25,7 @@ impl<'s, 'a> CellMaker<'s, 'a> {
     ghost use Rattle.shared_memo.specs.declared.memo.Installed.TheVariants.{Fresh};
     ghost use Rattle.shared_memo.specs.Passes.{known, seen, memo_plan};
     ghost use Rattle.shared_memo.specs.PlanJobs.{IsKey, IsStranger};
-    ghost use Rattle.table_fill.specs.Cells.{GoesOn, IsMakerOf};
-    ghost use Rattle.table_fill.specs.MissingBlocks.{NamesLowerBlock};
+    ghost use Rattle.table_fill.specs.Cells.{GoesOn, IsMakerOf, NamesLowerBlock};
 
     // Returns a maker for a worker that knows no block of the memo yet. Fails if memory was refused.
     pub(crate) fn new(
@@ -110,22 +108,10 @@ impl<'s, 'a> CellMaker<'s, 'a> {
                         Err(WorkFault::Stranger)
                     };
                 }
-                Err(fault) => {
-                    let (low, below) = missing_block(fault)?;
-                    self.fill(alloc, low, below)?;
-                }
+                Err(MakeFault::Missing(low, below)) => self.fill(alloc, low, below)?,
+                Err(MakeFault::OutOfMemory) => return Err(WorkFault::OutOfMemory),
             }
         }
         Err(WorkFault::Stranger)
-    }
-}
-
-// Returns the block that was missing when one was made, or the fault that memory was refused.
-fn missing_block(fault: MakeFault) -> Result<(u32, u32), WorkFault>
-    ensures { result ≡ missing_of fault }
-{
-    match fault {
-        MakeFault::Missing(low, below) => Ok((low, below)),
-        MakeFault::OutOfMemory => Err(WorkFault::OutOfMemory),
     }
 }

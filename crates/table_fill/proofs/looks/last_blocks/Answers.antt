@@ -5,8 +5,7 @@ use Rattle.table_fill.proofs.looks.last_blocks.Goals as goal
 
 pub loop-number-preserved : goal.loop-number-preserved
 loop-number-preserved c = record {
-  pass = c.look_at.ensures.learned.0;
-  kept = grows_both _ _ _ c.loop-number.invariant.kept c.look_at.ensures.learned.1;
+  learned = (c.look_at.ensures.learned.0, grows_both _ _ _ c.loop-number.invariant.learned.1 c.look_at.ensures.learned.1);
   row = search rules;
   count = search rules;
   room = search rules;

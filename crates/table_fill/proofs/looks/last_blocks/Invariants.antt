@@ -2,18 +2,17 @@ use Rattle.std.proofs.Common.{◌≡◌, ℕ, ◌<◌, ◌≤◌, length, Some, 
 use Rattle.std.specs.Prelude.{is_some}
 use denote.Ref.{Bor}
 use Rattle.window_states.specs.BlockStates.{MadeBlock}
-use Rattle.window_states.specs.Entries.{Grows}
 use Rattle.shared_memo.specs.PlanJobs.{IsKeyedBlock}
-use Rattle.shared_memo.specs.Passes.{IsPassOf, known}
+use Rattle.shared_memo.specs.Passes.{known}
 use Rattle.win_index.specs.Blocks.{block_count}
+use Rattle.table_fill.specs.Filled.{HasLearned}
 use Rattle.table_fill.proofs.looks.last_blocks.Given as goal
 
 -- the blocks so far are those of the last level, and are known
 abbrev pub invariant-loop-number : goal.invariant-loop-number
 invariant-loop-number l =
     record {
-      pass : IsPassOf l.memo l.pass;
-      kept : Grows (known l.fn.pass) (known l.pass);
+      learned : HasLearned l.memo l.fn.pass l.pass;
       row : (number : ℕ) → number < l.number → is_some (known l.pass (length l.memo.plan.now.program.steps) number) ≡ true;
       count : length l.blocks.items ≡ l.number;
       room : block_count l.memo.plan.now.ids (length l.memo.plan.now.program.steps) ≤ vec_capacity l.blocks;

@@ -1,16 +1,14 @@
 use Rattle.std.proofs.Common.{◌≡◌, ℕ, ◌<◌, true}
 use Rattle.std.specs.Prelude.{is_some}
-use Rattle.window_states.specs.Entries.{Grows}
-use Rattle.shared_memo.specs.Passes.{IsPassOf, known}
-use Rattle.table_fill.specs.Filled.{KnowsLevel}
+use Rattle.shared_memo.specs.Passes.{known}
+use Rattle.table_fill.specs.Filled.{HasLearned, KnowsLevel}
 use Rattle.table_fill.proofs.looks.look_below.Given as goal
 
 -- all levels so far are known
 abbrev pub invariant-loop-level : goal.invariant-loop-level
 invariant-loop-level l =
     record {
-      pass : IsPassOf l.memo l.pass;
-      kept : Grows (known l.fn.pass) (known l.pass);
+      learned : HasLearned l.memo l.fn.pass l.pass;
       below : (level : ℕ) → level < l.level → KnowsLevel l.memo.plan.now (known l.pass) level;
     }
 
@@ -18,8 +16,7 @@ invariant-loop-level l =
 abbrev pub invariant-loop-number : goal.invariant-loop-number
 invariant-loop-number l =
     record {
-      pass : IsPassOf l.memo l.pass;
-      kept : Grows (known l.fn.pass) (known l.pass);
+      learned : HasLearned l.memo l.fn.pass l.pass;
       below : (level : ℕ) → level < l.level → KnowsLevel l.memo.plan.now (known l.pass) level;
       row : (number : ℕ) → number < l.number → is_some (known l.pass l.level number) ≡ true;
     }

@@ -1,8 +1,37 @@
-use Rattle.std.proofs.Common.{rules}
+use Rattle.std.proofs.Common.{ℕ, ◌+◌, ◌*◌, ◌<◌, ◌≤◌, List, length, arith, rules}
+use Rattle.std.proofs.lemmas.Option.{slice_get_within}
+use Rattle.lang_check.specs.Plans.{ProgramForIds}
+use Rattle.win_index.specs.Blocks.{block_count}
+use Rattle.win_index.specs.Laws.{WindowOfNumber}
+use Rattle.win_index.specs.Windows.{windows}
+use Rattle.unroll.specs.Below.{part, IsBelow}
+use Rattle.window_states.specs.BlockStates.{window_numbered}
+use Rattle.window_states.specs.Entries.{Entries}
+use Rattle.unroll.specs.MakeFaults.{IsMakeFault}
+use Rattle.unroll.specs.declared.fault.MakeFault.{MakeFault}
+use Rattle.unroll.specs.declared.fault.MakeFault.TheVariants.{Missing, OutOfMemory}
+use Rattle.table_fill.specs.Cells.{NamesLowerBlock}
+use Rattle.win_index.specs.declared.limits.TheConstants.{BLOCK_WINDOWS}
 use Rattle.shared_memo.specs.Passes.{known}
 use Rattle.table_fill.specs.declared.own_reader.OwnReader.{OwnReader}
-use Rattle.table_fill.proofs.BelowBlocks.{missing_is_block}
 use Rattle.table_fill.proofs.cell_maker.CellMaker.make.Goals as goal
+
+below_is_block : (m level number low c : ℕ) → WindowOfNumber → IsBelow m level number low c → c < block_count m low
+below_is_block m level number low c window below =
+    let k : ℕ = 2 * low + 1 in
+    let list : List ℕ = part (window_numbered m level (BLOCK_WINDOWS * number + below.place)) low below.is_part.offset in
+    let there = window k m below.number list below.is_part.number_is in
+    let lt = slice_get_within (windows k m) below.number list there in
+    omega (arith, below.block_is, lt)
+
+-- a block that is missing for a block of a level is one of a lower level
+missing_is_block :
+    {S : Type 0} → WindowOfNumber → (plan : ProgramForIds) (entries : S → Entries) (old new : S) (level number : ℕ) (fault : MakeFault)
+    → level ≤ length plan.program.steps → IsMakeFault entries old new plan.ids level number fault → NamesLowerBlock plan level fault
+missing_is_block window plan entries old new level number (Missing low c) le is =
+    let one = is.0.one_lower in
+    (omega (arith, one), (omega (arith, one, le), below_is_block plan.ids level number low c window is.0))
+missing_is_block window plan entries old new level number OutOfMemory le is = tt
 
 pub returns-in-Err-clause-missing : goal.returns-in-Err-clause-missing
 returns-in-Err-clause-missing c =
