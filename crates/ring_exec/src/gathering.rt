@@ -46,10 +46,8 @@ pub(crate) fn gather(
 // before.
 #[tactic(auto, using(std::proofs::lemmas::Nat::row_fits))]
 fn write_part(plan: &Plan, segment: &Segment<'_>, first: usize, end: usize, channels: &mut [u32])
-    requires plan { segment.now.plan ≡ plan.now }
-    requires done { segment.now.round ≡ length plan.now.program.steps }
-    requires first { first ≡ first_of segment.now }
-    requires end { end ≡ first + places_of segment.now }
+    requires done { (segment.now.plan ≡ plan.now) × (segment.now.round ≡ length plan.now.program.steps) }
+    requires places { (first ≡ first_of segment.now) × (end ≡ first + places_of segment.now) }
     requires room { end ≤ length channels.old }
     requires before { (i : ℕ) → i < first → slice_index channels.old i ≡ channel_at plan.now.program segment.now.ring.places i }
     ensures { (i : ℕ) → i < end → slice_index channels.new i ≡ channel_at plan.now.program segment.now.ring.places i }

@@ -48,18 +48,13 @@ overflow_cast-end c =
     product_fits k n (omega (arith, c.loop-index-test.true, c.requires.range.few)) c.len-places.ensures.few in
     record { fits = omega (arith, product, div-le_self ((k + 1) * n) c.args.segments) }
 
-pub write_part-requires-clause-plan : goal.write_part-requires-clause-plan
-write_part-requires-clause-plan c = ap (λ (s : RingSegment). s.plan) (c.is_of.ensures.0 c.if-not-is_of.false)
-
 pub write_part-requires-clause-done : goal.write_part-requires-clause-done
 write_part-requires-clause-done c =
-    let same = c.is_of.ensures.0 c.if-not-is_of.false in
-    sym c.round.ensures.value ∙ c.if-round-rounds.false ∙ c.rounds.ensures.value
-    ∙ ap (λ (s : RingSegment). length s.plan.program.steps) same
-
-pub write_part-requires-clause-first : goal.write_part-requires-clause-first
-write_part-requires-clause-first c =
-    c.loop-index.invariant.first ∙ sym (ap first_of (c.is_of.ensures.0 c.if-not-is_of.false))
+    let same = c.is_of.ensures.0 c.if-not-is_of.false in (
+      ap (λ (s : RingSegment). s.plan) same,
+      sym c.round.ensures.value ∙ c.if-round-rounds.false ∙ c.rounds.ensures.value
+          ∙ ap (λ (s : RingSegment). length s.plan.program.steps) same,
+    )
 
 pub write_part-requires-clause-room : goal.write_part-requires-clause-room
 write_part-requires-clause-room c =
@@ -76,18 +71,19 @@ write_part-requires-clause-before c =
     let same = c.is_of.ensures.0 c.if-not-is_of.false in
     λ i lt. c.loop-index.invariant.each i lt ∙ sym (ap (λ (s : RingSegment). channel_at p s.ring.places i) same)
 
-pub write_part-requires-clause-end : goal.write_part-requires-clause-end
+pub write_part-requires-clause-places : goal.write_part-requires-clause-places
 unfolding first_place
-write_part-requires-clause-end c =
+write_part-requires-clause-places c =
     let n = length c.args.ring.now.places in
     let g = c.args.segments in
     let k = c.loop-index.index in
-    let places : c.len-places.result ≡ n = c.len-places.ensures.value in
-    let end : (k + 1) * c.len-places.result / g ≡ first_place n g (k + 1) = rw places refl in
-    let count : places_of c.in-Some.segment ≡ first_place n g (k + 1) - first_place n g k =
-    ap places_of (c.is_of.ensures.0 c.if-not-is_of.false) in
-    let grows = (c.segments_cover_the_ring.ensures n g c.requires.range.some c.requires.range.enough).2 k in
-    end ∙ (omega (arith, count, grows, c.loop-index.invariant.first))
+    let same = c.is_of.ensures.0 c.if-not-is_of.false in
+    let end : (k + 1) * c.len-places.result / g ≡ first_place n g (k + 1) = rw c.len-places.ensures.value refl in
+    let count : places_of c.in-Some.segment ≡ first_place n g (k + 1) - first_place n g k = ap places_of same in
+    let grows = (c.segments_cover_the_ring.ensures n g c.requires.range.some c.requires.range.enough).2 k in (
+      c.loop-index.invariant.first ∙ sym (ap first_of same),
+      end ∙ (omega (arith, count, grows, c.loop-index.invariant.first)),
+    )
 
 pub loop-index-preserved : goal.loop-index-preserved
 unfolding first_place

@@ -15,10 +15,10 @@ loop-place-preserved c =
     let x = s.ring.places in
     let place = c.loop-place.place in
     let j = place - c.args.first in
-    let inside : j < places_of s = omega (arith, c.requires.end) in
-    let there : first_of s + j ≡ place = omega (arith, c.requires.first) in
+    let inside : j < places_of s = omega (arith, c.requires.places.1) in
+    let there : first_of s + j ≡ place = omega (arith, c.requires.places.0) in
     let width : c.width_of-width.result ≡ length s.plan.program.start =
-    c.width_of-width.ensures.value ∙ sym (ap (λ (q : ProgramForIds). length q.program.start) c.requires.plan) in
+    c.width_of-width.ensures.value ∙ sym (ap (λ (q : ProgramForIds). length q.program.start) c.requires.done.0) in
     let row : c.row_at.result.now ≡ state s.plan.program x s.round place =
     sym (c.row_at.ensures.value (places_of s) inside)
     ∙ ap (λ w. get_or (rows w (places_of s) c.states-states.result.now) j []) width
@@ -27,7 +27,7 @@ loop-place-preserved c =
     let made : c.channel.result ≡ channel_at c.args.plan.now.program x place =
     c.channel.ensures.value
     ∙ ap (channel c.args.plan.now.program) row
-    ∙ (λ i. channel c.args.plan.now.program (state (c.requires.plan i).program x (c.requires.done i) place)) in
+    ∙ (λ i. channel c.args.plan.now.program (state (c.requires.done.0 i).program x (c.requires.done.1 i) place)) in
     rw made
     (fill_by_more (channel_at c.args.plan.now.program x) c.loop-place.channels place 0 (omega (arith, c.requires.room))
     c.loop-place.invariant)
