@@ -1,5 +1,6 @@
 -- From the first window of a run to that of the next one.
 use Rattle.std.proofs.Common.{◌≡◌, ℕ, ◌+◌, ◌-◌, ◌*◌, ◌^◌, ◌<◌, ◌≤◌, Bool, true, false, List, [], length, get_or, set, take, slice_get, Some, sym, ap, ◌∙◌, arith, refl, ⊎_elim}
+use Rattle.std.proofs.Math.Nat.{mul-le-mul_right}
 use Rattle.std.proofs.lemmas.Bool.{cases_lt, OnTrue_at, OnFalse_at}
 use Rattle.std.proofs.lemmas.List.{get_or-set_same, take-set}
 use Rattle.std.proofs.lemmas.Option.{same_Some, slice_get-get_or}
@@ -77,3 +78,11 @@ run_end t run window item =
 pub small_run : (t : ChannelTable) (run each : ℕ) → IsTable t → each ≡ wide t → run * wide t + wide t ≤ length (windows_of t)
     → run * each + each < 2 ^ 32
 small_run t run each table each_is within = rw each_is (omega (arith, within, table.begun.shape.few_windows))
+
+-- the same for a run before one whose windows' numbers are within the windows
+pub run_few : (t : ChannelTable) (run high each : ℕ) → IsTable t → each ≡ wide t → run < high → high * wide t ≤ length (windows_of t)
+    → (run * each + each ≤ length (windows_of t)) × (length (windows_of t) < 2 ^ 32)
+run_few t run high each table each_is lt within =
+    let more : run + 1 ≤ high = omega arith in
+    let own = mul-le-mul_right (wide t) more in
+    (rw each_is (omega (arith, own, row_more run (wide t), within)), omega (arith, table.begun.shape.few_windows))

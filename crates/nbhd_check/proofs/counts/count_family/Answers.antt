@@ -1,8 +1,10 @@
-use Rattle.std.proofs.Common.{◌≡◌, ⊎_elim, get_or, ap, ◌≤◌, ℕ, ◌-◌, ◌*◌, length, drop, ◌∙◌, arith}
+use Rattle.std.proofs.Common.{◌≡◌, ⊎_elim, get_or, ap, ◌≤◌, ℕ, ◌+◌, ◌-◌, ◌*◌, length, drop, ◌∙◌, arith}
 use Rattle.std.proofs.lemmas.List.{take_at, get_or-replicate}
 use Rattle.std.proofs.lemmas.Bool.{cases_lt}
 use Rattle.std.proofs.Math.ListN.{get_or-eq_default, length-replicate, replicate}
 use Rattle.nbhd_check.specs.Counts.{IsFamily}
+use Rattle.std.proofs.Math.Nat.{mul-le-mul_right}
+use Rattle.nbhd_check.proofs.Cells.{product_few}
 use Rattle.nbhd_check.proofs.FarFree.{family_is, some_product}
 use Rattle.nbhd_check.proofs.counts.count_family.Goals.{After-window_number}
 use Rattle.nbhd_check.proofs.counts.count_family.Goals as goal
@@ -55,3 +57,28 @@ returns-clause-fit c =
     let len = c.add_rows.auto.cells ∙ c.count_windows.auto.cells ∙ c.fill.ensures.len ∙ c.deref_mut-cells.ensures.len in
     let written = take_at cells (drop (length cells) c.args.counts.now.cells.items) c.args.counts.now.cells.len len in
     record { room = rw written (c.add_rows.auto.cells ∙ c.count_windows.auto.cells ∙ c.fill.ensures.len ∙ ap length c.deref_mut-cells.ensures.value ∙ c.requires.fit.room); limit = c.requires.fit.limit }
+
+pub add_rows-requires-clause-few : goal.add_rows-requires-clause-few
+add_rows-requires-clause-few c =
+    omega (arith, (family (goal.at.add_rows-requires-clause-few c).After-window_number).within, c.shape-shape.ensures.table.begun.shape.few_windows)
+
+pub count_windows-requires-clause-rows : goal.count_windows-requires-clause-rows
+count_windows-requires-clause-rows c = λ k d lt.
+    let below = c.requires.fit.limit k d lt in
+    rw (c.fill.ensures.len ∙ ap length c.deref_mut-cells.ensures.value ∙ c.requires.fit.room)
+    (mul-le-mul_right {m = get_or c.args.table.now.entries k d + 2} {n = c.args.counts.now.limit + 1} (c.args.table.now.ids + 1) (omega (arith, below)))
+
+pub count_windows-requires-clause-window : goal.count_windows-requires-clause-window
+count_windows-requires-clause-window c =
+    let rounds_is = c.rounds-2.ensures ∙ c.shape-shape.ensures.rounds in
+    (rw (rounds_is, c.shape-shape.ensures.ids) at c.window.ensures.item, rw (rounds_is, c.shape-shape.ensures.ids) at c.window.ensures.window)
+
+pub overflow_mul-count : goal.overflow_mul-count
+overflow_mul-count c =
+    let others : ℕ = c.ids.result - length c.args.shared.now in
+    let few : others ≤ 1024 = omega (arith, c.ids.ensures, c.shape-shape.result.in_range.few) in
+    omega (arith, product_few others (others - 1) 1024 1024 1048576 few (omega (arith, few)) (omega arith))
+
+pub window_number-requires-clause-window : goal.window_number-requires-clause-window
+window_number-requires-clause-window c =
+    rw (c.rounds.ensures ∙ c.shape-shape.ensures.rounds, c.shape-shape.ensures.ids) c.requires.shared

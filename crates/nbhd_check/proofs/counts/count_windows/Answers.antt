@@ -1,8 +1,8 @@
-use Rattle.std.proofs.Common.{◌≡◌, ℕ, ◌+◌, ◌-◌, ◌*◌, ◌<◌, slice_get, ap, ◌∙◌, arith}
+use Rattle.std.proofs.Common.{◌≡◌, ℕ, ◌+◌, ◌-◌, ◌*◌, ◌<◌, get_or, slice_get, ap, ◌∙◌, arith}
 use Rattle.channel_tables.specs.Tables.{windows_of}
 use Rattle.nbhd_check.specs.Counts.{shared_len}
 use Rattle.nbhd_check.proofs.HeldCounts.{window_counted}
-use Rattle.nbhd_check.proofs.Prefixes.{next_item}
+use Rattle.nbhd_check.proofs.Prefixes.{next_item, window_of_shape}
 use Rattle.nbhd_check.proofs.counts.count_windows.Goals as goal
 
 pub loop-number-preserved : goal.loop-number-preserved
@@ -29,3 +29,52 @@ loop-number-preserved c =
           rw more (omega (arith, old, first, second, third, counted)),
       λ i. omega (arith, c.loop-number.invariant.3 i, c.count_in.ensures.few i, c.count_in-in-loop-number.ensures.few i, c.count_in-in-loop-number-2.ensures.few i),
     )
+
+pub count_in-requires-clause-column : goal.count_in-requires-clause-column
+count_in-requires-clause-column c =
+    let own = c.loop-number.invariant.1 in
+    let size = own.size in
+    omega (arith, own.below (2 * (c.rounds.result - 1) + 1) 0 (omega (arith, size, c.rounds.ensures, c.shape-shape.ensures.rounds, c.requires.within.0)), c.ids.ensures, c.shape-shape.ensures.ids)
+
+pub count_in-requires-clause-few : goal.count_in-requires-clause-few
+count_in-requires-clause-few c =
+    let few = c.shape-shape.ensures.table.begun.shape.few_windows in
+    omega (
+      arith,
+      few,
+      c.requires.within.1,
+      c.loop-number-test.true,
+      c.loop-number.invariant.3 ((c.entry.result + 1) * (c.ids.result + 1) + get_or c.loop-number.window (2 * (c.rounds.result - 1) + 1) 0),
+    )
+
+pub count_in-requires-clause-within : goal.count_in-requires-clause-within
+count_in-requires-clause-within c =
+    let table = c.shape-shape.ensures.table in
+    let row = c.requires.rows c.loop-number.number 0 (omega (arith, table.size, c.requires.within.1, c.loop-number-test.true)) in
+    let two : c.entry.result + 1 + 1 ≡ c.entry.result + 2 = omega arith in
+    rw (two, c.entry.ensures.value, c.ids.ensures, c.shape-shape.ensures.ids, c.loop-number.auto.cells) row
+
+pub count_in-requires-in-loop-number-clause-few : goal.count_in-requires-in-loop-number-clause-few
+count_in-requires-in-loop-number-clause-few c =
+    let few = c.shape-shape.ensures.table.begun.shape.few_windows in
+    let cell : ℕ = (c.entry.result + 1) * (c.ids.result + 1) + get_or c.loop-number.window (2 * (c.rounds.result - 1) + 1 + 1) 0 in
+    omega (arith, few, c.requires.within.1, c.loop-number-test.true, c.count_in.ensures.few cell, c.loop-number.invariant.3 cell)
+
+pub loop-number-init : goal.loop-number-init
+loop-number-init c =
+    let none : c.args.first - c.args.first ≡ 0 = omega arith in (
+      λ _. c.requires.window.0,
+      c.requires.window.1,
+      λ v x lt within. rw none (c.requires.empty (v * (c.args.table.now.ids + 1) + x)),
+      λ i. omega (arith, c.requires.empty i),
+    )
+
+pub next_window-requires-clause-window : goal.next_window-requires-clause-window
+next_window-requires-clause-window c =
+    window_of_shape c.args.table.now c.rounds-in-loop-number.result c.shape-shape.result.ids c.loop-number.window
+    (c.rounds-in-loop-number.ensures ∙ c.shape-shape.ensures.rounds) c.shape-shape.ensures.ids c.loop-number.invariant.1
+
+pub returns : goal.returns
+returns c = λ v x lt within.
+    let all : c.loop-number.number - c.args.first ≡ c.args.count = omega (arith, c.loop-number-test.false) in
+    rw (← all) (c.loop-number.invariant.2 v x lt within)

@@ -1,11 +1,12 @@
-use Rattle.std.proofs.Common.{ℕ, ◌+◌, ◌*◌, ◌<◌, ◌≤◌, ap, ◌∙◌, arith, ⊎_elim}
+use Rattle.std.proofs.Common.{ℕ, ◌+◌, ◌*◌, ◌<◌, ◌≤◌, length, subst, sym, ap, ◌∙◌, arith, ⊎_elim}
 use Rattle.std.proofs.lemmas.Bool.{cases_lt}
 use Rattle.std.proofs.Math.Nat.{mul-le-mul_right}
+use Rattle.channel_tables.specs.Tables.{windows_of}
 use Rattle.nbhd_check.specs.Runs.{wide}
 use Rattle.nbhd_check.proofs.Cells.{row_more}
 use Rattle.nbhd_check.proofs.Prefixes.{window_of_shape, step_of_run}
 use Rattle.win_index.proofs.Numbers.{windows_all}
-use Rattle.nbhd_check.proofs.RunSteps.{next_first}
+use Rattle.nbhd_check.proofs.RunSteps.{next_first, run_few}
 use Rattle.nbhd_check.proofs.search.scan_runs.Goals as goal
 
 pub next_run-requires-clause-window : goal.next_run-requires-clause-window
@@ -35,3 +36,43 @@ loop-run-preserved g c =
           (λ (own : run * wide t ≤ number). c.in_default.ensures number window own (omega arith) at')
           (cases_lt number (run * wide t)),
     )
+
+pub overflow_mul-run : goal.overflow_mul-run
+overflow_mul-run g c =
+    let table_is = c.table-table.ensures in
+    let within = subst (λ t. c.args.high * wide t ≤ length (windows_of t)) (sym table_is) c.requires.within in
+    omega (
+      arith,
+      run_few c.table-table.result.now c.loop-run.run c.args.high c.windows_per_run-each.result
+          c.windows_per_run-each.ensures.table c.windows_per_run-each.ensures.value c.loop-run-test.true within,
+    )
+
+pub overflow_mul-result : goal.overflow_mul-result
+overflow_mul-result g c =
+    let table_is = c.table-table.ensures in
+    let within = subst (λ t. c.args.high * wide t ≤ length (windows_of t)) (sym table_is) c.requires.within in
+    omega (
+      arith,
+      run_few c.table-table.result.now c.loop-run.run c.args.high c.windows_per_run-each.result
+          c.windows_per_run-each.ensures.table c.windows_per_run-each.ensures.value c.loop-run-test.true within,
+    )
+
+pub returns-then-load-run : goal.returns-then-load-run
+returns-then-load-run g c = λ number window low below item.
+    let each_is = c.windows_per_run-each.ensures.value ∙ ap wide c.table-table.ensures in
+    let same = ap (λ n. c.loop-run.run * n) each_is in
+    c.loop-run.invariant.1 number window low (omega (arith, below, same)) item
+
+pub returns-in-Some : goal.returns-in-Some
+returns-in-Some g c = λ number window low below item.
+    let t = g.S.Search.searched c.args.search.now in
+    ⊎_elim
+    (λ (before : number < c.loop-run.run * wide t). c.loop-run.invariant.1 number window low before item)
+    (λ (own : c.loop-run.run * wide t ≤ number). c.in-Some.ensures number window own (omega (arith, below)) item)
+    (cases_lt number (c.loop-run.run * wide t))
+
+pub returns : goal.returns
+returns g c = λ number window low below item.
+    let t = g.S.Search.searched c.args.search.now in
+    let all = mul-le-mul_right (wide t) c.loop-run-test.false in
+    c.loop-run.invariant.1 number window low (omega (arith, below, all)) item

@@ -21,3 +21,26 @@ loop-number-preserved c =
           (same_Some (drop 2 window) shared (sym own.3 ∙ ap (slice_get (shared_lists t)) same ∙ here)))
           (cases_lt own.0 number),
     )
+
+pub window-requires-clause-below : goal.window-requires-clause-below
+window-requires-clause-below c =
+    rw (c.rounds-below.ensures ∙ c.shape-shape.ensures.rounds, c.shape-shape.ensures.ids) (omega (arith, c.requires, c.loop-number-test.true))
+
+pub count_family-requires-clause-shared : goal.count_family-requires-clause-shared
+count_family-requires-clause-shared c =
+    rw (c.rounds-below.ensures ∙ c.shape-shape.ensures.rounds, c.shape-shape.ensures.ids) at c.window.ensures.window
+
+pub invariant_of-family : goal.invariant_of-family
+invariant_of-family c =
+    let rounds_is = c.rounds-below.ensures ∙ c.shape-shape.ensures.rounds in
+    record {
+      some = c.args.self.some;
+      window = rw (rounds_is, c.shape-shape.ensures.ids) at c.window.ensures.window;
+      numbered = rw (rounds_is, c.shape-shape.ensures.ids) at c.window.ensures.item;
+      fit = c.count_family.ensures.fit;
+      each_is = (c.windows_per_pair-each.ensures.value, c.windows_per_pair-each.ensures.few);
+    }
+
+pub returns : goal.returns
+returns c = λ number window below item own.
+    c.loop-number.invariant.1 number window below item (own.0, own.1, omega (arith, own.2, c.loop-number-test.false), own.3)

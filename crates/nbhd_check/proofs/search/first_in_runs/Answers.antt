@@ -1,0 +1,26 @@
+use Rattle.std.proofs.Common.{◌+◌, ◌*◌, ◌<◌, ◌≤◌, length, subst, sym, ◌∙◌, arith}
+use Rattle.std.proofs.Math.Nat.{mul-le-mul_right}
+use Rattle.channel_tables.specs.Tables.{windows_of}
+use Rattle.nbhd_check.specs.Runs.{wide}
+use Rattle.nbhd_check.proofs.RunSteps.{run_few}
+use Rattle.nbhd_check.proofs.search.first_in_runs.Goals as goal
+
+pub returns-then-low-high : goal.returns-then-low-high
+returns-then-low-high g c = λ number window low below item.
+    absurd (omega (arith, mul-le-mul_right (wide (g.S.Search.searched c.args.search.now)) c.if-low-high.true, low, below))
+
+pub overflow_mul-low : goal.overflow_mul-low
+overflow_mul-low g c =
+    let within = subst (λ t. c.args.high * wide t ≤ length (windows_of t)) (sym c.table-table.ensures) c.requires in
+    omega (
+      arith,
+      run_few c.table-table.result.now c.args.low c.args.high c.windows_per_run.result
+          c.windows_per_run.ensures.table c.windows_per_run.ensures.value c.if-low-high.false within,
+    )
+
+pub window-requires-clause-below : goal.window-requires-clause-below
+window-requires-clause-below g c =
+    let within = subst (λ t. c.args.high * wide t ≤ length (windows_of t)) (sym c.table-table.ensures) c.requires in
+    let few = run_few c.table-table.result.now c.args.low c.args.high c.windows_per_run.result
+    c.windows_per_run.ensures.table c.windows_per_run.ensures.value c.if-low-high.false within in
+    rw (c.rounds-level.ensures ∙ c.shape-shape.ensures.rounds, c.shape-shape.ensures.ids) (omega (arith, few, c.windows_per_run.ensures.some))
