@@ -1,5 +1,5 @@
-use Rattle.std.proofs.Common.{rules, ◌≡◌, ◌+◌, ◌*◌, ◌/◌, ◌<◌, ◌++◌, length, take, drop, slice_get, Some, refl, sym, ap, ◌∙◌, arith, subst}
-use Rattle.std.proofs.lemmas.List.{take_at}
+use Rattle.std.proofs.Common.{rules, ◌≡◌, ◌+◌, ◌*◌, ◌/◌, ◌<◌, length, slice_get, Some, refl, sym, ap, ◌∙◌, arith, subst}
+use Rattle.std.proofs.lemmas.List.{with_items_is}
 use Rattle.win_index.specs.Windows.{windows, IsWindow}
 use Rattle.win_index.specs.declared.limits.TheConstants.{BLOCK_WINDOWS}
 use Rattle.window_states.specs.BlockStates.{block_len, window_numbered}
@@ -93,10 +93,7 @@ gather_run-requires g c κs =
 module _ (g : Over) (c : After-take_fronts g) where
   gathered : AreGathered (g.S.Source.entries c.gather_run.new.source) c.args.upper c.in_ok-after.after c.take_fronts.new.scratch
   gathered =
-      let list = c.loop-run.scratch.from_right in
-      let cells = c.gather_run.new.sent in
-      let whole : take list.len (cells ++ drop (length cells) list.items) ≡ cells =
-      take_at cells _ list.len (c.gather_run.auto.sent ∙ c.deref_mut.ensures.len) in
+      let whole = with_items_is c.loop-run.scratch.from_right c.gather_run.new.sent (c.gather_run.auto.sent ∙ c.deref_mut.ensures.len) in
       let run = c.in_ok-after.ensures.gathered.taken in
       record { fronts = c.take_fronts.ensures.held; lasts = rw (c.take_fronts.ensures.right, whole) run.lasts; known = run.known }
 

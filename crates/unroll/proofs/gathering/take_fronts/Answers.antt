@@ -1,5 +1,5 @@
-use Rattle.std.proofs.Common.{◌≡◌, ◌+◌, ◌-◌, ◌++◌, length, take, drop, ◌∙◌, arith}
-use Rattle.std.proofs.lemmas.List.{take_at}
+use Rattle.std.proofs.Common.{◌≡◌, ◌+◌, ◌-◌, ◌∙◌, arith}
+use Rattle.std.proofs.lemmas.List.{with_items_is}
 use Rattle.unroll.proofs.Fronts.{columns_more, states_more}
 use Rattle.unroll.proofs.gathering.take_fronts.Goals as goal
 
@@ -7,10 +7,7 @@ pub returns-then-not-upper-clause-held : goal.returns-then-not-upper-clause-held
 returns-then-not-upper-clause-held c =
     let count = c.args.end - c.args.from in
     let sum : c.args.from + (c.args.end - c.args.from) ≡ c.args.end = omega (arith, c.requires.range.0) in
-    let list = c.args.scratch.now.from_left in
-    let cells = c.fill_some.new.cells in
-    let whole : take list.len (cells ++ drop (length cells) list.items) ≡ cells =
-    take_at cells _ list.len (c.fill_some.auto.cells ∙ c.deref_mut.ensures.len) in
+    let whole = with_items_is c.args.scratch.now.from_left c.fill_some.new.cells (c.fill_some.auto.cells ∙ c.deref_mut.ensures.len) in
     columns_more c.args.upper c.args.run c.args.from count c.args.end sum c.args.scratch.now _ c.requires.held c.requires.fronts c.if-not-upper.true
     (rw whole (rw c.deref_mut.ensures.value at c.fill_some.ensures)) c.fill_states.ensures.size.0
     (omega (arith, sum, c.requires.range.1, c.requires.ready.own_wide.0)) c.fill_states.ensures.states

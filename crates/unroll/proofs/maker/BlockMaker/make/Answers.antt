@@ -1,5 +1,5 @@
-use Rattle.std.proofs.Common.{◌≡◌, ◌*◌, ◌++◌, length, take, drop, refl, ◌∙◌}
-use Rattle.std.proofs.lemmas.List.{take_at}
+use Rattle.std.proofs.Common.{◌*◌, length, refl, ◌∙◌}
+use Rattle.std.proofs.lemmas.List.{with_items_is}
 use Rattle.window_states.specs.BlockStates.{block_len}
 use Rattle.unroll.proofs.maker.BlockMaker.make.Goals as goal
 
@@ -8,15 +8,10 @@ pub new-requires : goal.new-requires
 new-requires g c =
     let plan = c.self.inside.code.now in
     let cells = c.take_rows.new.cells in
-    let lefts = c.send_states.new.to_left in
-    let rights = c.send_states.new.to_right in
     let lists = c.in-Ok.lists in
-    let whole : take lists.states.len (cells ++ drop (length cells) lists.states.items) ≡ cells =
-    take_at cells _ lists.states.len (c.take_rows.auto.cells ∙ c.deref_mut.ensures.len) in
-    let left : take lists.to_left.len (lefts ++ drop (length lefts) lists.to_left.items) ≡ lefts =
-    take_at lefts _ lists.to_left.len (c.send_states.auto.to_left ∙ c.deref_mut-2.ensures.len) in
-    let right : take lists.to_right.len (rights ++ drop (length rights) lists.to_right.items) ≡ rights =
-    take_at rights _ lists.to_right.len (c.send_states.auto.to_right ∙ c.deref_mut-3.ensures.len) in
+    let whole = with_items_is lists.states cells (c.take_rows.auto.cells ∙ c.deref_mut.ensures.len) in
+    let left = with_items_is lists.to_left c.send_states.new.to_left (c.send_states.auto.to_left ∙ c.deref_mut-2.ensures.len) in
+    let right = with_items_is lists.to_right c.send_states.new.to_right (c.send_states.auto.to_right ∙ c.deref_mut-3.ensures.len) in
     let key = rw (← c.self.view_is) at c.requires.key in
     let len = rw (c.shape-shape.ensures.ids, c.plan-plan.ensures) at c.block_len-len.ensures.value in
     let width = rw c.plan-plan.ensures at c.width_of.ensures.value in
