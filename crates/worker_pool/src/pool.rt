@@ -9,7 +9,7 @@ ghost use Rattle.worker_pool.specs.Outcomes.{outcome_worker, AreOutcomes, IsLowe
 use crate::jobs::{Jobs, Outcome};
 use round_eval::{Gate, ThreadFault, WorkFault};
 use shared_memo::{Desk, Ticket};
-use std::alloc::Global;
+use std::alloc::{AllocError, Global};
 use std::sync::Wait;
 use std::thread;
 use std::thread::{Promise, PromisedHandle, Scope, Threads};
@@ -46,7 +46,11 @@ pub fn fill_by_workers<R: Threads + Wait + Sync, J: Jobs + Sync, G: Gate + Sync>
 {
     let (desk, mut tickets) = Desk::new(alloc, jobs.count(), workers)?;
     if workers > 1 {
-        let outcomes = run_all(rt, alloc, jobs, &desk, gate, tickets)?;
+        let draws = Draws {
+            desk: &desk,
+            tickets,
+        };
+        let outcomes = run_all(rt, alloc, jobs, draws, gate)?;
         lowest_fault(&outcomes)?;
         return Ok(None);
     }
@@ -56,21 +60,27 @@ pub fn fill_by_workers<R: Threads + Wait + Sync, J: Jobs + Sync, G: Gate + Sync>
     Ok(Some(jobs.fill(alloc, &desk, &mut ticket, gate)?))
 }
 
+// A desk, and tickets of it that have drawn nothing, one for each worker.
+#[derive(Drop)]
+struct Draws<'d> {
+    desk: &'d Desk,
+    tickets: Vec<Ticket>,
+}
+
 // Runs a worker for each ticket on a thread of its own, until all have ended. Returns what they came
 // to, or that memory or the start of a thread was refused.
 fn run_all<R: Threads + Wait + Sync, J: Jobs + Sync, G: Gate + Sync>(
     rt: &R,
     alloc: Global,
     jobs: &J,
-    desk: &Desk,
+    draws: Draws<'_>,
     gate: &G,
-    tickets: Vec<Ticket>,
 ) -> Result<Vec<Outcome>, ThreadFault>
-    requires tickets { AreFreshTickets desk.now tickets.items }
-    requires jobs { numbers_of desk.now ≡ J.jobs jobs.now }
-    ensures outcomes { IfOk result (λ outcomes. AreOutcomes (vec_len tickets) outcomes.items) }
+    requires tickets { AreFreshTickets draws.desk.now draws.tickets.items }
+    requires jobs { numbers_of draws.desk.now ≡ J.jobs jobs.now }
+    ensures outcomes { IfOk result (λ outcomes. AreOutcomes (vec_len draws.entry.tickets) outcomes.items) }
 {
-    let handles: Vec<Handle> = Vec::with_capacity(alloc, tickets.len())?;
+    let Draws { desk, tickets } = draws;
     let outcomes: Vec<Outcome> = Vec::with_capacity(alloc, tickets.len())?;
     thread::scope(
         thread::scope_env(),
@@ -78,12 +88,11 @@ fn run_all<R: Threads + Wait + Sync, J: Jobs + Sync, G: Gate + Sync>(
         |scope| -> Result<Vec<Outcome>, ThreadFault>
             requires tickets { AreFreshTickets desk.now tickets.items }
             requires jobs { numbers_of desk.now ≡ J.jobs jobs.now }
-            requires handles { HasRoom (vec_len tickets) handles }
             requires outcomes { HasRoom (vec_len tickets) outcomes }
             ensures { IfOk result (λ outcomes. AreOutcomes (vec_len tickets) outcomes.items) }
         {
-            let mut handles = handles;
-            let all_started = start_all(scope, alloc, jobs, desk, gate, tickets, &mut handles);
+            let draws = Draws { desk, tickets };
+            let (handles, all_started) = start_all(scope, alloc, jobs, draws, gate)?;
             let outcomes = join_all(rt, handles, outcomes);
             if all_started {
                 Ok(outcomes)
@@ -94,24 +103,23 @@ fn run_all<R: Threads + Wait + Sync, J: Jobs + Sync, G: Gate + Sync>(
     )
 }
 
-// Starts a worker for each ticket, in their order, until a start is refused, and returns whether all
-// were started.
+// Starts a worker for each ticket, in their order, until a start is refused. Returns their threads,
+// and whether all were started. Memory is allocated before the first start.
 fn start_all<'s, 'd: 's, E, J: Jobs + Sync + 's, G: Gate + Sync + 's>(
     scope: &Scope<'s, E>,
     alloc: Global,
     jobs: &'d J,
-    desk: &'d Desk,
+    draws: Draws<'d>,
     gate: &'d G,
-    tickets: Vec<Ticket>,
-    handles: &mut Vec<Handle>,
-) -> bool
-    requires tickets { AreFreshTickets desk.now tickets.items }
-    requires jobs { numbers_of desk.now ≡ J.jobs jobs.now }
-    requires handles { HasRoom (vec_len tickets) handles.old }
-    ensures workers { AreNumbered handles.new.items (λ handle. handle.promise.0) }
-    ensures few { vec_len handles.new ≤ vec_len tickets }
-    ensures all { IsTrue result ↔ (vec_len handles.new ≡ vec_len tickets) }
+) -> Result<(Vec<Handle>, bool), AllocError>
+    requires tickets { AreFreshTickets draws.desk.now draws.tickets.items }
+    requires jobs { numbers_of draws.desk.now ≡ J.jobs jobs.now }
+    ensures workers { IfOk result (λ r. AreNumbered r.0.items (λ handle. handle.promise.0)) }
+    ensures few { IfOk result (λ r. vec_len r.0 ≤ vec_len draws.entry.tickets) }
+    ensures all { IfOk result (λ r. IsTrue r.1 ↔ (vec_len r.0 ≡ vec_len draws.entry.tickets)) }
 {
+    let Draws { desk, tickets } = draws;
+    let mut handles: Vec<Handle> = Vec::with_capacity(alloc, tickets.len())?;
     for ticket in tickets {
         let promise = OutcomeOf(ticket.worker());
         let worker = move || -> Outcome
@@ -125,11 +133,11 @@ fn start_all<'s, 'd: 's, E, J: Jobs + Sync + 's, G: Gate + Sync + 's>(
             Outcome { ticket, answer }
         };
         let Ok(handle) = scope.spawn_with(promise, worker) else {
-            return false;
+            return Ok((handles, false));
         };
         handles.push_reserved(handle);
     }
-    true
+    Ok((handles, true))
 }
 
 // Joins the threads in order, and appends what their workers came to.

@@ -13,7 +13,7 @@ loop-ticket-preserved g c =
     let inv = c.loop-ticket.invariant in
     let numbers = numbered_rest worker_of _ c.in-Some.ticket _ _ steps inv.rest in
     record {
-      ready = (all_first (IsFreshTicketOf c.args.desk.now) c.in-Some.ticket _ _ steps inv.ready).1;
+      ready = (all_first (IsFreshTicketOf c.args.draws.desk.now) c.in-Some.ticket _ _ steps inv.ready).1;
       room = search rules;
       count = search rules;
       rest = rw c.push_reserved.ensures.len numbers.1;

@@ -8,7 +8,7 @@ abbrev pub invariant-loop-ticket : goal.invariant-loop-ticket
 invariant-loop-ticket g l = record {
   ready : All (IsFreshTicketOf l.desk) (into_iter_items l.ticket-iterator);
   room : vec_len l.handles + into_iter_len l.ticket-iterator ≤ vec_capacity l.handles;
-  count : vec_len l.handles + into_iter_len l.ticket-iterator ≡ vec_len l.fn.tickets;
+  count : vec_len l.handles + into_iter_len l.ticket-iterator ≡ vec_len l.fn.draws.tickets;
   rest : AreNumberedFrom (vec_len l.handles) (into_iter_items l.ticket-iterator) worker_of;
   workers : AreNumbered l.handles.items (λ handle. handle.promise.0);
 }
