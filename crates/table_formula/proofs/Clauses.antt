@@ -2,6 +2,7 @@
 use Rattle.std.proofs.Common.{Result, Ok, Err, OnOk, ◌≡◌, ℕ, zero, suc, ◌+◌, ◌*◌, ◌<◌, Bool, true, false, ◌||◌, List, [], ◌∷◌, ◌++◌, map, All, length, refl, sym, ap, ◌∙◌, arith, add-one, zero-add, ltb, cond, length-append, Option, None, Some, IsSome, unwrap_or}
 use Rattle.std.specs.List.{list_any, range_with_len, flat_map, filter}
 use Rattle.std.specs.Int.{abs_diff}
+use Rattle.clause_check.specs.declared.literal.Literal.{Literal}
 use Rattle.table_formula.specs.Problems.{Problem}
 use Rattle.table_formula.specs.Formula.{windows_of, tuples_of, is_close, close_to, conflicts_of, some_channel, not_both, not_too_close, formula}
 use Rattle.std.proofs.lemmas.List.{flat_map_more, length-map}
@@ -14,6 +15,16 @@ pub all_flat : {X Y : Type 0} (P : Y → Type 0) (f : X → List Y) (xs : List X
 all_flat P f [] h = All-nil P
 all_flat P f (x ∷ xs) h = All-append P (f x) (flat_map f xs) (All-head (λ y. All P (f y)) x xs h)
     (all_flat P f xs (All-tail (λ y. All P (f y)) x xs h))
+
+-- the clauses of the windows of a formula, as many as windows, and those of the tuples
+abbrev pub of_windows : Problem → List (List Literal)
+of_windows p = map (some_channel p) (range_with_len 0 (length (windows_of p)))
+
+abbrev pub of_tuples : Problem → List (List Literal)
+of_tuples p = flat_map (not_too_close p) (tuples_of p)
+
+pub as_many_as_windows : (p : Problem) → length (of_windows p) ≡ length (windows_of p)
+as_many_as_windows p = length-map-range_with_len (some_channel p) 0 (length (windows_of p))
 
 one_kept : {X : Type 0} (P : X → Type 0) (b : Bool) (x : X) (xs : List X) → (b ≡ true → P x) → All P xs →
     All P (cond b (x ∷ xs) xs)

@@ -6,7 +6,7 @@ use Rattle.std.proofs.lemmas.List.Elements.{All-head, All-tail, All-map}
 use Rattle.clause_check.specs.declared.literal.Literal.{Literal}
 use Rattle.table_formula.specs.Problems.{Problem}
 use Rattle.table_formula.specs.Formula.{windows_of, tuples_of, has_channel, some_channel, conflicts_of, not_both, not_too_close, formula, longest_len}
-use Rattle.table_formula.proofs.Clauses.{all_flat}
+use Rattle.table_formula.proofs.Clauses.{all_flat, of_windows, of_tuples, as_many_as_windows}
 
 pub longest_some : (clauses : List (List Literal)) → 1 ≤ longest_len clauses
 longest_some [] = omega arith
@@ -83,10 +83,9 @@ pub longest_without : (p : Problem) → 0 < length (windows_of p) → length (fo
     longest_len (formula p) ≡ max 1 p.channels
 unfolding formula
 longest_without p some few =
-    let front : List (List Literal) = map (some_channel p) (range_with_len 0 (length (windows_of p))) in
-    let back : List (List Literal) = flat_map (not_too_close p) (tuples_of p) in
-    let size : length front ≡ length (windows_of p) =
-    length-map-range_with_len (some_channel p) 0 (length (windows_of p)) in
+    let front = of_windows p in
+    let back = of_tuples p in
+    let size = as_many_as_windows p in
     let none : length back ≡ 0 = omega (arith, few, length-append front back) in
     longest_append front back ∙ omega (arith, windows_longest p some, longest_none back none)
 
@@ -95,10 +94,9 @@ pub longest_with : (p : Problem) → 0 < length (windows_of p) → length (windo
     longest_len (formula p) ≡ max 2 p.channels
 unfolding formula
 longest_with p some more =
-    let front : List (List Literal) = map (some_channel p) (range_with_len 0 (length (windows_of p))) in
-    let back : List (List Literal) = flat_map (not_too_close p) (tuples_of p) in
-    let size : length front ≡ length (windows_of p) =
-    length-map-range_with_len (some_channel p) 0 (length (windows_of p)) in
+    let front = of_windows p in
+    let back = of_tuples p in
+    let size = as_many_as_windows p in
     let within : 0 < length back = omega (arith, more, length-append front back) in
     longest_append front back
     ∙ omega (arith, windows_longest p some, longest_same 2 back (omega arith) (tuples_same p) within)

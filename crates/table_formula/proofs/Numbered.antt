@@ -2,7 +2,7 @@
 use Rattle.std.proofs.Common.{◌≡◌, ℕ, zero, suc, ◌+◌, ◌*◌, ◌/◌, ◌%◌, ◌<◌, ◌≤◌, List, [], ◌∷◌, ◌++◌, map, All, length, get_or, slice_get, slice_set, take, Some, refl, sym, ap, ◌∙◌, arith, add-one, zero-add, length-append}
 use Rattle.std.specs.List.{range_with_len, flat_map}
 use Rattle.std.proofs.lemmas.List.{length-map, get_or_append_left, get_or-append-add}
-use Rattle.std.proofs.lemmas.List.FromFn.{length-map-range_with_len, get_or-map-range_with_len, map-range_with_len_more}
+use Rattle.std.proofs.lemmas.List.FromFn.{get_or-map-range_with_len, map-range_with_len_more}
 use Rattle.std.proofs.lemmas.List.Elements.{All-append, All-map, All-weaker, All-nil, All-cons}
 use Rattle.std.proofs.lemmas.Nat.{mul-le, div-add-mod'}
 use Rattle.std.proofs.lemmas.Option.{slice_get-get_or}
@@ -11,7 +11,7 @@ use Rattle.clause_check.specs.declared.literal.Literal.{Literal}
 use Rattle.table_formula.specs.declared.conflict.Conflict.{Conflict}
 use Rattle.table_formula.specs.Problems.{Problem}
 use Rattle.table_formula.specs.Formula.{windows_of, tuples_of, variable_of, has_channel, lacks_channel, some_channel, close_pairs, conflicts_of, window_in, not_both, not_too_close, IsPair, formula}
-use Rattle.table_formula.proofs.Clauses.{all_below, formula_length}
+use Rattle.table_formula.proofs.Clauses.{all_below, formula_length, of_windows, of_tuples, as_many_as_windows}
 use Rattle.table_formula.proofs.Satisfied.{IsClose, all_close}
 
 -- the variables are below their number
@@ -31,10 +31,9 @@ pub window_clause : (p : Problem) (w : ℕ) → w < length (windows_of p) →
     slice_get (formula p) w ≡ Some (some_channel p w)
 unfolding formula
 window_clause p w lt =
-    let front : List (List Literal) = map (some_channel p) (range_with_len 0 (length (windows_of p))) in
-    let back : List (List Literal) = flat_map (not_too_close p) (tuples_of p) in
-    let size : length front ≡ length (windows_of p) =
-    length-map-range_with_len (some_channel p) 0 (length (windows_of p)) in
+    let front = of_windows p in
+    let back = of_tuples p in
+    let size = as_many_as_windows p in
     slice_get-get_or (front ++ back) w [] (omega (arith, length-append front back))
     ∙ ap Some (get_or_append_left front back [] w (omega arith)
     ∙ get_or-map-range_with_len (some_channel p) 0 (length (windows_of p)) w w [] lt (zero-add w))
@@ -76,10 +75,9 @@ pub pair_clause : (p : Problem) (i j index : ℕ) (tuple : List ℕ) (k : Confli
     → index < length (formula p) → slice_get (formula p) index ≡ Some (not_both p tuple k)
 unfolding formula
 pair_clause p i j index tuple k i_below j_below is tuple_is k_is within =
-    let front : List (List Literal) = map (some_channel p) (range_with_len 0 (length (windows_of p))) in
-    let back : List (List Literal) = flat_map (not_too_close p) (tuples_of p) in
-    let size : length front ≡ length (windows_of p) =
-    length-map-range_with_len (some_channel p) 0 (length (windows_of p)) in
+    let front = of_windows p in
+    let back = of_tuples p in
+    let size = as_many_as_windows p in
     let at' : index ≡ length front + (i * length (conflicts_of p) + j) = omega arith in
     slice_get-get_or (front ++ back) index [] within
     ∙ ap Some (ap (λ n. get_or (front ++ back) n []) at'

@@ -146,7 +146,6 @@ impl Formula {
     fn write_some_channel(&self, window: u32, out: &mut [Literal]) -> usize
         requires window { window < length (windows_of self.now) }
         requires room { self.now.channels ≤ length out.old }
-        ensures len { length out.new ≡ length out.old }
         ensures count { result ≡ self.now.channels }
         ensures items { take result out.new ≡ some_channel self.now window }
     {
@@ -160,7 +159,6 @@ impl Formula {
     fn write_pair(&self, index: u64, out: &mut [Literal]) -> usize
         requires below { length (windows_of self.now) + index < length (formula self.now) }
         requires room { 2 ≤ length out.old }
-        ensures len { length out.new ≡ length out.old }
         ensures count { result ≡ 2 }
         ensures item { slice_get (formula self.now) (length (windows_of self.now) + index) ≡ Some (take 2 out.new) }
         ensures within { All (λ l. l.variable < variable_count self.now) (take 2 out.new) }
@@ -208,7 +206,6 @@ impl Formula {
         requires tuple { IsWindow (2 * self.now.rounds + 1 + extra self.now.separation) self.now.ids tuple.now }
         requires pair { IsPair self.now conflict }
         requires room { 2 ≤ length out.old }
-        ensures len { length out.new ≡ length out.old }
         ensures items { take 2 out.new ≡ not_both self.now tuple.now conflict }
         ensures within { All (λ l. l.variable < variable_count self.now) (take 2 out.new) }
     {

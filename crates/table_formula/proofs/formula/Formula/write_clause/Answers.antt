@@ -31,7 +31,7 @@ returns-then-index-windows-clause-fits c =
       arith,
       c.requires.room,
       c.write_some_channel.ensures.count,
-      c.write_some_channel.ensures.len,
+      c.write_some_channel.auto.out,
       channels_fit c.args.self.now c.args.index below,
     )
 
@@ -53,4 +53,4 @@ pub returns-else-index-windows-clause-fits : goal.returns-else-index-windows-cla
 returns-else-index-windows-clause-fits c =
     let two = two_fit c.args.self.now c.args.index (omega (arith, c.windows.ensures.value, c.windows.ensures.some))
     (omega (arith, c.if-index-windows.false, c.from-windows.ensures, c.windows.ensures.value)) c.requires.index in
-    omega (arith, two, c.requires.room, c.write_pair.ensures.count, c.write_pair.ensures.len)
+    omega (arith, two, c.requires.room, c.write_pair.ensures.count, c.write_pair.auto.out)
