@@ -169,7 +169,6 @@ pub(crate) fn sizes(version: Version, text: &[u8]) -> Option<(Header, &[u8])>
 // Reads the identifiers of a line into `ids`, as many as its length. Returns the line's channel and
 // the text after the line.
 fn entry<'a>(text: &'a [u8], ids: &mut [u32]) -> Option<(u32, &'a [u8])>
-    ensures len { length ids.new ≡ length ids.old }
     ensures entry { IfSome result (λ read. IsEntry (length ids.old) text.entry.now ids.new read.0 read.1.now) }
     ensures none { IfNone result (¬ HasEntry (length ids.old) text.entry.now) }
 {

@@ -8,7 +8,6 @@ use decimal_texts::number_before;
 // Fills `numbers` with the numbers at the start of a text, each followed by a blank, and returns
 // the text after them.
 pub(crate) fn numbers_in<'a>(text: &'a [u8], numbers: &mut [u32]) -> Option<&'a [u8]>
-    ensures len { length numbers.new ≡ length numbers.old }
     ensures numbers { IfSome result (λ rest. text.entry.now ≡ ids_then numbers.new rest.now) }
     ensures fit { IfSome result (λ _. All (λ number. number < 2 ^ 32) numbers.new) }
     ensures none { IfNone result ((ids : List ℕ) (rest : List ℕ) → length ids ≡ length numbers.old

@@ -3,13 +3,13 @@
 ghost use Rattle.std.specs.Prelude.{◌≡◌, ◌↔◌, ℕ, ◌+◌, ◌*◌, ◌<◌, ◌≤◌, ◌++◌, [], false, IsTrue, length, take, slice_get, Some, IfOk, IfErr, OnOk, OnErr, IsErrOf, string_bytes};
 ghost use Rattle.std.specs.Io.KnownBytes.{Appends, Keeps};
 ghost use Rattle.devices.specs.declared.chunk.TheConstants.{CHUNK_LEN};
-ghost use Rattle.devices.specs.Output.{AppendsFront, IsWrittenSoFar};
+ghost use Rattle.devices.specs.Output.{AppendsFront};
 ghost use Rattle.devices.specs.Watched.{device_of, has_failed};
 ghost use Rattle.win_index.specs.Windows.{windows, IsWindow};
 ghost use Rattle.channel_tables.specs.declared.separation.Separation.{Separation};
 ghost use Rattle.table_text.specs.declared.version.Version.TheVariants.{Two};
 ghost use Rattle.table_text.specs.LineForms.{IsSeparation};
-ghost use Rattle.table_text.specs.TableText.{written, head_then, ids_then, lines_then, table_text};
+ghost use Rattle.table_text.specs.TableText.{written, head_then, table_text};
 ghost use Rattle.table_text.specs.Pieces.{prefix_text, piece_text, id_text, channel_text, AreTexts, ArePieces};
 
 use crate::line_prefix::{LinePrefix, PREFIX_LEN};
@@ -94,31 +94,6 @@ fn write_lines<W: Write>(
     ensures fault { IfErr result (λ fault. fault ≡ EngineFault.Write) }
     ensures failed { IsErrOf result EngineFault.Write ↔ IsTrue (has_failed writer.new) }
 {
-    write_entries(writer, chunk, pieces, table, separation)?;
-    store(chunk, piece_of(b"end\n"));
-    chunk.send(writer)
-}
-
-// Writes the first two lines, which are the chunk's contents, and the lines of all windows. The
-// last of them can be left in the chunk, which has space for one more piece.
-fn write_entries<W: Write>(
-    writer: &mut Watched<W>,
-    chunk: &mut Chunk,
-    pieces: &Pieces,
-    table: &Table,
-    separation: Separation,
-) -> Result<(), EngineFault>
-    requires working { has_failed writer.old ≡ false }
-    requires first { chunk.old ≡ head_then (written Two table.now separation) [] }
-    requires pieces { ArePieces table.now.ids table.now.channels pieces.now }
-    ensures ok { OnOk result (IsWrittenSoFar (W.contents (device_of writer.old)) (W.contents (device_of writer.new))
-        chunk.new (lines_then (written Two table.now separation) [])) }
-    ensures room { OnOk result (length chunk.new + 8 ≤ CHUNK_LEN) }
-    ensures err { OnErr result (AppendsFront (W.contents (device_of writer.old))
-        (W.contents (device_of writer.new)) (table_text table.now separation)) }
-    ensures fault { IfErr result (λ fault. fault ≡ EngineFault.Write) }
-    ensures failed { IsErrOf result EngineFault.Write ↔ IsTrue (has_failed writer.new) }
-{
     let shape = table.shape();
     let level = shape.rounds();
     let count = shape.count(level);
@@ -130,7 +105,9 @@ fn write_entries<W: Write>(
         store_entry(chunk, pieces, &odometer.prefix, last, table.entry(number));
         odometer.advance(ids);
     }
-    chunk.make_room(LINE_LEN, writer)
+    chunk.make_room(LINE_LEN, writer)?;
+    store(chunk, piece_of(b"end\n"));
+    chunk.send(writer)
 }
 
 // Appends to a chunk the line of a window with this prefix, last identifier and channel.

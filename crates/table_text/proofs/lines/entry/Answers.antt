@@ -8,5 +8,5 @@ returns-clause-none c = IfNone_then c.field.result c.field.ensures.none (λ none
     let is = has.3 in
     let read = c.in_ok-after_ids.ensures in
     let one = ids_once c.numbers_in.new.numbers has.0 c.in_ok-after_ids.after_ids.now _ read.fit is.ids_fit
-    (read.len ∙ sym is.size) (sym read.numbers ∙ is.spelled) in
+    (c.numbers_in.auto.numbers ∙ sym is.size) (sym read.numbers ∙ is.spelled) in
     none has.1 has.2 is.channel_fits one.1)
