@@ -1,18 +1,17 @@
 //! How a place of a ring computes, round by round: each expression of the program as a tree.
 
-ghost use Rattle.std.specs.Prelude.{◌≡◌, ◌+◌, ◌++◌, ◌<◌, ◌≤◌, All, IfOk, OnOk, codes, length, map, string_bytes};
-ghost use Rattle.node_program.specs.Term.{depth, term_of, step_of};
+ghost use Rattle.std.specs.Prelude.{◌≡◌, ◌+◌, ◌++◌, ◌<◌, ◌≤◌, All, IfOk, OnOk, length, map, string_bytes};
+ghost use Rattle.node_program.specs.Term.{term_of, step_of};
 ghost use Rattle.node_program.specs.Limits.{AreSmall, IsSmallRound};
 ghost use Rattle.node_program.specs.declared.limits.TheConstants.{MAX_ROUNDS};
 ghost use Rattle.node_program.specs.Value.{env_of};
 ghost use Rattle.node_program.specs.Node as node;
 ghost use Rattle.node_program.specs.GlobalRounds.{left_of, right_of, state};
-ghost use Rattle.value_trees.specs.Trees.{tree_lines};
 ghost use Rattle.value_trees.specs.Explanation.{phase, assigned_lines, round_trees, rounds_trees, explanation};
 
 use crate::tree::write_tree;
 use lang_check::Plan;
-use node_program::{Env, Expr, MAX_DEPTH, OutOfMemory, Round};
+use node_program::{Env, Expr, OutOfMemory, Round};
 use numerals::Base;
 use round_eval::{Configuration, Reading};
 use std::alloc::{AllocError, Global};
