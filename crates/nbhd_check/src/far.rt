@@ -7,10 +7,10 @@ ghost use Rattle.nbhd_check.specs.FarSearch.{IsFarSearch};
 use crate::counts::channel_limit;
 use crate::far_counts::FarCounts;
 use crate::far_masks::FarMasks;
-use crate::masks::{family_masks, windows_per_family};
+use crate::masks::{group_masks, windows_per_family};
 use crate::scan::TupleScan;
 use crate::search::{free_windows, window_count, windows_per_run};
-use crate::tuples::Tuples;
+use crate::tuples::{Tuples, judge_part};
 use channel_tables::Table;
 use std::alloc::Global;
 use std::thread::Threads;
@@ -79,7 +79,7 @@ fn free_by_masks<R: Threads + Sync>(
 {
     let Tuples { table, separation } = tuples;
     let distance = separation.far;
-    let masks = family_masks(alloc, table, distance);
+    let masks = group_masks(alloc, table, windows_per_family(table), distance);
     if masks.is_empty() {
         return 0;
     }
@@ -121,7 +121,7 @@ fn begins_bad_tuple(tuples: Tuples, number: u32) -> bool
 {
     let each = tuples.per_window();
     let low = u64::from(number) * each;
-    tuples.least_bad(low, low + each).is_some()
+    judge_part(tuples.table, tuples.separation, low, low + each).is_some()
 }
 
 // Estimates whether a test of all tuples that begin with one of the first `most` windows takes more

@@ -8,7 +8,7 @@ use crate::far::far_free_windows;
 use crate::near::near_free_windows;
 use crate::scan::TupleScan;
 use crate::search::{free_windows, window_count};
-use crate::tuples::Tuples;
+use crate::tuples::{Tuples, judge_part, tuple_count};
 use channel_tables::Separation;
 use std::alloc::Global;
 use std::thread::Threads;
@@ -59,7 +59,8 @@ fn least_from(tuples: Tuples, first: u32) -> Option<u64>
     requires { AreFree tuples.table.now (BeginsBadTuple tuples.table.now tuples.separation) 0 first }
     ensures { IsLeastOfAll tuples.entry.table.now tuples.entry.separation result }
 {
-    let count = tuples.count();
+    let Tuples { table, separation } = tuples;
+    let count = tuple_count(table, separation);
     let low = u64::from(first) * tuples.per_window();
-    tuples.least_bad(low.min(count), count)
+    judge_part(table, separation, low.min(count), count)
 }

@@ -6,9 +6,7 @@ ghost use Rattle.channel_tables.specs.Tables.{IsTable};
 ghost use Rattle.nbhd_check.specs.declared.masks.TheConstants.{MAX_DISTANCE};
 ghost use Rattle.nbhd_check.specs.Counts.{family_len};
 ghost use Rattle.nbhd_check.specs.Masks.{AreMasks, AreMore, Covers, HasBit, NoneClose};
-ghost use Rattle.nbhd_check.specs.Runs.{wide};
 
-use crate::search::windows_per_run;
 use channel_tables::Table;
 use std::alloc::Global;
 
@@ -63,23 +61,6 @@ impl Masks {
     }
 }
 
-/// Returns the masks of the runs of a table, for this distance. Returns none if they do not help, or
-/// if memory was refused.
-pub(crate) fn run_masks(alloc: Global, table: &Table, distance: u32) -> Masks
-    ensures { AreMasks table.now.entries (wide table.now) distance result.per_group result.words.items }
-{
-    group_masks(alloc, table, windows_per_run(table), distance)
-}
-
-/// Returns the masks of the families of a table, for this distance. Returns none if they do not
-/// help, or if memory was refused.
-pub(crate) fn family_masks(alloc: Global, table: &Table, distance: u32) -> Masks
-    requires { 1 ≤ table.now.rounds }
-    ensures { AreMasks table.now.entries (family_len table.now) distance result.per_group result.words.items }
-{
-    group_masks(alloc, table, windows_per_family(table), distance)
-}
-
 /// Returns the number of windows of a family.
 pub(crate) fn windows_per_family(table: &Table) -> usize
     requires some { 1 ≤ table.now.rounds }
@@ -91,8 +72,9 @@ pub(crate) fn windows_per_family(table: &Table) -> usize
     free * (free - 1)
 }
 
-// Returns the masks of groups of `len` windows.
-fn group_masks(alloc: Global, table: &Table, len: usize, distance: u32) -> Masks
+/// Returns the masks of groups of `len` windows of a table, for this distance. Returns none if they
+/// do not help, or if memory was refused.
+pub(crate) fn group_masks(alloc: Global, table: &Table, len: usize, distance: u32) -> Masks
     ensures { AreMasks table.now.entries len distance result.per_group result.words.items }
 {
     if len < MIN_GROUP_WINDOWS || distance > MAX_DISTANCE {

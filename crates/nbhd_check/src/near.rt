@@ -7,7 +7,7 @@ ghost use Rattle.nbhd_check.specs.Masks.{AreMasks};
 ghost use Rattle.nbhd_check.specs.Runs.{AreFree, AreFreeUntil, BeginsBadTuple, SecondRunsOf, wide};
 
 use crate::gaps::has_close_outside;
-use crate::masks::{Masks, run_masks};
+use crate::masks::{Masks, group_masks};
 use crate::search::{Search, free_windows, window_count, windows_per_run};
 use channel_tables::Table;
 use std::alloc::Global;
@@ -43,7 +43,7 @@ pub(crate) fn near_free_windows<R: Threads + Sync>(
     if first < most || most == count {
         return first;
     }
-    let masks = run_masks(alloc, table, distance);
+    let masks = group_masks(alloc, table, windows_per_run(table), distance);
     let search = NearSearch {
         table,
         distance,

@@ -4,7 +4,7 @@ ghost use Rattle.channel_tables.specs.Tables.{windows_of};
 ghost use Rattle.nbhd_check.specs.Runs.{AreFreeUntil, BeginsBadTuple, wide};
 
 use crate::search::{Search, windows_per_run};
-use crate::tuples::Tuples;
+use crate::tuples::{Tuples, judge_part};
 use channel_tables::Table;
 
 /// The search for windows that begin a bad tuple.
@@ -23,10 +23,11 @@ impl<'a> Search for TupleScan<'a> {
     }
 
     fn first_in_run(&self, window: &[u32], run: u32) -> Option<u32> {
+        let Tuples { table, separation } = self.tuples;
         let each = self.tuples.per_window();
-        let windows = windows_per_run(self.tuples.table) as u64;
+        let windows = windows_per_run(table) as u64;
         let low = u64::from(run) * windows * each;
-        let number = self.tuples.least_bad(low, low + windows * each)?;
+        let number = judge_part(table, separation, low, low + windows * each)?;
         Some((number / each) as u32)
     }
 }

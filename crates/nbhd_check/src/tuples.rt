@@ -16,7 +16,7 @@ use win_index::MAX_TUPLE_LEN;
 pub fn tuple_count(table: &Table, separation: Separation) -> u64
     ensures { result ≡ length (tuples table.now separation) }
 {
-    Tuples { table, separation }.count()
+    table.shape().tuples(Tuples { table, separation }.extra())
 }
 
 /// Returns the number of identifiers of a tuple: `2t+2` if far is 0, else `2t+3`.
@@ -24,7 +24,8 @@ pub fn tuple_len(table: &Table, separation: Separation) -> usize
     ensures length { result ≡ 2 * table.now.rounds + 1 + extra separation }
     ensures few { result ≤ MAX_TUPLE_LEN }
 {
-    Tuples { table, separation }.len()
+    let extra = Tuples { table, separation }.extra();
+    2 * table.shape().rounds() as usize + 1 + extra as usize
 }
 
 /// Writes the tuple with this number to the cells of `out`, one for each of its identifiers.
@@ -34,7 +35,8 @@ pub fn write_tuple(table: &Table, separation: Separation, number: u64, out: &mut
     ensures item { slice_get (tuples table.now separation) number ≡ Some out.new }
     ensures tuple { IsWindow (2 * table.now.rounds + 1 + extra separation) table.now.ids out.new }
 {
-    Tuples { table, separation }.write(number, out);
+    let extra = Tuples { table, separation }.extra();
+    table.shape().tuple(extra, number, out);
 }
 
 /// Returns the least number, from `low` on and below `high`, of a tuple that breaks the separation,
@@ -49,7 +51,13 @@ pub fn judge_part(table: &Table, separation: Separation, low: u64, high: u64) ->
     ensures { MatchOption result (NoneIsBad table.now separation low high)
         (λ n. (n < high) × ((tuple : List ℕ) × IsLeastBad table.now separation low n tuple)) }
 {
-    Tuples { table, separation }.least_bad(low, high)
+    if low == high {
+        return None;
+    }
+    let mut cells = [0; MAX_TUPLE_LEN];
+    let tuple = &mut cells[..tuple_len(table, separation)];
+    write_tuple(table, separation, low, tuple);
+    Tuples { table, separation }.scan(tuple, low, high)
 }
 
 /// The tuples of a table that are tested for a separation.
@@ -68,13 +76,6 @@ impl<'a> Tuples<'a> {
         if self.separation.far == 0 { 1 } else { 2 }
     }
 
-    /// Returns the number of tuples.
-    pub(crate) fn count(self) -> u64
-        ensures { result ≡ length (tuples self.entry.table.now self.entry.separation) }
-    {
-        self.table.shape().tuples(self.extra())
-    }
-
     /// Returns the number of tuples that begin with one window. It is 0 if a tuple has more
     /// identifiers than there are.
     pub(crate) fn per_window(self) -> u64
@@ -90,40 +91,7 @@ impl<'a> Tuples<'a> {
         }
     }
 
-    /// Returns the number of identifiers of a tuple.
-    pub(crate) fn len(self) -> usize
-        ensures length { result ≡ 2 * self.entry.table.now.rounds + 1 + extra self.entry.separation }
-        ensures few { result ≤ MAX_TUPLE_LEN }
-    {
-        2 * self.table.shape().rounds() as usize + 1 + self.extra() as usize
-    }
-
-    /// Writes the tuple with this number.
-    pub(crate) fn write(self, number: u64, out: &mut [u32])
-        requires below { number < length (tuples self.table.now self.separation) }
-        requires room { length out.old ≡ 2 * self.table.now.rounds + 1 + extra self.separation }
-        ensures item { slice_get (tuples self.entry.table.now self.entry.separation) number ≡ Some out.new }
-        ensures tuple { IsWindow (2 * self.entry.table.now.rounds + 1 + extra self.entry.separation) self.entry.table.now.ids out.new }
-    {
-        self.table.shape().tuple(self.extra(), number, out);
-    }
-
-    /// Returns the least number of a bad tuple from `low` on and below `high`.
-    pub(crate) fn least_bad(self, low: u64, high: u64) -> Option<u64>
-        requires order { low ≤ high }
-        requires within { high ≤ length (tuples self.table.now self.separation) }
-        ensures { IsLeastIn self.entry.table.now self.entry.separation low high result }
-    {
-        if low == high {
-            return None;
-        }
-        let mut cells = [0; MAX_TUPLE_LEN];
-        let tuple = &mut cells[..self.len()];
-        self.write(low, tuple);
-        self.scan(tuple, low, high)
-    }
-
-    // Like `least_bad`. `tuple` is the tuple with number `low`, and is advanced in place.
+    // Like `judge_part`. `tuple` is the tuple with number `low`, and is advanced in place.
     fn scan(self, tuple: &mut [u32], low: u64, high: u64) -> Option<u64>
         requires first { slice_get (tuples self.table.now self.separation) low ≡ Some tuple.old }
         requires tuple { IsWindow (2 * self.table.now.rounds + 1 + extra self.separation) self.table.now.ids tuple.old }

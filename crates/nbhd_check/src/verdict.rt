@@ -1,6 +1,6 @@
 //! The judge's calls, and its verdict.
 use crate::least::least_of_all;
-use crate::tuples::Tuples;
+use crate::tuples::{Tuples, tuple_len, write_tuple};
 use channel_tables::{Separation, Table};
 use node_program::OutOfMemory;
 use rayon::current_num_threads;
@@ -84,8 +84,8 @@ fn no(alloc: Global, tuples: Tuples, number: u64) -> Result<Verdict, OutOfMemory
     ensures memory { OnErr result (¬ IsApartEverywhere tuples.entry.table.now tuples.entry.separation) }
 {
     let mut cells = [0; MAX_TUPLE_LEN];
-    let tuple = &mut cells[..tuples.len()];
-    tuples.write(number, tuple);
+    let tuple = &mut cells[..tuple_len(tuples.table, tuples.separation)];
+    write_tuple(tuples.table, tuples.separation, number, tuple);
     let step = broken_step(tuples, tuple);
     let first = tuples.channel_from(tuple, 0);
     let second = tuples.channel_from(tuple, step as usize);

@@ -6,8 +6,8 @@ use Rattle.nbhd_check.proofs.Cells.{row_more}
 use Rattle.nbhd_check.proofs.RunLengths.{all_runs}
 use Rattle.nbhd_check.proofs.far.begins_bad_tuple.Goals as goal
 
-pub least_bad-requires-clause-within : goal.least_bad-requires-clause-within
-least_bad-requires-clause-within c =
+pub judge_part-requires-clause-within : goal.judge_part-requires-clause-within
+judge_part-requires-clause-within c =
     let t = c.args.tuples.table.now in
     let s = c.args.tuples.separation in
     let len : ℕ = run_len t s in

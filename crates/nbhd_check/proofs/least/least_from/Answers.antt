@@ -39,6 +39,6 @@ returns c =
     let s = c.args.tuples.separation in
     let low_is : c.from.result * c.per_window.result ≡ c.args.first * run_len t s = λ q. c.from.ensures q * c.per_window.ensures.value q in
     let low : c.min.result ≤ c.args.first * run_len t s = omega (arith, c.min.ensures, low_is) in
-    subst (λ n. IsLeastIn t s 0 n c.least_bad.result) c.count-count.ensures
-    (least_from_low t s c.min.result c.count-count.result c.least_bad.result
-    (none_of_free t s c.min.result c.args.first c.requires low) c.least_bad.ensures)
+    subst (λ n. IsLeastIn t s 0 n c.judge_part.result) c.tuple_count-count.ensures
+    (least_from_low t s c.min.result c.tuple_count-count.result c.judge_part.result
+    (none_of_free t s c.min.result c.args.first c.requires low) c.judge_part.ensures)

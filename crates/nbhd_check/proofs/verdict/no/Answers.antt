@@ -12,12 +12,12 @@ on_err (Err e) p = p
 pub returns-clause-verdict : goal.returns-clause-verdict
 returns-clause-verdict c =
     rw (c.in_ok-ring.ensures.items_if_clones_equal (λ x y same. same))
-    (is_witness c.args.tuples.table.now c.args.tuples.separation c.args.number _ _ _ _ c.write.new.out c.requires.0 c.requires.1
-    c.write.ensures.item c.write.ensures.tuple (c.rounds-place.ensures ∙ c.shape.ensures.rounds) c.broken_step-step.ensures.step
+    (is_witness c.args.tuples.table.now c.args.tuples.separation c.args.number _ _ _ _ c.write_tuple.new.out c.requires.0 c.requires.1
+    c.write_tuple.ensures.item c.write_tuple.ensures.tuple (c.rounds-place.ensures ∙ c.shape.ensures.rounds) c.broken_step-step.ensures.step
     c.broken_step-step.ensures.few c.channel_from-first.ensures c.channel_from-second.ensures)
 
-pub write-requires-clause-below : goal.write-requires-clause-below
-write-requires-clause-below c =
+pub write_tuple-requires-clause-below : goal.write_tuple-requires-clause-below
+write_tuple-requires-clause-below c =
     slice_get_within (tuples c.args.tuples.table.now c.args.tuples.separation) c.args.number c.requires.0 c.requires.1.item
 
 pub returns-in_err-ring-clause-memory : goal.returns-in_err-ring-clause-memory

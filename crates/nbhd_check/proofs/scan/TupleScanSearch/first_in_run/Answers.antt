@@ -20,8 +20,8 @@ tuples_few c =
     product_few _ each 4194304 1048576 _ (omega (arith, within, c.windows_per_run-windows.ensures.table.begun.shape.few_windows)) (omega (arith, c.per_window-each.ensures.few)) (omega arith) in
     rw (c.from.ensures, c.windows_per_run-windows.ensures.value) (omega (arith, few, add-mul (c.args.run * wide t) (wide t) each))
 
-pub least_bad-requires-clause-within : goal.least_bad-requires-clause-within
-least_bad-requires-clause-within c =
+pub judge_part-requires-clause-within : goal.judge_part-requires-clause-within
+judge_part-requires-clause-within c =
     let t = c.args.self.now.tuples.table.now in
     let s = c.args.self.now.tuples.separation in
     let within = run_end t c.args.run c.args.window.now c.requires in
