@@ -146,18 +146,12 @@ impl<'a> Tuples<'a> {
         requires tuple { IsWindow (2 * self.table.now.rounds + 1 + extra self.separation) self.table.now.ids tuple.now }
         ensures { channel_of self.entry.table.now (part_at self.entry.table.now.rounds offset tuple.now) ≡ Some result }
     {
-        let len = 2 * self.table.shape().rounds() as usize + 1;
-        channel_of_window(self.table, &tuple[offset..offset + len])
+        let shape = self.table.shape();
+        let len = 2 * shape.rounds() as usize + 1;
+        let window = &tuple[offset..offset + len];
+        self.table
+            .entry(shape.window_number(shape.rounds(), window))
     }
-}
-
-/// Returns the channel of a window.
-pub(crate) fn channel_of_window(table: &Table, window: &[u32]) -> u32
-    requires { IsWindow (2 * table.now.rounds + 1) table.now.ids window.now }
-    ensures { channel_of table.now window.now ≡ Some result }
-{
-    let shape = table.shape();
-    table.entry(shape.window_number(shape.rounds(), window))
 }
 
 /// Returns whether the list contains the identifier.
