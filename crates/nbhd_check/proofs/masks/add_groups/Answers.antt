@@ -18,6 +18,12 @@ group_within len per entries count group some room lt =
     let below : group + 1 ≤ entries / len = omega (arith, lt, masks_are per count room.0 some room.2, room.1) in
     omega (arith, mul-le-mul_right len below, row_more group len, div-mul-le_self entries len)
 
+-- the words of a mask are among the words
+words_within : (per count group : ℕ) → group < count / per → group * per + per ≤ count
+words_within per count group lt =
+    let more : group + 1 ≤ count / per = omega arith in
+    omega (arith, mul-le-mul_right per more, row_more group per, div-mul-le_self count per)
+
 pub overflow_mul-start : goal.overflow_mul-start
 overflow_mul-start c =
     omega (arith, c.type_inv.entries, group_within c.args.len c.args.per_group (length c.args.entries.now) (length c.args.words.now) c.loop-group.group c.requires.some.0 c.requires.room c.loop-group-test.true)
@@ -68,3 +74,7 @@ loop-group-preserved c =
           (c.add_group.ensures.covers place (omega (arith, long, in_list)) other (subst (λ v. abs_diff other v < c.args.distance) (sym read) close)))
           (cases_lt group own),
     )
+
+pub add_group-requires-clause-within : goal.add_group-requires-clause-within
+add_group-requires-clause-within c =
+    omega (arith, words_within c.args.per_group (length c.args.words.now) c.loop-group.group c.loop-group-test.true, c.loop-group.auto.words)

@@ -4,6 +4,7 @@ use Rattle.win_index.specs.Windows.{unused, windows, IsWindow}
 use Rattle.nbhd_check.specs.Runs.{wide}
 use Rattle.nbhd_check.proofs.Prefixes.{place_of_last, run_of, one_run, window_drop, window_take}
 use Rattle.win_index.proofs.Numbers.{windows_all}
+use Rattle.nbhd_check.proofs.Cells.{product_few}
 use Rattle.nbhd_check.proofs.Suffixes.{shared_cut}
 use Rattle.nbhd_check.proofs.near.second_runs.Goals as goal
 
@@ -56,3 +57,11 @@ returns-clause-runs c =
       first_is = λ q. n * ((c.ids.ensures ∙ ids_is) q - short q);
       gap_is = c.place_among_unused.ensures ∙ (λ q. length (unused (sym (get_or-take k window 0 0 (omega (arith, c.requires.some))) q) (shared q)));
     }
+
+pub overflow_mul-result : goal.overflow_mul-result
+overflow_mul-result c =
+    omega (
+      arith,
+      product_few c.window_number-number.result (c.ids.result - length (take (2 * c.rounds-level.result - 1) (drop 1 c.args.window.now)))
+          4294967296 1024 4398046511104 (omega (arith, c.window_number-number.type_inv)) (omega (arith, c.ids.ensures, c.shape-shape.result.in_range.few)) (omega arith),
+    )

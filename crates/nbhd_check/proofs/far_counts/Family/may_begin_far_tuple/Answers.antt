@@ -1,4 +1,4 @@
-use Rattle.std.proofs.Common.{◌≡◌, ℕ, ◌+◌, ◌∷◌, nat_lt, ap, ◌∙◌, arith}
+use Rattle.std.proofs.Common.{◌≡◌, ℕ, ◌+◌, [], ◌∷◌, ◌++◌, nat_lt, ap, ◌∙◌, arith}
 use Rattle.std.specs.Int.{abs_diff}
 use Rattle.std.proofs.lemmas.Bool.{OnFalse_from, ltb-false}
 use Rattle.nbhd_check.specs.Counts.{held_count}
@@ -25,3 +25,12 @@ returns c =
     c.args.self.some.0 c.requires.numbers.before c.channel_at-channel.ensures.value c.requires.counted.1.1.0 c.requires.numbers.after c.requires.numbers.turned
     c.close_one-one.ensures.close c.close_one-other.ensures.close
     (omega (arith, ltb-false held close no, all_is, c.close_count-with_first.ensures low n sums, c.close_count-with_second.ensures low n sums)))
+
+pub channel_at-channel-requires : goal.channel_at-channel-requires
+channel_at-channel-requires c = (c.args.first ∷ c.args.second ∷ c.args.self.shared.now, c.requires.numbers.before)
+
+pub close_one-one-requires : goal.close_one-one-requires
+close_one-one-requires c = (c.args.self.shared.now ++ c.args.first ∷ c.args.second ∷ [], c.requires.numbers.after)
+
+pub close_one-other-requires : goal.close_one-other-requires
+close_one-other-requires c = (c.args.self.shared.now ++ c.args.second ∷ c.args.first ∷ [], c.requires.numbers.turned)
