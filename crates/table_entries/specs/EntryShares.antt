@@ -23,11 +23,13 @@ blocks_of plan = block_count plan.ids (length plan.program.steps)
 -- the blocks of the last level, in order
 pub record AreLastBlocks (plan : ProgramForIds) (blocks : List (Bor MadeBlock)) : Type 0 where
   pub count : length blocks ≡ blocks_of plan
-  pub each : (n : ℕ) (b : Bor MadeBlock) → slice_get blocks n ≡ Some b → IsKeyedBlock plan (length plan.program.steps) n b.now
+  pub each : (n : ℕ) (b : Bor MadeBlock) → slice_get blocks n ≡ Some b
+      → IsKeyedBlock plan (length plan.program.steps) n b.now
 
 -- the channels of the windows of the last level from number `first` on, up to number `end`
 pub record AreEntries (plan : ProgramForIds) (first end : ℕ) (entries : List ℕ) : Type 0 where
   pub size : first + length entries ≡ end
   pub each : (i : ℕ) → i < length entries
-      → (slice_index entries i ≡ window_channel plan.program (window_numbered plan.ids (length plan.program.steps) (first + i)))
+      → (slice_index entries i
+      ≡ window_channel plan.program (window_numbered plan.ids (length plan.program.steps) (first + i)))
       × (slice_index entries i < plan.program.channels)

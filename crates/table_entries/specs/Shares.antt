@@ -15,7 +15,7 @@ windows_before plan b = min (BLOCK_WINDOWS * b) (windows_of plan)
 abbrev pub share_blocks : ProgramForIds → ℕ → ℕ
 share_blocks plan count = div_ceil (blocks_of plan) count
 
--- a share that can be read: it has scratch, and capacity for the entries of its blocks, which are blocks of the last level
+-- a share that can be read: it has scratch, and capacity for the entries of its blocks, which are of the last level
 pub record IsReady (plan : ProgramForIds) (share : Share) : Type 0 where
   pub order : share.first ≤ share.end
   pub within : share.end ≤ blocks_of plan
@@ -42,11 +42,13 @@ pub record HasRead (plan : ProgramForIds) (old new : Share) : Type 0 where
 
 -- all shares before and after they were read
 abbrev pub AllRead : ProgramForIds → List Share → List Share → Type 0
-AllRead plan old new = (k : ℕ) (d : Share) → k < length old → HasRead plan (slice_index_or old k d) (slice_index_or new k d)
+AllRead plan old new =
+    (k : ℕ) (d : Share) → k < length old → HasRead plan (slice_index_or old k d) (slice_index_or new k d)
 
 -- share k, read
 pub record IsReadAt (plan : ProgramForIds) (each k : ℕ) (share : Share) : Type 0 where
-  pub entries : AreEntries plan (windows_before plan (each * k)) (windows_before plan (each * (k + 1))) share.entries.items
+  pub entries : AreEntries plan (windows_before plan (each * k)) (windows_before plan (each * (k + 1)))
+      share.entries.items
   pub all : k ≡ 0 → windows_of plan ≤ vec_capacity share.entries
 
 -- the shares from share `from` on, of this many, read

@@ -47,10 +47,12 @@ impl EntryColumns {
     )
         requires room { IsChannelRoom code.now self.old }
         requires block { IsKeyedBlock code.now (length code.now.program.steps) block.now.number block.now }
-        requires space { vec_len entries.old + block_len code.now.ids (length code.now.program.steps) block.now.number ≤ vec_capacity entries.old }
+        requires space { vec_len entries.old + block_len code.now.ids (length code.now.program.steps) block.now.number
+            ≤ vec_capacity entries.old }
         ensures room { IsChannelRoom code.now self.new }
         ensures entries { (first : ℕ) → AreEntries code.now first (BLOCK_WINDOWS * block.now.number) entries.old.items
-            → AreEntries code.now first (BLOCK_WINDOWS * block.now.number + block_len code.now.ids (length code.now.program.steps) block.now.number) entries.new.items }
+            → AreEntries code.now first (BLOCK_WINDOWS * block.now.number
+            + block_len code.now.ids (length code.now.program.steps) block.now.number) entries.new.items }
         ensures capacity { vec_capacity entries.new ≡ vec_capacity entries.old }
     {
         put_block(block, &mut self.states);

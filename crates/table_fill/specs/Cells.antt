@@ -1,5 +1,5 @@
--- A worker's view of the cells of a memo, before and after a call, and a block that it misses. No public contract cites this
--- file.
+-- A worker's view of the cells of a memo, before and after a call, and a block that it misses. No public contract cites
+-- this file.
 use Rattle.std.specs.Prelude.{◌≡◌, ℕ, ◌<◌}
 use Rattle.window_states.specs.Entries.{Grows}
 use Rattle.shared_memo.specs.declared.memo.Memo.{Memo}

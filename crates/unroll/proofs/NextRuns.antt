@@ -29,9 +29,12 @@ pub record NextRun (block : UpperBlock) (index : ℕ) (prefix : RunPrefix) : Typ
 
 -- a block goes on after the end of the run of a window, whose prefix has these numbers
 module _
-    (block : UpperBlock) (from after : ℕ) (prefix : RunPrefix) (some : 1 ≤ after) (inside : after < block_len block.plan.now.ids (block.below + 1) block.number)
-    (end : EndsAt block.plan.now.ids (block.below + 1) (window_in block from) (BLOCK_WINDOWS * block.number + (after - 1)))
-    (has : HasNumbers (2 * block.below + 2) block.plan.now.ids (take (2 * block.below + 2) (window_in block from)) prefix)
+    (block : UpperBlock) (from after : ℕ) (prefix : RunPrefix) (some : 1 ≤ after)
+    (inside : after < block_len block.plan.now.ids (block.below + 1) block.number)
+    (end : EndsAt block.plan.now.ids (block.below + 1) (window_in block from)
+    (BLOCK_WINDOWS * block.number + (after - 1)))
+    (has : HasNumbers (2 * block.below + 2) block.plan.now.ids (take (2 * block.below + 2) (window_in block from))
+    prefix)
   where
     last_is : IsWindow (2 * block.below + 2 + 1) block.plan.now.ids end.0
     last_is = grind (arith, end.2.last_is)

@@ -30,8 +30,10 @@ pub(crate) fn part_block<'s, S: Source<'s>>(
     requires part { IsPartNumber upper.plan.now.ids upper.below (window_in upper index) number }
     requires last { IfSome last (λ b. IsKnownBlock upper.plan.now (S.entries source.old) upper.below b.now) }
     ensures asked { Asked S.plan S.fixed S.entries source.old source.new }
-    ensures window { IfOk result (λ r. HoldsWindow upper.entry.plan.now (S.entries source.new) upper.entry.below number r.0.now r.1) }
-    ensures missing { IfErr result (IsMissingBelow (S.entries source.new) upper.entry.plan.now.ids (upper.entry.below + 1) upper.entry.number) }
+    ensures window { IfOk result (λ r. HoldsWindow upper.entry.plan.now (S.entries source.new) upper.entry.below
+        number r.0.now r.1) }
+    ensures missing { IfErr result (IsMissingBelow (S.entries source.new) upper.entry.plan.now.ids
+        (upper.entry.below + 1) upper.entry.number) }
 {
     let place = number / BLOCK_WINDOWS;
     let Some(block) = known_block(upper.plan, source, upper.below, place, last) else {

@@ -1,7 +1,7 @@
 use Rattle.std.proofs.Common.{◌≡◌, ◌+◌, ◌*◌, slice_get, Some, refl, arith}
 use Rattle.win_index.proofs.Positions.{number_of_is}
 use Rattle.win_index.specs.Windows.{windows}
-use Rattle.unroll.specs.Below.{part}
+use Rattle.unroll.specs.Below.{part, IsPartNumber}
 use Rattle.unroll.specs.Parts.{window_in}
 use Rattle.unroll.proofs.run.first_part.Given.{Over}
 use Rattle.unroll.proofs.run.first_part.Goals.{After-first_part_number-number}
@@ -19,4 +19,7 @@ module _ (g : Over) (c : After-first_part_number-number g) where
 pub part_block-requires : goal.part_block-requires
 part_block-requires g c κs =
     let number = number_of_is _ _ _ _ (first_at g (goal.at.part_block-requires g c).After-first_part_number-number) in
-    ((refl, tt), (c.requires.plan, (c.requires.here.inside, (record { offset = 0; three = omega arith; number_is = number }, tt))))
+    let upper = c.args.upper in
+    let is : IsPartNumber upper.plan.now.ids upper.below (window_in upper c.args.index) c.first_part_number-number.result =
+    record { offset = 0; three = omega arith; number_is = number } in
+    ((refl, tt), (c.requires.plan, (c.requires.here.inside, (is, tt))))

@@ -1,5 +1,5 @@
 use Rattle.std.proofs.Common.{rules, ◌+◌, ◌*◌, take, refl, ◌∙◌, arith}
-use Rattle.unroll.specs.Below.{part}
+use Rattle.unroll.specs.Below.{part, IsPartNumber}
 use Rattle.unroll.specs.Parts.{window_in}
 use Rattle.unroll.proofs.Known.{own_entry, part_known, state_held}
 use Rattle.win_index.proofs.Positions.{number_of_is}
@@ -13,7 +13,9 @@ part_block-requires g c κs =
     let w = window_in upper c.args.index in
     let at' = middle_at upper.plan.now.ids upper.below w c.args.prefix c.requires.here.has in
     let number = number_of_is _ _ c.args.prefix.middle (part w upper.below 1) at' in
-    ((refl, tt), (search rules, (c.requires.here.is.inside, (record { offset = 1; three = omega arith; number_is = number }, search rules))))
+    let is : IsPartNumber upper.plan.now.ids upper.below w c.args.prefix.middle =
+    record { offset = 1; three = omega arith; number_is = number } in
+    ((refl, tt), (search rules, (c.requires.here.is.inside, (is, search rules))))
 
 pub returns-clause-run : goal.returns-clause-run
 returns-clause-run g c =
