@@ -3,7 +3,6 @@
 ghost use Rattle.std.specs.Prelude.{◌≡◌, ◌↔◌, ◌+◌, ◌<◌, ◌≤◌, ◌++◌, ◌∷◌, [], drop, false, IsTrue, length, IfErr, OnOk, OnErr, IsErrOf};
 ghost use Rattle.std.specs.Fmt.{decimal};
 ghost use Rattle.std.specs.Io.KnownBytes.{Appends, Keeps};
-ghost use Rattle.std.specs.List.{flat_map};
 ghost use Rattle.devices.specs.declared.chunk.TheConstants.{CHUNK_LEN};
 ghost use Rattle.devices.specs.Output.{AppendsFront, IsWrittenSoFar};
 ghost use Rattle.devices.specs.Watched.{device_of, has_failed};
