@@ -20,8 +20,7 @@ enum Outcome {
 /// `Border::new` and `Border::put`: prints the results of puts and takes on a border, and its
 /// messages at the end.
 pub(crate) fn do_border<R: AllocGlobal + Print + Wait>(rt: &R) -> Result<(), Miss> {
-    let (right, left) = (Blank::new(1), Blank::new(1));
-    match puts_and_takes::<Brand, Brand, _>(rt, rt.alloc(), right, left)? {
+    match use_new_border(rt, Use::PutsAndTakes)? {
         Outcome::Told => Ok(()),
         Outcome::NotMade => do_border_again(rt),
     }
@@ -30,8 +29,7 @@ pub(crate) fn do_border<R: AllocGlobal + Print + Wait>(rt: &R) -> Result<(), Mis
 // Puts and takes on a second border, after the first one could not be made.
 fn do_border_again<R: AllocGlobal + Print + Wait>(rt: &R) -> Result<(), Miss> {
     tell(rt, "OutOfMemory")?;
-    let (right, left) = (Blank::new(1), Blank::new(1));
-    match puts_and_takes::<Brand, Brand, _>(rt, rt.alloc(), right, left)? {
+    match use_new_border(rt, Use::PutsAndTakes)? {
         Outcome::Told => Ok(()),
         Outcome::NotMade => Err(Miss::Wrong),
     }
@@ -40,19 +38,32 @@ fn do_border_again<R: AllocGlobal + Print + Wait>(rt: &R) -> Result<(), Miss> {
 /// `Border::put`: prints the results of eight puts, in which the list of a side grows twice, and
 /// the border's messages at the end.
 pub(crate) fn do_put<R: AllocGlobal + Print + Wait>(rt: &R) -> Result<(), Miss> {
-    let (right, left) = (Blank::new(1), Blank::new(1));
-    match eight_puts::<Brand, Brand, _>(rt, rt.alloc(), right, left)? {
+    match use_new_border(rt, Use::EightPuts)? {
         Outcome::Told => Ok(()),
         Outcome::NotMade => Err(Miss::OtherCall),
     }
 }
 
-// Puts and takes on a border of the ledgers L and M, and prints the results.
-fn puts_and_takes<L: Ledger, M: Ledger, R: Print + Wait>(
+// What is done on a border.
+#[derive(Clone, Copy)]
+enum Use {
+    PutsAndTakes,
+    EightPuts,
+}
+
+// Uses a new border, and prints the results and its messages at the end.
+fn use_new_border<R: AllocGlobal + Print + Wait>(rt: &R, how: Use) -> Result<Outcome, Miss> {
+    let (right, left) = (Blank::new(1), Blank::new(1));
+    use_border::<Brand, Brand, _>(rt, rt.alloc(), right, left, how)
+}
+
+// Uses a border of the ledgers L and M, and prints the results and its messages at the end.
+fn use_border<L: Ledger, M: Ledger, R: Print + Wait>(
     rt: &R,
     alloc: Global,
     right: Blank,
     left: Blank,
+    how: Use,
 ) -> Result<Outcome, Miss>
     requires right { (right.name ≡ L.name) × (right.parts ≡ L.parts) × (right.parts ≡ 1) }
     requires left { (left.name ≡ M.name) × (left.parts ≡ M.parts) × (left.parts ≡ 1) }
@@ -60,8 +71,22 @@ fn puts_and_takes<L: Ledger, M: Ledger, R: Print + Wait>(
     let Ok((border, mut right, mut left)) = Border::<Note, L, M>::new(alloc, right, left) else {
         return Ok(Outcome::NotMade);
     };
-    exchange_and_close(rt, &border, &mut right, &mut left)?;
+    use_seats(rt, &border, &mut right, &mut left, how)?;
     settle(rt, border, right, left)
+}
+
+// Uses the seats of a border.
+fn use_seats<L: Ledger, M: Ledger, R: Print + Wait>(
+    rt: &R,
+    border: &Border<Note, L, M>,
+    right: &mut Seat<L, M>,
+    left: &mut Seat<L, M>,
+    how: Use,
+) -> Result<(), Miss> {
+    match how {
+        Use::PutsAndTakes => exchange_and_close(rt, border, right, left),
+        Use::EightPuts => put_eight(rt, border, right),
+    }
 }
 
 // Puts and takes on a border before it is closed and after that.
@@ -100,23 +125,6 @@ fn use_closed_border<L: Ledger, M: Ledger, R: Print + Wait>(
     take(rt, border, Side::Rightward, 0)?;
     take(rt, border, Side::Rightward, 1)?;
     put(rt, border, right, to_the_right(1, 4))
-}
-
-// Puts eight messages to the right, and prints the messages of the border at the end.
-fn eight_puts<L: Ledger, M: Ledger, R: Print + Wait>(
-    rt: &R,
-    alloc: Global,
-    right: Blank,
-    left: Blank,
-) -> Result<Outcome, Miss>
-    requires right { (right.name ≡ L.name) × (right.parts ≡ L.parts) × (right.parts ≡ 1) }
-    requires left { (left.name ≡ M.name) × (left.parts ≡ M.parts) × (left.parts ≡ 1) }
-{
-    let Ok((border, mut right, left)) = Border::<Note, L, M>::new(alloc, right, left) else {
-        return Ok(Outcome::NotMade);
-    };
-    put_eight(rt, &border, &mut right)?;
-    settle(rt, border, right, left)
 }
 
 // Puts eight messages to the right.

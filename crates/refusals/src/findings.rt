@@ -1,5 +1,5 @@
 //! Rows of the headline.
-ghost use Rattle.std.specs.Prelude.{◌≡◌, length};
+ghost use Rattle.refusals.specs.Shapes.{IsOfShape};
 
 use crate::miss::Miss;
 use crate::plans::{plan_of, ring_for};
@@ -46,8 +46,7 @@ fn tell_findings_of<R: AllocGlobal + Print + Threads + Wait + Sync>(
     workers: u32,
     segments: u32,
 ) -> Result<(), Miss>
-    requires ids { ring.now.ids ≡ plan.now.ids }
-    requires rounds { ring.now.rounds ≡ length plan.now.program.steps }
+    requires ring { IsOfShape ring.now plan.now }
 {
     let findings = findings_of(rt, plan, ring, workers, segments)?;
     tell_findings(rt, &findings)
@@ -70,8 +69,7 @@ fn findings_of<R: AllocGlobal + Print + Threads + Wait + Sync>(
     workers: u32,
     segments: u32,
 ) -> Result<Findings, Miss>
-    requires ids { ring.now.ids ≡ plan.now.ids }
-    requires rounds { ring.now.rounds ≡ length plan.now.program.steps }
+    requires ring { IsOfShape ring.now plan.now }
 {
     match value_or_refusal(rt, answer_of(rt, plan, ring, workers, segments))? {
         Some(findings) => Ok(findings),
@@ -87,8 +85,7 @@ fn answer_of<R: AllocGlobal + Threads + Wait + Sync>(
     workers: u32,
     segments: u32,
 ) -> Result<Findings, FindingsFault>
-    requires ids { ring.now.ids ≡ plan.now.ids }
-    requires rounds { ring.now.rounds ≡ length plan.now.program.steps }
+    requires ring { IsOfShape ring.now plan.now }
 {
     compile_run_and_judge(
         rt,

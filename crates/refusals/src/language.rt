@@ -1,5 +1,5 @@
 //! Rows of parsing and running.
-ghost use Rattle.std.specs.Prelude.{◌≡◌, length};
+ghost use Rattle.refusals.specs.Shapes.{IsOfShape};
 
 use crate::miss::Miss;
 use crate::plans::ring_for;
@@ -26,8 +26,7 @@ fn tell_run<R: AllocGlobal + Print>(rt: &R, plan: &Plan) -> Result<(), Miss> {
 
 // Prints the channels of a run of a plan on a ring.
 fn tell_channels<R: AllocGlobal + Print>(rt: &R, plan: &Plan, ring: &Ring) -> Result<(), Miss>
-    requires ids { ring.now.ids ≡ plan.now.ids }
-    requires rounds { ring.now.rounds ≡ length plan.now.program.steps }
+    requires ring { IsOfShape ring.now plan.now }
 {
     let channels = other_call(plain_run(rt.alloc(), plan, ring))?;
     tell_numbers(rt, &channels)

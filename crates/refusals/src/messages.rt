@@ -1,5 +1,5 @@
 //! Rows of the run by messages.
-ghost use Rattle.std.specs.Prelude.{◌≡◌, length};
+ghost use Rattle.refusals.specs.Shapes.{IsOfShape};
 
 use crate::miss::Miss;
 use crate::plans::{plan_of, ring_for};
@@ -41,8 +41,7 @@ fn tell_channels<R: AllocGlobal + Print + Threads + Wait + Sync>(
     ring: &Ring,
     segments: u32,
 ) -> Result<(), Miss>
-    requires ids { ring.now.ids ≡ plan.now.ids }
-    requires rounds { ring.now.rounds ≡ length plan.now.program.steps }
+    requires ring { IsOfShape ring.now plan.now }
 {
     let channels = channels_of(rt, plan, ring, segments)?;
     tell_numbers(rt, &channels)
@@ -55,8 +54,7 @@ fn channels_of<R: AllocGlobal + Print + Threads + Wait + Sync>(
     ring: &Ring,
     segments: u32,
 ) -> Result<Vec<u32>, Miss>
-    requires ids { ring.now.ids ≡ plan.now.ids }
-    requires rounds { ring.now.rounds ≡ length plan.now.program.steps }
+    requires ring { IsOfShape ring.now plan.now }
 {
     match value_or_refusal(rt, run(rt, rt.alloc(), plan, ring, segments, &OpenGate))? {
         Some(channels) => Ok(channels),

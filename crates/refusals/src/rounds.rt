@@ -1,5 +1,5 @@
 //! Rows of global rounds.
-ghost use Rattle.std.specs.Prelude.{◌≡◌, length};
+ghost use Rattle.refusals.specs.Shapes.{IsOfShape};
 
 use crate::miss::Miss;
 use crate::plans::{plan_of, ring_for};
@@ -23,8 +23,7 @@ fn tell_run<R: AllocGlobal + Print>(rt: &R, plan: &Plan) -> Result<(), Miss> {
 
 // Prints the channels of a ring.
 fn tell_channels<R: AllocGlobal + Print>(rt: &R, plan: &Plan, ring: &Ring) -> Result<(), Miss>
-    requires ids { ring.now.ids ≡ plan.now.ids }
-    requires rounds { ring.now.rounds ≡ length plan.now.program.steps }
+    requires ring { IsOfShape ring.now plan.now }
 {
     let channels = channels_of(rt, plan, ring)?;
     tell_numbers(rt, &channels)
@@ -32,8 +31,7 @@ fn tell_channels<R: AllocGlobal + Print>(rt: &R, plan: &Plan, ring: &Ring) -> Re
 
 // Returns the channels of a ring.
 fn channels_of<R: AllocGlobal + Print>(rt: &R, plan: &Plan, ring: &Ring) -> Result<Vec<u32>, Miss>
-    requires ids { ring.now.ids ≡ plan.now.ids }
-    requires rounds { ring.now.rounds ≡ length plan.now.program.steps }
+    requires ring { IsOfShape ring.now plan.now }
 {
     match value_or_refusal(rt, plain_run(rt.alloc(), plan, ring))? {
         Some(channels) => Ok(channels),

@@ -1,5 +1,6 @@
 //! Rows of the segment machine.
 ghost use Rattle.std.specs.Prelude.{◌≡◌, ◌≤◌, IfOk, length};
+ghost use Rattle.refusals.specs.Shapes.{IsOfShape};
 
 use crate::miss::Miss;
 use crate::plans::{plan_of, ring_for};
@@ -24,8 +25,7 @@ fn tell_ring<R: AllocGlobal + Print>(rt: &R, plan: &Plan) -> Result<(), Miss> {
 
 // Prints two segments after seven events and after one more.
 fn tell_after_both<R: AllocGlobal + Print>(rt: &R, plan: &Plan, ring: &Ring) -> Result<(), Miss>
-    requires ids { ring.now.ids ≡ plan.now.ids }
-    requires rounds { ring.now.rounds ≡ length plan.now.program.steps }
+    requires ring { IsOfShape ring.now plan.now }
     requires places { 2 ≤ length ring.now.places }
 {
     tell_after(rt, plan, ring, &EVENTS[..7])?;
@@ -39,8 +39,7 @@ fn tell_after<R: AllocGlobal + Print>(
     ring: &Ring,
     events: &[RingEvent],
 ) -> Result<(), Miss>
-    requires ids { ring.now.ids ≡ plan.now.ids }
-    requires rounds { ring.now.rounds ≡ length plan.now.program.steps }
+    requires ring { IsOfShape ring.now plan.now }
     requires places { 2 ≤ length ring.now.places }
 {
     let world = after(rt, plan, ring, events)?;
@@ -54,8 +53,7 @@ fn after<'a, R: AllocGlobal + Print>(
     ring: &'a Ring,
     events: &[RingEvent],
 ) -> Result<World<'a>, Miss>
-    requires ids { ring.now.ids ≡ plan.now.ids }
-    requires rounds { ring.now.rounds ≡ length plan.now.program.steps }
+    requires ring { IsOfShape ring.now plan.now }
     requires places { 2 ≤ length ring.now.places }
     ensures { IfOk result (λ world. length world.segments ≡ 2) }
 {
