@@ -44,5 +44,15 @@ module _ (v : Parts) (kept : FitTogether v) (s : ℕ) where
   -- a part that may not move stays
   pub idle : (side : Side) → (s < length v.items → ¬ MaySend (part_at v s).segment (sent_by (part_at v s) side)) →
       Steps (machine_of v) (sending side s) (machine_of v)
-  idle Rightward none = inr (λ can. let lt = is_part v kept s can.is_segment in none lt (may_send v kept s _ _ (own_right_size v kept s lt) can), refl)
-  idle Leftward none = inr (λ can. let lt = is_part v kept s can.is_segment in none lt (may_send v kept s _ _ (own_left_size v kept s lt) can), refl)
+  idle Rightward none =
+      inr (
+        λ can. let lt = is_part v kept s can.is_segment in
+            none lt (may_send v kept s _ _ (own_right_size v kept s lt) can),
+        refl,
+      )
+  idle Leftward none =
+      inr (
+        λ can. let lt = is_part v kept s can.is_segment in
+            none lt (may_send v kept s _ _ (own_left_size v kept s lt) can),
+        refl,
+      )

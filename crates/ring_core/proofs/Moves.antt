@@ -107,7 +107,8 @@ module _ (v : Parts) (kept : FitTogether v) (s : ℕ) (lt : s < length v.items) 
       ∙ ap (λ k. leftward_values (part_at replaced k)) (sym (after_before g s lt)) in
       let rightward : here.rightward ≡ rightward_values (part_at replaced b) =
       came_rightward v kept s lt ∙ same_right (ap rightward_values is) b in
-      let sent : BorderState = record { rightward = here.rightward; leftward = here.leftward ++ message Leftward ∷ [] } in
+      let sent : BorderState =
+      record { rightward = here.rightward; leftward = here.leftward ++ message Leftward ∷ [] } in
       let borders = set_made (border_of v.items g) (border_of (set v.items s new) g) g b sent no_messages
       (before_inside g s kept.some)
       (λ i. record { rightward = rightward i; leftward = leftward i })

@@ -141,7 +141,8 @@ module _ (v : Parts) (kept : FitTogether v) where
   beside place message s r needed lt is =
       let b = place (length v.items) s in
       ap (λ g. message (segment_after_rounds (machine_of v) (place g s) r)) (count_is v kept)
-      ∙ ap message (named_is b r r refl) ∙ sym (ap (λ (a : RingSegment). message (at_round a r)) (kept.segments_are b lt))
+      ∙ ap message (named_is b r r refl)
+      ∙ sym (ap (λ (a : RingSegment). message (at_round a r)) (kept.segments_are b lt))
       ∙ is
 
   pub left_beside : (s r : ℕ) → s < length v.items

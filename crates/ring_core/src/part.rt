@@ -88,7 +88,8 @@ impl<'a> Part<'a> {
     // Returns the message sent to a side in a round, if any.
     pub(crate) fn sent_in(&self, side: Side, round: u32) -> Option<Msg<'a>>
         ensures none { IfNone result (sent_by self.now side ≤ round) }
-        ensures some { IfSome result (λ m. (round < sent_by self.now side) × (heading_of m ≡ headings_of self.now.segment side round)) }
+        ensures some { IfSome result (λ m. (round < sent_by self.now side)
+            × (heading_of m ≡ headings_of self.now.segment side round)) }
     {
         self.sent(side).get(round as usize).copied()
     }

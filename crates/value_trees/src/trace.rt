@@ -50,7 +50,8 @@ fn write_trace(
 ) -> Result<(), AllocError>
     requires start { places.old.round ≡ 0 }
     requires rounds { rounds ≡ length places.old.program.steps }
-    ensures { OnOk result (string_bytes text.new ≡ (string_bytes text.old ++ register_lines numbers.base places.old.program places.old.places 0)
+    ensures { OnOk result (string_bytes text.new
+        ≡ (string_bytes text.old ++ register_lines numbers.base places.old.program places.old.places 0)
         ++ later_lines numbers.base places.old.program places.old.places) }
 {
     write_registers(text, numbers, places)?;

@@ -10,9 +10,17 @@ use Rattle.table_text.proofs.pieces.numbered_pieces.Goals as goal
 -- a number of at most four digits has a short text
 short : (kind : Kind) (number : ℕ) → number < 10000 → length (text_of kind number) ≤ 8
 short Id number low =
-    omega (arith, length-decimal-le 4 number (omega arith) low (omega (arith, low)), length-append (decimal number) (32 ∷ []))
+    omega (
+      arith,
+      length-decimal-le 4 number (omega arith) low (omega (arith, low)),
+      length-append (decimal number) (32 ∷ []),
+    )
 short Channel number low =
-    omega (arith, length-decimal-le 4 number (omega arith) low (omega (arith, low)), length-append (decimal number) (10 ∷ []))
+    omega (
+      arith,
+      length-decimal-le 4 number (omega arith) low (omega (arith, low)),
+      length-append (decimal number) (10 ∷ []),
+    )
 
 pub piece_of-requires : goal.piece_of-requires
 piece_of-requires c =

@@ -108,7 +108,8 @@ all_told : (t : ChannelTable) (s : Separation) (a b : Option (List ℕ)) (chunk 
     → IsWrittenSoFar a b chunk (lines_then (written Two (record t { entries = take n t.entries }) s) [])
     → IsWrittenSoFar a b chunk (lines_then (written Two t s) [])
 all_told t s a b chunk n all told =
-    subst (λ (entries : List ℕ). IsWrittenSoFar a b chunk (lines_then (written Two (record t { entries = entries }) s) []))
+    subst (λ (entries : List ℕ).
+    IsWrittenSoFar a b chunk (lines_then (written Two (record t { entries = entries }) s) []))
     (take_all n t.entries all) told
 
 -- The last line is in the chunk.

@@ -27,7 +27,8 @@ returns c =
     let own = c.held_by-last.ensures.value ∙ ap (λ (s : RingConfiguration). state s.program s.places s.round i) after in
     let reads = c.reading.ensures ∙ ap (λ registers. reading_messages registers 0 0) own in
     let finish = c.finish.ensures.value ∙ ap (λ (t : ProgramTree). t.finish) program in
-    let last = c.in_ok-write_tree.ensures ∙ (λ k. string_bytes c.push_str.new.self ++ (codes "\n" ++ tree_lines b (reads k) (finish k))) in
+    let last = c.in_ok-write_tree.ensures
+    ∙ (λ k. string_bytes c.push_str.new.self ++ (codes "\n" ++ tree_lines b (reads k) (finish k))) in
     let all = rounds_trees b p x i 0 p.steps in
     let end : List ℕ = codes "\n" ++ tree_lines b (before_messages p x i (length p.steps)) p.finish in
     last

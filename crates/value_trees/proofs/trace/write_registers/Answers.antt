@@ -13,7 +13,9 @@ loop-register-preserved c =
     let p = places.program in
     let x = places.places in
     let n = c.loop-register.register-counter in
-    let row : ℕ → List ℕ = λ j. row_line c.args.numbers.base (phase places.round ++ (codes " r" ++ decimal j)) (of_places x (λ i. slice_index (state p x places.round i) j)) in
+    let row : ℕ → List ℕ = λ j.
+    row_line c.args.numbers.base (phase places.round ++ (codes " r" ++ decimal j))
+    (of_places x (λ i. slice_index (state p x places.round i) j)) in
     let heading = c.in_ok-write_phase.ensures ∙ ap (λ r. string_bytes c.loop-register.text ++ phase r) c.round.ensures.value in
     three_written _ _ _ _ _ _ _ heading c.in_ok-write.ensures.bytes c.in_ok-write_readings.ensures
     ∙ ap (λ l. l ++ row n) c.loop-register.invariant

@@ -17,7 +17,8 @@ module _ (c : In_ok-send) where
 
   may : MaySend (part_at before c.args.segment).segment (sent_by (part_at before c.args.segment) c.args.side)
   may =
-      subst (λ (p : Progress). MaySend p.segment (sent_by p c.args.side)) (c.index.ensures ∙ get_or_default before.items c.args.segment c.index.result.now no_part inside)
+      subst (λ (p : Progress). MaySend p.segment (sent_by p c.args.side))
+      (c.index.ensures ∙ get_or_default before.items c.args.segment c.index.result.now no_part inside)
       (c.may_send.ensures.0 c.if-may_send.true)
 
   sent : c.send.new.self ≡ after_sending (part_at before c.args.segment) c.args.side
@@ -48,7 +49,8 @@ returns-else-index-len c =
       | else-index-len-via-then-index-len+else-may_send w ↦
           let read : w.index.result.now ≡ part_at v s = w.index.ensures
           ∙ get_or_default v.items s w.index.result.now no_part lt in
-          let can = w.may_send.ensures.1 (subst (λ (p : Progress). MaySend p.segment (sent_by p c.args.side)) (sym read) may) in
+          let can = w.may_send.ensures.1
+          (subst (λ (p : Progress). MaySend p.segment (sent_by p c.args.side)) (sym read) may) in
           search rules
       | else-index-len-via-else-index-len w ↦ absurd (search rules)
     ]))

@@ -25,5 +25,6 @@ returns-in-Leftward-clause-value c =
     let size = c.sent-in-Leftward.ensures.size ∙ (rw c.count.ensures.value at c.part-in-Leftward.ensures.leftward)
     ∙ ap (λ (border : BorderState). length border.leftward) (same_border m b c.requires) in
     values_are m b Leftward c.sent-in-Leftward.result.now c.promises.ensures.messages c.requires size
-    (λ k message at. c.sent-in-Leftward.ensures.each k message at ∙ ap (λ (a : RingSegment). leftward_headings a k) next)
+    (λ k message at. c.sent-in-Leftward.ensures.each k message at
+    ∙ ap (λ (a : RingSegment). leftward_headings a k) next)
     ∙ ap (sent_at m b) (sym c.in-Leftward.is)
