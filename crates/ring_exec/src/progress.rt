@@ -31,7 +31,8 @@ impl<'a> Progress<'a> {
     ) -> Result<(), ThreadFault>
         requires few { self.old.index + vec_len self.old.waiting < MAX_SEGMENTS }
         requires room { (vec_len self.old.threads + vec_len self.old.waiting < vec_capacity self.old.threads)
-            × (vec_len self.old.joined.segments + vec_len self.old.threads + vec_len self.old.waiting < vec_capacity self.old.joined.segments) }
+            × (vec_len self.old.joined.segments + vec_len self.old.threads + vec_len self.old.waiting
+            < vec_capacity self.old.joined.segments) }
         ensures index { self.new.index ≡ self.old.index + 1 }
         ensures kept { MatchOption thread.entry ((result ≡ Err NoThread) × (vec_len self.new.threads ≡ vec_len self.old.threads))
             (λ _. (result ≡ Ok tt) × (vec_len self.new.threads ≡ vec_len self.old.threads + 1)) }

@@ -160,7 +160,8 @@ impl<
         requires blanks { AreBlanksOf blanks N.rightward N.leftward }
         requires seat { left.seat ≡ record { side = Leftward; puts = 0 } }
         requires waiting { 0 < vec_len progress.old.waiting }
-        ensures rest { (vec_len progress.new.waiting + 1 ≡ vec_len progress.old.waiting) × (progress.new.joined ≡ progress.old.joined) }
+        ensures rest { (vec_len progress.new.waiting + 1 ≡ vec_len progress.old.waiting)
+            × (progress.new.joined ≡ progress.old.joined) }
         ensures started { OnOk result ((progress.new.index ≡ progress.old.index + 1)
             × (vec_len progress.new.threads ≡ vec_len progress.old.threads + 1)) }
         ensures refused { IfErr result (λ fault. ((fault ≡ NoThread) × (progress.new.index ≡ progress.old.index + 1))
