@@ -87,12 +87,6 @@ fn refuted_at<R: Threads + Wait + Sync>(
     reader: Pace,
     want: &[u8],
 ) -> Option<Outcome> {
-    let streams = Streams {
-        text: REFUTATION,
-        reader,
-        writer: Pace::of(usize::MAX),
-        want,
-    };
     let task = Task::Refute {
         ids: 2,
         rounds: 0,
@@ -100,6 +94,7 @@ fn refuted_at<R: Threads + Wait + Sync>(
         near: 1,
         far: 0,
     };
+    let streams = Streams::reading(REFUTATION, reader, want);
     outcome_of(rt, alloc, task, &streams)
 }
 
@@ -117,12 +112,7 @@ fn a_refutation_of_single_bytes_is_checked(rt: HostRuntime) {
 
 // Returns whether nothing is written after the read fails at this call.
 fn refutation_stops<R: Threads + Wait + Sync>(rt: &R, alloc: Global, call: usize) -> bool {
-    let want = Outcome {
-        answer: Err(EngineFault::Read),
-        reads: call,
-        writes: 0,
-        as_wanted: true,
-    };
+    let want = Outcome::of_failed_read(call);
     refuted_at(rt, alloc, Pace::failing_at(call, ErrorKind::Other, 1), b"") == Some(want)
 }
 

@@ -25,6 +25,18 @@ pub(crate) struct Streams<'a> {
     pub(crate) want: &'a [u8],
 }
 
+impl<'a> Streams<'a> {
+    /// Returns a reader of this text with this pace, and a writer that takes all bytes.
+    pub(crate) fn reading(text: &'a [u8], reader: Pace, want: &'a [u8]) -> Streams<'a> {
+        Streams {
+            text,
+            reader,
+            writer: Pace::of(usize::MAX),
+            want,
+        }
+    }
+}
+
 /// The outcome of a task: the engine's result, the numbers of reads and of writes, and whether the
 /// bytes that were to be written were written, and no others.
 #[derive(Clone, Copy, PartialEq, Eq)]
@@ -33,6 +45,18 @@ pub(crate) struct Outcome {
     pub(crate) reads: usize,
     pub(crate) writes: usize,
     pub(crate) as_wanted: bool,
+}
+
+impl Outcome {
+    /// Returns the outcome of a task whose read with this number, counted from 1, fails.
+    pub(crate) fn of_failed_read(reads: usize) -> Outcome {
+        Outcome {
+            answer: Err(EngineFault::Read),
+            reads,
+            writes: 0,
+            as_wanted: true,
+        }
+    }
 }
 
 /// Does a task with these devices. Returns the engine's result, the number of reads, and the
@@ -90,13 +114,7 @@ fn read_at<R: Threads + Wait + Sync>(
     reader: Pace,
     want: &[u8],
 ) -> Option<Outcome> {
-    let streams = Streams {
-        text: CV1,
-        reader,
-        writer: Pace::of(usize::MAX),
-        want,
-    };
-    outcome_of_run(rt, alloc, &streams)
+    outcome_of_run(rt, alloc, &Streams::reading(CV1, reader, want))
 }
 
 #[test]
@@ -117,12 +135,7 @@ fn fails_at<R: Threads + Wait + Sync>(
     kind: ErrorKind,
     most: usize,
 ) -> bool {
-    let want = Outcome {
-        answer: Err(EngineFault::Read),
-        reads: call,
-        writes: 0,
-        as_wanted: true,
-    };
+    let want = Outcome::of_failed_read(call);
     read_at(rt, alloc, Pace::failing_at(call, kind, most), b"") == Some(want)
 }
 
@@ -153,12 +166,7 @@ fn a_read_that_fails_at_each_call(rt: HostRuntime) {
 /// Checks a program text of 100,000 blanks, which comes in single bytes.
 fn outcome_of_blanks<R: Threads + Wait + Sync>(rt: &R, alloc: Global) -> Option<Outcome> {
     let text = vec![in alloc; b' '; 100_000].ok()?;
-    let streams = Streams {
-        text: &text,
-        reader: Pace::of(1),
-        writer: Pace::of(usize::MAX),
-        want: b"text fault N1 at 65536\n",
-    };
+    let streams = Streams::reading(&text, Pace::of(1), b"text fault N1 at 65536\n");
     outcome_of(rt, alloc, Task::Check { ids: 8 }, &streams)
 }
 
