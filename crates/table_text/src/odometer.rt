@@ -79,8 +79,7 @@ impl Odometer {
     // Shows the first window of `front` identifiers and one more.
     pub(crate) fn first(ids: u32, front: usize, pieces: &[Piece]) -> Odometer
         requires ids { ids ≤ MAX_IDS }
-        requires short { front < MAX_WINDOW_LEN }
-        requires within { front < ids }
+        requires front { (front < MAX_WINDOW_LEN) × (front < ids) }
         requires pieces { AreTexts id_text pieces.now × (length pieces.now ≡ ids) }
         ensures is { IsOdometer result }
         ensures of { (result.front ≡ front) × (result.ids ≡ ids) }

@@ -113,8 +113,7 @@ fn write_lines<W: Write>(
 // Appends to a chunk the line of a window with this prefix, last identifier and channel.
 fn store_entry(chunk: &mut Chunk, pieces: &Pieces, prefix: &LinePrefix, last: u32, channel: u32)
     requires room { length chunk.old + LINE_LEN ≤ CHUNK_LEN }
-    requires ids { AreTexts id_text pieces.now.ids.items }
-    requires channels { AreTexts channel_text pieces.now.channels.items }
+    requires texts { AreTexts id_text pieces.now.ids.items × AreTexts channel_text pieces.now.channels.items }
     requires last { last < length pieces.now.ids.items }
     requires channel { channel < length pieces.now.channels.items }
     ensures { chunk.new ≡ chunk.old ++ (prefix_text prefix.now ++ (id_text last ++ channel_text channel)) }

@@ -9,7 +9,7 @@ show-requires-clause-ids c =
     let order = c.rising-order.result in
     let k = c.args.front in
     let m = c.args.ids in
-    let le : k ≤ m = omega (arith, c.requires.within) in
+    let le : k ≤ m = omega (arith, c.requires.front.1) in
     let made = first_order k m (take m order) le
     (subst (IsOrder 0 m) (sym c.rising-order.ensures) (rising_order m)) in (
       c.requires.pieces.0,
@@ -22,10 +22,10 @@ returns-clause-is c =
     let start = subst (IsOrder 0 m) (sym c.rising-order.ensures) (rising_order m) in
     record {
       few = c.requires.ids;
-      short = c.requires.short;
-      order = (first_order c.args.front m (take m c.rising-order.result) (omega (arith, c.requires.within)) start).0;
+      short = c.requires.front.0;
+      order = (first_order c.args.front m (take m c.rising-order.result) (omega (arith, c.requires.front.1)) start).0;
       from = omega arith;
-      within = c.requires.within;
+      within = c.requires.front.1;
       texts = c.show.ensures.texts;
       text = c.show.ensures.text;
     }
@@ -35,7 +35,7 @@ returns-clause-first c =
     let order = c.rising-order.result in
     let k = c.args.front in
     let m = c.args.ids in
-    let made = first_order (k + 1) m (take m order) (omega (arith, c.requires.within))
+    let made = first_order (k + 1) m (take m order) (omega (arith, c.requires.front.1))
     (subst (IsOrder 0 m) (sym c.rising-order.ensures) (rising_order m)) in
-    made.1 ∙ ap Some (take-take (k + 1) m order (omega (arith, c.requires.within))
-    ∙ take_more order k 0 (omega (arith, length-take m order, made.0.size, c.requires.within)))
+    made.1 ∙ ap Some (take-take (k + 1) m order (omega (arith, c.requires.front.1))
+    ∙ take_more order k 0 (omega (arith, length-take m order, made.0.size, c.requires.front.1)))
