@@ -20,7 +20,8 @@ falling-add m k (suc more) =
 
 pub all_runs : (t : ChannelTable) (s : Separation) → length (tuples t s) ≡ length (windows_of t) * run_len t s
 all_runs t s =
-    rw (length-windows (2 * t.rounds + 1 + extra s) t.ids, length-windows (2 * t.rounds + 1) t.ids) (falling-add t.ids (2 * t.rounds + 1) (extra s))
+    rw (length-windows (2 * t.rounds + 1 + extra s) t.ids, length-windows (2 * t.rounds + 1) t.ids)
+    (falling-add t.ids (2 * t.rounds + 1) (extra s))
 
 pub falling_one : (n : ℕ) → falling n 1 ≡ n
 falling_one n = omega arith

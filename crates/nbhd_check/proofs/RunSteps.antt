@@ -75,12 +75,14 @@ run_end t run window item =
     (run_start_is (2 * t.rounds) t.ids run (run * wide t) (take (2 * t.rounds) window) (front_of_first t run window item).1 refl).within
 
 -- the numbers of a run's windows are small
-pub small_run : (t : ChannelTable) (run each : ℕ) → IsTable t → each ≡ wide t → run * wide t + wide t ≤ length (windows_of t)
+pub small_run : (t : ChannelTable) (run each : ℕ) → IsTable t → each ≡ wide t
+    → run * wide t + wide t ≤ length (windows_of t)
     → run * each + each < 2 ^ 32
 small_run t run each table each_is within = rw each_is (omega (arith, within, table.begun.shape.few_windows))
 
 -- the same for a run before one whose windows' numbers are within the windows
-pub run_few : (t : ChannelTable) (run high each : ℕ) → IsTable t → each ≡ wide t → run < high → high * wide t ≤ length (windows_of t)
+pub run_few : (t : ChannelTable) (run high each : ℕ) → IsTable t → each ≡ wide t → run < high
+    → high * wide t ≤ length (windows_of t)
     → (run * each + each ≤ length (windows_of t)) × (length (windows_of t) < 2 ^ 32)
 run_few t run high each table each_is lt within =
     let more : run + 1 ≤ high = omega arith in

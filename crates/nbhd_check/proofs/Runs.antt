@@ -75,7 +75,8 @@ none_close_after t window number start gap distance item full run gap_is none ba
 
 -- windows that begin no tuple that is bad by near, and none that is bad by far
 pub free_of_both :
-    (t : ChannelTable) (s : Separation) (a b less : ℕ) → AreFree t (BeginsBadTuple t (record { near = s.near; far = 0 })) 0 a
+    (t : ChannelTable) (s : Separation) (a b less : ℕ)
+    → AreFree t (BeginsBadTuple t (record { near = s.near; far = 0 })) 0 a
     → AreFree t (BeginsFarTuple t s.far) 0 b → less ≤ a → less ≤ b → AreFree t (BeginsBadTuple t s) 0 less
 unfolding IsBad BeginsFarTuple
 free_of_both t s a b less near far le_a le_b number window from below item bad =

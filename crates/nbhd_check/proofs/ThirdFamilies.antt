@@ -33,7 +33,8 @@ free_in_family t distance family number window some item at' none far =
     let number_is : family * family_len t + place ≡ found.0 = omega (arith, found.1) in
     none place (omega (arith, found.1, found.2)) (rw number_is found.4)
 
-module _ (t : ChannelTable) (number : ℕ) (window : List ℕ) (first : ℕ) (places : RunPlaces) (place : ℕ) (some : 1 ≤ t.rounds) (own : IsAtFamily t number window first places place) where
+module _ (t : ChannelTable) (number : ℕ) (window : List ℕ) (first : ℕ) (places : RunPlaces) (place : ℕ)
+    (some : 1 ≤ t.rounds) (own : IsAtFamily t number window first places place) where
   -- the family of the window's third windows
   pub family_at : slice_get (shared_lists t) (first + place) ≡ Some (drop 2 window)
   family_at =

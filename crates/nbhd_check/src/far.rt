@@ -100,7 +100,8 @@ fn free_by_masks<R: Threads + Sync>(
 // tuples with third windows in it, one by one.
 fn counts_if_worth(tuples: Tuples) -> Option<FarCounts>
     requires { (1 ≤ tuples.table.now.rounds) × (1 ≤ tuples.separation.far) }
-    ensures { IfSome result (λ counts. (counts.table.now ≡ tuples.entry.table.now) × (counts.distance ≡ tuples.entry.separation.far)) }
+    ensures { IfSome result (λ counts. (counts.table.now ≡ tuples.entry.table.now)
+        × (counts.distance ≡ tuples.entry.separation.far)) }
 {
     let Tuples { table, separation } = tuples;
     let distance = separation.far;

@@ -22,4 +22,9 @@ before_within row wide x len some lt within =
 
 pub bounds-cells-row : goal.bounds-cells-row
 bounds-cells-row c =
-    omega (arith, before_within c.args.row c.args.wide c.loop-x.x (length c.args.cells.now) c.requires.row c.loop-x-test.true c.requires.within, c.loop-x.auto.cells)
+    omega (
+      arith,
+      before_within c.args.row c.args.wide c.loop-x.x
+          (length c.args.cells.now) c.requires.row c.loop-x-test.true c.requires.within,
+      c.loop-x.auto.cells,
+    )

@@ -39,6 +39,8 @@ pub returns : goal.returns
 returns c = λ v x lt within.
     let ids_is = c.ids.ensures ∙ c.shape.ensures.ids in
     let len = c.loop-row.auto.cells ∙ c.requires.room in
-    let few = le_of_mul-le-mul_right {m = v + 1} {n = c.args.limit + 1} {k = c.args.table.now.ids + 1} (rw len at within) (omega arith) in
+    let few = le_of_mul-le-mul_right {m = v + 1} {n = c.args.limit + 1} {k =
+    c.args.table.now.ids + 1} (rw len at within) (omega arith) in
     let below : v < c.loop-row.row = omega (arith, few, c.loop-row-test.false) in
-    (λ q. get_or c.loop-row.cells (v * (sym ids_is q + 1) + x) 0) ∙ c.loop-row.invariant.0 v x (omega (arith, lt, ids_is)) below
+    (λ q. get_or c.loop-row.cells (v * (sym ids_is q + 1) + x) 0) ∙ c.loop-row.invariant.0 v x
+    (omega (arith, lt, ids_is)) below

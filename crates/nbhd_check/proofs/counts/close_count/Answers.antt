@@ -10,27 +10,34 @@ module _ (c : After-deref-cells) (v : ℕ) (le : v ≤ c.args.counts.now.limit) 
   inside : v * (c.ids.result + 1) + c.args.x < length c.deref-cells.result.now
   inside =
       let ids = c.args.table.now.ids in
-      let row = rows_within v c.args.counts.now.limit ids ids (length c.args.counts.now.cells.items) le refl c.requires.fit.room in
-      rw (c.ids.ensures ∙ c.shape.ensures.ids, c.deref-cells.ensures.value) (omega (arith, row, row_more v (ids + 1), c.requires.x))
+      let row = rows_within v c.args.counts.now.limit ids ids
+      (length c.args.counts.now.cells.items) le refl c.requires.fit.room in
+      rw (c.ids.ensures ∙ c.shape.ensures.ids, c.deref-cells.ensures.value)
+      (omega (arith, row, row_more v (ids + 1), c.requires.x))
 
   small : v < 2 ^ 32 → v * (c.ids.result + 1) + c.args.x < 2 ^ 43
   small few =
       let ids_few = c.shape.ensures.table.begun.shape.ids.few in
-      let row : v * (c.ids.result + 1) ≤ 2 ^ 32 * 1025 = product_few v (c.ids.result + 1) (2 ^ 32) 1025 _ (omega (arith, few)) (omega (arith, ids_few, c.ids.ensures, c.shape.ensures.ids)) (omega arith) in
+      let row : v * (c.ids.result + 1) ≤ 2 ^ 32 * 1025 =
+      product_few v (c.ids.result + 1) (2 ^ 32) 1025 _ (omega (arith, few))
+      (omega (arith, ids_few, c.ids.ensures, c.shape.ensures.ids)) (omega arith) in
       omega (arith, row, ids_few, c.requires.x)
 
 pub offset_bounds-cells-high : goal.offset_bounds-cells-high
-offset_bounds-cells-high c = omega (arith, small c c.min-high.result (omega (arith, c.min-high.ensures)) (omega (arith, c.min-high.type_inv)))
+offset_bounds-cells-high c =
+    omega (arith, small c c.min-high.result (omega (arith, c.min-high.ensures)) (omega (arith, c.min-high.type_inv)))
 
 pub bounds-cells-high : goal.bounds-cells-high
-bounds-cells-high c = inside (goal.at.bounds-cells-high c).After-deref-cells c.min-high.result (omega (arith, c.min-high.ensures))
+bounds-cells-high c = inside (goal.at.bounds-cells-high c).After-deref-cells c.min-high.result
+    (omega (arith, c.min-high.ensures))
 
 pub offset_bounds-cells-low : goal.offset_bounds-cells-low
 offset_bounds-cells-low c =
     omega (
       arith,
       small (goal.at.offset_bounds-cells-low c).After-deref-cells c.saturating_sub-low.result
-          (omega (arith, c.saturating_sub-low.ensures, c.requires.some, c.requires.channel)) (omega (arith, c.saturating_sub-low.type_inv)),
+          (omega (arith, c.saturating_sub-low.ensures, c.requires.some, c.requires.channel))
+          (omega (arith, c.saturating_sub-low.type_inv)),
     )
 
 pub bounds-cells-low : goal.bounds-cells-low

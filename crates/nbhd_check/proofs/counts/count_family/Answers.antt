@@ -11,7 +11,8 @@ use Rattle.nbhd_check.proofs.counts.count_family.Goals as goal
 
 same_items : (n i x : ℕ) → get_or (replicate n x) i x ≡ x
 same_items n i x =
-    ⊎_elim (get_or-replicate n i x x) (λ (past : n ≤ i). get_or-eq_default (replicate n x) x (omega (arith, length-replicate n x))) (cases_lt i n)
+    ⊎_elim (get_or-replicate n i x x)
+    (λ (past : n ≤ i). get_or-eq_default (replicate n x) x (omega (arith, length-replicate n x))) (cases_lt i n)
 
 -- the family of the windows with these shared identifiers, once their number is known
 module _ (c : After-window_number) where
@@ -56,22 +57,35 @@ returns-clause-fit c =
     let cells = c.add_rows.new.cells in
     let len = c.add_rows.auto.cells ∙ c.count_windows.auto.cells ∙ c.fill.ensures.len ∙ c.deref_mut-cells.ensures.len in
     let written = take_at cells (drop (length cells) c.args.counts.now.cells.items) c.args.counts.now.cells.len len in
-    record { room = rw written (c.add_rows.auto.cells ∙ c.count_windows.auto.cells ∙ c.fill.ensures.len ∙ ap length c.deref_mut-cells.ensures.value ∙ c.requires.fit.room); limit = c.requires.fit.limit }
+    record {
+      room = rw written
+          (c.add_rows.auto.cells ∙ c.count_windows.auto.cells ∙ c.fill.ensures.len ∙ ap length
+          c.deref_mut-cells.ensures.value ∙ c.requires.fit.room);
+      limit = c.requires.fit.limit;
+    }
 
 pub add_rows-requires-clause-few : goal.add_rows-requires-clause-few
 add_rows-requires-clause-few c =
-    omega (arith, (family (goal.at.add_rows-requires-clause-few c).After-window_number).within, c.shape-shape.ensures.table.begun.shape.few_windows)
+    omega (
+      arith,
+      (family (goal.at.add_rows-requires-clause-few c).After-window_number).within,
+      c.shape-shape.ensures.table.begun.shape.few_windows,
+    )
 
 pub count_windows-requires-clause-rows : goal.count_windows-requires-clause-rows
 count_windows-requires-clause-rows c = λ k d lt.
     let below = c.requires.fit.limit k d lt in
     rw (c.fill.ensures.len ∙ ap length c.deref_mut-cells.ensures.value ∙ c.requires.fit.room)
-    (mul-le-mul_right {m = get_or c.args.table.now.entries k d + 2} {n = c.args.counts.now.limit + 1} (c.args.table.now.ids + 1) (omega (arith, below)))
+    (mul-le-mul_right {m = get_or c.args.table.now.entries k d + 2} {n =
+    c.args.counts.now.limit + 1} (c.args.table.now.ids + 1) (omega (arith, below)))
 
 pub count_windows-requires-clause-window : goal.count_windows-requires-clause-window
 count_windows-requires-clause-window c =
-    let rounds_is = c.rounds-2.ensures ∙ c.shape-shape.ensures.rounds in
-    (rw (rounds_is, c.shape-shape.ensures.ids) at c.window.ensures.item, rw (rounds_is, c.shape-shape.ensures.ids) at c.window.ensures.window)
+    let rounds_is = c.rounds-2.ensures ∙ c.shape-shape.ensures.rounds in (
+      rw (rounds_is, c.shape-shape.ensures.ids) at c.window.ensures.item,
+      rw
+          (rounds_is, c.shape-shape.ensures.ids) at c.window.ensures.window,
+    )
 
 pub overflow_mul-count : goal.overflow_mul-count
 overflow_mul-count c =

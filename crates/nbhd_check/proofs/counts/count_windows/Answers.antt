@@ -34,7 +34,13 @@ pub count_in-requires-clause-column : goal.count_in-requires-clause-column
 count_in-requires-clause-column c =
     let own = c.loop-number.invariant.1 in
     let size = own.size in
-    omega (arith, own.below (2 * (c.rounds.result - 1) + 1) 0 (omega (arith, size, c.rounds.ensures, c.shape-shape.ensures.rounds, c.requires.within.0)), c.ids.ensures, c.shape-shape.ensures.ids)
+    omega (
+      arith,
+      own.below (2 * (c.rounds.result - 1) + 1) 0
+          (omega (arith, size, c.rounds.ensures, c.shape-shape.ensures.rounds, c.requires.within.0)),
+      c.ids.ensures,
+      c.shape-shape.ensures.ids,
+    )
 
 pub count_in-requires-clause-few : goal.count_in-requires-clause-few
 count_in-requires-clause-few c =
@@ -44,21 +50,31 @@ count_in-requires-clause-few c =
       few,
       c.requires.within.1,
       c.loop-number-test.true,
-      c.loop-number.invariant.3 ((c.entry.result + 1) * (c.ids.result + 1) + get_or c.loop-number.window (2 * (c.rounds.result - 1) + 1) 0),
+      c.loop-number.invariant.3 ((c.entry.result + 1) * (c.ids.result + 1) + get_or c.loop-number.window
+          (2 * (c.rounds.result - 1) + 1) 0),
     )
 
 pub count_in-requires-clause-within : goal.count_in-requires-clause-within
 count_in-requires-clause-within c =
     let table = c.shape-shape.ensures.table in
-    let row = c.requires.rows c.loop-number.number 0 (omega (arith, table.size, c.requires.within.1, c.loop-number-test.true)) in
+    let row = c.requires.rows c.loop-number.number 0
+    (omega (arith, table.size, c.requires.within.1, c.loop-number-test.true)) in
     let two : c.entry.result + 1 + 1 ≡ c.entry.result + 2 = omega arith in
     rw (two, c.entry.ensures.value, c.ids.ensures, c.shape-shape.ensures.ids, c.loop-number.auto.cells) row
 
 pub count_in-requires-in-loop-number-clause-few : goal.count_in-requires-in-loop-number-clause-few
 count_in-requires-in-loop-number-clause-few c =
     let few = c.shape-shape.ensures.table.begun.shape.few_windows in
-    let cell : ℕ = (c.entry.result + 1) * (c.ids.result + 1) + get_or c.loop-number.window (2 * (c.rounds.result - 1) + 1 + 1) 0 in
-    omega (arith, few, c.requires.within.1, c.loop-number-test.true, c.count_in.ensures.few cell, c.loop-number.invariant.3 cell)
+    let cell : ℕ = (c.entry.result + 1) * (c.ids.result + 1) + get_or c.loop-number.window
+    (2 * (c.rounds.result - 1) + 1 + 1) 0 in
+    omega (
+      arith,
+      few,
+      c.requires.within.1,
+      c.loop-number-test.true,
+      c.count_in.ensures.few cell,
+      c.loop-number.invariant.3 cell,
+    )
 
 pub loop-number-init : goal.loop-number-init
 loop-number-init c =

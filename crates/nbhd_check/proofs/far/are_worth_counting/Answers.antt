@@ -7,6 +7,9 @@ overflow_mul-result-2 c =
     let family : ℕ = c.windows_per_family-family.result in
     let few = c.windows_per_family-family.ensures.table.begun.shape.ids.few in
     let small : family ≤ 1048576 =
-    rw c.windows_per_family-family.ensures.value (product_few _ _ 1024 1024 _ (omega (arith, few)) (omega (arith, few)) (omega arith)) in
-    let product : 8 * family * family ≤ 2 ^ 43 = product_few (8 * family) family 8388608 1048576 _ (omega (arith, small)) (omega (arith, small)) (omega arith) in
+    rw c.windows_per_family-family.ensures.value
+    (product_few _ _ 1024 1024 _ (omega (arith, few)) (omega (arith, few)) (omega arith)) in
+    let product : 8 * family * family ≤ 2 ^ 43 =
+    product_few (8 * family) family 8388608 1048576 _ (omega (arith, small)) (omega (arith, small))
+    (omega arith) in
     omega (arith, product)

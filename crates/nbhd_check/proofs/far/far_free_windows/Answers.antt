@@ -5,5 +5,6 @@ use Rattle.nbhd_check.proofs.far.far_free_windows.Goals as goal
 pub returns-then-free-gt0-2 : goal.returns-then-free-gt0-2
 returns-then-free-gt0-2 g c =
     let free = rw (c.in-Some.ensures.0, c.in-Some.ensures.1) at c.free_windows-free.ensures.free in
-    free_of_both c.args.tuples.table.now c.args.tuples.separation c.args.most c.free_windows-free.result c.free_windows-free.result
+    free_of_both c.args.tuples.table.now c.args.tuples.separation c.args.most c.free_windows-free.result
+    c.free_windows-free.result
     c.requires.near free c.free_windows-free.ensures.less (omega arith)

@@ -10,7 +10,8 @@ loop-channel-preserved c =
         kept = λ word bit has. more.kept word bit (c.loop-channel.invariant.0.kept word bit has);
       },
       λ place below x close. ⊎_elim
-          (λ (before : place < c.loop-channel.channel-index). more.kept _ _ (c.loop-channel.invariant.1 place before x close))
+          (λ (before : place < c.loop-channel.channel-index). more.kept _ _
+          (c.loop-channel.invariant.1 place before x close))
           (λ (own : c.loop-channel.channel-index ≤ place).
           let same : place ≡ c.loop-channel.channel-index = omega (arith, below, own) in
           c.add_channel.ensures.covers x (rw c.from.ensures (rw same at close)))
@@ -18,4 +19,5 @@ loop-channel-preserved c =
     )
 
 pub returns-clause-covers : goal.returns-clause-covers
-returns-clause-covers c = λ place lt x close. c.loop-channel.invariant.1 place (omega (arith, lt, c.loop-channel-test.false)) x close
+returns-clause-covers c = λ place lt x close. c.loop-channel.invariant.1 place
+    (omega (arith, lt, c.loop-channel-test.false)) x close

@@ -77,4 +77,8 @@ loop-group-preserved c =
 
 pub add_group-requires-clause-within : goal.add_group-requires-clause-within
 add_group-requires-clause-within c =
-    omega (arith, words_within c.args.per_group (length c.args.words.now) c.loop-group.group c.loop-group-test.true, c.loop-group.auto.words)
+    omega (
+      arith,
+      words_within c.args.per_group (length c.args.words.now) c.loop-group.group c.loop-group-test.true,
+      c.loop-group.auto.words,
+    )

@@ -14,5 +14,6 @@ returns-then-is_full c = c.none-then-is_full.ensures c.args.table.now.entries c.
 pub returns : goal.returns
 returns c =
     let words = c.add_groups.new.words in
-    let written = take_at words (drop (length words) c.in-Ok.words.items) c.in-Ok.words.len (c.add_groups.auto.words ∙ c.deref_mut.ensures.len) in
+    let written = take_at words (drop (length words) c.in-Ok.words.items) c.in-Ok.words.len
+    (c.add_groups.auto.words ∙ c.deref_mut.ensures.len) in
     rw (written, ← c.entries-entries.ensures.value) c.add_groups.ensures

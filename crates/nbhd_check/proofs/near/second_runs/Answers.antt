@@ -62,6 +62,8 @@ pub overflow_mul-result : goal.overflow_mul-result
 overflow_mul-result c =
     omega (
       arith,
-      product_few c.window_number-number.result (c.ids.result - length (take (2 * c.rounds-level.result - 1) (drop 1 c.args.window.now)))
-          4294967296 1024 4398046511104 (omega (arith, c.window_number-number.type_inv)) (omega (arith, c.ids.ensures, c.shape-shape.result.in_range.few)) (omega arith),
+      product_few c.window_number-number.result
+          (c.ids.result - length (take (2 * c.rounds-level.result - 1) (drop 1 c.args.window.now)))
+          4294967296 1024 4398046511104 (omega (arith, c.window_number-number.type_inv))
+          (omega (arith, c.ids.ensures, c.shape-shape.result.in_range.few)) (omega arith),
     )

@@ -7,7 +7,13 @@ use Rattle.nbhd_check.proofs.search.first_in_runs.Goals as goal
 
 pub returns-then-low-high : goal.returns-then-low-high
 returns-then-low-high g c = λ number window low below item.
-    absurd (omega (arith, mul-le-mul_right (wide (g.S.Search.searched c.args.search.now)) c.if-low-high.true, low, below))
+    absurd (omega (
+      arith,
+      mul-le-mul_right
+          (wide (g.S.Search.searched c.args.search.now)) c.if-low-high.true,
+      low,
+      below,
+    ))
 
 pub overflow_mul-low : goal.overflow_mul-low
 overflow_mul-low g c =
@@ -23,4 +29,5 @@ window-requires-clause-below g c =
     let within = subst (λ t. c.args.high * wide t ≤ length (windows_of t)) (sym c.table-table.ensures) c.requires in
     let few = run_few c.table-table.result.now c.args.low c.args.high c.windows_per_run.result
     c.windows_per_run.ensures.table c.windows_per_run.ensures.value c.if-low-high.false within in
-    rw (c.rounds-level.ensures ∙ c.shape-shape.ensures.rounds, c.shape-shape.ensures.ids) (omega (arith, few, c.windows_per_run.ensures.some))
+    rw (c.rounds-level.ensures ∙ c.shape-shape.ensures.rounds, c.shape-shape.ensures.ids)
+    (omega (arith, few, c.windows_per_run.ensures.some))

@@ -39,7 +39,8 @@ pub least_of_parts-least-requires-clause-each : goal.least_of_parts-least-requir
 least_of_parts-least-requires-clause-each g c κs within part lt =
     let t = g.S.Search.searched c.args.search.now in
     let each_is = c.windows_per_run.ensures.value ∙ ap wide c.table.ensures in
-    let runs = runs_of t c.args.most c.windows_per_run.result c.div_ceil-runs.result c.windows_per_run.ensures.some each_is c.div_ceil-runs.ensures c.requires in
+    let runs = runs_of t c.args.most c.windows_per_run.result c.div_ceil-runs.result c.windows_per_run.ensures.some
+    each_is c.div_ceil-runs.ensures c.requires in
     let parts : ℕ = c.part_count-parts.result in
     let each : ℕ = c.div_ceil-each.result in
     let upto : (part + 1) * each ≤ parts * each = mul-le-mul_right each (omega arith) in
@@ -54,7 +55,8 @@ pub returns-clause-free : goal.returns-clause-free
 returns-clause-free g c number window from below item =
     let t = g.S.Search.searched c.args.search.now in
     let each_is = c.windows_per_run.ensures.value ∙ ap wide c.table.ensures in
-    let runs = runs_of t c.args.most c.windows_per_run.result c.div_ceil-runs.result c.windows_per_run.ensures.some each_is c.div_ceil-runs.ensures c.requires in
+    let runs = runs_of t c.args.most c.windows_per_run.result c.div_ceil-runs.result c.windows_per_run.ensures.some
+    each_is c.div_ceil-runs.ensures c.requires in
     let w : ℕ = wide t in
     let some : 0 < w = omega (arith, c.windows_per_run.ensures.some, each_is) in
     let run : ℕ = number / w in

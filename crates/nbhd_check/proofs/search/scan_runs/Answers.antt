@@ -15,7 +15,8 @@ next_run-requires-clause-window g c =
     let table_is = c.table-table.ensures in
     let item = c.loop-run.invariant.0 c.loop-run-test.true in
     window_of_shape t c.rounds.result c.shape-shape.result.ids c.loop-run.window (c.rounds.ensures ∙ c.shape-shape.ensures.rounds ∙ ap (λ x. x.rounds) table_is)
-    (c.shape-shape.ensures.ids ∙ ap (λ x. x.ids) table_is) (windows_all (2 * t.rounds + 1) t.ids _ c.loop-run.window item)
+    (c.shape-shape.ensures.ids ∙ ap (λ x. x.ids) table_is)
+    (windows_all (2 * t.rounds + 1) t.ids _ c.loop-run.window item)
 
 pub loop-run-preserved : goal.loop-run-preserved
 loop-run-preserved g c =

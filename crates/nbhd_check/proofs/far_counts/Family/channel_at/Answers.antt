@@ -11,5 +11,6 @@ bounds-entries-number c =
 pub returns-clause-few : goal.returns-clause-few
 returns-clause-few c =
     let below = slice_get_within (windows_of c.args.self.table.now) c.args.number c.requires.0 c.requires.1 in
-    let inside : c.args.number < length c.args.self.table.now.entries = omega (arith, below, c.entries.ensures.table.size) in
+    let inside : c.args.number < length c.args.self.table.now.entries =
+    omega (arith, below, c.entries.ensures.table.size) in
     rw (c.from.ensures, c.entries.ensures.value) (c.args.self.fit.limit c.args.number 0 inside)

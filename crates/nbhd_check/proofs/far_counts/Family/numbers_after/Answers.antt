@@ -22,7 +22,8 @@ pub numbers_of-requires : goal.numbers_of-requires
 numbers_of-requires c =
     let t = c.args.self.table.now in
     let size : shared_len t + 2 ≡ 2 * t.rounds + 1 = omega (arith, c.args.self.some.0) in
-    rw size at (window_before (shared_len t) t.ids c.args.first c.args.second c.args.self.shared.now c.args.self.window c.requires.ids.0 c.requires.ids.1
+    rw size at (window_before (shared_len t) t.ids c.args.first c.args.second c.args.self.shared.now
+    c.args.self.window c.requires.ids.0 c.requires.ids.1
     c.if-first-second.false c.requires.lacks (λ has. false≢true (sym c.if-contains.false ∙ c.contains.ensures.1 has)))
 
 pub returns-in-Some : goal.returns-in-Some

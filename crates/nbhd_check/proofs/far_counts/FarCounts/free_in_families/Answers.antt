@@ -14,7 +14,8 @@ loop-number-preserved c =
       c.count_family.ensures.fit,
       λ n window low item own. ⊎_elim
           (λ (before : own.0 < number).
-          c.loop-number.invariant.1 n window (omega (arith, low, c.free-least.ensures.less, c.min.ensures)) item (own.0, own.1, before, own.3))
+          c.loop-number.invariant.1 n window (omega (arith, low, c.free-least.ensures.less, c.min.ensures)) item
+          (own.0, own.1, before, own.3))
           (λ (from : number ≤ own.0).
           let same : own.0 ≡ number = omega (arith, own.2) in
           c.free-least.ensures.free n window low item
@@ -24,7 +25,8 @@ loop-number-preserved c =
 
 pub window-requires-clause-below : goal.window-requires-clause-below
 window-requires-clause-below c =
-    rw (c.rounds-below.ensures ∙ c.shape-shape.ensures.rounds, c.shape-shape.ensures.ids) (omega (arith, c.requires, c.loop-number-test.true))
+    rw (c.rounds-below.ensures ∙ c.shape-shape.ensures.rounds, c.shape-shape.ensures.ids)
+    (omega (arith, c.requires, c.loop-number-test.true))
 
 pub count_family-requires-clause-shared : goal.count_family-requires-clause-shared
 count_family-requires-clause-shared c =
@@ -43,4 +45,5 @@ invariant_of-family c =
 
 pub returns : goal.returns
 returns c = λ number window below item own.
-    c.loop-number.invariant.1 number window below item (own.0, own.1, omega (arith, own.2, c.loop-number-test.false), own.3)
+    c.loop-number.invariant.1 number window below item
+    (own.0, own.1, omega (arith, own.2, c.loop-number-test.false), own.3)

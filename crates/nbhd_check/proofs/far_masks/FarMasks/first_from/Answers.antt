@@ -12,10 +12,12 @@ use Rattle.nbhd_check.proofs.far_masks.FarMasks.first_from.Goals.{After-windows_
 use Rattle.nbhd_check.proofs.far_masks.FarMasks.first_from.Goals as goal
 
 -- the run's numbers are small
-run_small : (c : After-windows_per_run-each) → c.args.run * c.windows_per_run-each.result + c.windows_per_run-each.result < 2 ^ 32
+run_small : (c : After-windows_per_run-each)
+    → c.args.run * c.windows_per_run-each.result + c.windows_per_run-each.result < 2 ^ 32
 run_small c =
     let t = c.args.self.now.table.now in
-    small_run t c.args.run c.windows_per_run-each.result c.windows_per_run-each.ensures.table c.windows_per_run-each.ensures.value
+    small_run t c.args.run c.windows_per_run-each.result c.windows_per_run-each.ensures.table
+    c.windows_per_run-each.ensures.value
     (run_end t c.args.run c.requires.0 c.requires.1.item)
 
 pub overflow_step-number : goal.overflow_step-number
@@ -60,7 +62,8 @@ may_hold-requires c = small (goal.at.may_hold-requires c).In-loop-number
 pub after-requires : goal.after-requires
 after-requires c =
     let d = (goal.at.after-requires c).In-loop-number in
-    place_inside c.args.self.now.table.now c.loop-number.number (own d).0 c.args.first c.args.places c.loop-number.place c.args.self.now.some (own d).1
+    place_inside c.args.self.now.table.now c.loop-number.number
+    (own d).0 c.args.first c.args.places c.loop-number.place c.args.self.now.some (own d).1
 
 pub loop-number-preserved : goal.loop-number-preserved
 loop-number-preserved c =
@@ -75,7 +78,8 @@ loop-number-preserved c =
     let none : NoneClose t.entries (family_len t) c.args.self.now.distance family (get_or t.entries number 0) =
     subst (λ l. NoneClose t.entries (family_len t) c.args.self.now.distance family (get_or l number 0)) c.entries-entries.ensures.value
     (OnFalse_at c.if-may_hold.false (c.may_hold.ensures t.entries (family_len t) c.args.self.now.distance c.args.self.now.cover)) in (
-      λ lt. next_family t number here.0 c.args.first c.args.places c.loop-number.place some here.1 c.args.run c.unwrap_or-place.result c.after.result
+      λ lt. next_family t number here.0 c.args.first c.args.places c.loop-number.place some here.1 c.args.run
+          c.unwrap_or-place.result c.after.result
           c.unwrap_or-place.ensures from lt within c.after.ensures.next c.after.ensures.last,
       λ n window low high item. ⊎_elim
           (λ (before : n < number). c.loop-number.invariant.1 n window low before item)

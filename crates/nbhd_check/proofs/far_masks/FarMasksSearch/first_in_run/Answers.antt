@@ -47,6 +47,7 @@ first_from-requires c =
       c.args.window.now,
       at_family t (c.args.run * wide t) c.args.window.now c.rounds-below.result c.shape-shape.result.ids c.run_start-first.result c.run_places-places.result
           c.place_in_run.result (c.rounds-below.ensures ∙ c.shape-shape.ensures.rounds) c.shape-shape.ensures.ids c.args.self.now.some c.requires
-          (windows_all (2 * t.rounds + 1) t.ids _ c.args.window.now c.requires) c.run_start-first.ensures c.run_places-places.ensures
+          (windows_all (2 * t.rounds + 1) t.ids _ c.args.window.now c.requires) c.run_start-first.ensures
+          c.run_places-places.ensures
           c.place_in_run.ensures.value,
     )

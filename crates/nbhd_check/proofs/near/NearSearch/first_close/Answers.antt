@@ -5,12 +5,14 @@ use Rattle.nbhd_check.proofs.near.NearSearch.first_close.Goals.{After-windows_pe
 use Rattle.nbhd_check.proofs.near.NearSearch.first_close.Goals as goal
 
 -- the run's numbers are small
-run_small : (c : After-windows_per_run-each) → c.args.runs.run * c.windows_per_run-each.result + c.windows_per_run-each.result < 2 ^ 32
+run_small : (c : After-windows_per_run-each)
+    → c.args.runs.run * c.windows_per_run-each.result + c.windows_per_run-each.result < 2 ^ 32
 run_small c =
     let t = c.args.self.now.table.now in
     let table = c.windows_per_run-each.ensures.table in
     let within = run_within t c.args.runs.run c.requires.front table.size c.requires.front_at in
-    small_run t c.args.runs.run c.windows_per_run-each.result table c.windows_per_run-each.ensures.value (omega (arith, within, table.size))
+    small_run t c.args.runs.run c.windows_per_run-each.result table c.windows_per_run-each.ensures.value
+    (omega (arith, within, table.size))
 
 pub overflow_mul-result : goal.overflow_mul-result
 overflow_mul-result c = omega (arith, run_small (goal.at.overflow_mul-result c).After-windows_per_run-each)

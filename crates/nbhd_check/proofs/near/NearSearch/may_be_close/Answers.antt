@@ -12,7 +12,8 @@ use Rattle.nbhd_check.proofs.near.NearSearch.may_be_close.Goals as goal
 -- the window at the place, and the run of its second windows
 module _ (c : After-entries) where
   here : AtPlace c.args.self.now.table.now c.args.runs c.args.place
-  here = at_place c.args.self.now.table.now c.args.runs c.args.place c.entries.ensures.table.size c.requires.runs c.requires.place
+  here = at_place c.args.self.now.table.now c.args.runs c.args.place c.entries.ensures.table.size c.requires.runs
+      c.requires.place
 
   -- its channel
   channel_is : get_or c.entries.result.now (c.args.runs.run * c.windows_per_run-each.result + c.args.place) 0
@@ -25,10 +26,17 @@ module _ (c : After-entries) where
       let t = c.args.self.now.table.now in
       let n : ℕ = c.args.runs.run * wide t + c.args.place in
       let below = slice_get_within (windows_of t) n here.window here.item in
-      rw (c.windows_per_run-each.ensures.value, c.entries.ensures.value) (omega (arith, below, c.entries.ensures.table.size))
+      rw (c.windows_per_run-each.ensures.value, c.entries.ensures.value)
+      (omega (arith, below, c.entries.ensures.table.size))
 
   small : c.args.runs.run * c.windows_per_run-each.result + c.args.place < 2 ^ 32
-  small = omega (arith, inside, ap length c.entries.ensures.value, c.entries.ensures.table.size, c.entries.ensures.table.begun.shape.few_windows)
+  small = omega (
+    arith,
+    inside,
+    ap length c.entries.ensures.value,
+    c.entries.ensures.table.size,
+    c.entries.ensures.table.begun.shape.few_windows,
+  )
 
 pub overflow_mul-channel : goal.overflow_mul-channel
 overflow_mul-channel c = omega (arith, small (goal.at.overflow_mul-channel c).After-entries)

@@ -11,14 +11,18 @@ use Rattle.nbhd_check.proofs.scan.TupleScanSearch.first_in_run.Goals as goal
 
 -- the tuples of the run have small numbers
 tuples_few : (c : After-from)
-    → c.from.result * c.windows_per_run-windows.result * c.per_window-each.result + c.windows_per_run-windows.result * c.per_window-each.result ≤ 2 ^ 42
+    → c.from.result * c.windows_per_run-windows.result * c.per_window-each.result + c.windows_per_run-windows.result
+    * c.per_window-each.result ≤ 2 ^ 42
 tuples_few c =
     let t = c.args.self.now.tuples.table.now in
     let each : ℕ = c.per_window-each.result in
     let within = run_end t c.args.run c.args.window.now c.requires in
     let few : (c.args.run * wide t + wide t) * each ≤ 2 ^ 42 =
-    product_few _ each 4194304 1048576 _ (omega (arith, within, c.windows_per_run-windows.ensures.table.begun.shape.few_windows)) (omega (arith, c.per_window-each.ensures.few)) (omega arith) in
-    rw (c.from.ensures, c.windows_per_run-windows.ensures.value) (omega (arith, few, add-mul (c.args.run * wide t) (wide t) each))
+    product_few _ each 4194304 1048576 _
+    (omega (arith, within, c.windows_per_run-windows.ensures.table.begun.shape.few_windows))
+    (omega (arith, c.per_window-each.ensures.few)) (omega arith) in
+    rw (c.from.ensures, c.windows_per_run-windows.ensures.value)
+    (omega (arith, few, add-mul (c.args.run * wide t) (wide t) each))
 
 pub judge_part-requires-clause-within : goal.judge_part-requires-clause-within
 judge_part-requires-clause-within c =
@@ -26,7 +30,13 @@ judge_part-requires-clause-within c =
     let s = c.args.self.now.tuples.separation in
     let within = run_end t c.args.run c.args.window.now c.requires in
     rw (c.from.ensures, c.windows_per_run-windows.ensures.value, c.per_window-each.ensures.value)
-    (omega (arith, mul-le-mul_right (run_len t s) within, all_runs t s, add-mul (c.args.run * wide t) (wide t) (run_len t s)))
+    (omega (
+      arith,
+      mul-le-mul_right (run_len t s) within,
+      all_runs t s,
+      add-mul (c.args.run * wide t) (wide t)
+          (run_len t s),
+    ))
 
 pub returns-in_err-number : goal.returns-in_err-number
 returns-in_err-number c =

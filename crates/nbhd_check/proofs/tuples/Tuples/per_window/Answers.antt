@@ -23,6 +23,14 @@ pub returns-else-self-eq0-clause-value : goal.returns-else-self-eq0-clause-value
 returns-else-self-eq0-clause-value c =
     let t = c.args.self.table.now in
     let free_is : c.from.result - (2 * c.from-2.result + 1) ≡ t.ids - (2 * t.rounds + 1) =
-    omega (arith, c.from.ensures, c.ids.ensures, c.shape-shape.ensures.ids, c.from-2.ensures, c.rounds.ensures, c.shape-shape.ensures.rounds) in
+    omega (
+      arith,
+      c.from.ensures,
+      c.ids.ensures,
+      c.shape-shape.ensures.ids,
+      c.from-2.ensures,
+      c.rounds.ensures,
+      c.shape-shape.ensures.rounds,
+    ) in
     let two : extra c.args.self.separation ≡ 2 = omega (arith, c.if-self-eq0.false) in
     rw (free_is, two) (sym (falling_two (t.ids - (2 * t.rounds + 1))))
