@@ -42,8 +42,7 @@ pub(crate) fn far_free_windows<R: Threads + Sync>(
         if first < few {
             return first;
         }
-        let free = free_by_masks(rt, alloc, tuples, most, threads);
-        if free > 0 {
+        if let Some(free) = free_by_masks(rt, alloc, tuples, most, threads) {
             return free;
         }
         if let Some(counts) = counts_if_worth(tuples) {
@@ -66,22 +65,22 @@ fn windows_before_masks(table: &Table) -> u32
     runs.saturating_mul(run).min(FIRST_TUPLES) as u32
 }
 
-// Returns such a number by masks of third windows, or 0 if they do not decide.
+// Returns such a number by masks of third windows, or `None` if they do not decide.
 fn free_by_masks<R: Threads + Sync>(
     rt: &R,
     alloc: Global,
     tuples: Tuples,
     most: u32,
     threads: u32,
-) -> u32
+) -> Option<u32>
     requires { IsFarSearch tuples.table.now tuples.separation most }
-    ensures { AreFree tuples.entry.table.now (BeginsBadTuple tuples.entry.table.now tuples.entry.separation) 0 result }
+    ensures { IfSome result (AreFree tuples.entry.table.now (BeginsBadTuple tuples.entry.table.now tuples.entry.separation) 0) }
 {
     let Tuples { table, separation } = tuples;
     let distance = separation.far;
     let masks = group_masks(alloc, table, windows_per_family(table), distance);
     if masks.is_empty() {
-        return 0;
+        return None;
     }
     let search = FarMasks {
         table,
@@ -90,10 +89,9 @@ fn free_by_masks<R: Threads + Sync>(
     };
     let free = free_windows(rt, &search, most, threads);
     if free == most || begins_bad_tuple(tuples, free) {
-        free
-    } else {
-        0
+        return Some(free);
     }
+    None
 }
 
 // Returns the search by counts of third windows, if counting a family takes less time than testing the

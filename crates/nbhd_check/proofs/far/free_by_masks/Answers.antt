@@ -2,8 +2,8 @@ use Rattle.std.proofs.Common.{arith}
 use Rattle.nbhd_check.proofs.Runs.{free_of_both}
 use Rattle.nbhd_check.proofs.far.free_by_masks.Goals as goal
 
-pub returns-then-begins_bad_tuple : goal.returns-then-begins_bad_tuple
-returns-then-begins_bad_tuple g c =
+pub returns-then-free-most : goal.returns-then-free-most
+returns-then-free-most g c =
     free_of_both c.args.tuples.table.now c.args.tuples.separation c.args.most c.free_windows-free.result
     c.free_windows-free.result
     c.requires.near c.free_windows-free.ensures.free c.free_windows-free.ensures.less (omega arith)

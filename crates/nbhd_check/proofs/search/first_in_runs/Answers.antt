@@ -1,4 +1,4 @@
-use Rattle.std.proofs.Common.{◌+◌, ◌*◌, ◌<◌, ◌≤◌, length, subst, sym, ◌∙◌, arith}
+use Rattle.std.proofs.Common.{◌*◌, ◌≤◌, length, subst, sym, ◌∙◌, arith}
 use Rattle.std.proofs.Math.Nat.{mul-le-mul_right}
 use Rattle.channel_tables.specs.Tables.{windows_of}
 use Rattle.nbhd_check.specs.Runs.{wide}

@@ -1,7 +1,7 @@
 use Rattle.std.proofs.Common.{◌≡◌, ◌+◌, ◌-◌, ◌*◌, Some, take, drop, subst, sym, ap, ◌∙◌, arith}
 use Rattle.std.proofs.lemmas.Option.{slice_get_within}
-use Rattle.win_index.specs.Windows.{IsWindow, number_of}
-use Rattle.channel_tables.specs.Tables.{channel_of, windows_of}
+use Rattle.win_index.specs.Windows.{IsWindow}
+use Rattle.channel_tables.specs.Tables.{windows_of}
 use Rattle.nbhd_check.specs.Apart.{extra}
 use Rattle.nbhd_check.proofs.Prefixes.{window_of_shape, window_take, window_drop}
 use Rattle.nbhd_check.proofs.tuples.Tuples.channel_from.Goals as goal
