@@ -1,4 +1,4 @@
-use Rattle.std.proofs.Common.{◌*◌, ◌≤◌, length, subst, sym, ◌∙◌, arith}
+use Rattle.std.proofs.Common.{◌≡◌, ◌*◌, ◌≤◌, Some, slice_get, length, subst, sym, ◌∙◌, arith}
 use Rattle.std.proofs.Math.Nat.{mul-le-mul_right}
 use Rattle.channel_tables.specs.Tables.{windows_of}
 use Rattle.nbhd_check.specs.Runs.{wide}
@@ -31,3 +31,12 @@ window-requires-clause-below g c =
     c.windows_per_run.ensures.table c.windows_per_run.ensures.value c.if-low-high.false within in
     rw (c.rounds-level.ensures ∙ c.shape-shape.ensures.rounds, c.shape-shape.ensures.ids)
     (omega (arith, few, c.windows_per_run.ensures.some))
+
+pub scan_runs-requires-clause-item : goal.scan_runs-requires-clause-item
+scan_runs-requires-clause-item g c = λ _ _.
+    let rounds_is = c.rounds-level.ensures ∙ c.shape-shape.ensures.rounds in
+    let own = rw (rounds_is, c.shape-shape.ensures.ids, c.windows_per_run.ensures.value) at c.window.ensures.item in
+    subst (λ t. slice_get (windows_of t) (c.args.low * wide t) ≡ Some c.window.new.out) c.table-table.ensures own
+
+pub returns : goal.returns
+returns g c = c.scan_runs.ensures
