@@ -1,5 +1,5 @@
 //! The outcomes of the segments of a run.
-ghost use Rattle.std.specs.Prelude.{◌≡◌, ◌+◌, ◌<◌, ◌≤◌, ◌++◌, [], ◌∷◌, None, Some, IfOk, IfErr, vec_len, vec_capacity};
+ghost use Rattle.std.specs.Prelude.{◌≡◌, ◌+◌, ◌<◌, ◌≤◌, ◌++◌, [], ◌∷◌, None, Some, IfOk, IfErr, MatchResult, vec_len, vec_capacity};
 ghost use Rattle.ring_exec.specs.Faults.{blamed};
 ghost use Rattle.round_eval.specs.declared.fault.ThreadFault.TheVariants.{Work, NoThread};
 
@@ -32,10 +32,9 @@ impl<'a> Joined<'a> {
     // its fault takes precedence over theirs.
     pub(crate) fn add(&mut self, outcome: Outcome<'a>)
         requires { vec_len self.old.segments < vec_capacity self.old.segments }
-        ensures at_fault { IfErr outcome.entry (λ fault. (self.new.fault ≡ Some (blamed self.old.fault (Work fault)))
-            × (self.new.segments ≡ self.old.segments)) }
-        ensures at_segment { IfOk outcome.entry (λ segment. (self.new.fault ≡ self.old.fault)
-            × (self.new.segments.items ≡ self.old.segments.items ++ segment ∷ [])) }
+        ensures added { MatchResult outcome.entry
+            (λ segment. (self.new.fault ≡ self.old.fault) × (self.new.segments.items ≡ self.old.segments.items ++ segment ∷ []))
+            (λ fault. (self.new.fault ≡ Some (blamed self.old.fault (OfSegment fault))) × (self.new.segments ≡ self.old.segments)) }
         ensures more { HasMore self.old 1 self.new }
         ensures room { (vec_len self.new.segments ≤ vec_len self.old.segments + 1) × (vec_capacity self.new.segments ≡ vec_capacity self.old.segments) }
         ensures no_thread { self.new.fault ≡ Some NoThread → self.old.fault ≡ Some NoThread }
