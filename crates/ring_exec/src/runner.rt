@@ -1,5 +1,5 @@
 //! A segment that runs between its two borders.
-ghost use Rattle.std.specs.Prelude.{◌≡◌, ◌≢◌, ◌+◌, ◌<◌, ◌↔◌, IfErr, IfOk, IsOk, OnOk, OnErr, length};
+ghost use Rattle.std.specs.Prelude.{◌≡◌, ◌≢◌, ◌+◌, ◌<◌, ◌↔◌, IfErr, IfOk, IsOk, MatchResult, OnOk, length};
 ghost use Rattle.border_exchange.specs.declared.Side.TheVariants.{Rightward, Leftward};
 ghost use Rattle.node_program.specs.declared.limits.TheConstants.{MAX_ROUNDS};
 ghost use Rattle.ring_segments.specs.Headings.{heading_of};
@@ -115,8 +115,8 @@ fn next_round<'a, R: Wait, A: BorderName, B: BorderName>(
     requires more { segment.old.round < length segment.old.plan.program.steps }
     requires few { segment.old.round < MAX_ROUNDS }
     requires seats { AreSeatsOf segment.old left.old.seat right.old.seat }
-    ensures advanced { OnOk result (segment.new ≡ record segment.old { round = segment.old.round + 1 }) }
-    ensures unchanged { OnErr result (segment.new ≡ segment.old) }
+    ensures advanced { MatchResult result (λ _. segment.new ≡ record segment.old { round = segment.old.round + 1 })
+        (λ _. segment.new ≡ segment.old) }
     ensures seats { OnOk result (AreSeatsOf segment.new left.new.seat right.new.seat) }
 {
     send(rt, segment, left, right)?;
