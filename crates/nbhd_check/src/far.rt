@@ -65,7 +65,7 @@ fn windows_before_masks(table: &Table) -> u32
     runs.saturating_mul(run).min(FIRST_TUPLES) as u32
 }
 
-// Returns such a number by masks of third windows, or `None` if they do not decide.
+// Returns a number as `far_free_windows` does, by masks of third windows, or `None` if they do not decide.
 fn free_by_masks<R: Threads + Sync>(
     rt: &R,
     alloc: Global,
@@ -94,8 +94,8 @@ fn free_by_masks<R: Threads + Sync>(
     None
 }
 
-// Returns the search by counts of third windows, if counting a family takes less time than testing the
-// tuples with third windows in it, one by one.
+// Returns the search by counts of third windows, if it is estimated that counting a family takes less
+// time than testing the tuples with third windows in it, one by one.
 fn counts_if_worth(tuples: Tuples) -> Option<FarCounts>
     requires { (1 ≤ tuples.table.now.rounds) × (1 ≤ tuples.separation.far) }
     ensures { IfSome result (λ counts. (counts.table.now ≡ tuples.entry.table.now)
@@ -104,7 +104,8 @@ fn counts_if_worth(tuples: Tuples) -> Option<FarCounts>
     let Tuples { table, separation } = tuples;
     let distance = separation.far;
     let limit = limit_of_rows(table);
-    if !are_worth_counting(table, limit) {
+    let family = windows_per_family(table) as u64;
+    if 8 * family * family <= 4 * family + cells_of_rows(table, limit) {
         return None;
     }
     Some(FarCounts {
@@ -152,14 +153,4 @@ fn cells_of_rows(table: &Table, rows: u32) -> u64
     ensures { result < 2 ^ 28 }
 {
     u64::from(rows) * (u64::from(table.shape().ids()) + 1)
-}
-
-// Estimates whether counting a family takes less time than testing the tuples with third windows in
-// it, one by one.
-fn are_worth_counting(table: &Table, limit: u32) -> bool
-    requires some { 1 ≤ table.now.rounds }
-    requires few { limit < 2 ^ 17 }
-{
-    let family = windows_per_family(table) as u64;
-    8 * family * family > 4 * family + cells_of_rows(table, limit)
 }

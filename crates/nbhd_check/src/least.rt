@@ -22,7 +22,11 @@ pub(crate) fn least_of_all<R: Threads + Sync>(
 ) -> Option<u64>
     ensures { IsLeastOfAll tuples.entry.table.now tuples.entry.separation result }
 {
-    least_from(tuples, first_windows(rt, alloc, tuples, threads))
+    let Tuples { table, separation } = tuples;
+    let first = first_windows(rt, alloc, tuples, threads);
+    let count = tuple_count(table, separation);
+    let low = u64::from(first) * tuples.per_window();
+    judge_part(table, separation, low.min(count), count)
 }
 
 // Returns a number of windows such that none of the windows below it begins a bad tuple. Neighbours
@@ -52,15 +56,4 @@ fn single_windows<R: Threads + Sync>(rt: &R, tuples: Tuples, threads: u32) -> u3
     let separation = Separation { near, far: 0 };
     let tuples = Tuples { table, separation };
     free_windows(rt, &TupleScan { tuples }, window_count(table), threads)
-}
-
-// Returns the least number of a bad tuple, if none of the windows below number `first` begins one.
-fn least_from(tuples: Tuples, first: u32) -> Option<u64>
-    requires { AreFree tuples.table.now (BeginsBadTuple tuples.table.now tuples.separation) 0 first }
-    ensures { IsLeastOfAll tuples.entry.table.now tuples.entry.separation result }
-{
-    let Tuples { table, separation } = tuples;
-    let count = tuple_count(table, separation);
-    let low = u64::from(first) * tuples.per_window();
-    judge_part(table, separation, low.min(count), count)
 }

@@ -6,7 +6,7 @@ use Rattle.nbhd_check.specs.Apart.{NoneIsBad}
 use Rattle.nbhd_check.specs.Runs.{run_len}
 use Rattle.nbhd_check.specs.Searches.{IsLeastIn}
 use Rattle.nbhd_check.proofs.Runs.{none_of_free}
-use Rattle.nbhd_check.proofs.least.least_from.Goals as goal
+use Rattle.nbhd_check.proofs.least.least_of_all.Goals as goal
 
 none_in_both : (t : ChannelTable) (s : Separation) (low high : ℕ) → NoneIsBad t s 0 low → NoneIsBad t s low high → NoneIsBad t s 0 high
 none_in_both t s low high before after n tuple ge lt item =
@@ -34,11 +34,11 @@ least_from_low t s low high (Some n) before after =
     )
 
 pub returns : goal.returns
-returns c =
+returns g c =
     let t = c.args.tuples.table.now in
     let s = c.args.tuples.separation in
-    let low_is : c.from.result * c.per_window.result ≡ c.args.first * run_len t s = λ q. c.from.ensures q * c.per_window.ensures.value q in
-    let low : c.min.result ≤ c.args.first * run_len t s = omega (arith, c.min.ensures, low_is) in
+    let low_is : c.from.result * c.per_window.result ≡ c.first_windows-first.result * run_len t s = λ q. c.from.ensures q * c.per_window.ensures.value q in
+    let low : c.min.result ≤ c.first_windows-first.result * run_len t s = omega (arith, c.min.ensures, low_is) in
     subst (λ n. IsLeastIn t s 0 n c.judge_part.result) c.tuple_count-count.ensures
     (least_from_low t s c.min.result c.tuple_count-count.result c.judge_part.result
-    (none_of_free t s c.min.result c.args.first c.requires low) c.judge_part.ensures)
+    (none_of_free t s c.min.result c.first_windows-first.result c.first_windows-first.ensures low) c.judge_part.ensures)

@@ -1,9 +1,9 @@
 use Rattle.std.proofs.Common.{ℕ, ◌*◌, ◌^◌, ◌≤◌, arith}
 use Rattle.nbhd_check.proofs.Cells.{product_few}
-use Rattle.nbhd_check.proofs.far.are_worth_counting.Goals as goal
+use Rattle.nbhd_check.proofs.far.counts_if_worth.Goals as goal
 
-pub overflow_mul-result-2 : goal.overflow_mul-result-2
-overflow_mul-result-2 c =
+pub overflow_mul-family-2 : goal.overflow_mul-family-2
+overflow_mul-family-2 c =
     let family : ℕ = c.windows_per_family-family.result in
     let few = c.windows_per_family-family.ensures.table.begun.shape.ids.few in
     let small : family ≤ 1048576 =
