@@ -1,6 +1,5 @@
 -- The statements of the laws of this crate, one definition each.
 use Rattle.std.specs.Prelude.{◌≡◌, ◌↔◌, ℕ, ◌+◌, ◌*◌, ◌<◌, ◌≤◌, ◌⊎◌, Option, Some, List, length}
-use Rattle.win_index.specs.Laws.{CountOfWindows, NumberOfWindow, PrefixesHaveNumbers, WindowOfNumber, WindowsHaveNumbers, LongerWindowsHaveNumbers}
 use Rattle.win_index.specs.Ring.{IsRing}
 use Rattle.win_index.specs.Arcs.{window_around, part_at}
 use Rattle.win_index.specs.Windows.{IsWindow}

@@ -2,7 +2,7 @@
 ghost use Rattle.std.specs.Prelude.{◌≡◌, ◌≢◌, ◌+◌, ◌<◌, ◌≤◌, None, Some, IsNone, IsSome, vec_len, vec_capacity};
 ghost use Rattle.ring_exec.specs.Courses.{HasEnded};
 ghost use Rattle.ring_exec.specs.Outcomes.{HasMore};
-ghost use Rattle.ring_exec.specs.declared.fault.CourseFault.TheVariants.{NoThread};
+ghost use Rattle.round_eval.specs.declared.fault.ThreadFault.TheVariants.{NoThread};
 
 use crate::border_name::BorderName;
 use crate::end::{Edge, RightEnd};

@@ -34,7 +34,7 @@ impl<'a> Joined<'a> {
         requires { vec_len self.old.segments < vec_capacity self.old.segments }
         ensures added { MatchResult outcome.entry
             (λ segment. (self.new.fault ≡ self.old.fault) × (self.new.segments.items ≡ self.old.segments.items ++ segment ∷ []))
-            (λ fault. (self.new.fault ≡ Some (blamed self.old.fault (OfSegment fault))) × (self.new.segments ≡ self.old.segments)) }
+            (λ fault. (self.new.fault ≡ Some (blamed self.old.fault (Work fault))) × (self.new.segments ≡ self.old.segments)) }
         ensures more { HasMore self.old 1 self.new }
         ensures room { (vec_len self.new.segments ≤ vec_len self.old.segments + 1) × (vec_capacity self.new.segments ≡ vec_capacity self.old.segments) }
         ensures no_thread { self.new.fault ≡ Some NoThread → self.old.fault ≡ Some NoThread }

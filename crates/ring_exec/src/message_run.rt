@@ -63,7 +63,7 @@ fn run_named<'a, R: Threads + Wait + Sync, G: Gate + Sync, L: BorderName + Send 
     ring: &'a Ring,
     segments: u32,
     blanks: Blanks,
-) -> Result<Vec<u32>, CourseFault>
+) -> Result<Vec<u32>, ThreadFault>
     requires run { CanRun plan.now ring.now segments }
     requires blanks { AreBlanksOf blanks L.rightward L.leftward }
     ensures channels { IfOk result (λ channels. channels.items ≡ channels_of plan.now.program ring.now.places) }
@@ -84,7 +84,7 @@ fn run_segments<'a, R: Threads + Wait + Sync, G: Gate + Sync, L: BorderName + Se
     ring: &'a Ring,
     segments: u32,
     blanks: Blanks,
-) -> Result<Vec<Segment<'a>>, CourseFault>
+) -> Result<Vec<Segment<'a>>, ThreadFault>
     requires run { CanRun plan.now ring.now segments }
     requires blanks { AreBlanksOf blanks L.rightward L.leftward }
     ensures all { IfOk result (λ found. vec_len found ≡ segments) }
@@ -112,7 +112,7 @@ fn no_progress<'a>(
     plan: &'a Plan,
     ring: &'a Ring,
     segments: u32,
-) -> Result<Progress<'a>, SegmentFault>
+) -> Result<Progress<'a>, OutOfMemory>
     requires { CanRun plan.now ring.now segments }
     ensures no_fault { IfOk result (λ progress. progress.joined.fault ≡ None) }
     ensures first { IfOk result (λ progress. (progress.index ≡ 0) × (vec_len progress.threads ≡ 0) × (vec_len progress.joined.segments ≡ 0)) }

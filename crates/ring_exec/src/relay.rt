@@ -4,18 +4,17 @@ ghost use Rattle.border_exchange.specs.declared.Side.TheVariants.{Leftward};
 ghost use Rattle.ring_exec.specs.Borders.{AreBlanksOf};
 ghost use Rattle.ring_exec.specs.Courses.{HasEnded, HasRefused, HasStarted, IsOnCourse};
 ghost use Rattle.ring_exec.specs.Seats.{AreSeatsOf};
-ghost use Rattle.ring_exec.specs.declared.fault.SegmentFault.TheVariants.{OutOfMemory as NoMemory};
-ghost use Rattle.ring_exec.specs.declared.fault.CourseFault.TheVariants.{Segment as OfSegment, NoThread};
+ghost use Rattle.round_eval.specs.declared.fault.ThreadFault.TheVariants.{Work, NoThread};
+ghost use Rattle.round_eval.specs.declared.fault.WorkFault.TheVariants.{OutOfMemory as NoMemory};
 
 use crate::border_name::{Blanks, BorderName};
 use crate::course::{Course, ended};
 use crate::end::{Edge, End, new_border};
-use crate::fault::CourseFault;
 use crate::joined::Joined;
 use crate::progress::Progress;
 use crate::runner::{Outcome, Runner, Shared};
 use ring_segments::{Msg, Segment};
-use round_eval::Gate;
+use round_eval::{Gate, ThreadFault};
 use std::marker::Brand;
 use std::sync::Wait;
 use std::thread;
@@ -156,7 +155,7 @@ impl<
         progress: &mut Progress<'a>,
         left: End<Msg<'a>, B>,
         blanks: Blanks,
-    ) -> Result<Edge<Msg<'a>, N>, CourseFault>
+    ) -> Result<Edge<Msg<'a>, N>, ThreadFault>
         requires blanks { AreBlanksOf blanks N.rightward N.leftward }
         requires seat { left.seat ≡ record { side = Leftward; puts = 0 } }
         requires waiting { 0 < vec_len progress.old.waiting }
@@ -165,7 +164,7 @@ impl<
         ensures started { OnOk result ((progress.new.index ≡ progress.old.index + 1)
             × (vec_len progress.new.threads ≡ vec_len progress.old.threads + 1)) }
         ensures refused { IfErr result (λ fault. ((fault ≡ NoThread) × (progress.new.index ≡ progress.old.index + 1))
-            ⊎ ((fault ≡ OfSegment NoMemory) × (progress.new.index ≡ progress.old.index))) }
+            ⊎ ((fault ≡ Work NoMemory) × (progress.new.index ≡ progress.old.index))) }
     {
         let Some(segment) = progress.waiting.pop() else {
             unreachable!()
